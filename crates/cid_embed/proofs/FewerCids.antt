@@ -4,7 +4,7 @@ use Rattle.std.specs.Prelude.{Contains, is_some}
 use Rattle.std.proofs.Math.Bool.{or-true}
 use Rattle.std.proofs.lemmas.List.{get_or_default}
 use Rattle.subsetter_base.specs.Bytes.{IsBytes}
-use Rattle.subsetter_base.specs.Places.{place}
+use Rattle.subsetter_base.specs.Indexes.{index_of}
 use Rattle.subsetter_base.specs.declared.error.Error.{Error}
 use Rattle.subsetter_base.specs.declared.error.Error.TheVariants.{MalformedFont, OutOfMemory}
 use Rattle.subsetter_base.proofs.GlyphLemmas.{known-all, Contains-place, place-finds, room_left_for_zero}
@@ -20,7 +20,7 @@ use Rattle.cid_embed.specs.Embed as faults
 use Rattle.cid_embed.specs.Embed.{numbering, HasEmbedFault}
 use Rattle.cid_embed.specs.Width.{HasWidthFault}
 
-some_known : (xs : List ℕ) (q : ℕ) → is_some (place xs q) ≡ true → 1 ≤ length xs
+some_known : (xs : List ℕ) (q : ℕ) → is_some (index_of xs q) ≡ true → 1 ≤ length xs
 some_known [] q h = absurd cc
 some_known (x ∷ xs) q h = omega arith
 
@@ -31,7 +31,7 @@ some_numbered cids = some_known (numbering cids) 0 (known-all cids 0)
 -- each asked CID is there
 numbered : (cids : List ℕ) (cid : ℕ) → Contains cids cid → Contains (numbering cids) cid
 numbered cids cid c =
-    let at = some_of (place (numbering cids) cid) (known-all cids cid ∙ ap (λ b. eqb 0 cid || b) (Contains-place cids cid c) ∙ or-true (eqb 0 cid)) in
+    let at = some_of (index_of (numbering cids) cid) (known-all cids cid ∙ ap (λ b. eqb 0 cid || b) (Contains-place cids cid c) ∙ or-true (eqb 0 cid)) in
     let found = place-finds (numbering cids) cid at.0 at.1 in
     (at.0, found.0, get_or_default (numbering cids) at.0 cid 0 found.0 ∙ found.1)
 

@@ -17,7 +17,7 @@ moved a front (Ok ws) = ap Ok (append_assoc front (a ∷ []) ws)
 moved a front (Err e) = refl
 
 -- one width more
-pub width_read : (m : Measures) (front : List ℕ) (g n k a : ℕ) (total : Result (List ℕ) Error) → n ≡ suc k → ok_or (advance_in m.hmtx m.pairs g) MalformedFont ≡ Ok a → with_front front (widths_from m g n) ≡ total → with_front (front ++ thousandths a m.units ∷ []) (widths_from m (g + 1) k) ≡ total
+pub width_read : (m : Measures) (front : List ℕ) (g n k a : ℕ) (total : Result (List ℕ) Error) → n ≡ suc k → ok_or (advance_in m.hmtx m.number_of_h_metrics g) MalformedFont ≡ Ok a → with_front front (widths_from m g n) ≡ total → with_front (front ++ thousandths a m.units ∷ []) (widths_from m (g + 1) k) ≡ total
 width_read m front g n k a total e h t =
     moved (thousandths a m.units) front (widths_from m (g + 1) k)
     ∙ sym (ap (λ (o : Result ℕ Error). with_front front (o >>= λ advance. widths_from m (g + 1) k >>= λ widths. Ok (thousandths advance m.units ∷ widths))) h)
@@ -27,7 +27,7 @@ missing : {X : Type 0} (view : X → List ℕ) (e : Error) (total : Result (List
 missing {X} view e total m h = subst (λ (d : Error). total ≡ Err d → Gives {X = X} view (Err d) total) m (λ k. k) h
 
 -- an advance that isn't there
-pub width_missing : {X : Type 0} (view : X → List ℕ) (m : Measures) (front : List ℕ) (g n k : ℕ) (e : Error) (total : Result (List ℕ) Error) → n ≡ suc k → ok_or (advance_in m.hmtx m.pairs g) MalformedFont ≡ Err e → with_front front (widths_from m g n) ≡ total → Gives view (Err e) total
+pub width_missing : {X : Type 0} (view : X → List ℕ) (m : Measures) (front : List ℕ) (g n k : ℕ) (e : Error) (total : Result (List ℕ) Error) → n ≡ suc k → ok_or (advance_in m.hmtx m.number_of_h_metrics g) MalformedFont ≡ Err e → with_front front (widths_from m g n) ≡ total → Gives view (Err e) total
 width_missing view m front g n k e total s h t =
-    missing view e total (named_err (advance_in m.hmtx m.pairs g) MalformedFont e h).1
+    missing view e total (named_err (advance_in m.hmtx m.number_of_h_metrics g) MalformedFont e h).1
     (sym t ∙ ap (λ j. with_front front (widths_from m g j)) s ∙ ap (λ (o : Result ℕ Error). with_front front (o >>= λ advance. widths_from m (g + 1) k >>= λ widths. Ok (thousandths advance m.units ∷ widths))) h)

@@ -5,7 +5,7 @@ use Rattle.subsetter_base.proofs.Options.{some_not_none}
 use Rattle.std.proofs.Math.Bool.{or-true}
 use Rattle.std.proofs.lemmas.List.{get_or_default}
 use Rattle.subsetter_base.specs.Gives.{Gives}
-use Rattle.subsetter_base.specs.Places.{place, HasAllAboveZero}
+use Rattle.subsetter_base.specs.Indexes.{index_of, HasAllAboveZero}
 use Rattle.subsetter_base.specs.declared.error.Error.{Error}
 use Rattle.subsetter_base.specs.declared.error.Error.TheVariants.{UnknownKind, MalformedFont, Unimplemented, SubsetError, OverflowError, CFFError, OutOfMemory}
 use Rattle.subsetter_base.proofs.GlyphLemmas.{known, known-all, Contains-place}
@@ -22,7 +22,7 @@ use Rattle.cid_embed.specs.declared.embedding.Embedded.{Embedded}
 use Rattle.cid_embed.proofs.Reading.{IsReading, is_reading}
 
 -- each asked glyph has a number
-pub asked_known : (glyphs mapper : List ℕ) (k d : ℕ) → mapper ≡ numbering glyphs → k < length glyphs → IsSome (place mapper (get_or glyphs k d))
+pub asked_known : (glyphs mapper : List ℕ) (k d : ℕ) → mapper ≡ numbering glyphs → k < length glyphs → IsSome (index_of mapper (get_or glyphs k d))
 asked_known glyphs mapper k d m lt =
     let q = get_or glyphs k d in
     let known_there : known glyphs q ≡ true = Contains-place glyphs q (k, lt, get_or_default glyphs k q d lt) in
@@ -116,11 +116,11 @@ module _ (bound : Option ℕ) (tokens depth : ℕ) (font : Font) (glyphs : List 
         ]
 
     -- all that is answered
-    pub answered : (e : Embedded) → out ≡ e.font.items → widths_of (table_of bytes) count ≡ Ok e.widths.items → map Some e.cids.items ≡ map (place mapper) glyphs → (HasAllAboveZero glyphs → ⊥) → (s : IsEmbedded tokens depth font glyphs e) × ((why : Error) → ¬ (HasEmbedFault tokens depth font glyphs s.subset.keeps.order why))
+    pub answered : (e : Embedded) → out ≡ e.font.items → widths_of (table_of bytes) count ≡ Ok e.widths.items → map Some e.cids.items ≡ map (index_of mapper) glyphs → (HasAllAboveZero glyphs → ⊥) → (s : IsEmbedded tokens depth font glyphs e) × ((why : Error) → ¬ (HasEmbedFault tokens depth font glyphs s.subset.keeps.order why))
     answered e f w cids room =
         let whole : IsFaultless tokens depth font (numbering glyphs) e.font.items = subst (IsFaultless tokens depth font (numbering glyphs)) f renamed in
         let read : IsReading font (numbering glyphs) (Ok e.widths.items) = subst (IsReading font (numbering glyphs)) w reading in
-        (record { subset = whole.0; cids = cids ∙ ap (λ (l : List ℕ). map (place l) glyphs) m; widths = read.0 }, none whole.0.keeps.order room whole.1 read.1)
+        (record { subset = whole.0; cids = cids ∙ ap (λ (l : List ℕ). map (index_of l) glyphs) m; widths = read.0 }, none whole.0.keeps.order room whole.1 read.1)
       where
         none : (order : List ℕ) → (HasAllAboveZero glyphs → ⊥) → ((why : Error) → ¬ (HasFault tokens depth font (numbering glyphs) order why)) → ((why : Error) → HasWidthFault font why → ⊥) → (why : Error) → ¬ (HasEmbedFault tokens depth font glyphs order why)
         none order r s w why (in_numbering all) = r all

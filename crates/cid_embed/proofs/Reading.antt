@@ -64,13 +64,13 @@ advance_of hmtx pairs g m h = elim (cases_lt g pairs) [
 pub record HasMetric (font : Font) (m : Measures) (g i : ℕ) : Type 0 where
   pub metric : LongHorMetric
   pub source : metric_of (table font) g ≡ Some metric
-  pub copy : metric_in m.hmtx m.pairs i ≡ Some metric
+  pub copy : metric_in m.hmtx m.number_of_h_metrics i ≡ Some metric
 
 width_is : (font : Font) (g units : ℕ) (m : LongHorMetric) → metric_of (table font) g ≡ Some m → units_per_em font ≡ Some units → width font g ≡ Some (thousandths m.advance units)
 width_is font g units m h u =
     ap (option_and_then (λ (x : LongHorMetric). option_and_then (λ n. Some (thousandths x.advance n)) (units_per_em font))) h ∙ ap (option_and_then (λ n. Some (thousandths m.advance n))) u
 
-one_width : (m : Measures) (g n a : ℕ) (ws : List ℕ) → advance_in m.hmtx m.pairs g ≡ Some a → widths_from m (g + 1) n ≡ Ok ws → widths_from m g (suc n) ≡ Ok (thousandths a m.units ∷ ws)
+one_width : (m : Measures) (g n a : ℕ) (ws : List ℕ) → advance_in m.hmtx m.number_of_h_metrics g ≡ Some a → widths_from m (g + 1) n ≡ Ok ws → widths_from m g (suc n) ≡ Ok (thousandths a m.units ∷ ws)
 one_width m g n a ws h k =
     ap (λ o. ok_or o MalformedFont >>= λ advance. widths_from m (g + 1) n >>= λ widths. Ok (thousandths advance m.units ∷ widths)) h ∙ ap (λ (r : Result (List ℕ) Error). r >>= λ widths. Ok (thousandths a m.units ∷ widths)) k
 
@@ -84,12 +84,12 @@ pub all_widths : (font : Font) (m : Measures) (glyphs : List ℕ) (g : ℕ) → 
 all_widths font m [] g u h = record { widths = []; read = refl; are = refl }
 all_widths font m (x ∷ glyphs) g u h =
     let first = h 0 (omega arith) in
-    let here : metric_in m.hmtx m.pairs g ≡ Some first.metric = ap (metric_in m.hmtx m.pairs) (omega arith) ∙ first.copy in
+    let here : metric_in m.hmtx m.number_of_h_metrics g ≡ Some first.metric = ap (metric_in m.hmtx m.number_of_h_metrics) (omega arith) ∙ first.copy in
     let later : (i : ℕ) → i < length glyphs → HasMetric font m (slice_index glyphs i) (g + 1 + i) = λ i lt. subst (HasMetric font m (slice_index glyphs i)) (omega arith) (h (suc i) (omega arith)) in
     let rest = all_widths font m glyphs (g + 1) u later in
     record {
       widths = thousandths first.metric.advance m.units ∷ rest.widths;
-      read = one_width m g (length glyphs) first.metric.advance rest.widths (advance_of m.hmtx m.pairs g first.metric here) rest.read;
+      read = one_width m g (length glyphs) first.metric.advance rest.widths (advance_of m.hmtx m.number_of_h_metrics g first.metric here) rest.read;
       are = ap (λ o. o ∷ map Some rest.widths) (sym (width_is font x m.units first.metric first.source u)) ∙ ap (λ (l : List (Option ℕ)). width font x ∷ l) rest.are;
     }
 
@@ -109,7 +109,7 @@ module _ (find : List ℕ → Option (List ℕ)) (n : ℕ) where
     unfolding widths_of measures_of
     no_units_read head k u = rw (h, k, u) refl
 
-    all_read : (head hhea : List ℕ) (units pairs : ℕ) → find (codes "head") ≡ Some head → number head 18 2 ≡ Some (suc units) → find (codes "hhea") ≡ Some hhea → number_of_h_metrics hhea ≡ Some pairs → widths_of find n ≡ widths_from (record { hmtx = hmtx; pairs = pairs; units = suc units }) 0 n
+    all_read : (head hhea : List ℕ) (units pairs : ℕ) → find (codes "head") ≡ Some head → number head 18 2 ≡ Some (suc units) → find (codes "hhea") ≡ Some hhea → number_of_h_metrics hhea ≡ Some pairs → widths_of find n ≡ widths_from (record { hmtx = hmtx; number_of_h_metrics = pairs; units = suc units }) 0 n
     unfolding widths_of measures_of
     all_read head hhea units pairs k u a b = rw (h, k, u, ne_eqb (suc units) 0 (λ e. omega arith), a, b) refl
 
@@ -165,7 +165,7 @@ module _ (tokens depth : ℕ) (font : Font) (glyphs out : List ℕ) (s : IsSubse
     begins : (i : ℕ) → i < length glyphs → slice_index s.keeps.order i ≡ slice_index glyphs i
     begins i lt = ap (λ (l : List ℕ). slice_index l i) s.keeps.is_order.begins ∙ get_or_append_left glyphs s.keeps.is_order.others 0 i lt
 
-    has_metric : (units i : ℕ) → i < length glyphs → HasMetric font (record { hmtx = kept.hmtx; pairs = kept.count; units = units }) (slice_index glyphs i) (0 + i)
+    has_metric : (units i : ℕ) → i < length glyphs → HasMetric font (record { hmtx = kept.hmtx; number_of_h_metrics = kept.count; units = units }) (slice_index glyphs i) (0 + i)
     has_metric units i lt =
         let within : i < length s.keeps.order = omega (arith, ap length s.keeps.is_order.begins, length-append glyphs s.keeps.is_order.others) in
         let same = kept.metrics i within in
@@ -189,7 +189,7 @@ module _ (tokens depth : ℕ) (font : Font) (glyphs out : List ℕ) (s : IsSubse
         by zero u = refused (no_units (ap (option_and_then units_in) k ∙ u)) (no_units_read find (length glyphs) kept.hmtx (finds (codes "hmtx") ∙ kept.hmtx_is) header.copy (finds (codes "head") ∙ header.copy_is) (copied ∙ u))
         by (suc units) u =
             let em : units_per_em font ≡ Some (suc units) = ap (option_and_then units_in) k ∙ u in
-            let all = all_widths font (record { hmtx = kept.hmtx; pairs = kept.count; units = suc units }) glyphs 0 em (has_metric (suc units)) in
+            let all = all_widths font (record { hmtx = kept.hmtx; number_of_h_metrics = kept.count; units = suc units }) glyphs 0 em (has_metric (suc units)) in
             answered all.widths
             (all_read find (length glyphs) kept.hmtx (finds (codes "hmtx") ∙ kept.hmtx_is) header.copy kept.hhea units kept.count (finds (codes "head") ∙ header.copy_is) (copied ∙ u) (finds (codes "hhea") ∙ kept.hhea_is) kept.count_is ∙ all.read)
             all.are

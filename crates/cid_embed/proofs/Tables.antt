@@ -9,15 +9,15 @@ use Rattle.subsetter_sfnt.specs.declared.face.TableRecord.{TableRecord}
 use Rattle.subsetter_sfnt.specs.declared.flavor.FontFlavor.{FontFlavor}
 use Rattle.subsetter_sfnt.specs.declared.flavor.FontFlavor.TheVariants.{TrueType, Cff}
 use Rattle.subsetter_sfnt.specs.Container.{NameTablesFrom, padded_size, IsSoundContainer}
-use Rattle.subsetter_sfnt.specs.Read.{Font, as_font, kind_of, header_by_kind, header_place, directory_records, find_record, records, records_at, table, table_in}
+use Rattle.subsetter_sfnt.specs.Read.{Font, as_font, kind_of, header_by_kind, header_offset, directory_records, find_record, records, records_at, table, table_in}
 use Rattle.subsetter_sfnt.specs.Rows.{Row, opt, present, tags, rows, called_for, tags_of}
 use Rattle.subsetter_sfnt.specs.Written.{kind_word}
 use Rattle.cid_embed.specs.Afresh.{directory_bytes, table_of}
 
 -- ---- a font's header stands at the start
 
-starts : (kind : FontFlavor) (file : List ℕ) → number file 0 4 ≡ Some (kind_word kind) → header_place (as_font file) ≡ Some 0
-unfolding header_place
+starts : (kind : FontFlavor) (file : List ℕ) → number file 0 4 ≡ Some (kind_word kind) → header_offset (as_font file) ≡ Some 0
+unfolding header_offset
 starts TrueType file h = ap (λ o. option_and_then (λ k. header_by_kind k (as_font file)) (option_and_then kind_of o)) h
 starts Cff file h = ap (λ o. option_and_then (λ k. header_by_kind k (as_font file)) (option_and_then kind_of o)) h
 
@@ -44,7 +44,7 @@ found_there file tag at [] h = refl
 found_there file tag at (r ∷ rs) h = by (bytes_eq r.tag.0 tag) (found_there file tag (at + padded_size r.length) rs h.1)
   where
     here : named_by file r ≡ Some h.0.bytes
-    here = ap (λ (p : ℕ). range file p r.length) h.0.place ∙ h.0.there
+    here = ap (λ (p : ℕ). range file p r.length) h.0.offset ∙ h.0.there
 
     by : (b : Bool) → is_some (option_and_then (named_by file) (find_record tag rs)) ≡ has_tag tag (map (λ (x : TableRecord). x.tag.0) rs) → is_some (option_and_then (named_by file) (cond b (Some r) (find_record tag rs))) ≡ (b || has_tag tag (map (λ (x : TableRecord). x.tag.0) rs))
     by true later = ap is_some here

@@ -22,11 +22,11 @@ table_of file tag = option_and_then (λ directory. table_in file directory tag) 
 -- what advances and widths are found by: the bytes of `hmtx`, how many pairs it has, and unitsPerEm
 pub record Measures : Type 0 where
   pub hmtx : List ℕ
-  pub pairs : ℕ
+  pub number_of_h_metrics : ℕ
   pub units : ℕ
 
 abbrev pub measures_seen : Metrics → Measures
-measures_seen m = record { hmtx = m.hmtx.now; pairs = m.pairs; units = m.units }
+measures_seen m = record { hmtx = m.hmtx.now; number_of_h_metrics = m.number_of_h_metrics; units = m.units }
 
 -- unitsPerEm, which divides
 abbrev pub if_units : ℕ → Result ℕ Error
@@ -40,13 +40,13 @@ measures_of find = do
   units ← if_units found
   hhea ← ok_or (find (codes "hhea")) MalformedFont
   pairs ← ok_or (number_of_h_metrics hhea) MalformedFont
-  Ok (record { hmtx = hmtx; pairs = pairs; units = units })
+  Ok (record { hmtx = hmtx; number_of_h_metrics = pairs; units = units })
 
 -- the widths of so many glyphs, from one on
 abbrev pub widths_from : Measures → ℕ → ℕ → Result (List ℕ) Error
 widths_from m g zero = Ok []
 widths_from m g (suc n) = do
-  advance ← ok_or (advance_in m.hmtx m.pairs g) MalformedFont
+  advance ← ok_or (advance_in m.hmtx m.number_of_h_metrics g) MalformedFont
   widths ← widths_from m (g + 1) n
   Ok (thousandths advance m.units ∷ widths)
 

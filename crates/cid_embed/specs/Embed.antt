@@ -1,6 +1,6 @@
 -- What a PDF writer gets of a font for the glyphs that it asks for, and why it doesn't.
 use Rattle.std.specs.Prelude.{◌≡◌, ℕ, List, [], ◌∷◌, map, Option, Some}
-use Rattle.subsetter_base.specs.Places.{place, with_glyphs, HasAllAboveZero}
+use Rattle.subsetter_base.specs.Indexes.{index_of, with_glyphs, HasAllAboveZero}
 use Rattle.subsetter_base.specs.declared.error.Error.{Error}
 use Rattle.subsetter_base.specs.declared.error.Error.TheVariants.{OverflowError}
 use Rattle.subsetter_sfnt.specs.Read.{Font}
@@ -27,7 +27,7 @@ pub data HasMapperFault (font : Font) (glyphs : List ℕ) : Error → Type 0 whe
 pub record IsEmbedded (tokens depth : ℕ) (font : Font) (glyphs : List ℕ) (e : Embedded) : Type 0 where
   pub subset : IsSubset tokens depth font (numbering glyphs) e.font.items
   -- a CID for each asked glyph, in the order asked for: its new number
-  pub cids : map Some e.cids.items ≡ map (place (numbering glyphs)) glyphs
+  pub cids : map Some e.cids.items ≡ map (index_of (numbering glyphs)) glyphs
   -- a width for each CID, from 0 on: that of its glyph in the source
   pub widths : map Some e.widths.items ≡ map (width font) (numbering glyphs)
 

@@ -2,7 +2,7 @@
 
 ghost use Rattle.subsetter_sfnt.specs.FontAt.{font_at};
 ghost use Rattle.std.specs.Prelude.{◌≡◌, ◌≢◌, ◌⊎◌, ℕ, List, map, All, IfOk, IfErr, OnOk, IsSome, Some, Err};
-ghost use Rattle.subsetter_base.specs.Places.{place, HasAllAboveZero};
+ghost use Rattle.subsetter_base.specs.Indexes.{index_of, HasAllAboveZero};
 ghost use Rattle.subsetter_base.specs.declared.error.Error.{Error as SpecError};
 ghost use Rattle.subsetter_base.specs.declared.error.Error.TheVariants.{OutOfMemory};
 ghost use Rattle.subsetter_sfnt.specs.Extras.{all_extras};
@@ -31,8 +31,8 @@ pub struct Embedded {
 
 /// The new numbers of the glyphs, which the mapper knows.
 fn cids(alloc: Global, mapper: &GlyphRemapper, glyphs: &[u16]) -> Result<Vec<u16>, Error>
-    requires { All (λ glyph. IsSome (place mapper.now glyph)) glyphs.now }
-    ensures ok { IfOk result (λ cids. map Some cids.items ≡ map (place mapper.now) glyphs.now) }
+    requires { All (λ glyph. IsSome (index_of mapper.now glyph)) glyphs.now }
+    ensures ok { IfOk result (λ cids. map Some cids.items ≡ map (index_of mapper.now) glyphs.now) }
     ensures err { IfErr result (λ e. e ≡ OutOfMemory) }
 {
     let mut cids = Vec::with_capacity(alloc, glyphs.len())?;

@@ -10,7 +10,7 @@ use Rattle.subsetter.specs.Fault.{in_opening}
 use Rattle.subsetter.specs.Answer.{IsAnswer}
 use Rattle.subsetter.specs.Subset.{IsSubset}
 use Rattle.subsetter_instance.specs.Fault.{HasInstanceFault}
-use Rattle.subsetter_variable.specs.Standing.{IsAtDefault, no_outlines}
+use Rattle.subsetter_variable.specs.DefaultLocation.{IsAtDefault, no_outlines}
 use Rattle.subsetter_variable.specs.Subset.{whole, IsStatic, as_it_is}
 use Rattle.subsetter_variable.proofs.Static.{one_static}
 use Rattle.subsetter_variable.proofs.Unopened.{no_glyf, same_stored}

@@ -1,13 +1,13 @@
 -- What a PDF writer gets of a variable font at settings of its user coordinates, and why it doesn't.
 use Rattle.std.specs.Prelude.{ℕ, List, Option, ℤ}
-use Rattle.subsetter_base.specs.Places.{HasAllAboveZero}
+use Rattle.subsetter_base.specs.Indexes.{HasAllAboveZero}
 use Rattle.subsetter_base.specs.declared.tag.Tag.{Tag}
 use Rattle.subsetter_base.specs.declared.error.Error.{Error}
 use Rattle.subsetter_base.specs.declared.error.Error.TheVariants.{OverflowError}
 use Rattle.subsetter_sfnt.specs.Read.{Font}
 use Rattle.subsetter.specs.Bound.{IsWithin}
 use Rattle.subsetter_instance.specs.Fault.{HasInstanceFault}
-use Rattle.subsetter_variable.specs.Standing.{IsAtDefault}
+use Rattle.subsetter_variable.specs.DefaultLocation.{IsAtDefault}
 use Rattle.subsetter_variable.specs.Subset.{whole, IsStatic}
 use Rattle.cid_embed.specs.Embed.{numbering, HasEmbedFaultWithin, IsEmbeddingAnswer}
 use Rattle.cid_embed.specs.declared.embedding.Embedded.{Embedded}

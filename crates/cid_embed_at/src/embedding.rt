@@ -10,7 +10,7 @@ ghost use Rattle.subsetter.specs.Bound.{IsWithin};
 ghost use Rattle.subsetter.specs.Limits.{token_limit, depth_limit};
 ghost use Rattle.cid_embed.specs.Embed.{numbering};
 ghost use Rattle.subsetter_variable.specs.Afresh.{HasGlyphsDrawn};
-ghost use Rattle.subsetter_variable.specs.Standing.{IsAtDefault};
+ghost use Rattle.subsetter_variable.specs.DefaultLocation.{IsAtDefault};
 ghost use Rattle.subsetter_variable.specs.Subset.{IsTheAnswerAt};
 ghost use Rattle.cid_embed_at.specs.Embed.{IsEmbeddingAnswerAt, HasEmbedFaultAt, HasNoEmbeddingAt};
 

@@ -19,8 +19,8 @@ abbrev pub id_delta : List ℕ → ℕ → ℕ → Option ℕ
 id_delta table n i = number table (16 + 4 * n + 2 * i) 2
 
 -- where idRangeOffset of segment i stands
-abbrev pub range_place : ℕ → ℕ → ℕ
-range_place n i = 16 + 6 * n + 2 * i
+abbrev pub id_range_offset_at : ℕ → ℕ → ℕ
+id_range_offset_at n i = 16 + 6 * n + 2 * i
 
 -- a glyph and a delta, modulo 65536
 abbrev pub shifted : ℕ → ℕ → ℕ
@@ -42,8 +42,8 @@ in_segment table n i c =
     option_and_then (λ start.
     option_and_then (λ delta.
     option_and_then (λ offset.
-    if nat_le start c then glyph_at table (range_place n i) offset delta c start else None)
-    (number table (range_place n i) 2)) (id_delta table n i)) (start_code table n i)
+    if nat_le start c then glyph_at table (id_range_offset_at n i) offset delta c start else None)
+    (number table (id_range_offset_at n i) 2)) (id_delta table n i)) (start_code table n i)
 
 -- the glyph of a character by the next so many segments from i on of n: that of the first whose end isn't below it
 unfoldable pub by_segments : List ℕ → ℕ → ℕ → ℕ → ℕ → Option ℕ

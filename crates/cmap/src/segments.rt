@@ -1,7 +1,7 @@
 //! Tables of format 4.
 
 ghost use Rattle.std.specs.Prelude.{◌≡◌, ◌≤◌, ◌<◌, ◌+◌, ◌*◌, ◌^◌};
-ghost use Rattle.cmap.specs.Segments.{segment_count, end_code, start_code, id_delta, range_place, shifted, listed, glyph_at, in_segment, by_segments, glyph_by_segments};
+ghost use Rattle.cmap.specs.Segments.{segment_count, end_code, start_code, id_delta, id_range_offset_at, shifted, listed, glyph_at, in_segment, by_segments, glyph_by_segments};
 
 use subsetter_base::read::number_at;
 
@@ -23,7 +23,7 @@ fn listed(glyph: u16, delta: u16) -> Option<u16>
 }
 
 /// Where the number stands that a segment's offset leads to, from the offset's own place on.
-fn place_of(place: usize, offset: u16, distance: u16) -> usize
+fn glyph_id_offset(place: usize, offset: u16, distance: u16) -> usize
     requires { place < 2 ^ 32 }
     ensures { result ≡ place + offset + 2 * distance }
 {
@@ -46,7 +46,7 @@ fn glyph_at(
     if offset == 0 {
         return Some(shifted(character, delta));
     }
-    let glyph = number_at(table, place_of(place, offset, character - start))?;
+    let glyph = number_at(table, glyph_id_offset(place, offset, character - start))?;
     listed(glyph, delta)
 }
 

@@ -3,7 +3,7 @@
 ghost use Rattle.subsetter_sfnt.specs.FontAt.{font_at};
 ghost use Rattle.std.specs.Prelude.{◌≡◌, ◌≤◌, [], ◌∷◌, IfOk};
 ghost use Rattle.subsetter_sfnt.specs.Extras.{all_extras};
-ghost use Rattle.subsetter_base.specs.Places.{with_glyphs};
+ghost use Rattle.subsetter_base.specs.Indexes.{with_glyphs};
 ghost use Rattle.dev_bench.specs.Measured.{IsMeasured};
 
 use crate::line::Done;

@@ -84,7 +84,7 @@ impl<'a, R: Files> LateFile<'a, R> {
     }
 
     /// Gives the file its name.
-    fn take_place(&mut self) -> io::Result<()>
+    fn take_name(&mut self) -> io::Result<()>
         ensures { self.new.file ≡ self.old.file }
     {
         match &self.beside {
@@ -118,7 +118,7 @@ impl<R: Files> Write for LateFile<'_, R> {
             None => return Ok(()),
         }
         self.settle()?;
-        self.take_place()
+        self.take_name()
     }
 }
 

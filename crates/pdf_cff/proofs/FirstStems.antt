@@ -10,7 +10,7 @@ use Rattle.subsetter_cff.specs.Read.PrivateView.{private_view}
 use Rattle.subsetter_cff.specs.Read.Source.{IsCidParts}
 use Rattle.subsetter_cff.specs.declared.read.font_dict.FontDict.{FontDict}
 use Rattle.subsetter_cff.specs.declared.read.source.CIDMetadata.{CIDMetadata}
-use Rattle.pdf_cff.specs.Said.{private_of, privates}
+use Rattle.pdf_cff.specs.Values.{private_of, privates}
 
 abbrev pub views : List FontDict → List Private
 views fs = map (λ f. private_view f.private) fs

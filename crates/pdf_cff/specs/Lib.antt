@@ -1,3 +1,3 @@
-pub mod Said
+pub mod Values
 pub mod Stems
 pub mod View

@@ -5,7 +5,7 @@
 //! ```
 #![tactic(auto)]
 
-mod said;
+mod values;
 mod stems;
 
-pub use said::{Said, said_in, unless_memory};
+pub use values::{CffValues, cff_values_in, unless_memory};

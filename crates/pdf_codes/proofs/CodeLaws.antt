@@ -5,8 +5,8 @@ use Rattle.std.proofs.Math.Bool.{or-true}
 use Rattle.std.specs.Option.{option_map}
 use Rattle.std.proofs.lemmas.Bool.{eqb-true}
 use Rattle.std.proofs.lemmas.List.{get_or-map, get_or_default, length-map}
-use Rattle.subsetter_base.specs.Places.{place, with_glyph, with_glyphs}
-use Rattle.subsetter_base.specs.Remap.{place_by, with_value}
+use Rattle.subsetter_base.specs.Indexes.{index_of, with_glyph, with_glyphs}
+use Rattle.subsetter_base.specs.Remap.{index_by, with_value}
 use Rattle.subsetter_base.proofs.GlyphLemmas.{Contains-place, known, known-all, place-finds}
 use Rattle.subsetter_base.proofs.Lists.{and_parts}
 use Rattle.subsetter_base.proofs.Options.{just_is}
@@ -38,7 +38,7 @@ longer false (y ∷ l) x h = (omega arith, refl)
 
 first_glyph : (ys l : List ℕ) → 1 ≤ length l → get_or (with_glyphs l ys) 0 0 ≡ get_or l 0 0
 first_glyph [] l h = refl
-first_glyph (y ∷ ys) l h = let more = longer (is_some (place l y)) l y h in first_glyph ys (with_glyph l y) more.0 ∙ more.1
+first_glyph (y ∷ ys) l h = let more = longer (is_some (index_of l y)) l y h in first_glyph ys (with_glyph l y) more.0 ∙ more.1
 
 -- ---- numbers of pairs
 
@@ -47,9 +47,9 @@ same_cond eq y x o n d ys h true is e = let zeroth : n ≡ 0 = sym (just_is 0 n 
 same_cond eq y x None n d ys h false is e = absurd cc
 same_cond eq y x (Some m) n d ys h false is e = let next : n ≡ suc m = sym (just_is (m + 1) n e) ∙ omega arith in ap (λ k. eq (get_or (y ∷ ys) k d) x) next ∙ h m refl
 
-value_found : {A : Type 0} (eq : A → A → Bool) (xs : List A) (x : A) (n : ℕ) (d : A) → place_by eq xs x ≡ Some n → eq (get_or xs n d) x ≡ true
+value_found : {A : Type 0} (eq : A → A → Bool) (xs : List A) (x : A) (n : ℕ) (d : A) → index_by eq xs x ≡ Some n → eq (get_or xs n d) x ≡ true
 value_found eq [] x n d e = absurd cc
-value_found eq (y ∷ ys) x n d e = same_cond eq y x (place_by eq ys x) n d ys (λ m h. value_found eq ys x m d h) (eq y x) refl e
+value_found eq (y ∷ ys) x n d e = same_cond eq y x (index_by eq ys x) n d ys (λ m h. value_found eq ys x m d h) (eq y x) refl e
 
 abbrev zeroth_pair : Used
 zeroth_pair = record { glyph = 0; units = [] }
@@ -61,7 +61,7 @@ longer_pairs false (y ∷ l) x h = (omega arith, refl)
 
 first_pair : (us l : List Used) → 1 ≤ length l → get_or (with_pairs l us) 0 zeroth_pair ≡ get_or l 0 zeroth_pair
 first_pair [] l h = refl
-first_pair (u ∷ us) l h = let more = longer_pairs (is_some (place_by same l u)) l u h in first_pair us (with_value same l u) more.0 ∙ more.1
+first_pair (u ∷ us) l h = let more = longer_pairs (is_some (index_by same l u)) l u h in first_pair us (with_value same l u) more.0 ∙ more.1
 
 keyed_by : (b : Bool) (u : Used) → eqb u.glyph 0 ≡ b → (cond b zeroth_pair u).glyph ≡ u.glyph
 keyed_by true u e = sym (eqb-true u.glyph 0 e)
@@ -77,9 +77,9 @@ same_glyph a b e = eqb-true a.glyph b.glyph (and_parts (eqb a.glyph b.glyph) _ e
 -- ---- the laws
 
 pub as_many_codes : (choice : Codes) (us : List Used) (codes : List ℕ) → AreCodes choice us codes → length codes ≡ length us
-as_many_codes Consecutive us codes h = as_many (place (with_glyphs (0 ∷ []) (glyphs_of us))) (glyphs_of us) codes h ∙ length-map us (λ (u : Used). u.glyph)
+as_many_codes Consecutive us codes h = as_many (index_of (with_glyphs (0 ∷ []) (glyphs_of us))) (glyphs_of us) codes h ∙ length-map us (λ (u : Used). u.glyph)
 as_many_codes Source us codes h = ap length h ∙ length-map us (λ (u : Used). u.glyph)
-as_many_codes EachText us codes h = as_many (place_by same (pairs_of us)) (map keyed us) codes h ∙ length-map us keyed
+as_many_codes EachText us codes h = as_many (index_by same (pairs_of us)) (map keyed us) codes h ∙ length-map us keyed
 
 -- the glyph of a code
 abbrev glyph_of_code : Codes → List Used → ℕ → ℕ
@@ -90,11 +90,11 @@ glyph_of_code EachText us c = (get_or (pairs_of us) c zeroth_pair).glyph
 pub its_glyph : (choice : Codes) (us : List Used) (codes : List ℕ) → AreCodes choice us codes → (i : ℕ) → i < length us → glyph_of_code choice us (get_or codes i 0) ≡ glyph_at us i
 its_glyph Consecutive us codes h i lt =
     let glyphs = glyphs_of us in
-    let found = found_at (place (with_glyphs (0 ∷ []) glyphs)) glyphs codes 0 h i (omega (arith, length-map us (λ (u : Used). u.glyph))) in
+    let found = found_at (index_of (with_glyphs (0 ∷ []) glyphs)) glyphs codes 0 h i (omega (arith, length-map us (λ (u : Used). u.glyph))) in
     (place-finds (with_glyphs (0 ∷ []) glyphs) (get_or glyphs i 0) (get_or codes i 0) found).1
 its_glyph Source us codes h i lt = ap (λ (l : List ℕ). get_or l i 0) h
 its_glyph EachText us codes h i lt =
-    let found = found_at (place_by same (pairs_of us)) (map keyed us) codes zeroth_pair h i (omega (arith, length-map us keyed)) in
+    let found = found_at (index_by same (pairs_of us)) (map keyed us) codes zeroth_pair h i (omega (arith, length-map us keyed)) in
     let key : get_or (map keyed us) i zeroth_pair ≡ keyed (get_or us i zeroth_pair) = get_or-map keyed us i zeroth_pair zeroth_pair lt in
     same_glyph (get_or (pairs_of us) (get_or codes i 0) zeroth_pair) (get_or (map keyed us) i zeroth_pair) (value_found same (pairs_of us) (get_or (map keyed us) i zeroth_pair) (get_or codes i 0) zeroth_pair found)
     ∙ ap (λ (u : Used). u.glyph) key ∙ keyed_glyph (get_or us i zeroth_pair) ∙ sym (get_or-map (λ (u : Used). u.glyph) us i zeroth_pair 0 lt)
@@ -114,7 +114,7 @@ zero_glyph choice us codes h i a e = sym (its_glyph choice us codes h i a) ∙ a
 -- ---- what the code needs
 
 -- each glyph in use has a number
-pub in_use_known : (glyphs mapper : List ℕ) (k d : ℕ) → mapper ≡ with_glyphs (0 ∷ []) glyphs → k < length glyphs → IsSome (place mapper (get_or glyphs k d))
+pub in_use_known : (glyphs mapper : List ℕ) (k d : ℕ) → mapper ≡ with_glyphs (0 ∷ []) glyphs → k < length glyphs → IsSome (index_of mapper (get_or glyphs k d))
 in_use_known glyphs mapper k d m lt =
     let q = get_or glyphs k d in
     let known_there : known glyphs q ≡ true = Contains-place glyphs q (k, lt, get_or_default glyphs k q d lt) in
@@ -127,4 +127,4 @@ longer_by false l x = omega (arith, length-append l (x ∷ []))
 -- pairs grow
 pub pairs_grow : (us l : List Used) → length l ≤ length (with_pairs l us)
 pairs_grow [] l = omega arith
-pairs_grow (u ∷ us) l = let one = longer_by (is_some (place_by same l u)) l u in let more = pairs_grow us (with_value same l u) in omega (arith, one, more)
+pairs_grow (u ∷ us) l = let one = longer_by (is_some (index_by same l u)) l u in let more = pairs_grow us (with_value same l u) in omega (arith, one, more)

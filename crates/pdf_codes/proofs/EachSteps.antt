@@ -1,7 +1,7 @@
 -- Entries whose pairs of a glyph and a text are numbered one by one.
 use Rattle.std.proofs.Common.{◌≡◌, ℕ, ◌+◌, ◌<◌, List, [], ◌∷◌, ◌++◌, length, get_or, map, drop, Option, Some, refl, sym, ap, ◌∙◌, append_assoc, ◌⊎◌, inl, inr, arith}
 use Rattle.std.proofs.lemmas.List.{drop_more, map_push}
-use Rattle.subsetter_base.specs.Remap.{place_by, with_value}
+use Rattle.subsetter_base.specs.Remap.{index_by, with_value}
 use Rattle.subsetter_base.specs.declared.error.Error.{Error}
 use Rattle.subsetter_base.specs.declared.error.Error.TheVariants.{OutOfMemory, OverflowError}
 use Rattle.pdf_codes.specs.declared.codes.Entry.{Entry}
@@ -28,16 +28,16 @@ all_more es i d was now total u lt is put all =
 
 -- the number of one pair more
 pub codes_more : (es : List Entry) (i : ℕ) (d : Entry) (now total : List Used) (u : Used) (codes : List ℕ) (n : ℕ) (whole : List (Option ℕ)) → i < length es → u ≡ keyed (used_of (get_or es i d))
-    → place_by same now u ≡ Some n → with_pairs now (keys (drop (i + 1) es)) ≡ total
-    → map Some codes ++ map (place_by same total) (keys (drop i es)) ≡ whole → map Some (codes ++ n ∷ []) ++ map (place_by same total) (keys (drop (i + 1) es)) ≡ whole
+    → index_by same now u ≡ Some n → with_pairs now (keys (drop (i + 1) es)) ≡ total
+    → map Some codes ++ map (index_by same total) (keys (drop i es)) ≡ whole → map Some (codes ++ n ∷ []) ++ map (index_by same total) (keys (drop (i + 1) es)) ≡ whole
 codes_more es i d now total u codes n whole lt is found all so_far =
     let rest : List Used = keys (drop (i + 1) es) in
-    let later : List (Option ℕ) = map (place_by same total) rest in
-    let number : Some n ≡ place_by same total (keyed (used_of (get_or es i d))) = sym (number_stays rest now total u n found all) ∙ ap (place_by same total) is in
+    let later : List (Option ℕ) = map (index_by same total) rest in
+    let number : Some n ≡ index_by same total (keyed (used_of (get_or es i d))) = sym (number_stays rest now total u n found all) ∙ ap (index_by same total) is in
     ap (λ (l : List (Option ℕ)). l ++ later) (map_push Some codes n)
     ∙ append_assoc (map Some codes) (Some n ∷ []) later
     ∙ ap (λ (o : Option ℕ). map Some codes ++ o ∷ later) number
-    ∙ sym (ap (λ (l : List Used). map Some codes ++ map (place_by same total) l) (keys_here es i d lt))
+    ∙ sym (ap (λ (l : List Used). map Some codes ++ map (index_by same total) l) (keys_here es i d lt))
     ∙ so_far
 
 -- where one pair more is too many, all are

@@ -2,7 +2,7 @@
 use Rattle.std.proofs.Common.{◌≡◌, ℕ, zero, suc, ◌<◌, true, eqb, List, [], ◌∷◌, length, get_or, Some, None, refl, sym, ap, ◌∙◌, inl, inr, arith}
 use Rattle.std.proofs.lemmas.Bool.{cases_eq, eqb-true}
 use Rattle.std.proofs.lemmas.List.{length-map}
-use Rattle.subsetter_base.specs.Places.{place, with_glyphs}
+use Rattle.subsetter_base.specs.Indexes.{index_of, with_glyphs}
 use Rattle.subsetter_base.proofs.Lists.{and_parts}
 use Rattle.subsetter_base.proofs.Options.{just_is}
 use Rattle.pdf_codes.specs.declared.codes.Codes.{Codes}
@@ -19,10 +19,10 @@ pub record HaveOneCid (codes cids : List ℕ) : Type 0 where
   pub one : (i j : ℕ) → i < length codes → j < length codes → get_or codes i 0 ≡ get_or codes j 0 → get_or cids i 0 ≡ get_or cids j 0
   pub zeroth : (i : ℕ) → i < length codes → get_or codes i 0 ≡ 0 → get_or cids i 0 ≡ 0
 
-cid_found : (us : List Used) (cids : List ℕ) → AreCids us cids → (i : ℕ) → i < length us → place (with_glyphs (0 ∷ []) (glyphs_of us)) (glyph_at us i) ≡ Some (get_or cids i 0)
-cid_found us cids h i lt = found_at (place (with_glyphs (0 ∷ []) (glyphs_of us))) (glyphs_of us) cids 0 h i (omega (arith, length-map us (λ (u : Used). u.glyph)))
+cid_found : (us : List Used) (cids : List ℕ) → AreCids us cids → (i : ℕ) → i < length us → index_of (with_glyphs (0 ∷ []) (glyphs_of us)) (glyph_at us i) ≡ Some (get_or cids i 0)
+cid_found us cids h i lt = found_at (index_of (with_glyphs (0 ∷ []) (glyphs_of us))) (glyphs_of us) cids 0 h i (omega (arith, length-map us (λ (u : Used). u.glyph)))
 
-zero_found : (gs : List ℕ) → place (with_glyphs (0 ∷ []) gs) 0 ≡ Some 0
+zero_found : (gs : List ℕ) → index_of (with_glyphs (0 ∷ []) gs) 0 ≡ Some 0
 zero_found gs = glyph_stays gs (0 ∷ []) 0 0 refl
 
 pub one_cid : (choice : Codes) (us : List Used) (codes cids : List ℕ) → AreCodes choice us codes → AreCids us cids → HaveOneCid codes cids
@@ -35,11 +35,11 @@ one_cid choice us codes cids h k =
           let a' : i < length us = omega (arith, a, many) in
           let b' : j < length us = omega (arith, b, many) in
           let same : glyph_at us i ≡ glyph_at us j = one_glyph choice us codes h i j a' b' e in
-          just_is (get_or cids i 0) (get_or cids j 0) (sym (cid_found us cids k i a') ∙ ap (place (with_glyphs (0 ∷ []) (glyphs_of us))) same ∙ cid_found us cids k j b');
+          just_is (get_or cids i 0) (get_or cids j 0) (sym (cid_found us cids k i a') ∙ ap (index_of (with_glyphs (0 ∷ []) (glyphs_of us))) same ∙ cid_found us cids k j b');
       zeroth = λ i a e.
           let a' : i < length us = omega (arith, a, many) in
           let zero_is : glyph_at us i ≡ 0 = zero_glyph choice us codes h i a' e in
-          just_is (get_or cids i 0) 0 (sym (cid_found us cids k i a') ∙ ap (place (with_glyphs (0 ∷ []) (glyphs_of us))) zero_is ∙ zero_found (glyphs_of us));
+          just_is (get_or cids i 0) 0 (sym (cid_found us cids k i a') ∙ ap (index_of (with_glyphs (0 ∷ []) (glyphs_of us))) zero_is ∙ zero_found (glyphs_of us));
     }
 
 -- ---- by the pairs

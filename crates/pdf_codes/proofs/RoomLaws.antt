@@ -1,7 +1,7 @@
 -- When no code is left, where the codes are the new numbers of the glyphs.
 use Rattle.std.proofs.Common.{◌≡◌, ℕ, List, sym, subst, ◌⊎◌, Vec, Global, Result}
 use Rattle.std.specs.Prelude.{IfErr, OnOk}
-use Rattle.subsetter_base.specs.Places.{HasAllAboveZero}
+use Rattle.subsetter_base.specs.Indexes.{HasAllAboveZero}
 use Rattle.subsetter_base.specs.declared.error.Error.{Error}
 use Rattle.subsetter_base.specs.declared.error.Error.TheVariants.{OutOfMemory, OverflowError}
 use Rattle.pdf_codes.specs.declared.codes.Codes.{Codes}

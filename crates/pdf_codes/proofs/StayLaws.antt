@@ -3,8 +3,8 @@ use Rattle.std.proofs.Common.{◌≡◌, ℕ, ◌+◌, Bool, true, false, cond, 
 use Rattle.std.specs.Prelude.{is_some}
 use Rattle.std.specs.Option.{option_map}
 use Rattle.std.proofs.lemmas.List.{map-append}
-use Rattle.subsetter_base.specs.Places.{place, with_glyph, with_glyphs}
-use Rattle.subsetter_base.specs.Remap.{place_by, with_value}
+use Rattle.subsetter_base.specs.Indexes.{index_of, with_glyph, with_glyphs}
+use Rattle.subsetter_base.specs.Remap.{index_by, with_value}
 use Rattle.subsetter_base.proofs.Options.{just_is}
 use Rattle.pdf_codes.specs.declared.codes.Codes.TheVariants.{Consecutive, Source, EachText}
 use Rattle.pdf_codes.specs.Codes.{Used, glyphs_of, keyed, same, with_pairs}
@@ -38,18 +38,18 @@ later true o q n h e = e
 later false None q n h e = absurd cc
 later false (Some m) q n h e = ap (option_map (λ i. i + 1)) (h m refl) ∙ e
 
-place_stays : (xs ys : List ℕ) (x n : ℕ) → place xs x ≡ Some n → place (xs ++ ys) x ≡ Some n
+place_stays : (xs ys : List ℕ) (x n : ℕ) → index_of xs x ≡ Some n → index_of (xs ++ ys) x ≡ Some n
 place_stays [] ys x n e = absurd cc
-place_stays (y ∷ xs) ys x n e = later _ (place xs x) (place (xs ++ ys) x) n (λ m h. place_stays xs ys x m h) e
+place_stays (y ∷ xs) ys x n e = later _ (index_of xs x) (index_of (xs ++ ys) x) n (λ m h. place_stays xs ys x m h) e
 
-glyph_stays_by : (b : Bool) (xs : List ℕ) (v x n : ℕ) → place xs x ≡ Some n → place (cond b xs (xs ++ v ∷ [])) x ≡ Some n
+glyph_stays_by : (b : Bool) (xs : List ℕ) (v x n : ℕ) → index_of xs x ≡ Some n → index_of (cond b xs (xs ++ v ∷ [])) x ≡ Some n
 glyph_stays_by true xs v x n e = e
 glyph_stays_by false xs v x n e = place_stays xs (v ∷ []) x n e
 
 -- a glyph that is there keeps its number
-pub glyph_stays : (ys xs : List ℕ) (x n : ℕ) → place xs x ≡ Some n → place (with_glyphs xs ys) x ≡ Some n
+pub glyph_stays : (ys xs : List ℕ) (x n : ℕ) → index_of xs x ≡ Some n → index_of (with_glyphs xs ys) x ≡ Some n
 glyph_stays [] xs x n e = e
-glyph_stays (y ∷ ys) xs x n e = glyph_stays ys (with_glyph xs y) x n (glyph_stays_by (is_some (place xs y)) xs y x n e)
+glyph_stays (y ∷ ys) xs x n e = glyph_stays ys (with_glyph xs y) x n (glyph_stays_by (is_some (index_of xs y)) xs y x n e)
 
 glyphs_in_turn : (a xs b : List ℕ) → with_glyphs xs (a ++ b) ≡ with_glyphs (with_glyphs xs a) b
 glyphs_in_turn [] xs b = refl
@@ -66,21 +66,21 @@ pairs_in_turn (u ∷ a) xs b = pairs_in_turn a (with_value same xs u) b
 glyphs_append : (us more : List Used) → glyphs_of (us ++ more) ≡ glyphs_of us ++ glyphs_of more
 glyphs_append us more = map-append (λ (u : Used). u.glyph) us more
 
-numbers_stay : (a b : List ℕ) (codes longer : List ℕ) → map Some codes ≡ map (place (with_glyphs (0 ∷ []) a)) a → map Some longer ≡ map (place (with_glyphs (0 ∷ []) (a ++ b))) (a ++ b) → take (length codes) longer ≡ codes
+numbers_stay : (a b : List ℕ) (codes longer : List ℕ) → map Some codes ≡ map (index_of (with_glyphs (0 ∷ []) a)) a → map Some longer ≡ map (index_of (with_glyphs (0 ∷ []) (a ++ b))) (a ++ b) → take (length codes) longer ≡ codes
 numbers_stay a b codes longer e h =
-    first_stay (place (with_glyphs (0 ∷ []) a)) (place (with_glyphs (0 ∷ []) (a ++ b))) a b codes longer e h
-    (λ x n found. ap (λ (l : List ℕ). place l x) (glyphs_in_turn a (0 ∷ []) b) ∙ glyph_stays b (with_glyphs (0 ∷ []) a) x n found)
+    first_stay (index_of (with_glyphs (0 ∷ []) a)) (index_of (with_glyphs (0 ∷ []) (a ++ b))) a b codes longer e h
+    (λ x n found. ap (λ (l : List ℕ). index_of l x) (glyphs_in_turn a (0 ∷ []) b) ∙ glyph_stays b (with_glyphs (0 ∷ []) a) x n found)
 
-pair_numbers_stay : (a b : List Used) (z : List Used) (codes longer : List ℕ) → map Some codes ≡ map (place_by same (with_pairs z a)) a → map Some longer ≡ map (place_by same (with_pairs z (a ++ b))) (a ++ b) → take (length codes) longer ≡ codes
+pair_numbers_stay : (a b : List Used) (z : List Used) (codes longer : List ℕ) → map Some codes ≡ map (index_by same (with_pairs z a)) a → map Some longer ≡ map (index_by same (with_pairs z (a ++ b))) (a ++ b) → take (length codes) longer ≡ codes
 pair_numbers_stay a b z codes longer e h =
-    first_stay (place_by same (with_pairs z a)) (place_by same (with_pairs z (a ++ b))) a b codes longer e h
-    (λ u n found. ap (λ (l : List Used). place_by same l u) (pairs_in_turn a z b) ∙ pair_stays b (with_pairs z a) u n found)
+    first_stay (index_by same (with_pairs z a)) (index_by same (with_pairs z (a ++ b))) a b codes longer e h
+    (λ u n found. ap (λ (l : List Used). index_by same l u) (pairs_in_turn a z b) ∙ pair_stays b (with_pairs z a) u n found)
 
-numbers_of : (a b c : List ℕ) (longer : List ℕ) → c ≡ a ++ b → map Some longer ≡ map (place (with_glyphs (0 ∷ []) c)) c → map Some longer ≡ map (place (with_glyphs (0 ∷ []) (a ++ b))) (a ++ b)
-numbers_of a b c longer is h = h ∙ ap (λ (l : List ℕ). map (place (with_glyphs (0 ∷ []) l)) l) is
+numbers_of : (a b c : List ℕ) (longer : List ℕ) → c ≡ a ++ b → map Some longer ≡ map (index_of (with_glyphs (0 ∷ []) c)) c → map Some longer ≡ map (index_of (with_glyphs (0 ∷ []) (a ++ b))) (a ++ b)
+numbers_of a b c longer is h = h ∙ ap (λ (l : List ℕ). map (index_of (with_glyphs (0 ∷ []) l)) l) is
 
-pair_numbers_of : (a b c z : List Used) (longer : List ℕ) → c ≡ a ++ b → map Some longer ≡ map (place_by same (with_pairs z c)) c → map Some longer ≡ map (place_by same (with_pairs z (a ++ b))) (a ++ b)
-pair_numbers_of a b c z longer is h = h ∙ ap (λ (l : List Used). map (place_by same (with_pairs z l)) l) is
+pair_numbers_of : (a b c z : List Used) (longer : List ℕ) → c ≡ a ++ b → map Some longer ≡ map (index_by same (with_pairs z c)) c → map Some longer ≡ map (index_by same (with_pairs z (a ++ b))) (a ++ b)
+pair_numbers_of a b c z longer is h = h ∙ ap (λ (l : List Used). map (index_by same (with_pairs z l)) l) is
 
 pub codes_stay : CodesStay
 codes_stay Consecutive us more codes longer e h =

@@ -1,8 +1,8 @@
 -- The codes of glyphs in use (ISO 32000-1, 9.7.6.2).
 use Rattle.std.specs.Prelude.{◌≡◌, ◌<◌, ℕ, Bool, ◌==◌, ◌&&◌, nat_eq, if◌then◌else◌, List, [], ◌∷◌, map, length, get_or, Some}
 use Rattle.std.specs.Cmp.Lexicographic.{pointwise}
-use Rattle.subsetter_base.specs.Places.{place, with_glyphs, HasAllAboveZero}
-use Rattle.subsetter_base.specs.Remap.{place_by, with_value}
+use Rattle.subsetter_base.specs.Indexes.{index_of, with_glyphs, HasAllAboveZero}
+use Rattle.subsetter_base.specs.Remap.{index_by, with_value}
 use Rattle.pdf_text.specs.Cmap.{Line}
 use Rattle.pdf_codes.specs.declared.codes.Codes.{Codes}
 use Rattle.pdf_codes.specs.declared.codes.Codes.TheVariants.{Consecutive, Source, EachText}
@@ -38,9 +38,9 @@ pairs_of us = with_pairs (record { glyph = 0; units = [] } ∷ []) (map keyed us
 
 -- The codes: the new numbers of the glyphs, which are 0 for glyph 0 and consecutive in order of use; the source's numbers; or the places of the pairs of a glyph and a text
 abbrev pub AreCodes : Codes → List Used → List ℕ → Type 0
-AreCodes Consecutive us codes = map Some codes ≡ map (place (with_glyphs (0 ∷ []) (glyphs_of us))) (glyphs_of us)
+AreCodes Consecutive us codes = map Some codes ≡ map (index_of (with_glyphs (0 ∷ []) (glyphs_of us))) (glyphs_of us)
 AreCodes Source us codes = codes ≡ glyphs_of us
-AreCodes EachText us codes = map Some codes ≡ map (place_by same (pairs_of us)) (map keyed us)
+AreCodes EachText us codes = map Some codes ≡ map (index_by same (pairs_of us)) (map keyed us)
 
 -- no code is left: all glyphs above 0 are in use, or more than 65,535 pairs, glyph 0 with no text among them
 abbrev pub IsOverfull : Codes → List Used → Type 0
@@ -50,7 +50,7 @@ IsOverfull EachText us = 65535 < length (pairs_of us)
 
 -- the CIDs: the new numbers of the glyphs
 abbrev pub AreCids : List Used → List ℕ → Type 0
-AreCids us cids = map Some cids ≡ map (place (with_glyphs (0 ∷ []) (glyphs_of us))) (glyphs_of us)
+AreCids us cids = map Some cids ≡ map (index_of (with_glyphs (0 ∷ []) (glyphs_of us))) (glyphs_of us)
 
 -- the glyph of an entry
 abbrev pub glyph_at : List Used → ℕ → ℕ

@@ -64,14 +64,14 @@ abbrev pub name_of : Option NamedCmap → Option (List ℕ)
 name_of cmap = option_map (λ c. c.name.items) cmap
 
 -- the CID that a code leads to: by the CMap, and without one that of its number
-abbrev pub leads : Option (List ℕ) → ℕ → Option ℕ
-leads None k = Some k
-leads (Some cmap) k = cid_in cmap k
+abbrev pub cid_of_code : Option (List ℕ) → ℕ → Option ℕ
+cid_of_code None k = Some k
+cid_of_code (Some cmap) k = cid_in cmap k
 
 -- the code of each entry leads to its CID, and code 0 to CID 0
 pub record AreLed (cmap : Option (List ℕ)) (codes cids : List ℕ) : Type 0 where
-  pub zeroth : leads cmap 0 ≡ Some 0
-  pub each : (i : ℕ) → i < length codes → leads cmap (get_or codes i 0) ≡ Some (get_or cids i 0)
+  pub zeroth : cid_of_code cmap 0 ≡ Some 0
+  pub each : (i : ℕ) → i < length codes → cid_of_code cmap (get_or codes i 0) ≡ Some (get_or cids i 0)
 
 -- ---- a table of CIDs by code
 

@@ -34,11 +34,11 @@ abbrev pub text_in : List ℕ → ℕ → Option (List ℕ)
 text_in cmap k = option_map (λ ls. first_text ls k) (mapping_in cmap)
 
 -- whether readers find a text where its code has this one: they are equal, and of 1 to 8 units (some readers drop longer ones)
-abbrev pub says : List ℕ → List ℕ → Bool
-says text units = nat_le 1 (length units) && (nat_le (length units) 8 && pointwise nat_eq text units)
+abbrev pub is_found : List ℕ → List ℕ → Bool
+is_found text units = nat_le 1 (length units) && (nat_le (length units) 8 && pointwise nat_eq text units)
 
-abbrev pub is_said : List Line → Line → Bool
-is_said ls l = says (first_text ls l.code) l.units
+abbrev pub is_line_found : List Line → Line → Bool
+is_line_found ls l = is_found (first_text ls l.code) l.units
 
 -- ---- a table of texts by code
 

@@ -7,7 +7,7 @@ ghost use Rattle.pdf_codes.specs.declared.codes.Codes.{Codes};
 ghost use Rattle.pdf_codes.specs.Codes.{AreCids, AreCodes, IsOverfull, Used, coded, used_of};
 ghost use Rattle.pdf_codes.specs.Leading.{AreLed, name_of, own_cmap, own_name, pairs_with, text_of};
 ghost use Rattle.pdf_codes.specs.Shown.{uses_of};
-ghost use Rattle.pdf_codes.specs.Texts.{first_text, is_said, lines_of_codes, text_in};
+ghost use Rattle.pdf_codes.specs.Texts.{first_text, is_line_found, lines_of_codes, text_in};
 
 use crate::codes::{Codes, codes_for, lines_of};
 use crate::leading::{are_cids, pairs_with, write_leading};
@@ -62,7 +62,7 @@ pub fn codes_and_texts(
     ensures cmap { IfOk result (λ c. c.to_unicode.items ≡ cmap_text (lines_of_codes (coded (uses_of shown.now) c.codes.items))) }
     // The CMap is read: each code has its first text.
     ensures texts { IfOk result (λ c. (k : ℕ) → text_in c.to_unicode.items k ≡ Some (first_text (coded (uses_of shown.now) c.codes.items) k)) }
-    ensures said { IfOk result (λ c. c.is_said.items ≡ map (is_said (coded (uses_of shown.now) c.codes.items)) (coded (uses_of shown.now) c.codes.items)) }
+    ensures said { IfOk result (λ c. c.is_said.items ≡ map (is_line_found (coded (uses_of shown.now) c.codes.items)) (coded (uses_of shown.now) c.codes.items)) }
     ensures room { OnOk result (IsOverfull choice (uses_of shown.now) → ⊥) }
     ensures err { IfErr result (λ e. (e ≡ OutOfMemory) ⊎ ((e ≡ OverflowError) × IsOverfull choice (uses_of shown.now))) }
 {

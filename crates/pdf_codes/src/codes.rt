@@ -1,8 +1,8 @@
 //! Codes of glyphs in use.
 
 ghost use Rattle.std.specs.Prelude.{◌≡◌, ◌≤◌, ◌<◌, ◌⊎◌, length, map, IfOk, IfErr, IsSome, OnOk, Some, [], ◌∷◌, All};
-ghost use Rattle.subsetter_base.specs.Places.{place, with_glyphs, HasAllAboveZero};
-ghost use Rattle.subsetter_base.specs.Remap.{place_by, with_value};
+ghost use Rattle.subsetter_base.specs.Indexes.{index_of, with_glyphs, HasAllAboveZero};
+ghost use Rattle.subsetter_base.specs.Remap.{index_by, with_value};
 ghost use Rattle.subsetter_base.specs.declared.error.Error.TheVariants.{OutOfMemory, OverflowError};
 ghost use Rattle.pdf_text.specs.View.{lines_view};
 ghost use Rattle.pdf_codes.specs.Codes.{AreCodes, IsOverfull, coded, glyphs_of, keyed, pairs_of, same, used_of};
@@ -44,8 +44,8 @@ fn glyphs_in(alloc: Global, entries: &[Entry<'_>]) -> Result<Vec<u16>, Error>
 
 /// The new numbers of glyphs, which the mapper knows.
 fn numbers(alloc: Global, mapper: &GlyphRemapper, glyphs: &[u16]) -> Result<Vec<u16>, Error>
-    requires { All (λ glyph. IsSome (place mapper.now glyph)) glyphs.now }
-    ensures ok { IfOk result (λ numbers. map Some numbers.items ≡ map (place mapper.now) glyphs.now) }
+    requires { All (λ glyph. IsSome (index_of mapper.now glyph)) glyphs.now }
+    ensures ok { IfOk result (λ numbers. map Some numbers.items ≡ map (index_of mapper.now) glyphs.now) }
     ensures err { IfErr result (λ e. e ≡ OutOfMemory) }
 {
     let mut numbers = Vec::with_capacity(alloc, glyphs.len())?;
@@ -57,7 +57,7 @@ fn numbers(alloc: Global, mapper: &GlyphRemapper, glyphs: &[u16]) -> Result<Vec<
 
 /// The new numbers of glyphs: 0 for glyph 0, and consecutive in order of use.
 fn consecutive(alloc: Global, glyphs: &[u16]) -> Result<Vec<u16>, Error>
-    ensures ok { IfOk result (λ codes. map Some codes.items ≡ map (place (with_glyphs (0 ∷ []) glyphs.now)) glyphs.now) }
+    ensures ok { IfOk result (λ codes. map Some codes.items ≡ map (index_of (with_glyphs (0 ∷ []) glyphs.now)) glyphs.now) }
     ensures room { OnOk result (HasAllAboveZero glyphs.now → ⊥) }
     ensures err { IfErr result (λ e. (e ≡ OutOfMemory) ⊎ ((e ≡ OverflowError) × HasAllAboveZero glyphs.now)) }
 {
@@ -82,7 +82,7 @@ fn keyed(entry: Entry<'_>) -> Entry<'_>
 /// The number of a pair, which goes last if it is new.
 fn number_of<'a>(pairs: &mut Remapper<u16, Entry<'a>>, pair: Entry<'a>) -> Result<u16, Error>
     ensures list { OnOk result (map used_of pairs.new ≡ with_value same (map used_of pairs.old) (used_of pair.entry)) }
-    ensures number { IfOk result (λ n. place_by same (map used_of pairs.new) (used_of pair.entry) ≡ Some n) }
+    ensures number { IfOk result (λ n. index_by same (map used_of pairs.new) (used_of pair.entry) ≡ Some n) }
     ensures few { OnOk result (length pairs.new ≤ 65535) }
     ensures err { IfErr result (λ e. (e ≡ OutOfMemory) ⊎ ((e ≡ OverflowError) × (65535 < length (with_value same (map used_of pairs.old) (used_of pair.entry))))) }
 {
@@ -95,7 +95,7 @@ fn number_of<'a>(pairs: &mut Remapper<u16, Entry<'a>>, pair: Entry<'a>) -> Resul
 /// The numbers of pairs of a glyph and a text: 0 for glyph 0, and consecutive in order of use.
 #[tactic(auto, using(crate::proofs::Pairs::number_stays, crate::proofs::CodeLaws::pairs_grow))]
 fn each_text(alloc: Global, entries: &[Entry<'_>]) -> Result<Vec<u16>, Error>
-    ensures ok { IfOk result (λ codes. map Some codes.items ≡ map (place_by same (pairs_of (map used_of entries.now))) (map keyed (map used_of entries.now))) }
+    ensures ok { IfOk result (λ codes. map Some codes.items ≡ map (index_by same (pairs_of (map used_of entries.now))) (map keyed (map used_of entries.now))) }
     ensures room { OnOk result (length (pairs_of (map used_of entries.now)) ≤ 65535) }
     ensures err { IfErr result (λ e. (e ≡ OutOfMemory) ⊎ ((e ≡ OverflowError) × (65535 < length (pairs_of (map used_of entries.now))))) }
 {

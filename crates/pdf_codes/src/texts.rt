@@ -4,7 +4,7 @@ ghost use Rattle.std.specs.Prelude.{◌≡◌, ◌≤◌, ◌<◌, ◌∷◌, �
 ghost use Rattle.subsetter_base.specs.declared.error.Error.TheVariants.{OutOfMemory};
 ghost use Rattle.pdf_text.specs.View.{line_view, lines_view};
 ghost use Rattle.pdf_text.specs.Cmap.{IsLine, Line, cmap_text};
-ghost use Rattle.pdf_codes.specs.Texts.{first_text, is_said, limit, lines_of_codes, says, table_lines, text_in};
+ghost use Rattle.pdf_codes.specs.Texts.{first_text, is_line_found, limit, lines_of_codes, is_found, table_lines, text_in};
 ghost use Rattle.subsetter_base.specs.Texts.{or_else, views};
 
 use pdf_text::{Mapping, write_to_unicode};
@@ -100,23 +100,23 @@ fn lines_in<'a>(alloc: Global, texts: &[&'a [u16]]) -> Result<Vec<Mapping<'a>>, 
 }
 
 /// Whether readers find a text, where its code has this one.
-fn says(text: &[u16], units: &[u16]) -> bool
-    ensures { result ≡ says text.now units.now }
+fn is_found(text: &[u16], units: &[u16]) -> bool
+    ensures { result ≡ is_found text.now units.now }
 {
     1 <= units.len() && units.len() <= 8 && text == units
 }
 
 /// Whether readers find the text of each line by its code.
 #[tactic(auto, using(crate::proofs::TextSteps::text_found))]
-fn all_said(alloc: Global, lines: &[Mapping<'_>], texts: &[&[u16]]) -> Result<Vec<bool>, Error>
+fn all_found(alloc: Global, lines: &[Mapping<'_>], texts: &[&[u16]]) -> Result<Vec<bool>, Error>
     requires len { length texts.now ≡ limit (lines_view lines.now) }
     requires are { (k : ℕ) → k < length texts.now → slice_index_or (views texts.now) k [] ≡ first_text (lines_view lines.now) k }
-    ensures ok { IfOk result (λ said. said.items ≡ map (is_said (lines_view lines.now)) (lines_view lines.now)) }
+    ensures ok { IfOk result (λ said. said.items ≡ map (is_line_found (lines_view lines.now)) (lines_view lines.now)) }
     ensures err { IfErr result (λ e. e ≡ OutOfMemory) }
 {
     let mut said = Vec::with_capacity(alloc, lines.len())?;
     for line in lines {
-        said.push(says(texts[usize::from(line.code)], line.units))?;
+        said.push(is_found(texts[usize::from(line.code)], line.units))?;
     }
     Ok(said)
 }
@@ -139,13 +139,13 @@ pub struct Texts {
 #[tactic(auto, using(crate::proofs::TextSteps::lines_are, crate::proofs::ReadBack::text_back))]
 pub fn texts_for(alloc: Global, lines: &[Mapping<'_>]) -> Result<Texts, Error>
     ensures cmap { IfOk result (λ texts. texts.to_unicode.items ≡ cmap_text (lines_of_codes (lines_view lines.now))) }
-    ensures said { IfOk result (λ texts. texts.is_said.items ≡ map (is_said (lines_view lines.now)) (lines_view lines.now)) }
+    ensures said { IfOk result (λ texts. texts.is_said.items ≡ map (is_line_found (lines_view lines.now)) (lines_view lines.now)) }
     // The CMap is read: each code has its first text.
     ensures read { IfOk result (λ texts. (k : ℕ) → text_in texts.to_unicode.items k ≡ Some (first_text (lines_view lines.now) k)) }
     ensures err { IfErr result (λ e. e ≡ OutOfMemory) }
 {
     let texts = first_texts(alloc, lines, limit_of(lines))?;
-    let is_said = all_said(alloc, lines, &texts)?;
+    let is_said = all_found(alloc, lines, &texts)?;
     let written = lines_in(alloc, &texts)?;
     let to_unicode = write_to_unicode(alloc, &written)?;
     Ok(Texts {

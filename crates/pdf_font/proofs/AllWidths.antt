@@ -62,13 +62,13 @@ advance_of hmtx pairs g m h = elim (cases_lt g pairs) [
 pub record HasMetric (font : Font) (m : Measures) (g i : ℕ) : Type 0 where
   pub metric : LongHorMetric
   pub source : metric_of (table font) g ≡ Some metric
-  pub copy : metric_in m.hmtx m.pairs i ≡ Some metric
+  pub copy : metric_in m.hmtx m.number_of_h_metrics i ≡ Some metric
 
 width_is : (font : Font) (g units : ℕ) (m : LongHorMetric) → metric_of (table font) g ≡ Some m → units_per_em font ≡ Some units → width font g ≡ Some (thousandths m.advance units)
 width_is font g units m h u =
     ap (option_and_then (λ (x : LongHorMetric). option_and_then (λ n. Some (thousandths x.advance n)) (units_per_em font))) h ∙ ap (option_and_then (λ n. Some (thousandths m.advance n))) u
 
-one_width : (m : Measures) (g n a : ℕ) (ws : List ℕ) → advance_in m.hmtx m.pairs g ≡ Some a → widths_from m (g + 1) n ≡ Ok ws → widths_from m g (suc n) ≡ Ok (thousandths a m.units ∷ ws)
+one_width : (m : Measures) (g n a : ℕ) (ws : List ℕ) → advance_in m.hmtx m.number_of_h_metrics g ≡ Some a → widths_from m (g + 1) n ≡ Ok ws → widths_from m g (suc n) ≡ Ok (thousandths a m.units ∷ ws)
 one_width m g n a ws h k =
     ap (λ o. ok_or o MalformedFont >>= λ advance. widths_from m (g + 1) n >>= λ widths. Ok (thousandths advance m.units ∷ widths)) h ∙ ap (λ (r : Result (List ℕ) Error). r >>= λ widths. Ok (thousandths a m.units ∷ widths)) k
 
@@ -82,18 +82,18 @@ pub all_widths : (font : Font) (m : Measures) (glyphs : List ℕ) (g : ℕ) → 
 all_widths font m [] g u h = record { widths = []; read = refl; are = refl }
 all_widths font m (x ∷ glyphs) g u h =
     let first = h 0 (omega arith) in
-    let here : metric_in m.hmtx m.pairs g ≡ Some first.metric = ap (metric_in m.hmtx m.pairs) (omega arith) ∙ first.copy in
+    let here : metric_in m.hmtx m.number_of_h_metrics g ≡ Some first.metric = ap (metric_in m.hmtx m.number_of_h_metrics) (omega arith) ∙ first.copy in
     let later : (i : ℕ) → i < length glyphs → HasMetric font m (slice_index glyphs i) (g + 1 + i) = λ i lt. subst (HasMetric font m (slice_index glyphs i)) (omega arith) (h (suc i) (omega arith)) in
     let rest = all_widths font m glyphs (g + 1) u later in
     record {
       widths = thousandths first.metric.advance m.units ∷ rest.widths;
-      read = one_width m g (length glyphs) first.metric.advance rest.widths (advance_of m.hmtx m.pairs g first.metric here) rest.read;
+      read = one_width m g (length glyphs) first.metric.advance rest.widths (advance_of m.hmtx m.number_of_h_metrics g first.metric here) rest.read;
       are = ap (λ o. o ∷ map Some rest.widths) (sym (width_is font x m.units first.metric first.source u)) ∙ ap (λ (l : List (Option ℕ)). width font x ∷ l) rest.are;
     }
 
 -- ---- what is read step by step
 
-all_read : (find : List ℕ → Option (List ℕ)) (n : ℕ) (hmtx head hhea : List ℕ) (units pairs : ℕ) → find (codes "hmtx") ≡ Some hmtx → find (codes "head") ≡ Some head → number head 18 2 ≡ Some (suc units) → find (codes "hhea") ≡ Some hhea → number_of_h_metrics hhea ≡ Some pairs → widths_of find n ≡ widths_from (record { hmtx = hmtx; pairs = pairs; units = suc units }) 0 n
+all_read : (find : List ℕ → Option (List ℕ)) (n : ℕ) (hmtx head hhea : List ℕ) (units pairs : ℕ) → find (codes "hmtx") ≡ Some hmtx → find (codes "head") ≡ Some head → number head 18 2 ≡ Some (suc units) → find (codes "hhea") ≡ Some hhea → number_of_h_metrics hhea ≡ Some pairs → widths_of find n ≡ widths_from (record { hmtx = hmtx; number_of_h_metrics = pairs; units = suc units }) 0 n
 unfolding widths_of measures_of
 all_read find n hmtx head hhea units pairs h k u a b = rw (h, k, u, ne_eqb (suc units) 0 (λ e. omega arith), a, b) refl
 
@@ -133,7 +133,7 @@ module _ (tokens depth : ℕ) (font : Font) (glyphs out : List ℕ) (s : IsSubse
     copied : number header.copy 18 2 ≡ number head 18 2
     copied = same_units header.copy header.source header.same_length header.middle ∙ ap (λ (l : List ℕ). number l 18 2) (just_is header.source head (sym header.source_is ∙ k))
 
-    has_metric : (units i : ℕ) → i < length s.keeps.order → HasMetric font (record { hmtx = kept.hmtx; pairs = kept.count; units = units }) (slice_index s.keeps.order i) (0 + i)
+    has_metric : (units i : ℕ) → i < length s.keeps.order → HasMetric font (record { hmtx = kept.hmtx; number_of_h_metrics = kept.count; units = units }) (slice_index s.keeps.order i) (0 + i)
     has_metric units i lt =
         let same = kept.metrics i lt in
         record {
@@ -147,7 +147,7 @@ module _ (tokens depth : ℕ) (font : Font) (glyphs out : List ℕ) (s : IsSubse
     by (Some zero) u = absurd (sound MalformedFont (no_units (ap (option_and_then units_in) k ∙ u)))
     by (Some (suc units)) u =
         let em : units_per_em font ≡ Some (suc units) = ap (option_and_then units_in) k ∙ u in
-        let all = all_widths font (record { hmtx = kept.hmtx; pairs = kept.count; units = suc units }) s.keeps.order 0 em (has_metric (suc units)) in
+        let all = all_widths font (record { hmtx = kept.hmtx; number_of_h_metrics = kept.count; units = suc units }) s.keeps.order 0 em (has_metric (suc units)) in
         record {
           widths = all.widths;
           read = all_read (table (as_font out)) (length s.keeps.order) kept.hmtx header.copy kept.hhea units kept.count kept.hmtx_is header.copy_is (copied ∙ u) kept.hhea_is kept.count_is ∙ all.read;

@@ -7,7 +7,7 @@ use Rattle.subsetter_base.specs.declared.error.Error.TheVariants.{UnknownKind, M
 use Rattle.subsetter_base.proofs.Options.{map_some}
 use Rattle.subsetter_sfnt.specs.Container.{IsSoundContainer}
 use Rattle.subsetter_sfnt.specs.Plain.{opened, opened_by_kind, opened_header}
-use Rattle.subsetter_sfnt.specs.Read.{as_font, directory_records, header_by_kind, header_place, kind_of, records, records_at, stored, table_in}
+use Rattle.subsetter_sfnt.specs.Read.{as_font, directory_records, header_by_kind, header_offset, kind_of, records, records_at, stored, table_in}
 use Rattle.subsetter_sfnt.specs.Written.{kind_word}
 use Rattle.subsetter_sfnt.specs.declared.flavor.FontFlavor.{FontFlavor}
 use Rattle.subsetter_sfnt.specs.declared.flavor.FontFlavor.TheVariants.{TrueType, Cff}
@@ -18,8 +18,8 @@ unfolding opened_header
 opened_at TrueType file h = ap (λ (o : Option ℕ). ok_or (option_and_then kind_of o) UnknownKind >>= λ kind. opened_by_kind kind (as_font file)) h
 opened_at Cff file h = ap (λ (o : Option ℕ). ok_or (option_and_then kind_of o) UnknownKind >>= λ kind. opened_by_kind kind (as_font file)) h
 
-placed : (kind : FontFlavor) (file : List ℕ) → number file 0 4 ≡ Some (kind_word kind) → header_place (as_font file) ≡ Some 0
-unfolding header_place
+placed : (kind : FontFlavor) (file : List ℕ) → number file 0 4 ≡ Some (kind_word kind) → header_offset (as_font file) ≡ Some 0
+unfolding header_offset
 placed TrueType file h = ap (λ o. option_and_then (λ k. header_by_kind k (as_font file)) (option_and_then kind_of o)) h
 placed Cff file h = ap (λ o. option_and_then (λ k. header_by_kind k (as_font file)) (option_and_then kind_of o)) h
 

@@ -16,7 +16,7 @@ use Rattle.cid_embed.specs.Embed.{numbering, in_subset, in_widths}
 use Rattle.cid_embed.specs.Width.{width}
 use Rattle.pdf_codes.specs.Codes.{Used, coded, glyphs_of}
 use Rattle.pdf_codes.specs.Leading.{own_cmap, own_name, pairs_with}
-use Rattle.pdf_codes.specs.Texts.{is_said, lines_of_codes}
+use Rattle.pdf_codes.specs.Texts.{is_line_found, lines_of_codes}
 use Rattle.pdf_codes.proofs.StayLaws.{codes_are_determined}
 use Rattle.pdf_glyphs.specs.Frequent.{most_frequent}
 use Rattle.pdf_glyphs.specs.HeightVariation.{Variation}
@@ -232,7 +232,7 @@ module _ (font : Font) (settings : List (Tag × ℤ)) (options : FontOptions) (u
     count = counts;
     cids = cids;
     codes = same_codes;
-    said = p.made.filled.coded.said ∙ ap (λ (l : List ℕ). map (is_said (coded us l)) (coded us l)) same_codes ∙ sym q.made.filled.coded.said;
+    said = p.made.filled.coded.said ∙ ap (λ (l : List ℕ). map (is_line_found (coded us l)) (coded us l)) same_codes ∙ sym q.made.filled.coded.said;
     widths = widths;
     default_width = one_width g.widths.items f.default_width g.default_width (subst (λ (l : List ℕ). IsMostFrequent l f.default_width) widths p.made.filled.default_width) q.made.filled.default_width;
     columns = columns;

@@ -10,7 +10,7 @@ use Rattle.subsetter_sfnt.specs.Fault.{HasOpeningFault, no_kind, no_entry, entry
 use Rattle.subsetter_sfnt.specs.Read.{Font, stored, table_in}
 use Rattle.subsetter_sfnt.specs.declared.face.Face.{Face}
 use Rattle.subsetter.specs.Fault.{in_opening}
-use Rattle.subsetter_variable.specs.Standing.{IsAtDefault, no_outlines}
+use Rattle.subsetter_variable.specs.DefaultLocation.{IsAtDefault, no_outlines}
 use Rattle.subsetter_variable.specs.Subset.{whole, as_it_is}
 use Rattle.subsetter_variable.proofs.Static.{one_static}
 use Rattle.subsetter_variable.proofs.Unopened.{no_glyf, same_stored}

@@ -27,7 +27,7 @@ found_there file tag at [] h = refl
 found_there file tag at (r ∷ rs) h = by (bytes_eq r.tag.0 tag) (found_there file tag (at + padded_size r.length) rs h.1)
   where
     here : named_by file r ≡ Some h.0.bytes
-    here = ap (λ (p : ℕ). range file p r.length) h.0.place ∙ h.0.there
+    here = ap (λ (p : ℕ). range file p r.length) h.0.offset ∙ h.0.there
 
     by : (b : Bool) → is_some (option_and_then (named_by file) (find_record tag rs)) ≡ has_tag tag (map (λ (x : TableRecord). x.tag.0) rs) → is_some (option_and_then (named_by file) (cond b (Some r) (find_record tag rs))) ≡ (b || has_tag tag (map (λ (x : TableRecord). x.tag.0) rs))
     by true later = ap is_some here

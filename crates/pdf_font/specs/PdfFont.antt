@@ -9,7 +9,7 @@ use Rattle.subsetter_sfnt.specs.FontAt.{font_at}
 use Rattle.subsetter_sfnt.specs.declared.flavor.FontFlavor.TheVariants.{TrueType}
 use Rattle.subsetter.specs.Bound.{IsWithin}
 use Rattle.subsetter_variable.specs.Afresh.{HasGlyphsDrawn}
-use Rattle.subsetter_variable.specs.Standing.{IsAtDefault}
+use Rattle.subsetter_variable.specs.DefaultLocation.{IsAtDefault}
 use Rattle.subsetter_variable.specs.Subset.{IsStatic, IsTheAnswerAt, whole}
 use Rattle.cid_embed.specs.Embed.{numbering}
 use Rattle.cid_embed.specs.Width.{width}
@@ -18,7 +18,7 @@ use Rattle.cid_embed_at.specs.Embed.{HasEmbedFaultAt, IsEmbeddingAnswerAt}
 use Rattle.pdf_codes.specs.Codes.{AreCodes, IsOverfull, Used, coded, glyphs_of}
 use Rattle.pdf_codes.specs.Leading.{AreLed, name_of, own_cmap, own_name, pairs_with, text_of}
 use Rattle.pdf_codes.specs.Shown.{has_long_text}
-use Rattle.pdf_codes.specs.Texts.{first_text, is_said, lines_of_codes, text_in}
+use Rattle.pdf_codes.specs.Texts.{first_text, is_line_found, lines_of_codes, text_in}
 use Rattle.pdf_glyphs.specs.Frequent.{most_frequent}
 use Rattle.pdf_glyphs.specs.HeightVariation.{Variation}
 use Rattle.pdf_glyphs.specs.Vertical.{Vertical, columns_at}
@@ -56,7 +56,7 @@ pub record IsCoded (options : FontOptions) (us : List Used) (f : PdfFont) : Type
   -- each code has the first text of its entries that isn't empty, and what is said is that this is the entry's
   pub texts : (k : ℕ) → text_in f.to_unicode.items k ≡ Some (first_text (coded us f.codes.items) k)
   pub to_unicode : f.to_unicode.items ≡ cmap_text (lines_of_codes (coded us f.codes.items))
-  pub said : f.is_said.items ≡ map (is_said (coded us f.codes.items)) (coded us f.codes.items)
+  pub said : f.is_said.items ≡ map (is_line_found (coded us f.codes.items)) (coded us f.codes.items)
 
 -- columns of the CIDs that a string can show, in vertical writing alone
 abbrev pub AreColumns : Direction → Vertical → Option Variation → List ℕ → List ℕ → Option Columns → Type 0

@@ -3,7 +3,7 @@
 ghost use Rattle.std.specs.Prelude.{◌≡◌, ◌<◌, ◌^◌, ◌⊎◌, codes, length, IfOk, IfErr};
 ghost use Rattle.std.specs.Option.{option_map};
 ghost use Rattle.subsetter_base.specs.declared.error.Error.TheVariants.{OutOfMemory, OverflowError};
-ghost use Rattle.subsetter_base.specs.Places.{HasAllAboveZero};
+ghost use Rattle.subsetter_base.specs.Indexes.{HasAllAboveZero};
 ghost use Rattle.subsetter_sfnt.specs.Read.{table_in};
 ghost use Rattle.pdf_codes.specs.Codes.{AreCids, IsOverfull, glyphs_of};
 ghost use Rattle.pdf_codes.specs.Shown.{uses_of};

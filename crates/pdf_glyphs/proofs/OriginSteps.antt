@@ -3,7 +3,7 @@ use Rattle.std.proofs.Common.{◌≡◌, ℕ, suc, ◌+◌, ◌-◌, ◌<◌, �
 use Rattle.std.specs.Option.{option_or}
 use Rattle.std.proofs.lemmas.Bool.{cases_eq, eq-eqb, ne_eqb}
 use Rattle.std.proofs.lemmas.List.{get_or-set_same, get_or-set_other}
-use Rattle.subsetter_base.specs.Places.{place, IsWithoutRepeats}
+use Rattle.subsetter_base.specs.Indexes.{index_of, IsWithoutRepeats}
 use Rattle.subsetter_base.proofs.GlyphLemmas.{place-finds}
 use Rattle.subsetter_base.proofs.Options.{just_is, some_not_none}
 use Rattle.pdf_glyphs.specs.Origins.{filled}
@@ -21,22 +21,22 @@ first_of None y later = refl
 first_of (Some x) y later = refl
 
 -- where a glyph's number is, within the list
-pub y_place : (mapper : List ℕ) (g n : ℕ) (found : Option ℕ) → found ≡ Some n → found ≡ place mapper g → n < length mapper
+pub y_place : (mapper : List ℕ) (g n : ℕ) (found : Option ℕ) → found ≡ Some n → found ≡ index_of mapper g → n < length mapper
 y_place mapper g n found some is = (place-finds mapper g n (sym is ∙ some)).0
 
 module _ (mapper : List ℕ) (once : IsWithoutRepeats mapper) (o : Origin) where
-  other_place : (n k : ℕ) → place mapper o.glyph ≡ Some n → (k ≡ n → ⊥) → k < length mapper → o.glyph ≡ get_or mapper k 0 → ⊥
-  other_place n k found ne lt e = ne (just_is k n (sym (once k lt) ∙ ap (place mapper) (sym e) ∙ found))
+  other_place : (n k : ℕ) → index_of mapper o.glyph ≡ Some n → (k ≡ n → ⊥) → k < length mapper → o.glyph ≡ get_or mapper k 0 → ⊥
+  other_place n k found ne lt e = ne (just_is k n (sym (once k lt) ∙ ap (index_of mapper) (sym e) ∙ found))
 
-  absent : (k : ℕ) → place mapper o.glyph ≡ None → k < length mapper → o.glyph ≡ get_or mapper k 0 → ⊥
-  absent k found lt e = some_not_none (place mapper o.glyph) k (ap (place mapper) e ∙ once k lt) found
+  absent : (k : ℕ) → index_of mapper o.glyph ≡ None → k < length mapper → o.glyph ≡ get_or mapper k 0 → ⊥
+  absent k found lt e = some_not_none (index_of mapper o.glyph) k (ap (index_of mapper) e ∙ once k lt) found
 
   -- the glyph has no number
-  pub y_passed : (ys : List (Option ℤ)) (k : ℕ) (later : Option ℤ) → place mapper o.glyph ≡ None → k < length mapper → option_or (get_or ys k None) later ≡ option_or (get_or ys k None) (by_record (Some o) (get_or mapper k 0) later)
+  pub y_passed : (ys : List (Option ℤ)) (k : ℕ) (later : Option ℤ) → index_of mapper o.glyph ≡ None → k < length mapper → option_or (get_or ys k None) later ≡ option_or (get_or ys k None) (by_record (Some o) (get_or mapper k 0) later)
   y_passed ys k later found lt = ap (option_or (get_or ys k None)) (sym (other_glyph o (get_or mapper k 0) later (absent k found lt)))
 
   -- its y is noted, unless an earlier record has one
-  pub y_put : (ys : List (Option ℤ)) (n k : ℕ) (later : Option ℤ) → place mapper o.glyph ≡ Some n → length ys ≡ length mapper → k < length mapper → option_or (get_or (filled ys n o.y) k None) later ≡ option_or (get_or ys k None) (by_record (Some o) (get_or mapper k 0) later)
+  pub y_put : (ys : List (Option ℤ)) (n k : ℕ) (later : Option ℤ) → index_of mapper o.glyph ≡ Some n → length ys ≡ length mapper → k < length mapper → option_or (get_or (filled ys n o.y) k None) later ≡ option_or (get_or ys k None) (by_record (Some o) (get_or mapper k 0) later)
   y_put ys n k later found len lt =
       let there = place-finds mapper o.glyph n found in
       let v : Option ℤ = get_or ys n None in

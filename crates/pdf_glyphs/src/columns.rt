@@ -2,7 +2,7 @@
 
 ghost use Rattle.std.specs.Prelude.{◌≡◌, ◌<◌, ◌≤◌, ◌⊎◌, ℕ, [], ◌∷◌, length, IfErr, IfOk, None, OnOk, slice_index, slice_index_or};
 ghost use Rattle.std.specs.Option.{option_map};
-ghost use Rattle.subsetter_base.specs.Places.{HasAllAboveZero, with_glyphs};
+ghost use Rattle.subsetter_base.specs.Indexes.{HasAllAboveZero, with_glyphs};
 ghost use Rattle.subsetter_base.specs.declared.error.Error.TheVariants.{OutOfMemory, OverflowError};
 ghost use Rattle.pdf_glyphs.specs.Frequent.{most_frequent};
 ghost use Rattle.pdf_glyphs.specs.HeightVariation.{variation_view};

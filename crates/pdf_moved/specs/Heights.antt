@@ -17,12 +17,12 @@ abbrev pub clip_line : Movement → Line → Line
 clip_line m l = record { ascent = varied m (codes "hcla") l.ascent; descent = neg_ℤ (varied m (codes "hcld") (neg_ℤ l.descent)) }
 
 -- the line of `hhea`, else the typographic one
-unfoldable pub said_line : Option (List ℕ) → Option (List ℕ) → Option Line
-said_line hhea os2 = option_or (first_line hhea os2) (typographic_line os2)
+unfoldable pub source_line : Option (List ℕ) → Option (List ℕ) → Option Line
+source_line hhea os2 = option_or (first_line hhea os2) (typographic_line os2)
 
 -- the same, with what it varies by
 unfoldable pub moved_text_line : Movement → Option (List ℕ) → Option (List ℕ) → Option Line
-moved_text_line m hhea os2 = option_map (text_line m) (said_line hhea os2)
+moved_text_line m hhea os2 = option_map (text_line m) (source_line hhea os2)
 
 -- the line that Windows clips to, with what it varies by, else the box of `head`
 unfoldable pub other_line : Movement → Option (List ℕ) → Option (List ℕ) → Option Line

@@ -4,12 +4,12 @@ ghost use Rattle.std.specs.Prelude.{◌≡◌, ◌<◌, ◌≤◌, ◌^◌, IfSo
 ghost use Rattle.std.specs.Option.{option_and_then, option_copied, option_map, option_or, unwrap_or};
 ghost use Rattle.pdf_values.specs.Heights.{above_0, box_line, counted, descent_of, first_line, line, typographic_line, windows_line};
 ghost use Rattle.pdf_values.specs.Rounding.{thousandths};
-ghost use Rattle.pdf_moved.specs.Heights.{clip_line, heights_at, heights_by, moved_height, moved_line, moved_text_line, other_line, said_line, text_line};
+ghost use Rattle.pdf_moved.specs.Heights.{clip_line, heights_at, heights_by, moved_height, moved_line, moved_text_line, other_line, source_line, text_line};
 ghost use Rattle.pdf_moved.specs.Lines.{line_view};
 ghost use Rattle.pdf_moved.specs.Movement.{movement_view};
 
 use crate::movement::{Movement, varied};
-use pdf_values::fields::says_bit;
+use pdf_values::fields::sets_bit;
 use pdf_values::{Heights, thousandths};
 use subsetter_base::Tag;
 use subsetter_sfnt::fields::head::{y_max, y_min};
@@ -68,7 +68,7 @@ fn first_line(hhea: Option<&[u8]>, os2: Option<&[u8]>) -> Option<Line>
     ensures ascent { IfSome result (λ l. unsigned_abs l.ascent ≤ 2 ^ 16) }
     ensures descent { IfSome result (λ l. unsigned_abs l.descent ≤ 2 ^ 16) }
 {
-    if says_bit(fs_selection(os2), 7) {
+    if sets_bit(fs_selection(os2), 7) {
         return None;
     }
     line_in(ascender(hhea), descender(hhea))
@@ -103,9 +103,9 @@ fn clip_line(movement: Movement<'_>, line: Line) -> Line
 }
 
 /// The line of `hhea`, else the typographic one.
-#[tactic(auto, unfolding(crate::specs::Heights::said_line))]
-fn said_line(hhea: Option<&[u8]>, os2: Option<&[u8]>) -> Option<Line>
-    ensures value { option_map line_view result ≡ said_line (option_copied hhea.entry) (option_copied os2.entry) }
+#[tactic(auto, unfolding(crate::specs::Heights::source_line))]
+fn source_line(hhea: Option<&[u8]>, os2: Option<&[u8]>) -> Option<Line>
+    ensures value { option_map line_view result ≡ source_line (option_copied hhea.entry) (option_copied os2.entry) }
     ensures ascent { IfSome result (λ l. unsigned_abs l.ascent ≤ 2 ^ 16) }
     ensures descent { IfSome result (λ l. unsigned_abs l.descent ≤ 2 ^ 16) }
 {
@@ -122,7 +122,7 @@ fn moved_text_line(movement: Movement<'_>, hhea: Option<&[u8]>, os2: Option<&[u8
     ensures ascent { IfSome result (λ l. unsigned_abs l.ascent ≤ 2 ^ 16) }
     ensures descent { IfSome result (λ l. unsigned_abs l.descent ≤ 2 ^ 16) }
 {
-    let line = said_line(hhea, os2)?;
+    let line = source_line(hhea, os2)?;
     Some(text_line(movement, line))
 }
 

@@ -15,7 +15,7 @@ use Rattle.pdf_sheet.specs.declared.glyphs.SheetGlyph.{SheetGlyph}
 use Rattle.pdf_sheet.specs.declared.frame.Layout.{Layout}
 use Rattle.pdf_sheet.specs.declared.frame.Layout.TheVariants.{Line, Grid}
 use Rattle.pdf_sheet.specs.declared.frame.Frame.{Frame}
-use Rattle.pdf_sheet.specs.Content.{code_text, span_begin, shown_text, place_text, cell_x, cell_y, line_place, glyph_place, frame_of, glyphs_text, content}
+use Rattle.pdf_sheet.specs.Content.{code_text, span_begin, shown_text, position_text, cell_x, cell_y, line_position, glyph_position, frame_of, glyphs_text, content}
 use Rattle.pdf_sheet.specs.Units.{units_of}
 use Rattle.pdf_sheet.specs.Pages.{pages_by, page_count, pages_of}
 use Rattle.pdf_sheet.specs.Read.{Showing, shown_from, shown_in, showing, IsShowable, AreShown}
@@ -62,7 +62,7 @@ front_token rest = refl
 back_token : (rest : List ℕ) → tokens (codes "Tm\n" ++ rest) ≡ codes "Tm" ∷ tokens rest
 back_token rest = refl
 
-place_tokens : (x y : ℕ) (rest : List ℕ) → x < 2 ^ 64 → y < 2 ^ 64 → tokens (place_text x y ++ rest) ≡ codes "1" ∷ codes "0" ∷ codes "0" ∷ codes "1" ∷ decimal x ∷ decimal y ∷ codes "Tm" ∷ tokens rest
+place_tokens : (x y : ℕ) (rest : List ℕ) → x < 2 ^ 64 → y < 2 ^ 64 → tokens (position_text x y ++ rest) ≡ codes "1" ∷ codes "0" ∷ codes "0" ∷ codes "1" ∷ decimal x ∷ decimal y ∷ codes "Tm" ∷ tokens rest
 place_tokens x y rest l m =
     ap tokens (place_regrouped (decimal x) (decimal y) rest) ∙ front_token (decimal x ++ (codes " " ++ (decimal y ++ (codes " " ++ (codes "Tm\n" ++ rest)))))
     ∙ ap (λ (ts : List (List ℕ)). codes "1" ∷ codes "0" ∷ codes "0" ∷ codes "1" ∷ ts)
@@ -73,7 +73,7 @@ place_begun : (last : List ℕ) (a : Option (List ℕ)) (ts : List (List ℕ)) �
 place_begun last a ts r = passed_by last (codes "1") a (codes "0" ∷ codes "0" ∷ codes "1" ∷ ts) refl refl r
 
 -- nothing is shown by a place
-place_passed : (last : List ℕ) (x y : ℕ) (rest : List ℕ) → x < 2 ^ 64 → y < 2 ^ 64 → IsPlain last → shown_from last None (tokens (place_text x y ++ rest)) ≡ shown_from (codes "Tm") None (tokens rest)
+place_passed : (last : List ℕ) (x y : ℕ) (rest : List ℕ) → x < 2 ^ 64 → y < 2 ^ 64 → IsPlain last → shown_from last None (tokens (position_text x y ++ rest)) ≡ shown_from (codes "Tm") None (tokens rest)
 place_passed last x y rest l m r =
     ap (λ (ts : List (List ℕ)). shown_from last None ts) (place_tokens x y rest l m)
     ∙ place_begun last None (decimal x ∷ decimal y ∷ codes "Tm" ∷ tokens rest) r
@@ -153,15 +153,15 @@ glyph_found g rest ss h f = glyph_by g.is_said g.code (units_of g.text.now) rest
 
 -- ---- places of glyphs
 
-placed : (x y : ℕ) (rest : List ℕ) (ss : List Showing) → x < 2 ^ 64 → y < 2 ^ 64 → Finds rest ss → Finds (place_text x y ++ rest) ss
+placed : (x y : ℕ) (rest : List ℕ) (ss : List Showing) → x < 2 ^ 64 → y < 2 ^ 64 → Finds rest ss → Finds (position_text x y ++ rest) ss
 placed x y rest ss l m f last r = place_passed last x y rest l m r ∙ f (codes "Tm") refl
 
-line_by : (b vertical : Bool) (height : ℕ) (rest : List ℕ) (ss : List Showing) → height < 2 ^ 64 → Finds rest ss → Finds ((if b then line_place vertical height else []) ++ rest) ss
+line_by : (b vertical : Bool) (height : ℕ) (rest : List ℕ) (ss : List Showing) → height < 2 ^ 64 → Finds rest ss → Finds ((if b then line_position vertical height else []) ++ rest) ss
 line_by false vertical height rest ss l f = f
 line_by true false height rest ss l f = placed 36 54 rest ss (omega arith) (omega arith) f
 line_by true true height rest ss l f = placed 72 (height - 36) rest ss (omega arith) (omega arith) f
 
-place_found : (layout : Layout) (vertical : Bool) (height k : ℕ) (rest : List ℕ) (ss : List Showing) → height < 2 ^ 64 → Finds rest ss → Finds (glyph_place layout vertical height k ++ rest) ss
+place_found : (layout : Layout) (vertical : Bool) (height k : ℕ) (rest : List ℕ) (ss : List Showing) → height < 2 ^ 64 → Finds rest ss → Finds (glyph_position layout vertical height k ++ rest) ss
 place_found Grid false height k rest ss l f = placed (cell_x k) (cell_y k) rest ss (omega arith) (omega arith) f
 place_found Grid true height k rest ss l f = placed (cell_x k + 18) (cell_y k + 32) rest ss (omega arith) (omega arith) f
 place_found Line vertical height k rest ss l f = line_by (k == 0) vertical height rest ss l f
@@ -178,7 +178,7 @@ glyphs_found : (frame : Frame) (k : ℕ) (gs : List SheetGlyph) → frame.height
 glyphs_found frame k [] l h last r = ends last r
 glyphs_found frame k (g ∷ gs) l h last r =
     let rest = glyphs_text frame (k + 1) gs ++ codes "ET" in
-    ap (λ (t : List ℕ). shown_from last None (tokens t)) (page_regrouped (glyph_place frame.layout frame.vertical frame.height k) (shown_text g) (glyphs_text frame (k + 1) gs) (codes "ET"))
+    ap (λ (t : List ℕ). shown_from last None (tokens t)) (page_regrouped (glyph_position frame.layout frame.vertical frame.height k) (shown_text g) (glyphs_text frame (k + 1) gs) (codes "ET"))
     ∙ place_found frame.layout frame.vertical frame.height k (shown_text g ++ rest) (showing g ∷ map showing gs) l
     (glyph_found g rest (map showing gs) (All-head IsShowable g gs h) (glyphs_found frame (k + 1) gs l (All-tail IsShowable g gs h))) last r
 

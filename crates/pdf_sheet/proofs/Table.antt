@@ -10,7 +10,7 @@ use Rattle.std.proofs.lemmas.Int.Digits.{digits_value_push}
 use Rattle.std.proofs.lemmas.Str.{digit_value_digit}
 use Rattle.pdf_text.specs.Objects.{object_text, objects_from, offsets_from, IsObjectAt}
 use Rattle.pdf_text.proofs.ObjectLaws.At.{are_at}
-use Rattle.pdf_sheet.specs.File.{header, body_of, offsets_of, digits, row, rows, table_front, trailer, table_and_trailer, file_of, offset_said, AreInTable, ObjectsAreInTable}
+use Rattle.pdf_sheet.specs.File.{header, body_of, offsets_of, digits, row, rows, table_front, trailer, table_and_trailer, file_of, listed_offset, AreInTable, ObjectsAreInTable}
 
 -- ---- digits
 
@@ -99,10 +99,10 @@ said_by body front rest os k l small =
     ap (λ (t : List ℕ). digits_value 10 (take 10 (drop (20 * k) t))) (rest_found body front (rows os ++ rest))
     ∙ ap (λ (t : List ℕ). digits_value 10 t) (row_at os rest k l) ∙ digits_read 10 (get_or os k 0) small
 
-said : (values : List (List ℕ)) (k : ℕ) → k < length values → get_or (offsets_of values) k 0 < 10 ^ 10 → offset_said (file_of values) (length (body_of values)) (length values) k ≡ get_or (offsets_of values) k 0
+said : (values : List (List ℕ)) (k : ℕ) → k < length values → get_or (offsets_of values) k 0 < 10 ^ 10 → listed_offset (file_of values) (length (body_of values)) (length values) k ≡ get_or (offsets_of values) k 0
 said values k l small =
     let size : length (offsets_of values) ≡ length values = length-offsets (length header) 1 values in
-    ap (λ n. offset_said (file_of values) (length (body_of values)) n k) (sym size)
+    ap (λ n. listed_offset (file_of values) (length (body_of values)) n k) (sym size)
     ∙ said_by (body_of values) (table_front (length (offsets_of values) + 1)) (trailer (length (offsets_of values) + 1) (length (body_of values))) (offsets_of values) k (omega arith) small
 
 -- ---- both
@@ -127,7 +127,7 @@ are_in_table values small k l =
     let most : get_or (offsets_from 0 ts) k 0 ≤ length (concat ts) = below (concat ts) (get_or (offsets_from 0 ts) k 0) (get_or (offsets_from 0 ts) (k + 1) (length (concat ts))) (1 + k) (get_or values k []) h in
     let size : length (body_of values) ≡ length header + length (concat ts) = length-append header (concat ts) in
     let own : get_or (offsets_of values) k 0 ≡ length header + get_or (offsets_from 0 ts) k 0 = own_offset values k l in
-    moved (file_of values) (length header + get_or (offsets_from 0 ts) k 0) (offset_said (file_of values) (length (body_of values)) (length values) k)
+    moved (file_of values) (length header + get_or (offsets_from 0 ts) k 0) (listed_offset (file_of values) (length (body_of values)) (length values) k)
     (length header + get_or (offsets_from 0 ts) (k + 1) (length (concat ts))) (get_or (offsets_of values) (k + 1) (length (body_of values))) (1 + k) (get_or values k [])
     (sym (said values k l (omega arith) ∙ own)) (sym (next_offset values (k + 1)))
     (within header (concat ts) (table_and_trailer (offsets_of values) (length (body_of values))) (get_or (offsets_from 0 ts) k 0) (get_or (offsets_from 0 ts) (k + 1) (length (concat ts))) (1 + k) (get_or values k []) h)

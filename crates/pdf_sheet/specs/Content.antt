@@ -23,8 +23,8 @@ shown_text g = if g.is_said then code_text g.code else span_begin (units_of g.te
 -- ---- where it stands, in points
 
 -- the pen is set to a point
-abbrev pub place_text : ℕ → ℕ → List ℕ
-place_text x y = codes "1 0 0 1 " ++ (decimal x ++ (codes " " ++ (decimal y ++ codes " Tm\n")))
+abbrev pub position_text : ℕ → ℕ → List ℕ
+position_text x y = codes "1 0 0 1 " ++ (decimal x ++ (codes " " ++ (decimal y ++ codes " Tm\n")))
 
 -- cells of 44 by 48 points, of which 12 stand in a row, in 16 rows from above
 abbrev pub cell_x : ℕ → ℕ
@@ -34,15 +34,15 @@ abbrev pub cell_y : ℕ → ℕ
 cell_y k = 50 + 48 * (15 - k / 12 % 16)
 
 -- where a line begins, on a page of this height
-abbrev pub line_place : Bool → ℕ → List ℕ
-line_place false height = place_text 36 54
-line_place true height = place_text 72 (height - 36)
+abbrev pub line_position : Bool → ℕ → List ℕ
+line_position false height = position_text 36 54
+line_position true height = position_text 72 (height - 36)
 
 -- before a glyph with so many before it: each glyph of a grid has its own place, and a line begins with one
-abbrev pub glyph_place : Layout → Bool → ℕ → ℕ → List ℕ
-glyph_place Grid false height k = place_text (cell_x k) (cell_y k)
-glyph_place Grid true height k = place_text (cell_x k + 18) (cell_y k + 32)
-glyph_place Line vertical height k = if k == 0 then line_place vertical height else []
+abbrev pub glyph_position : Layout → Bool → ℕ → ℕ → List ℕ
+glyph_position Grid false height k = position_text (cell_x k) (cell_y k)
+glyph_position Grid true height k = position_text (cell_x k + 18) (cell_y k + 32)
+glyph_position Line vertical height k = if k == 0 then line_position vertical height else []
 
 -- ---- a page
 
@@ -64,7 +64,7 @@ frame_of Line true gs = record { layout = Line; vertical = true; width = 144; he
 -- glyphs with so many before them
 abbrev pub glyphs_text : Frame → ℕ → List SheetGlyph → List ℕ
 glyphs_text frame k [] = []
-glyphs_text frame k (g ∷ gs) = (glyph_place frame.layout frame.vertical frame.height k ++ shown_text g) ++ glyphs_text frame (k + 1) gs
+glyphs_text frame k (g ∷ gs) = (glyph_position frame.layout frame.vertical frame.height k ++ shown_text g) ++ glyphs_text frame (k + 1) gs
 
 -- a text object with glyphs in 36 points
 abbrev pub content : Frame → List SheetGlyph → List ℕ

@@ -51,12 +51,12 @@ file_of values = body_of values ++ table_and_trailer (offsets_of values) (length
 -- ---- the law
 
 -- what the entry of an object says, in a table that begins at an offset, of so many objects: an entry has 20 bytes
-abbrev pub offset_said : List ℕ → ℕ → ℕ → ℕ → ℕ
-offset_said file start count n = digits_value 10 (take 10 (drop (20 * n) (drop (start + length (table_front (count + 1))) file)))
+abbrev pub listed_offset : List ℕ → ℕ → ℕ → ℕ → ℕ
+listed_offset file start count n = digits_value 10 (take 10 (drop (20 * n) (drop (start + length (table_front (count + 1))) file)))
 
 -- the entry of each object says where it begins, from there on stands the object, and it goes on to the next one, or to the table
 abbrev pub AreInTable : List ℕ → ℕ → List (List ℕ) → Type 0
-AreInTable file start values = (k : ℕ) → k < length values → IsObjectAt file (offset_said file start (length values) k) (get_or (offsets_of values) (k + 1) start) (1 + k) (get_or values k [])
+AreInTable file start values = (k : ℕ) → k < length values → IsObjectAt file (listed_offset file start (length values) k) (get_or (offsets_of values) (k + 1) start) (1 + k) (get_or values k [])
 
 abbrev pub ObjectsAreInTable : Type 0
 ObjectsAreInTable = (values : List (List ℕ)) → length (body_of values) < 10000000000 → AreInTable (file_of values) (length (body_of values)) values

@@ -2,9 +2,9 @@
 
 ghost use Rattle.std.specs.Prelude.{◌≡◌, ◌++◌, ◌∷◌, [], IfErr, IfOk, OnOk, codes};
 ghost use Rattle.subsetter_base.specs.declared.error.Error.TheVariants.{OutOfMemory};
-ghost use Rattle.pdf_sheet.specs.Content.{content, glyph_place, glyphs_text, shown_text};
+ghost use Rattle.pdf_sheet.specs.Content.{content, glyph_position, glyphs_text, shown_text};
 
-use crate::frame::{Frame, write_glyph_place};
+use crate::frame::{Frame, write_glyph_position};
 use crate::glyphs::{SheetGlyph, write_glyph};
 use std::alloc::Global;
 use subsetter_base::Error;
@@ -17,10 +17,10 @@ fn write_placed(
     place: usize,
     glyph: SheetGlyph<'_>,
 ) -> Result<(), Error>
-    ensures ok { OnOk result (text.new.items ≡ text.old.items ++ (glyph_place frame.layout frame.vertical frame.height place ++ shown_text glyph.entry)) }
+    ensures ok { OnOk result (text.new.items ≡ text.old.items ++ (glyph_position frame.layout frame.vertical frame.height place ++ shown_text glyph.entry)) }
     ensures err { IfErr result (λ e. e ≡ OutOfMemory) }
 {
-    write_glyph_place(text, frame, place)?;
+    write_glyph_position(text, frame, place)?;
     write_glyph(text, glyph)
 }
 

@@ -2,7 +2,7 @@
 
 ghost use Rattle.std.specs.Prelude.{◌≡◌, ◌≤◌, ◌<◌, ◌+◌, ◌-◌, ◌*◌, ◌/◌, ◌++◌, IfErr, OnOk, min};
 ghost use Rattle.subsetter_base.specs.declared.error.Error.TheVariants.{OutOfMemory};
-ghost use Rattle.pdf_sheet.specs.Content.{place_text, cell_x, cell_y, line_place, glyph_place, advance_of, line_extent, frame_of};
+ghost use Rattle.pdf_sheet.specs.Content.{position_text, cell_x, cell_y, line_position, glyph_position, advance_of, line_extent, frame_of};
 
 use crate::glyphs::SheetGlyph;
 use pdf_text::write_count;
@@ -82,8 +82,8 @@ pub fn frame_of(layout: Layout, vertical: bool, glyphs: &[SheetGlyph<'_>]) -> Fr
 
 /// Writes the operator that sets the pen to a point.
 #[tactic(auto, using(pdf_text::proofs::Written::five_written))]
-fn write_place(text: &mut Vec<u8>, x: usize, y: usize) -> Result<(), Error>
-    ensures ok { OnOk result (text.new.items ≡ text.old.items ++ place_text x y) }
+fn write_position(text: &mut Vec<u8>, x: usize, y: usize) -> Result<(), Error>
+    ensures ok { OnOk result (text.new.items ≡ text.old.items ++ position_text x y) }
     ensures err { IfErr result (λ e. e ≡ OutOfMemory) }
 {
     text.extend_from_slice(b"1 0 0 1 ")?;
@@ -111,37 +111,37 @@ fn cell_y(place: usize) -> usize
 }
 
 /// Writes where a line begins.
-fn write_line_place(text: &mut Vec<u8>, vertical: bool, height: usize) -> Result<(), Error>
-    ensures ok { OnOk result (text.new.items ≡ text.old.items ++ line_place vertical height) }
+fn write_line_position(text: &mut Vec<u8>, vertical: bool, height: usize) -> Result<(), Error>
+    ensures ok { OnOk result (text.new.items ≡ text.old.items ++ line_position vertical height) }
     ensures err { IfErr result (λ e. e ≡ OutOfMemory) }
 {
     if vertical {
-        return write_place(text, 72, height.saturating_sub(36));
+        return write_position(text, 72, height.saturating_sub(36));
     }
-    write_place(text, 36, 54)
+    write_position(text, 36, 54)
 }
 
 /// Writes where a cell's glyph stands: its origin, or that of vertical writing.
-fn write_cell_place(text: &mut Vec<u8>, vertical: bool, place: usize) -> Result<(), Error>
-    ensures ok { OnOk result (text.new.items ≡ text.old.items ++ glyph_place Layout.Grid vertical 0 place) }
+fn write_cell_position(text: &mut Vec<u8>, vertical: bool, place: usize) -> Result<(), Error>
+    ensures ok { OnOk result (text.new.items ≡ text.old.items ++ glyph_position Layout.Grid vertical 0 place) }
     ensures err { IfErr result (λ e. e ≡ OutOfMemory) }
 {
     if vertical {
-        return write_place(text, cell_x(place) + 18, cell_y(place) + 32);
+        return write_position(text, cell_x(place) + 18, cell_y(place) + 32);
     }
-    write_place(text, cell_x(place), cell_y(place))
+    write_position(text, cell_x(place), cell_y(place))
 }
 
 /// Writes where a glyph stands that has so many before it, if it doesn't follow the one before.
-pub fn write_glyph_place(text: &mut Vec<u8>, frame: Frame, place: usize) -> Result<(), Error>
-    ensures ok { OnOk result (text.new.items ≡ text.old.items ++ glyph_place frame.layout frame.vertical frame.height place) }
+pub fn write_glyph_position(text: &mut Vec<u8>, frame: Frame, place: usize) -> Result<(), Error>
+    ensures ok { OnOk result (text.new.items ≡ text.old.items ++ glyph_position frame.layout frame.vertical frame.height place) }
     ensures err { IfErr result (λ e. e ≡ OutOfMemory) }
 {
     match frame.layout {
-        Layout::Grid => write_cell_place(text, frame.vertical, place),
+        Layout::Grid => write_cell_position(text, frame.vertical, place),
         Layout::Line => {
             if place == 0 {
-                return write_line_place(text, frame.vertical, frame.height);
+                return write_line_position(text, frame.vertical, frame.height);
             }
             Ok(())
         }

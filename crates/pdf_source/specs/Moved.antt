@@ -7,13 +7,13 @@ use Rattle.std.specs.Result.{result_ok}
 use Rattle.subsetter_base.specs.declared.tag.Tag.{Tag}
 use Rattle.subsetter_variation.specs.Axes.{axes}
 use Rattle.subsetter_variation.specs.declared.axes.Axis.{Axis}
-use Rattle.subsetter_instance.specs.Source.{place}
+use Rattle.subsetter_instance.specs.Source.{normalized_coordinates}
 use Rattle.pdf_values.specs.Descriptor.{values_of}
 use Rattle.pdf_values.specs.declared.bounds.Bounds.{Bounds}
 use Rattle.pdf_values.specs.declared.descriptor.Values.{Values}
 use Rattle.pdf_moved.specs.Movement.{Movement}
 use Rattle.pdf_moved.specs.Values.{values_at}
-use Rattle.pdf_source.specs.Cff.{said_by}
+use Rattle.pdf_source.specs.Cff.{cff_values_by}
 use Rattle.pdf_source.specs.Source.{bounds_by, known_of, tables_of}
 use Rattle.pdf_source.specs.declared.moved.Location.{Location as GivenLocation}
 
@@ -43,7 +43,7 @@ location_by (Some at) (Some axes) = unless_zero at axes
 -- elsewhere than at its default; none of outlines that aren't in `glyf`
 abbrev pub location_of : Option (List ℕ) → (List ℕ → Option (List ℕ)) → List (Tag × ℤ) → Option Location
 location_of None find settings = None
-location_of (Some glyf) find settings = location_by (result_ok (place find settings)) (axes_in (find (codes "fvar")))
+location_of (Some glyf) find settings = location_by (result_ok (normalized_coordinates find settings)) (axes_in (find (codes "fvar")))
 
 abbrev pub location_in : (List ℕ → Option (List ℕ)) → List (Tag × ℤ) → Option Location
 location_in find settings = location_of (find (codes "glyf")) find settings
@@ -57,4 +57,4 @@ values_by (Some p) stem find new count choice settings = values_at (tables_of fi
 
 -- the values of the descriptor, of the tables that look-ups find in the source and in the new font
 abbrev pub values_in : (List ℕ → Option (List ℕ)) → (List ℕ → Option (List ℕ)) → ℕ → Bounds → List (Tag × ℤ) → Values
-values_in find new count choice settings = values_by (location_in find settings) (said_by find).stem find new count choice settings
+values_in find new count choice settings = values_by (location_in find settings) (cff_values_by find).stem find new count choice settings

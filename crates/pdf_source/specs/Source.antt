@@ -9,7 +9,7 @@ use Rattle.pdf_values.specs.Name.{postscript_name}
 use Rattle.pdf_values.specs.declared.bounds.Bounds.{Bounds}
 use Rattle.pdf_values.specs.declared.bounds.Bounds.TheVariants.{Font}
 use Rattle.pdf_values.specs.declared.descriptor.Known.{Known}
-use Rattle.pdf_source.specs.Cff.{said_by}
+use Rattle.pdf_source.specs.Cff.{cff_values_by}
 use Rattle.pdf_source.specs.declared.tag.SubsetTag.{SubsetTag}
 
 abbrev pub tables_of : (List ℕ → Option (List ℕ)) → SourceTables
@@ -37,7 +37,7 @@ bounds_by (Some glyf) choice = choice
 
 -- the PostScript name, else the first name of `CFF `
 unfoldable pub source_name : (List ℕ → Option (List ℕ)) → List ℕ
-source_name find = postscript_name (find (codes "name")) (said_by find).name
+source_name find = postscript_name (find (codes "name")) (cff_values_by find).name
 
 -- the caller's tag, or that of the program
 abbrev pub tag_in : Option SubsetTag → List ℕ → List ℕ

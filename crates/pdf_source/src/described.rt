@@ -13,7 +13,7 @@ ghost use Rattle.pdf_source.specs.Named.{heights_by, name_by};
 ghost use Rattle.pdf_source.specs.Moved.{location_seen, values_by};
 ghost use Rattle.pdf_source.specs.Source.{bounds_by, known_of, outlines_of, source_name, tables_of, tag_in, vertical_of};
 
-use crate::cff::said_by;
+use crate::cff::cff_values_by;
 use crate::moved::{Location, movement_of};
 use crate::tag::SubsetTag;
 use pdf_glyphs::{HeightVariation, OutlineTables, VerticalTables, box_around, top_of};
@@ -134,7 +134,7 @@ fn source_name(alloc: Global, face: &Face<'_>) -> Result<Vec<u8>, Error>
     if name.len() > 0 {
         return Ok(name);
     }
-    let said = said_by(alloc, face)?;
+    let said = cff_values_by(alloc, face)?;
     postscript_name(alloc, None, said.name)
 }
 

@@ -5,7 +5,7 @@ ghost use Rattle.std.specs.Option.{option_copied, option_map};
 ghost use Rattle.std.specs.Result.{result_ok};
 ghost use Rattle.subsetter_base.specs.Gives.{Gives};
 ghost use Rattle.subsetter_sfnt.specs.Read.{table_in};
-ghost use Rattle.subsetter_instance.specs.Source.{place};
+ghost use Rattle.subsetter_instance.specs.Source.{normalized_coordinates};
 ghost use Rattle.pdf_moved.specs.Movement.{movement_view};
 ghost use Rattle.pdf_source.specs.Moved.{are_zero, axes_in, movement_of, location_by, location_in, location_seen, unless_zero};
 
@@ -13,7 +13,7 @@ use pdf_cff::unless_memory;
 use pdf_moved::Movement;
 use std::alloc::Global;
 use subsetter_base::{Error, Tag};
-use subsetter_instance::source::place;
+use subsetter_instance::source::normalized_coordinates;
 use subsetter_sfnt::face::Face;
 use subsetter_variation::axes::{Axis, axes};
 
@@ -31,9 +31,9 @@ fn coordinates_of(
     face: &Face<'_>,
     settings: &[(Tag, i32)],
 ) -> Result<Option<Vec<i32>>, Error>
-    ensures { Gives (λ o. option_map (λ v. v.items) o) result (Ok (result_ok (place (table_in face.now.«data».now face.now.records.now) settings.now))) }
+    ensures { Gives (λ o. option_map (λ v. v.items) o) result (Ok (result_ok (normalized_coordinates (table_in face.now.«data».now face.now.records.now) settings.now))) }
 {
-    match place(alloc, face, settings) {
+    match normalized_coordinates(alloc, face, settings) {
         Ok(at) => Ok(Some(at)),
         Err(error) => {
             unless_memory(error)?;

@@ -108,14 +108,14 @@ spans_of [] = None
 spans_of (t ∷ ts) = if bytes_eq t (codes "[") then spans_in between_spans ts else None
 
 -- the column that W2 says of a CID, which else has this one
-abbrev pub column_said : List ℕ → Column → ℕ → Option Column
-column_said text n k = option_map (λ ss. column_in ss n k) (spans_of (tokens (spread text)))
+abbrev pub column_for : List ℕ → Column → ℕ → Option Column
+column_for text n k = option_map (λ ss. column_in ss n k) (spans_of (tokens (spread text)))
 
 -- ---- the law
 
 -- what a reader finds for a column: itself, or what DW2 and W say where it is left out
-abbrev pub said_column : DefaultColumn → Column → Column → Column
-said_column d n c = if is_default d c then n else c
+abbrev pub column_found : DefaultColumn → Column → Column → Column
+column_found d n c = if is_default d c then n else c
 
 -- numbers of 32 bits
 pub record IsColumn (c : Column) : Type 0 where

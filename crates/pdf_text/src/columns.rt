@@ -4,7 +4,7 @@ ghost use Rattle.std.specs.Prelude.{List, All, ℕ, ◌≡◌, ◌<◌, ◌≤�
 ghost use Rattle.std.specs.List.{join_with_byte};
 ghost use Rattle.subsetter_base.specs.declared.error.Error.TheVariants.{OutOfMemory};
 ghost use Rattle.pdf_text.specs.declared.columns.Column.{Column};
-ghost use Rattle.pdf_text.specs.Columns.{is_default, alike, no_column, mark, marks_from, marks, column_at, listed_columns, same_columns, span_of, spans, column_text, span_text, columns_text, column_said, said_column, IsColumn, AreShortSpans};
+ghost use Rattle.pdf_text.specs.Columns.{is_default, alike, no_column, mark, marks_from, marks, column_at, listed_columns, same_columns, span_of, spans, column_text, span_text, columns_text, column_for, column_found, IsColumn, AreShortSpans};
 ghost use Rattle.pdf_text.specs.View.{part_view, parts_view};
 
 use crate::arrays::{Part, parts_of, write_cid};
@@ -211,7 +211,7 @@ pub fn write_columns(
 ) -> Result<Vec<u8>, Error>
     requires { length columns.now ≤ 65536 }
     ensures ok { IfOk result (λ text. text.items ≡ columns_text (spans default columns.now)) }
-    ensures read { IfOk result (λ text. All IsColumn columns.now → (n : Column) (k : ℕ) → k < length columns.now → column_said text.items n k ≡ Some (said_column default n (get_or columns.now k n))) }
+    ensures read { IfOk result (λ text. All IsColumn columns.now → (n : Column) (k : ℕ) → k < length columns.now → column_for text.items n k ≡ Some (column_found default n (get_or columns.now k n))) }
     ensures err { IfErr result (λ e. e ≡ OutOfMemory) }
 {
     text_of(alloc, columns, default)

@@ -18,15 +18,15 @@ module _ (kind : Kind) (id : ℕ) (name : List ℕ) (storage : ℕ) where
 
   one_further : (n at : ℕ) (string : List ℕ) → string_at kind id name storage at ≡ None → IsFirstString kind id name storage n (at + 12) string → IsFirstString kind id name storage (suc n) at string
   one_further n at string e f = record {
-    place = suc f.place;
+    index = suc f.index;
     inside = let l = f.inside in omega arith;
-    stands = ap (string_at kind id name storage) (further at f.place) ∙ f.stands;
-    before = none_before at f.place e f.before;
+    stands = ap (string_at kind id name storage) (further at f.index) ∙ f.stands;
+    before = none_before at f.index e f.before;
   }
 
   at_once : (n at : ℕ) (string : List ℕ) → string_at kind id name storage at ≡ Some string → IsFirstString kind id name storage (suc n) at string
   at_once n at string e = record {
-    place = 0;
+    index = 0;
     inside = omega arith;
     stands = ap (string_at kind id name storage) (here at) ∙ e;
     before = λ j l. absurd (omega arith);

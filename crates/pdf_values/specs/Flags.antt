@@ -4,17 +4,17 @@ use Rattle.std.specs.Option.{option_map_or}
 use Rattle.std.specs.Ordering.{int_eq}
 use Rattle.pdf_values.specs.Fields.{has_bit}
 use Rattle.subsetter_sfnt.specs.Fields.Os2.{family_class, b_family_type, b_serif_style, fs_selection}
-use Rattle.pdf_values.specs.Head.{says_bit}
+use Rattle.pdf_values.specs.Head.{sets_bit}
 use Rattle.subsetter_sfnt.specs.Fields.Post.{is_fixed_pitch}
 use Rattle.subsetter_sfnt.specs.Fields.Head.{mac_style}
 
 -- whether a field that is said passes a test
-abbrev pub says : (ℕ → Bool) → Option ℕ → Bool
-says test o = option_map_or test o false
+abbrev pub passes : (ℕ → Bool) → Option ℕ → Bool
+passes test o = option_map_or test o false
 
 -- whether all advances are equal
 abbrev pub is_fixed : Option (List ℕ) → Bool
-is_fixed post = says (λ n. not (n == 0)) (is_fixed_pitch post)
+is_fixed post = passes (λ n. not (n == 0)) (is_fixed_pitch post)
 
 -- the classes of serif faces
 abbrev pub is_serif_class : ℕ → Bool
@@ -22,23 +22,23 @@ is_serif_class c = (nat_le 1 c && nat_le c 5) || c == 7
 
 -- panose: a Latin text face with a serif style from cove to triangle
 abbrev pub is_serif_face : Option (List ℕ) → Bool
-is_serif_face os2 = says (λ n. n == 2) (b_family_type os2) && says (λ n. nat_le 2 n && nat_le n 10) (b_serif_style os2)
+is_serif_face os2 = passes (λ n. n == 2) (b_family_type os2) && passes (λ n. nat_le 2 n && nat_le n 10) (b_serif_style os2)
 
 -- panose: a Latin hand written face
 abbrev pub is_script_face : Option (List ℕ) → Bool
-is_script_face os2 = says (λ n. n == 3) (b_family_type os2)
+is_script_face os2 = passes (λ n. n == 3) (b_family_type os2)
 
 -- class 0 says nothing, and panose is asked
 abbrev pub has_serifs : Option (List ℕ) → Bool
-has_serifs os2 = says (λ c. is_serif_class c || (c == 0 && is_serif_face os2)) (family_class os2)
+has_serifs os2 = passes (λ c. is_serif_class c || (c == 0 && is_serif_face os2)) (family_class os2)
 
 -- class 10 is scripts
 abbrev pub is_script : Option (List ℕ) → Bool
-is_script os2 = says (λ c. c == 10 || (c == 0 && is_script_face os2)) (family_class os2)
+is_script os2 = passes (λ c. c == 10 || (c == 0 && is_script_face os2)) (family_class os2)
 
 -- bit 0 of fsSelection is italic, bit 9 oblique; where `OS/2` doesn't say, bit 1 of macStyle is italic
 abbrev pub is_slanted : Option (List ℕ) → Option (List ℕ) → Bool
-is_slanted os2 head = option_map_or (λ n. has_bit n 0 || has_bit n 9) (fs_selection os2) (says_bit (mac_style head) 1)
+is_slanted os2 head = option_map_or (λ n. has_bit n 0 || has_bit n 9) (fs_selection os2) (sets_bit (mac_style head) 1)
 
 abbrev pub flag : Bool → ℕ → ℕ
 flag b n = if b then n else 0

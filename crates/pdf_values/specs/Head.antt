@@ -10,5 +10,5 @@ abbrev pub units_per_em : Option (List ℕ) → ℕ
 units_per_em head = unwrap_or (option_and_then (λ n. if n == 0 then None else Some n) (field head 18 2)) 1000
 
 -- whether a field that is said has a bit
-abbrev pub says_bit : Option ℕ → ℕ → Bool
-says_bit o place = option_map_or (λ n. has_bit n place) o false
+abbrev pub sets_bit : Option ℕ → ℕ → Bool
+sets_bit o place = option_map_or (λ n. has_bit n place) o false

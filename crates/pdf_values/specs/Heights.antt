@@ -3,7 +3,7 @@ use Rattle.std.specs.Prelude.{ℕ, ◌≤◌, ◌^◌, Bool, ◌&&◌, if◌then
 use Rattle.std.specs.Option.{option_and_then, option_map, option_or, unwrap_or}
 use Rattle.std.specs.Ordering.{int_eq}
 use Rattle.subsetter_sfnt.specs.Fields.Os2.{fs_selection, s_typo_ascender, s_typo_descender, us_win_ascent, us_win_descent, sx_height, s_cap_height}
-use Rattle.pdf_values.specs.Head.{says_bit}
+use Rattle.pdf_values.specs.Head.{sets_bit}
 use Rattle.subsetter_sfnt.specs.Fields.Hhea.{ascender, descender}
 use Rattle.subsetter_sfnt.specs.Fields.Head.{y_min, y_max}
 use Rattle.pdf_values.specs.Rounding.{thousandths}
@@ -32,7 +32,7 @@ box_line head = line (y_max head) (y_min head)
 
 -- bit 7 of fsSelection, USE_TYPO_METRICS
 abbrev pub uses_typographic : Option (List ℕ) → Bool
-uses_typographic os2 = says_bit (fs_selection os2) 7
+uses_typographic os2 = sets_bit (fs_selection os2) 7
 
 -- `hhea` is passed over where the typographic metrics are to be used
 abbrev pub first_line : Option (List ℕ) → Option (List ℕ) → Option Line

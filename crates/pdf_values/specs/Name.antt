@@ -68,10 +68,10 @@ IsNameText text = All (λ b. is_name_character b ≡ true) text
 
 -- the string of one of so many records from a place on, and of none before it
 pub record IsFirstString (kind : Kind) (id : ℕ) (name : List ℕ) (storage n at : ℕ) (string : List ℕ) : Type 0 where
-  pub place : ℕ
-  pub inside : place < n
-  pub stands : string_at kind id name storage (at + 12 * place) ≡ Some string
-  pub before : (j : ℕ) → j < place → string_at kind id name storage (at + 12 * j) ≡ None
+  pub index : ℕ
+  pub inside : index < n
+  pub stands : string_at kind id name storage (at + 12 * index) ≡ Some string
+  pub before : (j : ℕ) → j < index → string_at kind id name storage (at + 12 * j) ≡ None
 
 -- a search gives the first string, and nothing only where no record has one
 abbrev pub FirstIsTaken : Type 0

@@ -2,7 +2,7 @@
 use Rattle.std.specs.Prelude.{ℕ, ◌+◌, ◌*◌, ◌/◌, min, max, ◌==◌, nat_le, if◌then◌else◌, List, Option, Some, None}
 use Rattle.std.specs.Option.{option_and_then, unwrap_or}
 use Rattle.subsetter_sfnt.specs.Fields.Os2.{us_weight_class}
-use Rattle.pdf_values.specs.Head.{says_bit}
+use Rattle.pdf_values.specs.Head.{sets_bit}
 use Rattle.subsetter_sfnt.specs.Fields.Head.{mac_style}
 
 -- old fonts count from 1 to 9
@@ -15,7 +15,7 @@ class_weight n = if n == 0 then None else Some (min (in_hundreds n) 1000)
 
 -- where `OS/2` says none, bold (bit 0 of macStyle) or regular
 abbrev pub style_weight : Option (List ℕ) → ℕ
-style_weight head = if says_bit (mac_style head) 0 then 700 else 400
+style_weight head = if sets_bit (mac_style head) 0 then 700 else 400
 
 abbrev pub weight_of : Option (List ℕ) → Option (List ℕ) → ℕ
 weight_of os2 head = unwrap_or (option_and_then class_weight (us_weight_class os2)) (style_weight head)

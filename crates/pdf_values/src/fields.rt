@@ -2,7 +2,7 @@
 
 ghost use Rattle.std.specs.Prelude.{◌≡◌, ◌<◌};
 ghost use Rattle.pdf_values.specs.Fields.{has_bit};
-ghost use Rattle.pdf_values.specs.Head.{says_bit};
+ghost use Rattle.pdf_values.specs.Head.{sets_bit};
 
 /// Whether a bit is set; bit 0 is the lowest.
 pub fn has_bit(n: u16, place: u32) -> bool
@@ -13,9 +13,9 @@ pub fn has_bit(n: u16, place: u32) -> bool
 }
 
 /// Whether a field that is said has a bit.
-pub fn says_bit(field: Option<u16>, place: u32) -> bool
+pub fn sets_bit(field: Option<u16>, place: u32) -> bool
     requires { place < 16 }
-    ensures { result ≡ says_bit field place }
+    ensures { result ≡ sets_bit field place }
 {
     match field {
         Some(n) => has_bit(n, place),

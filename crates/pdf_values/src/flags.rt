@@ -4,7 +4,7 @@ ghost use Rattle.std.specs.Prelude.{◌≡◌};
 ghost use Rattle.std.specs.Option.{option_copied};
 ghost use Rattle.pdf_values.specs.Flags.{is_fixed, has_serifs, is_script, is_slanted, flag, flags_of, is_serif_class, is_serif_face, is_script_face, IsFlags};
 
-use crate::fields::{has_bit, says_bit};
+use crate::fields::{has_bit, sets_bit};
 use subsetter_sfnt::fields::head::mac_style;
 use subsetter_sfnt::fields::os2::{b_family_type, b_serif_style, fs_selection, s_family_class};
 use subsetter_sfnt::fields::post::is_fixed_pitch;
@@ -75,7 +75,7 @@ fn is_slanted(os2: Option<&[u8]>, head: Option<&[u8]>) -> bool
 {
     match fs_selection(os2) {
         Some(n) => has_bit(n, 0) || has_bit(n, 9),
-        None => says_bit(mac_style(head), 1),
+        None => sets_bit(mac_style(head), 1),
     }
 }
 

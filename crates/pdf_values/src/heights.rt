@@ -6,7 +6,7 @@ ghost use Rattle.std.specs.Option.{option_copied, option_and_then, option_map, u
 ghost use Rattle.pdf_values.specs.Rounding.{thousandths};
 ghost use Rattle.pdf_values.specs.Heights.{counted, line, horizontal_line, typographic_line, windows_line, box_line, uses_typographic, first_line, line_of, above_0, height, descent_of, heights_of, IsSmall};
 
-use crate::fields::says_bit;
+use crate::fields::sets_bit;
 use crate::rounding::thousandths;
 use subsetter_sfnt::fields::head::{y_max, y_min};
 use subsetter_sfnt::fields::hhea::{ascender, descender};
@@ -69,7 +69,7 @@ fn first_line(hhea: Option<&[u8]>, os2: Option<&[u8]>) -> Option<Line>
     ensures value { result ≡ first_line (option_copied hhea.entry) (option_copied os2.entry) }
     ensures small { IfSome result IsSmall }
 {
-    if says_bit(fs_selection(os2), 7) {
+    if sets_bit(fs_selection(os2), 7) {
         return None;
     }
     line_in(ascender(hhea), descender(hhea))

@@ -5,7 +5,7 @@ ghost use Rattle.std.specs.Prelude.{◌≡◌, ◌≤◌, ◌%◌, ◌*◌};
 ghost use Rattle.std.specs.Option.{option_copied};
 ghost use Rattle.pdf_values.specs.Weight.{in_hundreds, class_weight, style_weight, weight_of, font_weight, stem_of_weight, stem_v};
 
-use crate::fields::says_bit;
+use crate::fields::sets_bit;
 use subsetter_sfnt::fields::head::mac_style;
 use subsetter_sfnt::fields::os2::us_weight_class;
 
@@ -30,7 +30,7 @@ fn class_weight(class: u16) -> Option<u16>
 fn style_weight(head: Option<&[u8]>) -> u16
     ensures { result ≡ style_weight (option_copied head.entry) }
 {
-    if says_bit(mac_style(head), 0) {
+    if sets_bit(mac_style(head), 0) {
         700
     } else {
         400

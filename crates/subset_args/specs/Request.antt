@@ -26,11 +26,11 @@ abbrev pub glyph_list : List ℕ → Option (List ℕ)
 glyph_list text = all_some (map (number_in_bits 16) (slice_split (λ b. b == 44) text))
 
 -- which glyphs are requested: these, every one, those of these characters, or those that are found there
-pub data Asked : Type 0 where
-  listed : List ℕ → Asked
-  every_glyph : Asked
-  of_characters : List ℕ → Asked
-  from : GlyphSource → Asked
+pub data RequestedGlyphs : Type 0 where
+  listed : List ℕ → RequestedGlyphs
+  every_glyph : RequestedGlyphs
+  of_characters : List ℕ → RequestedGlyphs
+  from : GlyphSource → RequestedGlyphs
 
 -- where on its axes a variable font is requested: at coordinates, or at the named instance of a name
 pub data Position : Type 0 where
@@ -57,7 +57,7 @@ pub record Request : Type 0 where
   -- the file of the new font; it may be missing where a PDF is requested
   pub output : Option (List ℕ)
   pub index : ℕ
-  pub glyphs : Asked
+  pub glyphs : RequestedGlyphs
   -- where on the axes of a variable font, if that is specified
   pub position : Option Position
   pub pdf : Option PdfRequest
@@ -71,32 +71,32 @@ pub data Command : Type 0 where
   show : Topic → Bool → List ℕ → ℕ → Command
 
 -- the glyphs of a list
-abbrev pub of_list : FileList → Asked
+abbrev pub of_list : FileList → RequestedGlyphs
 of_list every = every_glyph
 of_list (these glyphs) = listed glyphs
 of_list (characters found) = of_characters found
 of_list (text_of text) = from (by_text text)
 
 -- which glyphs an option requests
-abbrev pub asked_by : GlyphSource → Option Asked
-asked_by (in_file kind name) = Some (from (in_file kind name))
-asked_by (by_text text) = Some (from (by_text text))
-asked_by (in_list text) = option_map of_list (argument_list text)
-asked_by (in_codes text) = option_map of_list (argument_characters text)
+abbrev pub requested_by : GlyphSource → Option RequestedGlyphs
+requested_by (in_file kind name) = Some (from (in_file kind name))
+requested_by (by_text text) = Some (from (by_text text))
+requested_by (in_list text) = option_map of_list (argument_list text)
+requested_by (in_codes text) = option_map of_list (argument_characters text)
 
 -- which glyphs the arguments behind INDEX ask for: one argument that lists them, or none where they are found elsewhere
-abbrev pub asked : Option GlyphSource → List (List ℕ) → Option Asked
-asked None (list ∷ []) = option_map listed (glyph_list list)
-asked None _ = None
-asked (Some source) [] = asked_by source
-asked (Some source) (word ∷ words) = None
+abbrev pub requested : Option GlyphSource → List (List ℕ) → Option RequestedGlyphs
+requested None (list ∷ []) = option_map listed (glyph_list list)
+requested None _ = None
+requested (Some source) [] = requested_by source
+requested (Some source) (word ∷ words) = None
 
 -- whether an argument means standard input or output
 abbrev pub is_stream : List ℕ → Bool
 is_stream word = bytes_eq word (codes "-")
 
 -- whether the glyphs are listed in standard input
-abbrev pub lists_in_stream : Asked → Bool
+abbrev pub lists_in_stream : RequestedGlyphs → Bool
 lists_in_stream (listed glyphs) = false
 lists_in_stream every_glyph = false
 lists_in_stream (of_characters found) = false
@@ -106,9 +106,9 @@ lists_in_stream (from (in_list text)) = false
 lists_in_stream (from (in_codes text)) = false
 
 -- the position that is requested, if any
-abbrev pub said_at : Option (List ℕ) → Option (Option Position)
-said_at None = Some None
-said_at (Some text) = option_map (λ p. Some p) (position_in text)
+abbrev pub position_option : Option (List ℕ) → Option (Option Position)
+position_option None = Some None
+position_option (Some text) = option_map (λ p. Some p) (position_in text)
 
 -- ---- the PDF that is requested, if any
 
@@ -128,12 +128,12 @@ is_same (Some one) None = false
 is_same None other = false
 
 -- what is asked for, where standard input isn't to be read twice, and no file written twice
-abbrev pub request_of : Choice → List ℕ → Option (List ℕ) → ℕ → Asked → Option Request
-request_of choice input output index glyphs = if (is_stream input && lists_in_stream glyphs) || is_same output choice.pdf then None else option_and_then (λ pdf. option_map (λ at. record { switches = choice.switches; limits = choice.limits; input = input; output = output; index = index; glyphs = glyphs; position = at; pdf = pdf }) (said_at choice.at)) (pdf_by choice.pdf choice)
+abbrev pub request_of : Choice → List ℕ → Option (List ℕ) → ℕ → RequestedGlyphs → Option Request
+request_of choice input output index glyphs = if (is_stream input && lists_in_stream glyphs) || is_same output choice.pdf then None else option_and_then (λ pdf. option_map (λ at. record { switches = choice.switches; limits = choice.limits; input = input; output = output; index = index; glyphs = glyphs; position = at; pdf = pdf }) (position_option choice.at)) (pdf_by choice.pdf choice)
 
 -- what is requested by IN, OUT, INDEX and the arguments behind them
 abbrev pub request_behind : Choice → List ℕ → Option (List ℕ) → ℕ → List (List ℕ) → Option Request
-request_behind choice input output index words = option_and_then (request_of choice input output index) (asked choice.source words)
+request_behind choice input output index words = option_and_then (request_of choice input output index) (requested choice.source words)
 
 -- what the arguments `IN OUT INDEX GID[,GID..]` ask for with these choices, or `IN OUT INDEX` where the glyphs are found elsewhere; none where their count is another, or one isn't as it should be
 abbrev pub request_plain : Choice → List (List ℕ) → Option Request
@@ -141,11 +141,11 @@ request_plain choice (input ∷ output ∷ index ∷ words) = option_and_then (�
 request_plain choice _ = None
 
 -- none where an option says OUT or INDEX
-abbrev pub says_place : Choice → Bool
-says_place choice = is_some choice.output || is_some choice.index
+abbrev pub names_position : Choice → Bool
+names_position choice = is_some choice.output || is_some choice.index
 
 abbrev pub request_with : Choice → List (List ℕ) → Option Request
-request_with choice words = if says_place choice then None else request_plain choice words
+request_with choice words = if names_position choice then None else request_plain choice words
 
 -- what the options and the arguments behind them ask for
 abbrev pub command_of : Options → Option Command
@@ -163,7 +163,7 @@ says_file choice = is_some choice.output || is_some choice.pdf
 
 -- what is requested with OUT or a PDF by an option, and INDEX too, if it isn't 0
 abbrev pub request_free : Free → Option Request
-request_free f = if says_file f.choice then option_and_then (request_of f.choice f.input f.choice.output (unwrap_or f.choice.index 0)) (asked f.choice.source []) else None
+request_free f = if says_file f.choice then option_and_then (request_of f.choice f.input f.choice.output (unwrap_or f.choice.index 0)) (requested f.choice.source []) else None
 
 abbrev pub command_free : List (List ℕ) → Option Command
 command_free words = option_and_then (λ f. option_map subset (request_free f)) (free None no_choice None words)

@@ -3,7 +3,7 @@ use Rattle.std.specs.Prelude.{map, string_bytes}
 use Rattle.std.specs.Option.{option_copied, option_map}
 use Rattle.subset_args.specs.Limits.{limits_view}
 use Rattle.subset_args.specs.Options.{GlyphSource, in_file, by_text, in_list, in_codes, Choice, Free as FreeSaid, Options, helped, versioned, chosen}
-use Rattle.subset_args.specs.Request.{Asked, listed, every_glyph, of_characters, from, Position as Requested, at_coordinates, at_instance, PdfRequest, Request, Command as Wanted, help, version, subset, show}
+use Rattle.subset_args.specs.Request.{RequestedGlyphs, listed, every_glyph, of_characters, from, Position as Requested, at_coordinates, at_instance, PdfRequest, Request, Command as Wanted, help, version, subset, show}
 use Rattle.subset_args.specs.declared.options.Source.{Source}
 use Rattle.subset_args.specs.declared.options.Source.TheVariants.{File, Text, InList, Characters as InCodes}
 use Rattle.subset_args.specs.declared.options.Chosen.{Chosen}
@@ -36,12 +36,12 @@ parsed_view (IsChosen choice words) = chosen (chosen_view choice) (map (λ word.
 abbrev pub free_view : Free → FreeSaid
 free_view f = record { choice = chosen_view f.chosen; input = f.input.now }
 
-abbrev pub asked_view : Glyphs → Asked
-asked_view (Listed glyphs) = listed glyphs.items
-asked_view Every = every_glyph
-asked_view (Characters found) = of_characters found.items
-asked_view (InFile kind name) = from (in_file kind (string_bytes name))
-asked_view (ByText text) = from (by_text (string_bytes text))
+abbrev pub requested_view : Glyphs → RequestedGlyphs
+requested_view (Listed glyphs) = listed glyphs.items
+requested_view Every = every_glyph
+requested_view (Characters found) = of_characters found.items
+requested_view (InFile kind name) = from (in_file kind (string_bytes name))
+requested_view (ByText text) = from (by_text (string_bytes text))
 
 abbrev pub position_view : Position → Requested
 position_view (Coordinates at) = at_coordinates at.items
@@ -51,7 +51,7 @@ abbrev pub pdf_view : PdfJob → PdfRequest
 pdf_view pdf = record { file = string_bytes pdf.file; choice = pdf.choice }
 
 abbrev pub job_view : Job → Request
-job_view job = record { switches = job.switches; limits = option_map limits_view job.limits; input = string_bytes job.input; output = option_map (λ name. string_bytes name) job.output; index = job.index; glyphs = asked_view job.glyphs; position = option_map position_view job.position; pdf = option_map pdf_view job.pdf }
+job_view job = record { switches = job.switches; limits = option_map limits_view job.limits; input = string_bytes job.input; output = option_map (λ name. string_bytes name) job.output; index = job.index; glyphs = requested_view job.glyphs; position = option_map position_view job.position; pdf = option_map pdf_view job.pdf }
 
 abbrev pub command_view : Command → Wanted
 command_view ForHelp = help

@@ -4,9 +4,9 @@ ghost use Rattle.std.specs.Prelude.{◌≡◌, ◌⊎◌, ℕ, List, map, IfOk, 
 ghost use Rattle.std.specs.Option.{option_copied, option_map};
 ghost use Rattle.subset_args.specs.Lists.{argument_list};
 ghost use Rattle.subset_args.specs.Characters.{argument_characters};
-ghost use Rattle.subset_args.specs.Request.{glyph_list, of_list, asked, is_stream, lists_in_stream, said_at, pdf_choice, pdf_by, is_same, request_of, request_behind, request_plain, says_place, says_file, request_with, request_free, command_by_options, command_free, command_or, is_name, position_in, shown_of, shown_by, topic_of, first_topic, behind_first, command};
+ghost use Rattle.subset_args.specs.Request.{glyph_list, of_list, requested, is_stream, lists_in_stream, position_option, pdf_choice, pdf_by, is_same, request_of, request_behind, request_plain, names_position, says_file, request_with, request_free, command_by_options, command_free, command_or, is_name, position_in, shown_of, shown_by, topic_of, first_topic, behind_first, command};
 ghost use Rattle.subset_args.specs.ListView.{list_view};
-ghost use Rattle.subset_args.specs.View.{source_view, chosen_view, free_view, asked_view, position_view, pdf_view, job_view, command_view};
+ghost use Rattle.subset_args.specs.View.{source_view, chosen_view, free_view, requested_view, position_view, pdf_view, job_view, command_view};
 ghost use Rattle.subset_args.specs.declared.jobs.ArgsError.TheVariants.{Usage, OutOfMemory};
 
 use crate::characters::read_characters;
@@ -132,7 +132,7 @@ fn glyphs_of(alloc: Global, list: &str) -> Result<Vec<u16>, ArgsError>
 
 /// The glyphs that a list requests.
 fn of_list(list: GlyphList) -> Glyphs
-    ensures { asked_view result ≡ of_list (list_view list) }
+    ensures { requested_view result ≡ of_list (list_view list) }
 {
     match list {
         GlyphList::Every => Glyphs::Every,
@@ -144,7 +144,7 @@ fn of_list(list: GlyphList) -> Glyphs
 
 /// The glyphs of the characters that an argument lists.
 fn characters_listed(alloc: Global, text: &str) -> Result<Glyphs, ArgsError>
-    ensures ok { IfOk result (λ g. option_map of_list (argument_characters text.now) ≡ Some (asked_view g)) }
+    ensures ok { IfOk result (λ g. option_map of_list (argument_characters text.now) ≡ Some (requested_view g)) }
     ensures err { IfErr result (λ e. (e ≡ OutOfMemory) ⊎ ((e ≡ Usage) × (argument_characters text.now ≡ None))) }
 {
     Ok(of_list(read_characters(alloc, text)?))
@@ -152,7 +152,7 @@ fn characters_listed(alloc: Global, text: &str) -> Result<Glyphs, ArgsError>
 
 /// The glyphs that an argument lists.
 fn glyphs_listed(alloc: Global, text: &str) -> Result<Glyphs, ArgsError>
-    ensures ok { IfOk result (λ g. option_map of_list (argument_list text.now) ≡ Some (asked_view g)) }
+    ensures ok { IfOk result (λ g. option_map of_list (argument_list text.now) ≡ Some (requested_view g)) }
     ensures err { IfErr result (λ e. (e ≡ OutOfMemory) ⊎ ((e ≡ Usage) × (argument_list text.now ≡ None))) }
 {
     Ok(of_list(read_argument(alloc, text)?))
@@ -164,8 +164,8 @@ fn read_glyphs(
     source: Option<Source<'_>>,
     words: &[String],
 ) -> Result<Glyphs, ArgsError>
-    ensures ok { IfOk result (λ g. asked (option_map source_view source.entry) (map (λ word. string_bytes word) words.now) ≡ Some (asked_view g)) }
-    ensures err { IfErr result (λ e. (e ≡ OutOfMemory) ⊎ ((e ≡ Usage) × (asked (option_map source_view source.entry) (map (λ word. string_bytes word) words.now) ≡ None))) }
+    ensures ok { IfOk result (λ g. requested (option_map source_view source.entry) (map (λ word. string_bytes word) words.now) ≡ Some (requested_view g)) }
+    ensures err { IfErr result (λ e. (e ≡ OutOfMemory) ⊎ ((e ≡ Usage) × (requested (option_map source_view source.entry) (map (λ word. string_bytes word) words.now) ≡ None))) }
 {
     match (source, words) {
         (None, [list]) => Ok(Glyphs::Listed(glyphs_of(alloc, list)?)),
@@ -188,7 +188,7 @@ pub fn is_stream(word: &str) -> bool
 
 /// Whether the glyphs are listed in standard input.
 fn lists_in_stream(glyphs: &Glyphs) -> bool
-    ensures { result ≡ lists_in_stream (asked_view glyphs.now) }
+    ensures { result ≡ lists_in_stream (requested_view glyphs.now) }
 {
     match glyphs {
         Glyphs::InFile(_, name) => is_stream(name),
@@ -216,8 +216,8 @@ fn position_of(alloc: Global, text: &str) -> Result<Position, ArgsError>
 
 /// Where on its axes a variable font is requested, if that is specified.
 fn read_at(alloc: Global, at: Option<&str>) -> Result<Option<Position>, ArgsError>
-    ensures ok { IfOk result (λ v. said_at (option_copied at.entry) ≡ Some (option_map position_view v)) }
-    ensures err { IfErr result (λ e. (e ≡ OutOfMemory) ⊎ ((e ≡ Usage) × (said_at (option_copied at.entry) ≡ None))) }
+    ensures ok { IfOk result (λ v. position_option (option_copied at.entry) ≡ Some (option_map position_view v)) }
+    ensures err { IfErr result (λ e. (e ≡ OutOfMemory) ⊎ ((e ≡ Usage) × (position_option (option_copied at.entry) ≡ None))) }
 {
     match at {
         None => Ok(None),
@@ -283,8 +283,8 @@ fn job_with(
     index: u32,
     glyphs: Glyphs,
 ) -> Result<Job, ArgsError>
-    ensures ok { IfOk result (λ job. request_of (chosen_view chosen.entry) input.now (option_copied output.entry) index (asked_view glyphs) ≡ Some (job_view job)) }
-    ensures err { IfErr result (λ e. (e ≡ OutOfMemory) ⊎ ((e ≡ Usage) × (request_of (chosen_view chosen.entry) input.now (option_copied output.entry) index (asked_view glyphs) ≡ None))) }
+    ensures ok { IfOk result (λ job. request_of (chosen_view chosen.entry) input.now (option_copied output.entry) index (requested_view glyphs) ≡ Some (job_view job)) }
+    ensures err { IfErr result (λ e. (e ≡ OutOfMemory) ⊎ ((e ≡ Usage) × (request_of (chosen_view chosen.entry) input.now (option_copied output.entry) index (requested_view glyphs) ≡ None))) }
 {
     if (is_stream(input) && lists_in_stream(&glyphs)) || is_same(output, chosen.pdf) {
         return Err(ArgsError::Usage);
@@ -335,8 +335,8 @@ fn read_plain_job(alloc: Global, chosen: Chosen<'_>, words: &[String]) -> Result
 }
 
 /// Whether an option says OUT or INDEX.
-fn says_place(chosen: &Chosen<'_>) -> bool
-    ensures { result ≡ says_place (chosen_view chosen.now) }
+fn names_position(chosen: &Chosen<'_>) -> bool
+    ensures { result ≡ names_position (chosen_view chosen.now) }
 {
     chosen.output.is_some() || chosen.index.is_some()
 }
@@ -346,7 +346,7 @@ fn read_job(alloc: Global, chosen: Chosen<'_>, words: &[String]) -> Result<Job, 
     ensures ok { IfOk result (λ job. request_with (chosen_view chosen.entry) (map (λ word. string_bytes word) words.now) ≡ Some (job_view job)) }
     ensures err { IfErr result (λ e. (e ≡ OutOfMemory) ⊎ ((e ≡ Usage) × (request_with (chosen_view chosen.entry) (map (λ word. string_bytes word) words.now) ≡ None))) }
 {
-    if says_place(&chosen) {
+    if names_position(&chosen) {
         return Err(ArgsError::Usage);
     }
     read_plain_job(alloc, chosen, words)

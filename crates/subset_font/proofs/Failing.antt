@@ -2,14 +2,14 @@
 use Rattle.std.proofs.Common.{◌≡◌, ◌≢◌, ◌⊎◌, inl, inr, ℕ, List, Option, Some, None, Result, Ok, Err, sym, subst}
 use Rattle.std.specs.Prelude.{IfOk, IfErr, IfSome, OnOk}
 use Rattle.subsetter_sfnt.specs.Read.{Font}
-use Rattle.subset_font.specs.Asked.{IsUnasked}
+use Rattle.subset_font.specs.Requested.{IsUnasked}
 use Rattle.subsetter_base.specs.declared.error.Error.TheVariants.{UnknownKind, MalformedFont}
 use Rattle.subset_font.specs.Made.{face_of, IsUnmade}
 use Rattle.subset_font.specs.Outcome.{IsOutcome, IsNoOutcome}
 use Rattle.subset_font.specs.Carried.{IsOfMaking, IsFailureOf, IsBeforeWriting}
 use Rattle.subset_font.specs.declared.task.Task.{Task}
-use Rattle.subset_font.specs.declared.task.Asked.{Asked}
-use Rattle.subset_font.specs.declared.task.Asked.TheVariants.{These, Every, ByText, ByCharacters}
+use Rattle.subset_font.specs.declared.task.RequestedGlyphs.{RequestedGlyphs}
+use Rattle.subset_font.specs.declared.task.RequestedGlyphs.TheVariants.{These, Every, ByText, ByCharacters}
 use Rattle.subset_args.specs.declared.options.PdfChoice.{PdfChoice}
 use Rattle.subset_pdf.specs.declared.sheet.SheetError.{SheetError}
 use Rattle.subset_pdf.specs.declared.sheet.SheetError.TheVariants.{Font as RefusedFont, NotPermitted as Forbidden}
@@ -20,7 +20,7 @@ use Rattle.subset_font.specs.declared.task.Plan.{Plan}
 use Rattle.subset_font.specs.declared.failure.Failure.{Failure}
 use Rattle.subset_font.specs.declared.failure.Failure.TheVariants.{Error, NoMapping, NoInstance, NotPermitted, Usage, List as WrongList, Read, ReadList, Write, WritePdf, Output}
 
-unasked_kind : (font : Font) (asked : Asked) (failure : Failure) → IsUnasked font asked failure → IsOfMaking failure
+unasked_kind : (font : Font) (asked : RequestedGlyphs) (failure : Failure) → IsUnasked font asked failure → IsOfMaking failure
 unasked_kind font (These given) failure u = elim u [ ]
 unasked_kind font Every failure u = subst IsOfMaking (sym u.0) tt
 unasked_kind font (ByText text) failure u = subst IsOfMaking (sym u.0) tt
@@ -28,7 +28,7 @@ unasked_kind font (ByCharacters given) failure u = subst IsOfMaking (sym u.0) tt
 
 unmade_kind : (task : Task) (bytes : List ℕ) (failure : Failure) → IsUnmade task bytes failure → IsOfMaking failure
 unmade_kind task bytes failure (inl memory) = subst IsOfMaking (sym memory) tt
-unmade_kind task bytes failure (inr (inl unasked)) = unasked_kind (face_of task bytes) task.asked failure unasked
+unmade_kind task bytes failure (inr (inl unasked)) = unasked_kind (face_of task bytes) task.requested failure unasked
 unmade_kind task bytes failure (inr (inr refused)) = subst IsOfMaking (sym refused.failure_is) tt
 
 unplaced_kind : (failure : Failure) → (failure ≡ Error UnknownKind) ⊎ ((failure ≡ Error MalformedFont) ⊎ (failure ≡ NoInstance)) → IsOfMaking failure

@@ -4,22 +4,22 @@ use Rattle.std.specs.Prelude.{MatchBool, MatchOption, IfOk, IfErr}
 use Rattle.std.specs.Option.{option_copied, option_map}
 use Rattle.subsetter_base.specs.declared.error.Error.{Error as Refusal}
 use Rattle.subsetter_base.specs.declared.error.Error.TheVariants.{OutOfMemory, OverflowError}
-use Rattle.subsetter_base.specs.Places.{HasAllAboveZero}
+use Rattle.subsetter_base.specs.Indexes.{HasAllAboveZero}
 use Rattle.subsetter_sfnt.specs.Read.{Font}
 use Rattle.subsetter.specs.Bound.{IsWithin, HasFaultWithin}
 use Rattle.subsetter.specs.Fault.{HasFault}
 use Rattle.subsetter.specs.Subset.{IsSubset}
 use Rattle.cid_embed.specs.Embed.{numbering, HasEmbedFaultWithin, in_numbering, in_font}
-use Rattle.subset_font.specs.Asked.{IsAsked, IsUnasked}
+use Rattle.subset_font.specs.Requested.{IsRequested, IsUnasked}
 use Rattle.subsetter_base.specs.declared.tag.Tag.{Tag}
 use Rattle.subsetter_sfnt.specs.FontAt.{font_at}
 use Rattle.subsetter_instance.specs.Fault.{HasInstanceFault}
 use Rattle.subsetter_instance.specs.Instance.{IsInstance}
-use Rattle.subsetter_variable.specs.Standing.{IsAtDefault}
+use Rattle.subsetter_variable.specs.DefaultLocation.{IsAtDefault}
 use Rattle.subsetter_variable.specs.Subset.{as_it_is, instanced}
 use Rattle.subset_font.specs.Made as made
 use Rattle.subset_font.specs.Made.{face_of, font_of, taken_of, IsFaultless, IsFaultlessWithWidths, IsCleanSubset, IsWidthText, IsLastText, IsTaken, as_given, placed, IsMadeOf, IsMade, IsRefusal, IsRefusalOfWidths, IsRefused, IsUntaken, unplaced, HasRefusal, untaken, of_taken, IsRefusedFace, IsRefusedTask, IsUnmade}
-use Rattle.subset_font.specs.declared.asked.Picked.{Picked}
+use Rattle.subset_font.specs.declared.requested.Picked.{Picked}
 use Rattle.subset_font.specs.declared.task.Task.{Task}
 use Rattle.subset_font.specs.declared.subset.Made.{Made}
 use Rattle.subset_font.specs.declared.failure.Failure.{Failure}
@@ -107,10 +107,10 @@ module _ (task : Task) (bytes : List ℕ) where
 
   -- ---- what is made of it
 
-  module _ (picked : Picked) (asked : IsAsked (face_of task bytes) task.asked picked.characters.items picked.glyphs.items) where
+  module _ (picked : Picked) (asked : IsRequested (face_of task bytes) task.requested picked.characters.items picked.glyphs.items) where
     pub made_of_taken : (font : Font) → IsTaken task bytes picked.glyphs.items font → (r : Result Made Failure) → IfOk r (λ made. made.picked ≡ picked) → IfOk r (IsMadeOf task font picked.glyphs.items) → IfOk r (IsMade task bytes)
     made_of_taken font taken (Ok made) kept is = record {
-      asked = subst (λ (p : Picked). IsAsked (face_of task bytes) task.asked p.characters.items p.glyphs.items) (sym kept) asked;
+      requested = subst (λ (p : Picked). IsRequested (face_of task bytes) task.requested p.characters.items p.glyphs.items) (sym kept) asked;
       font = font;
       taken = subst (λ (p : Picked). IsTaken task bytes p.glyphs.items font) (sym kept) taken;
       is_made = subst (λ (p : Picked). IsMadeOf task font p.glyphs.items made) (sym kept) is;
@@ -118,7 +118,7 @@ module _ (task : Task) (bytes : List ℕ) where
     made_of_taken font taken (Err e) kept is = tt
 
     refused_by : (why : Refusal) → HasRefusal task bytes picked.glyphs.items why → IsRefusedTask task bytes (Error why)
-    refused_by why refused = record { characters = picked.characters.items; glyphs = picked.glyphs.items; asked = asked; why = why; failure_is = refl; refused = refused }
+    refused_by why refused = record { characters = picked.characters.items; glyphs = picked.glyphs.items; requested = asked; why = why; failure_is = refl; refused = refused }
 
     pub refused_of_taken : (font : Font) → IsTaken task bytes picked.glyphs.items font → (r : Result Made Failure) → IfErr r (λ e. (e ≡ Error OutOfMemory) ⊎ IsRefusedFace task font picked.glyphs.items e) → IfErr r (λ e. (e ≡ Error OutOfMemory) ⊎ IsRefusedTask task bytes e)
     refused_of_taken font taken (Ok made) h = tt
@@ -130,7 +130,7 @@ module _ (task : Task) (bytes : List ℕ) where
     refused_untaken why (inr none) = inr (refused_by why (untaken none))
 
   -- no glyphs are found
-  pub unasked_unmade : (failure : Failure) → (failure ≡ Error OutOfMemory) ⊎ IsUnasked (face_of task bytes) task.asked failure → IsUnmade task bytes failure
+  pub unasked_unmade : (failure : Failure) → (failure ≡ Error OutOfMemory) ⊎ IsUnasked (face_of task bytes) task.requested failure → IsUnmade task bytes failure
   unasked_unmade failure (inl memory) = inl memory
   unasked_unmade failure (inr unasked) = inr (inl unasked)
 

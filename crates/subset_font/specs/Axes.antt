@@ -5,7 +5,7 @@ use Rattle.std.specs.Str.{bytes_eq}
 use Rattle.std.specs.Io.KnownBytes.{Appends}
 use Rattle.subsetter_base.specs.declared.error.Error.TheVariants.{UnknownKind, MalformedFont}
 use Rattle.subsetter_base.specs.declared.tag.Tag.{Tag}
-use Rattle.subsetter_sfnt.specs.Read.{Font, header_place, stored}
+use Rattle.subsetter_sfnt.specs.Read.{Font, header_offset, stored}
 use Rattle.subsetter_variation.specs.Axes.{axes}
 use Rattle.subsetter_variation.specs.declared.axes.Axis.{Axis}
 use Rattle.subset_lines.specs.Axes.{instances, text_of}
@@ -31,14 +31,14 @@ abbrev pub face_text : Bool → Font → Option (List ℕ)
 face_text json font = axes_text json (bytes_or_none (stored font (codes "name"))) (stored font (codes "fvar"))
 
 -- a face's axes were shown
-pub record IsAxesTold (json : Bool) (font : Font) (old new : Option (List ℕ)) : Type 0 where
+pub record IsAxesReport (json : Bool) (font : Font) (old new : Option (List ℕ)) : Type 0 where
   pub text : List ℕ
   pub is_text : face_text json font ≡ Some text
-  pub is_told : Appends old new text
+  pub is_reported : Appends old new text
 
 -- why there are none: the file has no font at its index, or `fvar` can't be read
 abbrev pub IsAxesFault : Bool → Font → Failure → Type 0
-IsAxesFault json font failure = ((failure ≡ Error UnknownKind) × (header_place font ≡ None)) ⊎ ((failure ≡ Error MalformedFont) × (face_text json font ≡ None))
+IsAxesFault json font failure = ((failure ≡ Error UnknownKind) × (header_offset font ≡ None)) ⊎ ((failure ≡ Error MalformedFont) × (face_text json font ≡ None))
 
 -- the axes of a face; none where it isn't variable
 abbrev pub axes_or_none : Option (List ℕ) → Option (List Axis)

@@ -3,7 +3,7 @@ use Rattle.std.specs.Prelude.{ℕ, ◌+◌, ◌==◌, nat_lt, if◌then◌else�
 use Rattle.std.specs.Option.{option_and_then, option_map}
 use Rattle.subsetter_base.specs.Bytes.{number}
 use Rattle.subsetter_base.specs.declared.tag.Tag.{Tag}
-use Rattle.subsetter_sfnt.specs.Read.{Font, kind_at, header_place, find_record, records}
+use Rattle.subsetter_sfnt.specs.Read.{Font, kind_at, header_offset, find_record, records}
 use Rattle.subsetter_sfnt.specs.declared.face.FontKind.{FontKind}
 use Rattle.subsetter_sfnt.specs.declared.face.TableRecord.{TableRecord}
 use Rattle.subset_font.specs.FaceView.{place_view}
@@ -47,7 +47,7 @@ no_directory_by index (Some at) None = Some CutDirectory
 no_directory_by index (Some at) (Some directory) = None
 
 abbrev pub no_directory : Font → Option Hint
-no_directory font = no_directory_by font.index (header_place font) (records font)
+no_directory font = no_directory_by font.index (header_offset font) (records font)
 
 -- what is wrong before a table is looked for
 abbrev pub no_font : Font → Option Hint

@@ -3,7 +3,7 @@ use Rattle.std.specs.Prelude.{◌≡◌, ◌⊎◌, ℕ, List, Option, IfSome}
 use Rattle.std.specs.Io.KnownBytes.{Appends}
 use Rattle.subset_font.specs.Outcome.{IsOutcome, IsNoOutcome}
 use Rattle.subset_font.specs.Sheet.{page_of}
-use Rattle.subset_font.specs.Told.{told_of}
+use Rattle.subset_font.specs.Report.{report_of}
 use Rattle.subset_font.specs.declared.task.Plan.{Plan}
 use Rattle.subset_font.specs.declared.outcome.Outcome.{Outcome}
 use Rattle.subset_font.specs.declared.failure.Failure.{Failure}
@@ -21,7 +21,7 @@ pub record WritesAll (plan : Plan) (source page_old page_new old new told_old to
   pub is_made : IfSome source (λ bytes. IsOutcome plan bytes outcome)
   pub is_shown : Appends page_old page_new (page_of outcome.sheet)
   pub is_written : Appends old new outcome.made.font.items
-  pub is_told : Appends told_old told_new (told_of plan.task.form outcome)
+  pub is_reported : Appends told_old told_new (report_of plan.task.form outcome)
 
 -- a failure that says that nothing is made of what was read
 abbrev pub IsOfMaking : Failure → Type 0

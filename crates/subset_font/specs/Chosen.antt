@@ -14,8 +14,8 @@ use Rattle.subset_args.specs.declared.jobs.Position.TheVariants.{Coordinates, Na
 use Rattle.subsetter_base.specs.declared.tag.Tag.{Tag}
 use Rattle.subset_args.specs.declared.lists.GlyphList.{GlyphList}
 use Rattle.subset_args.specs.declared.lists.GlyphList.TheVariants.{Every as EveryGlyph, These as TheseGlyphs, Characters as TheseCharacters, Text as OfText}
-use Rattle.subset_font.specs.declared.task.Asked.{Asked}
-use Rattle.subset_font.specs.declared.task.Asked.TheVariants.{These, Every, ByText, ByCharacters}
+use Rattle.subset_font.specs.declared.task.RequestedGlyphs.{RequestedGlyphs}
+use Rattle.subset_font.specs.declared.task.RequestedGlyphs.TheVariants.{These, Every, ByText, ByCharacters}
 use Rattle.subset_font.specs.declared.task.Plan.{Plan}
 use Rattle.subset_font.specs.declared.task.Task.{Task}
 use Rattle.subset_font.specs.declared.task.Form.{Form}
@@ -35,17 +35,17 @@ abbrev pub form_chosen : Switches → Form
 form_chosen s = if s.quiet then Silence else if s.json then Json else Lines
 
 -- which glyphs are kept: these, every one of the face, or those of a text's characters or of these characters
-pub data Wanted : Type 0 where
-  these : List ℕ → Wanted
-  every : Wanted
-  by_text : List ℕ → Wanted
-  by_characters : List ℕ → Wanted
+pub data KeptGlyphs : Type 0 where
+  these : List ℕ → KeptGlyphs
+  every : KeptGlyphs
+  by_text : List ℕ → KeptGlyphs
+  by_characters : List ℕ → KeptGlyphs
 
-abbrev pub wanted_of : Asked → Wanted
-wanted_of (These glyphs) = these glyphs.now
-wanted_of Every = every
-wanted_of (ByText text) = by_text text.now
-wanted_of (ByCharacters given) = by_characters given.now
+abbrev pub kept_of : RequestedGlyphs → KeptGlyphs
+kept_of (These glyphs) = these glyphs.now
+kept_of Every = every
+kept_of (ByText text) = by_text text.now
+kept_of (ByCharacters given) = by_characters given.now
 
 -- a list was read where a file has it
 abbrev pub IsListFor : Glyphs → Option GlyphList → Type 0
@@ -57,20 +57,20 @@ IsListFor (InFile kind name) (Some list) = Unit {0}
 IsListFor (InFile kind name) None = ⊥
 
 -- those that a file requests
-abbrev pub wanted_by : GlyphList → Wanted
-wanted_by EveryGlyph = every
-wanted_by (TheseGlyphs glyphs) = these glyphs.items
-wanted_by (TheseCharacters given) = by_characters given.items
-wanted_by (OfText text) = by_text (string_bytes text)
+abbrev pub kept_by : GlyphList → KeptGlyphs
+kept_by EveryGlyph = every
+kept_by (TheseGlyphs glyphs) = these glyphs.items
+kept_by (TheseCharacters given) = by_characters given.items
+kept_by (OfText text) = by_text (string_bytes text)
 
 -- those that the arguments list, or the file that was read for it
-abbrev pub wanted_for : Glyphs → Option GlyphList → Wanted
-wanted_for (Listed glyphs) list = these glyphs.items
-wanted_for (InText text) list = by_text (string_bytes text)
-wanted_for WholeFace list = every
-wanted_for (ListedCharacters given) list = by_characters given.items
-wanted_for (InFile kind name) (Some list) = wanted_by list
-wanted_for (InFile kind name) None = these []
+abbrev pub kept_for : Glyphs → Option GlyphList → KeptGlyphs
+kept_for (Listed glyphs) list = these glyphs.items
+kept_for (InText text) list = by_text (string_bytes text)
+kept_for WholeFace list = every
+kept_for (ListedCharacters given) list = by_characters given.items
+kept_for (InFile kind name) (Some list) = kept_by list
+kept_for (InFile kind name) None = these []
 
 -- the coordinates that are given, or the name of an instance
 abbrev pub at_chosen : Position → Option (List (Tag × ℤ))
@@ -83,7 +83,7 @@ instance_chosen (Named name) = Some (string_bytes name)
 
 -- the task that a job requests
 pub record IsTaskOf (job : Job) (list : Option GlyphList) (task : Task) : Type 0 where
-  pub glyphs : wanted_of task.asked ≡ wanted_for job.glyphs list
+  pub glyphs : kept_of task.requested ≡ kept_for job.glyphs list
   pub index : task.index ≡ job.index
   pub limits : LimitsAreChosen job.limits task.options.limits
   pub extras : task.options.extras ≡ extras_chosen job.switches

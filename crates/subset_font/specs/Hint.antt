@@ -9,15 +9,15 @@ use Rattle.subsetter_sfnt.specs.Extras.{all_extras}
 use Rattle.subsetter_sfnt.specs.Read.{Font, find_record, records, stored}
 use Rattle.subset_lines.specs.declared.info.Outlines.{Outlines}
 use Rattle.subset_lines.specs.declared.info.Outlines.TheVariants.{TrueType, Cff, Cff2 as HasCff2, Missing}
-use Rattle.subset_font.specs.Asked.{face_glyphs}
+use Rattle.subset_font.specs.Requested.{face_glyphs}
 use Rattle.subset_font.specs.Broken.{or_else, no_font, cut_table, missing_table}
 use Rattle.subset_font.specs.Info.{outlines_of}
 use Rattle.subset_font.specs.FaceView.{place_view}
 use Rattle.subset_font.specs.Made.{face_of}
 use Rattle.subset_font.specs.Tables.{bytes_or_none, records_in}
 use Rattle.subset_font.specs.declared.face.Place.{Place}
-use Rattle.subset_font.specs.declared.task.Asked.{Asked}
-use Rattle.subset_font.specs.declared.task.Asked.TheVariants.{These, Every, ByText, ByCharacters}
+use Rattle.subset_font.specs.declared.task.RequestedGlyphs.{RequestedGlyphs}
+use Rattle.subset_font.specs.declared.task.RequestedGlyphs.TheVariants.{These, Every, ByText, ByCharacters}
 use Rattle.subset_font.specs.declared.task.Task.{Task}
 use Rattle.pdf_values.specs.Permission.{is_usable}
 use Rattle.pdf_values.specs.declared.permission.Permission.{Permission}
@@ -32,7 +32,7 @@ first_past count [] = None
 first_past count (g ∷ glyphs) = if nat_le count g then Some g else first_past count glyphs
 
 -- a face that doesn't have one of the listed glyphs
-abbrev pub no_glyph : Font → Asked → Option Hint
+abbrev pub no_glyph : Font → RequestedGlyphs → Option Hint
 no_glyph font (These given) = option_and_then (λ count. option_map (λ g. NoGlyph g count) (first_past count given.now)) (face_glyphs font)
 no_glyph font Every = None
 no_glyph font (ByText text) = None
@@ -51,14 +51,14 @@ abbrev pub no_table_for_widths : Bool → Font → Option Hint
 no_table_for_widths true font = no_table font (record { 0 = codes "hmtx" })
 no_table_for_widths false font = None
 
-abbrev pub no_table_by : Asked → Bool → Font → Option Hint
+abbrev pub no_table_by : RequestedGlyphs → Bool → Font → Option Hint
 no_table_by Every widths font = no_table font (record { 0 = codes "maxp" })
 no_table_by (These glyphs) widths font = no_table_for_widths widths font
 no_table_by (ByText text) widths font = no_table_for_widths widths font
 no_table_by (ByCharacters given) widths font = no_table_for_widths widths font
 
 abbrev pub no_table_for : Task → List ℕ → Option Hint
-no_table_for task bytes = no_table_by task.asked task.widths (face_of task bytes)
+no_table_for task bytes = no_table_by task.requested task.widths (face_of task bytes)
 
 -- an entry of loca: an offset, or in the format 0 half of one (OpenType, "loca")
 abbrev pub entry : List ℕ → ℕ → ℕ → Option ℕ
@@ -83,7 +83,7 @@ first_wrong glyf loca format [] = None
 first_wrong glyf loca format (g ∷ glyphs) = or_else (wrong_outline glyf loca format g) (first_wrong glyf loca format glyphs)
 
 -- the glyphs that are listed
-abbrev pub listed : Asked → List ℕ
+abbrev pub listed : RequestedGlyphs → List ℕ
 listed (These given) = given.now
 listed Every = []
 listed (ByText text) = []
@@ -97,7 +97,7 @@ wrong_tables font glyphs (Some glyf) (Some loca) None = Some (missing_table font
 wrong_tables font glyphs (Some glyf) (Some loca) (Some head) = option_and_then (λ format. first_wrong glyf loca format glyphs) (number head 50 2)
 
 abbrev pub no_outline : Task → List ℕ → Option Hint
-no_outline task bytes = wrong_tables (face_of task bytes) (listed task.asked) (stored (face_of task bytes) (codes "glyf")) (stored (face_of task bytes) (codes "loca")) (stored (face_of task bytes) (codes "head"))
+no_outline task bytes = wrong_tables (face_of task bytes) (listed task.requested) (stored (face_of task bytes) (codes "glyf")) (stored (face_of task bytes) (codes "loca")) (stored (face_of task bytes) (codes "head"))
 
 -- outlines of CFF2
 abbrev pub cff2_in : Option (List ℕ) → Option Hint
@@ -137,7 +137,7 @@ no_outlines font = no_outlines_by (outlines_of font)
 
 -- what isn't there of a face: the face itself or a listed glyph; or a table
 abbrev pub no_font_or_glyph : Task → List ℕ → Option Hint
-no_font_or_glyph task bytes = or_else (no_font (face_of task bytes)) (no_glyph (face_of task bytes) task.asked)
+no_font_or_glyph task bytes = or_else (no_font (face_of task bytes)) (no_glyph (face_of task bytes) task.requested)
 
 abbrev pub no_part : Task → List ℕ → Option Hint
 no_part task bytes = or_else (no_font_or_glyph task bytes) (no_table_for task bytes)

@@ -1,7 +1,7 @@
 pub mod Chosen
-pub mod Asked
+pub mod Requested
 pub mod Made
-pub mod Told
+pub mod Report
 pub mod Carried
 pub mod FaceView
 pub mod Failure

@@ -7,18 +7,18 @@ use Rattle.subsetter.specs.Fault.{HasFault}
 use Rattle.subsetter_sfnt.specs.FontAt.{font_at}
 use Rattle.subsetter_sfnt.specs.Read.{Font}
 use Rattle.subsetter.specs.Subset.{IsSubset}
-use Rattle.subsetter_base.specs.Places.{HasAllAboveZero}
+use Rattle.subsetter_base.specs.Indexes.{HasAllAboveZero}
 use Rattle.subsetter_base.specs.declared.tag.Tag.{Tag}
 use Rattle.subsetter_base.specs.declared.error.Error.{Error as Refusal}
 use Rattle.subsetter_base.specs.declared.error.Error.TheVariants.{OutOfMemory, OverflowError}
 use Rattle.subsetter_instance.specs.Fault.{HasInstanceFault}
-use Rattle.subsetter_variable.specs.Standing.{IsAtDefault}
+use Rattle.subsetter_variable.specs.DefaultLocation.{IsAtDefault}
 use Rattle.subsetter_variable.specs.Subset.{IsStatic}
 use Rattle.cid_embed.specs.Embed.{numbering, HasEmbedFault, HasEmbedFaultWithin}
 use Rattle.cid_embed.specs.Text.{width_array}
 use Rattle.cid_embed.specs.Width.{width}
 use Rattle.subset_lines.specs.Json.{array_of}
-use Rattle.subset_font.specs.Asked.{IsAsked, IsUnasked}
+use Rattle.subset_font.specs.Requested.{IsRequested, IsUnasked}
 use Rattle.subset_font.specs.declared.task.Task.{Task}
 use Rattle.subset_font.specs.declared.task.Form.{Form}
 use Rattle.subset_font.specs.declared.task.Form.TheVariants.{Lines, Json, Silence}
@@ -77,7 +77,7 @@ pub record IsMadeOf (task : Task) (font : Font) (glyphs : List ℕ) (made : Made
 
 -- what a task makes of the bytes of a font
 pub record IsMade (task : Task) (bytes : List ℕ) (made : Made) : Type 0 where
-  pub asked : IsAsked (face_of task bytes) task.asked made.picked.characters.items made.picked.glyphs.items
+  pub requested : IsRequested (face_of task bytes) task.requested made.picked.characters.items made.picked.glyphs.items
   pub font : Font
   pub taken : IsTaken task bytes made.picked.glyphs.items font
   pub is_made : IsMadeOf task font made.picked.glyphs.items made
@@ -113,7 +113,7 @@ pub record IsRefusedFace (task : Task) (font : Font) (glyphs : List ℕ) (failur
 pub record IsRefusedTask (task : Task) (bytes : List ℕ) (failure : Failure) : Type 0 where
   pub characters : List ℕ
   pub glyphs : List ℕ
-  pub asked : IsAsked (face_of task bytes) task.asked characters glyphs
+  pub requested : IsRequested (face_of task bytes) task.requested characters glyphs
   pub why : Refusal
   pub failure_is : failure ≡ Error why
   pub refused : HasRefusal task bytes glyphs why
@@ -125,4 +125,4 @@ taken_of task bytes (Some file) = font_at file 0 task.options.extras
 
 -- why nothing is made of the bytes of a font: memory ran out, no glyphs are found, or they are refused
 abbrev pub IsUnmade : Task → List ℕ → Failure → Type 0
-IsUnmade task bytes failure = (failure ≡ Error OutOfMemory) ⊎ (IsUnasked (face_of task bytes) task.asked failure ⊎ IsRefusedTask task bytes failure)
+IsUnmade task bytes failure = (failure ≡ Error OutOfMemory) ⊎ (IsUnasked (face_of task bytes) task.requested failure ⊎ IsRefusedTask task bytes failure)

@@ -2,9 +2,9 @@
 use Rattle.std.specs.Prelude.{◌≡◌, ℕ, ◌==◌, ◌&&◌, nat_lt, not, if◌then◌else◌, List, [], ◌∷◌, ◌++◌, drop, length, Option, Some, None}
 use Rattle.subsetter_sfnt.specs.Read.{Font}
 use Rattle.subsetter_base.specs.Bytes.{first_number}
-use Rattle.subset_font.specs.Asked.{IsAsked}
-use Rattle.subset_font.specs.declared.task.Asked.{Asked}
-use Rattle.subsetter_base.specs.Places.{is_listed}
+use Rattle.subset_font.specs.Requested.{IsRequested}
+use Rattle.subset_font.specs.declared.task.RequestedGlyphs.{RequestedGlyphs}
+use Rattle.subsetter_base.specs.Indexes.{is_listed}
 
 -- a character that is shown by glyph 0 is listed once; a note names three, so a fourth is the last that is listed
 abbrev pub with_missing : List ℕ → Option ℕ → ℕ → List ℕ
@@ -20,8 +20,8 @@ abbrev pub missing : List ℕ → List ℕ → List ℕ
 missing characters glyphs = missing_behind [] characters glyphs
 
 -- those that a task asks a face for
-pub record IsMissing (font : Font) (asked : Asked) (found : List ℕ) : Type 0 where
+pub record IsMissing (font : Font) (asked : RequestedGlyphs) (found : List ℕ) : Type 0 where
   pub characters : List ℕ
   pub glyphs : List ℕ
-  pub is_asked : IsAsked font asked characters glyphs
+  pub is_requested : IsRequested font asked characters glyphs
   pub are : found ≡ missing characters glyphs

@@ -14,12 +14,12 @@ use Rattle.subset_pdf.specs.declared.sheet.SheetError.TheVariants.{Font, NotPerm
 use Rattle.subset_font.specs.declared.failure.Failure.{Failure}
 use Rattle.subset_font.specs.declared.failure.Failure.TheVariants.{Error, NotPermitted}
 use Rattle.subset_font.specs.declared.subset.Made.{Made}
-use Rattle.subset_font.specs.declared.task.Asked.{Asked}
-use Rattle.subset_font.specs.declared.task.Asked.TheVariants.{These, Every, ByText, ByCharacters}
+use Rattle.subset_font.specs.declared.task.RequestedGlyphs.{RequestedGlyphs}
+use Rattle.subset_font.specs.declared.task.RequestedGlyphs.TheVariants.{These, Every, ByText, ByCharacters}
 use Rattle.subset_font.specs.declared.task.Task.{Task}
 
 -- the glyphs of a text are shown in a line, others in a grid
-abbrev pub layout_of : Asked → Layout
+abbrev pub layout_of : RequestedGlyphs → Layout
 layout_of (These given) = Grid
 layout_of Every = Grid
 layout_of (ByText text) = Line
@@ -35,7 +35,7 @@ pub record IsRequestOf (task : Task) (choice : PdfChoice) (request : PdfRequest)
   pub limits : request.limits ≡ task.options.limits
   pub hinting : request.hinting ≡ task.options.extras.hinting
   pub choice_is : request.choice ≡ choice
-  pub layout : request.layout ≡ layout_of task.asked
+  pub layout : request.layout ≡ layout_of task.requested
 
 -- a sheet of the font and the glyphs of what a task made
 pub record IsShown (choice : PdfChoice) (task : Task) (bytes : List ℕ) (made : Made) (sheet : Sheet) : Type 0 where

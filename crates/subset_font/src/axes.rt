@@ -4,7 +4,7 @@ ghost use Rattle.std.specs.Prelude.{◌≡◌, ◌⊎◌, ◌≢◌, IfOk, IfErr
 ghost use Rattle.subsetter_base.specs.declared.error.Error.TheVariants.{OutOfMemory, MalformedFont};
 ghost use Rattle.subsetter_sfnt.specs.Extras.{all_extras};
 ghost use Rattle.subsetter_sfnt.specs.Read.{stored};
-ghost use Rattle.subset_font.specs.Axes.{axes_shown, text_of_axes, IsAxesTold, IsAxesFault, axes_or_none};
+ghost use Rattle.subset_font.specs.Axes.{axes_shown, text_of_axes, IsAxesReport, IsAxesFault, axes_or_none};
 ghost use Rattle.subset_font.specs.Tables.{bytes_or_none};
 ghost use Rattle.subset_font.specs.declared.failure.Failure.TheVariants.{Error as Refused, Read as CannotRead, Output, Usage};
 ghost use Rattle.std.specs.Io.KnownBytes.{Appends};
@@ -37,7 +37,7 @@ fn write_shown<L: Write>(
 }
 
 /// Writes the axes of `fvar`, with the names of `name`.
-fn tell_fvar<L: Write>(
+fn report_fvar<L: Write>(
     alloc: Global,
     fvar: &[u8],
     names: &[u8],
@@ -57,7 +57,7 @@ fn tell_fvar<L: Write>(
 }
 
 /// Writes that a face has no axes.
-fn tell_none<L: Write>(
+fn report_none<L: Write>(
     alloc: Global,
     names: &[u8],
     json: bool,
@@ -87,14 +87,14 @@ pub fn names_of(font: &[u8], index: u32) -> &[u8]
 /// Writes the axes and named instances of a face, as lines or as one JSON object; none of a face that isn't variable.
 ///
 /// `UnknownKind` where the file has no font at the index, `MalformedFont` where `fvar` is cut; `Output` where the writer fails.
-pub fn tell_axes<L: Write>(
+pub fn report_axes<L: Write>(
     alloc: Global,
     font: &[u8],
     index: u32,
     json: bool,
     lines: &mut L,
 ) -> Result<(), Failure>
-    ensures ok { OnOk result (IsAxesTold json (record { bytes = font.now; index = index; extras = all_extras }) (L.contents lines.old) (L.contents lines.new)) }
+    ensures ok { OnOk result (IsAxesReport json (record { bytes = font.now; index = index; extras = all_extras }) (L.contents lines.old) (L.contents lines.new)) }
     ensures err { IfErr result (λ e. (e ≡ Output) ⊎ ((e ≡ Refused OutOfMemory) ⊎ IsAxesFault json (record { bytes = font.now; index = index; extras = all_extras }) e)) }
     ensures kind { IfErr result (λ e. e ≢ Usage) }
 {
@@ -102,8 +102,8 @@ pub fn tell_axes<L: Write>(
         return Err(Failure::Error(Error::UnknownKind));
     }
     match table(font, index, Tag::new(b"fvar")) {
-        Some(fvar) => tell_fvar(alloc, fvar, names_of(font, index), json, lines),
-        None => tell_none(alloc, names_of(font, index), json, lines),
+        Some(fvar) => report_fvar(alloc, fvar, names_of(font, index), json, lines),
+        None => report_none(alloc, names_of(font, index), json, lines),
     }
 }
 
@@ -118,12 +118,12 @@ pub fn carry_axes<R: Read, L: Write>(
     source: &mut Vec<u8>,
     lines: &mut L,
 ) -> Result<(), Failure>
-    ensures ok { OnOk result (IfSome (R.remaining reader.old) (λ bytes. IsAxesTold json (record { bytes = bytes; index = index; extras = all_extras }) (L.contents lines.old) (L.contents lines.new))) }
+    ensures ok { OnOk result (IfSome (R.remaining reader.old) (λ bytes. IsAxesReport json (record { bytes = bytes; index = index; extras = all_extras }) (L.contents lines.old) (L.contents lines.new))) }
     ensures err { IfErr result (λ e. (e ≡ CannotRead) ⊎ ((e ≡ Output) ⊎ ((e ≡ Refused OutOfMemory) ⊎ IfSome (R.remaining reader.old) (λ bytes. IsAxesFault json (record { bytes = bytes; index = index; extras = all_extras }) e)))) }
     ensures kind { IfErr result (λ e. e ≢ Usage) }
 {
     let font = read_whole(alloc, reader, room)?;
-    let told = tell_axes(alloc, &font, index, json, lines);
+    let told = report_axes(alloc, &font, index, json, lines);
     *source = font;
     told
 }

@@ -66,7 +66,7 @@ impl Failure {
 
 /// A failure as standard error has it: its text, and after it the name of the file that failed.
 #[derive(Drop)]
-pub struct Told<'a> {
+pub struct Report<'a> {
     /// Why the run failed.
     pub failure: &'a Failure,
     /// The name of the file that failed, if one did.
@@ -126,7 +126,7 @@ pub fn file_of<'a>(ended: &Result<(), Failure>, job: &'a Job) -> Option<&'a str>
     }
 }
 
-impl fmt::Display for Told<'_> {
+impl fmt::Display for Report<'_> {
     fn fmt<W: fmt::Write>(&self, f: &mut fmt::Formatter<W>) -> fmt::Result {
         let failure = self.failure;
         match self.file {

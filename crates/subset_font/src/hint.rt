@@ -2,7 +2,7 @@
 
 ghost use Rattle.std.specs.Prelude.{◌≡◌, ◌≤◌};
 ghost use Rattle.subsetter_sfnt.specs.Extras.{all_extras};
-ghost use Rattle.subset_font.specs.Asked.{face_glyphs};
+ghost use Rattle.subset_font.specs.Requested.{face_glyphs};
 ghost use Rattle.subset_font.specs.Made.{face_of};
 ghost use Rattle.subset_font.specs.Hint.{first_past, no_glyph, no_table, no_table_for_widths, no_table_for, entry, wrong_range, wrong_between, wrong_outline, first_wrong, listed, no_outline, is_cff2, wrong_metrics_of, wrong_metrics, no_outlines, no_font_or_glyph, no_part, wrong_table, wrong_outlines, hint_of_malformed, cut_or_bare, hint_of_unknown, hint_of_error, no_mapping, hint_of_mapping, no_axes, axes_hint_of_error, axes_hint, forbidden_bit, hint_of};
 
@@ -11,7 +11,7 @@ use crate::face::{count_glyphs, place_of};
 use crate::failure::Failure;
 use crate::info::outlines_of;
 use crate::tables::directory_of;
-use crate::task::{Asked, Task};
+use crate::task::{RequestedGlyphs, Task};
 use std::fmt;
 use subset_lines::Outlines;
 use subset_pdf::{Permission, Usage};
@@ -165,9 +165,9 @@ fn first_past(count: u16, glyphs: &[u16]) -> Option<u16>
 
 /// Whether a face doesn't have one of the listed glyphs.
 fn no_glyph(font: &[u8], task: &Task<'_>) -> Option<Hint>
-    ensures { result ≡ no_glyph (face_of task.now font.now) task.now.asked }
+    ensures { result ≡ no_glyph (face_of task.now font.now) task.now.requested }
 {
-    let Asked::These(glyphs) = task.asked else {
+    let RequestedGlyphs::These(glyphs) = task.requested else {
         return None;
     };
     let count = count_glyphs(font, task.index)?;
@@ -200,11 +200,11 @@ fn no_table_for_widths(font: &[u8], index: u32, widths: bool) -> Option<Hint>
 fn no_table_for(font: &[u8], task: &Task<'_>) -> Option<Hint>
     ensures { result ≡ no_table_for task.now font.now }
 {
-    match task.asked {
-        Asked::Every => no_table(font, task.index, Tag::MAXP),
-        Asked::These(_) => no_table_for_widths(font, task.index, task.widths),
-        Asked::ByText(_) => no_table_for_widths(font, task.index, task.widths),
-        Asked::ByCharacters(_) => no_table_for_widths(font, task.index, task.widths),
+    match task.requested {
+        RequestedGlyphs::Every => no_table(font, task.index, Tag::MAXP),
+        RequestedGlyphs::These(_) => no_table_for_widths(font, task.index, task.widths),
+        RequestedGlyphs::ByText(_) => no_table_for_widths(font, task.index, task.widths),
+        RequestedGlyphs::ByCharacters(_) => no_table_for_widths(font, task.index, task.widths),
     }
 }
 
@@ -267,14 +267,14 @@ fn first_wrong(glyf: &[u8], loca: &[u8], format: u16, glyphs: &[u16]) -> Option<
 }
 
 /// The glyphs that are listed.
-fn listed<'a>(asked: &Asked<'a>) -> &'a [u16]
+fn listed<'a>(asked: &RequestedGlyphs<'a>) -> &'a [u16]
     ensures { result.now ≡ listed asked.now }
 {
     match *asked {
-        Asked::These(glyphs) => glyphs,
-        Asked::Every => &[],
-        Asked::ByText(_) => &[],
-        Asked::ByCharacters(_) => &[],
+        RequestedGlyphs::These(glyphs) => glyphs,
+        RequestedGlyphs::Every => &[],
+        RequestedGlyphs::ByText(_) => &[],
+        RequestedGlyphs::ByCharacters(_) => &[],
     }
 }
 
@@ -290,7 +290,7 @@ fn no_outline(font: &[u8], task: &Task<'_>) -> Option<Hint>
         return Some(missing_table(font, task.index, Tag::HEAD));
     };
     let format = index_to_loc_format(head)?;
-    first_wrong(glyf, loca, format, listed(&task.asked))
+    first_wrong(glyf, loca, format, listed(&task.requested))
 }
 
 /// Whether a face has outlines of `CFF2`.

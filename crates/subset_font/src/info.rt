@@ -5,7 +5,7 @@ ghost use Rattle.subsetter_sfnt.specs.Extras.{all_extras};
 ghost use Rattle.subset_font.specs.Info.{outlines_of, other_outlines, permission_of};
 ghost use Rattle.subset_font.specs.declared.failure.Failure.TheVariants.{Output, Usage};
 
-use crate::asked::first_glyphs;
+use crate::requested::first_glyphs;
 use crate::broken::face_count;
 use crate::carried::read_whole;
 use crate::face::count_glyphs;
@@ -13,7 +13,7 @@ use crate::failure::Failure;
 use crate::hint::find_hint;
 use crate::subset::make_of;
 use crate::tables::{directory_of, tables_of};
-use crate::task::{Asked, Form, Task};
+use crate::task::{Form, RequestedGlyphs, Task};
 use std::alloc::{AllocError, Global};
 use std::io::{Read, Write};
 use subset_lines::{Info, Outlines, write_info, write_info_json};
@@ -51,9 +51,9 @@ fn permission_of(font: &[u8], index: u32) -> Option<u16>
 }
 
 /// The task of a subset of all glyphs, or of these.
-fn task_for<'a>(index: u32, asked: Asked<'a>) -> Task<'a> {
+fn task_for<'a>(index: u32, asked: RequestedGlyphs<'a>) -> Task<'a> {
     Task {
-        asked,
+        requested: asked,
         index,
         options: Options {
             limits: Limits::default(),
@@ -84,9 +84,9 @@ fn reason_of(
     let count = count_glyphs(font, index).unwrap_or(0);
     let glyphs = first_glyphs(alloc, count)?;
     let asked = if count == 0 {
-        Asked::Every
+        RequestedGlyphs::Every
     } else {
-        Asked::These(&glyphs)
+        RequestedGlyphs::These(&glyphs)
     };
     match find_hint(failure, font, &task_for(index, asked)) {
         Some(hint) => Ok(Some(format!(in alloc; "{hint}")?)),
@@ -96,7 +96,7 @@ fn reason_of(
 
 /// Tries to make a subset of all glyphs.
 fn try_all(alloc: Global, font: &[u8], index: u32) -> Result<InfoParts, AllocError> {
-    match make_of(alloc, font, &task_for(index, Asked::Every)) {
+    match make_of(alloc, font, &task_for(index, RequestedGlyphs::Every)) {
         Ok(_) => Ok(InfoParts {
             refusal: None,
             reason: None,

@@ -17,7 +17,7 @@ fn within<'a>(plan: &Plan<'a>, limits: Limits) -> Plan<'a>
     let task = plan.task;
     Plan {
         task: Task {
-            asked: task.asked,
+            requested: task.requested,
             index: task.index,
             options: Options {
                 limits,

@@ -8,7 +8,7 @@
 //! of which it is proved what is written.
 #![tactic(auto)]
 
-mod asked;
+mod requested;
 mod axes;
 mod broken;
 mod carried;
@@ -31,10 +31,10 @@ mod subset;
 mod tables;
 mod task;
 
-pub use asked::{Picked, pick};
+pub use requested::{Picked, pick};
 pub use axes::{axes_there, carry_axes};
 pub use carried::carry_out;
-pub use failure::{Failure, Told, status_of_run};
+pub use failure::{Failure, Report, status_of_run};
 pub use help::{HELP, VERSION_LINE};
 pub use hint::{Hint, find_axes_hint, find_hint};
 pub use info::{InfoParts, carry_info};
@@ -43,7 +43,7 @@ pub use outcome::{Outcome, make_planned};
 pub use output::emit;
 pub use subset::{Made, make_of};
 pub use tables::{table_sizes, tables_of};
-pub use task::{Asked, Form, Plan, Task};
+pub use task::{Form, Plan, RequestedGlyphs, Task};
 
 #[cfg(test)]
 mod tests;

@@ -3,10 +3,10 @@
 ghost use Rattle.std.specs.Prelude.{◌≡◌, OnOk, IfOk, IfSome};
 ghost use Rattle.subsetter_sfnt.specs.Extras.{all_extras};
 ghost use Rattle.subset_font.specs.Missing.{with_missing, missing, IsMissing};
-ghost use Rattle.subsetter_base.specs.Places.{is_listed};
+ghost use Rattle.subsetter_base.specs.Indexes.{is_listed};
 
-use crate::asked::pick;
-use crate::task::Asked;
+use crate::requested::pick;
+use crate::task::RequestedGlyphs;
 use std::alloc::{AllocError, Global};
 use subset_lines::take_first;
 
@@ -54,7 +54,7 @@ pub fn missing(alloc: Global, characters: &[char], glyphs: &[u16]) -> Result<Vec
 }
 
 /// The same of the characters that a task requests of a face. None where no glyphs are found, or memory runs out.
-pub fn missing_in(alloc: Global, font: &[u8], index: u32, asked: &Asked<'_>) -> Option<Vec<char>>
+pub fn missing_in(alloc: Global, font: &[u8], index: u32, asked: &RequestedGlyphs<'_>) -> Option<Vec<char>>
     ensures { IfSome result (λ v. IsMissing (record { bytes = font.now; index = index; extras = all_extras }) asked.now v.items) }
 {
     let Ok(picked) = pick(alloc, font, index, asked) else {

@@ -5,7 +5,7 @@ ghost use Rattle.std.specs.Option.{option_copied, option_map};
 ghost use Rattle.subsetter_base.specs.Bytes.{number};
 ghost use Rattle.subsetter_base.specs.declared.error.Error.TheVariants.{OutOfMemory, UnknownKind, MalformedFont};
 ghost use Rattle.subsetter_sfnt.specs.Extras.{all_extras};
-ghost use Rattle.subsetter_sfnt.specs.Read.{header_place, stored};
+ghost use Rattle.subsetter_sfnt.specs.Read.{header_offset, stored};
 ghost use Rattle.subset_font.specs.Named.{is_same_name, has_name, find_named, coordinate_in, settings_of, instance_settings, face_settings, name_behind, before_next, names_behind, line_of_names, records_of, names_line, face_names};
 ghost use Rattle.subset_lines.specs.Names.{name_of};
 ghost use Rattle.subset_font.specs.Tables.{bytes_or_none};

@@ -211,7 +211,7 @@ fn placed<'a>(task: &Task<'a>, at: &'a [(Tag, i32)]) -> Task<'a>
     ensures { result ≡ record task.now { at = Some at.entry } }
 {
     Task {
-        asked: task.asked,
+        requested: task.requested,
         index: task.index,
         options: task.options,
         widths: task.widths,

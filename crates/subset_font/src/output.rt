@@ -3,7 +3,7 @@
 ghost use Rattle.std.specs.Prelude.{◌≡◌, ◌⊎◌, OnOk, IfErr, IsErrOf};
 ghost use Rattle.std.specs.Io.KnownBytes.{Appends};
 ghost use Rattle.subset_font.specs.Sheet.{page_of};
-ghost use Rattle.subset_font.specs.Told.{told_of};
+ghost use Rattle.subset_font.specs.Report.{report_of};
 ghost use Rattle.subset_font.specs.declared.failure.Failure.TheVariants.{Write as CannotWrite, WritePdf as CannotWritePdf, Output};
 
 use crate::failure::Failure;
@@ -25,7 +25,7 @@ pub fn emit<P: Write, W: Write, L: Write>(
 ) -> Result<(), Failure>
     ensures page { OnOk result (Appends (P.contents page.old) (P.contents page.new) (page_of outcome.now.sheet)) }
     ensures font { OnOk result (Appends (W.contents output.old) (W.contents output.new) outcome.now.made.font.items) }
-    ensures lines { OnOk result (Appends (L.contents lines.old) (L.contents lines.new) (told_of form outcome.now)) }
+    ensures lines { OnOk result (Appends (L.contents lines.old) (L.contents lines.new) (report_of form outcome.now)) }
     // Nothing else is written before the whole PDF.
     ensures no_font { IsErrOf result Failure.WritePdf → output.new ≡ output.old }
     ensures no_line { IsErrOf result Failure.WritePdf → lines.new ≡ lines.old }
@@ -66,7 +66,7 @@ fn write_font<W: Write>(font: &[u8], output: &mut W) -> Result<(), Failure>
 
 /// Writes the new numbers.
 fn write_numbers<L: Write>(outcome: &Outcome, form: Form, lines: &mut L) -> Result<(), Failure>
-    ensures bytes { OnOk result (Appends (L.contents lines.old) (L.contents lines.new) (told_of form outcome.now)) }
+    ensures bytes { OnOk result (Appends (L.contents lines.old) (L.contents lines.new) (report_of form outcome.now)) }
     ensures err { IfErr result (λ e. e ≡ Output) }
 {
     let made = &outcome.made;

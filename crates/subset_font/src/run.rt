@@ -3,15 +3,15 @@
 ghost use Rattle.std.specs.Prelude.{◌≡◌, ◌≢◌, ◌⊎◌, ◌≤◌, drop, IfErr, IfOk};
 ghost use Rattle.std.specs.Process.{exit_status};
 ghost use Rattle.std.specs.Vec.Iter.{into_iter_items};
-ghost use Rattle.subset_font.specs.Chosen.{IsListFor, wanted_of, wanted_by, wanted_for, IsTaskOf, IsPlanOf};
+ghost use Rattle.subset_font.specs.Chosen.{IsListFor, kept_of, kept_by, kept_for, IsTaskOf, IsPlanOf};
 ghost use Rattle.subset_font.specs.Failure.{status_of_end};
-ghost use Rattle.subset_font.specs.Told.{has_notes};
+ghost use Rattle.subset_font.specs.Report.{has_notes};
 ghost use Rattle.subset_font.specs.declared.failure.Failure.TheVariants.{Error as Refused, Read as CannotRead, Usage};
 ghost use Rattle.subsetter_base.specs.declared.error.Error.TheVariants.{OutOfMemory};
 
 use crate::axes::carry_axes;
 use crate::carried::{carry_out, read_whole};
-use crate::failure::{Failure, Told, file_of, given, pdf_file, status_of_run};
+use crate::failure::{Failure, Report, file_of, given, pdf_file, status_of_run};
 use crate::help::{HELP, VERSION_LINE};
 use crate::hint::{Hint, find_axes_hint, find_hint, no_axes};
 use crate::info::carry_info;
@@ -21,9 +21,7 @@ use crate::named::instance_names;
 use crate::notes::{known_axes, notes_for};
 use crate::reason::{Noted, reason_of, unread};
 use crate::streams::{Source, Target, goes_to_output, hold_streams, lines_beside, open_source};
-use crate::task::{
-    Asked, Form, Plan, Task, at_of, extras_of, form_of, instance_of, limits_of, pdf_of,
-};
+use crate::task::{Form, Plan, RequestedGlyphs, Task, at_of, extras_of, form_of, instance_of, limits_of, pdf_of};
 use std::alloc::Global;
 use std::fs::OpenFile;
 use std::io::{BufWriter, ErrorKind, Read, Write};
@@ -108,29 +106,29 @@ fn list_of<R: Files + Input + AllocGlobal>(
 }
 
 /// Which glyphs a file requests.
-fn asked_by(list: &GlyphList) -> Asked<'_>
-    ensures { wanted_of result ≡ wanted_by list.now }
+fn requested_by(list: &GlyphList) -> RequestedGlyphs<'_>
+    ensures { kept_of result ≡ kept_by list.now }
 {
     match list {
-        GlyphList::Every => Asked::Every,
-        GlyphList::These(given) => Asked::These(given),
-        GlyphList::Characters(given) => Asked::ByCharacters(given),
-        GlyphList::Text(text) => Asked::ByText(text),
+        GlyphList::Every => RequestedGlyphs::Every,
+        GlyphList::These(given) => RequestedGlyphs::These(given),
+        GlyphList::Characters(given) => RequestedGlyphs::ByCharacters(given),
+        GlyphList::Text(text) => RequestedGlyphs::ByText(text),
     }
 }
 
 /// Which glyphs are kept.
-fn asked_of<'a>(glyphs: &'a Glyphs, list: &'a Option<GlyphList>) -> Asked<'a>
+fn requested_of<'a>(glyphs: &'a Glyphs, list: &'a Option<GlyphList>) -> RequestedGlyphs<'a>
     requires { IsListFor glyphs.now list.now }
-    ensures { wanted_of result ≡ wanted_for glyphs.now list.now }
+    ensures { kept_of result ≡ kept_for glyphs.now list.now }
 {
     match (glyphs, list) {
-        (Glyphs::Listed(given), _) => Asked::These(given),
-        (Glyphs::ByText(text), _) => Asked::ByText(text),
-        (Glyphs::Every, _) => Asked::Every,
-        (Glyphs::Characters(given), _) => Asked::ByCharacters(given),
-        (Glyphs::InFile(_, _), Some(list)) => asked_by(list),
-        (Glyphs::InFile(_, _), None) => Asked::These(&[]),
+        (Glyphs::Listed(given), _) => RequestedGlyphs::These(given),
+        (Glyphs::ByText(text), _) => RequestedGlyphs::ByText(text),
+        (Glyphs::Every, _) => RequestedGlyphs::Every,
+        (Glyphs::Characters(given), _) => RequestedGlyphs::ByCharacters(given),
+        (Glyphs::InFile(_, _), Some(list)) => requested_by(list),
+        (Glyphs::InFile(_, _), None) => RequestedGlyphs::These(&[]),
     }
 }
 
@@ -140,7 +138,7 @@ fn task_of<'a>(job: &'a Job, list: &'a Option<GlyphList>) -> Task<'a>
     ensures { IsTaskOf job.now list.now result }
 {
     Task {
-        asked: asked_of(&job.glyphs, list),
+        requested: requested_of(&job.glyphs, list),
         index: job.index,
         options: Options {
             limits: limits_of(job.limits),
@@ -265,20 +263,20 @@ fn report<R: Eprint>(rt: &R, ended: &Result<(), Failure>, file: Option<&str>) ->
 {
     if let Err(failure) = ended {
         // Nobody could be told of a failure here, so the status alone tells.
-        let _ = eprintln!(rt; "{}", Told { failure, file });
+        let _ = eprintln!(rt; "{}", Report { failure, file });
     }
     status_of_run(ended)
 }
 
 /// Reports why the system refused to read or to write, where that is known.
-fn tell_reason<R: Eprint>(rt: &R, reason: Option<io::Error>) {
+fn report_reason<R: Eprint>(rt: &R, reason: Option<io::Error>) {
     if let Some(reason) = reason {
         let _ = eprintln!(rt; "{reason}");
     }
 }
 
 /// Says more of a font that is refused, where more can be seen.
-fn tell_hint<R: Eprint>(rt: &R, hint: Option<Hint>) {
+fn report_hint<R: Eprint>(rt: &R, hint: Option<Hint>) {
     if let Some(hint) = hint {
         let _ = eprintln!(rt; "{hint}");
     }
@@ -351,7 +349,7 @@ fn report_notes<R: Eprint + AllocGlobal>(rt: &R, font: &[u8], plan: &Plan<'_>) {
     let Ok(notes) = notes_for(rt.alloc(), &axes, plan.task.at) else {
         return;
     };
-    let Some(characters) = missing_in(rt.alloc(), font, plan.task.index, &plan.task.asked) else {
+    let Some(characters) = missing_in(rt.alloc(), font, plan.task.index, &plan.task.requested) else {
         return;
     };
     if let Ok(text) = note_lines(rt.alloc(), &axes, &notes, &characters) {
@@ -378,7 +376,7 @@ fn report_names<R: Eprint + AllocGlobal>(rt: &R, font: &[u8], index: u32) {
 fn task_with_widths<'a>(plan: &Plan<'a>) -> Task<'a> {
     let task = plan.task;
     Task {
-        asked: task.asked,
+        requested: task.requested,
         index: task.index,
         options: task.options,
         widths: task.widths || plan.pdf.is_some(),
@@ -390,8 +388,8 @@ fn task_with_widths<'a>(plan: &Plan<'a>) -> Task<'a> {
 /// Reports more of a run that failed, as far as it can be seen in the font.
 fn report_more<R: Eprint + AllocGlobal>(rt: &R, failure: &Failure, font: &[u8], plan: &Plan<'_>) {
     match find_hint(failure, font, &task_with_widths(plan)) {
-        Some(hint) => tell_hint(rt, Some(hint)),
-        None => tell_hint(rt, find_limit_hint(rt.alloc(), failure, font, plan)),
+        Some(hint) => report_hint(rt, Some(hint)),
+        None => report_hint(rt, find_limit_hint(rt.alloc(), failure, font, plan)),
     }
     if let Failure::NoInstance = failure {
         report_names(rt, font, plan.task.index);
@@ -409,7 +407,7 @@ fn run_job<R: Files + Print + Eprint + Input + AllocGlobal>(rt: &R, job: &Job) -
         Err(failure) => {
             let ended = Err(failure);
             let status = report(rt, &ended, file_of(&ended, job));
-            tell_reason(rt, reason);
+            report_reason(rt, reason);
             report_list(rt, &ended, &job.glyphs, &text);
             return status;
         }
@@ -419,7 +417,7 @@ fn run_job<R: Files + Print + Eprint + Input + AllocGlobal>(rt: &R, job: &Job) -
     let is_font_there = goes_to_output(rt, given(&job.output)) || goes_to_output(rt, pdf_file(job));
     let ended = perform(rt, job, &plan, is_font_there, &mut font, &mut reason);
     let status = report(rt, &ended, file_of(&ended, job));
-    tell_reason(rt, reason);
+    report_reason(rt, reason);
     match &ended {
         Ok(()) if has_notes(plan.task.form, is_font_there) => {}
         Ok(()) => report_notes(rt, &font, &plan),
@@ -502,10 +500,10 @@ fn run_shown<R: Files + Print + Eprint + Input + AllocGlobal>(
     let mut reason = None;
     let ended = perform_shown(rt, topic, json, input, index, &mut font, &mut reason);
     let status = report(rt, &ended, unread_file(&ended, input));
-    tell_reason(rt, reason);
+    report_reason(rt, reason);
     match (&ended, topic) {
-        (Err(failure), _) => tell_hint(rt, find_axes_hint(failure, &font, index)),
-        (Ok(()), Topic::Axes) if !json => tell_hint(rt, no_axes(&font, index)),
+        (Err(failure), _) => report_hint(rt, find_axes_hint(failure, &font, index)),
+        (Ok(()), Topic::Axes) if !json => report_hint(rt, no_axes(&font, index)),
         (Ok(()), _) => {}
     }
     status
@@ -519,7 +517,7 @@ fn print_text<R: Print + Eprint>(rt: &R, text: &str) -> u8
         Ok(()) => 0,
         Err(error) => {
             let status = report(rt, &Err(Failure::Output), None);
-            tell_reason(rt, Some(error));
+            report_reason(rt, Some(error));
             status
         }
     }

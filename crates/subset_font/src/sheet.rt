@@ -8,7 +8,7 @@ ghost use Rattle.subsetter_base.specs.declared.error.Error.TheVariants.{OutOfMem
 
 use crate::failure::Failure;
 use crate::subset::Made;
-use crate::task::{Asked, Task};
+use crate::task::{RequestedGlyphs, Task};
 use std::alloc::{AllocError, Global};
 use subset_args::PdfChoice;
 use subset_lines::json_pdf;
@@ -16,14 +16,14 @@ use subset_pdf::{Layout, PdfRequest, Sheet, SheetError, make_sheet};
 use subsetter::Tag;
 
 /// How the glyphs are shown: those of a text in a line, others in a grid.
-fn layout_of(asked: &Asked<'_>) -> Layout
+fn layout_of(asked: &RequestedGlyphs<'_>) -> Layout
     ensures { result ≡ layout_of asked.now }
 {
     match asked {
-        Asked::ByText(_) => Layout::Line,
-        Asked::These(_) => Layout::Grid,
-        Asked::Every => Layout::Grid,
-        Asked::ByCharacters(_) => Layout::Grid,
+        RequestedGlyphs::ByText(_) => Layout::Line,
+        RequestedGlyphs::These(_) => Layout::Grid,
+        RequestedGlyphs::Every => Layout::Grid,
+        RequestedGlyphs::ByCharacters(_) => Layout::Grid,
     }
 }
 
@@ -47,7 +47,7 @@ fn request_of<'a>(task: &Task<'a>, choice: PdfChoice) -> PdfRequest<'a>
         limits: task.options.limits,
         hinting: task.options.extras.hinting,
         choice,
-        layout: layout_of(&task.asked),
+        layout: layout_of(&task.requested),
     }
 }
 

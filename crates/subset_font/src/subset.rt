@@ -5,12 +5,12 @@ ghost use Rattle.std.specs.Option.{option_map};
 ghost use Rattle.cid_embed.specs.Embed.{numbering};
 ghost use Rattle.subsetter_sfnt.specs.FontAt.{font_at};
 ghost use Rattle.subsetter.specs.Bound.{IsWithin};
-ghost use Rattle.subset_font.specs.Asked.{IsAsked};
+ghost use Rattle.subset_font.specs.Requested.{IsRequested};
 ghost use Rattle.subset_font.specs.Made.{face_of, taken_of, IsFaultless, IsFaultlessWithWidths, IsWidthText, IsTaken, IsMadeOf, IsMade, IsRefusal, IsRefusalOfWidths, IsUntaken, IsRefusedFace, IsRefusedTask, IsUnmade, width_text};
 ghost use Rattle.subset_font.specs.declared.failure.Failure.TheVariants.{Error as Refused};
 ghost use Rattle.subsetter_base.specs.declared.error.Error.TheVariants.{OutOfMemory};
 
-use crate::asked::{Picked, pick};
+use crate::requested::{Picked, pick};
 use crate::failure::Failure;
 use crate::task::{Form, Task};
 use cid_embed::{Embedded, embed_with_options, write_widths};
@@ -135,7 +135,7 @@ fn static_of(
 
 /// The subset for the glyphs that were found.
 fn make_for(alloc: Global, font: &[u8], task: &Task<'_>, picked: Picked) -> Result<Made, Failure>
-    requires { IsAsked (face_of task.now font.now) task.now.asked picked.characters.items picked.glyphs.items }
+    requires { IsRequested (face_of task.now font.now) task.now.requested picked.characters.items picked.glyphs.items }
     ensures ok { IfOk result (IsMade task.now font.now) }
     ensures err { IfErr result (λ e. (e ≡ Refused OutOfMemory) ⊎ IsRefusedTask task.now font.now e) }
 {
@@ -152,7 +152,7 @@ pub fn make_of(alloc: Global, font: &[u8], task: &Task<'_>) -> Result<Made, Fail
     ensures ok { IfOk result (IsMade task.now font.now) }
     ensures err { IfErr result (IsUnmade task.now font.now) }
 {
-    match pick(alloc, font, task.index, &task.asked) {
+    match pick(alloc, font, task.index, &task.requested) {
         Ok(picked) => make_for(alloc, font, task, picked),
         Err(failure) => Err(failure),
     }

@@ -93,7 +93,7 @@ fn told<T: Drop>(alloc: Global, ended: Result<T, Failure>) -> Result<(u8, String
 fn plan_of(glyphs: &[u16]) -> Plan<'_> {
     Plan {
         task: Task {
-            asked: Asked::These(glyphs),
+            requested: RequestedGlyphs::These(glyphs),
             index: 0,
             options: Options {
                 limits: Limits::default(),

@@ -1,6 +1,6 @@
 -- The same as one JSON object (RFC 8259).
 use Rattle.std.specs.Prelude.{ℕ, List, [], ◌∷◌, ◌++◌, drop, map, Option, Some, None, codes, decimal}
-use Rattle.subsetter_base.specs.Places.{place}
+use Rattle.subsetter_base.specs.Indexes.{index_of}
 use Rattle.subset_lines.specs.Axes.{shown}
 use Rattle.subset_lines.specs.Quoted.{quoted}
 use Rattle.subset_lines.specs.Text.{Numbers, first_name}
@@ -28,7 +28,7 @@ object_of character name old new = codes "{" ++ character_member character ++ (c
 -- the objects of glyphs, in order, with a text in front of the first and a comma between each two
 abbrev pub objects : List ℕ → List ℕ → List ℕ → List (List ℕ) → List ℕ → List ℕ
 objects before order characters names [] = []
-objects before order characters names (old ∷ glyphs) = (before ++ object_of (first_number characters) (first_name names) old (place order old)) ++ objects (codes ",") order (drop 1 characters) (drop 1 names) glyphs
+objects before order characters names (old ∷ glyphs) = (before ++ object_of (first_number characters) (first_name names) old (index_of order old)) ++ objects (codes ",") order (drop 1 characters) (drop 1 names) glyphs
 
 -- the member that has the widths, whose text an empty one isn't
 abbrev pub widths_member : List ℕ → List ℕ

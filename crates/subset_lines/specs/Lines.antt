@@ -1,6 +1,6 @@
 -- The lines that tell the new numbers.
 use Rattle.std.specs.Prelude.{ℕ, List, [], ◌∷◌, ◌++◌, drop, Option, Some, None, codes, decimal}
-use Rattle.subsetter_base.specs.Places.{place}
+use Rattle.subsetter_base.specs.Indexes.{index_of}
 use Rattle.subset_lines.specs.Text.{Numbers, four_digits}
 use Rattle.subsetter_base.specs.Bytes.{first_number}
 
@@ -17,7 +17,7 @@ line_of character old (Some new) = name_of character ++ decimal old ++ codes " -
 -- a line for each glyph, in order
 abbrev pub lines_for : List ℕ → List ℕ → List ℕ → List ℕ
 lines_for order characters [] = []
-lines_for order characters (old ∷ glyphs) = line_of (first_number characters) old (place order old) ++ lines_for order (drop 1 characters) glyphs
+lines_for order characters (old ∷ glyphs) = line_of (first_number characters) old (index_of order old) ++ lines_for order (drop 1 characters) glyphs
 
 -- a text as a line, which an empty one isn't
 abbrev pub last_line : List ℕ → List ℕ

@@ -3,7 +3,7 @@ use Rattle.std.proofs.Common.{◌≡◌, ℕ, ◌<◌, ◌≤◌, cond, List, []
 use Rattle.std.specs.Prelude.{codes, is_some, IsSome, slice_get}
 use Rattle.std.specs.Option.{option_and_then}
 use Rattle.subsetter_base.specs.Bytes.{IsBytes}
-use Rattle.subsetter_base.specs.Places.{IsWithoutRepeats}
+use Rattle.subsetter_base.specs.Indexes.{IsWithoutRepeats}
 use Rattle.subsetter_base.specs.declared.error.Error.{Error}
 use Rattle.subsetter_base.specs.declared.error.Error.TheVariants.{UnknownKind, Unimplemented, OverflowError, OutOfMemory}
 use Rattle.subsetter_sfnt.specs.declared.flavor.FontFlavor.{FontFlavor}
@@ -15,7 +15,7 @@ use Rattle.subsetter.specs.Fault.{HasFault}
 use Rattle.subsetter.specs.Answer.{IsAnswer}
 use Rattle.subsetter.specs.Bound.{IsBeyond, HasNoAnswerWithin, in_font, beyond}
 use Rattle.subsetter_base.specs.Within.{IsTooLong}
-use Rattle.subsetter_sfnt.specs.Extras.{asked}
+use Rattle.subsetter_sfnt.specs.Extras.{requested}
 use Rattle.subsetter_sfnt.specs.Read.{Font, table, table_in, flavor}
 use Rattle.subsetter_sfnt.specs.Plain.{opened, flavored}
 use Rattle.subsetter_sfnt.specs.Fault.{HasOpeningFault, no_kind, no_entry, entry_outside, no_face, nested, cut_directory, no_outlines, lone_cff2}
@@ -28,9 +28,9 @@ use Rattle.subsetter.proofs.CffLaws.Fault.{cff_has_fault, is_cff_subset}
 use Rattle.subsetter.proofs.NoAnswer.{not_opened, no_truetype, no_charstrings}
 
 -- the tables of a font that was opened
-find_is : (font : Font) (d : List ℕ) → opened font ≡ Ok d → asked font.extras (table_in font.bytes d) ≡ table font
+find_is : (font : Font) (d : List ℕ) → opened font ≡ Ok d → requested font.extras (table_in font.bytes d) ≡ table font
 find_is font d h =
-    let by : Option (List ℕ) → List ℕ → Option (List ℕ) = λ o. asked font.extras (λ tag. option_and_then (λ directory. table_in font.bytes directory tag) o) in
+    let by : Option (List ℕ) → List ℕ → Option (List ℕ) = λ o. requested font.extras (λ tag. option_and_then (λ directory. table_in font.bytes directory tag) o) in
     ap by (sym (opened_records font d h))
 
 by_flavor : (o p q : Option (List ℕ)) (f : FontFlavor) → cond (is_some o) (Ok TrueType) (cond (is_some p) (Ok Cff) (cond (is_some q) (Err Unimplemented) (Err UnknownKind))) ≡ Ok f → cond (is_some o) (Some TrueType) (cond (is_some p) (Some Cff) None) ≡ Some f
@@ -40,7 +40,7 @@ by_flavor None None (Some c) f h = absurd cc
 by_flavor None None None f h = absurd cc
 
 -- the kind of the outlines
-pub has_flavor : (font : Font) (d : List ℕ) (f : FontFlavor) → opened font ≡ Ok d → flavored (asked font.extras (table_in font.bytes d)) ≡ Ok f → flavor font ≡ Some f
+pub has_flavor : (font : Font) (d : List ℕ) (f : FontFlavor) → opened font ≡ Ok d → flavored (requested font.extras (table_in font.bytes d)) ≡ Ok f → flavor font ≡ Some f
 unfolding flavored
 has_flavor font d f o h =
     by_flavor (table font (codes "glyf")) (table font (codes "CFF ")) (table font (codes "CFF2")) f
@@ -75,62 +75,62 @@ module _ (bound : Option ℕ) (tokens depth : ℕ) (font : Font) (glyphs : List 
   pub unopened : (e : Error) → opened font ≡ Err e → (e ≡ OutOfMemory) ⊎ StandsWithin bound tokens depth font glyphs e
   unopened e h = inr ([], in_font (faults.in_opening (opened_refused font e h)))
 
-  pub unflavored : (d : List ℕ) (e : Error) → opened font ≡ Ok d → flavored (asked font.extras (table_in font.bytes d)) ≡ Err e → (e ≡ OutOfMemory) ⊎ StandsWithin bound tokens depth font glyphs e
+  pub unflavored : (d : List ℕ) (e : Error) → opened font ≡ Ok d → flavored (requested font.extras (table_in font.bytes d)) ≡ Err e → (e ≡ OutOfMemory) ⊎ StandsWithin bound tokens depth font glyphs e
   unflavored d e o h = inr ([], in_font (faults.in_opening (flavored_refused font d e o h)))
 
   pub unopened_no_answer : (e : Error) → opened font ≡ Err e → (e ≡ OutOfMemory) ⊎ HasNoAnswerWithin bound tokens depth font glyphs
   unopened_no_answer e h = inr (λ out within a. not_opened tokens depth font glyphs e (opened_refused font e h) out a)
 
-  pub unflavored_no_answer : (d : List ℕ) (e : Error) → opened font ≡ Ok d → flavored (asked font.extras (table_in font.bytes d)) ≡ Err e → (e ≡ OutOfMemory) ⊎ HasNoAnswerWithin bound tokens depth font glyphs
+  pub unflavored_no_answer : (d : List ℕ) (e : Error) → opened font ≡ Ok d → flavored (requested font.extras (table_in font.bytes d)) ≡ Err e → (e ≡ OutOfMemory) ⊎ HasNoAnswerWithin bound tokens depth font glyphs
   unflavored_no_answer d e o h = inr (λ out within a. not_opened tokens depth font glyphs e (flavored_refused font d e o h) out a)
 
-  module _ (d : List ℕ) (o : opened font ≡ Ok d) (h : flavored (asked font.extras (table_in font.bytes d)) ≡ Ok TrueType) where
+  module _ (d : List ℕ) (o : opened font ≡ Ok d) (h : flavored (requested font.extras (table_in font.bytes d)) ≡ Ok TrueType) where
     glyf_there : IsSome (table font (codes "glyf"))
     glyf_there = has_glyf (table font (codes "glyf")) (table font (codes "CFF ")) (has_flavor font d TrueType o h)
 
-    pub truetype_subset : (out : List ℕ) → IsBytes font.bytes → slice_get glyphs 0 ≡ Some 0 → IsAnswered font.extras.hinting (asked font.extras (table_in font.bytes d)) glyphs out → IsAnswer tokens depth font glyphs out
+    pub truetype_subset : (out : List ℕ) → IsBytes font.bytes → slice_get glyphs 0 ≡ Some 0 → IsAnswered font.extras.hinting (requested font.extras (table_in font.bytes d)) glyphs out → IsAnswer tokens depth font glyphs out
     truetype_subset out bytes first a =
         let b : IsAnswered font.extras.hinting (table font) glyphs out = subst (λ (find : List ℕ → Option (List ℕ)). IsAnswered font.extras.hinting find glyphs out) (find_is font d o) a in
         is_subset tokens depth font glyphs out bytes (some_given glyphs first) (has_flavor font d TrueType o h) b (no_fault tokens depth font glyphs out bytes glyf_there (λ e. opened_clean font d TrueType e o h) b)
 
-    refused : (e : Error) → IsRefused font.extras.hinting (asked font.extras (table_in font.bytes d)) bound glyphs e → IsRefused font.extras.hinting (table font) bound glyphs e
+    refused : (e : Error) → IsRefused font.extras.hinting (requested font.extras (table_in font.bytes d)) bound glyphs e → IsRefused font.extras.hinting (table font) bound glyphs e
     refused e r = subst (λ (find : List ℕ → Option (List ℕ)). IsRefused font.extras.hinting find bound glyphs e) (find_is font d o) r
 
-    pub truetype_refused : (e : Error) → IsRefused font.extras.hinting (asked font.extras (table_in font.bytes d)) bound glyphs e → (e ≡ OutOfMemory) ⊎ StandsWithin bound tokens depth font glyphs e
+    pub truetype_refused : (e : Error) → IsRefused font.extras.hinting (requested font.extras (table_in font.bytes d)) bound glyphs e → (e ≡ OutOfMemory) ⊎ StandsWithin bound tokens depth font glyphs e
     truetype_refused e r = has_fault bound tokens depth font glyphs e glyf_there (refused e r)
 
-    pub truetype_no_answer : (e : Error) → IsRefused font.extras.hinting (asked font.extras (table_in font.bytes d)) bound glyphs e → (e ≡ OutOfMemory) ⊎ HasNoAnswerWithin bound tokens depth font glyphs
+    pub truetype_no_answer : (e : Error) → IsRefused font.extras.hinting (requested font.extras (table_in font.bytes d)) bound glyphs e → (e ≡ OutOfMemory) ⊎ HasNoAnswerWithin bound tokens depth font glyphs
     truetype_no_answer e r = no_truetype tokens depth font glyphs bound e glyf_there (refused e r)
 
     pub opening_clean : (e : Error) → HasOpeningFault font e → ⊥
     opening_clean e f = opened_clean font d TrueType e o h f
 
-  module _ (d : List ℕ) (o : opened font ≡ Ok d) (h : flavored (asked font.extras (table_in font.bytes d)) ≡ Ok Cff) where
+  module _ (d : List ℕ) (o : opened font ≡ Ok d) (h : flavored (requested font.extras (table_in font.bytes d)) ≡ Ok Cff) where
     kind : flavor font ≡ Some Cff
     kind = has_flavor font d Cff o h
 
-    pub cff_answered : (out : List ℕ) → IsBytes font.bytes → 1 ≤ depth → slice_get glyphs 0 ≡ Some 0 → length glyphs ≤ 65535 → IsWithoutRepeats glyphs → cff_file (asked font.extras (table_in font.bytes d)) tokens depth glyphs ≡ Ok out → IsAnswer tokens depth font glyphs out
+    pub cff_answered : (out : List ℕ) → IsBytes font.bytes → 1 ≤ depth → slice_get glyphs 0 ≡ Some 0 → length glyphs ≤ 65535 → IsWithoutRepeats glyphs → cff_file (requested font.extras (table_in font.bytes d)) tokens depth glyphs ≡ Ok out → IsAnswer tokens depth font glyphs out
     cff_answered out bytes deep first few once a =
         let b : cff_file (table font) tokens depth glyphs ≡ Ok out = subst (λ (find : List ℕ → Option (List ℕ)). cff_file find tokens depth glyphs ≡ Ok out) (find_is font d o) a in
         is_cff_subset tokens depth font glyphs out bytes deep (some_given glyphs first) few once kind (λ e. opened_clean font d Cff e o h) b
 
-    cff_stands : (e : Error) → IsWithoutRepeats glyphs → cff_file (asked font.extras (table_in font.bytes d)) tokens depth glyphs ≡ Err e → HasFault tokens depth font glyphs glyphs e
+    cff_stands : (e : Error) → IsWithoutRepeats glyphs → cff_file (requested font.extras (table_in font.bytes d)) tokens depth glyphs ≡ Err e → HasFault tokens depth font glyphs glyphs e
     cff_stands e once r =
         cff_has_fault tokens depth font glyphs kind (has_cff (table font (codes "glyf")) (table font (codes "CFF ")) kind) once e (subst (λ (find : List ℕ → Option (List ℕ)). cff_file find tokens depth glyphs ≡ Err e) (find_is font d o) r)
 
-    pub cff_refused : (e : Error) → IsWithoutRepeats glyphs → cff_file (asked font.extras (table_in font.bytes d)) tokens depth glyphs ≡ Err e → (e ≡ OutOfMemory) ⊎ StandsWithin bound tokens depth font glyphs e
+    pub cff_refused : (e : Error) → IsWithoutRepeats glyphs → cff_file (requested font.extras (table_in font.bytes d)) tokens depth glyphs ≡ Err e → (e ≡ OutOfMemory) ⊎ StandsWithin bound tokens depth font glyphs e
     cff_refused e once r = inr (glyphs, in_font (cff_stands e once r))
 
-    pub cff_no_answer : (e : Error) → IsWithoutRepeats glyphs → cff_file (asked font.extras (table_in font.bytes d)) tokens depth glyphs ≡ Err e → (e ≡ OutOfMemory) ⊎ HasNoAnswerWithin bound tokens depth font glyphs
+    pub cff_no_answer : (e : Error) → IsWithoutRepeats glyphs → cff_file (requested font.extras (table_in font.bytes d)) tokens depth glyphs ≡ Err e → (e ≡ OutOfMemory) ⊎ HasNoAnswerWithin bound tokens depth font glyphs
     cff_no_answer e once r = inr (λ out within a. no_charstrings tokens depth font glyphs e kind (cff_stands e once r) out a)
 
-    long : IsTooLong bound length (cff_file (asked font.extras (table_in font.bytes d)) tokens depth glyphs) → IsBeyond bound tokens depth font glyphs
+    long : IsTooLong bound length (cff_file (requested font.extras (table_in font.bytes d)) tokens depth glyphs) → IsBeyond bound tokens depth font glyphs
     long p = is_beyond tokens depth font glyphs kind bound (subst (λ (find : List ℕ → Option (List ℕ)). IsTooLong bound length (cff_file find tokens depth glyphs)) (find_is font d o) p)
 
-    pub cff_long : IsTooLong bound length (cff_file (asked font.extras (table_in font.bytes d)) tokens depth glyphs) → (OverflowError ≡ OutOfMemory) ⊎ StandsWithin bound tokens depth font glyphs OverflowError
+    pub cff_long : IsTooLong bound length (cff_file (requested font.extras (table_in font.bytes d)) tokens depth glyphs) → (OverflowError ≡ OutOfMemory) ⊎ StandsWithin bound tokens depth font glyphs OverflowError
     cff_long p = inr (glyphs, beyond (long p))
 
-    pub cff_long_no_answer : IsTooLong bound length (cff_file (asked font.extras (table_in font.bytes d)) tokens depth glyphs) → (OverflowError ≡ OutOfMemory) ⊎ HasNoAnswerWithin bound tokens depth font glyphs
+    pub cff_long_no_answer : IsTooLong bound length (cff_file (requested font.extras (table_in font.bytes d)) tokens depth glyphs) → (OverflowError ≡ OutOfMemory) ⊎ HasNoAnswerWithin bound tokens depth font glyphs
     cff_long_no_answer p = inr (none_within bound tokens depth font glyphs (long p))
 
     pub cff_opening_clean : (e : Error) → HasOpeningFault font e → ⊥

@@ -11,7 +11,7 @@ use Rattle.subsetter_sfnt.specs.declared.flavor.FontFlavor.TheVariants.{TrueType
 use Rattle.subsetter_sfnt.specs.Extras.{by_hinting, by_names, by_glyph_names}
 use Rattle.subsetter_sfnt.specs.Read.{Font, as_font, table, flavor}
 use Rattle.subsetter_sfnt.specs.Written.{Table, fits, file, start_of, kind_word}
-use Rattle.subsetter.specs.Glyf.Bare.{bare, parts_asked}
+use Rattle.subsetter.specs.Glyf.Bare.{bare, requested_parts}
 use Rattle.subsetter.specs.Glyf.Instructions.{AreBare, IsBare, HasNoInstructions}
 use Rattle.subsetter.specs.Glyf.Parts.{Parts, outline_parts, parts_bytes}
 use Rattle.subsetter.specs.Glyf.Plain.{renumbered}
@@ -59,7 +59,7 @@ module _ (font : Font) (off : font.extras.hinting ≡ false) where
 -- ---- outlines
 
 -- parts that are asked for without their instructions
-bare_of : (hint : Bool) (o : Option Parts) (p : Parts) → hint ≡ false → parts_asked hint o ≡ Some p → (q : Parts) × (o ≡ Some q) × (bare q ≡ p)
+bare_of : (hint : Bool) (o : Option Parts) (p : Parts) → hint ≡ false → requested_parts hint o ≡ Some p → (q : Parts) × (o ≡ Some q) × (bare q ≡ p)
 bare_of true o p off h = absurd cc
 bare_of false o p off h = map_some bare o p h
 

@@ -3,7 +3,7 @@ use Rattle.std.proofs.Common.{◌≡◌, ℕ, ◌<◌, List, [], ◌∷◌, ◌+
 use Rattle.std.specs.Prelude.{Contains}
 use Rattle.std.specs.Option.{option_and_then}
 use Rattle.std.proofs.lemmas.List.{append-nil, get_or_append_left, get_or_at, get_or_default, length-append}
-use Rattle.subsetter_base.specs.Places.{place, IsWithoutRepeats}
+use Rattle.subsetter_base.specs.Indexes.{index_of, IsWithoutRepeats}
 use Rattle.subsetter_base.proofs.Options.{just_is, some_not_none}
 use Rattle.subsetter_base.proofs.Results.{done_is}
 use Rattle.subsetter_sfnt.specs.declared.flavor.FontFlavor.{FontFlavor}
@@ -28,8 +28,8 @@ no_more glyphs (o ∷ os) order is once members =
     let at : get_or order (length glyphs) 0 ≡ o = ap (λ (l : List ℕ). get_or l (length glyphs) 0) is ∙ get_or_at glyphs o os 0 (length glyphs) refl in
     let c = members o (length glyphs, long, get_or_default order (length glyphs) o 0 long ∙ at) in
     let front : get_or order c.0 0 ≡ o = ap (λ (l : List ℕ). get_or l c.0 0) is ∙ get_or_append_left glyphs (o ∷ os) 0 c.0 c.1 ∙ get_or_default glyphs c.0 0 o c.1 ∙ c.2 in
-    let first : place order o ≡ Some c.0 = ap (place order) (sym front) ∙ once c.0 (omega (arith, c.1, long)) in
-    let second : place order o ≡ Some (length glyphs) = ap (place order) (sym at) ∙ once (length glyphs) long in
+    let first : index_of order o ≡ Some c.0 = ap (index_of order) (sym front) ∙ once c.0 (omega (arith, c.1, long)) in
+    let second : index_of order o ≡ Some (length glyphs) = ap (index_of order) (sym at) ∙ once (length glyphs) long in
     absurd (omega (arith, c.1, just_is c.0 (length glyphs) (sym first ∙ second)))
 
 module _ (font : Font) (glyphs : List ℕ) where

@@ -17,14 +17,14 @@
 ghost use Rattle.std.specs.Prelude.{◌≡◌, ◌+◌, ◌<◌, ◌≤◌, ◌^◌, ◌||◌, true, false, if◌then◌else◌, [], ◌++◌, ◌⊎◌, length, map, IfOk, IfErr, IfSome, OnOk, Ok, Err};
 ghost use Rattle.std.specs.Option.{option_copied};
 ghost use Rattle.subsetter_base.specs.Gives.{Gives, Fails};
-ghost use Rattle.subsetter_base.specs.Places.{IsWithoutRepeats};
+ghost use Rattle.subsetter_base.specs.Indexes.{IsWithoutRepeats};
 ghost use Rattle.subsetter.specs.Glyf.Closure.{first_byte_in, AreFound, EndsWith, IsTaken, components_in, others_in, LacksParts, IsFaulty, IsFull, IsVisited, StopsClosure, Finds};
 ghost use Rattle.subsetter_sfnt.specs.FontAt.{tables_of};
 ghost use Rattle.subsetter.specs.Glyf.Read.{offset, outline_in};
 ghost use Rattle.subsetter.specs.Glyf.View.{seen};
 ghost use Rattle.subsetter.specs.Glyf.Plain.{outlines_read, kept_outlines, with_outlines};
 ghost use Rattle.subsetter.specs.Glyf.Reach.{IsGlyphOrderBy};
-ghost use Rattle.subsetter.specs.Glyf.Size.{asked_size, asked_sizes};
+ghost use Rattle.subsetter.specs.Glyf.Size.{requested_size, requested_sizes};
 ghost use Rattle.subsetter_base.specs.declared.error.Error.TheVariants.{OutOfMemory, MalformedFont, OverflowError};
 
 mod component;
@@ -190,7 +190,7 @@ fn follow(
 ) -> Result<Count, Error>
     requires { first ≡ first_byte_in (option_copied outline) }
     ensures ok { OnOk result (waiting.new.items ≡ waiting.old.items ++ others_in order.now (components_in (option_copied outline.entry))) }
-    ensures size { IfOk result (λ n. n.cut ≡ false → n.bytes ≤ asked_size hinting (option_copied outline.entry)) }
+    ensures size { IfOk result (λ n. n.cut ≡ false → n.bytes ≤ requested_size hinting (option_copied outline.entry)) }
     ensures cut { IfOk result (λ n. n.cut ≡ true → LacksParts (option_copied outline.entry)) }
     ensures err { IfErr result (λ e. (e ≡ OutOfMemory) ⊎ ((e ≡ MalformedFont) × LacksParts (option_copied outline.entry))) }
 {
@@ -217,7 +217,7 @@ fn visit<'a>(
     requires { AreFound (seen table.now) order.old outlines.old.items }
     ensures ok { OnOk result (IsVisited (seen table.now) order.old waiting.old.items glyph order.new waiting.new.items) }
     ensures found { OnOk result (AreFound (seen table.now) order.new outlines.new.items) }
-    ensures size { IfOk result (λ n. n.cut ≡ false → n.bytes + asked_sizes table.now.hinting (outline_in (seen table.now)) order.old ≤ asked_sizes table.now.hinting (outline_in (seen table.now)) order.new) }
+    ensures size { IfOk result (λ n. n.cut ≡ false → n.bytes + requested_sizes table.now.hinting (outline_in (seen table.now)) order.old ≤ requested_sizes table.now.hinting (outline_in (seen table.now)) order.new) }
     ensures cut { IfOk result (λ n. n.cut ≡ true → IsFaulty (seen table.now) glyph) }
     ensures err { IfErr result (λ e. (e ≡ OutOfMemory) ⊎ (((e ≡ MalformedFont) × IsFaulty (seen table.now) glyph) ⊎ ((e ≡ OverflowError) × IsFull order.old glyph))) }
 {

@@ -103,7 +103,7 @@ pub struct NewMetrics<'a> {
     /// The source's `hhea`.
     header: &'a [u8],
     metrics: Vec<LongHorMetric>,
-    pairs: u16,
+    number_of_h_metrics: u16,
 }
 
 impl<'a> Model for NewMetrics<'a> {
@@ -112,11 +112,11 @@ impl<'a> Model for NewMetrics<'a> {
 
     ghost Value = { MetricBytes };
 
-    ghost view = { λ m. record { hhea = hhea_bytes m.pairs m.header.now; hmtx = hmtx_bytes m.pairs m.metrics.items } };
+    ghost view = { λ m. record { hhea = hhea_bytes m.number_of_h_metrics m.header.now; hmtx = hmtx_bytes m.number_of_h_metrics m.metrics.items } };
 
     ghost invariant = { λ m. record {
       whole : 36 ≤ length m.header.now;
-      within : m.pairs ≤ length m.metrics.items;
+      within : m.number_of_h_metrics ≤ length m.metrics.items;
       few : length m.metrics.items < 2 ^ 16;
     } };
 }
@@ -133,7 +133,7 @@ impl<'a> NewMetrics<'a> {
     pub fn hmtx_len(&self) -> usize
         ensures { result ≡ length self.now.hmtx }
     {
-        2 * self.metrics.len() + 2 * usize::from(self.pairs)
+        2 * self.metrics.len() + 2 * usize::from(self.number_of_h_metrics)
     }
 
     /// Writes `hhea`.
@@ -145,7 +145,7 @@ impl<'a> NewMetrics<'a> {
     {
         let header = self.header;
         put(out, &header[..NUMBER_OF_H_METRICS]);
-        put(out, &self.pairs.to_be_bytes());
+        put(out, &self.number_of_h_metrics.to_be_bytes());
         put(out, &header[HHEA_SIZE..]);
     }
 
@@ -156,7 +156,7 @@ impl<'a> NewMetrics<'a> {
         ensures items { out.new.items ≡ out.old.items ++ self.now.hmtx }
         ensures capacity { vec_capacity out.old ≤ vec_capacity out.new }
     {
-        let (pairs, bearings) = self.metrics.split_at(usize::from(self.pairs));
+        let (pairs, bearings) = self.metrics.split_at(usize::from(self.number_of_h_metrics));
         write_pairs(out, pairs);
         write_bearings(out, bearings);
     }
@@ -179,7 +179,7 @@ fn tables<'a>(
     Ok(NewMetrics {
         header,
         metrics,
-        pairs,
+        number_of_h_metrics: pairs,
     })
 }
 

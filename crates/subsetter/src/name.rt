@@ -14,7 +14,7 @@ ghost use Rattle.std.specs.Prelude.{ℕ, List, nat_le, ◌&&◌, ◌≡◌, ◌+
 ghost use Rattle.std.specs.Option.{option_copied, option_map, ok_or};
 ghost use Rattle.subsetter_base.specs.Gives.{Gives, Fails};
 ghost use Rattle.subsetter_base.specs.declared.error.Error.TheVariants.{OutOfMemory};
-ghost use Rattle.subsetter.specs.Name.Read.{name_parts, is_kept_record, among, with_string, string_place, joined};
+ghost use Rattle.subsetter.specs.Name.Read.{name_parts, is_kept_record, among, with_string, string_offset, joined};
 ghost use Rattle.subsetter_sfnt.specs.Fields.Name.{name_record_bytes};
 ghost use Rattle.subsetter.specs.Name.Plain.{placed, placed_string, name_of_table, new_name, header_bytes, laid_behind, few_laid, laid_bytes, kept_bytes};
 ghost use Rattle.subsetter.specs.Name.View.{nows, seen_parts, seen_table, name_seen};
@@ -54,7 +54,7 @@ impl<'a> Model for Strings<'a> {
     ghost use Rattle.std.specs.Prelude.{◌≡◌, ◌<◌, ◌^◌, ℕ, List, length, take, false, Some, None, if◌then◌else◌};
     ghost use Rattle.std.specs.HashMap.{get};
     ghost use Rattle.std.specs.Str.{bytes_eq};
-    ghost use Rattle.subsetter.specs.Name.Read.{among, string_place, joined};
+    ghost use Rattle.subsetter.specs.Name.Read.{among, string_offset, joined};
     ghost use Rattle.subsetter.specs.Name.View.{nows};
 
     ghost Value = { List (List ℕ) };
@@ -62,16 +62,16 @@ impl<'a> Model for Strings<'a> {
     ghost view = { λ s. nows s.strings.items };
 
     ghost invariant = { λ s. record {
-      hashed_are : (q : List ℕ) → among (take 32 (nows s.strings.items)) q ≡ false → get bytes_eq s.hashed q ≡ (if among (nows s.strings.items) q then Some (string_place (nows s.strings.items) q) else None);
+      hashed_are : (q : List ℕ) → among (take 32 (nows s.strings.items)) q ≡ false → get bytes_eq s.hashed q ≡ (if among (nows s.strings.items) q then Some (string_offset (nows s.strings.items) q) else None);
       size_is : s.size ≡ length (joined (nows s.strings.items));
       fits : s.size < 2 ^ 64;
     } };
 }
 
 /// Where a string begins among some that stand one after another.
-fn linear_place(strings: &[&[u8]], string: &[u8]) -> Option<usize>
+fn linear_offset(strings: &[&[u8]], string: &[u8]) -> Option<usize>
     requires { length (joined (nows strings.now)) < 2 ^ 64 }
-    ensures { result ≡ (if among (nows strings.now) string.now then Some (string_place (nows strings.now) string.now) else None) }
+    ensures { result ≡ (if among (nows strings.now) string.now then Some (string_offset (nows strings.now) string.now) else None) }
 {
     let mut place: usize = 0;
     for known in strings {
@@ -116,13 +116,13 @@ impl<'a> Strings<'a> {
 
     /// Where a string begins, in bytes, if it is there.
     fn find(&self, string: &[u8]) -> Option<usize>
-        ensures { result ≡ (if among self.now string.now then Some (string_place self.now string.now) else None) }
+        ensures { result ≡ (if among self.now string.now then Some (string_offset self.now string.now) else None) }
     {
         let strings = self.strings.as_slice();
         if strings.len() <= LINEAR_MAX {
-            return linear_place(strings, string);
+            return linear_offset(strings, string);
         }
-        match linear_place(&strings[..LINEAR_MAX], string) {
+        match linear_offset(&strings[..LINEAR_MAX], string) {
             Some(place) => Some(place),
             None => match self.hashed.get(&Text::new(string)) {
                 Some(place) => Some(usize::from(*place)),
@@ -134,7 +134,7 @@ impl<'a> Strings<'a> {
     /// Puts a new string last.
     fn add(&mut self, string: &'a [u8], place: u16) -> Result<(), Error>
         requires new { among self.old string.now ≡ false }
-        requires place { place ≡ length (joined self.old) }
+        requires offset { place ≡ length (joined self.old) }
         ensures ok { OnOk result (self.new ≡ with_string self.old string.now) }
         ensures err { IfErr result (λ e. e ≡ OutOfMemory) }
     {
@@ -146,8 +146,8 @@ impl<'a> Strings<'a> {
     }
 
     /// Where a string begins, in bytes; a new one goes last. A place past 65535 is `SubsetError`.
-    fn place(&mut self, string: &'a [u8]) -> Result<u16, Error>
-        ensures place { Gives (λ at. at) result (placed_string self.old string.now) }
+    fn offset_of(&mut self, string: &'a [u8]) -> Result<u16, Error>
+        ensures offset { Gives (λ at. at) result (placed_string self.old string.now) }
         ensures list { OnOk result (self.new ≡ with_string self.old string.now) }
     {
         let found = self.find(string);
@@ -318,7 +318,7 @@ fn collect_names<'a>(
     for record in table.records.iter() {
         if is_kept(&record) {
             let string = record.string(table.storage).ok_or(Error::SubsetError)?;
-            let string_offset = strings.place(string)?;
+            let string_offset = strings.offset_of(string)?;
             front.write(&NameRecord {
                 string_offset,
                 ..record

@@ -250,7 +250,7 @@ fn mark_of(is_dense: bool, number: usize) -> (usize, usize)
 }
 
 /// The bytes from a place on.
-fn from_place(bytes: &[u8], at: usize) -> &[u8]
+fn from_offset(bytes: &[u8], at: usize) -> &[u8]
     requires { at ≤ length bytes.now }
     ensures { result.now ≡ drop at bytes.now }
 {
@@ -319,7 +319,7 @@ impl<'a> NameList<'a> {
         let (place, count) = mark_of(self.is_dense, number);
         match self.marks.get(place) {
             Some(mark) => Mark {
-                bytes: from_place(self.all, *mark as usize),
+                bytes: from_offset(self.all, *mark as usize),
                 count,
             },
             None => Mark {

@@ -28,7 +28,7 @@ use Rattle.subsetter.specs.Subset.{KeepsShared, KeepsFont, by_charstrings, IsSub
 use Rattle.subsetter.proofs.SharedLaws.Kept.{keeps_shared}
 use Rattle.subsetter.proofs.SharedLaws.Steps.{shared_steps}
 use Rattle.subsetter.proofs.CffLaws.Fault.{is_cff_subset}
-use Rattle.subsetter_again.specs.Again.{asked_less}
+use Rattle.subsetter_again.specs.Again.{requests_less}
 use Rattle.subsetter_again.specs.CidKeyed.{IsCidKeyed}
 use Rattle.subsetter_again.proofs.Basics.{one_found}
 use Rattle.subsetter_again.proofs.ByKind.{IsCharStringSubset}
@@ -50,20 +50,20 @@ unknown_charstring tokens depth font glyphs out more order g x among past =
     let d = x.drawn in
     faults.in_cff d.copy (charstring_flavor tokens depth font glyphs out x) d.copy_is (in_glyph d.kept.copy g d.kept.copy_is among (unknown_is_fault d.kept.source d.kept.copy tokens depth g x.order d.kept.kept past))
 
-module _ (n g : Bool) (tokens depth : ℕ) (font : Font) (glyphs out more again : List ℕ) (first : IsCharStringSubset tokens depth font glyphs out) (second : IsCharStringSubset tokens depth (asked_less n g (as_font out)) more again) where
+module _ (n g : Bool) (tokens depth : ℕ) (font : Font) (glyphs out more again : List ℕ) (first : IsCharStringSubset tokens depth font glyphs out) (second : IsCharStringSubset tokens depth (requests_less n g (as_font out)) more again) where
   -- the second source is the first copy
   same_copy : IsSubsetTable first.drawn.copy tokens depth second.order second.drawn.copy
   same_copy =
       subst (λ b. IsSubsetTable b tokens depth second.order second.drawn.copy)
       (one_found (table (as_font out) (codes "CFF ")) second.drawn.source first.drawn.copy (sym (other_table n g (as_font out) (codes "CFF ") refl refl) ∙ second.drawn.source_is) first.drawn.copy_is) second.drawn.kept
 
-  drawn : AreGlyphs first.order second.order × KeepsCharStrings tokens depth (asked_less n g font) (composed first.order second.order) (as_font again)
+  drawn : AreGlyphs first.order second.order × KeepsCharStrings tokens depth (requests_less n g font) (composed first.order second.order) (as_font again)
   drawn =
       let k = tables_compose first.drawn.source first.drawn.copy second.drawn.copy tokens depth first.order second.order first.drawn.kept same_copy in
       (k.0, record { source = first.drawn.source; source_is = other_table n g font (codes "CFF ") refl refl ∙ first.drawn.source_is; copy = second.drawn.copy; copy_is = second.drawn.copy_is; kept = k.1 })
 
   given : second.order ≡ more
-  given = only_given (asked_less n g (as_font out)) more second.order second.kind_is second.is_order
+  given = only_given (requests_less n g (as_font out)) more second.order second.kind_is second.is_order
 
   -- all glyphs in order keep their charstrings
   same_char_strings : AreAll (length first.order) more → HaveSameCharStrings first.drawn.copy second.drawn.copy
@@ -74,15 +74,15 @@ charstrings_same tokens depth font glyphs out all again x a y = same_char_string
 
 -- ---- a subset of a subset is a subset of the first font, also where less is asked for
 
-module _ (n g : Bool) (tokens depth : ℕ) (font : Font) (glyphs out more again : List ℕ) (bytes : IsBytes font.bytes) (deep : 1 ≤ depth) (first : IsCharStringSubset tokens depth font glyphs out) (second : IsCharStringSubset tokens depth (asked_less n g (as_font out)) more again) (some : 1 ≤ length more) where
+module _ (n g : Bool) (tokens depth : ℕ) (font : Font) (glyphs out more again : List ℕ) (bytes : IsBytes font.bytes) (deep : 1 ≤ depth) (first : IsCharStringSubset tokens depth font glyphs out) (second : IsCharStringSubset tokens depth (requests_less n g (as_font out)) more again) (some : 1 ≤ length more) where
   abbrev order : List ℕ
   order = composed first.order second.order
 
   abbrev source : Font
-  source = asked_less n g font
+  source = requests_less n g font
 
   abbrev middle : Font
-  middle = asked_less n g (as_font out)
+  middle = requests_less n g (as_font out)
 
   kind_is : flavor source ≡ Some Cff
   kind_is = flavor_less n g font ∙ first.kind_is

@@ -6,7 +6,7 @@ use Rattle.std.specs.Str.{bytes_eq}
 use Rattle.subsetter_base.specs.Bytes.{IsBytes}
 use Rattle.subsetter_cff.specs.Read.Cff.{cff_parts}
 use Rattle.subsetter_cff.specs.Write.Plain.{cff_subset}
-use Rattle.subsetter_cff.specs.Write.Again.{composed, AreGlyphs, IsAsked}
+use Rattle.subsetter_cff.specs.Write.Again.{composed, AreGlyphs, IsRequested}
 use Rattle.subsetter_cff.proofs.WriteLaws.AgainLaws.Tables.{is_same_table}
 use Rattle.subsetter_sfnt.specs.declared.flavor.FontFlavor.TheVariants.{Cff}
 use Rattle.subsetter_sfnt.specs.Read.{Font, as_font, table}
@@ -17,7 +17,7 @@ use Rattle.subsetter.specs.Shared.Plain.{shared_of}
 use Rattle.subsetter.specs.Cff.Plain.{made_of, cff_tables}
 use Rattle.subsetter_sfnt.proofs.Laws.Rows.{AreAlike, same_tags}
 use Rattle.subsetter.proofs.SharedLaws.Steps.{head_there, maxp_there, metrics_there, name_there, post_there}
-use Rattle.subsetter_again.specs.Again.{asked_less}
+use Rattle.subsetter_again.specs.Again.{requests_less}
 use Rattle.subsetter_again.specs.CidKeyed.{IsCidKeyed}
 use Rattle.subsetter_again.proofs.Basics.{one_found}
 use Rattle.subsetter_again.proofs.ByKind.{IsCharStringSubset}
@@ -63,10 +63,10 @@ module _ (tokens depth : ℕ) (font : Font) (glyphs out : List ℕ) (bytes : IsB
   -- also where less is asked for
   module _ (n g : Bool) where
     abbrev middle : Font
-    middle = asked_less n g (as_font out)
+    middle = requests_less n g (as_font out)
 
     abbrev source : Font
-    source = asked_less n g font
+    source = requests_less n g font
 
     there_less : (tag : List ℕ) → bytes_eq tag (codes "name") ≡ false → bytes_eq tag (codes "post") ≡ false → is_some (table (as_font out) tag) ≡ is_some (table font tag) → is_some (table middle tag) ≡ is_some (table source tag)
     there_less tag h k same =
@@ -111,16 +111,16 @@ module _ (tokens depth : ℕ) (font : Font) (glyphs out : List ℕ) (bytes : IsB
     at = picked_at first.order second (each_of (length first.order) second inside)
 
     module _ (n g : Bool) where
-      pub shared_same : shared_of (table (asked_less n g (as_font out))) Cff false second ≡ shared_of (table (asked_less n g font)) Cff false (composed first.order second)
+      pub shared_same : shared_of (table (requests_less n g (as_font out))) Cff false second ≡ shared_of (table (requests_less n g font)) Cff false (composed first.order second)
       shared_same =
           shared_again font (as_font out) bytes Cff false first.order second (composed first.order second) (laid_out.word tokens depth font glyphs out first) (laid_out.m tokens depth font glyphs out first).shared (laid_out.s tokens depth font glyphs out first).shared
           (laid_out.shared_back tokens depth font glyphs out first) some first.few at n g false
 
       -- the same tables, or the same refusal, where the first font is CID-keyed
       pub tables_same : 1 ≤ depth → 1 ≤ length first.order → IsCidKeyed font
-          → cff_tables (table (asked_less n g (as_font out))) (laid_out.m tokens depth font glyphs out first).cff tokens depth second ≡ cff_tables (table (asked_less n g font)) first.source tokens depth (composed first.order second)
+          → cff_tables (table (requests_less n g (as_font out))) (laid_out.m tokens depth font glyphs out first).cff tokens depth second ≡ cff_tables (table (requests_less n g font)) first.source tokens depth (composed first.order second)
       tables_same deep one cid =
           let source : cid.bytes ≡ first.source = one_found (table font (codes "CFF ")) _ _ cid.bytes_are first.source_is in
-          let asked : IsAsked depth first.order = record { deep = deep; some = one; few = omega (arith, first.few) } in
+          let asked : IsRequested depth first.order = record { deep = deep; some = one; few = omega (arith, first.few) } in
           let cff = is_same_table first.source cid.cff tokens depth first.order second (laid_out.m tokens depth font glyphs out first).cff asked (ap cff_parts (sym source) ∙ cid.cff_is) cid.keyed (laid_out.s tokens depth font glyphs out first).cff_is inside in
-          tables_by (table (asked_less n g font)) (table (asked_less n g (as_font out))) first.source (laid_out.m tokens depth font glyphs out first).cff tokens depth (composed first.order second) second cff shared_same
+          tables_by (table (requests_less n g font)) (table (requests_less n g (as_font out))) first.source (laid_out.m tokens depth font glyphs out first).cff tokens depth (composed first.order second) second cff shared_same

@@ -2,7 +2,7 @@
 use Rattle.std.proofs.Common.{◌≡◌, ℕ, zero, suc, ◌<◌, List, [], ◌∷◌, length, get_or, Some, None, sym, subst, ◌∙◌, arith}
 use Rattle.std.specs.Prelude.{codes, Contains}
 use Rattle.std.specs.List.{AllByRecursion}
-use Rattle.subsetter_base.specs.Places.{IsWithoutRepeats}
+use Rattle.subsetter_base.specs.Indexes.{IsWithoutRepeats}
 use Rattle.subsetter_base.proofs.Options.{some_not_none}
 use Rattle.subsetter_cff.specs.Write.Again.{composed}
 use Rattle.subsetter_sfnt.specs.declared.flavor.FontFlavor.TheVariants.{Cff}

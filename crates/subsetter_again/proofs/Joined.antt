@@ -8,7 +8,7 @@ use Rattle.subsetter_sfnt.specs.declared.flavor.FontFlavor.{FontFlavor}
 use Rattle.subsetter_sfnt.specs.declared.flavor.FontFlavor.TheVariants.{TrueType, Cff}
 use Rattle.subsetter.specs.Fault.{HasFault}
 use Rattle.subsetter_sfnt.specs.Read.{Font, as_font, flavor}
-use Rattle.subsetter_again.specs.Again.{IsTrueTypeOrCidKeyed, KeepsFirst, IsSubsetOfFirst, KeepsCffTable, asked_less, ComposesAfresh, IsComposed, ComposesLessAfresh, IsComposedOfLess, IsKeyedByCids, IsCanonical, KeepsAllCharStrings, HasNoFaultAgain, UnknownIsFault}
+use Rattle.subsetter_again.specs.Again.{IsTrueTypeOrCidKeyed, KeepsFirst, IsSubsetOfFirst, KeepsCffTable, requests_less, ComposesAfresh, IsComposed, ComposesLessAfresh, IsComposedOfLess, IsKeyedByCids, IsCanonical, KeepsAllCharStrings, HasNoFaultAgain, UnknownIsFault}
 use Rattle.subsetter_again.specs.CidKeyed.{IsCidKeyed}
 use Rattle.subsetter_again.proofs.Basics.{one_found}
 use Rattle.subsetter_again.proofs.ByKind.{IsOutlineSubset, IsCharStringSubset, ByKind, with_outlines, with_charstrings, by_kind}
@@ -35,10 +35,10 @@ keeps_first tokens depth font L N M O more again a b x = subst (λ l. KeepsFirst
 
 module _ (n g : Bool) (tokens depth : ℕ) (font : Font) (glyphs out more again : List ℕ) (bytes : IsBytes font.bytes) (deep : 1 ≤ depth) (some : 1 ≤ length more) (L M : List ℕ) (kind last : FontFlavor) where
   abbrev source : Font
-  source = asked_less n g font
+  source = requests_less n g font
 
   abbrev middle : Font
-  middle = asked_less n g (as_font out)
+  middle = requests_less n g (as_font out)
 
   kind_of_outlines : IsOutlineSubset font glyphs out → flavor middle ≡ Some TrueType
   kind_of_outlines x = flavor_less n g (as_font out) ∙ outline_flavor font glyphs out x
@@ -68,11 +68,11 @@ module _ (n g : Bool) (tokens depth : ℕ) (font : Font) (glyphs out more again 
 
 pub is_composed_of_less : IsComposedOfLess
 is_composed_of_less n g tokens depth font glyphs out more again bytes deep some settled first second =
-    whole n g tokens depth font glyphs out more again bytes deep some first.keeps.order second.keeps.order first.keeps.kind second.keeps.kind settled (by_kind tokens depth font glyphs out first) (by_kind tokens depth (asked_less n g (as_font out)) more again second)
+    whole n g tokens depth font glyphs out more again bytes deep some first.keeps.order second.keeps.order first.keeps.kind second.keeps.kind settled (by_kind tokens depth font glyphs out first) (by_kind tokens depth (requests_less n g (as_font out)) more again second)
 
 pub composes_less_afresh : ComposesLessAfresh
 composes_less_afresh n g tokens depth font glyphs out more again bytes deep some first second =
-    afresh n g tokens depth font glyphs out more again bytes deep some first.keeps.order second.keeps.order first.keeps.kind second.keeps.kind (by_kind tokens depth font glyphs out first) (by_kind tokens depth (asked_less n g (as_font out)) more again second)
+    afresh n g tokens depth font glyphs out more again bytes deep some first.keeps.order second.keeps.order first.keeps.kind second.keeps.kind (by_kind tokens depth font glyphs out first) (by_kind tokens depth (requests_less n g (as_font out)) more again second)
 
 -- all that the subset has is asked for
 pub is_composed : IsComposed

@@ -5,7 +5,7 @@ use Rattle.subsetter_base.specs.Bytes.{IsBytes}
 use Rattle.subsetter_sfnt.specs.declared.flavor.FontFlavor.TheVariants.{TrueType}
 use Rattle.subsetter_sfnt.specs.Read.{Font, as_font, table}
 use Rattle.subsetter_sfnt.specs.Written.{Table, with_adjustment, fits, file, start_of, kind_word}
-use Rattle.subsetter.specs.Glyf.Bare.{parts_asked}
+use Rattle.subsetter.specs.Glyf.Bare.{requested_parts}
 use Rattle.subsetter.specs.Glyf.Parts.{Parts, outline_parts, parts_bytes}
 use Rattle.subsetter.specs.Glyf.Plain.{renumbered}
 use Rattle.subsetter.specs.Glyf.Read.{Outlines, outlines, outline_in}
@@ -29,7 +29,7 @@ pub record IsGlyph (t u : Outlines) (order : List ℕ) (i : ℕ) (b : List ℕ) 
   pub bytes : List ℕ
   pub there : outline_in t (get_or order i 0) ≡ Some bytes
   pub parts : Parts
-  pub parts_are : parts_asked t.hinting (outline_parts bytes) ≡ Some parts
+  pub parts_are : requested_parts t.hinting (outline_parts bytes) ≡ Some parts
   pub fit : IsBytes bytes
   pub written : parts_bytes (renumbered order parts) ≡ b
   pub copy_is : outline_in u i ≡ Some (padded u.long b)

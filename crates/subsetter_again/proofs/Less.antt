@@ -12,12 +12,12 @@ use Rattle.subsetter_sfnt.specs.declared.face.FontKind.TheVariants.{Collection, 
 use Rattle.subsetter_sfnt.specs.declared.flavor.FontFlavor.{FontFlavor}
 use Rattle.subsetter_sfnt.specs.declared.flavor.FontFlavor.TheVariants.{TrueType, Cff}
 use Rattle.subsetter_sfnt.specs.Extras.{without_glyph_names, by_hinting, by_names, by_glyph_names}
-use Rattle.subsetter_sfnt.specs.Read.{Font, kind_at, header_by_kind, header_place, records_at, records, table_in, stored, table, flavor}
+use Rattle.subsetter_sfnt.specs.Read.{Font, kind_at, header_by_kind, header_offset, records_at, records, table_in, stored, table, flavor}
 use Rattle.subsetter.specs.Glyf.Read.{Outlines, outlines_in, outlines, outline_in}
 use Rattle.subsetter.specs.Glyf.Reach.{IsGlyphOrder, IsGlyphOrderBy}
 use Rattle.subsetter.specs.Name.Plain.{new_name, name_of}
 use Rattle.subsetter.specs.Post.Plain.{new_post, post_of}
-use Rattle.subsetter_again.specs.Again.{asked_less}
+use Rattle.subsetter_again.specs.Again.{requests_less}
 
 -- ---- tables
 
@@ -58,11 +58,11 @@ glyph_names_part false false o = twice o
 
 module _ (n g : Bool) (font : Font) where
   abbrev less : Font
-  less = asked_less n g font
+  less = requests_less n g font
 
   -- the same bytes are found
-  same_place : header_place less ≡ header_place font
-  unfolding header_place
+  same_place : header_offset less ≡ header_offset font
+  unfolding header_offset
   same_place = by (kind_at font.bytes 0)
     where
       by : (o : Option FontKind) → option_and_then (λ k. header_by_kind k less) o ≡ option_and_then (λ k. header_by_kind k font) o

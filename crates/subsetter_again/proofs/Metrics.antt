@@ -70,7 +70,7 @@ module _ (find : List ℕ → Option (List ℕ)) (L M order : List ℕ) (t : Met
   at_most = least_count-le s.metrics
 
   long : 36 ≤ length s.hhea
-  long = number-fits s.hhea 34 2 s.count s.pairs.count_is
+  long = number-fits s.hhea 34 2 s.count s.number_of_h_metrics.count_is
 
   -- the metric at a place of the table that was written
   metric_at_place : (i : ℕ) → i < length L → metric_in hmtx n i ≡ Some (get_or s.metrics i zeros)
@@ -104,7 +104,7 @@ module _ (find : List ℕ → Option (List ℕ)) (L M order : List ℕ) (t : Met
   tables_again =
       let last = number_there hmtx (4 * (n - 1)) 2 (omega (arith, length-hmtx s.metrics n at_most, positive, at_most)) in
       let count = count_there hhea hmtx n last.0 (count_back n s.hhea (omega (arith, at_most, as_many, few)) long) positive last.1 in
-      let source = count_there s.hhea s.hmtx s.count s.pairs.advance s.pairs.count_is (omega (arith, s.pairs.positive)) s.pairs.last in
+      let source = count_there s.hhea s.hmtx s.count s.number_of_h_metrics.advance s.number_of_h_metrics.count_is (omega (arith, s.number_of_h_metrics.positive)) s.number_of_h_metrics.last in
       let k = least_count ms in
       ap (λ r. r >>= λ c. metrics_all hmtx c M >>= whole hhea) count
       ∙ ap (λ r. r >>= whole hhea) by_subset

@@ -7,7 +7,7 @@ use Rattle.std.proofs.lemmas.Bool.{le-leb, eqb-true}
 use Rattle.subsetter_base.specs.Bytes.{IsBytes, range, number, ◌>>=◌}
 use Rattle.subsetter_base.specs.declared.error.Error.TheVariants.{MalformedFont, SubsetError}
 use Rattle.subsetter_sfnt.specs.declared.fields.name.NameRecord.{NameRecord}
-use Rattle.subsetter.specs.Name.Read.{NameTable, name_parts, name_table, is_kept_record, with_string, with_strings, string_place, joined, name_bytes}
+use Rattle.subsetter.specs.Name.Read.{NameTable, name_parts, name_table, is_kept_record, with_string, with_strings, string_offset, joined, name_bytes}
 use Rattle.subsetter_sfnt.specs.Fields.Name.{string_of}
 use Rattle.subsetter.specs.Name.Plain.{Placed, placed_string, with_name, placed, few_names, subset_names, name_of_table, new_name, name_of}
 use Rattle.subsetter_base.proofs.Options.{bind_some}
@@ -37,18 +37,18 @@ pub record PlacedAgain (seen : List (List ℕ)) (p : Placed) : Type 0 where
   pub kept : AllByRecursion IsKept p.names
   pub again : placed (joined p.strings) seen p.names ≡ Ok p
 
-near : (seen : List (List ℕ)) (s : List ℕ) (at : ℕ) → placed_string seen s ≡ Ok at → string_place seen s ≡ at
-near seen s at h = by (ltb (string_place seen s) 65536) h
+near : (seen : List (List ℕ)) (s : List ℕ) (at : ℕ) → placed_string seen s ≡ Ok at → string_offset seen s ≡ at
+near seen s at h = by (ltb (string_offset seen s) 65536) h
   where
-    by : (b : Bool) → cond b (Ok (string_place seen s)) (Err SubsetError) ≡ Ok at → string_place seen s ≡ at
-    by true k = done_is (string_place seen s) at k
+    by : (b : Bool) → cond b (Ok (string_offset seen s)) (Err SubsetError) ≡ Ok at → string_offset seen s ≡ at
+    by true k = done_is (string_offset seen s) at k
     by false k = absurd cc
 
 one_again : (storage : List ℕ) (seen : List (List ℕ)) (r : NameRecord) (rs : List NameRecord) (s : List ℕ) (at : ℕ) (q : Placed) → IsKept r → string_of storage r ≡ Some s → placed_string seen s ≡ Ok at → PlacedAs storage (with_string seen s) rs q → PlacedAgain (with_string seen s) q → PlacedAgain seen (with_name r at q)
 one_again storage seen r rs s at q kept h k parts later =
     let size : length s ≡ r.length = (range_found storage r.string_offset r.length s h).long in
     let st = stored seen parts.strings s in
-    let where_is : range (joined q.strings) at r.length ≡ Some s = ap (λ (l : List (List ℕ)). range (joined l) at r.length) parts.all ∙ ap (λ (n : ℕ). range (joined (with_strings (with_string seen s) parts.strings)) n r.length) (sym (near seen s at k)) ∙ ap (range (joined (with_strings (with_string seen s) parts.strings)) (string_place seen s)) (sym size) ∙ st.bytes in
+    let where_is : range (joined q.strings) at r.length ≡ Some s = ap (λ (l : List (List ℕ)). range (joined l) at r.length) parts.all ∙ ap (λ (n : ℕ). range (joined (with_strings (with_string seen s) parts.strings)) n r.length) (sym (near seen s at k)) ∙ ap (range (joined (with_strings (with_string seen s) parts.strings)) (string_offset seen s)) (sym size) ∙ st.bytes in
     record {
       kept = (kept, later.kept);
       again =

@@ -3,7 +3,7 @@ use Rattle.std.proofs.Common.{ℕ, Bool, List, [], ◌∷◌}
 use Rattle.std.specs.Prelude.{map}
 use Rattle.subsetter.specs.Glyf.Parts.{Component, Parts, Empty, Simple, Composite}
 use Rattle.subsetter.specs.Glyf.Plain.{renumbered_component, renumbered}
-use Rattle.subsetter_base.specs.Places.{new_index}
+use Rattle.subsetter_base.specs.Indexes.{new_index}
 use Rattle.subsetter.proofs.GlyfLaws.Unfold.{EachGlyph, padded_parts, components_of}
 
 -- what holds of the new numbers of components holds of them under new numbers

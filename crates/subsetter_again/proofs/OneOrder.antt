@@ -2,7 +2,7 @@
 use Rattle.std.proofs.Common.{◌≡◌, ℕ, ◌+◌, ◌-◌, ◌<◌, List, [], ◌∷◌, ◌++◌, length, get_or, refl, sym, ap, ◌∙◌, arith}
 use Rattle.std.specs.Prelude.{Contains}
 use Rattle.std.proofs.lemmas.List.{append-nil, length-append, get_or_default, get_or_append_left, get_or-append_right}
-use Rattle.subsetter_base.specs.Places.{place, IsWithoutRepeats}
+use Rattle.subsetter_base.specs.Indexes.{index_of, IsWithoutRepeats}
 use Rattle.subsetter_sfnt.specs.Read.{Font}
 use Rattle.subsetter.specs.Glyf.Reach.{IsReachable, given, IsGlyphOrder}
 use Rattle.subsetter_cff.specs.Write.Again.{AreAll}
@@ -25,9 +25,9 @@ module _ (font : Font) (glyphs : List ℕ) (reached : (g : ℕ) → IsReachable 
           let last : get_or order n 0 ≡ x = ap (λ (l : List ℕ). get_or l n 0) e ∙ get_or-append_right glyphs (x ∷ others) n n 0 refl (omega arith) ∙ ap (λ (k : ℕ). get_or (x ∷ others) k 0) gone in
           let c = reached x ((o.members x).0 (n, omega (arith, len), get_or_default order n x 0 (omega (arith, len)) ∙ last)) in
           let before : get_or order c.0 0 ≡ x = ap (λ (l : List ℕ). get_or l c.0 0) e ∙ get_or_append_left glyphs (x ∷ others) 0 c.0 c.1 ∙ get_or_default glyphs c.0 0 x c.1 ∙ c.2 in
-          let one = ap (place order) (sym before) ∙ o.once c.0 (omega (arith, len, c.1)) in
-          let two = ap (place order) (sym last) ∙ o.once n (omega (arith, len)) in
-          let both : c.0 ≡ n = one_found (place order x) c.0 n one two in
+          let one = ap (index_of order) (sym before) ∙ o.once c.0 (omega (arith, len, c.1)) in
+          let two = ap (index_of order) (sym last) ∙ o.once n (omega (arith, len)) in
+          let both : c.0 ≡ n = one_found (index_of order x) c.0 n one two in
           absurd (omega (arith, both, c.1))
 
 -- ---- all glyphs in order

@@ -4,10 +4,10 @@ use Rattle.std.specs.Prelude.{Contains, map}
 use Rattle.std.specs.Option.{unwrap_or}
 use Rattle.std.proofs.lemmas.List.{length-map, get_or-map, get_or_default, map-append}
 use Rattle.subsetter_base.specs.Bytes.{IsBytes}
-use Rattle.subsetter_base.specs.Places.{place, new_index}
+use Rattle.subsetter_base.specs.Indexes.{index_of, new_index}
 use Rattle.subsetter_sfnt.specs.Read.{Font, as_font}
 use Rattle.subsetter.specs.Glyf.Read.{Outlines, outline}
-use Rattle.subsetter.specs.Glyf.Bare.{parts_asked}
+use Rattle.subsetter.specs.Glyf.Bare.{requested_parts}
 use Rattle.subsetter.specs.Glyf.Parts.{component_numbers, outline_parts}
 use Rattle.subsetter.specs.Glyf.Plain.{renumbered}
 use Rattle.subsetter.specs.Glyf.Reach.{IsReachable, given, step, IsGlyphOrder}
@@ -99,8 +99,8 @@ module _ (font : Font) (glyphs out : List ℕ) (bytes : IsBytes font.bytes) (fir
   pub number_composed : (g : ℕ) → IsComposed g → new_index M (new_index L g) ≡ new_index order g
   number_composed g (k, lt, at, is) =
       let by : Option ℕ → ℕ = λ o. unwrap_or o 0 in
-      let a : place M (new_index L g) ≡ Some k = place_at M (new_index L g) k (apart M second.once) lt at in
-      let b : place order g ≡ Some k = place_at order g k apart_order (omega (arith, lt, size)) (nth k lt ∙ ap origin at ∙ is) in
+      let a : index_of M (new_index L g) ≡ Some k = place_at M (new_index L g) k (apart M second.once) lt at in
+      let b : index_of order g ≡ Some k = place_at order g k apart_order (omega (arith, lt, size)) (nth k lt ∙ ap origin at ∙ is) in
       ap by a ∙ sym (ap by b)
 
   -- ---- the order is that of the glyphs which the given ones reach
@@ -136,7 +136,7 @@ module _ (font : Font) (glyphs out : List ℕ) (bytes : IsBytes font.bytes) (fir
       let j = get_or M before.0 0 in
       let k = glyph j (inside before.0 before.1) in
       let same : b ≡ k.bytes = one_found (outline font f) b k.bytes o (ap (outline font) (sym before.2) ∙ source_outline j (inside before.0 before.1)) in
-      let numbers = asked_part_numbers t.hinting b k.parts (ap (λ (l : List ℕ). parts_asked t.hinting (outline_parts l)) same ∙ k.parts_are) in
+      let numbers = asked_part_numbers t.hinting b k.parts (ap (λ (l : List ℕ). requested_parts t.hinting (outline_parts l)) same ∙ k.parts_are) in
       let x = each_among IsComposed (components_of k.parts) g (each_composed before.0 before.1) (subst (λ (l : List ℕ). Contains l g) numbers c) in
       (x.0, x.1, ap origin x.2 ∙ x.3)
 

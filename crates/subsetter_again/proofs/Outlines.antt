@@ -9,10 +9,10 @@ use Rattle.subsetter_base.specs.Bytes.{aligned, IsBytes, ◌>>=◌}
 use Rattle.subsetter_base.specs.declared.error.Error.TheVariants.{MalformedFont, OverflowError}
 use Rattle.subsetter_base.proofs.ByteLemmas.{IsBytes-drop}
 use Rattle.subsetter_base.proofs.Results.{bind_ok, done_is}
-use Rattle.subsetter.specs.Glyf.Bare.{parts_asked}
+use Rattle.subsetter.specs.Glyf.Bare.{requested_parts}
 use Rattle.subsetter.specs.Glyf.Parts.{Component, Parts, Empty, Simple, Composite, outline_parts, parts_bytes, spelled, Chain}
 use Rattle.subsetter.specs.Glyf.Plain.{renumbered_component, renumbered, rewritten, kept, kept_all}
-use Rattle.subsetter_base.specs.Places.{new_index}
+use Rattle.subsetter_base.specs.Indexes.{new_index}
 use Rattle.subsetter.specs.Glyf.Read.{Outlines, outline_in}
 use Rattle.subsetter.specs.Glyf.Unfold.{padded}
 use Rattle.subsetter.specs.Glyf.Written.{even_size, is_long, glyf_bytes, offset_bytes, loca_bytes}
@@ -42,7 +42,7 @@ all_there t order (g ∷ gs) h =
     let rest = all_there t order gs (λ i lt. h (suc i) (omega arith)) in
     (first.0 ∷ rest.0, ap (λ r. r >>= λ x. kept_all t order gs >>= λ y. Ok (x ∷ y)) first.1 ∙ ap (λ r. r >>= λ y. Ok (first.0 ∷ y)) rest.1)
 
-pub kept_is : (t : Outlines) (order : List ℕ) (g : ℕ) (bytes : List ℕ) (p : Parts) → outline_in t g ≡ Some bytes → parts_asked t.hinting (outline_parts bytes) ≡ Some p → kept t order g ≡ Ok (parts_bytes (renumbered order p))
+pub kept_is : (t : Outlines) (order : List ℕ) (g : ℕ) (bytes : List ℕ) (p : Parts) → outline_in t g ≡ Some bytes → requested_parts t.hinting (outline_parts bytes) ≡ Some p → kept t order g ≡ Ok (parts_bytes (renumbered order p))
 unfolding kept rewritten
 kept_is t order g bytes p there parts =
     ap (λ (o : Option (List ℕ)). ok_or o MalformedFont >>= rewritten t.hinting order) there ∙ ap (λ (o : Option Parts). ok_or (option_map (λ q. parts_bytes (renumbered order q)) o) MalformedFont) parts
@@ -83,7 +83,7 @@ length-renumbered a b (Composite head chain) =
 
 -- ---- padding stands behind the parts
 
-pub padded_bytes : (hint long : Bool) (order bytes : List ℕ) (p : Parts) → ((g : ℕ) → new_index order g < 2 ^ 16) → IsBytes bytes → parts_asked hint (outline_parts bytes) ≡ Some p → parts_bytes (padded_parts long (renumbered order p)) ≡ padded long (parts_bytes (renumbered order p))
+pub padded_bytes : (hint long : Bool) (order bytes : List ℕ) (p : Parts) → ((g : ℕ) → new_index order g < 2 ^ 16) → IsBytes bytes → requested_parts hint (outline_parts bytes) ≡ Some p → parts_bytes (padded_parts long (renumbered order p)) ≡ padded long (parts_bytes (renumbered order p))
 padded_bytes hint long order bytes p small fit h = by p (asked_can hint bytes p fit h)
   where
     by : (q : Parts) → CanBeWritten q → parts_bytes (padded_parts long (renumbered order q)) ≡ padded long (parts_bytes (renumbered order q))

@@ -4,7 +4,7 @@ use Rattle.std.specs.Prelude.{map, Contains}
 use Rattle.std.specs.Option.{option_and_then, option_map}
 use Rattle.std.proofs.lemmas.List.{length-drop}
 use Rattle.subsetter_base.proofs.Options.{just, just_is}
-use Rattle.subsetter.specs.Glyf.Bare.{component_asked, bare, parts_asked}
+use Rattle.subsetter.specs.Glyf.Bare.{requested_component, bare, requested_parts}
 use Rattle.subsetter.specs.Glyf.Parts.{Component, Chain, Parts, Empty, Simple, Composite, rest_size, has_more, component_at, with_component, last_component, chain_at, numbers_at, component_numbers, outline_parts}
 use Rattle.subsetter_base.proofs.Options.{bind_some}
 use Rattle.subsetter.proofs.GlyfLaws.Chains.{IsComponent, is_component, chain_none, chain_more}
@@ -61,7 +61,7 @@ part_numbers bytes p h = by (parts_are bytes p h)
         let numbers : numbers_at (length bytes) rest ≡ component_numbers bytes = numbers_enough (length bytes) (length rest) rest (omega (arith, length-drop 10 bytes)) (omega arith) ∙ sym (components_composite bytes is.long is.high) in
         sym numbers ∙ chain_numbers (length bytes) rest chain is.chain_read ∙ ap (λ (r : Parts). numbers_of (components_of r)) (sym q)
 
-bare_numbers : (cs : List Component) → numbers_of cs ≡ numbers_of (map (component_asked false) cs)
+bare_numbers : (cs : List Component) → numbers_of cs ≡ numbers_of (map (requested_component false) cs)
 bare_numbers [] = refl
 bare_numbers (c ∷ cs) = ap (λ (l : List ℕ). c.glyph ∷ l) (bare_numbers cs)
 
@@ -71,7 +71,7 @@ bare_part_numbers (Simple bytes) = refl
 bare_part_numbers (Composite head chain) = bare_numbers chain.components
 
 -- also where instructions aren't asked for
-pub asked_part_numbers : (hint : Bool) (bytes : List ℕ) (p : Parts) → parts_asked hint (outline_parts bytes) ≡ Some p → component_numbers bytes ≡ numbers_of (components_of p)
+pub asked_part_numbers : (hint : Bool) (bytes : List ℕ) (p : Parts) → requested_parts hint (outline_parts bytes) ≡ Some p → component_numbers bytes ≡ numbers_of (components_of p)
 asked_part_numbers true bytes p h = part_numbers bytes p h
 asked_part_numbers false bytes p h = by (outline_parts bytes) refl h
   where

@@ -17,7 +17,7 @@ use Rattle.subsetter.specs.Shared.Plain.{SharedTables, shared_of}
 use Rattle.subsetter_sfnt.proofs.Laws.TableBytes.{table_bytes}
 use Rattle.subsetter.proofs.SharedLaws.Kept.{AreBack}
 use Rattle.subsetter.proofs.SharedLaws.Steps.{SharedSteps, metrics_there}
-use Rattle.subsetter_again.specs.Again.{asked_less}
+use Rattle.subsetter_again.specs.Again.{requests_less}
 use Rattle.subsetter_again.proofs.GlyphNames.{post_of_again, bare_post_again}
 use Rattle.subsetter_again.proofs.Less.{other_table, name_less, post_less}
 use Rattle.subsetter_again.proofs.Metrics.{metrics_again}
@@ -51,31 +51,31 @@ module _ (font out : Font) (bytes : IsBytes font.bytes) (kind : FontFlavor) (lon
 
   -- also where less is asked for
   module _ (n g : Bool) where
-    head_less : (last : Bool) → head_of (table (asked_less n g out)) last ≡ head_of (table (asked_less n g font)) last
+    head_less : (last : Bool) → head_of (table (requests_less n g out)) last ≡ head_of (table (requests_less n g font)) last
     head_less last = ap (λ (o : Option (List ℕ)). head_in o last) (other_table n g out (codes "head") refl refl) ∙ head last ∙ ap (λ (o : Option (List ℕ)). head_in o last) (sym (other_table n g font (codes "head") refl refl))
 
-    metrics_by : (f : Font) (glyphs : List ℕ) → metrics_of (table (asked_less n g f)) glyphs ≡ metrics_of (table f) glyphs
+    metrics_by : (f : Font) (glyphs : List ℕ) → metrics_of (table (requests_less n g f)) glyphs ≡ metrics_of (table f) glyphs
     metrics_by f glyphs =
-        ap (λ (o : Option (List ℕ)). metrics_in o (table (asked_less n g f) (codes "hmtx")) glyphs) (other_table n g f (codes "hhea") refl refl) ∙ ap (λ (o : Option (List ℕ)). metrics_in (table f (codes "hhea")) o glyphs) (other_table n g f (codes "hmtx") refl refl)
+        ap (λ (o : Option (List ℕ)). metrics_in o (table (requests_less n g f) (codes "hmtx")) glyphs) (other_table n g f (codes "hhea") refl refl) ∙ ap (λ (o : Option (List ℕ)). metrics_in (table f (codes "hhea")) o glyphs) (other_table n g f (codes "hmtx") refl refl)
 
-    metrics_less : metrics_of (table (asked_less n g out)) M ≡ metrics_of (table (asked_less n g font)) order
+    metrics_less : metrics_of (table (requests_less n g out)) M ≡ metrics_of (table (requests_less n g font)) order
     metrics_less = metrics_by out M ∙ metrics ∙ sym (metrics_by font order)
 
-    maxp_less : maxp_of (table (asked_less n g out)) kind (length M) ≡ maxp_of (table (asked_less n g font)) kind (length order)
+    maxp_less : maxp_of (table (requests_less n g out)) kind (length M) ≡ maxp_of (table (requests_less n g font)) kind (length order)
     maxp_less = ap (λ (o : Option (List ℕ)). maxp_in o kind (length M)) (other_table n g out (codes "maxp") refl refl) ∙ maxp ∙ ap (λ (o : Option (List ℕ)). maxp_in o kind (length order)) (sym (other_table n g font (codes "maxp") refl refl))
 
-    names_less : name_of (table (asked_less n g out)) ≡ name_of (table (asked_less n g font))
+    names_less : name_of (table (requests_less n g out)) ≡ name_of (table (requests_less n g font))
     names_less = name_less n g out ∙ ap (λ (r : Result (Option (List ℕ)) Error). cond n r (Ok None)) name ∙ sym (name_less n g font)
 
-    posts_less : post_of (table (asked_less n g out)) M ≡ post_of (table (asked_less n g font)) order
+    posts_less : post_of (table (requests_less n g out)) M ≡ post_of (table (requests_less n g font)) order
     posts_less =
         let bare = bare_post_again (table font) (table out) L M order s.post (omega (arith, few)) steps.post_is back.post in
         post_less n g out M ∙ ap (λ (r : Result (Option (List ℕ)) Error). cond g r (new_post (option_map without_glyph_names (table out (codes "post"))) M)) post ∙ ap (λ (r : Result (Option (List ℕ)) Error). cond g (post_of (table font) order) r) bare ∙ sym (post_less n g font order)
 
-    pub shared_again : (last : Bool) → shared_of (table (asked_less n g out)) kind last M ≡ shared_of (table (asked_less n g font)) kind last order
+    pub shared_again : (last : Bool) → shared_of (table (requests_less n g out)) kind last M ≡ shared_of (table (requests_less n g font)) kind last order
     shared_again last =
-        let new = table (asked_less n g out) in
-        let old = table (asked_less n g font) in
+        let new = table (requests_less n g out) in
+        let old = table (requests_less n g font) in
         by_parts new kind last M
         ∙ ap (λ r. shared_by r (metrics_of new M) (maxp_of new kind (length M)) (name_of new) (post_of new M)) (head_less last)
         ∙ ap (λ r. shared_by (head_of old last) r (maxp_of new kind (length M)) (name_of new) (post_of new M)) metrics_less

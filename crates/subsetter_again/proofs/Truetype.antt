@@ -25,7 +25,7 @@ use Rattle.subsetter.proofs.TruetypeLaws.Fault.{no_fault}
 use Rattle.subsetter.proofs.TruetypeLaws.Steps.{made_steps, tables_steps}
 use Rattle.subsetter.proofs.TruetypeLaws.Subset.{made_subset}
 use Rattle.subsetter_cff.specs.Write.Again.{AreAll, composed}
-use Rattle.subsetter_again.specs.Again.{asked_less}
+use Rattle.subsetter_again.specs.Again.{requests_less}
 use Rattle.subsetter_again.proofs.Basics.{one_found, has_parts}
 use Rattle.subsetter_again.proofs.ByKind.{IsOutlineSubset}
 use Rattle.subsetter_again.proofs.Closed.{closed, only_order}
@@ -47,7 +47,7 @@ outline_flavor font glyphs out s = ap (λ b. cond b (Some TrueType) (cond (is_so
 
 -- ---- a subset of a subset is a subset of the first font, also where less is asked for
 
-module _ (n g : Bool) (tokens depth : ℕ) (font : Font) (glyphs out more again : List ℕ) (bytes : IsBytes font.bytes) (first : IsOutlineSubset font glyphs out) (second : IsOutlineSubset (asked_less n g (as_font out)) more again) (some : 1 ≤ length more) where
+module _ (n g : Bool) (tokens depth : ℕ) (font : Font) (glyphs out more again : List ℕ) (bytes : IsBytes font.bytes) (first : IsOutlineSubset font glyphs out) (second : IsOutlineSubset (requests_less n g (as_font out)) more again) (some : 1 ≤ length more) where
   abbrev L : List ℕ
   L = first.order
 
@@ -55,10 +55,10 @@ module _ (n g : Bool) (tokens depth : ℕ) (font : Font) (glyphs out more again 
   M = second.order
 
   abbrev source : Font
-  source = asked_less n g font
+  source = requests_less n g font
 
   abbrev middle : Font
-  middle = asked_less n g (as_font out)
+  middle = requests_less n g (as_font out)
 
   is_order : IsGlyphOrder (as_font out) more M
   is_order = order_less n g (as_font out) more M second.is_order

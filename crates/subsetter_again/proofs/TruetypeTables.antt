@@ -13,7 +13,7 @@ use Rattle.subsetter_sfnt.specs.Rows.{rows, present}
 use Rattle.subsetter_sfnt.specs.Written.{Table}
 use Rattle.subsetter.specs.Glyf.Parts.{parts_bytes}
 use Rattle.subsetter.specs.Glyf.Plain.{renumbered, kept, kept_all}
-use Rattle.subsetter_base.specs.Places.{new_index}
+use Rattle.subsetter_base.specs.Indexes.{new_index}
 use Rattle.subsetter.specs.Glyf.Reach.{IsGlyphOrder}
 use Rattle.subsetter.specs.Glyf.Read.{Outlines}
 use Rattle.subsetter.specs.Glyf.Unfold.{padded}
@@ -22,7 +22,7 @@ use Rattle.subsetter.specs.Shared.Plain.{SharedTables, shared_of, with_shared}
 use Rattle.subsetter.specs.Truetype.Plain.{Made, located, made_of, laid, truetype_tables}
 use Rattle.subsetter.proofs.GlyfLaws.Kept.{length-kept_all}
 use Rattle.subsetter.proofs.GlyfLaws.Unfold.{each_weaker, padded_parts, components_of, small_numbers}
-use Rattle.subsetter_again.specs.Again.{asked_less}
+use Rattle.subsetter_again.specs.Again.{requests_less}
 use Rattle.subsetter_again.proofs.ByKind.{IsOutlineSubset}
 use Rattle.subsetter_again.proofs.Distinct.{apart, sum_some, no_more}
 use Rattle.subsetter_again.proofs.Laid
@@ -133,10 +133,10 @@ module _ (font : Font) (glyphs out : List ℕ) (bytes : IsBytes font.bytes) (fir
 
   module _ (n g : Bool) where
     abbrev back : List ℕ → Option (List ℕ)
-    back = table (asked_less n g (as_font out))
+    back = table (requests_less n g (as_font out))
 
     abbrev find : List ℕ → Option (List ℕ)
-    find = table (asked_less n g font)
+    find = table (requests_less n g font)
 
     shared_same : (last : Bool) → shared_of back TrueType last M ≡ shared_of find TrueType last order
     shared_same = shared_again font (as_font out) bytes TrueType (Laid.long font glyphs out first) L M order (Laid.word font glyphs out first) m.shared (Laid.s font glyphs out first).shared (Laid.shared_back font glyphs out first) some first.few at n g

@@ -38,19 +38,19 @@ IsComposed = (tokens depth : ℕ) (font : Font) (glyphs out more again : List �
     → (first : IsSubset tokens depth font glyphs out) (second : IsSubset tokens depth (as_font out) more again) → IsSubsetOfFirst tokens depth font first.keeps.order more second.keeps.order again
 
 -- a font of which names and glyph names are asked for as before, or less
-abbrev pub asked_less : Bool → Bool → Font → Font
-asked_less names glyph_names font =
+abbrev pub requests_less : Bool → Bool → Font → Font
+requests_less names glyph_names font =
     record { bytes = font.bytes; index = font.index; extras = record { hinting = font.extras.hinting; names = names && font.extras.names; glyph_names = glyph_names && font.extras.glyph_names } }
 
 -- what is left out of a subset of a subset is left out of the first font; so a subset without names of a subset is one of the first font
 -- hinting isn't among it: an outline that had its padding in the first subset keeps it behind what is left out, where the first font's has none
 abbrev pub ComposesLessAfresh : Type 0
 ComposesLessAfresh = (names glyph_names : Bool) (tokens depth : ℕ) (font : Font) (glyphs out more again : List ℕ) → IsBytes font.bytes → 1 ≤ depth → 1 ≤ length more
-    → (first : IsSubset tokens depth font glyphs out) (second : IsSubset tokens depth (asked_less names glyph_names (as_font out)) more again) → KeepsFirst tokens depth (asked_less names glyph_names font) first.keeps.order more second.keeps.order again
+    → (first : IsSubset tokens depth font glyphs out) (second : IsSubset tokens depth (requests_less names glyph_names (as_font out)) more again) → KeepsFirst tokens depth (requests_less names glyph_names font) first.keeps.order more second.keeps.order again
 
 abbrev pub IsComposedOfLess : Type 0
 IsComposedOfLess = (names glyph_names : Bool) (tokens depth : ℕ) (font : Font) (glyphs out more again : List ℕ) → IsBytes font.bytes → 1 ≤ depth → 1 ≤ length more → IsTrueTypeOrCidKeyed font
-    → (first : IsSubset tokens depth font glyphs out) (second : IsSubset tokens depth (asked_less names glyph_names (as_font out)) more again) → IsSubsetOfFirst tokens depth (asked_less names glyph_names font) first.keeps.order more second.keeps.order again
+    → (first : IsSubset tokens depth font glyphs out) (second : IsSubset tokens depth (requests_less names glyph_names (as_font out)) more again) → IsSubsetOfFirst tokens depth (requests_less names glyph_names font) first.keeps.order more second.keeps.order again
 
 -- every subset is TrueType or CID-keyed, so these laws hold from the second subset on
 abbrev pub IsKeyedByCids : Type 0

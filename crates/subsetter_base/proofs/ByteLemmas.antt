@@ -64,14 +64,14 @@ pub range-fits : (bytes part : List ℕ) (at size : ℕ) → range bytes at size
 range-fits bytes p at size e = leb-true _ _ (found (leb (at + size) (length bytes)) (take size (drop at bytes)) p e).0
 
 -- a reading of a value leaves a place that was inside the data inside it
-pub stays_inside : {X : Type 0} (old new : Source) (size : ℕ) (value_of : List ℕ → Option X) (result : Option X) → result ≡ option_and_then value_of (range old.bytes old.place size)
-    → new ≡ (if is_some result then record old { place = old.place + size } else old) → IsInside old → IsInside new
+pub stays_inside : {X : Type 0} (old new : Source) (size : ℕ) (value_of : List ℕ → Option X) (result : Option X) → result ≡ option_and_then value_of (range old.bytes old.offset size)
+    → new ≡ (if is_some result then record old { offset = old.offset + size } else old) → IsInside old → IsInside new
 stays_inside old new size value_of None e moves inside = rw moves inside
-stays_inside {X} old new size value_of (Some x) e moves inside = rw moves (by (range old.bytes old.place size) refl e)
+stays_inside {X} old new size value_of (Some x) e moves inside = rw moves (by (range old.bytes old.offset size) refl e)
   where
-    by : (o : Option (List ℕ)) → range old.bytes old.place size ≡ o → Some x ≡ option_and_then value_of o → old.place + size ≤ length old.bytes
+    by : (o : Option (List ℕ)) → range old.bytes old.offset size ≡ o → Some x ≡ option_and_then value_of o → old.offset + size ≤ length old.bytes
     by None k h = absurd cc
-    by (Some p) k h = range-fits old.bytes p old.place size k
+    by (Some p) k h = range-fits old.bytes p old.offset size k
 
 pub range-length : (bytes part : List ℕ) (at size : ℕ) → range bytes at size ≡ Some part → length part ≡ size
 range-length bytes p at size e =

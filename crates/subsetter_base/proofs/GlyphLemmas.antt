@@ -16,13 +16,13 @@ use Rattle.std.proofs.Math.ListN.{drop_of_length-le}
 use Rattle.std.proofs.lemmas.List.{length_push, get_or_append_left, get_or_push, get_or_default}
 use Rattle.std.proofs.lemmas.Map.Keys.{IsDistinct-from_apart}
 use Rattle.std.proofs.lemmas.Map.Steps.{length-le_from_distinct_below, le-length_from_below}
-use Rattle.subsetter_base.specs.Places.{place, with_glyph, with_glyphs, IsWithoutRepeats, HasAllAboveZero, IsAscending}
+use Rattle.subsetter_base.specs.Indexes.{index_of, with_glyph, with_glyphs, IsWithoutRepeats, HasAllAboveZero, IsAscending}
 use Rattle.subsetter_base.proofs.Options.{some_of, none_of}
 use Rattle.subsetter_base.proofs.PlaceLemmas.{place-push, IsWithoutRepeats-push}
 
 -- the list has the number
 abbrev pub known : List ℕ → ℕ → Bool
-known xs q = is_some (place xs q)
+known xs q = is_some (index_of xs q)
 
 or_false : (b : Bool) → (b || false) ≡ b
 or_false true = refl
@@ -44,9 +44,9 @@ strictly a b le other = elim (cases_lt a b) [ inl lt ↦ lt | inr ge ↦ absurd 
 -- ---- a place, and being there
 
 known-cons : (y : ℕ) (ys : List ℕ) (q : ℕ) → known (y ∷ ys) q ≡ (eqb y q || known ys q)
-known-cons y ys q = elim (eqb y q) as (λ b. is_some (cond b (Some 0) (option_map (λ i. i + 1) (place ys q))) ≡ (b || known ys q)) [
+known-cons y ys q = elim (eqb y q) as (λ b. is_some (cond b (Some 0) (option_map (λ i. i + 1) (index_of ys q))) ≡ (b || known ys q)) [
   | true ↦ refl
-  | false ↦ elim (place ys q) as (λ o. is_some (option_map (λ i. i + 1) o) ≡ is_some o) [ None ↦ refl | Some i ↦ refl ]
+  | false ↦ elim (index_of ys q) as (λ o. is_some (option_map (λ i. i + 1) o) ≡ is_some o) [ None ↦ refl | Some i ↦ refl ]
 ]
 
 found_in : (b : Bool) (o : Option ℕ) (i : ℕ) → cond b (Some 0) (option_map (λ k. k + 1) o) ≡ Some i → ((b ≡ true) × (i ≡ 0)) ⊎ ((k : ℕ) × (o ≡ Some k) × (i ≡ suc k))
@@ -54,16 +54,16 @@ found_in true o i e = inl (refl, cc)
 found_in false None i e = absurd cc
 found_in false (Some k) i e = inr (k, refl, let f : Some (k + 1) ≡ Some i = e in let g : k + 1 ≡ i = cc in omega arith)
 
-pub place-finds : (xs : List ℕ) (q i : ℕ) → place xs q ≡ Some i → (i < length xs) × (get_or xs i 0 ≡ q)
+pub place-finds : (xs : List ℕ) (q i : ℕ) → index_of xs q ≡ Some i → (i < length xs) × (get_or xs i 0 ≡ q)
 place-finds [] q i e = absurd cc
-place-finds (y ∷ ys) q i e = elim (found_in (eqb y q) (place ys q) i e) [
+place-finds (y ∷ ys) q i e = elim (found_in (eqb y q) (index_of ys q) i e) [
   | inl here ↦ rw here.1 (omega arith, eqb-true y q here.0)
   | inr there ↦ let before = place-finds ys q there.0 there.1 in rw there.2 (omega (arith, before.0), before.1)
 ]
 
 pub place-Contains : (xs : List ℕ) (q : ℕ) → known xs q ≡ true → Contains xs q
 place-Contains xs q e =
-    let at = some_of (place xs q) e in
+    let at = some_of (index_of xs q) e in
     let is = place-finds xs q at.0 at.1 in
     (at.0, is.0, get_or_default xs at.0 q 0 is.0 ∙ is.1)
 
@@ -88,8 +88,8 @@ grown false false false h = refl
 
 pushed_known : (xs : List ℕ) (x q : ℕ) → known xs x ≡ false → known (xs ++ x ∷ []) q ≡ (eqb x q || known xs q)
 pushed_known xs x q absent =
-    ap is_some (place-push xs x q (length xs) (none_of (place xs x) absent) refl)
-    ∙ elim (eqb x q) as (λ b. is_some (cond b (Some (length xs)) (place xs q)) ≡ (b || known xs q)) [ true ↦ refl | false ↦ refl ]
+    ap is_some (place-push xs x q (length xs) (none_of (index_of xs x) absent) refl)
+    ∙ elim (eqb x q) as (λ b. is_some (cond b (Some (length xs)) (index_of xs q)) ≡ (b || known xs q)) [ true ↦ refl | false ↦ refl ]
 
 pub known-with_glyph : (xs : List ℕ) (x q : ℕ) → known (with_glyph xs x) q ≡ (known xs q || eqb x q)
 known-with_glyph xs x q = elim (cases_Bool (known xs x)) [
@@ -126,13 +126,13 @@ IsDistinct-places xs once = IsDistinct-from_apart eqb xs (λ i j d below lt.
     let x = get_or_default xs i d 0 (omega arith) in
     let y = get_or_default xs j d 0 lt in
     ne_eqb (get_or xs i d) (get_or xs j d) (λ same.
-    let e : Some i ≡ Some j = sym (once i (omega arith)) ∙ ap (place xs) (sym x ∙ same ∙ y) ∙ once j lt in
+    let e : Some i ≡ Some j = sym (once i (omega arith)) ∙ ap (index_of xs) (sym x ∙ same ∙ y) ∙ once j lt in
     let f : i ≡ j = cc in
     absurd (omega (arith, below, f))))
 
 pub below : (n : ℕ) (xs : List ℕ) → ((i : ℕ) → get_or xs i 0 < n) → (q : ℕ) → list_any (eqb q) xs ≡ true → q < n
 below n xs small q e =
-    let at = some_of (place xs q) (sym (any-is_known xs q) ∙ e) in
+    let at = some_of (index_of xs q) (sym (any-is_known xs q) ∙ e) in
     let is = (place-finds xs q at.0 at.1).1 in
     omega (arith, small at.0, is)
 
@@ -173,8 +173,8 @@ none_left_out xs glyphs i x so_far lt is absent fits full once small y above mos
       let other : eqb x y ≡ false = ne_eqb x y (λ e. false≢true (sym lacking ∙ ap (known glyphs) (sym e ∙ is) ∙ known-at glyphs i 0 lt)) in
       let longer = xs ++ x ∷ [] in
       let unknown : known longer y ≡ false = pushed_known xs x y absent ∙ ap (λ b. b || known xs y) other ∙ not_held in
-      let longer_once = IsWithoutRepeats-push xs x (none_of (place xs x) absent) once in
-      let longest_once = IsWithoutRepeats-push longer y (none_of (place longer y) unknown) longer_once in
+      let longer_once = IsWithoutRepeats-push xs x (none_of (index_of xs x) absent) once in
+      let longest_once = IsWithoutRepeats-push longer y (none_of (index_of longer y) unknown) longer_once in
       let longest_small = small-push 65536 longer y (small-push 65536 xs x small fits) (omega (arith, most)) in
       absurd (omega (arith, full, length_push xs x, length_push longer y, length-le_small 65536 (longer ++ y ∷ []) longest_once longest_small))
 ]

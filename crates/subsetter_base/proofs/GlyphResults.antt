@@ -4,7 +4,7 @@ use Rattle.std.specs.Prelude.{IfOk, IfErr, OnOk}
 use Rattle.std.specs.List.Sorted.{IsPermutation, IsSorted}
 use Rattle.std.specs.Ordering.{nat_cmp}
 use Rattle.std.proofs.lemmas.List.Sorted.{IsPermutation-sym}
-use Rattle.subsetter_base.specs.Places.{with_glyphs, HasAllAboveZero, IsAscending}
+use Rattle.subsetter_base.specs.Indexes.{with_glyphs, HasAllAboveZero, IsAscending}
 use Rattle.subsetter_base.specs.declared.error.Error.{Error}
 use Rattle.subsetter_base.specs.declared.error.Error.TheVariants.{OutOfMemory, OverflowError}
 use Rattle.subsetter_base.proofs.GlyphLemmas.{ascending, HasAllAboveZero-permutation}

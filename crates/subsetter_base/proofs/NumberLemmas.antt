@@ -3,8 +3,8 @@ use Rattle.std.proofs.Common.{◌≡◌, ◌≢◌, ℕ, ◌+◌, ◌-◌, ◌*�
 use Rattle.std.specs.Prelude.{replicate}
 use Rattle.std.proofs.lemmas.Bool.{cases_eq, cases_lt, eqb-true, eqb-false}
 use Rattle.std.proofs.lemmas.List.{length-append, length-replicate, length-set, length_push, get_or-replicate, get_or_past, get_or_append_left, get_or-append_right, get_or-set_same, get_or-set_other}
-use Rattle.subsetter_base.specs.Places.{place}
-use Rattle.subsetter_base.specs.Numbers.{code, entry_place, entry, ArePages, AreNumbers}
+use Rattle.subsetter_base.specs.Indexes.{index_of}
+use Rattle.subsetter_base.specs.Numbers.{code, entry_index, entry, ArePages, AreNumbers}
 use Rattle.subsetter_base.proofs.PlaceLemmas.{place-push}
 
 pub uncode_none : (o : Option ℕ) → 0 ≡ code o → o ≡ None
@@ -38,7 +38,7 @@ no_numbers =
       };
       count = length-replicate {A = ℕ} 1024 0;
       room = omega (arith, long);
-      number = λ q. zero_at 64 (entry_place (zeros 1024) q);
+      number = λ q. zero_at 64 (entry_index (zeros 1024) q);
     }
 
 -- ---- a page is added
@@ -82,52 +82,52 @@ module _ (pages entries : List ℕ) (k p : ℕ) (is : ArePages pages entries) (f
     | inl e ↦
         let page : get_or (set pages k p) (q / 64) 0 ≡ p = ap (λ (i : ℕ). get_or (set pages k p) i 0) e ∙ same in
         let none : get_or pages (q / 64) 0 ≡ 0 = ap (λ (i : ℕ). get_or pages i 0) e ∙ free in
-        let new : entry (set pages k p) (entries ++ zeros 64) q ≡ 0 = get_or-append_right entries (zeros 64) (length entries) (entry_place (set pages k p) q) 0 refl (omega (arith, page, at, is.whole)) ∙ zero_at 64 (entry_place (set pages k p) q - length entries) in
+        let new : entry (set pages k p) (entries ++ zeros 64) q ≡ 0 = get_or-append_right entries (zeros 64) (length entries) (entry_index (set pages k p) q) 0 refl (omega (arith, page, at, is.whole)) ∙ zero_at 64 (entry_index (set pages k p) q - length entries) in
         let old : entry pages entries q ≡ 0 = ap (λ (n : ℕ). get_or entries n 0) (omega (arith, none)) ∙ is.empty (q % 64) (omega arith) in
         new ∙ sym old
     | inr ne ↦
-        ap (λ (n : ℕ). get_or (entries ++ zeros 64) (64 * n + q % 64) 0) (other (q / 64) ne) ∙ get_or_append_left entries (zeros 64) 0 (entry_place pages q) (omega (arith, is.within (q / 64)))
+        ap (λ (n : ℕ). get_or (entries ++ zeros 64) (64 * n + q % 64) 0) (other (q / 64) ne) ∙ get_or_append_left entries (zeros 64) 0 (entry_index pages q) (omega (arith, is.within (q / 64)))
   ]
 
 -- ---- an entry is set
 
 module _ (pages entries : List ℕ) (g v : ℕ) (is : ArePages pages entries) (there : get_or pages (g / 64) 0 ≢ 0) where
-  pub entry_within : entry_place pages g < length entries
+  pub entry_within : entry_index pages g < length entries
   entry_within = omega (arith, is.within (g / 64))
 
-  apart_from : (q : ℕ) → eqb g q ≡ false → entry_place pages q ≢ entry_place pages g
+  apart_from : (q : ℕ) → eqb g q ≡ false → entry_index pages q ≢ entry_index pages g
   apart_from q e h =
       let pages_same : get_or pages (g / 64) 0 ≡ get_or pages (q / 64) 0 = omega (arith, h) in
       let ne : g ≢ q = eqb-false g q e in
       let upper : g / 64 ≡ q / 64 = is.apart (g / 64) (q / 64) pages_same there in
       absurd (ne (omega (arith, h, pages_same, upper)))
 
-  pub entry_set : (q : ℕ) → entry pages (set entries (entry_place pages g) v) q ≡ cond (eqb g q) v (entry pages entries q)
+  pub entry_set : (q : ℕ) → entry pages (set entries (entry_index pages g) v) q ≡ cond (eqb g q) v (entry pages entries q)
   entry_set q = by (eqb g q) refl
     where
-      by : (b : Bool) → eqb g q ≡ b → entry pages (set entries (entry_place pages g) v) q ≡ cond b v (entry pages entries q)
-      by true e = ap (λ (n : ℕ). entry pages (set entries (entry_place pages g) v) n) (sym (eqb-true g q e)) ∙ get_or-set_same entries (entry_place pages g) v 0 entry_within
-      by false e = get_or-set_other entries (entry_place pages g) (entry_place pages q) v 0 (apart_from q e)
+      by : (b : Bool) → eqb g q ≡ b → entry pages (set entries (entry_index pages g) v) q ≡ cond b v (entry pages entries q)
+      by true e = ap (λ (n : ℕ). entry pages (set entries (entry_index pages g) v) n) (sym (eqb-true g q e)) ∙ get_or-set_same entries (entry_index pages g) v 0 entry_within
+      by false e = get_or-set_other entries (entry_index pages g) (entry_index pages q) v 0 (apart_from q e)
 
-  pub pages_stay : ArePages pages (set entries (entry_place pages g) v)
+  pub pages_stay : ArePages pages (set entries (entry_index pages g) v)
   pages_stay =
-      let len = length-set entries (entry_place pages g) v in
+      let len = length-set entries (entry_index pages g) v in
       record {
         whole = omega (arith, len, is.whole);
         within = λ k. omega (arith, len, is.within k);
         apart = is.apart;
-        empty = λ r lt. get_or-set_other entries (entry_place pages g) r v 0 (λ h. there (omega (arith, h, lt))) ∙ is.empty r lt;
+        empty = λ r lt. get_or-set_other entries (entry_index pages g) r v 0 (λ h. there (omega (arith, h, lt))) ∙ is.empty r lt;
       }
 
 -- the numbers with one more glyph, whose page is there
 pub number_added : (pages entries pages_before entries_before xs : List ℕ) (x n : ℕ) (after : List ℕ) → AreNumbers pages_before entries_before xs → ArePages pages entries → length pages ≡ 1024 → length entries ≤ length entries_before + 64
-    → ((q : ℕ) → entry pages entries q ≡ entry pages_before entries_before q) → get_or pages (x / 64) 0 ≢ 0 → place xs x ≡ None → n ≡ length xs → after ≡ set entries (entry_place pages x) (n + 1) → AreNumbers pages after (xs ++ x ∷ [])
+    → ((q : ℕ) → entry pages entries q ≡ entry pages_before entries_before q) → get_or pages (x / 64) 0 ≢ 0 → index_of xs x ≡ None → n ≡ length xs → after ≡ set entries (entry_index pages x) (n + 1) → AreNumbers pages after (xs ++ x ∷ [])
 number_added pages entries pages_before entries_before xs x n after before is count room stays there absent number e =
     rw e (record {
       are_pages = pages_stay pages entries x (n + 1) is there;
       count = count;
-      room = omega (arith, room, before.room, length_push xs x, length-set entries (entry_place pages x) (n + 1));
-      number = λ q. entry_set pages entries x (n + 1) is there q ∙ ap (cond (eqb x q) (n + 1)) (stays q ∙ before.number q) ∙ by (eqb x q) (place xs q) ∙ ap code (sym (place-push xs x q n absent number));
+      room = omega (arith, room, before.room, length_push xs x, length-set entries (entry_index pages x) (n + 1));
+      number = λ q. entry_set pages entries x (n + 1) is there q ∙ ap (cond (eqb x q) (n + 1)) (stays q ∙ before.number q) ∙ by (eqb x q) (index_of xs q) ∙ ap code (sym (place-push xs x q n absent number));
     })
   where
     by : (b : Bool) (o : Option ℕ) → cond b (n + 1) (code o) ≡ code (cond b (Some n) o)

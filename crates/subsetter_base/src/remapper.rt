@@ -11,7 +11,7 @@ ghost use Rattle.std.specs.List.{IsDistinct};
 ghost use Rattle.std.specs.Option.{option_map};
 ghost use Rattle.std.proofs.lemmas.Cmp.{lists_equiv};
 ghost use Rattle.subsetter_base.specs.declared.error.Error.TheVariants.{OutOfMemory};
-ghost use Rattle.subsetter_base.specs.Remap.{place_by, with_value, sum_below};
+ghost use Rattle.subsetter_base.specs.Remap.{index_by, with_value, sum_below};
 
 use crate::error::Error;
 use std::alloc::Global;
@@ -85,7 +85,7 @@ impl<C: CheckedAdd, T: Copy + Eq + Hash> Model for Remapper<C, T> {
     ghost use Rattle.std.specs.HashMap.{get};
     ghost use Rattle.std.specs.List.{IsDistinct};
     ghost use Rattle.std.specs.Option.{option_map};
-    ghost use Rattle.subsetter_base.specs.Remap.{place_by};
+    ghost use Rattle.subsetter_base.specs.Remap.{index_by};
 
     ghost Value = { List T };
 
@@ -95,7 +95,7 @@ impl<C: CheckedAdd, T: Copy + Eq + Hash> Model for Remapper<C, T> {
 
     ghost invariant = { λ r. record {
       counted : C.number r.counter ≡ length r.backward.items;
-      forward_is_place : (q : T) → option_map C.number (get T.eq r.forward q) ≡ place_by T.eq r.backward.items q;
+      forward_is_place : (q : T) → option_map C.number (get T.eq r.forward q) ≡ index_by T.eq r.backward.items q;
       once : IsDistinct T.eq r.backward.items;
     } };
 }
@@ -123,19 +123,19 @@ impl<C: CheckedAdd, T: Copy + Eq + Hash> Remapper<C, T> {
 
     /// The new number of a value.
     pub fn get(&self, old: T) -> Option<C>
-        ensures { option_map C.number result ≡ place_by T.eq self.now old }
+        ensures { option_map C.number result ≡ index_by T.eq self.now old }
     {
         self.forward.get(&old).copied()
     }
 
     /// The new number of a value, which goes last if it is unknown.
     pub fn remap(&mut self, old: T) -> Result<C, Error>
-        requires { IsSome (place_by T.eq self.old old) ⊎ (length self.old + 1 < C.limit) }
+        requires { IsSome (index_by T.eq self.old old) ⊎ (length self.old + 1 < C.limit) }
         ensures list { self.new ≡ (if is_ok result then with_value T.eq self.old old else self.old) }
-        ensures number { IfOk result (λ n. place_by T.eq self.new old ≡ Some (C.number n)) }
+        ensures number { IfOk result (λ n. index_by T.eq self.new old ≡ Some (C.number n)) }
         ensures err { IfErr result (λ e. e ≡ OutOfMemory) }
         // A known value takes no memory.
-        ensures known { IsSome (place_by T.eq self.old old) → IsOk result }
+        ensures known { IsSome (index_by T.eq self.old old) → IsOk result }
     {
         if let Some(new) = self.forward.get(&old) {
             return Ok(*new);

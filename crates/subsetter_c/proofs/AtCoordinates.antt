@@ -14,7 +14,7 @@ use Rattle.cid_embed.specs.declared.embedding.Embedded.{Embedded}
 use Rattle.cid_embed_at.specs.Embed.{IsEmbeddingAnswerAt, HasEmbedFaultAt, HasNoEmbeddingAt}
 use Rattle.cid_embed_at.proofs.AtPlace.{opening_fault, opening_final}
 use Rattle.subsetter_variable.specs.Afresh.{HasGlyphsDrawn}
-use Rattle.subsetter_variable.specs.Standing.{IsAtDefault, no_outlines}
+use Rattle.subsetter_variable.specs.DefaultLocation.{IsAtDefault, no_outlines}
 use Rattle.subsetter_variable.specs.Subset.{whole, IsAnswerAt, HasFaultAt, HasNoAnswerAt, IsTheAnswerAt, as_it_is, in_static}
 use Rattle.subsetter_variable.proofs.Static.{one_static}
 use Rattle.subsetter_variable.proofs.Unopened.{no_glyf, same_stored}

@@ -3,7 +3,7 @@ use Rattle.std.proofs.Common.{◌≡◌, ℕ, ◌<◌, ◌≤◌, true, false, L
 use Rattle.std.specs.Prelude.{IfOk, IfErr, leb}
 use Rattle.std.proofs.lemmas.Bool.Decides.{leb_tells}
 use Rattle.std.proofs.lemmas.List.{length-append}
-use Rattle.subsetter_base.specs.Places.{HasAllAboveZero}
+use Rattle.subsetter_base.specs.Indexes.{HasAllAboveZero}
 use Rattle.subsetter_base.proofs.GlyphLemmas.{room_left_for_zero}
 use Rattle.subsetter_base.specs.declared.error.Error.{Error}
 use Rattle.subsetter_base.specs.declared.error.Error.TheVariants.{OutOfMemory}

@@ -1,7 +1,7 @@
 -- How bytes are handed to C: in a buffer of the caller, by a size and a status.
 use Rattle.std.specs.Prelude.{◌≡◌, ◌⊎◌, ◌<◌, ◌≤◌, ℕ, List, ◌++◌, length, drop, Option, Result, Ok, Vec}
 use Rattle.std.specs.Global.{Global}
-use Rattle.subsetter_base.specs.Places.{HasAllAboveZero}
+use Rattle.subsetter_base.specs.Indexes.{HasAllAboveZero}
 use Rattle.subsetter_base.specs.declared.error.Error.{Error}
 use Rattle.subsetter_base.specs.declared.error.Error.TheVariants.{OutOfMemory, OverflowError}
 use Rattle.subsetter_sfnt.specs.Read.{Font}

@@ -24,26 +24,26 @@ pub record AreKnown (words : List ℕ) : Type 0 where
 abbrev pub or_default : ℕ → ℕ → ℕ
 or_default n usual = if n == 0 then usual else n
 
-abbrev pub tokens_asked : List ℕ → ℕ
-tokens_asked words = or_default (word words 1) token_limit
+abbrev pub requested_tokens : List ℕ → ℕ
+requested_tokens words = or_default (word words 1) token_limit
 
-abbrev pub depth_asked : List ℕ → ℕ
-depth_asked words = or_default (word words 2) depth_limit
+abbrev pub requested_depth : List ℕ → ℕ
+requested_depth words = or_default (word words 2) depth_limit
 
 -- 0 stands for no bound
-abbrev pub bytes_asked : List ℕ → Option ℕ
-bytes_asked words = if word words 4 == 0 then None else Some (word words 4)
+abbrev pub requested_bytes : List ℕ → Option ℕ
+requested_bytes words = if word words 4 == 0 then None else Some (word words 4)
 
 -- a bit that isn't set drops nothing
 abbrev pub keeps : List ℕ → ℕ → Bool
 keeps words bit = bit_and (word words 3) bit == 0
 
-abbrev pub extras_asked : List ℕ → Extras
-extras_asked words = record { hinting = keeps words 1; names = keeps words 2; glyph_names = keeps words 4 }
+abbrev pub requested_extras : List ℕ → Extras
+requested_extras words = record { hinting = keeps words 1; names = keeps words 2; glyph_names = keeps words 4 }
 
 -- options say what the words ask for
-pub record AreAsked (words : List ℕ) (options : Options) : Type 0 where
-  pub tokens : options.limits.tokens ≡ tokens_asked words
-  pub depth : options.limits.depth ≡ depth_asked words
-  pub bytes : options.limits.bytes ≡ bytes_asked words
-  pub extras : options.extras ≡ extras_asked words
+pub record AreRequested (words : List ℕ) (options : Options) : Type 0 where
+  pub tokens : options.limits.tokens ≡ requested_tokens words
+  pub depth : options.limits.depth ≡ requested_depth words
+  pub bytes : options.limits.bytes ≡ requested_bytes words
+  pub extras : options.extras ≡ requested_extras words

@@ -15,7 +15,7 @@ use Rattle.pdf_source.specs.declared.choice.ProgramChoice.{ProgramChoice}
 use Rattle.pdf_source.specs.declared.choice.ProgramChoice.TheVariants.{Smallest, OpenType}
 use Rattle.pdf_source.specs.declared.tag.SubsetTag.{SubsetTag}
 use Rattle.subsetter.specs.declared.choice.Options.{Options}
-use Rattle.subsetter_c.specs.Options.{bytes_asked, depth_asked, keeps, tokens_asked, word}
+use Rattle.subsetter_c.specs.Options.{requested_bytes, requested_depth, keeps, requested_tokens, word}
 
 -- ---- the tag
 
@@ -100,9 +100,9 @@ pub record IsFurtherChosen (own : Options) (words : List ℕ) (options : FontOpt
 
 -- options have what the words choose
 pub record AreFontOptionsChosen (words : List ℕ) (options : FontOptions) : Type 0 where
-  pub tokens : options.limits.tokens ≡ tokens_asked words
-  pub depth : options.limits.depth ≡ depth_asked words
-  pub bytes : options.limits.bytes ≡ bytes_asked words
+  pub tokens : options.limits.tokens ≡ requested_tokens words
+  pub depth : options.limits.depth ≡ requested_depth words
+  pub bytes : options.limits.bytes ≡ requested_bytes words
   pub hinting : options.hinting ≡ keeps words 1
   pub program : options.program ≡ program_chosen (word words 5)
   pub codes : options.codes ≡ codes_chosen (word words 6)

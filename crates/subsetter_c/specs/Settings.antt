@@ -1,7 +1,7 @@
 -- How coordinates on the axes of a variable font come from C, and what is handed to it of a subset at them.
 use Rattle.std.specs.Prelude.{◌≡◌, ◌⊎◌, ℕ, List, map, Option, ℤ}
 use Rattle.std.specs.Int.{w32, to_be_bytes}
-use Rattle.subsetter_base.specs.Places.{HasAllAboveZero}
+use Rattle.subsetter_base.specs.Indexes.{HasAllAboveZero}
 use Rattle.subsetter_base.specs.declared.tag.Tag.{Tag}
 use Rattle.subsetter_base.specs.declared.error.Error.{Error}
 use Rattle.subsetter_base.specs.declared.error.Error.TheVariants.{OverflowError}
@@ -9,7 +9,7 @@ use Rattle.subsetter_sfnt.specs.Read.{Font}
 use Rattle.subsetter.specs.Bound.{IsWithin}
 use Rattle.cid_embed.specs.Embed.{numbering}
 use Rattle.subsetter_variable.specs.Afresh.{HasGlyphsDrawn}
-use Rattle.subsetter_variable.specs.Standing.{IsAtDefault}
+use Rattle.subsetter_variable.specs.DefaultLocation.{IsAtDefault}
 use Rattle.subsetter_variable.specs.Subset.{whole, IsAnswerAt, HasFaultAt, HasNoAnswerAt, IsTheAnswerAt}
 use Rattle.cid_embed.specs.declared.embedding.Embedded.{Embedded}
 use Rattle.cid_embed_at.specs.Embed.{IsEmbeddingAnswerAt, HasEmbedFaultAt, HasNoEmbeddingAt}

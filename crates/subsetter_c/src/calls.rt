@@ -7,7 +7,7 @@ ghost use Rattle.subsetter.specs.Limits.{token_limit, depth_limit};
 ghost use Rattle.subsetter_c.specs.Embedding.{IsEmbeddingHanded, AreNoneHanded};
 ghost use Rattle.subsetter_c.specs.Handed.{IsHandedOver, IsSoundSubset, IsRefusal, IsSubsetHanded, IsNothingHanded};
 ghost use Rattle.subsetter_c.specs.Made.{lists_in, IsSubsetMade, IsEmbeddingMade, IsNothingMade};
-ghost use Rattle.subsetter_c.specs.Options.{AreKnown, bytes_asked, tokens_asked, depth_asked, extras_asked};
+ghost use Rattle.subsetter_c.specs.Options.{AreKnown, requested_bytes, requested_tokens, requested_depth, requested_extras};
 ghost use Rattle.subsetter_c.specs.Status.{status_text, no_depth, unknown_option};
 ghost use Rattle.subsetter_c.specs.Version.{version};
 
@@ -117,7 +117,7 @@ pub extern "C" fn subsetter_subset_by_words(
     out: &mut [u8],
     length: &mut usize,
 ) -> u32
-    ensures { ((¬ (AreKnown options.now)) × IsNothingHanded unknown_option out.old out.new length.new result) ⊎ (AreKnown options.now × IsSubsetHanded (bytes_asked options.now) (tokens_asked options.now) (depth_asked options.now) (record { bytes = font.now; index = index; extras = extras_asked options.now }) glyphs.now out.old out.new length.new result) }
+    ensures { ((¬ (AreKnown options.now)) × IsNothingHanded unknown_option out.old out.new length.new result) ⊎ (AreKnown options.now × IsSubsetHanded (requested_bytes options.now) (requested_tokens options.now) (requested_depth options.now) (record { bytes = font.now; index = index; extras = requested_extras options.now }) glyphs.now out.old out.new length.new result) }
 {
     match options_of(options) {
         Some(options) => hand_answer(
@@ -169,7 +169,7 @@ pub extern "C" fn subsetter_embed_by_words(
     widths: &mut [u32],
     sizes: &mut Sizes,
 ) -> u32
-    ensures { ((¬ (AreKnown options.now)) × AreNoneHanded unknown_option (record { font = out.old; cids = cids.old; widths = widths.old }) (record { font = out.new; cids = cids.new; widths = widths.new }) sizes.new result) ⊎ (AreKnown options.now × IsEmbeddingHanded (bytes_asked options.now) (tokens_asked options.now) (depth_asked options.now) (record { bytes = font.now; index = index; extras = extras_asked options.now }) glyphs.now (record { font = out.old; cids = cids.old; widths = widths.old }) (record { font = out.new; cids = cids.new; widths = widths.new }) sizes.new result) }
+    ensures { ((¬ (AreKnown options.now)) × AreNoneHanded unknown_option (record { font = out.old; cids = cids.old; widths = widths.old }) (record { font = out.new; cids = cids.new; widths = widths.new }) sizes.new result) ⊎ (AreKnown options.now × IsEmbeddingHanded (requested_bytes options.now) (requested_tokens options.now) (requested_depth options.now) (record { bytes = font.now; index = index; extras = requested_extras options.now }) glyphs.now (record { font = out.old; cids = cids.old; widths = widths.old }) (record { font = out.new; cids = cids.new; widths = widths.new }) sizes.new result) }
 {
     match options_of(options) {
         Some(options) => {
@@ -195,7 +195,7 @@ pub extern "C" fn subsetter_make_subset_by_words(
     options: &[u32],
     made: &mut Made,
 ) -> u32
-    ensures { ((¬ (AreKnown options.now)) × IsNothingMade unknown_option (lists_in made.new) result) ⊎ (AreKnown options.now × IsSubsetMade (bytes_asked options.now) (tokens_asked options.now) (depth_asked options.now) (record { bytes = font.now; index = index; extras = extras_asked options.now }) glyphs.now (lists_in made.new) result) }
+    ensures { ((¬ (AreKnown options.now)) × IsNothingMade unknown_option (lists_in made.new) result) ⊎ (AreKnown options.now × IsSubsetMade (requested_bytes options.now) (requested_tokens options.now) (requested_depth options.now) (record { bytes = font.now; index = index; extras = requested_extras options.now }) glyphs.now (lists_in made.new) result) }
 {
     match options_of(options) {
         Some(options) => making::make_subset(
@@ -221,7 +221,7 @@ pub extern "C" fn subsetter_make_embedded_by_words(
     options: &[u32],
     made: &mut Made,
 ) -> u32
-    ensures { ((¬ (AreKnown options.now)) × IsNothingMade unknown_option (lists_in made.new) result) ⊎ (AreKnown options.now × IsEmbeddingMade (bytes_asked options.now) (tokens_asked options.now) (depth_asked options.now) (record { bytes = font.now; index = index; extras = extras_asked options.now }) glyphs.now (lists_in made.new) result) }
+    ensures { ((¬ (AreKnown options.now)) × IsNothingMade unknown_option (lists_in made.new) result) ⊎ (AreKnown options.now × IsEmbeddingMade (requested_bytes options.now) (requested_tokens options.now) (requested_depth options.now) (record { bytes = font.now; index = index; extras = requested_extras options.now }) glyphs.now (lists_in made.new) result) }
 {
     match options_of(options) {
         Some(options) => {

@@ -1,7 +1,7 @@
 //! What the words of `subsetter_options` ask for.
 
 ghost use Rattle.std.specs.Prelude.{◌≡◌, ◌==◌, if◌then◌else◌, Some, None, MatchOption};
-ghost use Rattle.subsetter_c.specs.Options.{AreAsked, AreKnown, or_default, word};
+ghost use Rattle.subsetter_c.specs.Options.{AreRequested, AreKnown, or_default, word};
 
 use subsetter::{Extras, Limits, Options};
 
@@ -33,7 +33,7 @@ fn bounded(limits: Limits, bytes: u32) -> Limits
 
 /// The options that are asked for; none where the library doesn't know them.
 pub fn options_of(words: &[u32]) -> Option<Options>
-    ensures { MatchOption result (¬ (AreKnown words.now)) (λ options. AreKnown words.now × AreAsked words.now options) }
+    ensures { MatchOption result (¬ (AreKnown words.now)) (λ options. AreKnown words.now × AreRequested words.now options) }
 {
     let count = words.len();
     if count > 5 || word(words, 0) as usize != 4 * count {

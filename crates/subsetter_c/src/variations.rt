@@ -4,7 +4,7 @@ ghost use Rattle.std.specs.Prelude.{◌⊎◌, IfOk, IfErr};
 ghost use Rattle.subsetter_c.specs.Embedding.{AreNoneHanded};
 ghost use Rattle.subsetter_c.specs.Handed.{IsNothingHanded};
 ghost use Rattle.subsetter_c.specs.Made.{lists_in, IsNothingMade};
-ghost use Rattle.subsetter_c.specs.Options.{AreKnown, bytes_asked, tokens_asked, depth_asked, extras_asked};
+ghost use Rattle.subsetter_c.specs.Options.{AreKnown, requested_bytes, requested_tokens, requested_depth, requested_extras};
 ghost use Rattle.subsetter_c.specs.Settings.{settings_of, IsSoundSubsetAt, IsRefusalAt, IsSubsetHandedAt, IsSubsetMadeAt, IsSoundEmbeddingAt, IsEmbeddingRefusalAt, IsEmbeddingHandedAt, IsEmbeddingMadeAt};
 ghost use Rattle.subsetter_c.specs.Status.{unknown_option};
 
@@ -67,7 +67,7 @@ pub extern "C" fn subsetter_subset_at_by_words(
     out: &mut [u8],
     length: &mut usize,
 ) -> u32
-    ensures { ((¬ (AreKnown options.now)) × IsNothingHanded unknown_option out.old out.new length.new result) ⊎ (AreKnown options.now × IsSubsetHandedAt (bytes_asked options.now) (tokens_asked options.now) (depth_asked options.now) (record { bytes = font.now; index = index; extras = extras_asked options.now }) (settings_of coordinates.now) glyphs.now out.old out.new length.new result) }
+    ensures { ((¬ (AreKnown options.now)) × IsNothingHanded unknown_option out.old out.new length.new result) ⊎ (AreKnown options.now × IsSubsetHandedAt (requested_bytes options.now) (requested_tokens options.now) (requested_depth options.now) (record { bytes = font.now; index = index; extras = requested_extras options.now }) (settings_of coordinates.now) glyphs.now out.old out.new length.new result) }
 {
     match options_of(options) {
         Some(options) => hand_answer(
@@ -95,7 +95,7 @@ pub extern "C" fn subsetter_make_subset_at_by_words(
     options: &[u32],
     made: &mut Made,
 ) -> u32
-    ensures { ((¬ (AreKnown options.now)) × IsNothingMade unknown_option (lists_in made.new) result) ⊎ (AreKnown options.now × IsSubsetMadeAt (bytes_asked options.now) (tokens_asked options.now) (depth_asked options.now) (record { bytes = font.now; index = index; extras = extras_asked options.now }) (settings_of coordinates.now) glyphs.now (lists_in made.new) result) }
+    ensures { ((¬ (AreKnown options.now)) × IsNothingMade unknown_option (lists_in made.new) result) ⊎ (AreKnown options.now × IsSubsetMadeAt (requested_bytes options.now) (requested_tokens options.now) (requested_depth options.now) (record { bytes = font.now; index = index; extras = requested_extras options.now }) (settings_of coordinates.now) glyphs.now (lists_in made.new) result) }
 {
     match options_of(options) {
         Some(options) => making::make_subset(
@@ -125,7 +125,7 @@ pub extern "C" fn subsetter_embed_at_by_words(
     widths: &mut [u32],
     sizes: &mut Sizes,
 ) -> u32
-    ensures { ((¬ (AreKnown options.now)) × AreNoneHanded unknown_option (record { font = out.old; cids = cids.old; widths = widths.old }) (record { font = out.new; cids = cids.new; widths = widths.new }) sizes.new result) ⊎ (AreKnown options.now × IsEmbeddingHandedAt (bytes_asked options.now) (tokens_asked options.now) (depth_asked options.now) (record { bytes = font.now; index = index; extras = extras_asked options.now }) (settings_of coordinates.now) glyphs.now (record { font = out.old; cids = cids.old; widths = widths.old }) (record { font = out.new; cids = cids.new; widths = widths.new }) sizes.new result) }
+    ensures { ((¬ (AreKnown options.now)) × AreNoneHanded unknown_option (record { font = out.old; cids = cids.old; widths = widths.old }) (record { font = out.new; cids = cids.new; widths = widths.new }) sizes.new result) ⊎ (AreKnown options.now × IsEmbeddingHandedAt (requested_bytes options.now) (requested_tokens options.now) (requested_depth options.now) (record { bytes = font.now; index = index; extras = requested_extras options.now }) (settings_of coordinates.now) glyphs.now (record { font = out.old; cids = cids.old; widths = widths.old }) (record { font = out.new; cids = cids.new; widths = widths.new }) sizes.new result) }
 {
     match options_of(options) {
         Some(options) => {
@@ -152,7 +152,7 @@ pub extern "C" fn subsetter_make_embedded_at_by_words(
     options: &[u32],
     made: &mut Made,
 ) -> u32
-    ensures { ((¬ (AreKnown options.now)) × IsNothingMade unknown_option (lists_in made.new) result) ⊎ (AreKnown options.now × IsEmbeddingMadeAt (bytes_asked options.now) (tokens_asked options.now) (depth_asked options.now) (record { bytes = font.now; index = index; extras = extras_asked options.now }) (settings_of coordinates.now) glyphs.now (lists_in made.new) result) }
+    ensures { ((¬ (AreKnown options.now)) × IsNothingMade unknown_option (lists_in made.new) result) ⊎ (AreKnown options.now × IsEmbeddingMadeAt (requested_bytes options.now) (requested_tokens options.now) (requested_depth options.now) (record { bytes = font.now; index = index; extras = requested_extras options.now }) (settings_of coordinates.now) glyphs.now (lists_in made.new) result) }
 {
     match options_of(options) {
         Some(options) => {

@@ -14,7 +14,7 @@ use Rattle.subsetter_blend.specs.Written.{Fitted, fitted, fitted_start, finished
 use Rattle.subsetter_cff2.specs.Cff2.{Cff2}
 use Rattle.subsetter_cff2.specs.Made2.{NewDict, new_dicts}
 use Rattle.subsetter_cff2.specs.Private2.{char_string}
-use Rattle.subsetter_cff2.specs.UsedDicts.{counted_dicts, place_in}
+use Rattle.subsetter_cff2.specs.UsedDicts.{counted_dicts, index_in}
 use Rattle.subsetter_cff2.specs.Variation.{Variation}
 use Rattle.subsetter_cff_at.specs.Plain.{dict_bound, numbers_from, present, setting, glyph_text, placed_text, text_if, texts_from, Drawn, drawn, Opened, opened, parts_of, some_requested, made_table}
 use Rattle.subsetter_cff_at.specs.Promise.{LimitsAgree}
@@ -112,7 +112,7 @@ module _ (cff : Cff2) (v : Option Variation) (tokens depth more other : ℕ) whe
       let numbers : p.numbers ≡ q.numbers = one_answer (numbers_from cff 0 glyphs) p.numbers q.numbers p.numbers_are q.numbers_are in
       let used : p.used ≡ q.used = one_answer (counted_dicts (dict_bound cff) (present q.numbers)) p.used q.used (ap (λ (l : List (Option ℕ)). counted_dicts (dict_bound cff) (present l)) (sym numbers) ∙ p.used_are) q.used_are in
       let dicts : a.dicts ≡ b.dicts = one_answer (new_dicts cff v q.used) a.dicts b.dicts (ap (new_dicts cff v) (sym used) ∙ p.dicts_are) q.dicts_are in
-      let places : a.places ≡ b.places = p.places_are ∙ ap (λ (l : List ℕ). map (place_in l) p.numbers) used ∙ ap (map (place_in q.used)) numbers ∙ sym q.places_are in
+      let places : a.places ≡ b.places = p.places_are ∙ ap (λ (l : List ℕ). map (index_in l) p.numbers) used ∙ ap (map (index_in q.used)) numbers ∙ sym q.places_are in
       let here : texts_from cff v tokens depth b.dicts b.places 0 glyphs ≡ Ok a.texts
       = ap (λ (l : List NewDict). texts_from cff v tokens depth l b.places 0 glyphs) (sym dicts) ∙ ap (λ (l : List ℕ). texts_from cff v tokens depth a.dicts l 0 glyphs) (sym places) ∙ p.texts_are in
       let texts : a.texts ≡ b.texts = texts_agree b.dicts b.places 0 glyphs a.texts b.texts here q.texts_are in

@@ -13,7 +13,7 @@ use Rattle.subsetter_cffdata.proofs.Indexes.{length-offsets}
 use Rattle.subsetter_cff2.specs.declared.made.PlacedDict.{PlacedDict}
 use Rattle.subsetter_cff2.specs.Made2.{NewDict, new_dicts}
 use Rattle.subsetter_cff2.specs.Made2View.{dict_view}
-use Rattle.subsetter_cff2.specs.UsedDicts.{counted_dicts, place_in}
+use Rattle.subsetter_cff2.specs.UsedDicts.{counted_dicts, index_in}
 use Rattle.subsetter_cff2.specs.Variation.{Variation}
 use Rattle.subsetter_cff_at.specs.Plain.{dict_bound, numbers_from, present, filled, all_filled, placed_text, text_if, texts_from, texts_size, Drawn, drawn, Opened, opened, drawn_of, parts_of, some_requested, made_table}
 use Rattle.subsetter_cff_at.specs.Request.{Request}
@@ -40,8 +40,8 @@ drawn_next (Err e) cff v tokens depth dicts place glyph advance old bytes text r
 
 -- ---- all glyphs
 pub drawn_is : (cff : Cff2) (v : Option Variation) (tokens depth : ℕ) (glyphs numbers : List (Option ℕ)) (used : List ℕ) (dicts : List NewDict) (texts : List (Option (List ℕ)))
-    → numbers_from cff 0 glyphs ≡ Ok numbers → counted_dicts (dict_bound cff) (present numbers) ≡ Ok used → new_dicts cff v used ≡ Ok dicts → texts_from cff v tokens depth dicts (map (place_in used) numbers) 0 glyphs ≡ Ok texts
-    → drawn cff v tokens depth glyphs ≡ Ok (record { dicts = dicts; places = map (place_in used) numbers; texts = texts })
+    → numbers_from cff 0 glyphs ≡ Ok numbers → counted_dicts (dict_bound cff) (present numbers) ≡ Ok used → new_dicts cff v used ≡ Ok dicts → texts_from cff v tokens depth dicts (map (index_in used) numbers) 0 glyphs ≡ Ok texts
+    → drawn cff v tokens depth glyphs ≡ Ok (record { dicts = dicts; places = map (index_in used) numbers; texts = texts })
 unfolding drawn
 drawn_is cff v tokens depth glyphs numbers used dicts texts a b c d = rw (a, b, c, d) refl
 
@@ -58,8 +58,8 @@ few_dicts cff v bound numbers used dicts are made =
     omega (arith, (few_used bound numbers used are).1, length-dicts cff v used (map dict_view dicts) made, length-map dicts dict_view)
 
 -- as many places as glyphs
-pub places_many : (cff : Cff2) (glyphs numbers : List (Option ℕ)) (used places given : List ℕ) → numbers_from cff 0 glyphs ≡ Ok numbers → places ≡ map (place_in used) numbers → given ≡ places → length given ≡ length glyphs
-places_many cff glyphs numbers used places given are placed same = ap length (same ∙ placed) ∙ length-map numbers (place_in used) ∙ length-numbers cff 0 glyphs numbers are
+pub places_many : (cff : Cff2) (glyphs numbers : List (Option ℕ)) (used places given : List ℕ) → numbers_from cff 0 glyphs ≡ Ok numbers → places ≡ map (index_in used) numbers → given ≡ places → length given ≡ length glyphs
+places_many cff glyphs numbers used places given are placed same = ap length (same ∙ placed) ∙ length-map numbers (index_in used) ∙ length-numbers cff 0 glyphs numbers are
 
 pub texts_same : (cff : Cff2) (v : Option Variation) (tokens depth : ℕ) (glyphs : List (Option ℕ)) (given dicts : List NewDict) (given_places places : List ℕ) (texts : List (Option (List ℕ))) → given ≡ dicts → given_places ≡ places
     → texts_from cff v tokens depth given given_places 0 glyphs ≡ Ok texts → texts_from cff v tokens depth dicts places 0 glyphs ≡ Ok texts
@@ -68,21 +68,21 @@ texts_same cff v tokens depth glyphs given dicts given_places places texts a b a
 
 -- as many ends as glyphs
 pub ends_many : (cff : Cff2) (v : Option Variation) (tokens depth : ℕ) (glyphs numbers : List (Option ℕ)) (used : List ℕ) (dicts : List NewDict) (texts : List (Option (List ℕ))) (ends : List ℕ)
-    → numbers_from cff 0 glyphs ≡ Ok numbers → texts_from cff v tokens depth dicts (map (place_in used) numbers) 0 glyphs ≡ Ok texts → ends ≡ offsets 1 (all_filled texts) → length ends ≡ length glyphs
+    → numbers_from cff 0 glyphs ≡ Ok numbers → texts_from cff v tokens depth dicts (map (index_in used) numbers) 0 glyphs ≡ Ok texts → ends ≡ offsets 1 (all_filled texts) → length ends ≡ length glyphs
 ends_many cff v tokens depth glyphs numbers used dicts texts ends are texts_are ends_are =
     ap length ends_are ∙ length-offsets 1 (all_filled texts) ∙ length-map texts filled
-    ∙ length-texts cff v tokens depth dicts (map (place_in used) numbers) 0 glyphs texts texts_are (length-map numbers (place_in used) ∙ length-numbers cff 0 glyphs numbers are)
+    ∙ length-texts cff v tokens depth dicts (map (index_in used) numbers) 0 glyphs texts texts_are (length-map numbers (index_in used) ∙ length-numbers cff 0 glyphs numbers are)
 
 fails_at : (cff : Cff2) (v : Option Variation) (tokens depth : ℕ) (glyphs numbers : List (Option ℕ)) (used : List ℕ) (dicts : List NewDict) (e : Error)
     → numbers_from cff 0 glyphs ≡ Ok numbers → counted_dicts (dict_bound cff) (present numbers) ≡ Ok used → new_dicts cff v used ≡ Ok dicts
-    → Fails e (texts_from cff v tokens depth dicts (map (place_in used) numbers) 0 glyphs) → Fails e (drawn cff v tokens depth glyphs)
+    → Fails e (texts_from cff v tokens depth dicts (map (index_in used) numbers) 0 glyphs) → Fails e (drawn cff v tokens depth glyphs)
 unfolding drawn
 fails_at cff v tokens depth glyphs numbers used dicts e a b c h =
-    fails_on (texts_from cff v tokens depth dicts (map (place_in used) numbers) 0 glyphs) (λ texts. Ok (record { dicts = dicts; places = map (place_in used) numbers; texts = texts })) (drawn cff v tokens depth glyphs) e (sym (rw (a, b, c) refl)) h
+    fails_on (texts_from cff v tokens depth dicts (map (index_in used) numbers) 0 glyphs) (λ texts. Ok (record { dicts = dicts; places = map (index_in used) numbers; texts = texts })) (drawn cff v tokens depth glyphs) e (sym (rw (a, b, c) refl)) h
 
 pub texts_fail : (bound : Option ℕ) (cff : Cff2) (v : Option Variation) (tokens depth : ℕ) (glyphs numbers : List (Option ℕ)) (used : List ℕ) (dicts : List NewDict) (e : Error)
     → numbers_from cff 0 glyphs ≡ Ok numbers → counted_dicts (dict_bound cff) (present numbers) ≡ Ok used → new_dicts cff v used ≡ Ok dicts
-    → FailsWithin bound texts_size e (texts_from cff v tokens depth dicts (map (place_in used) numbers) 0 glyphs) → FailsWithin bound drawn_size e (drawn cff v tokens depth glyphs)
+    → FailsWithin bound texts_size e (texts_from cff v tokens depth dicts (map (index_in used) numbers) 0 glyphs) → FailsWithin bound drawn_size e (drawn cff v tokens depth glyphs)
 texts_fail bound cff v tokens depth glyphs numbers used dicts e a b c h = elim h [
   | inl f ↦ inl (fails_at cff v tokens depth glyphs numbers used dicts e a b c f)
   | inr p ↦ inr (
@@ -95,9 +95,9 @@ texts_fail bound cff v tokens depth glyphs numbers used dicts e a b c h = elim h
           let same_numbers : numbers ≡ s.numbers = same_Ok _ _ (sym a ∙ s.numbers_are) in
           let same_used : used ≡ s.used = same_Ok _ _ (sym b ∙ ap (λ (l : List (Option ℕ)). counted_dicts (dict_bound cff) (present l)) same_numbers ∙ s.used_are) in
           let same_dicts : dicts ≡ d.dicts = same_Ok _ _ (sym c ∙ ap (new_dicts cff v) same_used ∙ s.dicts_are) in
-          let same_places : map (place_in used) numbers ≡ d.places = ap (λ (l : List ℕ). map (place_in l) numbers) same_used ∙ ap (map (place_in s.used)) same_numbers ∙ sym s.places_are in
+          let same_places : map (index_in used) numbers ≡ d.places = ap (λ (l : List ℕ). map (index_in l) numbers) same_used ∙ ap (map (index_in s.used)) same_numbers ∙ sym s.places_are in
           p.1.longer d.texts (
-          ap (λ (l : List NewDict). texts_from cff v tokens depth l (map (place_in used) numbers) 0 glyphs) same_dicts
+          ap (λ (l : List NewDict). texts_from cff v tokens depth l (map (index_in used) numbers) 0 glyphs) same_dicts
           ∙ ap (λ (l : List ℕ). texts_from cff v tokens depth d.dicts l 0 glyphs) same_places
           ∙ s.texts_are
           );

@@ -13,7 +13,7 @@ use Rattle.subsetter_cffdata.specs.Dict.{entries}
 use Rattle.subsetter_cffdata.specs.Numbers.{Number}
 use Rattle.subsetter_cff.specs.Read.Lookup.{last_of}
 use Rattle.subsetter_cff.specs.Read.Operators.{char_strings_operator, font_dicts_operator, font_dict_select_operator}
-use Rattle.subsetter_cff.specs.Write.Layout.{Parts, char_strings_place}
+use Rattle.subsetter_cff.specs.Write.Layout.{Parts, char_strings_offset}
 use Rattle.subsetter_cff.specs.Write.Plain.{limited}
 use Rattle.subsetter_cff.specs.Write.WrittenNumbers.{any_long, entry_numbers, font_dict_numbers, written_numbers}
 use Rattle.subsetter_cff.proofs.ReadLaws.Results.{bind_ok, same_Ok, some_of, passed}
@@ -24,7 +24,7 @@ use Rattle.subsetter_cff2.specs.Front2.{front_at}
 use Rattle.subsetter_cff2.specs.Made2.{NewDict, new_dict, new_font_dict, new_matrix, new_box, new_parts, made_of}
 use Rattle.subsetter_cff2.specs.Operators2.{store_operator}
 use Rattle.subsetter_cff2.specs.Private2.{Private2, font_dict_number, private_numbered, char_string}
-use Rattle.subsetter_cff2.specs.PrivateAt.{Placed, private_at_place}
+use Rattle.subsetter_cff2.specs.PrivateAt.{Placed, private_at_location}
 use Rattle.subsetter_cff2.specs.PrivateText.{PlacedText, private_text}
 use Rattle.subsetter_cff2.specs.UsedDicts.{used_dicts}
 use Rattle.subsetter_cff2.specs.Variation.{Variation, optional_variation}
@@ -112,7 +112,7 @@ no_opening_fault bytes r o _ s (bad_region cff is none) =
 pub record AreKept (p : Parts) : Type 0 where
   pub short : any_long (written_numbers p) ≡ false
   pub size : length (concat p.char_strings) + 1 < 2 ^ 32
-  pub place : char_strings_place p < 2 ^ 31
+  pub offset : char_strings_offset p < 2 ^ 31
 
 not_true : (b : Bool) → cond b false true ≡ true → b ≡ false
 not_true true e = absurd cc
@@ -123,8 +123,8 @@ unfolding limited
 limits_kept p q e =
     let b = passed (cond (any_long (written_numbers p)) false true) OverflowError _ q e in
     let c = passed (nat_lt (length (concat p.char_strings) + 1) (2 ^ 32)) OverflowError _ q b.1 in
-    let d = passed (nat_lt (char_strings_place p) (2 ^ 31)) OverflowError _ q c.1 in
-    record { short = not_true (any_long (written_numbers p)) b.0; size = ltb-true (length (concat p.char_strings) + 1) (2 ^ 32) c.0; place = ltb-true (char_strings_place p) (2 ^ 31) d.0 }
+    let d = passed (nat_lt (char_strings_offset p) (2 ^ 31)) OverflowError _ q c.1 in
+    record { short = not_true (any_long (written_numbers p)) b.0; size = ltb-true (length (concat p.char_strings) + 1) (2 ^ 32) c.0; offset = ltb-true (char_strings_offset p) (2 ^ 31) d.0 }
 
 pub kept : (p : Parts) (out : List ℕ) → made_of p ≡ Ok out → AreKept p
 kept p out e = let a = bind_ok (limited p) _ out e in limits_kept p a.0 a.1.0
@@ -177,13 +177,13 @@ module _ (bytes : List ℕ) (r : Request) (tokens depth : ℕ) (o : Opened) (d :
     no_glyph_fault _ (long_private number private at_place is there placed long) =
         (let p = new_dict_is_placed o.cff o.variation found.number found.dict found.dict_is in
         let same : p.source ≡ private = same_Some _ _ (sym p.source_is ∙ same_private number private is there) in
-        let here : p.at_place ≡ at_place = same_Some _ _ (sym p.at_place_is ∙ ap (λ (x : Private2). private_at_place o.variation x.dict) same ∙ placed) in
-        false≢true (sym (dict_short d.dicts found.place found.dict found.dict_at dicts_short) ∙ ap (λ es. any_long (entry_numbers es)) p.entries_are ∙ ap (λ (x : Placed). any_long (entry_numbers x.entries)) here ∙ long))
+        let here : p.at_location ≡ at_place = same_Some _ _ (sym p.at_location_is ∙ ap (λ (x : Private2). private_at_location o.variation x.dict) same ∙ placed) in
+        false≢true (sym (dict_short d.dicts found.offset found.dict found.dict_at dicts_short) ∙ ap (λ es. any_long (entry_numbers es)) p.entries_are ∙ ap (λ (x : Placed). any_long (entry_numbers x.entries)) here ∙ long))
     no_glyph_fault _ (no_char_string none) = both (char_string o.cff glyph) found.charstring none found.charstring_is
     no_glyph_fault e (stops number private at_place charstring _ is there placed here h) =
         (let p = new_dict_is_placed o.cff o.variation found.number found.dict found.dict_is in
         let same : p.source ≡ private = same_Some _ _ (sym p.source_is ∙ same_private number private is there) in
-        let place : p.at_place ≡ at_place = same_Some _ _ (sym p.at_place_is ∙ ap (λ (x : Private2). private_at_place o.variation x.dict) same ∙ placed) in
+        let place : p.at_location ≡ at_place = same_Some _ _ (sym p.at_location_is ∙ ap (λ (x : Private2). private_at_location o.variation x.dict) same ∙ placed) in
         let cs : found.charstring ≡ charstring = same_Some _ _ (sym found.charstring_is ∙ here) in
         let locals : found.dict.subroutines ≡ private.subroutines = p.subroutines_are ∙ ap (λ (x : Private2). x.subroutines) same in
         let index : found.dict.data_index ≡ at_place.data_index = p.data_index_is ∙ ap (λ (x : Placed). x.data_index) place in
@@ -208,9 +208,9 @@ module _ (bytes : List ℕ) (r : Request) (tokens depth : ℕ) (o : Opened) (d :
   no_limit_fault s _ (large_offset other matrix is matrix_is large) =
       (let same : d ≡ other = same_Ok _ _ (sym are ∙ is) in
       let here : o.matrix ≡ matrix = same_Some _ _ (sym s.matrix_is ∙ matrix_is) in
-      let place = limits.place in
-      let e : char_strings_place (new_parts o.matrix r.box d.dicts d.places (all_filled d.texts)) ≡ char_strings_place (new_parts matrix r.box other.dicts other.places (all_filled other.texts))
-      = ap (λ (x : Drawn). char_strings_place (new_parts o.matrix r.box x.dicts x.places (all_filled x.texts))) same ∙ ap (λ (m : Option (List Number)). char_strings_place (new_parts m r.box other.dicts other.places (all_filled other.texts))) here in
+      let place = limits.offset in
+      let e : char_strings_offset (new_parts o.matrix r.box d.dicts d.places (all_filled d.texts)) ≡ char_strings_offset (new_parts matrix r.box other.dicts other.places (all_filled other.texts))
+      = ap (λ (x : Drawn). char_strings_offset (new_parts o.matrix r.box x.dicts x.places (all_filled x.texts))) same ∙ ap (λ (m : Option (List Number)). char_strings_offset (new_parts m r.box other.dicts other.places (all_filled other.texts))) here in
       omega (arith, large, e))
 
 -- ---- all

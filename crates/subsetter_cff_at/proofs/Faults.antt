@@ -14,9 +14,9 @@ use Rattle.subsetter_cffdata.specs.Numbers.{Number, Integer}
 use Rattle.subsetter_cff.specs.Read.Lookup.{last_of}
 use Rattle.subsetter_cff.specs.Read.Matrices.{thousandth_matrix, unit_matrix}
 use Rattle.subsetter_cff.specs.Read.Operators.{char_strings_operator, font_dicts_operator, font_dict_select_operator}
-use Rattle.subsetter_cff.specs.Write.Layout.{Parts, char_strings_place}
+use Rattle.subsetter_cff.specs.Write.Layout.{Parts, char_strings_offset}
 use Rattle.subsetter_cff.specs.Write.Plain.{limited}
-use Rattle.subsetter_base.specs.Places.{is_listed}
+use Rattle.subsetter_base.specs.Indexes.{is_listed}
 use Rattle.subsetter_cff.specs.Write.WrittenNumbers.{any_long, entry_numbers, font_dict_numbers, written_numbers}
 use Rattle.subsetter_cff.proofs.ReadLaws.Refusals.{bind_err, none_of, failed, none_or}
 use Rattle.subsetter_cff.proofs.ReadLaws.Results.{bind_ok, same_Ok, some_of}
@@ -27,10 +27,10 @@ use Rattle.subsetter_cff2.specs.Made2.{NewDict, new_dict, new_dicts, new_font_di
 use Rattle.subsetter_cff2.specs.Operators2.{store_operator}
 use Rattle.subsetter_cff2.specs.Private2.{font_dict_number, private_numbered, char_string}
 use Rattle.subsetter_cff2.specs.PrivateText.{private_text}
-use Rattle.subsetter_cff2.specs.UsedDicts.{counted_dicts, place_in, used_dicts}
+use Rattle.subsetter_cff2.specs.UsedDicts.{counted_dicts, index_in, used_dicts}
 use Rattle.subsetter_cff2.specs.Variation.{Variation, optional_variation}
 use Rattle.subsetter_cff2.proofs.MadeFits.{new_dict_is_placed}
-use Rattle.subsetter_cff_at.specs.Fault.{HasOpeningFault, HasGlyphFault, HasFault, RefusedStands, bad_front, bad_subroutines, bad_char_strings, bad_font_dicts, bad_store_offset, bad_store, bad_select, bad_matrix, bad_region, no_number, no_font_dict, no_private, bad_private, long_private, no_char_string, stops, wide_advance, many_font_dicts, long_matrix, large_char_strings, large_offset, none_requested, in_opening, in_glyph, in_limits}
+use Rattle.subsetter_cff_at.specs.Fault.{HasOpeningFault, HasGlyphFault, HasFault, RefusedHasFault, bad_front, bad_subroutines, bad_char_strings, bad_font_dicts, bad_store_offset, bad_store, bad_select, bad_matrix, bad_region, no_number, no_font_dict, no_private, bad_private, long_private, no_char_string, stops, wide_advance, many_font_dicts, long_matrix, large_char_strings, large_offset, none_requested, in_opening, in_glyph, in_limits}
 use Rattle.subsetter_cff_at.specs.Plain.{dict_bound, dict_number, number_if, numbers_from, present, glyph_text, placed_text, text_if, texts_from, all_filled, Drawn, drawn, Opened, opened, parts_of, setting, some_requested, made_table}
 use Rattle.subsetter_cff_at.specs.Request.{Request}
 use Rattle.subsetter_cff_at.specs.Units.{top_matrix}
@@ -218,16 +218,16 @@ user_of cff glyphs numbers used i n are counted at =
 
 -- ---- charstrings
 pub record TextRefused (cff : Cff2) (v : Option Variation) (tokens depth : ℕ) (dicts : List NewDict) (places : List ℕ) (e : Error) (i glyph advance : ℕ) : Type 0 where
-  pub place : ℕ
-  pub place_at : slice_get places i ≡ Some place
-  pub refused : placed_text cff v tokens depth dicts place glyph advance ≡ Err e
+  pub index : ℕ
+  pub place_at : slice_get places i ≡ Some index
+  pub refused : placed_text cff v tokens depth dicts index glyph advance ≡ Err e
 
 module _ (cff : Cff2) (v : Option Variation) (tokens depth : ℕ) (dicts : List NewDict) (e : Error) where
   text_later : (p : ℕ) (places : List ℕ) (glyph i advance : ℕ) → TextRefused cff v tokens depth dicts places e i (glyph + 1 + i) advance → TextRefused cff v tokens depth dicts (p ∷ places) e (suc i) (glyph + suc i) advance
   text_later p places glyph i advance t = record {
-    place = t.place;
+    index = t.index;
     place_at = t.place_at;
-    refused = ap (λ (n : ℕ). placed_text cff v tokens depth dicts t.place n advance) (let z : glyph + suc i ≡ glyph + 1 + i = omega arith in z) ∙ t.refused;
+    refused = ap (λ (n : ℕ). placed_text cff v tokens depth dicts t.index n advance) (let z : glyph + suc i ≡ glyph + 1 + i = omega arith in z) ∙ t.refused;
   }
 
   texts_refused : (places : List ℕ) (glyph : ℕ) (glyphs : List (Option ℕ)) → texts_from cff v tokens depth dicts places glyph glyphs ≡ Err e → RefusedAt glyphs (λ i advance. TextRefused cff v tokens depth dicts places e i (glyph + i) advance)
@@ -245,7 +245,7 @@ module _ (cff : Cff2) (v : Option Variation) (tokens depth : ℕ) (dicts : List 
             glyph = 0;
             advance = advance;
             is = refl;
-            fault = record { place = p; place_at = refl; refused = ap (λ (n : ℕ). placed_text cff v tokens depth dicts p n advance) (let z : glyph + 0 ≡ glyph = omega arith in z) ∙ b };
+            fault = record { index = p; place_at = refl; refused = ap (λ (n : ℕ). placed_text cff v tokens depth dicts p n advance) (let z : glyph + 0 ≡ glyph = omega arith in z) ∙ b };
           }
           | inr b ↦ absurd cc
         ]
@@ -271,8 +271,8 @@ text_refused cff v tokens depth glyph advance number dict e is made h =
         | inl b ↦ (let n = none_of (char_string cff glyph) MalformedFont e b in subst F n.1 (no_char_string n.0))
         | inr b ↦ (
             let p = new_dict_is_placed cff v number dict made in
-            stops number p.source p.at_place b.0 e is p.source_is p.at_place_is (some_of (char_string cff glyph) MalformedFont b.0 b.1.0)
-            (charstring_refused (setting cff v p.source.subroutines) tokens depth p.at_place.data_index (pos advance) b.0 e (rw (← p.subroutines_are, ← p.data_index_is) b.1.1))
+            stops number p.source p.at_location b.0 e is p.source_is p.at_location_is (some_of (char_string cff glyph) MalformedFont b.0 b.1.0)
+            (charstring_refused (setting cff v p.source.subroutines) tokens depth p.at_location.data_index (pos advance) b.0 e (rw (← p.subroutines_are, ← p.data_index_is) b.1.1))
             )
       ]
     ]
@@ -303,7 +303,7 @@ dict_long cff v tokens depth glyphs n d u made e =
     let p = new_dict_is_placed cff v n d made in
     elim (in_either unit_matrix (entry_numbers (new_font_dict d).private) e) [
       | inl matrix ↦ absurd (false≢true matrix)
-      | inr private ↦ record { glyph = u.glyph; advance = u.advance; is = u.is; fault = long_private n p.source p.at_place u.number_is p.source_is p.at_place_is (rw (← p.entries_are) private) }
+      | inr private ↦ record { glyph = u.glyph; advance = u.advance; is = u.is; fault = long_private n p.source p.at_location u.number_is p.source_is p.at_location_is (rw (← p.entries_are) private) }
     ]
 
 dicts_long : (cff : Cff2) (v : Option Variation) (tokens depth : ℕ) (glyphs : List (Option ℕ)) (ns : List ℕ) (dicts : List NewDict) → ((i n : ℕ) → slice_get ns i ≡ Some n → UserOf cff glyphs n) → new_dicts cff v ns ≡ Ok dicts
@@ -325,13 +325,13 @@ module _ (bytes : List ℕ) (r : Request) (tokens depth : ℕ) (o : Opened) (ope
   refused_with F e f g = in_glyph o f.glyph f.advance open_is f.is (g f.glyph f.advance f.is f.fault)
 
   text_fault : (e : Error) (numbers : List (Option ℕ)) (used : List ℕ) (dicts : List NewDict) → numbers_from o.cff 0 r.glyphs ≡ Ok numbers → counted_dicts (dict_bound o.cff) (present numbers) ≡ Ok used → new_dicts o.cff o.variation used ≡ Ok dicts
-      → (glyph advance : ℕ) → slice_get r.glyphs glyph ≡ Some (Some advance) → TextRefused o.cff o.variation tokens depth dicts (map (place_in used) numbers) e glyph (0 + glyph) advance → HasGlyphFault o.cff o.variation tokens depth glyph advance e
+      → (glyph advance : ℕ) → slice_get r.glyphs glyph ≡ Some (Some advance) → TextRefused o.cff o.variation tokens depth dicts (map (index_in used) numbers) e glyph (0 + glyph) advance → HasGlyphFault o.cff o.variation tokens depth glyph advance e
   text_fault e numbers used dicts numbers_are used_are dicts_are glyph advance is t =
       let f = number_place o.cff r.glyphs numbers used numbers_are used_are glyph advance is in
-      let d = dict_at o.cff o.variation used dicts f.place f.number dicts_are f.used_at in
-      let here : t.place ≡ f.place = same_Some _ _ (sym t.place_at ∙ f.place_at) in
+      let d = dict_at o.cff o.variation used dicts f.index f.number dicts_are f.used_at in
+      let here : t.index ≡ f.index = same_Some _ _ (sym t.place_at ∙ f.place_at) in
       text_refused o.cff o.variation tokens depth glyph advance f.number d.dict e f.number_is d.is
-      (in_dicts o.cff o.variation tokens depth dicts t.place glyph advance d.dict e (ap (slice_get dicts) here ∙ d.at) (ap (λ (n : ℕ). placed_text o.cff o.variation tokens depth dicts t.place n advance) (let z : glyph ≡ 0 + glyph = omega arith in z) ∙ t.refused))
+      (in_dicts o.cff o.variation tokens depth dicts t.index glyph advance d.dict e (ap (slice_get dicts) here ∙ d.at) (ap (λ (n : ℕ). placed_text o.cff o.variation tokens depth dicts t.index n advance) (let z : glyph ≡ 0 + glyph = omega arith in z) ∙ t.refused))
 
   drawn_refused : (e : Error) → drawn o.cff o.variation tokens depth r.glyphs ≡ Err e → HasFault bytes r tokens depth e
   unfolding drawn counted_dicts
@@ -349,8 +349,8 @@ module _ (bytes : List ℕ) (r : Request) (tokens depth : ℕ) (o : Opened) (ope
                 let u = user_of o.cff r.glyphs a.0 b.0 d.at d.number a.1.0 b.1.0 d.is in
                 in_glyph o u.glyph u.advance open_is u.is (dict_refused o.cff o.variation tokens depth u.glyph u.advance d.number e u.number_is d.refused)
                 )
-            | inr c ↦ elim (bind_err (texts_from o.cff o.variation tokens depth c.0 (map (place_in b.0) a.0) 0 r.glyphs) _ e c.1.1) [
-              | inl t ↦ refused_with _ e (texts_refused o.cff o.variation tokens depth c.0 e (map (place_in b.0) a.0) 0 r.glyphs t) (text_fault e a.0 b.0 c.0 a.1.0 b.1.0 c.1.0)
+            | inr c ↦ elim (bind_err (texts_from o.cff o.variation tokens depth c.0 (map (index_in b.0) a.0) 0 r.glyphs) _ e c.1.1) [
+              | inl t ↦ refused_with _ e (texts_refused o.cff o.variation tokens depth c.0 e (map (index_in b.0) a.0) 0 r.glyphs t) (text_fault e a.0 b.0 c.0 a.1.0 b.1.0 c.1.0)
               | inr t ↦ absurd cc
             ]
           ]
@@ -375,8 +375,8 @@ module _ (bytes : List ℕ) (r : Request) (tokens depth : ℕ) (o : Opened) (ope
           ])
           | inr h2 ↦ elim (failed (ltb (length (concat p.char_strings) + 1) (2 ^ 32)) OverflowError e _ h2.1) [
             | inl over ↦ subst F over.1 (in_limits o open_is (large_char_strings d are (ltb-false (length (concat p.char_strings) + 1) (2 ^ 32) over.0)))
-            | inr h3 ↦ elim (failed (ltb (char_strings_place p) (2 ^ 31)) OverflowError e _ h3.1) [
-              | inl over ↦ subst F over.1 (in_limits o open_is (large_offset d o.matrix are opens.matrix_is (ltb-false (char_strings_place p) (2 ^ 31) over.0)))
+            | inr h3 ↦ elim (failed (ltb (char_strings_offset p) (2 ^ 31)) OverflowError e _ h3.1) [
+              | inl over ↦ subst F over.1 (in_limits o open_is (large_offset d o.matrix are opens.matrix_is (ltb-false (char_strings_offset p) (2 ^ 31) over.0)))
               | inr h4 ↦ absurd (no_error p e h4.1)
             ]
           ]
@@ -395,7 +395,7 @@ pub is_requested : (glyphs : List (Option ℕ)) (i advance : ℕ) → slice_get 
 unfolding some_requested
 is_requested glyphs i advance at = some_in glyphs i advance at
 
-pub refused_stands : RefusedStands
+pub refused_stands : RefusedHasFault
 unfolding made_table
 refused_stands bytes r tokens depth e h =
     let F = HasFault bytes r tokens depth in

@@ -6,13 +6,13 @@ use Rattle.std.specs.Option.{ok_or}
 use Rattle.std.proofs.lemmas.Bool.{cases_Bool, cases_eq, eq-eqb, ltb-true}
 use Rattle.std.proofs.lemmas.Option.{none-some, same_Some, slice_get_within}
 use Rattle.subsetter_base.specs.Bytes.{◌>>=◌}
-use Rattle.subsetter_base.specs.Places.{place, is_listed}
+use Rattle.subsetter_base.specs.Indexes.{index_of, is_listed}
 use Rattle.subsetter_base.specs.declared.error.Error.TheVariants.{MalformedFont, OverflowError}
 use Rattle.subsetter_cff.proofs.ReadLaws.Results.{bind_ok, same_Ok, some_of, passed, In, in_head, in_tail, number_there}
 use Rattle.subsetter_cff2.specs.Cff2.{Cff2}
 use Rattle.subsetter_cff2.specs.Made2.{NewDict, new_dict, new_dicts}
 use Rattle.subsetter_cff2.specs.Private2.{font_dict_number}
-use Rattle.subsetter_cff2.specs.UsedDicts.{used_dicts, counted_dicts, place_in}
+use Rattle.subsetter_cff2.specs.UsedDicts.{used_dicts, counted_dicts, index_in}
 use Rattle.subsetter_cff2.specs.Variation.{Variation}
 use Rattle.subsetter_cff_at.specs.Plain.{dict_bound, dict_number, number_if, numbers_from, with_number, present, text_if, texts_from, some_requested}
 
@@ -86,24 +86,24 @@ has_number cff glyph advance number e =
 
 -- ---- charstrings
 pub record TextAt (cff : Cff2) (v : Option Variation) (tokens depth : ℕ) (dicts : List NewDict) (places : List ℕ) (glyph : ℕ) (a : Option ℕ) (texts : List (Option (List ℕ))) (i : ℕ) : Type 0 where
-  pub place : ℕ
-  pub place_at : slice_get places i ≡ Some place
+  pub index : ℕ
+  pub place_at : slice_get places i ≡ Some index
   pub text : Option (List ℕ)
   pub at : slice_get texts i ≡ Some text
-  pub is : text_if cff v tokens depth dicts place glyph a ≡ Ok text
+  pub is : text_if cff v tokens depth dicts index glyph a ≡ Ok text
 
 module _ (cff : Cff2) (v : Option Variation) (tokens depth : ℕ) (dicts : List NewDict) where
-  pub record TextSteps (place : ℕ) (places : List ℕ) (glyph : ℕ) (a : Option ℕ) (more : List (Option ℕ)) (texts : List (Option (List ℕ))) : Type 0 where
+  pub record TextSteps (index_of : ℕ) (places : List ℕ) (glyph : ℕ) (a : Option ℕ) (more : List (Option ℕ)) (texts : List (Option (List ℕ))) : Type 0 where
     pub first : Option (List ℕ)
-    pub first_is : text_if cff v tokens depth dicts place glyph a ≡ Ok first
+    pub first_is : text_if cff v tokens depth dicts index_of glyph a ≡ Ok first
     pub rest : List (Option (List ℕ))
     pub rest_are : texts_from cff v tokens depth dicts places (glyph + 1) more ≡ Ok rest
     pub same : first ∷ rest ≡ texts
 
-  pub text_steps : (place : ℕ) (places : List ℕ) (glyph : ℕ) (a : Option ℕ) (more : List (Option ℕ)) (texts : List (Option (List ℕ))) → texts_from cff v tokens depth dicts (place ∷ places) glyph (a ∷ more) ≡ Ok texts
-      → TextSteps place places glyph a more texts
-  text_steps place places glyph a more texts e =
-      let s = bind_ok (text_if cff v tokens depth dicts place glyph a) (λ first. texts_from cff v tokens depth dicts places (glyph + 1) more >>= λ rest. Ok (first ∷ rest)) texts e in
+  pub text_steps : (index_of : ℕ) (places : List ℕ) (glyph : ℕ) (a : Option ℕ) (more : List (Option ℕ)) (texts : List (Option (List ℕ))) → texts_from cff v tokens depth dicts (index_of ∷ places) glyph (a ∷ more) ≡ Ok texts
+      → TextSteps index_of places glyph a more texts
+  text_steps index_of places glyph a more texts e =
+      let s = bind_ok (text_if cff v tokens depth dicts index_of glyph a) (λ first. texts_from cff v tokens depth dicts places (glyph + 1) more >>= λ rest. Ok (first ∷ rest)) texts e in
       let t = bind_ok (texts_from cff v tokens depth dicts places (glyph + 1) more) (λ rest. Ok (s.0 ∷ rest)) texts s.1.1 in
       record { first = s.0; first_is = s.1.0; rest = t.0; rest_are = t.1.0; same = same_Ok _ _ t.1.1 }
 
@@ -114,7 +114,7 @@ module _ (cff : Cff2) (v : Option Variation) (tokens depth : ℕ) (dicts : List 
   text_at (p ∷ places) glyph (b ∷ glyphs) zero a texts e len at =
       let s = text_steps p places glyph b glyphs texts e in
       record {
-        place = p;
+        index = p;
         place_at = refl;
         text = s.first;
         at = ap (λ (l : List (Option (List ℕ))). slice_get l 0) (sym s.same);
@@ -124,11 +124,11 @@ module _ (cff : Cff2) (v : Option Variation) (tokens depth : ℕ) (dicts : List 
       let s = text_steps p places glyph b glyphs texts e in
       let more = text_at places (glyph + 1) glyphs i a s.rest s.rest_are (omega (arith, len)) at in
       record {
-        place = more.place;
+        index = more.index;
         place_at = more.place_at;
         text = more.text;
         at = ap (λ (l : List (Option (List ℕ))). slice_get l (suc i)) (sym s.same) ∙ more.at;
-        is = ap (λ (n : ℕ). text_if cff v tokens depth dicts more.place n a) (let z : glyph + suc i ≡ glyph + 1 + i = omega arith in z) ∙ more.is;
+        is = ap (λ (n : ℕ). text_if cff v tokens depth dicts more.index n a) (let z : glyph + suc i ≡ glyph + 1 + i = omega arith in z) ∙ more.is;
       }
 
   pub text_here : (places : List ℕ) (glyphs : List (Option ℕ)) (i : ℕ) (a : Option ℕ) (texts : List (Option (List ℕ))) → texts_from cff v tokens depth dicts places 0 glyphs ≡ Ok texts
@@ -233,11 +233,11 @@ unfolding some_requested
 requested_at glyphs e = requested_in glyphs e
 
 -- ---- places
-inside_of : (used : List ℕ) (n : ℕ) (o : Option ℕ) → place used n ≡ o → 0 < length used → unwrap_or o 0 < length used
+inside_of : (used : List ℕ) (n : ℕ) (o : Option ℕ) → index_of used n ≡ o → 0 < length used → unwrap_or o 0 < length used
 inside_of used n None e some = some
 inside_of used n (Some i) e some = slice_get_within used i n (number_there used n i e)
 
-pub all_inside : (used : List ℕ) (numbers : List (Option ℕ)) → 0 < length used → AllByRecursion (λ n. n < length used) (map (place_in used) numbers)
+pub all_inside : (used : List ℕ) (numbers : List (Option ℕ)) → 0 < length used → AllByRecursion (λ n. n < length used) (map (index_in used) numbers)
 all_inside used [] some = tt
 all_inside used (None ∷ numbers) some = (some, all_inside used numbers some)
-all_inside used (Some n ∷ numbers) some = (inside_of used n (place used n) refl some, all_inside used numbers some)
+all_inside used (Some n ∷ numbers) some = (inside_of used n (index_of used n) refl some, all_inside used numbers some)

@@ -18,7 +18,7 @@ use Rattle.subsetter_cff2.specs.Blend.{blended}
 use Rattle.subsetter_cff2.specs.EntryLists.{entry_lists}
 use Rattle.subsetter_cff2.specs.PrivateAt.{Registers, Step, at_start, blended_by, chosen, last_natural, pushed, silent, step_by}
 use Rattle.subsetter_cff2.specs.PrivateKinds.{kind_by}
-use Rattle.subsetter_cff2.specs.PrivateText.{PlacedText, TextStep, behind, placed_text, private_text, said_text, step_text}
+use Rattle.subsetter_cff2.specs.PrivateText.{PlacedText, TextStep, behind, placed_text, private_text, entry_text, step_text}
 use Rattle.subsetter_cff2.specs.Variation.{Variation, data_scalars}
 use Rattle.subsetter_cff2.specs.declared.kinds.PrivateOperator.{PrivateOperator}
 use Rattle.subsetter_cff2.specs.declared.kinds.PrivateOperator.TheVariants.{Blends, ChoosesData, Edges, Numbers, Dropped}
@@ -173,7 +173,7 @@ is_long operator xs h = rw h refl
 
 module _ (v : Option Variation) where
   said_refused : (r here : Registers) (entry : Entry) (more : List Entry) (s : Step) (said : Option Entry) (e : Error) → pushed r entry.operands ≡ Some here → step_by (kind_by entry.operator) v entry.operator here ≡ Some s
-      → s.said ≡ said → said_text said ≡ Err e → HasEntryFault v r (entry ∷ more) e
+      → s.said ≡ said → entry_text said ≡ Err e → HasEntryFault v r (entry ∷ more) e
   said_refused r here entry more s None e pushes steps is h = absurd cc
   said_refused r here entry more s (Some kept) e pushes steps is h =
       (let a = long_is kept.operator kept.operands e h in subst (HasEntryFault v r (entry ∷ more)) a.1 (long_real r here entry kept more s pushes steps is a.0))
@@ -191,7 +191,7 @@ module _ (v : Option Variation) where
                   subst F n.1 (in_operator r a.0 entry more pushes (operator_by entry.operator a.0 (kind_by entry.operator) v refl n.0)))
               | inr b ↦ (
                   let steps = some_of (step_by (kind_by entry.operator) v entry.operator a.0) MalformedFont b.0 b.1.0 in
-                  elim (bind_err (said_text b.0.said) _ e b.1.1) [
+                  elim (bind_err (entry_text b.0.said) _ e b.1.1) [
                     | inl c ↦ said_refused r a.0 entry more b.0 b.0.said e pushes steps refl c
                     | inr c ↦ absurd (let bad : ◌≡◌ {A = Result TextStep Error} (Ok (record { text = c.0; next = b.0.next })) (Err e) = c.1.1 in cc)
                   ]

@@ -8,7 +8,7 @@ use Rattle.std.proofs.lemmas.Bool.{ltb-true}
 use Rattle.std.proofs.lemmas.List.{length-map}
 use Rattle.std.proofs.lemmas.Option.{none-some, same_Some, slice_get-map, slice_get_within, get_or_from_slice_get}
 use Rattle.subsetter_base.specs.Bytes.{◌>>=◌}
-use Rattle.subsetter_base.specs.Places.{place}
+use Rattle.subsetter_base.specs.Indexes.{index_of}
 use Rattle.subsetter_base.specs.declared.error.Error.TheVariants.{MalformedFont, OverflowError}
 use Rattle.subsetter_cffdata.proofs.Options.{step}
 use Rattle.subsetter_cffdata.specs.Dict.{Entry, entries}
@@ -35,7 +35,7 @@ use Rattle.subsetter_cff2.specs.Made2.{NewDict, new_dict, new_dicts, new_font_di
 use Rattle.subsetter_cff2.specs.MadeReads.{IsMadeOf, DictIsPlaced}
 use Rattle.subsetter_cff2.specs.Operators2.{store_operator}
 use Rattle.subsetter_cff2.specs.Private2 as source
-use Rattle.subsetter_cff2.specs.UsedDicts.{counted_dicts, place_in}
+use Rattle.subsetter_cff2.specs.UsedDicts.{counted_dicts, index_in}
 use Rattle.subsetter_cff2.specs.Variation.{Variation, optional_variation}
 use Rattle.subsetter_cff2.proofs.MadeFits.{made_is_read, new_dict_is_placed}
 use Rattle.subsetter_cff_at.specs.Plain.{dict_bound, numbers_from, present, setting, glyph_text, placed_text, texts_from, filled, all_filled, no_glyph, Drawn, drawn, Opened, opened, parts_of, some_requested, made_table}
@@ -82,7 +82,7 @@ pub record DrawnSteps (cff : Cff2) (v : Option Variation) (tokens depth : ℕ) (
   pub used_are : counted_dicts (dict_bound cff) (present numbers) ≡ Ok used
   pub dicts_are : new_dicts cff v used ≡ Ok d.dicts
   pub texts_are : texts_from cff v tokens depth d.dicts d.places 0 glyphs ≡ Ok d.texts
-  pub places_are : d.places ≡ map (place_in used) numbers
+  pub places_are : d.places ≡ map (index_in used) numbers
 
 pub drawn_steps : (cff : Cff2) (v : Option Variation) (tokens depth : ℕ) (glyphs : List (Option ℕ)) (d : Drawn) → drawn cff v tokens depth glyphs ≡ Ok d → DrawnSteps cff v tokens depth glyphs d
 unfolding drawn
@@ -90,18 +90,18 @@ drawn_steps cff v tokens depth glyphs d e =
     let a = bind_ok (numbers_from cff 0 glyphs) _ d e in
     let b = bind_ok (counted_dicts (dict_bound cff) (present a.0)) _ d a.1.1 in
     let c = bind_ok (new_dicts cff v b.0) _ d b.1.1 in
-    let f = bind_ok (texts_from cff v tokens depth c.0 (map (place_in b.0) a.0) 0 glyphs) _ d c.1.1 in
-    let same : record { dicts = c.0; places = map (place_in b.0) a.0; texts = f.0 } ≡ d = same_Ok _ _ f.1.1 in
+    let f = bind_ok (texts_from cff v tokens depth c.0 (map (index_in b.0) a.0) 0 glyphs) _ d c.1.1 in
+    let same : record { dicts = c.0; places = map (index_in b.0) a.0; texts = f.0 } ≡ d = same_Ok _ _ f.1.1 in
     subst (λ (x : Drawn). DrawnSteps cff v tokens depth glyphs x) same (record { numbers = a.0; numbers_are = a.1.0; used = b.0; used_are = b.1.0; dicts_are = c.1.0; texts_are = f.1.0; places_are = refl })
 
 -- ---- a requested glyph
 pub record GlyphFound (cff : Cff2) (v : Option Variation) (tokens depth glyph advance : ℕ) (d : Drawn) : Type 0 where
   pub number : ℕ
   pub number_is : source.font_dict_number cff glyph ≡ Some number
-  pub place : ℕ
-  pub place_at : slice_get d.places glyph ≡ Some place
+  pub index : ℕ
+  pub place_at : slice_get d.places glyph ≡ Some index
   pub dict : NewDict
-  pub dict_at : slice_get d.dicts place ≡ Some dict
+  pub dict_at : slice_get d.dicts index ≡ Some dict
   pub dict_is : new_dict cff v number ≡ Ok dict
   pub small : advance < 32768
   pub charstring : List ℕ
@@ -123,21 +123,21 @@ text_found cff v tokens depth dict glyph advance bytes e =
     let b = bind_ok (ok_or (source.char_string cff glyph) MalformedFont) _ bytes a.1 in
     record { small = ltb-true advance 32768 a.0; charstring = b.0; charstring_is = some_of (source.char_string cff glyph) MalformedFont b.0 b.1.0; ran = b.1.1 }
 
-placed_found : (cff : Cff2) (v : Option Variation) (tokens depth : ℕ) (dicts : List NewDict) (place glyph advance : ℕ) (bytes : List ℕ) → placed_text cff v tokens depth dicts place glyph advance ≡ Ok bytes
-    → (dict : NewDict) × ((slice_get dicts place ≡ Some dict) × (glyph_text cff v tokens depth dict glyph advance ≡ Ok bytes))
+placed_found : (cff : Cff2) (v : Option Variation) (tokens depth : ℕ) (dicts : List NewDict) (index_of glyph advance : ℕ) (bytes : List ℕ) → placed_text cff v tokens depth dicts index_of glyph advance ≡ Ok bytes
+    → (dict : NewDict) × ((slice_get dicts index_of ≡ Some dict) × (glyph_text cff v tokens depth dict glyph advance ≡ Ok bytes))
 unfolding placed_text
-placed_found cff v tokens depth dicts place glyph advance bytes e =
-    let a = bind_ok (ok_or (slice_get dicts place) MalformedFont) _ bytes e in
-    (a.0, (some_of (slice_get dicts place) MalformedFont a.0 a.1.0, a.1.1))
+placed_found cff v tokens depth dicts index_of glyph advance bytes e =
+    let a = bind_ok (ok_or (slice_get dicts index_of) MalformedFont) _ bytes e in
+    (a.0, (some_of (slice_get dicts index_of) MalformedFont a.0 a.1.0, a.1.1))
 
 -- the number of a requested glyph's font dict, and its place among the used ones
 pub record PlaceFound (cff : Cff2) (numbers : List (Option ℕ)) (used : List ℕ) (glyph : ℕ) : Type 0 where
   pub number : ℕ
   pub number_is : source.font_dict_number cff glyph ≡ Some number
   pub below : number < dict_bound cff
-  pub place : ℕ
-  pub place_at : slice_get (map (place_in used) numbers) glyph ≡ Some place
-  pub used_at : slice_get used place ≡ Some number
+  pub index : ℕ
+  pub place_at : slice_get (map (index_in used) numbers) glyph ≡ Some index
+  pub used_at : slice_get used index ≡ Some number
 
 pub number_place : (cff : Cff2) (glyphs numbers : List (Option ℕ)) (used : List ℕ) → numbers_from cff 0 glyphs ≡ Ok numbers → counted_dicts (dict_bound cff) (present numbers) ≡ Ok used
     → (glyph advance : ℕ) → slice_get glyphs glyph ≡ Some (Some advance) → PlaceFound cff numbers used glyph
@@ -147,19 +147,19 @@ number_place cff glyphs numbers used numbers_are used_are glyph advance is =
     let at : slice_get numbers glyph ≡ Some (Some h.value) = n.at ∙ ap Some h.is in
     let few = few_used (dict_bound cff) (present numbers) used used_are in
     let inside = in_used (dict_bound cff) (present numbers) h.value h.below (used_of numbers glyph h.value at) in
-    let found : place used h.value ≡ Some inside.at = ap (λ (l : List ℕ). place l h.value) few.0 ∙ inside.is in
+    let found : index_of used h.value ≡ Some inside.at = ap (λ (l : List ℕ). index_of l h.value) few.0 ∙ inside.is in
     record {
       number = h.value;
       number_is = h.found;
       below = h.below;
-      place = inside.at;
-      place_at = slice_get-map (place_in used) numbers glyph ∙ ap (option_map (place_in used)) at ∙ ap (λ (o : Option ℕ). Some (unwrap_or o 0)) found;
+      index = inside.at;
+      place_at = slice_get-map (index_in used) numbers glyph ∙ ap (option_map (index_in used)) at ∙ ap (λ (o : Option ℕ). Some (unwrap_or o 0)) found;
       used_at = number_there used h.value inside.at found;
     }
 
 module _ (cff : Cff2) (v : Option Variation) (tokens depth : ℕ) (glyphs : List (Option ℕ)) (d : Drawn) (s : DrawnSteps cff v tokens depth glyphs d) where
   pub as_many : length d.places ≡ length glyphs
-  as_many = ap length s.places_are ∙ length-map s.numbers (place_in s.used) ∙ length-numbers cff 0 glyphs s.numbers s.numbers_are
+  as_many = ap length s.places_are ∙ length-map s.numbers (index_in s.used) ∙ length-numbers cff 0 glyphs s.numbers s.numbers_are
 
   pub place_found : (glyph advance : ℕ) → slice_get glyphs glyph ≡ Some (Some advance) → PlaceFound cff s.numbers s.used glyph
   place_found = number_place cff glyphs s.numbers s.used s.numbers_are s.used_are
@@ -167,17 +167,17 @@ module _ (cff : Cff2) (v : Option Variation) (tokens depth : ℕ) (glyphs : List
   pub glyph_found : (glyph advance : ℕ) → slice_get glyphs glyph ≡ Some (Some advance) → GlyphFound cff v tokens depth glyph advance d
   glyph_found glyph advance is =
       let p = place_found glyph advance is in
-      let f = dict_at cff v s.used d.dicts p.place p.number s.dicts_are p.used_at in
+      let f = dict_at cff v s.used d.dicts p.index p.number s.dicts_are p.used_at in
       let t = text_here cff v tokens depth d.dicts d.places glyphs glyph (Some advance) d.texts s.texts_are as_many is in
-      let a = bind_ok (placed_text cff v tokens depth d.dicts t.place glyph advance) (λ text. Ok (Some text)) t.text t.is in
-      let b = placed_found cff v tokens depth d.dicts t.place glyph advance a.0 a.1.0 in
-      let here : t.place ≡ p.place = same_Some _ _ (sym t.place_at ∙ ap (λ (l : List ℕ). slice_get l glyph) s.places_are ∙ p.place_at) in
+      let a = bind_ok (placed_text cff v tokens depth d.dicts t.index glyph advance) (λ text. Ok (Some text)) t.text t.is in
+      let b = placed_found cff v tokens depth d.dicts t.index glyph advance a.0 a.1.0 in
+      let here : t.index ≡ p.index = same_Some _ _ (sym t.place_at ∙ ap (λ (l : List ℕ). slice_get l glyph) s.places_are ∙ p.place_at) in
       let same : b.0 ≡ f.dict = same_Some _ _ (sym b.1.0 ∙ ap (slice_get d.dicts) here ∙ f.at) in
       let g = text_found cff v tokens depth f.dict glyph advance a.0 (ap (λ (x : NewDict). glyph_text cff v tokens depth x glyph advance) (sym same) ∙ b.1.1) in
       record {
         number = p.number;
         number_is = p.number_is;
-        place = p.place;
+        index = p.index;
         place_at = ap (λ (l : List ℕ). slice_get l glyph) s.places_are ∙ p.place_at;
         dict = f.dict;
         dict_at = f.at;
@@ -216,29 +216,29 @@ same_run : (cff : Cff2) (v : Option Variation) (tokens depth : ℕ) (locals othe
 same_run cff v tokens depth locals other data_index index advance charstring bytes p q e = rw (← p, ← q) e
 
 module _ (cff : Cff2) (v : Option Variation) (tokens depth glyph advance : ℕ) (d : Drawn) (f : GlyphFound cff v tokens depth glyph advance d) (p : Parts) (copy : Cff) (reads : ReadsAs p copy) (texts_are : p.char_strings ≡ all_filled d.texts)
-    (dicts_are : p.font_dicts ≡ map new_font_dict d.dicts) (read : GlyphReadsAs p copy glyph) (dict_in : slice_get p.font_dicts f.place ≡ Some read.font_dict) where
+    (dicts_are : p.font_dicts ≡ map new_font_dict d.dicts) (read : GlyphReadsAs p copy glyph) (dict_in : slice_get p.font_dicts f.index ≡ Some read.font_dict) where
   placed : DictIsPlaced cff v f.number f.dict
   placed = new_dict_is_placed cff v f.number f.dict f.dict_is
 
   same_dict : read.font_dict ≡ new_font_dict f.dict
-  same_dict = same_Some _ _ (sym dict_in ∙ ap (λ (l : List FontDict). slice_get l f.place) dicts_are ∙ slice_get-map new_font_dict d.dicts f.place ∙ ap (option_map new_font_dict) f.dict_at)
+  same_dict = same_Some _ _ (sym dict_in ∙ ap (λ (l : List FontDict). slice_get l f.index) dicts_are ∙ slice_get-map new_font_dict d.dicts f.index ∙ ap (option_map new_font_dict) f.dict_at)
 
-  entries_are : read.font_dict.private ≡ placed.at_place.entries
+  entries_are : read.font_dict.private ≡ placed.at_location.entries
   entries_are = ap (λ (x : FontDict). x.private) same_dict ∙ placed.entries_are
 
   bytes_are : char_string copy glyph ≡ Some f.bytes
   bytes_are = text_of copy d.texts glyph (Some f.bytes) (reads.charstrings ∙ ap (λ (l : List (List ℕ)). Some (map Some l)) texts_are) f.text_at
 
-  drawn_is : IsDrawnAndWritten (setting cff v placed.source.subroutines) tokens depth placed.at_place.data_index (pos advance) f.charstring f.bytes
-  drawn_is = resolved_draws_rounded (setting cff v placed.source.subroutines) tokens depth placed.at_place.data_index (pos advance) f.charstring f.bytes (fits_width advance f.small)
-      (same_run cff v tokens depth f.dict.subroutines placed.source.subroutines f.dict.data_index placed.at_place.data_index advance f.charstring f.bytes placed.subroutines_are placed.data_index_is f.ran)
+  drawn_is : IsDrawnAndWritten (setting cff v placed.source.subroutines) tokens depth placed.at_location.data_index (pos advance) f.charstring f.bytes
+  drawn_is = resolved_draws_rounded (setting cff v placed.source.subroutines) tokens depth placed.at_location.data_index (pos advance) f.charstring f.bytes (fits_width advance f.small)
+      (same_run cff v tokens depth f.dict.subroutines placed.source.subroutines f.dict.data_index placed.at_location.data_index advance f.charstring f.bytes placed.subroutines_are placed.data_index_is f.ran)
 
   pub draws_glyph : DrawsGlyph cff v tokens depth glyph advance copy
   draws_glyph = record {
     private = placed.source;
     private_is = source_private cff glyph f.number placed.source f.number_is placed.source_is;
-    at_place = placed.at_place;
-    at_place_is = placed.at_place_is;
+    at_location = placed.at_location;
+    at_location_is = placed.at_location_is;
     entries_are = own_of copy glyph read.font_dict.private read.private (none_left_out subroutines_operator read.font_dict.private read.leads_nowhere) ∙ ap Some entries_are;
     charstring = f.charstring;
     charstring_is = f.charstring_is;
@@ -249,8 +249,8 @@ module _ (cff : Cff2) (v : Option Variation) (tokens depth glyph advance : ℕ) 
   }
 
 -- ---- the whole
-index_of : (places : List ℕ) (i place : ℕ) → slice_get places i ≡ Some place → slice_index places i ≡ place
-index_of places i place at = get_or_from_slice_get places i place 0 at
+item_at : (places : List ℕ) (i index_of : ℕ) → slice_get places i ≡ Some index_of → slice_index places i ≡ index_of
+item_at places i index_of at = get_or_from_slice_get places i index_of 0 at
 
 pub record TableSteps (bytes : List ℕ) (r : Request) (tokens depth : ℕ) (out : List ℕ) : Type 0 where
   pub requested : some_requested r.glyphs ≡ true
@@ -326,7 +326,7 @@ module _ (bytes : List ℕ) (r : Request) (tokens depth : ℕ) (out : List ℕ) 
   some_used =
       let a = requested_at r.glyphs s.requested in
       let p = place_found s.cff s.variation tokens depth r.glyphs s.glyphs steps a.glyph a.advance a.is in
-      omega (arith, slice_get_within steps.used p.place p.number p.used_at)
+      omega (arith, slice_get_within steps.used p.index p.number p.used_at)
 
   some_glyph : 1 ≤ length r.glyphs
   some_glyph = let a = requested_at r.glyphs s.requested in omega (arith, slice_get_within r.glyphs a.glyph (Some a.advance) a.is)
@@ -341,7 +341,7 @@ module _ (bytes : List ℕ) (r : Request) (tokens depth : ℕ) (out : List ℕ) 
     as_many = as_many s.cff s.variation tokens depth r.glyphs s.glyphs steps ∙ sym texts_many;
     inside =
         subst (λ (l : List ℕ). AllByRecursion (λ n. n < length s.glyphs.dicts) l) (sym steps.places_are)
-        (subst (λ (k : ℕ). AllByRecursion (λ n. n < k) (map (place_in steps.used) steps.numbers)) (sym dicts_many) (all_inside steps.used steps.numbers some_used));
+        (subst (λ (k : ℕ). AllByRecursion (λ n. n < k) (map (index_in steps.used) steps.numbers)) (sym dicts_many) (all_inside steps.used steps.numbers some_used));
     some_glyph = omega (arith, some_glyph, texts_many);
     few_glyphs = omega (arith, is.few, texts_many);
   }
@@ -358,7 +358,7 @@ module _ (bytes : List ℕ) (r : Request) (tokens depth : ℕ) (out : List ℕ) 
         let f = glyph_found s.cff s.variation tokens depth r.glyphs s.glyphs steps glyph advance at in
         let g = glyph_read glyph (slice_get_within r.glyphs glyph (Some advance) at) in
         draws_glyph s.cff s.variation tokens depth glyph advance s.glyphs f parts read.cff read.reads refl refl g
-        (ap (slice_get parts.font_dicts) (sym (index_of s.glyphs.places glyph f.place f.place_at)) ∙ g.font_dict_is)
+        (ap (slice_get parts.font_dicts) (sym (item_at s.glyphs.places glyph f.index f.place_at)) ∙ g.font_dict_is)
 
     not_requested : (glyph : ℕ) → slice_get r.glyphs glyph ≡ Some None → char_string read.cff glyph ≡ Some no_glyph
     not_requested glyph at =

@@ -7,14 +7,14 @@ use Rattle.subsetter_cffdata.specs.Dict.{entries}
 use Rattle.subsetter_cffdata.specs.Numbers.{Number}
 use Rattle.subsetter_cff.specs.Read.Lookup.{last_of}
 use Rattle.subsetter_cff.specs.Read.Operators.{char_strings_operator, font_dicts_operator, font_dict_select_operator}
-use Rattle.subsetter_cff.specs.Write.Layout.{char_strings_place}
+use Rattle.subsetter_cff.specs.Write.Layout.{char_strings_offset}
 use Rattle.subsetter_cff.specs.Write.WrittenNumbers.{any_long, entry_numbers}
 use Rattle.subsetter_cff2.specs.Cff2.{Cff2, wide_index, named_index, optional_offset, store_by, cff2_parts}
 use Rattle.subsetter_cff2.specs.Front2.{front_at}
 use Rattle.subsetter_cff2.specs.Made2.{new_parts}
 use Rattle.subsetter_cff2.specs.Operators2.{store_operator}
 use Rattle.subsetter_cff2.specs.Private2.{Private2, font_dict_number, private_numbered, char_string}
-use Rattle.subsetter_cff2.specs.PrivateAt.{Placed, private_at_place}
+use Rattle.subsetter_cff2.specs.PrivateAt.{Placed, private_at_location}
 use Rattle.subsetter_cff2.specs.UsedDicts.{used_dicts}
 use Rattle.subsetter_cff2.specs.Variation.{Variation, optional_variation}
 use Rattle.subsetter_cff_at.specs.Plain.{dict_bound, numbers_from, present, setting, Drawn, drawn, Opened, opened, all_filled, made_table}
@@ -53,12 +53,12 @@ pub data HasGlyphFault (cff : Cff2) (v : Option Variation) (tokens depth glyph a
   -- that is kept and whose text is too long, which is OverflowError ("Private DICT Data")
   bad_private : (number : ℕ) (private : Private2) (e : Error) → font_dict_number cff glyph ≡ Some number → private_numbered cff number ≡ Some private → HasPrivateFault v private.dict e
       → HasGlyphFault cff v tokens depth glyph advance e
-  long_private : (number : ℕ) (private : Private2) (at_place : Placed) → font_dict_number cff glyph ≡ Some number → private_numbered cff number ≡ Some private → private_at_place v private.dict ≡ Some at_place
+  long_private : (number : ℕ) (private : Private2) (at_place : Placed) → font_dict_number cff glyph ≡ Some number → private_numbered cff number ≡ Some private → private_at_location v private.dict ≡ Some at_place
       → any_long (entry_numbers at_place.entries) ≡ true → HasGlyphFault cff v tokens depth glyph advance OverflowError
   -- it has no charstring
   no_char_string : char_string cff glyph ≡ None → HasGlyphFault cff v tokens depth glyph advance MalformedFont
   -- a token of it, its end, a limit, or a number that is written ("CFF2 CharString Format")
-  stops : (number : ℕ) (private : Private2) (at_place : Placed) (charstring : List ℕ) (e : Error) → font_dict_number cff glyph ≡ Some number → private_numbered cff number ≡ Some private → private_at_place v private.dict ≡ Some at_place
+  stops : (number : ℕ) (private : Private2) (at_place : Placed) (charstring : List ℕ) (e : Error) → font_dict_number cff glyph ≡ Some number → private_numbered cff number ≡ Some private → private_at_location v private.dict ≡ Some at_place
       → char_string cff glyph ≡ Some charstring → HasCharstringFault (setting cff v private.subroutines) tokens depth at_place.data_index (pos advance) charstring e → HasGlyphFault cff v tokens depth glyph advance e
   -- its advance is past the numbers of a charstring
   wide_advance : 32767 < advance → HasGlyphFault cff v tokens depth glyph advance OverflowError
@@ -72,7 +72,7 @@ pub data HasLimitFault (cff : Cff2) (v : Option Variation) (r : Request) (tokens
   -- the charstrings have 4 GiB, or an offset is past 2147483647
   large_char_strings : (d : Drawn) → drawn cff v tokens depth r.glyphs ≡ Ok d → 2 ^ 32 ≤ length (concat (all_filled d.texts)) + 1 → HasLimitFault cff v r tokens depth OverflowError
   large_offset : (d : Drawn) (matrix : Option (List Number)) → drawn cff v tokens depth r.glyphs ≡ Ok d → top_matrix cff r.units ≡ Some matrix
-      → 2 ^ 31 ≤ char_strings_place (new_parts matrix r.box d.dicts d.places (all_filled d.texts)) → HasLimitFault cff v r tokens depth OverflowError
+      → 2 ^ 31 ≤ char_strings_offset (new_parts matrix r.box d.dicts d.places (all_filled d.texts)) → HasLimitFault cff v r tokens depth OverflowError
 
 -- ---- all
 pub data HasFault (bytes : List ℕ) (r : Request) (tokens depth : ℕ) : Error → Type 0 where
@@ -83,8 +83,8 @@ pub data HasFault (bytes : List ℕ) (r : Request) (tokens depth : ℕ) : Error 
   in_limits : {e : Error} (o : Opened) → opened bytes r ≡ Ok o → HasLimitFault o.cff o.variation r tokens depth e → HasFault bytes r tokens depth e
 
 -- what is refused has a fault of that name
-abbrev pub RefusedStands : Type 0
-RefusedStands = (bytes : List ℕ) (r : Request) (tokens depth : ℕ) (e : Error) → made_table bytes r tokens depth ≡ Err e → HasFault bytes r tokens depth e
+abbrev pub RefusedHasFault : Type 0
+RefusedHasFault = (bytes : List ℕ) (r : Request) (tokens depth : ℕ) (e : Error) → made_table bytes r tokens depth ≡ Err e → HasFault bytes r tokens depth e
 
 -- where a table is made, no fault stands
 abbrev pub MadeExcludes : Type 0

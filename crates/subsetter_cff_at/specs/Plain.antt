@@ -12,7 +12,7 @@ use Rattle.subsetter_blend.specs.Resolved.{resolved}
 use Rattle.subsetter_cff2.specs.Cff2.{Cff2, cff2_parts}
 use Rattle.subsetter_cff2.specs.Made2.{NewDict, new_dicts, new_parts, made_of}
 use Rattle.subsetter_cff2.specs.Private2.{font_dict_number, char_string}
-use Rattle.subsetter_cff2.specs.UsedDicts.{counted_dicts, place_in}
+use Rattle.subsetter_cff2.specs.UsedDicts.{counted_dicts, index_in}
 use Rattle.subsetter_cff2.specs.Variation.{Variation, optional_variation, font_scalars}
 use Rattle.subsetter_cff_at.specs.Request.{Request}
 use Rattle.subsetter_cff_at.specs.Units.{top_matrix}
@@ -111,8 +111,8 @@ drawn cff v tokens depth glyphs = do
   numbers ← numbers_from cff 0 glyphs
   used ← counted_dicts (dict_bound cff) (present numbers)
   dicts ← new_dicts cff v used
-  texts ← texts_from cff v tokens depth dicts (map (place_in used) numbers) 0 glyphs
-  Ok (record { dicts = dicts; places = map (place_in used) numbers; texts = texts })
+  texts ← texts_from cff v tokens depth dicts (map (index_in used) numbers) 0 glyphs
+  Ok (record { dicts = dicts; places = map (index_in used) numbers; texts = texts })
 
 -- a table that is opened: its parts, FontMatrix, and what varies
 pub record Opened : Type 0 where

@@ -20,7 +20,7 @@ use Rattle.subsetter_cff2.specs.Cff2.{Cff2, cff2_parts}
 use Rattle.subsetter_cff2.specs.Made2.{new_matrix}
 use Rattle.subsetter_cff2.specs.Private2 as source
 use Rattle.subsetter_cff2.specs.Private2.{Private2, private_of}
-use Rattle.subsetter_cff2.specs.PrivateAt.{Placed, private_at_place}
+use Rattle.subsetter_cff2.specs.PrivateAt.{Placed, private_at_location}
 use Rattle.subsetter_cff2.specs.Variation.{Variation, optional_variation}
 use Rattle.subsetter_cff_at.specs.Plain.{setting, no_glyph, made_table}
 use Rattle.subsetter_cff_at.specs.Request.{Request}
@@ -31,16 +31,16 @@ pub record DrawsGlyph (cff : Cff2) (v : Option Variation) (tokens depth glyph ad
   -- its private dict has the entries of the source's, with each blend resolved
   pub private : Private2
   pub private_is : private_of cff glyph ≡ Some private
-  pub at_place : Placed
-  pub at_place_is : private_at_place v private.dict ≡ Some at_place
-  pub entries_are : private_entries out glyph ≡ Some at_place.entries
+  pub at_location : Placed
+  pub at_location_is : private_at_location v private.dict ≡ Some at_location
+  pub entries_are : private_entries out glyph ≡ Some at_location.entries
   -- its charstring
   pub charstring : List ℕ
   pub charstring_is : source.char_string cff glyph ≡ Some charstring
   pub bytes : List ℕ
   pub bytes_are : char_string out glyph ≡ Some bytes
   -- draws and hints what the source's does, each coordinate and edge rounded once, with the advance as its width
-  pub drawn : IsDrawnAndWritten (setting cff v private.subroutines) tokens depth at_place.data_index (pos advance) charstring bytes
+  pub drawn : IsDrawnAndWritten (setting cff v private.subroutines) tokens depth at_location.data_index (pos advance) charstring bytes
   -- and any run in the new table finds that, by as many tokens as it has
   pub trace_is : (n deep : ℕ) → 1 ≤ deep → cost (written_events drawn.written.whole) ≤ n → glyph_trace out n deep glyph ≡ Some (record { events = written_events drawn.written.whole; left = [] })
 

@@ -18,7 +18,7 @@ use Rattle.subsetter_blend.specs.Number.{are_within}
 use Rattle.subsetter_blend.specs.Placed.{placed}
 use Rattle.subsetter_blend.specs.Split.{split}
 use Rattle.subsetter_blend.specs.Taking.{Event}
-use Rattle.subsetter_blend.specs.Written.{Fitted, fitted, fitted_piece, fitted_start, from_place, may_stand, width}
+use Rattle.subsetter_blend.specs.Written.{Fitted, fitted, fitted_piece, fitted_start, start_point, may_begin, width}
 
 -- ---- an operator, where these bytes stand behind it
 pub data HasOperatorFault (setting : Setting) (operator : Operator) (rest : List ℕ) (r : Registers) : Error → Type 0 where
@@ -63,13 +63,13 @@ pub data HasTokenFault (setting : Setting) (bytes : List ℕ) (r : Registers) : 
 -- ---- what is written of an operator
 -- a coordinate, an edge of a stem or the step to it has no 16 bits, in one of these pieces
 pub data IsFar : List Event → Fitted → Type 0 where
-  far_here : (e : Event) (es : List Event) (f : Fitted) → placed e.operator (length e.operands) 0 e.operands (record { at = from_place (is_hint e.operator.0) f.pen.at; numbers = width f.pen.advance }) ≡ None → IsFar (e ∷ es) f
+  far_here : (e : Event) (es : List Event) (f : Fitted) → placed e.operator (length e.operands) 0 e.operands (record { at = start_point (is_hint e.operator.0) f.pen.at; numbers = width f.pen.advance }) ≡ None → IsFar (e ∷ es) f
   far_behind : (e : Event) (es : List Event) (f g : Fitted) → fitted_piece e f ≡ Ok g → IsFar es g → IsFar (e ∷ es) f
 
 pub data HasEventFault (event : Event) (f : Fitted) : Error → Type 0 where
   -- a line or a curve in front of the first move
-  no_move : may_stand f.pen.advance event.operator.0 ≡ false → HasEventFault event f CFFError
-  far : may_stand f.pen.advance event.operator.0 ≡ true → IsFar (split (length (width f.pen.advance)) (opened event)) f → HasEventFault event f OverflowError
+  no_move : may_begin f.pen.advance event.operator.0 ≡ false → HasEventFault event f CFFError
+  far : may_begin f.pen.advance event.operator.0 ≡ true → IsFar (split (length (width f.pen.advance)) (opened event)) f → HasEventFault event f OverflowError
 
 -- ---- the run, from a state in which so many tokens are left
 pub data HasRunFault (setting : Setting) (depth : ℕ) : ℕ → Fitted → State → Error → Type 0 where

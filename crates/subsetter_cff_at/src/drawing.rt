@@ -11,7 +11,7 @@ use crate::texts::draw_texts;
 use std::alloc::Global;
 use subsetter_base::error::Error;
 use subsetter_cff2::made::{NewGlyphs, PlacedDict, place_dicts};
-use subsetter_cff2::used::{place_all, used_dicts};
+use subsetter_cff2::used::{indexes_of, used_dicts};
 use subsetter_type2::limits::Limits;
 
 /// The private dicts at the coordinates, and all glyphs.
@@ -47,7 +47,7 @@ pub fn draw<'a>(
     let numbers = find_numbers(alloc, &opened.table, glyphs)?;
     let found = present(alloc, &numbers)?;
     let used = used_dicts(alloc, &found, dict_bound(&opened.table))?;
-    let places = place_all(alloc, &used, &numbers)?;
+    let places = indexes_of(alloc, &used, &numbers)?;
     let dicts = place_dicts(alloc, &opened.table, &opened.variation.variation, &used)?;
     let texts = draw_texts(alloc, opened, &dicts, &places, glyphs, limits)?;
     count_is_whole(limits, texts.requested);

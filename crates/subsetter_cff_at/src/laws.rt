@@ -1,6 +1,6 @@
 //! Laws of the table at coordinates, which no code runs.
 
-ghost use Rattle.subsetter_cff_at.specs.Fault.{RefusedStands, MadeExcludes};
+ghost use Rattle.subsetter_cff_at.specs.Fault.{RefusedHasFault, MadeExcludes};
 ghost use Rattle.subsetter_cff_at.specs.Promise.{MadeIsTable, LimitsAgree};
 
 /// What is made says, read afresh, what was requested.
@@ -9,8 +9,8 @@ pub fn made_is_table()
 {}
 
 /// What is refused has a fault of that name.
-pub fn refused_stands()
-    ensures { RefusedStands }
+pub fn refused_has_fault()
+    ensures { RefusedHasFault }
 {}
 
 /// Where a table is made, no fault stands.

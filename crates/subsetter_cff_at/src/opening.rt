@@ -18,7 +18,7 @@ use std::alloc::Global;
 use subsetter_base::error::Error;
 use subsetter_cff::write::matrix::Matrix;
 use subsetter_cff2::table::{Table2, open};
-use subsetter_cff2::variation::{FontVariation, place_optional_store};
+use subsetter_cff2::variation::{FontVariation, optional_store_at};
 use subsetter_variation::item_variations::Store;
 
 /// A table, its FontMatrix, and what varies in it.
@@ -67,7 +67,7 @@ pub fn open_table<'a>(
     let Some(store) = find_store(bytes, axes) else {
         return Err(Error::MalformedFont);
     };
-    let variation = place_optional_store(alloc, store, request.coordinates)?;
+    let variation = optional_store_at(alloc, store, request.coordinates)?;
     Ok(OpenTable {
         table,
         matrix,

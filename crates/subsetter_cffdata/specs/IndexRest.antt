@@ -6,4 +6,4 @@ use Rattle.subsetter_cffdata.specs.IndexView.{items}
 
 -- the entries from its place on, before the first that can't be read
 abbrev pub left : IndexIter → List (List ℕ)
-left s = readable (drop s.place (items s.index))
+left s = readable (drop s.offset (items s.index))

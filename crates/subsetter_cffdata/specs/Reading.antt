@@ -5,7 +5,7 @@ use Rattle.subsetter_base.specs.Read.{Source}
 
 -- what a reader has left
 abbrev pub rest : Source → List ℕ
-rest r = drop r.place r.bytes
+rest r = drop r.offset r.bytes
 
 -- What reading gives is what is answered, seen by view, with what the reader then has left; or nothing.
 abbrev pub Takes : {X Y : Type 0} → (X → Y) → Option X → Source → Source → (List ℕ → Option (Y × List ℕ)) → Type 0

@@ -6,7 +6,7 @@ use crate::index_view::Index;
 #[derive(Drop)]
 pub struct IndexIter<'a> {
     pub(crate) index: Index<'a>,
-    pub(crate) place: u32,
+    pub(crate) offset: u32,
 }
 
 impl<'a> Iterator for IndexIter<'a> {
@@ -20,15 +20,15 @@ impl<'a> Iterator for IndexIter<'a> {
     ghost remaining = { item_count left };
 
     fn next(&mut self) -> Option<&'a [u8]> {
-        let place = self.place;
+        let place = self.offset;
         let end = self.index.len();
         if place >= end {
             return None;
         }
         // Behind an entry that can't be read nothing follows.
-        self.place = end;
+        self.offset = end;
         let entry = self.index.get(place)?;
-        self.place = place + 1;
+        self.offset = place + 1;
         Some(entry)
     }
 }

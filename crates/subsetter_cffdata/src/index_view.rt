@@ -188,7 +188,7 @@ impl<'a> IntoIterator for Index<'a> {
     fn into_iter(self) -> IndexIter<'a> {
         IndexIter {
             index: self,
-            place: 0,
+            offset: 0,
         }
     }
 }

@@ -15,7 +15,7 @@ use Rattle.subsetter_sfnt.specs.declared.fields.hmtx.LongHorMetric.{LongHorMetri
 use Rattle.subsetter_instance.specs.Drawn.{Drawn, drawn, levels, rounded}
 use Rattle.subsetter_instance.specs.MetricLaws.{IsDrawnAsUnvaried}
 use Rattle.subsetter_instance.specs.Unfolded.{Unfolded, moved, unfolded}
-use Rattle.subsetter_instance.specs.Laws.{IsDrawnAsItStands, unvaried}
+use Rattle.subsetter_instance.specs.Laws.{IsDrawnAsInSource, unvaried}
 use Rattle.subsetter_instance.proofs.SameLaws.Unfolded.{ReadAlike, unfolded_alike}
 
 pub stays : (gvar : Option Gvar) (g : ℕ) (o : Outline) (at : List ℤ) (steps : ℕ) (a : List ℤ × List ℤ × ℕ) → All (λ c. c ≡ pos 0) at → ((t : Gvar) → gvar ≡ Some t → HasBoundTuples t g o (length at)) → moved gvar g o at steps ≡ Ok a → (a.0 ≡ in_units o.xs) × (a.1 ≡ in_units o.ys)
@@ -28,7 +28,7 @@ read_alike : (s : Source) → ReadAlike s (unvaried s)
 unfolding description metric
 read_alike s g = (refl, refl)
 
-pub is_drawn_as_it_stands : IsDrawnAsItStands
+pub is_drawn_as_it_stands : IsDrawnAsInSource
 is_drawn_as_it_stands s at depth m n g u v zeros bound e f =
     unfolded_alike depth s (unvaried s) at (read_alike s)
     (λ h o i j a b x y. let p = stays s.gvar h o at i a zeros (λ t is. bound t h o is) x in let q = stays None h o at j b zeros (λ t is. absurd cc) y in (p.0 ∙ sym q.0, p.1 ∙ sym q.1)) m n g u v e f

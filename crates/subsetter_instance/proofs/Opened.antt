@@ -9,7 +9,7 @@ use Rattle.subsetter_base.specs.declared.error.Error.TheVariants.{UnknownKind, M
 use Rattle.subsetter_base.proofs.ByteLemmas.{number-fits}
 use Rattle.subsetter_sfnt.specs.declared.extras.Extras.{Extras}
 use Rattle.subsetter_sfnt.specs.declared.flavor.FontFlavor.TheVariants.{TrueType, Cff}
-use Rattle.subsetter_sfnt.specs.Extras.{asked}
+use Rattle.subsetter_sfnt.specs.Extras.{requested}
 use Rattle.subsetter_sfnt.specs.Fault.{HasOpeningFault, no_kind, no_entry, entry_outside, no_face, nested, cut_directory, no_outlines, lone_cff2}
 use Rattle.subsetter_sfnt.specs.Plain.{opened, flavored}
 use Rattle.subsetter_sfnt.specs.Read.{Font, table_in}
@@ -36,7 +36,7 @@ head_there find axes s h =
 pub hhea_there : (find : List ℕ → Option (List ℕ)) (axes : ℕ) (s : Source) → source_in find axes ≡ Some s → IfSome (find (codes "hhea")) (λ h. 36 ≤ length h)
 hhea_there find axes s h =
     let t = source_steps find axes s h in
-    subst (λ o. IfSome o (λ l. 36 ≤ length l)) (sym t.hhea_is) (number-fits t.hhea 34 2 s.pairs t.pairs_is)
+    subst (λ o. IfSome o (λ l. 36 ≤ length l)) (sym t.hhea_is) (number-fits t.hhea 34 2 s.number_of_h_metrics t.pairs_is)
 
 -- ---- a font that isn't opened
 
@@ -54,13 +54,13 @@ pub closed_unopened : (font : Font) (e : Error) → opened font ≡ Err e → Is
 unfolding instance_of
 closed_unopened font e h = record { refused = λ settings glyphs steps. rw h refl; not_memory = not_memory font e (opened_refused font e h) }
 
-pub closed_unflavored : (font : Font) (d : List ℕ) (x : Extras) (e : Error) → opened font ≡ Ok d → flavored (asked x (table_in font.bytes d)) ≡ Err e → IsClosed font e
+pub closed_unflavored : (font : Font) (d : List ℕ) (x : Extras) (e : Error) → opened font ≡ Ok d → flavored (requested x (table_in font.bytes d)) ≡ Err e → IsClosed font e
 unfolding instance_of
 closed_unflavored font d x e o h =
     let f = sym (same_flavor x (table_in font.bytes d)) ∙ h in
     record { refused = λ settings glyphs steps. rw (o, f) refl; not_memory = not_memory font e (unflavored font d e o f) }
 
-pub closed_cff : (font : Font) (d : List ℕ) (x : Extras) → opened font ≡ Ok d → flavored (asked x (table_in font.bytes d)) ≡ Ok Cff → IsClosed font Unimplemented
+pub closed_cff : (font : Font) (d : List ℕ) (x : Extras) → opened font ≡ Ok d → flavored (requested x (table_in font.bytes d)) ≡ Ok Cff → IsClosed font Unimplemented
 unfolding instance_of
 closed_cff font d x o h =
     let f = sym (same_flavor x (table_in font.bytes d)) ∙ h in

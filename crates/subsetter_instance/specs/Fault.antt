@@ -9,11 +9,11 @@ use Rattle.subsetter_sfnt.specs.Fault.{HasOpeningFault}
 use Rattle.subsetter_sfnt.specs.Read.{Font, stored}
 use Rattle.subsetter_sfnt.specs.Rows.{rows, present}
 use Rattle.subsetter_sfnt.specs.Written.{fits, start_of}
-use Rattle.subsetter_instance.specs.Source.{Source, metric, place, source_in}
+use Rattle.subsetter_instance.specs.Source.{Source, metric, normalized_coordinates, source_in}
 use Rattle.subsetter_sfnt.specs.declared.fields.hmtx.LongHorMetric.{LongHorMetric}
 use Rattle.subsetter_instance.specs.Unfolded.{Unfolded, unfolded}
 use Rattle.subsetter_instance.specs.GlyphFault.{HasHmtxFault}
-use Rattle.subsetter_instance.specs.PlaceFault.{HasPlaceFault}
+use Rattle.subsetter_instance.specs.CoordinatesFault.{HasCoordinatesFault}
 use Rattle.subsetter_instance.specs.SourceFault.{HasSourceFault, HasVersionFault}
 use Rattle.subsetter_instance.specs.WalkFault.{HasWalkFault}
 use Rattle.subsetter_instance.specs.RoundedFault.{HasAdvanceFault, HasFarPoint}
@@ -44,14 +44,14 @@ pub data HasInstanceFault (font : Font) (settings : List (Tag × ℤ)) (glyphs :
   -- outlines of CFF
   no_glyf : stored font (codes "glyf") ≡ None → IsSome (stored font (codes "CFF ")) → HasInstanceFault font settings glyphs steps Unimplemented
   -- fvar or avar
-  in_place : {e : Error} → HasPlaceFault (stored font) e → HasInstanceFault font settings glyphs steps e
+  in_place : {e : Error} → HasCoordinatesFault (stored font) e → HasInstanceFault font settings glyphs steps e
   -- the versions of gvar, HVAR and MVAR
   in_versions : {e : Error} → HasVersionFault (stored font) e → HasInstanceFault font settings glyphs steps e
   -- the tables that outlines, metrics and variations are read from
-  in_source : (at : List ℤ) → place (stored font) settings ≡ Ok at → HasSourceFault (stored font) (length at) → HasInstanceFault font settings glyphs steps MalformedFont
-  in_glyph : {e : Error} (at : List ℤ) (s : Source) (g : ℕ) → place (stored font) settings ≡ Ok at → source_in (stored font) (length at) ≡ Some s → Contains glyphs g → HasGlyphFault s at steps g e → HasInstanceFault font settings glyphs steps e
+  in_source : (at : List ℤ) → normalized_coordinates (stored font) settings ≡ Ok at → HasSourceFault (stored font) (length at) → HasInstanceFault font settings glyphs steps MalformedFont
+  in_glyph : {e : Error} (at : List ℤ) (s : Source) (g : ℕ) → normalized_coordinates (stored font) settings ≡ Ok at → source_in (stored font) (length at) ≡ Some s → Contains glyphs g → HasGlyphFault s at steps g e → HasInstanceFault font settings glyphs steps e
   -- a metric of hhea or post, as MVAR varies it
-  in_lines : {e : Error} (at : List ℤ) → place (stored font) settings ≡ Ok at → HasLinesFault (stored font) at e → HasInstanceFault font settings glyphs steps e
+  in_lines : {e : Error} (at : List ℤ) → normalized_coordinates (stored font) settings ≡ Ok at → HasLinesFault (stored font) at e → HasInstanceFault font settings glyphs steps e
   -- a table's place or length doesn't fit 32 bits
-  large_file : (at : List ℤ) (s : Source) (ds : List Drawn) (lines : Lines) (head : List ℕ) → place (stored font) settings ≡ Ok at → source_in (stored font) (length at) ≡ Some s → drawn_all s at steps glyphs ≡ Ok ds → lines_of (stored font) at ≡ Ok lines → stored font (codes "head") ≡ Some head
+  large_file : (at : List ℤ) (s : Source) (ds : List Drawn) (lines : Lines) (head : List ℕ) → normalized_coordinates (stored font) settings ≡ Ok at → source_in (stored font) (length at) ≡ Some s → drawn_all s at steps glyphs ≡ Ok ds → lines_of (stored font) at ≡ Ok lines → stored font (codes "head") ≡ Some head
       → fits (start_of (present (rows (tables (with_lines (stored font) lines) head lines.hhea s.count ds (by_glyph glyphs ds s.count))))) (present (rows (tables (with_lines (stored font) lines) head lines.hhea s.count ds (by_glyph glyphs ds s.count)))) ≡ false → HasInstanceFault font settings glyphs steps OverflowError

@@ -17,8 +17,8 @@ pub data HasDescriptionFault (s : Source) (g : ℕ) : Type 0 where
 -- of its metric: numberOfHMetrics pairs of an advance and a left side bearing, and bearings behind them
 pub data HasHmtxFault (s : Source) (g : ℕ) : Type 0 where
   -- numberOfHMetrics is 0
-  no_pairs : s.pairs ≡ 0 → HasHmtxFault s g
+  no_pairs : s.number_of_h_metrics ≡ 0 → HasHmtxFault s g
   -- the glyph's pair goes past the end of hmtx
-  cut_pair : g < s.pairs → length s.hmtx < 4 * g + 4 → HasHmtxFault s g
+  cut_pair : g < s.number_of_h_metrics → length s.hmtx < 4 * g + 4 → HasHmtxFault s g
   -- or its bearing, where it has no pair of its own
-  cut_bearing : s.pairs ≤ g → length s.hmtx < 4 * s.pairs + 2 * (g - s.pairs) + 2 → HasHmtxFault s g
+  cut_bearing : s.number_of_h_metrics ≤ g → length s.hmtx < 4 * s.number_of_h_metrics + 2 * (g - s.number_of_h_metrics) + 2 → HasHmtxFault s g

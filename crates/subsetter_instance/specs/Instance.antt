@@ -10,7 +10,7 @@ use Rattle.subsetter_sfnt.specs.Container.{IsSoundContainer}
 use Rattle.subsetter_sfnt.specs.Read.{Font, as_font, stored}
 use Rattle.subsetter_sfnt.specs.Rows.{rows, present, tags}
 use Rattle.subsetter_sfnt.specs.Written.{kind_word}
-use Rattle.subsetter_instance.specs.Source.{Source, description, metric, place, source_in}
+use Rattle.subsetter_instance.specs.Source.{Source, description, metric, normalized_coordinates, source_in}
 use Rattle.subsetter_instance.specs.Drawn.{Drawn, drawn}
 use Rattle.subsetter_instance.specs.Extremes.{all_extents, box_bytes, extreme_bytes}
 use Rattle.subsetter_instance.specs.Lines.{Lines, lines_of, with_lines}
@@ -55,7 +55,7 @@ pub record KeepsHeader (find : List ℕ → Option (List ℕ)) (out : Font) (tag
 pub record IsInstance (font : Font) (settings : List (Tag × ℤ)) (glyphs : List ℕ) (file : List ℕ) : Type 0 where
   -- the place, and hhea and post there, of which some metrics vary
   pub at : List ℤ
-  pub place_is : place (stored font) settings ≡ Ok at
+  pub coordinates_are : normalized_coordinates (stored font) settings ≡ Ok at
   pub lines : Lines
   pub lines_are : lines_of (stored font) at ≡ Ok lines
   -- a TrueType file, its directory, checksums and padding right, with these tables alone, so that none hints
@@ -68,11 +68,11 @@ pub record IsInstance (font : Font) (settings : List (Tag × ℤ)) (glyphs : Lis
   pub out_is : source_in (stored (as_font file)) 0 ≡ Some out
   -- each glyph that was asked for is drawn, in some number of steps, and each other one is empty
   pub steps : ℕ
-  pub asked_for : (g : ℕ) → Contains glyphs g → IsDrawn source out at steps g
+  pub requests : (g : ℕ) → Contains glyphs g → IsDrawn source out at steps g
   pub others : (g : ℕ) → g < source.count → (Contains glyphs g → ⊥) → description out g ≡ Some []
   -- as many glyphs as the font has
   pub count : out.count ≡ source.count
-  pub pairs : out.pairs ≡ source.count
+  pub number_of_h_metrics : out.number_of_h_metrics ≡ source.count
   -- what is drawn of the glyphs that were asked for, in their order
   pub drawn : List Drawn
   pub all_drawn : drawn_all source at steps glyphs ≡ Ok drawn

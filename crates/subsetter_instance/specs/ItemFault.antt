@@ -3,7 +3,7 @@
 use Rattle.std.specs.Prelude.{◌≡◌, ◌≢◌, ◌<◌, ◌≤◌, ℕ, suc, ◌+◌, ◌*◌, ◌/◌, ◌%◌, ◌==◌, ◌&&◌, false, List, length, take, drop, Some, nat_le}
 use Rattle.subsetter_base.specs.Bytes.{number, range}
 use Rattle.subsetter_variation.specs.FontMetrics.{metric_store, value_of}
-use Rattle.subsetter_variation.specs.ItemVariations.{Row, Store, advance_index, entry_place, item_row, map_head, row_size, store_of}
+use Rattle.subsetter_variation.specs.ItemVariations.{Row, Store, advance_index, entry_index, item_row, map_head, row_size, store_of}
 
 -- ---- item variation stores
 
@@ -65,7 +65,7 @@ pub data HasMapFault (map : List ℕ) (g : ℕ) : Type 0 where
   -- it has no entries
   no_entries : (at : ℕ) → map_head map ≡ Some (0, at) → HasMapFault map g
   -- the entry of the glyph, or the last one, goes past the end
-  cut_entry : (count at form : ℕ) → map_head map ≡ Some (count, at) → number map 1 1 ≡ Some form → length map < at + entry_place count g * (form / 16 % 4 + 1) + (form / 16 % 4 + 1) → HasMapFault map g
+  cut_entry : (count at form : ℕ) → map_head map ≡ Some (count, at) → number map 1 1 ≡ Some form → length map < at + entry_index count g * (form / 16 % 4 + 1) + (form / 16 % 4 + 1) → HasMapFault map g
 
 -- of the item of a glyph's advance, in a font of so many axes: itemVariationStoreOffset is the bytes 4 on of HVAR, and advanceWidthMappingOffset,
 -- 0 for no map, its bytes 8 on

@@ -45,8 +45,8 @@ unvaried s = record s { gvar = None }
 
 -- at the default a glyph, its components unrolled, is as it stands in the source: as without variations, if each tuple has an axis that isn't
 -- ignored
-abbrev pub IsDrawnAsItStands : Type 0
-IsDrawnAsItStands = (s : Source) (at : List ℤ) (depth steps more g : ℕ) (u v : Unfolded × ℕ) → All (λ c. c ≡ pos 0) at → ((t : Gvar) (h : ℕ) (o : Outline) → s.gvar ≡ Some t → HasBoundTuples t h o (length at)) → unfolded depth s at steps g ≡ Ok u
+abbrev pub IsDrawnAsInSource : Type 0
+IsDrawnAsInSource = (s : Source) (at : List ℤ) (depth steps more g : ℕ) (u v : Unfolded × ℕ) → All (λ c. c ≡ pos 0) at → ((t : Gvar) (h : ℕ) (o : Outline) → s.gvar ≡ Some t → HasBoundTuples t h o (length at)) → unfolded depth s at steps g ≡ Ok u
     → unfolded depth (unvaried s) at more g ≡ Ok v → u.0 ≡ v.0
 
 -- the box of what is drawn is that of one glyph with the points of all glyphs, which has the least and the greatest of all coordinates

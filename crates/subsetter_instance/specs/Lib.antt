@@ -11,7 +11,7 @@ pub mod Laws
 pub mod Lines
 pub mod LinesFault
 pub mod MetricLaws
-pub mod PlaceFault
+pub mod CoordinatesFault
 pub mod Plain
 pub mod RoundedFault
 pub mod Source

@@ -11,7 +11,7 @@ use Rattle.subsetter_sfnt.specs.Read.{Font, table_in}
 use Rattle.subsetter_sfnt.specs.Plain.{opened, flavored, file_of}
 use Rattle.subsetter_sfnt.specs.Rows.{rows, present}
 use Rattle.subsetter_sfnt.specs.Written.{kind_word}
-use Rattle.subsetter_instance.specs.Source.{Source, place, source_or_fault}
+use Rattle.subsetter_instance.specs.Source.{Source, normalized_coordinates, source_or_fault}
 use Rattle.subsetter_instance.specs.Drawn.{Drawn, drawn}
 use Rattle.subsetter_instance.specs.Lines.{Lines, lines_of, with_lines}
 use Rattle.subsetter_instance.specs.Written.{by_glyph, tables}
@@ -40,7 +40,7 @@ laid find lines s glyphs ds = do
 -- of the tables that a look-up finds
 unfoldable pub instance_in : (List ℕ → Option (List ℕ)) → List (Tag × ℤ) → List ℕ → ℕ → Result (List ℕ) Error
 instance_in find settings glyphs steps = do
-  at ← place find settings
+  at ← normalized_coordinates find settings
   s ← source_or_fault find (length at)
   ds ← drawn_all s at steps glyphs
   lines ← lines_of find at

@@ -14,13 +14,13 @@ use Rattle.subsetter_sfnt.specs.declared.fields.hmtx.LongHorMetric.{LongHorMetri
 -- ---- the place
 
 -- the normalized coordinates for settings of user coordinates; a font without fvar has no axes
-abbrev pub place_by : Option (List ℕ) → Option (List ℕ) → List (Tag × ℤ) → Result (List ℤ) Error
-place_by None avar settings = Ok []
-place_by (Some fvar) avar settings = normalized_or_fault fvar avar settings
+abbrev pub normalized_by : Option (List ℕ) → Option (List ℕ) → List (Tag × ℤ) → Result (List ℤ) Error
+normalized_by None avar settings = Ok []
+normalized_by (Some fvar) avar settings = normalized_or_fault fvar avar settings
 
 -- the same, of the tables that a look-up finds
-abbrev pub place : (List ℕ → Option (List ℕ)) → List (Tag × ℤ) → Result (List ℤ) Error
-place find settings = place_by (find (codes "fvar")) (find (codes "avar")) settings
+abbrev pub normalized_coordinates : (List ℕ → Option (List ℕ)) → List (Tag × ℤ) → Result (List ℤ) Error
+normalized_coordinates find settings = normalized_by (find (codes "fvar")) (find (codes "avar")) settings
 
 -- ---- the tables
 
@@ -31,7 +31,7 @@ pub record Source : Type 0 where
   pub loca : List ℕ
   pub long : Bool
   pub count : ℕ
-  pub pairs : ℕ
+  pub number_of_h_metrics : ℕ
   pub hmtx : List ℕ
   pub gvar : Option Gvar
   pub hvar : Option (List ℕ)
@@ -56,7 +56,7 @@ source_in find axes = do
   pairs ← number hhea 34 2
   hmtx ← find (codes "hmtx")
   gvar ← variations_in (find (codes "gvar")) axes
-  Some (record { glyf = glyf; loca = loca; long = not (format == 0); count = count; pairs = pairs; hmtx = hmtx; gvar = gvar; hvar = find (codes "HVAR") })
+  Some (record { glyf = glyf; loca = loca; long = not (format == 0); count = count; number_of_h_metrics = pairs; hmtx = hmtx; gvar = gvar; hvar = find (codes "HVAR") })
 
 -- gvar, HVAR or MVAR has another major version than 1
 abbrev pub has_other_version : (List ℕ → Option (List ℕ)) → Bool
@@ -86,6 +86,6 @@ description s g = do
 -- pairs come first, for as many glyphs as their number says, then bearings alone, which share the last pair's advance
 unfoldable pub metric : Source → ℕ → Option LongHorMetric
 metric s g =
-    if nat_lt g s.pairs then metric_at s.hmtx (4 * g) (4 * g + 2)
-    else if s.pairs == 0 then None
-    else metric_at s.hmtx (4 * (s.pairs - 1)) (4 * s.pairs + 2 * (g - s.pairs))
+    if nat_lt g s.number_of_h_metrics then metric_at s.hmtx (4 * g) (4 * g + 2)
+    else if s.number_of_h_metrics == 0 then None
+    else metric_at s.hmtx (4 * (s.number_of_h_metrics - 1)) (4 * s.number_of_h_metrics + 2 * (g - s.number_of_h_metrics))

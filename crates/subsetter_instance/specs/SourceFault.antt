@@ -5,7 +5,7 @@ use Rattle.subsetter_base.specs.Bytes.{number}
 use Rattle.subsetter_base.specs.declared.error.Error.{Error}
 use Rattle.subsetter_base.specs.declared.error.Error.TheVariants.{Unimplemented}
 use Rattle.subsetter_variation.specs.Tuples.{tuple_size}
-use Rattle.subsetter_instance.specs.PlaceFault.{HasOtherVersion}
+use Rattle.subsetter_instance.specs.CoordinatesFault.{HasOtherVersion}
 
 -- gvar, HVAR or MVAR has another major version than 1
 pub data HasVersionFault (find : List ℕ → Option (List ℕ)) : Error → Type 0 where

@@ -4,7 +4,7 @@ use Rattle.std.specs.List.{flat_map, fold, range_with_len}
 use Rattle.std.specs.Option.{option_and_then}
 use Rattle.std.specs.Int.{w16, w32, to_be_bytes, cast_unsigned}
 use Rattle.subsetter_base.specs.Bytes.{aligned}
-use Rattle.subsetter_base.specs.Places.{place}
+use Rattle.subsetter_base.specs.Indexes.{index_of}
 use Rattle.subsetter_points.specs.Simple.{parts_bytes}
 use Rattle.subsetter_sfnt.specs.Rows.{FontTables}
 use Rattle.subsetter_instance.specs.Drawn.{Drawn}
@@ -12,7 +12,7 @@ use Rattle.subsetter_instance.specs.Extremes.{all_extents, box_bytes, extreme_by
 
 -- what is drawn of a glyph, if it was asked for
 abbrev pub glyph_among : List ℕ → List Drawn → ℕ → Option Drawn
-glyph_among glyphs drawn g = option_and_then (slice_get drawn) (place glyphs g)
+glyph_among glyphs drawn g = option_and_then (slice_get drawn) (index_of glyphs g)
 
 -- the same of each of n glyphs
 abbrev pub by_glyph : List ℕ → List Drawn → ℕ → List (Option Drawn)

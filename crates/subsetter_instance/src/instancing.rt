@@ -21,7 +21,7 @@ ghost use Rattle.subsetter_instance.specs.Plain.{instance_in};
 use crate::drawn::draw_all;
 use crate::file::laid;
 use crate::lines::lines_of;
-use crate::source::{place, source_or_fault};
+use crate::source::{normalized_coordinates, source_or_fault};
 use std::alloc::Global;
 use subsetter_base::{Error, GlyphRemapper, Tag};
 use subsetter_sfnt::extras::Extras;
@@ -55,7 +55,7 @@ fn make(
 ) -> Result<Vec<u8>, Error>
     ensures { Gives (λ v. v.items) result (instance_in (table_in face.now.«data».now face.now.records.now) coordinates.now mapper.now steps) }
 {
-    let at = place(alloc, face, coordinates)?;
+    let at = normalized_coordinates(alloc, face, coordinates)?;
     let source = source_or_fault(face, at.len())?;
     let drawn = draw_all(alloc, &source, &at, steps, mapper)?;
     let lines = lines_of(alloc, face, &at)?;

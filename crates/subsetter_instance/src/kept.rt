@@ -14,7 +14,7 @@ use std::alloc::{AllocError, Global};
 use std::marker::Model;
 
 /// How many places there are.
-const PLACES: usize = 128;
+const SLOTS: usize = 128;
 /// The most points of a glyph that is kept.
 const MOST_POINTS: usize = 256;
 
@@ -64,22 +64,22 @@ fn no_glyphs(alloc: Global) -> Result<Vec<Option<KeptGlyph>>, AllocError>
     ensures count { IfOk result (λ v. length v.items ≡ 128) }
     ensures none { IfOk result (λ v. (s : Source) (at : List ℤ) → AreKept s at v.items) }
 {
-    let mut places = Vec::with_capacity(alloc, PLACES)?;
-    for place in 0..PLACES {
+    let mut places = Vec::with_capacity(alloc, SLOTS)?;
+    for place in 0..SLOTS {
         places.push(None)?;
     }
     Ok(places)
 }
 
 /// The same places, or places without glyphs if there are none yet.
-fn all_places(
+fn all_slots(
     alloc: Global,
     places: Vec<Option<KeptGlyph>>,
 ) -> Result<Vec<Option<KeptGlyph>>, AllocError>
     ensures count { IfOk result (λ v. length v.items ≡ 128) }
     ensures kept { (s : Source) (at : List ℤ) → AreKept s at places.items → IfOk result (λ v. AreKept s at v.items) }
 {
-    if places.len() == PLACES {
+    if places.len() == SLOTS {
         Ok(places)
     } else {
         no_glyphs(alloc)
@@ -103,7 +103,7 @@ impl Kept {
         ensures cost { IfSome result (λ k. k.now.cost ≤ steps) }
         ensures kept { (s : Source) (at : List ℤ) → AreKept s at self.now → IfSome result (λ k. IsKept s at k.now) }
     {
-        let kept = self.places.get(usize::from(glyph) % PLACES)?.as_ref()?;
+        let kept = self.places.get(usize::from(glyph) % SLOTS)?.as_ref()?;
         if depth > 0 && kept.glyph == glyph && kept.cost <= steps {
             Some(kept)
         } else {
@@ -132,8 +132,8 @@ impl Kept {
         if !is_simple(source, glyph) || outline.on.len() > MOST_POINTS {
             return Ok(self);
         }
-        let mut places = all_places(alloc, self.places)?;
-        places[usize::from(glyph) % PLACES] = Some(KeptGlyph {
+        let mut places = all_slots(alloc, self.places)?;
+        places[usize::from(glyph) % SLOTS] = Some(KeptGlyph {
             glyph,
             cost: before - after,
             outline,

@@ -1,6 +1,6 @@
 //! Laws of the definitions, which no code runs.
 
-ghost use Rattle.subsetter_instance.specs.Laws.{IsReadAfresh, IsSameAtAnySteps, HasFaultWhereRefused, HasNoneWhereAnswered, IsBoxOfAll, AreFaultsNamed, IsDrawnAsItStands};
+ghost use Rattle.subsetter_instance.specs.Laws.{IsReadAfresh, IsSameAtAnySteps, HasFaultWhereRefused, HasNoneWhereAnswered, IsBoxOfAll, AreFaultsNamed, IsDrawnAsInSource};
 ghost use Rattle.subsetter_instance.specs.MetricLaws.{AreLinesAtDefault, IsAdvanceAtDefault, IsAdvanceAtMaster, IsDrawnAsUnvaried, IsMetricAtDefault, IsMetricAtMaster, IsSimpleAdvanceAtDefault};
 
 /// The file that the plain way lays out is an instance, read afresh from its bytes.
@@ -29,8 +29,8 @@ pub fn are_faults_named()
 {}
 
 /// At the default a glyph, its components unrolled, is as it stands in the source.
-pub fn is_drawn_as_it_stands()
-    ensures { IsDrawnAsItStands }
+pub fn is_drawn_as_in_source()
+    ensures { IsDrawnAsInSource }
 {}
 
 /// And what is drawn of it is what is drawn without variations of outlines.

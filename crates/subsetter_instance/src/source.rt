@@ -5,7 +5,7 @@ ghost use Rattle.std.specs.Option.{ok_or, option_copied};
 ghost use Rattle.subsetter_base.specs.Gives.{Gives};
 ghost use Rattle.subsetter_base.specs.declared.error.Error.TheVariants.{MalformedFont};
 ghost use Rattle.subsetter_sfnt.specs.Read.{table_in};
-ghost use Rattle.subsetter_instance.specs.Source.{HasAxes, place, variations_in, source_in, source_or_fault, offset, description, metric};
+ghost use Rattle.subsetter_instance.specs.Source.{HasAxes, normalized_coordinates, variations_in, source_in, source_or_fault, offset, description, metric};
 
 use std::alloc::Global;
 use std::marker::Model;
@@ -27,7 +27,7 @@ pub struct Source<'a> {
     loca: &'a [u8],
     long: bool,
     count: u16,
-    pairs: u16,
+    number_of_h_metrics: u16,
     hmtx: &'a [u8],
     gvar: Option<Gvar<'a>>,
     hvar: Option<&'a [u8]>,
@@ -39,13 +39,13 @@ impl<'a> Model for Source<'a> {
 
     ghost Value = { Source };
 
-    ghost view = { λ s. record { glyf = s.glyf.now; loca = s.loca.now; long = s.long; count = s.count; pairs = s.pairs; hmtx = s.hmtx.now; gvar = s.gvar; hvar = option_copied s.hvar } };
+    ghost view = { λ s. record { glyf = s.glyf.now; loca = s.loca.now; long = s.long; count = s.count; number_of_h_metrics = s.number_of_h_metrics; hmtx = s.hmtx.now; gvar = s.gvar; hvar = option_copied s.hvar } };
 }
 
 /// The normalized coordinates for settings of user coordinates, each a tag and a value in 65536ths. A cut table is
 /// `MalformedFont`, a major version of `fvar` or `avar` other than 1 `Unimplemented`.
-pub fn place(alloc: Global, face: &Face<'_>, settings: &[(Tag, i32)]) -> Result<Vec<i32>, Error>
-    ensures { Gives (λ v. v.items) result (place (table_in face.now.«data».now face.now.records.now) settings.now) }
+pub fn normalized_coordinates(alloc: Global, face: &Face<'_>, settings: &[(Tag, i32)]) -> Result<Vec<i32>, Error>
+    ensures { Gives (λ v. v.items) result (normalized_coordinates (table_in face.now.«data».now face.now.records.now) settings.now) }
 {
     match face.stored(Tag::new(b"fvar")) {
         None => Ok(Vec::new(alloc)),
@@ -90,7 +90,7 @@ pub fn source_in<'a>(face: &Face<'a>, axes: usize) -> Option<Source<'a>>
         loca,
         long: format != 0,
         count,
-        pairs,
+        number_of_h_metrics: pairs,
         hmtx,
         gvar,
         hvar: face.stored(Tag::new(b"HVAR")),
@@ -157,6 +157,6 @@ impl<'a> Source<'a> {
     pub fn metric(&self, glyph: u16) -> Option<LongHorMetric>
         ensures { result ≡ metric self.now glyph }
     {
-        glyph_metric(self.hmtx, self.pairs, glyph)
+        glyph_metric(self.hmtx, self.number_of_h_metrics, glyph)
     }
 }

@@ -5,7 +5,7 @@
 ghost use Rattle.std.specs.Prelude.{◌≡◌, ◌++◌, IfOk, IfErr, OnOk, length, map};
 ghost use Rattle.std.specs.Option.{option_copied};
 ghost use Rattle.subsetter_base.specs.declared.error.Error.TheVariants.{OutOfMemory};
-ghost use Rattle.subsetter_base.specs.Places.{place};
+ghost use Rattle.subsetter_base.specs.Indexes.{index_of};
 ghost use Rattle.subsetter_instance.specs.Written.{by_glyph, glyph_among, outline_bytes, glyf_bytes, offset_bytes, offsets_from, is_long, loca_bytes, metric_bytes, hmtx_bytes};
 
 use crate::drawn::Drawn;

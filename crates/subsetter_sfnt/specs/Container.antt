@@ -13,7 +13,7 @@ summed r bytes = if bytes_eq r.tag.0 (codes "head") then with_adjustment 0 bytes
 
 -- a record names the table at a place by its length and its checksum, and zeros up to a multiple of four stand after the table
 pub record NamesTable (file : List ℕ) (at : ℕ) (r : TableRecord) : Type 0 where
-  pub place : r.offset ≡ at
+  pub offset : r.offset ≡ at
   pub bytes : List ℕ
   pub there : range file at r.length ≡ Some bytes
   pub zeros_after : range file at (length (aligned 4 bytes)) ≡ Some (aligned 4 bytes)

@@ -46,5 +46,5 @@ by_glyph_names true tag found = found
 by_glyph_names false tag found = if bytes_eq tag (codes "post") then option_map without_glyph_names found else found
 
 -- the tables that a look-up finds, as far as they are asked for
-abbrev pub asked : Extras → (List ℕ → Option (List ℕ)) → List ℕ → Option (List ℕ)
-asked x find tag = by_glyph_names x.glyph_names tag (by_names x.names tag (by_hinting x.hinting tag (find tag)))
+abbrev pub requested : Extras → (List ℕ → Option (List ℕ)) → List ℕ → Option (List ℕ)
+requested x find tag = by_glyph_names x.glyph_names tag (by_names x.names tag (by_hinting x.hinting tag (find tag)))

@@ -4,7 +4,7 @@ use Rattle.std.specs.Option.{option_and_then, option_map}
 use Rattle.std.specs.Str.{bytes_eq}
 use Rattle.subsetter_base.specs.Bytes.{be, range, number}
 use Rattle.subsetter_base.specs.Options.{◌>>=◌}
-use Rattle.subsetter_sfnt.specs.Extras.{all_extras, asked}
+use Rattle.subsetter_sfnt.specs.Extras.{all_extras, requested}
 use Rattle.subsetter_sfnt.specs.declared.face.TableRecord.{TableRecord}
 use Rattle.subsetter_sfnt.specs.declared.face.FontKind.{FontKind}
 use Rattle.subsetter_sfnt.specs.declared.face.FontKind.TheVariants.{Collection, Single}
@@ -47,8 +47,8 @@ header_by_kind Collection font = do
   if_single kind at
 
 -- where the font's header stands: at the start, or in a collection where the entry of the index says
-unfoldable pub header_place : Font → Option ℕ
-header_place font = do
+unfoldable pub header_offset : Font → Option ℕ
+header_offset font = do
   kind ← kind_at font.bytes 0
   header_by_kind kind font
 
@@ -67,7 +67,7 @@ records_at bytes at = option_and_then (λ count. range bytes (at + 12) (16 * cou
 
 abbrev pub records : Font → Option (List ℕ)
 records font = do
-  at ← header_place font
+  at ← header_offset font
   records_at font.bytes at
 
 -- the records of the directory
@@ -88,7 +88,7 @@ stored font tag = option_and_then (λ directory. table_in font.bytes directory t
 
 -- the same, as far as it is asked for
 abbrev pub table : Font → List ℕ → Option (List ℕ)
-table font = asked font.extras (stored font)
+table font = requested font.extras (stored font)
 
 -- `glyf` makes a font TrueType, else `CFF ` makes it CFF
 abbrev pub flavor : Font → Option FontFlavor

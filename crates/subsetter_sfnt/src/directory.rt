@@ -3,7 +3,7 @@
 ghost use Rattle.std.specs.Prelude.{◌≡◌, ◌/◌, ◌<◌, ◌^◌, length, IfSome};
 ghost use Rattle.std.specs.Option.{option_copied};
 ghost use Rattle.subsetter_sfnt.specs.Extras.{all_extras};
-ghost use Rattle.subsetter_sfnt.specs.Read.{kind_at, header_by_kind, header_place, records_at, records, find_record, directory_records, table_in, stored};
+ghost use Rattle.subsetter_sfnt.specs.Read.{kind_at, header_by_kind, header_offset, records_at, records, find_record, directory_records, table_in, stored};
 ghost use Rattle.subsetter_sfnt.specs.declared.face.FontKind.TheVariants.{Collection};
 
 use crate::face::{FontKind, TableRecord};
@@ -34,9 +34,9 @@ fn offset_in_collection(file: &[u8], index: u32) -> Option<usize>
 }
 
 /// Where the font's header is.
-#[tactic(auto, unfolding(crate::specs::Read::header_place))]
+#[tactic(auto, unfolding(crate::specs::Read::header_offset))]
 pub fn header_offset(file: &[u8], index: u32) -> Option<usize>
-    ensures value { result ≡ header_place (record { bytes = file.now; index = index; extras = all_extras }) }
+    ensures value { result ≡ header_offset (record { bytes = file.now; index = index; extras = all_extras }) }
     ensures small { IfSome result (λ at. at < 2 ^ 32) }
 {
     match kind_at(file, 0)? {

@@ -2,7 +2,7 @@
 
 ghost use Rattle.std.specs.Prelude.{◌≡◌};
 ghost use Rattle.subsetter_sfnt.specs.Read.{table_in};
-ghost use Rattle.subsetter_sfnt.specs.Extras.{asked};
+ghost use Rattle.subsetter_sfnt.specs.Extras.{requested};
 ghost use Rattle.subsetter_sfnt.specs.Plain.{flavored};
 ghost use Rattle.subsetter_sfnt.specs.Written.{kind_word};
 
@@ -45,7 +45,7 @@ impl Writeable for FontFlavor {
 /// The kind of a font's outlines: `glyf` makes it TrueType, else `CFF ` makes it CFF. A lone `CFF2` is `Unimplemented`; no outlines are `UnknownKind`.
 #[tactic(auto, unfolding(crate::specs::Plain::flavored))]
 pub fn flavor(face: &Face<'_>) -> Result<FontFlavor, Error>
-    ensures { result ≡ flavored (asked face.now.extras (table_in face.now.«data».now face.now.records.now)) }
+    ensures { result ≡ flavored (requested face.now.extras (table_in face.now.«data».now face.now.records.now)) }
 {
     if face.table(Tag::GLYF).is_some() {
         Ok(FontFlavor::TrueType)

@@ -3,7 +3,7 @@
 ghost use Rattle.std.specs.Prelude.{◌≡◌, ◌/◌, ◌<◌, ◌^◌, ◌&&◌, ◌||◌, not, false, length, codes, IfOk, IfErr};
 ghost use Rattle.std.specs.Option.{option_copied};
 ghost use Rattle.std.specs.Str.{bytes_eq};
-ghost use Rattle.subsetter_sfnt.specs.Extras.{asked, is_program};
+ghost use Rattle.subsetter_sfnt.specs.Extras.{requested, is_program};
 ghost use Rattle.subsetter_sfnt.specs.Read.{table_in};
 ghost use Rattle.subsetter_base.specs.Bytes.{IsBytes};
 ghost use Rattle.subsetter_sfnt.specs.Plain.{opened_header, opened};
@@ -68,7 +68,7 @@ impl<'a> Face<'a> {
     pub fn table(&self, tag: Tag) -> Option<&'a [u8]>
         requires maxp { bytes_eq tag.0 (codes "maxp") ≡ false }
         requires post { bytes_eq tag.0 (codes "post") ≡ false }
-        ensures { option_copied result ≡ asked self.now.extras (table_in self.now.«data».now self.now.records.now) tag.0 }
+        ensures { option_copied result ≡ requested self.now.extras (table_in self.now.«data».now self.now.records.now) tag.0 }
     {
         if self.leaves_out(tag) {
             return None;

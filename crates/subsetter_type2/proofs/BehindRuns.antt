@@ -10,9 +10,9 @@ use Rattle.subsetter_base.specs.declared.error.Error.{Error}
 use Rattle.subsetter_base.specs.declared.error.Error.TheVariants.{UnknownKind, MalformedFont, Unimplemented, SubsetError, OverflowError, CFFError, OutOfMemory}
 use Rattle.subsetter_type2.specs.Behind.{ReachedBehind}
 use Rattle.subsetter_type2.specs.Flat.{flat_event, flat_events, flat_operands, bytes_of}
-use Rattle.subsetter_type2.specs.Machine.{Library, Registers, State, Event, Act, Does, Fails, Lead, Step, Goes, Faults, Trace, Outcome, Finishes, Stops, unended, want, follow, said_also, move, act_at, rests_after, run, outcome}
+use Rattle.subsetter_type2.specs.Machine.{Library, Registers, State, Event, Act, Does, Fails, Lead, Step, Goes, Faults, Trace, Outcome, Finishes, Stops, unended, want, follow, with_event, move, act_at, rests_after, run, outcome}
 use Rattle.subsetter_type2.specs.Reached.{Reached}
-use Rattle.subsetter_type2.specs.View.{said_bytes, Done, done}
+use Rattle.subsetter_type2.specs.View.{event_bytes, Done, done}
 use Rattle.subsetter_type2.proofs.Runs.{reached_start, reached_over, reached_out, reached_fault, reached_deep, reached_more, reached_same}
 
 -- ---- an act settles the same bytes behind others
@@ -25,13 +25,13 @@ record Own (a : Act) (front own : List ℕ) (d : Done) : Type 0 where
 
 own_done : (a : Act) (front own settled : List ℕ) (d : Done) → settled ≡ front ++ own → done a settled ≡ Ok d → Own a front own d
 own_done (Does said next lead) front own settled d e h =
-    let p : ◌≡◌ {A = Done} (record { registers = next; settled = settled ++ said_bytes said; lead = lead }) d = cc in
+    let p : ◌≡◌ {A = Done} (record { registers = next; settled = settled ++ event_bytes said; lead = lead }) d = cc in
     record {
-      its = record { registers = next; settled = own ++ said_bytes said; lead = lead };
+      its = record { registers = next; settled = own ++ event_bytes said; lead = lead };
       is = refl;
       registers = ap (λ (x : Done). x.registers) p;
       lead = ap (λ (x : Done). x.lead) p;
-      split = sym (ap (λ (x : Done). x.settled) p) ∙ ap (λ (l : List ℕ). l ++ said_bytes said) e ∙ append_assoc front own (said_bytes said);
+      split = sym (ap (λ (x : Done). x.settled) p) ∙ ap (λ (l : List ℕ). l ++ event_bytes said) e ∙ append_assoc front own (event_bytes said);
     }
 own_done (Fails x) front own settled d e h = absurd (cc)
 
@@ -112,13 +112,13 @@ said_stays library depth zero said s t h = by (unended s.rests) h
     by (bytes ∷ callers) e = absurd (cc)
 said_stays library depth (suc tokens) said s t h = by (λ now next e. said_stays library depth tokens now next t e) (unended s.rests) h
   where
-    event_stays : (said : List Event) (event : Option Event) (more : List Event) → (rest : List Event) × (said_also said event ++ more ≡ said ++ rest)
+    event_stays : (said : List Event) (event : Option Event) (more : List Event) → (rest : List Event) × (with_event said event ++ more ≡ said ++ rest)
     event_stays said None more = (more, refl)
     event_stays said (Some event) more = (event ∷ more, append_assoc said (event ∷ []) more)
 
     by_step : ((now : List Event) (next : State) → run library depth tokens now next ≡ Finishes t → (more : List Event) × (t.events ≡ now ++ more)) → (step : Step) → follow step said (run library depth tokens) ≡ Finishes t → (more : List Event) × (t.events ≡ said ++ more)
     by_step later (Goes event next) e =
-        let m = later (said_also said event) next e in
+        let m = later (with_event said event) next e in
         let r = event_stays said event m.0 in
         (r.0, m.1 ∙ r.1)
     by_step later (Faults error) e = absurd (cc)

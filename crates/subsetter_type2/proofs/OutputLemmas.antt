@@ -10,7 +10,7 @@ use Rattle.subsetter_cffdata.proofs.CharStringNumbers.{read_back}
 use Rattle.subsetter_type2.specs.Flat.{flat_operands}
 use Rattle.subsetter_type2.specs.Machine.{last_operand, but_last}
 use Rattle.subsetter_type2.specs.Output.{Written}
-use Rattle.subsetter_type2.specs.OutputView.{AllFit, numbers_of, written_at, last_place, Stands, Holds}
+use Rattle.subsetter_type2.specs.OutputView.{AllFit, numbers_of, written_at, last_operand_offset, IsOutput, Holds}
 
 pub fit_front : (ns : List CharStringNumber) (k : ℕ) → AllFit ns → AllFit (take k ns)
 fit_front [] zero f = tt
@@ -28,12 +28,12 @@ unfolding numbers_of
 numbers_are [] f = refl
 numbers_are (n ∷ ns) f = rw (read_back n (flat_operands ns) f.0) (ap (λ l. n ∷ l) (numbers_are ns f.1))
 
-module _ (bytes : List ℕ) (settled count : ℕ) (w : Written) (h : Stands bytes settled count w) where
+module _ (bytes : List ℕ) (settled count : ℕ) (w : Written) (h : IsOutput bytes settled count w) where
   front_is : take settled bytes ≡ w.settled
-  front_is = ap (take settled) h.bytes_are ∙ take_at w.settled _ settled (sym h.place)
+  front_is = ap (take settled) h.bytes_are ∙ take_at w.settled _ settled (sym h.offset)
 
   rest_is : drop settled bytes ≡ flat_operands w.operands
-  rest_is = ap (drop settled) h.bytes_are ∙ drop_at w.settled _ settled (sym h.place)
+  rest_is = ap (drop settled) h.bytes_are ∙ drop_at w.settled _ settled (sym h.offset)
 
   -- the same, as the code slices the bytes
   pub slice_is : (n : ℕ) → n ≡ length bytes → take (n - settled) (drop settled bytes) ≡ flat_operands w.operands
@@ -47,34 +47,34 @@ module _ (bytes : List ℕ) (settled count : ℕ) (w : Written) (h : Stands byte
       ∙ ap (λ (l : List CharStringNumber). record { settled = w.settled; operands = l }) spelled
 
   -- in the form of the output's invariant
-  pub stands_at : Stands bytes settled count (written_at bytes settled count)
-  stands_at = subst (λ (x : Written). Stands bytes settled count x) (sym written_is) h
+  pub stands_at : IsOutput bytes settled count (written_at bytes settled count)
+  stands_at = subst (λ (x : Written). IsOutput bytes settled count x) (sym written_is) h
 
 flat-operands-append : (xs ys : List CharStringNumber) → flat_operands (xs ++ ys) ≡ flat_operands xs ++ flat_operands ys
 flat-operands-append xs ys = flat_map-append written xs ys
 
 -- a number more
-pub stands_more : (bytes all : List ℕ) (settled count more : ℕ) (w : Written) (n : CharStringNumber) → Stands bytes settled count w → NumberFits n → all ≡ bytes ++ written n → more ≡ count + 1
-    → Stands all settled more (record { settled = w.settled; operands = w.operands ++ n ∷ [] })
+pub stands_more : (bytes all : List ℕ) (settled count more : ℕ) (w : Written) (n : CharStringNumber) → IsOutput bytes settled count w → NumberFits n → all ≡ bytes ++ written n → more ≡ count + 1
+    → IsOutput all settled more (record { settled = w.settled; operands = w.operands ++ n ∷ [] })
 stands_more bytes all settled count more w n h f e m = record {
   bytes_are = e ∙ ap (λ (b : List ℕ). b ++ written n) h.bytes_are ∙ append_assoc w.settled _ _
       ∙ ap (λ (b : List ℕ). w.settled ++ b) (ap (λ (b : List ℕ). flat_operands w.operands ++ b) (sym (append-nil (written n))) ∙ sym (flat-operands-append w.operands (n ∷ [])));
-  place = h.place;
+  offset = h.offset;
   many = omega (arith, m, h.many, length-append w.operands (n ∷ []));
   fit = fit_more w.operands n h.fit f;
 }
 
 -- all is settled
-pub stands_settled : (bytes : List ℕ) (place : ℕ) → place ≡ length bytes → Stands bytes place 0 (record { settled = bytes; operands = [] })
-stands_settled bytes place e = record { bytes_are = sym (append-nil bytes); place = e; many = refl; fit = tt }
+pub stands_settled : (bytes : List ℕ) (place : ℕ) → place ≡ length bytes → IsOutput bytes place 0 (record { settled = bytes; operands = [] })
+stands_settled bytes place e = record { bytes_are = sym (append-nil bytes); offset = e; many = refl; fit = tt }
 
 -- what is settled by an operator and its mask
-pub settles : (bytes text : List ℕ) (settled count : ℕ) (w : Written) → Stands bytes settled count w → bytes ++ text ≡ w.settled ++ (flat_operands w.operands ++ text)
+pub settles : (bytes text : List ℕ) (settled count : ℕ) (w : Written) → IsOutput bytes settled count w → bytes ++ text ≡ w.settled ++ (flat_operands w.operands ++ text)
 settles bytes text settled count w h = ap (λ (b : List ℕ). b ++ text) h.bytes_are ∙ append_assoc w.settled _ _
 
 -- a number less
-pub stands_less : (bytes : List ℕ) (settled count before : ℕ) (w : Written) → Stands bytes settled count w → before ≡ length (flat_operands (but_last w.operands)) → 1 ≤ count
-    → Stands (take (settled + before) bytes) settled (count - 1) (record { settled = w.settled; operands = but_last w.operands })
+pub stands_less : (bytes : List ℕ) (settled count before : ℕ) (w : Written) → IsOutput bytes settled count w → before ≡ length (flat_operands (but_last w.operands)) → 1 ≤ count
+    → IsOutput (take (settled + before) bytes) settled (count - 1) (record { settled = w.settled; operands = but_last w.operands })
 stands_less bytes settled count before w h e some =
     let k = length w.operands - 1 in
     let numbers : flat_operands w.operands ≡ flat_operands (take k w.operands) ++ flat_operands (drop k w.operands) =
@@ -82,10 +82,10 @@ stands_less bytes settled count before w h e some =
     let whole : bytes ≡ (w.settled ++ flat_operands (take k w.operands)) ++ flat_operands (drop k w.operands) =
     h.bytes_are ∙ ap (λ (b : List ℕ). w.settled ++ b) numbers ∙ sym (append_assoc w.settled _ _) in
     let at : length (w.settled ++ flat_operands (take k w.operands)) ≡ settled + before =
-    omega (arith, length-append w.settled (flat_operands (take k w.operands)), h.place, e) in
+    omega (arith, length-append w.settled (flat_operands (take k w.operands)), h.offset, e) in
     record {
       bytes_are = ap (take (settled + before)) whole ∙ take_at _ _ (settled + before) at;
-      place = h.place;
+      offset = h.offset;
       many = let n : length (take k w.operands) ≡ k = length-take-le k w.operands (omega arith) in omega (arith, n, h.many);
       fit = fit_front w.operands k h.fit;
     }
@@ -103,21 +103,21 @@ stop_before numbers k rest f l e n =
     absurd (cc)
 
 -- the last number of those that stand is where the new one began
-pub last_of_more : (bytes : List ℕ) (settled count : ℕ) (w : Written) (n : CharStringNumber) → Stands bytes settled count w → (place : ℕ) → place ≡ length bytes → place ≡ last_place (record { settled = w.settled; operands = w.operands ++ n ∷ [] })
+pub last_of_more : (bytes : List ℕ) (settled count : ℕ) (w : Written) (n : CharStringNumber) → IsOutput bytes settled count w → (place : ℕ) → place ≡ length bytes → place ≡ last_operand_offset (record { settled = w.settled; operands = w.operands ++ n ∷ [] })
 last_of_more bytes settled count w n h place e =
     let k : length w.operands ≡ length (w.operands ++ n ∷ []) - 1 = omega (arith, length-append w.operands (n ∷ [])) in
     let b : take (length (w.operands ++ n ∷ []) - 1) (w.operands ++ n ∷ []) ≡ w.operands = take_at w.operands (n ∷ []) (length (w.operands ++ n ∷ []) - 1) k in
     e ∙ ap length h.bytes_are ∙ length-append w.settled (flat_operands w.operands) ∙ ap (λ (l : List CharStringNumber). length w.settled + length (flat_operands l)) (sym b)
 
 -- nothing is known of the last one
-pub holds_at : (bytes : List ℕ) (settled count last : ℕ) (w : Written) → Stands bytes settled count w → last ≡ 0 → Holds bytes settled count last (written_at bytes settled count)
+pub holds_at : (bytes : List ℕ) (settled count last : ℕ) (w : Written) → IsOutput bytes settled count w → last ≡ 0 → Holds bytes settled count last (written_at bytes settled count)
 holds_at bytes settled count last w h z = record { stands = stands_at bytes settled count w h; known = λ _ some. absurd (some z) }
 
 -- there are none
-pub holds_none : (bytes : List ℕ) (settled last : ℕ) (w : Written) → Stands bytes settled 0 w → Holds bytes settled 0 last (written_at bytes settled 0)
+pub holds_none : (bytes : List ℕ) (settled last : ℕ) (w : Written) → IsOutput bytes settled 0 w → Holds bytes settled 0 last (written_at bytes settled 0)
 holds_none bytes settled last w h = record { stands = stands_at bytes settled 0 w h; known = λ some _. absurd (omega arith) }
 
-module _ (bytes : List ℕ) (settled count : ℕ) (w : Written) (h : Stands bytes settled count w) (some : 1 ≤ count) (place : ℕ) (e : place ≡ last_place w) where
+module _ (bytes : List ℕ) (settled count : ℕ) (w : Written) (h : IsOutput bytes settled count w) (some : 1 ≤ count) (place : ℕ) (e : place ≡ last_operand_offset w) where
   last_rest : drop place bytes ≡ flat_operands (drop (length w.operands - 1) w.operands)
   last_rest =
       let k = length w.operands - 1 in
@@ -146,11 +146,11 @@ module _ (bytes : List ℕ) (settled count : ℕ) (w : Written) (h : Stands byte
   pub last_there : (text : List ℕ) → text ≡ drop place bytes → number_at text ≡ None → ⊥
   last_there text t n = stop_before w.operands (length w.operands - 1) text h.fit (omega (arith, h.many)) (t ∙ last_rest) n
 
-  pub stands_before : Stands (take place bytes) settled (count - 1) (record { settled = w.settled; operands = but_last w.operands })
+  pub stands_before : IsOutput (take place bytes) settled (count - 1) (record { settled = w.settled; operands = but_last w.operands })
   stands_before =
       let before = length (flat_operands (but_last w.operands)) in
-      let at : place ≡ settled + before = e ∙ ap (λ (n : ℕ). n + before) (sym h.place) in
-      subst (λ (p : ℕ). Stands (take p bytes) settled (count - 1) (record { settled = w.settled; operands = but_last w.operands })) (sym at) (stands_less bytes settled count before w h refl some)
+      let at : place ≡ settled + before = e ∙ ap (λ (n : ℕ). n + before) (sym h.offset) in
+      subst (λ (p : ℕ). IsOutput (take p bytes) settled (count - 1) (record { settled = w.settled; operands = but_last w.operands })) (sym at) (stands_less bytes settled count before w h refl some)
 
 -- the last of some numbers
 pub last_is : (numbers : List CharStringNumber) (count : ℕ) (bytes last after : List ℕ) (number : CharStringNumber) → AllFit numbers → bytes ≡ flat_operands numbers → count ≡ length numbers → (count ≡ 0 → ⊥)
@@ -177,5 +177,5 @@ pub rest_from : (place : ℕ) (bytes all : List ℕ) → all ≡ bytes → take 
 rest_from place bytes all e = take_all (length all - place) (drop place all) (omega (arith, length-drop place all)) ∙ ap (drop place) e
 
 -- the last operand of what is viewed
-pub at_view : (w v : Written) (place : ℕ) → w ≡ v → (place ≡ last_place v) × (1 ≤ length v.operands) → (place ≡ last_place w) × (1 ≤ length w.operands)
-at_view w v place e h = subst (λ (x : Written). (place ≡ last_place x) × (1 ≤ length x.operands)) (sym e) h
+pub at_view : (w v : Written) (place : ℕ) → w ≡ v → (place ≡ last_operand_offset v) × (1 ≤ length v.operands) → (place ≡ last_operand_offset w) × (1 ≤ length w.operands)
+at_view w v place e h = subst (λ (x : Written). (place ≡ last_operand_offset x) × (1 ≤ length x.operands)) (sym e) h

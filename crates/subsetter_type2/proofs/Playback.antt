@@ -7,7 +7,7 @@ use Rattle.subsetter_base.specs.declared.error.Error.TheVariants.{CFFError}
 use Rattle.subsetter_cffdata.specs.Views.{operator_of}
 use Rattle.subsetter_type2.specs.Token.{token_of}
 use Rattle.subsetter_type2.specs.Flat.{flat_operands, flat_event, flat_events, flat, bytes_of, flat_form}
-use Rattle.subsetter_type2.specs.Machine.{Library, Registers, State, Event, Trace, Act, Does, Fails, Goes, Faults, Lead, On, Into, Back, Over, Outcome, Finishes, Stops, unended, follow, said_also, act_at, move, rests_after, run, outcome, start}
+use Rattle.subsetter_type2.specs.Machine.{Library, Registers, State, Event, Trace, Act, Does, Fails, Goes, Faults, Lead, On, Into, Back, Over, Outcome, Finishes, Stops, unended, follow, with_event, act_at, move, rests_after, run, outcome, start}
 use Rattle.subsetter_type2.proofs.Runs.{run_more, run_over, run_out}
 use Rattle.subsetter_type2.proofs.RecursionLemmas.{unended_front}
 use Rattle.subsetter_type2.proofs.Replay.{one, operands_run}
@@ -120,12 +120,12 @@ empty_sound r e =
     let n : length r.operands ≡ 0 = ap length e in
     record { few = omega arith; fit = subst AllFit (sym e) tt }
 
-test_moved : (b : Bool) (event : Option Event) (next : State) (said : List Event) (go : List Event → State → Outcome) (u : Trace) → follow (if b then Goes event next else Faults CFFError) said go ≡ Finishes u → go (said_also said event) next ≡ Finishes u
+test_moved : (b : Bool) (event : Option Event) (next : State) (said : List Event) (go : List Event → State → Outcome) (u : Trace) → follow (if b then Goes event next else Faults CFFError) said go ≡ Finishes u → go (with_event said event) next ≡ Finishes u
 test_moved true event next said go u e = e
 test_moved false event next said go u e = absurd (cc)
 
 -- where the depth allows the step
-pub moved : (depth : ℕ) (callers : List (List ℕ)) (event : Option Event) (r : Registers) (lead : Lead) (said : List Event) (go : List Event → State → Outcome) (u : Trace) → follow (move depth callers (Does event r lead)) said go ≡ Finishes u → go (said_also said event) (record { rests = rests_after lead callers; registers = r }) ≡ Finishes u
+pub moved : (depth : ℕ) (callers : List (List ℕ)) (event : Option Event) (r : Registers) (lead : Lead) (said : List Event) (go : List Event → State → Outcome) (u : Trace) → follow (move depth callers (Does event r lead)) said go ≡ Finishes u → go (with_event said event) (record { rests = rests_after lead callers; registers = r }) ≡ Finishes u
 moved depth callers event r lead said go u e = test_moved (nat_le (length (rests_after lead callers)) depth) event _ said go u e
 
 module _ (library : Library) (depth : ℕ) where

@@ -6,11 +6,11 @@ use Rattle.std.proofs.lemmas.Bool.Decides.{nat_tests}
 use Rattle.subsetter_base.specs.declared.error.Error.{Error}
 use Rattle.subsetter_base.specs.declared.error.Error.TheVariants.{UnknownKind, MalformedFont, Unimplemented, SubsetError, OverflowError, CFFError, OutOfMemory}
 use Rattle.subsetter_base.specs.Gives.{Fails as FailsWith}
-use Rattle.subsetter_type2.specs.Machine.{Library, Registers, State, Event, Act, Does, Fails, Step, Goes, Faults, Outcome, Finishes, Stops, unended, follow, said_also, act_at, move, rests_after, run, outcome}
+use Rattle.subsetter_type2.specs.Machine.{Library, Registers, State, Event, Act, Does, Fails, Step, Goes, Faults, Outcome, Finishes, Stops, unended, follow, with_event, act_at, move, rests_after, run, outcome}
 use Rattle.subsetter_type2.specs.Flat.{flat_event, flat_events, flat_operands, bytes_of}
 use Rattle.std.specs.Prelude.{nat_le, if◌then◌else◌}
 use Rattle.subsetter_type2.specs.Reached.{Reached}
-use Rattle.subsetter_type2.specs.View.{said_bytes, Done, done}
+use Rattle.subsetter_type2.specs.View.{event_bytes, Done, done}
 
 -- nothing is left to run
 pub run_over : (library : Library) (depth tokens : ℕ) (said : List Event) (s : State) → unended s.rests ≡ [] → run library depth tokens said s ≡ Finishes (record { events = said; left = s.registers.operands })
@@ -28,7 +28,7 @@ pub run_more : (library : Library) (depth tokens : ℕ) (said : List Event) (s :
 unfolding run
 run_more library depth tokens said s bytes callers e = rw e
 
-said_bytes_more : (said : List Event) (event : Option Event) → flat_events said ++ said_bytes event ≡ flat_events (said_also said event)
+said_bytes_more : (said : List Event) (event : Option Event) → flat_events said ++ event_bytes event ≡ flat_events (with_event said event)
 said_bytes_more said None = append-nil (flat_events said)
 said_bytes_more said (Some event) = ap (λ b. flat_events said ++ b) (sym (append-nil (flat_event event))) ∙ sym (flat_map-append flat_event said (event ∷ []))
 
@@ -56,16 +56,16 @@ move_fault depth callers (Fails x) settled error e = cc
 
 move_deep : (depth : ℕ) (callers : List (List ℕ)) (a : Act) (settled : List ℕ) (d : Done) → done a settled ≡ Ok d → depth < length (rests_after d.lead callers) → move depth callers a ≡ Faults CFFError
 move_deep depth callers (Does event next lead) settled d e =
-    let p : ◌≡◌ {A = Done} (record { registers = next; settled = settled ++ said_bytes event; lead = lead }) d = cc in
+    let p : ◌≡◌ {A = Done} (record { registers = next; settled = settled ++ event_bytes event; lead = lead }) d = cc in
     let P : Done → Type 0 = λ x. depth < length (rests_after x.lead callers) → move depth callers (Does event next lead) ≡ Faults CFFError in
     subst P p (λ h. too_deep (length (rests_after lead callers)) depth _ _ h)
 move_deep depth callers (Fails x) settled d e = absurd (cc)
 
 move_goes : (depth : ℕ) (callers : List (List ℕ)) (a : Act) (settled : List ℕ) (d : Done) → done a settled ≡ Ok d → length (rests_after d.lead callers) ≤ depth
-    → (event : Option Event) × (move depth callers a ≡ Goes event (record { rests = rests_after d.lead callers; registers = d.registers })) × (d.settled ≡ settled ++ said_bytes event)
+    → (event : Option Event) × (move depth callers a ≡ Goes event (record { rests = rests_after d.lead callers; registers = d.registers })) × (d.settled ≡ settled ++ event_bytes event)
 move_goes depth callers (Does event next lead) settled d e =
-    let p : ◌≡◌ {A = Done} (record { registers = next; settled = settled ++ said_bytes event; lead = lead }) d = cc in
-    let P : Done → Type 0 = λ x. length (rests_after x.lead callers) ≤ depth → (ev : Option Event) × (move depth callers (Does event next lead) ≡ Goes ev (record { rests = rests_after x.lead callers; registers = x.registers })) × (x.settled ≡ settled ++ said_bytes ev) in
+    let p : ◌≡◌ {A = Done} (record { registers = next; settled = settled ++ event_bytes event; lead = lead }) d = cc in
+    let P : Done → Type 0 = λ x. length (rests_after x.lead callers) ≤ depth → (ev : Option Event) × (move depth callers (Does event next lead) ≡ Goes ev (record { rests = rests_after x.lead callers; registers = x.registers })) × (x.settled ≡ settled ++ event_bytes ev) in
     subst P p (λ h. (event, rw (le-leb _ _ h) refl, refl))
 move_goes depth callers (Fails x) settled d e = absurd (cc)
 
@@ -100,9 +100,9 @@ module _ (o : Outcome) (library : Library) (depth tokens : ℕ) (s : State) (set
         let within : length (rests_after d.lead callers) ≤ depth = omega (arith, ap length r) in
         let g = move_goes depth callers _ settled d f within in
         record {
-          said = said_also h.said g.0;
-          settled_is = g.2 ∙ ap (λ b. b ++ said_bytes g.0) h.settled_is ∙ said_bytes_more h.said g.0;
-          same = moves _ g.1 ∙ ap (λ rs. run library depth left (said_also h.said g.0) (record { rests = rs; registers = d.registers })) (sym r);
+          said = with_event h.said g.0;
+          settled_is = g.2 ∙ ap (λ b. b ++ event_bytes g.0) h.settled_is ∙ said_bytes_more h.said g.0;
+          same = moves _ g.1 ∙ ap (λ rs. run library depth left (with_event h.said g.0) (record { rests = rs; registers = d.registers })) (sym r);
         }
 
 -- what is answered where the run stops, or memory ran out

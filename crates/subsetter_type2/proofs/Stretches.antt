@@ -17,7 +17,7 @@ use Rattle.subsetter_type2.specs.Machine.{Library, Registers, Act, On, Outcome, 
 use Rattle.subsetter_type2.specs.Behind.{ReachedBehind}
 use Rattle.subsetter_type2.specs.Flat.{flat_operands}
 use Rattle.subsetter_type2.specs.Output.{Written}
-use Rattle.subsetter_type2.specs.OutputView.{Stands, Holds, place_after, last_place, written_at}
+use Rattle.subsetter_type2.specs.OutputView.{IsOutput, Holds, operands_offset, last_operand_offset, written_at}
 use Rattle.subsetter_type2.specs.Stretch.{LeadsOn, Comes, Extends, registers_with}
 use Rattle.subsetter_type2.specs.Token.{one_byte, one_byte_effect, effect_of}
 use Rattle.subsetter_type2.specs.View.{done, rests_of}
@@ -69,11 +69,11 @@ leads_nowhere charstring len tokens mask_len w l t = rw (l, t)
     let same : all ≡ left = omega arith in
     subst (λ n. ReachedBehind front o library depth n (record { rests = charstring ∷ callers; registers = registers_with w stems mask_len }) w.settled) same h)
 
-pub comes_at_start : (charstring : List ℕ) (mask_len count : ℕ) (bytes : List ℕ) (settled : ℕ) (w : Written) → Stands bytes settled count w
+pub comes_at_start : (charstring : List ℕ) (mask_len count : ℕ) (bytes : List ℕ) (settled : ℕ) (w : Written) → IsOutput bytes settled count w
     → Comes charstring mask_len bytes settled w (record { len = 0; tokens = 0; settled = 0; count = count; last = 0 })
 comes_at_start charstring mask_len count bytes settled w h = record {
   now = w;
-  stands = subst (λ (b : List ℕ). Stands b settled count w) (sym (append-nil bytes)) h;
+  stands = subst (λ (b : List ℕ). IsOutput b settled count w) (sym (append-nil bytes)) h;
   leads = leads_nowhere charstring 0 0 mask_len w refl refl;
   last = λ some _. absurd (omega arith);
 }
@@ -107,7 +107,7 @@ module _ (charstring : List ℕ) (mask_len : ℕ) (bytes : List ℕ) (settled : 
         last = λ _ _. last_of_more (bytes ++ take s.len charstring) _ s.count h.now n h.stands (length bytes + s.len) (omega (arith, length-append bytes (take s.len charstring), length-take-le s.len charstring (omega arith)));
       }
 
-place_behind : (n settled before : ℕ) → place_after (n + 1) settled before ≡ before + (n + 1)
+place_behind : (n settled before : ℕ) → operands_offset (n + 1) settled before ≡ before + (n + 1)
 place_behind n settled before = rw (add-one n) refl
 
 done_draw : (library : Library) (first : ℕ) (rest : List ℕ) (r : Registers) (settled : List ℕ) → one_byte_effect first ≡ Some Draws
@@ -125,7 +125,7 @@ module _ (charstring : List ℕ) (mask_len : ℕ) (bytes : List ℕ) (settled : 
       ap (λ (b : List ℕ). bytes ++ b) t ∙ sym (append_assoc bytes _ _) ∙ settles _ (first ∷ []) _ _ h.now h.stands in
       record {
         now = record { settled = all; operands = [] };
-        stands = stands_settled all (place_after (s.len + 1) settled (length bytes)) (place_behind s.len settled (length bytes) ∙ omega (arith, length-append bytes (take (s.len + 1) charstring), length-take-le (s.len + 1) charstring (omega arith)));
+        stands = stands_settled all (operands_offset (s.len + 1) settled (length bytes)) (place_behind s.len settled (length bytes) ∙ omega (arith, length-append bytes (take (s.len + 1) charstring), length-take-le (s.len + 1) charstring (omega arith)));
         leads = λ front o library depth all_tokens left stems callers room sum reached.
             let before = subst (λ (b : List ℕ). ReachedBehind front o library depth (suc left) (record { rests = b ∷ callers; registers = registers_with h.now stems mask_len }) h.now.settled) d
             (h.leads front o library depth all_tokens (suc left) stems callers room (omega arith) reached) in
@@ -155,10 +155,10 @@ module _ (charstring : List ℕ) (mask_len : ℕ) (bytes : List ℕ) (settled : 
       let is : all ≡ h.now.settled ++ (flat_operands h.now.operands ++ (first ∷ mask)) =
       ap (λ (b : List ℕ). bytes ++ b) t ∙ sym (append_assoc bytes _ _) ∙ settles _ (first ∷ mask) _ _ h.now h.stands in
       let len_is : s.len + mask_len + 1 ≡ len = omega arith in
-      let place : place_after len settled (length bytes) ≡ length bytes + len = subst (λ (n : ℕ). place_after n settled (length bytes) ≡ length bytes + n) len_is (place_behind (s.len + mask_len) settled (length bytes)) in
+      let place : operands_offset len settled (length bytes) ≡ length bytes + len = subst (λ (n : ℕ). operands_offset n settled (length bytes) ≡ length bytes + n) len_is (place_behind (s.len + mask_len) settled (length bytes)) in
       record {
         now = record { settled = all; operands = [] };
-        stands = stands_settled all (place_after len settled (length bytes)) (place ∙ omega (arith, length-append bytes (take len charstring), length-take-le len charstring (omega arith)));
+        stands = stands_settled all (operands_offset len settled (length bytes)) (place ∙ omega (arith, length-append bytes (take len charstring), length-take-le len charstring (omega arith)));
         leads = λ front o library depth all_tokens left stems callers room sum reached.
             let before = subst (λ (b : List ℕ). ReachedBehind front o library depth (suc left) (record { rests = b ∷ callers; registers = registers_with h.now stems mask_len }) h.now.settled) d
             (h.leads front o library depth all_tokens (suc left) stems callers room (omega arith) reached) in
@@ -307,19 +307,19 @@ by_mask charstring mask_len s longer false l inside e t some = absurd (cc)
 
 -- what is written behind a stretch, as the code joins it
 pub stretch_stands : (charstring : List ℕ) (mask_len : ℕ) (bytes all : List ℕ) (settled before after : ℕ) (w : Written) (s : Stretch) (h : Comes charstring mask_len bytes settled w s)
-    → all ≡ bytes ++ take s.len charstring → before ≡ length bytes → after ≡ place_after s.settled settled before → Stands all after s.count h.now
+    → all ≡ bytes ++ take s.len charstring → before ≡ length bytes → after ≡ operands_offset s.settled settled before → IsOutput all after s.count h.now
 stretch_stands charstring mask_len bytes all settled before after w s h a b p = rw (a, p, b) h.stands
 
 pub stretch_leads : (charstring : List ℕ) (mask_len : ℕ) (bytes all : List ℕ) (settled before after : ℕ) (w : Written) (s : Stretch) (h : Comes charstring mask_len bytes settled w s)
-    → all ≡ bytes ++ take s.len charstring → before ≡ length bytes → after ≡ place_after s.settled settled before → LeadsOn charstring s.len s.tokens mask_len w (written_at all after s.count)
+    → all ≡ bytes ++ take s.len charstring → before ≡ length bytes → after ≡ operands_offset s.settled settled before → LeadsOn charstring s.len s.tokens mask_len w (written_at all after s.count)
 stretch_leads charstring mask_len bytes all settled before after w s h a b p =
     subst (λ (x : Written). LeadsOn charstring s.len s.tokens mask_len w x) (sym (written_is all after s.count h.now (stretch_stands charstring mask_len bytes all settled before after w s h a b p))) h.leads
 
 pub stretch_holds : (charstring : List ℕ) (mask_len : ℕ) (bytes all : List ℕ) (settled before after last : ℕ) (w : Written) (s : Stretch) (h : Comes charstring mask_len bytes settled w s)
-    → all ≡ bytes ++ take s.len charstring → before ≡ length bytes → after ≡ place_after s.settled settled before → last ≡ before + s.last → 1 ≤ s.tokens → Holds all after s.count last (written_at all after s.count)
+    → all ≡ bytes ++ take s.len charstring → before ≡ length bytes → after ≡ operands_offset s.settled settled before → last ≡ before + s.last → 1 ≤ s.tokens → Holds all after s.count last (written_at all after s.count)
 stretch_holds charstring mask_len bytes all settled before after last w s h a b p l some =
     let stands = stretch_stands charstring mask_len bytes all settled before after w s h a b p in
-    let known : 1 ≤ s.count → (last ≡ 0 → ⊥) → last ≡ last_place h.now = λ many _. l ∙ ap (λ (n : ℕ). n + s.last) b ∙ h.last some many in
+    let known : 1 ≤ s.count → (last ≡ 0 → ⊥) → last ≡ last_operand_offset h.now = λ many _. l ∙ ap (λ (n : ℕ). n + s.last) b ∙ h.last some many in
     subst (λ (x : Written). Holds all after s.count last x) (sym (written_is all after s.count h.now stands)) (record { stands = stands; known = known })
 
 pub some_tokens : (tokens len : ℕ) → (tokens ≡ 0 → len ≡ 0) → (len ≡ 0 → ⊥) → 1 ≤ tokens

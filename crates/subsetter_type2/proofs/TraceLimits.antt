@@ -4,7 +4,7 @@ use Rattle.std.proofs.lemmas.Bool.{le-leb}
 use Rattle.std.proofs.lemmas.Bool.Decides.{nat_tests}
 use Rattle.std.specs.Prelude.{nat_le, if◌then◌else◌}
 use Rattle.subsetter_base.specs.declared.error.Error.TheVariants.{CFFError}
-use Rattle.subsetter_type2.specs.Machine.{Library, State, Event, Trace, Act, Does, Fails, Goes, Faults, Outcome, Finishes, Stops, unended, follow, said_also, act_at, move, rests_after, run, outcome, start}
+use Rattle.subsetter_type2.specs.Machine.{Library, State, Event, Trace, Act, Does, Fails, Goes, Faults, Outcome, Finishes, Stops, unended, follow, with_event, act_at, move, rests_after, run, outcome, start}
 use Rattle.subsetter_type2.proofs.Runs.{run_more, run_over, run_out}
 use Rattle.subsetter_type2.proofs.Playback.{moved}
 
@@ -20,7 +20,7 @@ module _ (library : Library) (depth more : ℕ) (deeper : depth ≤ more) where
       let small : length (rests_after lead callers) ≤ depth = grind (arith, nat_tests) in
       let within : length (rests_after lead callers) ≤ more = omega arith in
       let m : move more callers (Does event r lead) ≡ Goes event (record { rests = rests_after lead callers; registers = r }) = rw (le-leb (length (rests_after lead callers)) more within) refl in
-      ap (λ st. follow st said go') m ∙ ih (said_also said event) _ (moved depth callers event r lead said go u e)
+      ap (λ st. follow st said go') m ∙ ih (with_event said event) _ (moved depth callers event r lead said go u e)
 
   from_zero : (n : ℕ) (said : List Event) (s : State) (u : Trace) (rests : List (List ℕ)) → unended s.rests ≡ rests → run library depth zero said s ≡ Finishes u → run library more n said s ≡ Finishes u
   from_zero n said s u [] r e = run_over library more n said s r ∙ sym (run_over library depth zero said s r) ∙ e

@@ -177,13 +177,13 @@ pub data Outcome : Type 0 where
   Finishes : (trace : Trace) → Outcome
   Stops : (error : Error) → Outcome
 
-abbrev pub said_also : List Event → Option Event → List Event
-said_also said None = said
-said_also said (Some event) = said ++ event ∷ []
+abbrev pub with_event : List Event → Option Event → List Event
+with_event said None = said
+with_event said (Some event) = said ++ event ∷ []
 
 -- goes on from a step
 abbrev pub follow : Step → List Event → (List Event → State → Outcome) → Outcome
-follow (Goes event next) said go = go (said_also said event) next
+follow (Goes event next) said go = go (with_event said event) next
 follow (Faults error) said go = Stops error
 
 -- the run is over where nothing is left to run, and else it wants a token

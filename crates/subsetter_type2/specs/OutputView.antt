@@ -25,25 +25,25 @@ abbrev pub written_at : List ℕ → ℕ → ℕ → Written
 written_at bytes settled count = record { settled = take settled bytes; operands = numbers_of count (drop settled bytes) }
 
 -- the bytes are what is settled, and then so many operands, which begin at this place
-pub record Stands (bytes : List ℕ) (settled count : ℕ) (w : Written) : Type 0 where
+pub record IsOutput (bytes : List ℕ) (settled count : ℕ) (w : Written) : Type 0 where
   pub bytes_are : bytes ≡ w.settled ++ flat_operands w.operands
-  pub place : settled ≡ length w.settled
+  pub offset : settled ≡ length w.settled
   pub many : count ≡ length w.operands
   pub fit : AllFit w.operands
 
 -- where the last operand begins
-abbrev pub last_place : Written → ℕ
-last_place w = length w.settled + length (flat_operands (but_last w.operands))
+abbrev pub last_operand_offset : Written → ℕ
+last_operand_offset w = length w.settled + length (flat_operands (but_last w.operands))
 
 -- the same, where the place of the last operand may be known; 0 where it isn't
 pub record Holds (bytes : List ℕ) (settled count last : ℕ) (w : Written) : Type 0 where
-  pub stands : Stands bytes settled count w
-  pub known : 1 ≤ count → (last ≡ 0 → ⊥) → last ≡ last_place w
+  pub stands : IsOutput bytes settled count w
+  pub known : 1 ≤ count → (last ≡ 0 → ⊥) → last ≡ last_operand_offset w
 
 -- where the operands begin: behind the last operator of a stretch that stands behind so many bytes; 0 where it has none
-abbrev pub place_after : ℕ → ℕ → ℕ → ℕ
-place_after zero settled before = settled
-place_after (suc end) settled before = before + suc end
+abbrev pub operands_offset : ℕ → ℕ → ℕ → ℕ
+operands_offset zero settled before = settled
+operands_offset (suc end) settled before = before + suc end
 
 -- the last of these numbers, and how many bytes stand before it
 abbrev pub IsLast : List CharStringNumber → Option LastNumber → Type 0

@@ -3,7 +3,7 @@ use Rattle.std.specs.Prelude.{◌≡◌, ℕ, ◌+◌, ◌<◌, ◌≤◌, List,
 use Rattle.subsetter_type2.specs.Machine.{Library, Registers, Outcome}
 use Rattle.subsetter_type2.specs.Behind.{ReachedBehind}
 use Rattle.subsetter_type2.specs.Output.{Written}
-use Rattle.subsetter_type2.specs.OutputView.{Stands, place_after, last_place}
+use Rattle.subsetter_type2.specs.OutputView.{IsOutput, operands_offset, last_operand_offset}
 use Rattle.subsetter_type2.specs.declared.stretch.Stretch.{Stretch}
 
 abbrev pub registers_with : Written → ℕ → ℕ → Registers
@@ -27,9 +27,9 @@ pub record IsSound (s : Stretch) : Type 0 where
 -- what is written behind a stretch whose bytes stand behind these, of which the operands begin at this place
 pub record Comes (charstring : List ℕ) (mask_len : ℕ) (bytes : List ℕ) (settled : ℕ) (w : Written) (s : Stretch) : Type 0 where
   pub now : Written
-  pub stands : Stands (bytes ++ take s.len charstring) (place_after s.settled settled (length bytes)) s.count now
+  pub stands : IsOutput (bytes ++ take s.len charstring) (operands_offset s.settled settled (length bytes)) s.count now
   pub leads : LeadsOn charstring s.len s.tokens mask_len w now
-  pub last : 1 ≤ s.tokens → 1 ≤ s.count → length bytes + s.last ≡ last_place now
+  pub last : 1 ≤ s.tokens → 1 ≤ s.count → length bytes + s.last ≡ last_operand_offset now
 
 -- a stretch that goes further
 pub record Extends (charstring : List ℕ) (mask_len : ℕ) (s longer : Stretch) : Type 0 where

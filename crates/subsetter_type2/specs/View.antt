@@ -9,9 +9,9 @@ use Rattle.subsetter_type2.specs.Flat.{flat_event}
 abbrev pub rests_of : List (Bor (List ℕ)) → List (List ℕ)
 rests_of rests = map (λ r. r.now) (reverse rests)
 
-abbrev pub said_bytes : Option Event → List ℕ
-said_bytes None = []
-said_bytes (Some event) = flat_event event
+abbrev pub event_bytes : Option Event → List ℕ
+event_bytes None = []
+event_bytes (Some event) = flat_event event
 
 -- what an act leaves: the registers, the bytes that are then settled, and where it leads
 pub record Done : Type 0 where
@@ -20,5 +20,5 @@ pub record Done : Type 0 where
   pub lead : Lead
 
 abbrev pub done : Act → List ℕ → Result Done Error
-done (Does said next lead) settled = Ok (record { registers = next; settled = settled ++ said_bytes said; lead = lead })
+done (Does said next lead) settled = Ok (record { registers = next; settled = settled ++ event_bytes said; lead = lead })
 done (Fails error) settled = Err error

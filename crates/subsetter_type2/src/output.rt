@@ -7,7 +7,7 @@ ghost use Rattle.std.specs.Prelude.{◌≡◌, ◌≤◌, ◌++◌, [], length, 
 ghost use Rattle.subsetter_base.specs.declared.error.Error.TheVariants.{OutOfMemory};
 ghost use Rattle.subsetter_cffdata.specs.Views.{operator_of};
 ghost use Rattle.subsetter_type2.specs.Flat.{flat_operands};
-ghost use Rattle.subsetter_type2.specs.OutputView.{last_place};
+ghost use Rattle.subsetter_type2.specs.OutputView.{last_operand_offset};
 ghost use Rattle.subsetter_type2.specs.Stretch.{LeadsOn};
 
 use crate::last_number::find_last_number;
@@ -95,7 +95,7 @@ impl Output {
     /// Where the last operand begins.
     #[inline(always)]
     fn find_last(&self) -> Option<usize>
-        ensures { MatchOption result (self.now.operands ≡ []) (λ place. (place ≡ last_place self.now) × (1 ≤ length self.now.operands)) }
+        ensures { MatchOption result (self.now.operands ≡ []) (λ place. (place ≡ last_operand_offset self.now) × (1 ≤ length self.now.operands)) }
     {
         if self.count == 0 {
             return None;

@@ -6,7 +6,7 @@
 
 ghost use Rattle.std.specs.Prelude.{◌≡◌, ◌≤◌, ◌<◌, length, IfSome, ℕ, List};
 ghost use Rattle.subsetter_type2.specs.Output.{Written};
-ghost use Rattle.subsetter_type2.specs.OutputView.{Stands};
+ghost use Rattle.subsetter_type2.specs.OutputView.{IsOutput};
 ghost use Rattle.subsetter_type2.specs.Stretch.{Comes, IsSound, IsLonger};
 
 use crate::argstack::MAX_OPERANDS;
@@ -115,7 +115,7 @@ fn longer(stretch: Stretch, charstring: &[u8], most: usize, mask_len: u16) -> Op
 /// The longest stretch of so many tokens at most at the front of a charstring, with so many operands on the stack.
 #[inline(always)]
 pub fn find_stretch(charstring: &[u8], tokens: u32, mask_len: u16, count: usize) -> Stretch
-    ensures comes { (bytes : List ℕ) (settled : ℕ) (w : Written) → Stands bytes settled count w → Comes charstring.now mask_len bytes settled w result }
+    ensures comes { (bytes : List ℕ) (settled : ℕ) (w : Written) → IsOutput bytes settled count w → Comes charstring.now mask_len bytes settled w result }
     ensures sound { IsSound result }
     ensures inside { result.len ≤ length charstring.now }
     ensures few { result.tokens ≤ tokens }

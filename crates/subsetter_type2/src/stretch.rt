@@ -1,7 +1,7 @@
 //! How far a stretch of a charstring goes.
 
 ghost use Rattle.std.specs.Prelude.{◌≡◌, ◌≤◌, ◌<◌, ◌+◌, if◌then◌else◌};
-ghost use Rattle.subsetter_type2.specs.OutputView.{place_after};
+ghost use Rattle.subsetter_type2.specs.OutputView.{operands_offset};
 
 /// How far a stretch goes.
 #[derive(Clone, Copy)]
@@ -32,7 +32,7 @@ impl Stretch {
     pub fn settled_after(&self, settled: usize, before: usize) -> usize
         requires inside { self.now.settled ≤ self.now.len }
         requires room { before + self.now.len ≤ 18446744073709551615 }
-        ensures { result ≡ place_after self.now.settled settled before }
+        ensures { result ≡ operands_offset self.now.settled settled before }
     {
         if self.settled == 0 {
             return settled;

@@ -6,7 +6,7 @@ use Rattle.std.specs.Int.{w16, cast_unsigned}
 use Rattle.std.proofs.lemmas.Bool.{ltb-true}
 use Rattle.std.proofs.lemmas.List.{append-nil, get_or_append_left, get_or_at, get_or_default, length-append}
 use Rattle.subsetter_base.specs.Bytes.{aligned}
-use Rattle.subsetter_base.specs.Places.{place, IsWithoutRepeats}
+use Rattle.subsetter_base.specs.Indexes.{index_of, IsWithoutRepeats}
 use Rattle.subsetter_base.specs.declared.tag.Tag.{Tag}
 use Rattle.subsetter_base.specs.declared.error.Error.{Error}
 use Rattle.subsetter_base.proofs.Lists.{and_parts}
@@ -18,7 +18,7 @@ use Rattle.subsetter_sfnt.specs.declared.flavor.FontFlavor.TheVariants.{TrueType
 use Rattle.subsetter_sfnt.specs.FontAt.{font_at}
 use Rattle.subsetter_sfnt.specs.Read.{Font, as_font, stored, table, flavor}
 use Rattle.subsetter.specs.Glyf.Parts.{component_numbers, outline_parts}
-use Rattle.subsetter.specs.Glyf.Bare.{parts_asked}
+use Rattle.subsetter.specs.Glyf.Bare.{requested_parts}
 use Rattle.subsetter.specs.Glyf.Reach.{IsReachable, IsGlyphOrder, given, step}
 use Rattle.subsetter.specs.Glyf.Read.{outline}
 use Rattle.subsetter.specs.Glyf.Unfold.{SameParts, UnfoldAlike}
@@ -28,7 +28,7 @@ use Rattle.subsetter.specs.Truetype.Read.{KeepsOutlines}
 use Rattle.subsetter_instance.specs.Instance.{IsInstance, IsDrawn}
 use Rattle.subsetter_instance.proofs.FileLaws.Fitting.{drawn_fits}
 use Rattle.subsetter_variable.specs.Afresh.{IsDrawnAs, HasGlyphsDrawn}
-use Rattle.subsetter_variable.specs.Standing.{IsAtDefault}
+use Rattle.subsetter_variable.specs.DefaultLocation.{IsAtDefault}
 use Rattle.subsetter_variable.specs.Subset.{whole}
 use Rattle.subsetter_variable.proofs.Simple.{IsLow, low_bytes, no_components, bare_already, shown, asked_parts, even, same_bytes}
 use Rattle.subsetter_variable.proofs.SourceRead.{IsRead, is_read, hmtx_found, is_truetype, outline_found, metric_found}
@@ -41,8 +41,8 @@ no_more glyphs (o ∷ os) order is once members =
     let at : get_or order (length glyphs) 0 ≡ o = ap (λ (l : List ℕ). get_or l (length glyphs) 0) is ∙ get_or_at glyphs o os 0 (length glyphs) refl in
     let c = members o (length glyphs, long, get_or_default order (length glyphs) o 0 long ∙ at) in
     let front : get_or order c.0 0 ≡ o = ap (λ (l : List ℕ). get_or l c.0 0) is ∙ get_or_append_left glyphs (o ∷ os) 0 c.0 c.1 ∙ get_or_default glyphs c.0 0 o c.1 ∙ c.2 in
-    let first : place order o ≡ Some c.0 = ap (place order) (sym front) ∙ once c.0 (omega (arith, c.1, long)) in
-    let second : place order o ≡ Some (length glyphs) = ap (place order) (sym at) ∙ once (length glyphs) long in
+    let first : index_of order o ≡ Some c.0 = ap (index_of order) (sym front) ∙ once c.0 (omega (arith, c.1, long)) in
+    let second : index_of order o ≡ Some (length glyphs) = ap (index_of order) (sym at) ∙ once (length glyphs) long in
     absurd (omega (arith, c.1, just_is c.0 (length glyphs) (sym first ∙ second)))
 
 -- of a font with outlines in `glyf` these are kept
@@ -57,15 +57,15 @@ module _ (font : Font) (settings : List (Tag × ℤ)) (glyphs file : List ℕ) (
   -- ---- the glyphs
 
   text : (g : ℕ) (c : Contains glyphs g) → List ℕ
-  text g c = aligned 2 (parts_bytes (i.asked_for g c).it.ends (i.asked_for g c).it.points)
+  text g c = aligned 2 (parts_bytes (i.requests g c).it.ends (i.requests g c).it.points)
 
   outline_is : (g : ℕ) (c : Contains glyphs g) → outline (font_at file 0 x) g ≡ Some (text g c)
   unfolding text
-  outline_is g c = outline_found file x i.out read g ∙ (i.asked_for g c).bytes
+  outline_is g c = outline_found file x i.out read g ∙ (i.requests g c).bytes
 
   is_low : (g : ℕ) (c : Contains glyphs g) → IsLow (text g c)
   unfolding text
-  is_low g c = let d = i.asked_for g c in low_bytes (aligned 2 (parts_bytes d.it.ends d.it.points)) (d.it.ends, d.it.points) d.reads
+  is_low g c = let d = i.requests g c in low_bytes (aligned 2 (parts_bytes d.it.ends d.it.points)) (d.it.ends, d.it.points) d.reads
 
   -- a simple glyph leads to no other
   leads_nowhere : (g h : ℕ) (bytes : List ℕ) → Contains glyphs g → outline (font_at file 0 x) g ≡ Some bytes → Contains (component_numbers bytes) h → ⊥
@@ -98,7 +98,7 @@ module _ (font : Font) (settings : List (Tag × ℤ)) (glyphs file : List ℕ) (
       asked_here = (k, lt, get_or_default glyphs k (get_or glyphs k 0) 0 lt)
 
       drawn_here : IsDrawn i.source i.out i.at i.steps (get_or glyphs k 0)
-      drawn_here = i.asked_for (get_or glyphs k 0) asked_here
+      drawn_here = i.requests (get_or glyphs k 0) asked_here
 
       bytes_here : outline (as_font out) k ≡ Some (aligned 2 (parts_bytes drawn_here.it.ends drawn_here.it.points))
       unfolding drawn_here
@@ -109,9 +109,9 @@ module _ (font : Font) (settings : List (Tag × ℤ)) (glyphs file : List ℕ) (
           let same = outlines_kept.drawing 1 k lt in
           let low = low_bytes b (it.ends, it.points) drawn_here.reads in
           let few : length it.ends < 2 ^ 15 = ltb-true (length it.ends) 0x8000 (and_parts _ _ (and_parts (are_ends 0 it.ends (length it.points)) _ (drawn_fits i.source i.at i.steps g it drawn_here.drawn_is).fits).1).0 in
-          let source : parts_asked x.hinting (outline_parts b) ≡ Some (shown b) = asked_parts x.hinting b low (bare_already it.ends it.points few) in
+          let source : requested_parts x.hinting (outline_parts b) ≡ Some (shown b) = asked_parts x.hinting b low (bare_already it.ends it.points few) in
           let there : outline (font_at file 0 x) g ≡ Some b = outline_found file x i.out read g ∙ drawn_here.bytes in
-          let found : same.source ≡ shown b = just_is same.source (shown b) (sym same.source_is ∙ ap (λ o. parts_asked x.hinting (option_and_then outline_parts o)) there ∙ source) in
+          let found : same.source ≡ shown b = just_is same.source (shown b) (sym same.source_is ∙ ap (λ o. requested_parts x.hinting (option_and_then outline_parts o)) there ∙ source) in
           let copy = bind_some (outline (as_font out) k) outline_parts same.copy same.copy_is in
           let parts = subst (λ p. SameParts same.tables.long (UnfoldAlike (font_at file 0 x) (as_font out) 0) p same.copy) found same.same in
           copy.1 ∙ ap Some (same_bytes copy.0 b same.copy same.tables.long (UnfoldAlike (font_at file 0 x) (as_font out) 0) copy.2 (even (parts_bytes it.ends it.points)) parts)
@@ -127,7 +127,7 @@ module _ (font : Font) (settings : List (Tag × ℤ)) (glyphs file : List ℕ) (
       glyph_drawn = record { it = drawn_here.it; drawn_is = drawn_here.drawn_is; bytes = bytes_here; reads = drawn_here.reads; metrics = metrics_here }
 
     pub all_drawn : HasGlyphsDrawn font settings glyphs out
-    all_drawn = record { at = i.at; place_is = i.place_is; source = i.source; source_is = i.source_is; steps = i.steps; count = outlines_kept.count; glyphs_drawn = λ k lt. glyph_drawn k lt }
+    all_drawn = record { at = i.at; coordinates_are = i.coordinates_are; source = i.source; source_is = i.source_is; steps = i.steps; count = outlines_kept.count; glyphs_drawn = λ k lt. glyph_drawn k lt }
 
 -- ---- an answer
 

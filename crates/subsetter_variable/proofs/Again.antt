@@ -15,7 +15,7 @@ use Rattle.subsetter_sfnt.specs.Rows.{FontTables, bytes_of, rows, present}
 use Rattle.subsetter_sfnt.specs.Written.{file, kind_word}
 use Rattle.subsetter_sfnt.proofs.Laws.Laid.{row_back}
 use Rattle.subsetter_variation.specs.Tuples.{Gvar}
-use Rattle.subsetter_instance.specs.Source.{Source, place_by, source_in, variations_in}
+use Rattle.subsetter_instance.specs.Source.{Source, normalized_by, source_in, variations_in}
 use Rattle.subsetter_instance.specs.Drawn.{Drawn, drawn}
 use Rattle.subsetter_instance.specs.Extremes.{all_extents, box_bytes, extreme_bytes}
 use Rattle.subsetter_instance.specs.Instance.{IsInstance}
@@ -110,20 +110,20 @@ module _ (font : Font) (settings : List (Tag × ℤ)) (glyphs out again : List �
   wide = sym read.hvar_is ∙ back font settings glyphs i.steps out p (codes "HVAR") refl
 
   no_place : q.at ≡ []
-  no_place = sym (done_is [] q.at (ap (λ (o : Option (List ℕ)). place_by o (stored (as_font out) (codes "avar")) []) (sym (back font settings glyphs i.steps out p (codes "fvar") refl)) ∙ q.place_is))
+  no_place = sym (done_is [] q.at (ap (λ (o : Option (List ℕ)). normalized_by o (stored (as_font out) (codes "avar")) []) (sym (back font settings glyphs i.steps out p (codes "fvar") refl)) ∙ q.coordinates_are))
 
   own_source : q.source ≡ i.out
   own_source = just_is q.source i.out (sym q.source_is ∙ ap (λ (l : List ℤ). source_in (stored (as_font out)) (length l)) no_place ∙ i.out_is)
 
   first_place : p.at ≡ i.at
-  first_place = done_is p.at i.at (sym p.place_is ∙ i.place_is)
+  first_place = done_is p.at i.at (sym p.coordinates_are ∙ i.coordinates_are)
 
   first_source : p.source ≡ i.source
   first_source = just_is p.source i.source (sym p.source_is ∙ ap (λ (l : List ℤ). source_in (stored font) (length l)) first_place ∙ i.source_is)
 
   same_drawn : q.ds ≡ p.ds
   same_drawn =
-      all_redrawn i.out i.source i.at j.steps i.steps glyphs q.ds p.ds (λ g c a b e f. redrawn i.source i.out i.at i.steps g (i.asked_for g c) still wide j.steps a e ∙ done_is (i.asked_for g c).it b (sym (i.asked_for g c).drawn_is ∙ f))
+      all_redrawn i.out i.source i.at j.steps i.steps glyphs q.ds p.ds (λ g c a b e f. redrawn i.source i.out i.at i.steps g (i.requests g c) still wide j.steps a e ∙ done_is (i.requests g c).it b (sym (i.requests g c).drawn_is ∙ f))
       (ap (λ (s : Source). drawn_all s [] j.steps glyphs) (sym own_source) ∙ ap (λ (l : List ℤ). drawn_all q.source l j.steps glyphs) (sym no_place) ∙ q.drawn_is)
       (ap (λ (s : Source). drawn_all s i.at i.steps glyphs) (sym first_source) ∙ ap (λ (l : List ℤ). drawn_all p.source l i.steps glyphs) (sym first_place) ∙ p.drawn_is)
 

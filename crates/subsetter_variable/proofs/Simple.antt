@@ -11,7 +11,7 @@ use Rattle.subsetter_base.proofs.ByteLemmas.{be-u16, number_at}
 use Rattle.subsetter_base.proofs.Options.{just_is, bind_some}
 use Rattle.subsetter_points.specs.declared.outline.Point.{Point}
 use Rattle.subsetter_points.specs.Simple.{after, box, description_at, end_bytes, header_at, parts, parts_bytes, point_bytes}
-use Rattle.subsetter.specs.Glyf.Bare.{bare_at, bare_simple, parts_asked}
+use Rattle.subsetter.specs.Glyf.Bare.{bare_at, bare_simple, requested_parts}
 use Rattle.subsetter.specs.Glyf.Parts.{Parts, Empty, Simple, component_numbers, outline_parts}
 use Rattle.subsetter.specs.Glyf.Unfold.{padded, SameParts}
 use Rattle.subsetter.proofs.GlyfLaws.Unfold.{PartsAre, parts_are, is_empty, is_simple, is_composite}
@@ -100,14 +100,14 @@ unfolding outline_parts
 low_parts bytes (nothing e) = rw e refl
 low_parts bytes (low a b rest e t) = rw (e, t) refl
 
-bare_shown : (bytes : List ℕ) → IsLow bytes → bare_simple bytes ≡ bytes → parts_asked false (Some (shown bytes)) ≡ Some (shown bytes)
+bare_shown : (bytes : List ℕ) → IsLow bytes → bare_simple bytes ≡ bytes → requested_parts false (Some (shown bytes)) ≡ Some (shown bytes)
 bare_shown bytes (nothing e) bare = rw e refl
 bare_shown bytes (low a b rest e t) bare = rw e (ap (λ (l : List ℕ). Some (Simple l)) (rw e at bare))
 
 -- whatever is asked for of instructions
-pub asked_parts : (hinting : Bool) (bytes : List ℕ) → IsLow bytes → bare_simple bytes ≡ bytes → parts_asked hinting (outline_parts bytes) ≡ Some (shown bytes)
+pub asked_parts : (hinting : Bool) (bytes : List ℕ) → IsLow bytes → bare_simple bytes ≡ bytes → requested_parts hinting (outline_parts bytes) ≡ Some (shown bytes)
 asked_parts true bytes l bare = low_parts bytes l
-asked_parts false bytes l bare = ap (parts_asked false) (low_parts bytes l) ∙ bare_shown bytes l bare
+asked_parts false bytes l bare = ap (requested_parts false) (low_parts bytes l) ∙ bare_shown bytes l bare
 
 pub even : (b : List ℕ) → length (aligned 2 b) % 2 ≡ 0
 even b =

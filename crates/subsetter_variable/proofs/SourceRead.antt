@@ -32,7 +32,7 @@ pub record IsRead (find : List ℕ → Option (List ℕ)) (axes : ℕ) (s : Sour
   pub long_is : not (format == 0) ≡ s.long
   pub hhea : List ℕ
   pub hhea_is : find (codes "hhea") ≡ Some hhea
-  pub pairs_is : number hhea 34 2 ≡ Some s.pairs
+  pub pairs_is : number hhea 34 2 ≡ Some s.number_of_h_metrics
   pub hmtx_is : find (codes "hmtx") ≡ Some s.hmtx
   pub variations_are : variations_in (find (codes "gvar")) axes ≡ Some s.gvar
   pub hvar_is : find (codes "HVAR") ≡ s.hvar
@@ -40,7 +40,7 @@ pub record IsRead (find : List ℕ → Option (List ℕ)) (axes : ℕ) (s : Sour
 -- what is read after each of the tables
 module _ (find : List ℕ → Option (List ℕ)) (axes : ℕ) where
   abbrev of_hmtx : List ℕ → List ℕ → ℕ → ℕ → ℕ → List ℕ → Option Gvar → Option Source
-  of_hmtx glyf loca format count pairs hmtx gvar = Some (record { glyf = glyf; loca = loca; long = not (format == 0); count = count; pairs = pairs; hmtx = hmtx; gvar = gvar; hvar = find (codes "HVAR") })
+  of_hmtx glyf loca format count pairs hmtx gvar = Some (record { glyf = glyf; loca = loca; long = not (format == 0); count = count; number_of_h_metrics = pairs; hmtx = hmtx; gvar = gvar; hvar = find (codes "HVAR") })
 
   abbrev after_hmtx : List ℕ → List ℕ → ℕ → ℕ → ℕ → List ℕ → Option Source
   after_hmtx glyf loca format count pairs hmtx = option_and_then (of_hmtx glyf loca format count pairs hmtx) (variations_in (find (codes "gvar")) axes)
@@ -85,7 +85,7 @@ module _ (find : List ℕ → Option (List ℕ)) (axes : ℕ) where
       let i = bind_some (number g.0 34 2) (after_pairs a.0 b.0 d.0 f.0) s g.2 in
       let j = bind_some (find (codes "hmtx")) (after_hmtx a.0 b.0 d.0 f.0 i.0) s i.2 in
       let k = bind_some (variations_in (find (codes "gvar")) axes) (of_hmtx a.0 b.0 d.0 f.0 i.0 j.0) s j.2 in
-      let made : Source = record { glyf = a.0; loca = b.0; long = not (d.0 == 0); count = f.0; pairs = i.0; hmtx = j.0; gvar = k.0; hvar = find (codes "HVAR") } in
+      let made : Source = record { glyf = a.0; loca = b.0; long = not (d.0 == 0); count = f.0; number_of_h_metrics = i.0; hmtx = j.0; gvar = k.0; hvar = find (codes "HVAR") } in
       let is : made ≡ s = just_is made s k.2 in
       record {
         glyf_is = a.1 ∙ ap (λ (t : Source). Some t.glyf) is;
@@ -97,7 +97,7 @@ module _ (find : List ℕ → Option (List ℕ)) (axes : ℕ) where
         long_is = ap (λ (t : Source). t.long) is;
         hhea = g.0;
         hhea_is = g.1;
-        pairs_is = i.1 ∙ ap (λ (t : Source). Some t.pairs) is;
+        pairs_is = i.1 ∙ ap (λ (t : Source). Some t.number_of_h_metrics) is;
         hmtx_is = j.1 ∙ ap (λ (t : Source). Some t.hmtx) is;
         variations_are = k.1 ∙ ap (λ (t : Source). Some t.gvar) is;
         hvar_is = ap (λ (t : Source). t.hvar) is;
@@ -193,15 +193,15 @@ module _ (file : List ℕ) (x : Extras) where
         ap (λ (o : Option ℕ). option_and_then (λ advance. option_and_then (of_two advance) (number s.hmtx bearing_at 2)) o) a.1 ∙ ap (λ (o : Option ℕ). option_and_then (of_two a.0) o) b.1 ∙ ap (λ (k : drawn.Metric). there (as_kept k)) is
 
     chosen : (g : ℕ) (p q : Bool) (m : drawn.Metric)
-        → cond p (metric_at s.hmtx (4 * g) (4 * g + 2)) (cond q None (metric_at s.hmtx (4 * (s.pairs - 1)) (4 * s.pairs + 2 * (g - s.pairs)))) ≡ Some m
-        → cond p (hmtx.metric_at s.hmtx (4 * g) (4 * g + 2)) (cond q None (hmtx.metric_at s.hmtx (4 * (s.pairs - 1)) (4 * s.pairs + 2 * (g - s.pairs)))) ≡ Some (as_kept m)
+        → cond p (metric_at s.hmtx (4 * g) (4 * g + 2)) (cond q None (metric_at s.hmtx (4 * (s.number_of_h_metrics - 1)) (4 * s.number_of_h_metrics + 2 * (g - s.number_of_h_metrics)))) ≡ Some m
+        → cond p (hmtx.metric_at s.hmtx (4 * g) (4 * g + 2)) (cond q None (hmtx.metric_at s.hmtx (4 * (s.number_of_h_metrics - 1)) (4 * s.number_of_h_metrics + 2 * (g - s.number_of_h_metrics)))) ≡ Some (as_kept m)
     chosen g true q m h = pair (4 * g) (4 * g + 2) m h
     chosen g false true m h = absurd cc
-    chosen g false false m h = pair (4 * (s.pairs - 1)) (4 * s.pairs + 2 * (g - s.pairs)) m h
+    chosen g false false m h = pair (4 * (s.number_of_h_metrics - 1)) (4 * s.number_of_h_metrics + 2 * (g - s.number_of_h_metrics)) m h
 
-    of_pairs : (g : ℕ) (m : drawn.Metric) → metric s g ≡ Some m → hmtx.metric_in s.hmtx s.pairs g ≡ Some (as_kept m)
+    of_pairs : (g : ℕ) (m : drawn.Metric) → metric s g ≡ Some m → hmtx.metric_in s.hmtx s.number_of_h_metrics g ≡ Some (as_kept m)
     unfolding metric hmtx.metric_in
-    of_pairs g m h = chosen g (ltb g s.pairs) (eqb s.pairs 0) m h
+    of_pairs g m h = chosen g (ltb g s.number_of_h_metrics) (eqb s.number_of_h_metrics 0) m h
 
     pub metric_found : (g : ℕ) (m : drawn.Metric) → metric s g ≡ Some m → hmtx.metric (font_at file 0 x) g ≡ Some (as_kept m)
     unfolding hmtx.metric_of

@@ -11,10 +11,10 @@ use Rattle.subsetter_base.proofs.Results.{done_is}
 use Rattle.subsetter_sfnt.specs.Plain.{opened}
 use Rattle.subsetter_sfnt.specs.Read.{Font, stored, table_in}
 use Rattle.subsetter_sfnt.proofs.Laws.Fault.{opened_refused}
-use Rattle.subsetter_instance.specs.Source.{place}
+use Rattle.subsetter_instance.specs.Source.{normalized_coordinates}
 use Rattle.subsetter_instance.proofs.FaultLaws.Opening.{same_find}
 use Rattle.subsetter_instance.proofs.FaultLaws.Place.{place_refused}
-use Rattle.subsetter_variable.specs.Standing.{IsAtDefault, HasNoPlace, no_outlines, no_move}
+use Rattle.subsetter_variable.specs.DefaultLocation.{IsAtDefault, HasNoLocation, no_outlines, no_move}
 use Rattle.subsetter_variable.proofs.Unopened.{no_glyf}
 
 -- what fails, but for want of memory, fails by its reading
@@ -36,15 +36,15 @@ module _ (font : Font) (settings : List (Tag × ℤ)) where
 
   module _ (there : IsSome (stored font (codes "glyf"))) where
     -- a font with outlines is at its default where it doesn't move
-    pub by_place : (at : List ℤ) (zero : Bool) → place (stored font) settings ≡ Ok at → IsTrue zero ↔ All (λ v. v ≡ pos 0) at → IsTrue zero ↔ IsAtDefault font settings
+    pub by_place : (at : List ℤ) (zero : Bool) → normalized_coordinates (stored font) settings ≡ Ok at → IsTrue zero ↔ All (λ v. v ≡ pos 0) at → IsTrue zero ↔ IsAtDefault font settings
     by_place at zero is h = (λ yes. no_move at is (h.0 yes), λ stands. h.1 (still stands))
       where
         still : IsAtDefault font settings → All (λ v. v ≡ pos 0) at
         still (no_outlines none) = absurd (let both = there in cc)
         still (no_move other placed all) = subst (All (λ v. v ≡ pos 0)) (done_is other at (sym placed ∙ is)) all
 
-    pub no_place_by : (e : Error) → Fails e (place (stored font) settings) → (e ≡ OutOfMemory) ⊎ HasNoPlace font e
-    no_place_by e h = elim (fails_is e (place (stored font) settings) h) [ inl m ↦ inl m | inr r ↦ inr (record { outlines = there; fault = place_refused (stored font) settings e r }) ]
+    pub no_place_by : (e : Error) → Fails e (normalized_coordinates (stored font) settings) → (e ≡ OutOfMemory) ⊎ HasNoLocation font e
+    no_place_by e h = elim (fails_is e (normalized_coordinates (stored font) settings) h) [ inl m ↦ inl m | inr r ↦ inr (record { outlines = there; fault = place_refused (stored font) settings e r }) ]
 
 -- the tables of the directory that was opened
 pub find_is : (font : Font) (d seen : List ℕ) → opened font ≡ Ok d → seen ≡ font.bytes → table_in seen d ≡ stored font

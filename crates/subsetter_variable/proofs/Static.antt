@@ -14,7 +14,7 @@ use Rattle.subsetter_instance.specs.Fault.{HasInstanceFault, in_place}
 use Rattle.subsetter_instance.specs.Instance.{IsInstance}
 use Rattle.subsetter_instance.proofs.FaultLaws.Place.{place_clean}
 use Rattle.subsetter_instance.proofs.SameLaws.Answer.{one_file}
-use Rattle.subsetter_variable.specs.Standing.{IsAtDefault, HasNoPlace, no_outlines, no_move}
+use Rattle.subsetter_variable.specs.DefaultLocation.{IsAtDefault, HasNoLocation, no_outlines, no_move}
 use Rattle.subsetter_variable.proofs.Unopened.{no_glyf, same_stored}
 use Rattle.subsetter_variable.specs.Subset.{whole, IsStatic, IsSubsetAt, HasFaultAt, IsAnswerAt, HasNoAnswerAt, IsTheAnswerAt, as_it_is, instanced, in_instance, in_static}
 
@@ -32,11 +32,11 @@ one_static font settings glyphs _ _ (instanced file m i) (instanced other n j) =
 -- ---- a font without a place
 
 -- it isn't at its default
-pub not_default : (font : Font) (settings : List (Tag × ℤ)) (e : Error) → HasNoPlace font e → IsAtDefault font settings → ⊥
+pub not_default : (font : Font) (settings : List (Tag × ℤ)) (e : Error) → HasNoLocation font e → IsAtDefault font settings → ⊥
 not_default font settings e h (no_outlines n) = let there = h.outlines in cc
 not_default font settings e h (no_move at is all) = place_clean (stored font) settings at e is h.fault
 
-pub unplaced : (font : Font) (settings : List (Tag × ℤ)) (glyphs : List ℕ) (steps : ℕ) (e : Error) → (e ≡ OutOfMemory) ⊎ HasNoPlace font e → (e ≡ OutOfMemory) ⊎ ((IsAtDefault font settings → ⊥) × HasInstanceFault font settings glyphs steps e)
+pub unplaced : (font : Font) (settings : List (Tag × ℤ)) (glyphs : List ℕ) (steps : ℕ) (e : Error) → (e ≡ OutOfMemory) ⊎ HasNoLocation font e → (e ≡ OutOfMemory) ⊎ ((IsAtDefault font settings → ⊥) × HasInstanceFault font settings glyphs steps e)
 unplaced font settings glyphs steps e (inl m) = inl m
 unplaced font settings glyphs steps e (inr h) = inr (not_default font settings e h, in_place h.fault)
 

@@ -9,7 +9,7 @@ use Rattle.subsetter_sfnt.specs.declared.face.FontKind.TheVariants.{Collection, 
 use Rattle.subsetter_sfnt.specs.Extras.{all_extras, by_hinting, by_names, by_glyph_names}
 use Rattle.subsetter_sfnt.specs.Fault.{HasOpeningFault, no_kind, no_entry, entry_outside, no_face, nested, cut_directory, no_outlines, lone_cff2}
 use Rattle.subsetter_sfnt.specs.FontAt.{font_at}
-use Rattle.subsetter_sfnt.specs.Read.{Font, kind_at, collection_entry, header_by_kind, header_place, records_at, records, table_in, table, stored}
+use Rattle.subsetter_sfnt.specs.Read.{Font, kind_at, collection_entry, header_by_kind, header_offset, records_at, records, table_in, table, stored}
 
 -- ---- without a header
 
@@ -21,16 +21,16 @@ past_by bytes at false h lt = rw h refl
 past_end : (bytes : List ℕ) (at : ℕ) → length bytes < at → kind_at bytes at ≡ None
 past_end bytes at lt = past_by bytes at (leb (at + 4) (length bytes)) refl lt
 
-without_kind : (font : Font) → kind_at font.bytes 0 ≡ None → header_place font ≡ None
-unfolding header_place
+without_kind : (font : Font) → kind_at font.bytes 0 ≡ None → header_offset font ≡ None
+unfolding header_offset
 without_kind font h = rw h refl
 
-without_entry : (font : Font) → kind_at font.bytes 0 ≡ Some Collection → collection_entry font ≡ None → header_place font ≡ None
-unfolding header_place
+without_entry : (font : Font) → kind_at font.bytes 0 ≡ Some Collection → collection_entry font ≡ None → header_offset font ≡ None
+unfolding header_offset
 without_entry font k c = rw (k, c) refl
 
-without_face : (font : Font) (at : ℕ) → kind_at font.bytes 0 ≡ Some Collection → collection_entry font ≡ Some at → (kind_at font.bytes at ≡ None) ⊎ (kind_at font.bytes at ≡ Some Collection) → header_place font ≡ None
-unfolding header_place
+without_face : (font : Font) (at : ℕ) → kind_at font.bytes 0 ≡ Some Collection → collection_entry font ≡ Some at → (kind_at font.bytes at ≡ None) ⊎ (kind_at font.bytes at ≡ Some Collection) → header_offset font ≡ None
+unfolding header_offset
 without_face font at k c (inl w) = rw (k, c, w) refl
 without_face font at k c (inr w) = rw (k, c, w) refl
 
@@ -41,7 +41,7 @@ module _ (font : Font) (tag : List ℕ) where
   unread : records font ≡ None → stored font tag ≡ None
   unread h = ap (option_and_then (λ directory. table_in font.bytes directory tag)) h
 
-  headless : header_place font ≡ None → stored font tag ≡ None
+  headless : header_offset font ≡ None → stored font tag ≡ None
   headless h = unread (ap (option_and_then (λ at. records_at font.bytes at)) h)
 
 -- ---- `glyf` is asked for always
@@ -75,8 +75,8 @@ no_glyf font e (no_outlines r g c c2) = unasked font g
 no_glyf font e (lone_cff2 g c c2) = unasked font g
 
 -- the directory doesn't depend on what is asked for
-same_header : (font : Font) → header_place (font_at font.bytes font.index all_extras) ≡ header_place font
-unfolding header_place
+same_header : (font : Font) → header_offset (font_at font.bytes font.index all_extras) ≡ header_offset font
+unfolding header_offset
 same_header font = by (kind_at font.bytes 0)
   where
     by : (o : Option FontKind) → option_and_then (λ kind. header_by_kind kind (font_at font.bytes font.index all_extras)) o ≡ option_and_then (λ kind. header_by_kind kind font) o

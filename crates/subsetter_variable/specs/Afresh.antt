@@ -8,7 +8,7 @@ use Rattle.subsetter_sfnt.specs.Read.{Font, as_font, stored}
 use Rattle.subsetter.specs.Glyf.Read.{outline}
 use Rattle.subsetter.specs.Hmtx.Read.{metric}
 use Rattle.subsetter.specs.Truetype.Read.{HasGlyphCount}
-use Rattle.subsetter_instance.specs.Source.{Source, place, source_in}
+use Rattle.subsetter_instance.specs.Source.{Source, normalized_coordinates, source_in}
 use Rattle.subsetter_instance.specs.Drawn.{Drawn, drawn}
 
 -- glyph i of a font is exactly what is drawn of glyph g of another one
@@ -23,7 +23,7 @@ pub record IsDrawnAs (source : Source) (at : List ℤ) (steps g : ℕ) (out : Fo
 -- a file has these glyphs and no other, in order, each as it is drawn where the settings place the font
 pub record HasGlyphsDrawn (font : Font) (settings : List (Tag × ℤ)) (glyphs out : List ℕ) : Type 0 where
   pub at : List ℤ
-  pub place_is : place (stored font) settings ≡ Ok at
+  pub coordinates_are : normalized_coordinates (stored font) settings ≡ Ok at
   pub source : Source
   pub source_is : source_in (stored font) (length at) ≡ Some source
   pub steps : ℕ

@@ -1,4 +1,4 @@
-pub mod Standing
+pub mod DefaultLocation
 pub mod Subset
 pub mod Afresh
 pub mod Laws

@@ -12,10 +12,10 @@
 #![tactic(auto)]
 
 pub mod laws;
-mod standing;
+mod default_location;
 mod subsetting;
 
-pub use standing::static_font;
+pub use default_location::static_font;
 pub use subsetter::{Error, Extras, GlyphRemapper, Limits, Options, Tag};
 pub use subsetting::{
     subset_with_variations, subset_with_variations_and_limits, subset_with_variations_and_options,

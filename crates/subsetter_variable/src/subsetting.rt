@@ -12,10 +12,10 @@ ghost use Rattle.subsetter_sfnt.specs.Fault.{HasOpeningFault};
 ghost use Rattle.subsetter_sfnt.specs.FontAt.{font_at};
 ghost use Rattle.subsetter_sfnt.specs.Read.{as_font};
 ghost use Rattle.subsetter_variable.specs.Afresh.{HasGlyphsDrawn};
-ghost use Rattle.subsetter_variable.specs.Standing.{IsAtDefault};
+ghost use Rattle.subsetter_variable.specs.DefaultLocation.{IsAtDefault};
 ghost use Rattle.subsetter_variable.specs.Subset.{IsSubsetAt, HasFaultAt, IsAnswerAt, HasNoAnswerAt, IsTheAnswerAt};
 
-use crate::standing::static_font;
+use crate::default_location::static_font;
 use std::alloc::Global;
 use subsetter::{Error, GlyphRemapper, Limits, Options, Tag, subset_with_options};
 

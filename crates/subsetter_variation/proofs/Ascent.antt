@@ -5,7 +5,7 @@ use Rattle.std.proofs.Math.Nat.{div-lt_iff_lt-mul}
 use lib.Signed.{◌<ℤ◌, ◌≤ℤ◌}
 use Rattle.subsetter_variation.specs.Axes.{above_default, below_default, default_normalized, toward}
 use Rattle.subsetter_variation.specs.Nearest.{nearest, part}
-use Rattle.subsetter_variation.specs.PlaceLaws.{NeverDescends}
+use Rattle.subsetter_variation.specs.LocationLaws.{NeverDescends}
 use Rattle.subsetter_variation.specs.declared.axes.Axis.{Axis}
 use Rattle.subsetter_variation.proofs.Quotients.{part_within}
 use Rattle.subsetter_variation.proofs.Turning.{nearest_zero}

@@ -7,7 +7,7 @@ use lib.Signed.{◌<ℤ◌, ◌≤ℤ◌}
 use Rattle.subsetter_variation.specs.Axes.{above_default, below_default, default_normalized, toward, user_coordinate}
 use Rattle.subsetter_variation.specs.Coordinates.{coordinate}
 use Rattle.subsetter_variation.specs.Nearest.{part}
-use Rattle.subsetter_variation.specs.PlaceLaws.{NeverDescendsBent}
+use Rattle.subsetter_variation.specs.LocationLaws.{NeverDescendsBent}
 use Rattle.subsetter_variation.specs.Segments.{ascends, ascends_from, by_segments, fine, follows, is_on, is_segment_map, keeps, mapped, mapped_from, on_segment, passed}
 use Rattle.subsetter_variation.specs.declared.axes.Axis.{Axis}
 use Rattle.subsetter_variation.specs.declared.segments.AxisValueMap.{AxisValueMap}

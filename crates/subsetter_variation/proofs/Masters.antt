@@ -8,7 +8,7 @@ use Rattle.subsetter_variation.specs.declared.region.RegionAxis.{RegionAxis}
 use Rattle.subsetter_variation.specs.Nearest.{part}
 use Rattle.subsetter_variation.specs.Inferred.{after, before, delta_or, moved, moved_at}
 use Rattle.subsetter_variation.specs.Region.{counted, is_ignored, proportion, scalar, scalar_of, unit}
-use Rattle.subsetter_variation.specs.VariationLaws.{IsExactAtPeak, IsFreeOfPlace, IsNothingAtDefault}
+use Rattle.subsetter_variation.specs.VariationLaws.{IsExactAtPeak, IsFreeOfPosition, IsNothingAtDefault}
 use Rattle.subsetter_variation.proofs.Turning.{nearest_zero}
 
 -- ---- at the peak
@@ -38,7 +38,7 @@ is_exact_at_peak region contour k p d e f =
 
 -- ---- a contour of one point
 
-pub is_free_of_place : IsFreeOfPlace
+pub is_free_of_place : IsFreeOfPosition
 unfolding moved
 is_free_of_place x y scalar None = refl
 is_free_of_place x y scalar (Some d) = refl

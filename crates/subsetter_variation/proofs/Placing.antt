@@ -9,7 +9,7 @@ use Rattle.subsetter_variation.specs.Axes.{default_normalized, user_coordinate}
 use Rattle.subsetter_variation.specs.Coordinates.{coordinate}
 use Rattle.subsetter_variation.specs.Nearest.{nearest, part}
 use Rattle.subsetter_variation.specs.Segments.{ascends, ascends_from, by_segments, fine, follows, is_on, is_segment_map, keeps, mapped, mapped_from, on_segment, passed}
-use Rattle.subsetter_variation.specs.PlaceLaws.{IsDefaultAtZero, IsGreatestAtOne, IsKept, IsLeastAtMinusOne}
+use Rattle.subsetter_variation.specs.LocationLaws.{IsDefaultAtZero, IsGreatestAtOne, IsKept, IsLeastAtMinusOne}
 use Rattle.subsetter_variation.specs.declared.axes.Axis.{Axis}
 use Rattle.subsetter_variation.specs.declared.segments.AxisValueMap.{AxisValueMap}
 use Rattle.subsetter_variation.proofs.Turning.{nearest_zero}

@@ -85,15 +85,15 @@ item_row s outer inner = do
   row_in s.bytes at inner
 
 -- where item variation data stand in the store
-abbrev pub data_place : Store → ℕ → Option ℕ
-data_place s outer = do
+abbrev pub data_offset : Store → ℕ → Option ℕ
+data_offset s outer = do
   data_count ← number s.bytes 6 2
   if nat_lt outer data_count then offset_at s.bytes (8 + outer * 4) else None
 
 -- the bytes that spell the indexes of the regions of item variation data: regionIndexCount, and two bytes for each
 unfoldable pub data_regions : Store → ℕ → Option (List ℕ)
 data_regions s outer = do
-  at ← data_place s outer
+  at ← data_offset s outer
   count ← number s.bytes (at + 4) 2
   range s.bytes (at + 6) (count * 2)
 
@@ -147,15 +147,15 @@ abbrev pub split_index : ℕ → ℕ → ℕ × ℕ
 split_index bits entry = (entry / 2 ^ bits, entry % 2 ^ bits)
 
 -- the entry of a glyph, past the end the last one
-abbrev pub entry_place : ℕ → ℕ → ℕ
-entry_place count g = if nat_lt g count then g else count - 1
+abbrev pub entry_index : ℕ → ℕ → ℕ
+entry_index count g = if nat_lt g count then g else count - 1
 
 -- entryFormat says the size of an entry, less one, in the bits 0x30, and how many bits the inner index has, less one, in 0x0F
 unfoldable pub mapped_index : List ℕ → ℕ → Option (ℕ × ℕ)
 mapped_index map g = do
   head ← map_head map
   form ← number map 1 1
-  entry ← if head.0 == 0 then None else number map (head.1 + entry_place head.0 g * (form / 16 % 4 + 1)) (form / 16 % 4 + 1)
+  entry ← if head.0 == 0 then None else number map (head.1 + entry_index head.0 g * (form / 16 % 4 + 1)) (form / 16 % 4 + 1)
   Some (split_index (form % 16 + 1) entry)
 
 -- the outer and the inner index of a glyph's advance: without a map 0 and the glyph

@@ -9,7 +9,7 @@ pub mod Movement
 pub mod Moves
 pub mod Nearest
 pub mod Packed
-pub mod PlaceLaws
+pub mod LocationLaws
 pub mod Region
 pub mod Segments
 pub mod Tuples

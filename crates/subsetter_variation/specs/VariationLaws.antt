@@ -45,8 +45,8 @@ abbrev pub IsExactAtPeak : Type 0
 IsExactAtPeak = (region : List RegionAxis) (contour : List Point) (k : ℕ) (p : Point) (d : ℤ) → slice_get contour k ≡ Some p → p.delta ≡ Some d → moved contour k (scalar region (map (λ t. t.peak) region)) ≡ unit *ℤ d
 
 -- in a contour of one point, as a phantom point is, it doesn't matter where the point lies
-abbrev pub IsFreeOfPlace : Type 0
-IsFreeOfPlace = (x y scalar : ℤ) (d : Option ℤ) → moved (record { at = x; delta = d } ∷ []) 0 scalar ≡ moved (record { at = y; delta = d } ∷ []) 0 scalar
+abbrev pub IsFreeOfPosition : Type 0
+IsFreeOfPosition = (x y scalar : ℤ) (d : Option ℤ) → moved (record { at = x; delta = d } ∷ []) 0 scalar ≡ moved (record { at = y; delta = d } ∷ []) 0 scalar
 
 -- each number is at least this one, and the next one greater
 abbrev pub Ascends : ℕ → List ℕ → Type 0

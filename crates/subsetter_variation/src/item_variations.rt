@@ -11,7 +11,7 @@ ghost use Rattle.std.specs.Option.{ok_or, option_copied};
 ghost use Rattle.subsetter_base.specs.Bytes.{signed_at};
 ghost use Rattle.subsetter_base.specs.declared.error.Error.TheVariants.{MalformedFont};
 ghost use Rattle.subsetter_variation.specs.Region.{scalar};
-ghost use Rattle.subsetter_variation.specs.ItemVariations.{offset_at, item_store, region_axis_in, region_items, region_of, data_place, data_regions, row_size, row_at, row_in, item_row, word_delta, byte_delta, delta, term, terms, item_delta, map_head, split_index, mapped_index, advance_index, store_of, advance_delta, in_whole_units, whole_or_fault, entry_place};
+ghost use Rattle.subsetter_variation.specs.ItemVariations.{offset_at, item_store, region_axis_in, region_items, region_of, data_offset, data_regions, row_size, row_at, row_in, item_row, word_delta, byte_delta, delta, term, terms, item_delta, map_head, split_index, mapped_index, advance_index, store_of, advance_delta, in_whole_units, whole_or_fault, entry_index};
 
 use crate::region::{RegionAxis, counted};
 use crate::rounding::{nearest, scaled, wide_plus};
@@ -179,7 +179,7 @@ fn row_at(
     words: u16,
     long: bool,
 ) -> Option<Row<'_>>
-    requires place { at < 2 ^ 32 }
+    requires offset { at < 2 ^ 32 }
     requires few { words ≤ count }
     ensures { result ≡ row_at bytes.now at inner count words long }
 {
@@ -226,8 +226,8 @@ fn item_row<'a>(s: &Store<'a>, outer: u32, inner: u32) -> Option<Row<'a>>
 }
 
 /// Where item variation data stand in the store.
-fn data_place(s: &Store<'_>, outer: u32) -> Option<u32>
-    ensures value { result ≡ data_place s.now outer }
+fn data_offset(s: &Store<'_>, outer: u32) -> Option<u32>
+    ensures value { result ≡ data_offset s.now outer }
     ensures few { IfSome result (λ _. outer < 65536) }
 {
     let data_count = Reader::new_at(s.bytes, 6).read::<u16>()?;
@@ -244,7 +244,7 @@ pub fn data_regions<'a>(s: &Store<'a>, outer: u32) -> Option<&'a [u8]>
     ensures few { IfSome result (λ bytes. length bytes.now ≤ 131070) }
     ensures data_count { IfSome result (λ _. outer < 65536) }
 {
-    let at = data_place(s, outer)? as usize;
+    let at = data_offset(s, outer)? as usize;
     let count = Reader::new_at(s.bytes, at + 4).read::<u16>()?;
     Reader::new_at(s.bytes, at + 6).read_bytes(count as usize * 2)
 }
@@ -336,7 +336,7 @@ pub fn item_delta(s: &Store<'_>, at: &[i32], outer: u32, inner: u32) -> Option<i
 /// How many entries a map of indexes has, and where they stand.
 fn map_head(map: &[u8]) -> Option<(u32, usize)>
     ensures value { result ≡ map_head map.now }
-    ensures place { IfSome result (λ h. h.1 ≤ 6) }
+    ensures offset { IfSome result (λ h. h.1 ≤ 6) }
 {
     match Reader::new(map).read::<u8>()? {
         0 => Some((u32::from(Reader::new_at(map, 2).read::<u16>()?), 4)),
@@ -354,9 +354,9 @@ fn split_index(bits: u8, entry: u32) -> (u32, u32)
 }
 
 /// The entry of a glyph, past the end the last one.
-fn entry_place(count: u32, glyph: u16) -> u32
+fn entry_index(count: u32, glyph: u16) -> u32
     requires { 0 < count }
-    ensures value { result ≡ entry_place count glyph }
+    ensures value { result ≡ entry_index count glyph }
     ensures bound { result < 65536 }
 {
     if u32::from(glyph) < count {
@@ -377,7 +377,7 @@ fn mapped_index(map: &[u8], glyph: u16) -> Option<(u32, u32)>
         return None;
     }
     let size = (form / 16 % 4 + 1) as usize;
-    let place = entry_place(count, glyph);
+    let place = entry_index(count, glyph);
     let bytes = Reader::new_at(map, from + place as usize * size).read_bytes(size)?;
     Some(split_index(form % 16 + 1, number_of(bytes)))
 }

@@ -1,9 +1,9 @@
 //! The laws of variations, which name no code: how far a tuple counts, and what it moves the points of a contour by.
 
 ghost use Rattle.subsetter_variation.specs.ItemLaws.{IsItemAtDefault, IsItemAtMaster, IsRoundedAsItIs};
-ghost use Rattle.subsetter_variation.specs.PlaceLaws.{IsDefaultAtZero, IsGreatestAtOne, IsKept, IsLeastAtMinusOne, NeverDescends, NeverDescendsBent};
+ghost use Rattle.subsetter_variation.specs.LocationLaws.{IsDefaultAtZero, IsGreatestAtOne, IsKept, IsLeastAtMinusOne, NeverDescends, NeverDescendsBent};
 ghost use Rattle.subsetter_variation.specs.Moves.{IsShift, IsStill, IsTurned, LiesBetween};
-ghost use Rattle.subsetter_variation.specs.VariationLaws.{AreAscending, AreFaultsNamed, IsBetweenNothingAndFull, IsExactAtPeak, IsFreeOfPlace, IsNothingAtDefault, IsPassedOver, IsSameAtAnySteps, StaysAtDefault};
+ghost use Rattle.subsetter_variation.specs.VariationLaws.{AreAscending, AreFaultsNamed, IsBetweenNothingAndFull, IsExactAtPeak, IsFreeOfPosition, IsNothingAtDefault, IsPassedOver, IsSameAtAnySteps, StaysAtDefault};
 
 /// At the scalar 0 nothing moves.
 pub fn is_still()
@@ -46,8 +46,8 @@ pub fn is_exact_at_peak()
 {}
 
 /// What moves a point that is alone in its contour, as a phantom point is, doesn't depend on where it lies.
-pub fn is_free_of_place()
-    ensures { IsFreeOfPlace }
+pub fn is_free_of_position()
+    ensures { IsFreeOfPosition }
 {}
 
 /// The point numbers of a tuple ascend.

@@ -79,9 +79,9 @@ fn is_on(p: AxisValueMap, q: AxisValueMap, n: i64) -> bool
 
 /// The ends of the segments of the next axis.
 pub fn next_segment_map<'a>(r: &mut Reader<'a>) -> Option<LazyArray16<'a, AxisValueMap>>
-    ensures value { result ≡ segment_map_at r.old.bytes r.old.place }
+    ensures value { result ≡ segment_map_at r.old.bytes r.old.offset }
     ensures bytes { r.new.bytes ≡ r.old.bytes }
-    ensures place { IfSome result (λ x. r.new.place ≡ r.old.place + 2 + x.count * 4) }
+    ensures offset { IfSome result (λ x. r.new.offset ≡ r.old.offset + 2 + x.count * 4) }
 {
     let count = r.read::<u16>()?;
     r.read_array16(count)

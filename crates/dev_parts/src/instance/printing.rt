@@ -11,7 +11,7 @@ use std::fs;
 use std::rt::Files;
 use subsetter_base::{Error, GlyphRemapper};
 use subsetter_instance::instance;
-use subsetter_instance::source::{Source, place, source_in};
+use subsetter_instance::source::{Source, normalized_coordinates, source_in};
 use subsetter_sfnt::extras::Extras;
 use subsetter_sfnt::parse::parse;
 use subsetter_variation::tuples::Gvar;
@@ -82,7 +82,7 @@ fn print_font<R: Print>(
     request: &Request,
 ) -> Result<(), Failure> {
     let face = parse(font, request.index, Extras::ALL)?;
-    let at = place(alloc, &face, &request.settings)?;
+    let at = normalized_coordinates(alloc, &face, &request.settings)?;
     let source = source_in(&face, at.len()).ok_or(Error::MalformedFont)?;
     let gvar = source.gvar().ok_or(Error::MalformedFont)?;
     print_place(rt, alloc, &at)?;

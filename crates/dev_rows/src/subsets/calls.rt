@@ -2,7 +2,7 @@
 
 ghost use Rattle.std.specs.Prelude.{◌≡◌, [], ◌∷◌, IfNone, IfOk};
 ghost use Rattle.subsetter.specs.Subset.{IsSubset};
-ghost use Rattle.subsetter_base.specs.Places.{with_glyphs};
+ghost use Rattle.subsetter_base.specs.Indexes.{with_glyphs};
 ghost use Rattle.subsetter_sfnt.specs.FontAt.{font_at};
 ghost use Rattle.subsetter_variable.specs.Subset.{IsSubsetAt};
 

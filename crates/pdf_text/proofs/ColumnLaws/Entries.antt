@@ -6,7 +6,7 @@ use Rattle.std.proofs.lemmas.List.{length-map, get_or-map}
 use Rattle.pdf_text.specs.declared.columns.Column.{Column}
 use Rattle.pdf_text.specs.declared.columns.DefaultColumn.{DefaultColumn}
 use Rattle.pdf_text.specs.Arrays.{Entry, each, same, width_in, six_equal, run, listed, opened, more, entries_from}
-use Rattle.pdf_text.specs.Columns.{is_default, no_column, marks, column_at, Span, span_of, spans, column_in, said_column}
+use Rattle.pdf_text.specs.Columns.{is_default, no_column, marks, column_at, Span, span_of, spans, column_in, column_found}
 use Rattle.pdf_text.proofs.WidthLaws.Read.{Opens, none, many, list, opens, entries_are_read}
 use Rattle.pdf_text.proofs.ColumnLaws.Marks.{Says, left_out, kept, mark_says}
 
@@ -81,7 +81,7 @@ column_of_entries cs n k (same first last w ∷ es) h = in_same_by cs n first la
 
 -- ---- each column is read
 
-said_by : (d : DefaultColumn) (cs : List Column) (n c : Column) (m : ℕ) → Says d cs m c → of_mark cs n m ≡ said_column d n c
+said_by : (d : DefaultColumn) (cs : List Column) (n c : Column) (m : ℕ) → Says d cs m c → of_mark cs n m ≡ column_found d n c
 said_by d cs n c m (left_out p e) = rw (p, e) refl
 said_by d cs n c m (kept p e f) = rw (p, e) f
 
@@ -90,9 +90,9 @@ other_default [] k n l = absurd (omega arith)
 other_default (c ∷ cs) zero n l = refl
 other_default (c ∷ cs) (suc k) n l = other_default cs k n (omega arith)
 
-pub spans_are_read : (d : DefaultColumn) (cs : List Column) (n : Column) (k : ℕ) → k < length cs → column_in (spans d cs) n k ≡ said_column d n (get_or cs k n)
+pub spans_are_read : (d : DefaultColumn) (cs : List Column) (n : Column) (k : ℕ) → k < length cs → column_in (spans d cs) n k ≡ column_found d n (get_or cs k n)
 spans_are_read d cs n k l =
     column_of_entries cs n k (entries_from 2729 0 0 0 (marks d cs)) (are_marked 2729 (marks d cs) 0 0)
     ∙ ap (λ m. of_mark cs n m) (entries_are_read 2729 (marks d cs) 0 k)
     ∙ said_by d cs n (get_or cs k no_column) (get_or (marks d cs) k 0) (mark_says d cs k l)
-    ∙ ap (λ (c : Column). said_column d n c) (other_default cs k n l)
+    ∙ ap (λ (c : Column). column_found d n c) (other_default cs k n l)

@@ -10,7 +10,7 @@ use Rattle.pdf_text.specs.declared.columns.DefaultColumn.{DefaultColumn}
 use Rattle.pdf_text.specs.declared.arrays.Part.{Part}
 use Rattle.pdf_text.specs.View.{part_view, parts_view}
 use Rattle.pdf_text.specs.Arrays.{Entry, each, same, entries_from, AreAtMost}
-use Rattle.pdf_text.specs.Columns.{is_default, alike, no_column, mark, marks_from, marks, column_at, Span, listed_columns, same_columns, span_of, spans, column_text, span_text, columns_text, column_in, column_said, said_column, IsColumn, AreShortSpans}
+use Rattle.pdf_text.specs.Columns.{is_default, alike, no_column, mark, marks_from, marks, column_at, Span, listed_columns, same_columns, span_of, spans, column_text, span_text, columns_text, column_in, column_for, column_found, IsColumn, AreShortSpans}
 use Rattle.pdf_text.proofs.WidthLaws.Text.{AreSmall, AllSmall, entries_small, entries_short}
 use Rattle.pdf_text.proofs.ColumnLaws.Entries.{spans_are_read}
 use Rattle.pdf_text.proofs.ColumnLaws.Text.{IsSmallColumn, AreSmallColumns, AreSmallSpans, columns_read}
@@ -80,10 +80,10 @@ all_small (c ∷ cs) h =
     let one = All-head IsColumn c cs h in
     (record { advance = number_small c.advance one.advance; x = number_small c.x one.x; y = number_small c.y one.y }, all_small cs (All-tail IsColumn c cs h))
 
-pub column_of_text : (d : DefaultColumn) (cs : List Column) (text : List ℕ) → All IsColumn cs → length cs ≤ 65536 → text ≡ columns_text (spans d cs) → (n : Column) (k : ℕ) → k < length cs → column_said text n k ≡ Some (said_column d n (get_or cs k n))
+pub column_of_text : (d : DefaultColumn) (cs : List Column) (text : List ℕ) → All IsColumn cs → length cs ≤ 65536 → text ≡ columns_text (spans d cs) → (n : Column) (k : ℕ) → k < length cs → column_for text n k ≡ Some (column_found d n (get_or cs k n))
 column_of_text d cs text h l e n k m =
     let size : length (marks d cs) ≡ length cs = marks_size d 1 1 no_column cs in
-    ap (λ (t : List ℕ). column_said t n k) e
+    ap (λ (t : List ℕ). column_for t n k) e
     ∙ ap (λ (o : Option (List Span)). option_map (λ ss. column_in ss n k) o)
     (columns_read (spans d cs) (spans_small cs (entries_from 2729 0 0 0 (marks d cs)) (all_small cs h) (entries_small 2729 (marks d cs) 0 0 0 (omega arith) (marks_small d 1 1 no_column cs (omega arith) (omega arith)))))
     ∙ ap Some (spans_are_read d cs n k m)

@@ -2,7 +2,7 @@
 use Rattle.std.proofs.Common.{◌≡◌, ℕ, ◌<◌, ◌≤◌, true, false, List, length, Option, Some, None, Ok, Err, refl, sym, ap, subst, ◌∙◌, arith}
 use Rattle.std.specs.Prelude.{codes, is_some, IsSome}
 use Rattle.subsetter_base.specs.Bytes.{IsBytes}
-use Rattle.subsetter_base.specs.Places.{IsWithoutRepeats}
+use Rattle.subsetter_base.specs.Indexes.{IsWithoutRepeats}
 use Rattle.subsetter_base.specs.declared.error.Error.{Error}
 use Rattle.subsetter_base.specs.declared.error.Error.TheVariants.{OverflowError}
 use Rattle.subsetter_base.proofs.Options.{just_is, some_not_none}

@@ -3,7 +3,7 @@ use Rattle.std.proofs.Common.{◌≡◌, ℕ, Bool, cond, List, [], Option, Some
 use Rattle.std.specs.Prelude.{codes, is_some, Contains, not, ◌==◌}
 use Rattle.std.proofs.lemmas.List.{append-nil}
 use Rattle.subsetter_base.specs.Bytes.{number}
-use Rattle.subsetter_base.specs.Places.{IsWithoutRepeats}
+use Rattle.subsetter_base.specs.Indexes.{IsWithoutRepeats}
 use Rattle.subsetter_base.proofs.Options.{some_not_none}
 use Rattle.subsetter_base.specs.Options.{◌>>=◌}
 use Rattle.subsetter_sfnt.specs.declared.flavor.FontFlavor.TheVariants.{TrueType, Cff}

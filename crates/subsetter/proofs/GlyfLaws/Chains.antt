@@ -8,7 +8,7 @@ use Rattle.std.proofs.lemmas.List.{append-nil, length-drop, length-take}
 use Rattle.subsetter_base.specs.Bytes.{range, number}
 use Rattle.subsetter_base.specs.declared.error.Error.TheVariants.{MalformedFont}
 use Rattle.subsetter_base.proofs.Options.{bind_some}
-use Rattle.subsetter.specs.Glyf.Bare.{component_asked, tail_asked, parts_asked, bare_simple, simple_asked}
+use Rattle.subsetter.specs.Glyf.Bare.{requested_component, requested_tail, requested_parts, bare_simple, requested_simple}
 use Rattle.subsetter.specs.Glyf.Parts.{Component, Chain, Parts, Composite, Simple, rest_size, has_more, has_instructions, component_at, with_component, last_component, chain_at, composite_parts, outline_parts, spelled, parts_bytes}
 use Rattle.subsetter.specs.Glyf.Closure.{first_byte_in}
 use Rattle.subsetter.specs.Glyf.Plain.{renumbered_component, renumbered_chain, renumbered, rewritten_composite, rewritten}
@@ -85,14 +85,14 @@ with_front front o = option_map (λ text. front ++ text) o
 
 -- a component as it is written
 abbrev pub written : Bool → List ℕ → Component → Component
-written hint order c = renumbered_component order (component_asked hint c)
+written hint order c = renumbered_component order (requested_component hint c)
 
 -- what is kept of the bytes behind the last component
 abbrev pub kept_after : Bool → Component → List ℕ → List ℕ
-kept_after hint c after = tail_asked hint (cond (has_instructions c.flags) after [])
+kept_after hint c after = requested_tail hint (cond (has_instructions c.flags) after [])
 
 abbrev pub chain_bytes : Bool → List ℕ → Chain → List ℕ
-chain_bytes hint order chain = flat_map spelled (map (written hint order) chain.components) ++ tail_asked hint chain.tail
+chain_bytes hint order chain = flat_map spelled (map (written hint order) chain.components) ++ requested_tail hint chain.tail
 
 -- what is written of the components at the front
 abbrev pub chain_text : Bool → List ℕ → List ℕ → Option (List ℕ)
@@ -100,7 +100,7 @@ chain_text hint order bytes = option_map (chain_bytes hint order) (chain_at (len
 
 later_text : (hint : Bool) (order : List ℕ) (c : Component) (o : Option Chain) → option_map (chain_bytes hint order) (option_and_then (λ chain. Some (with_component c chain)) o) ≡ with_front (spelled (written hint order c)) (option_map (chain_bytes hint order) o)
 later_text hint order c None = refl
-later_text hint order c (Some chain) = ap Some (append_assoc (spelled (written hint order c)) (flat_map spelled (map (written hint order) chain.components)) (tail_asked hint chain.tail))
+later_text hint order c (Some chain) = ap Some (append_assoc (spelled (written hint order c)) (flat_map spelled (map (written hint order) chain.components)) (requested_tail hint chain.tail))
 
 step_by : (hint : Bool) (order : List ℕ) (c : Component) (o : Option Chain) (after : List ℕ) (b : Bool) → option_map (chain_bytes hint order) (cond b (option_and_then (λ chain. Some (with_component c chain)) o) (Some (last_component c after)))
     ≡ cond b (with_front (spelled (written hint order c)) (option_map (chain_bytes hint order) o)) (Some (spelled (written hint order c) ++ kept_after hint c after))
@@ -145,25 +145,25 @@ text_fails hint order w rest total h so_far = sym so_far ∙ ap (λ (o : Option 
 -- ---- the whole composite
 
 -- new numbers, and flags
-two_maps : (order : List ℕ) (cs : List Component) → map (renumbered_component order) (map (component_asked false) cs) ≡ map (written false order) cs
+two_maps : (order : List ℕ) (cs : List Component) → map (renumbered_component order) (map (requested_component false) cs) ≡ map (written false order) cs
 two_maps order [] = refl
 two_maps order (c ∷ cs) = ap (λ (l : List Component). written false order c ∷ l) (two_maps order cs)
 
-none_asked : (hint : Bool) → parts_asked hint None ≡ None
+none_asked : (hint : Bool) → requested_parts hint None ≡ None
 none_asked true = refl
 none_asked false = refl
 
-composite_by : (hint : Bool) (order head : List ℕ) (o : Option Chain) → option_map (λ p. parts_bytes (renumbered order p)) (parts_asked hint (option_and_then (λ chain. Some (Composite head chain)) o)) ≡ with_front head (option_map (chain_bytes hint order) o)
+composite_by : (hint : Bool) (order head : List ℕ) (o : Option Chain) → option_map (λ p. parts_bytes (renumbered order p)) (requested_parts hint (option_and_then (λ chain. Some (Composite head chain)) o)) ≡ with_front head (option_map (chain_bytes hint order) o)
 composite_by true order head None = refl
 composite_by false order head None = refl
 composite_by true order head (Some chain) = ap Some (append_assoc head (flat_map spelled (renumbered_chain order chain).components) chain.tail)
 composite_by false order head (Some chain) =
-    ap Some (append_assoc head (flat_map spelled (map (renumbered_component order) (map (component_asked false) chain.components))) []) ∙ ap (λ (l : List Component). Some (head ++ (flat_map spelled l ++ []))) (two_maps order chain.components)
+    ap Some (append_assoc head (flat_map spelled (map (renumbered_component order) (map (requested_component false) chain.components))) []) ∙ ap (λ (l : List Component). Some (head ++ (flat_map spelled l ++ []))) (two_maps order chain.components)
 
 pub composite_short : (hint : Bool) (order bytes : List ℕ) → length bytes < 10 → rewritten_composite hint order bytes ≡ Err MalformedFont
 unfolding rewritten_composite
 composite_short hint order bytes lt =
-    ap (λ b. ok_or (option_map (λ p. parts_bytes (renumbered order p)) (parts_asked hint (option_and_then (λ head. option_and_then (λ chain. Some (Composite head chain)) (chain_at (length bytes) (drop 10 bytes))) (cond b (Some (take 10 (drop 0 bytes))) None)))) MalformedFont) (lt-leb 10 (length bytes) lt)
+    ap (λ b. ok_or (option_map (λ p. parts_bytes (renumbered order p)) (requested_parts hint (option_and_then (λ head. option_and_then (λ chain. Some (Composite head chain)) (chain_at (length bytes) (drop 10 bytes))) (cond b (Some (take 10 (drop 0 bytes))) None)))) MalformedFont) (lt-leb 10 (length bytes) lt)
     ∙ ap (λ (o : Option Parts). ok_or (option_map (λ p. parts_bytes (renumbered order p)) o) MalformedFont) (none_asked hint)
 
 pub composite_is : (hint : Bool) (order bytes : List ℕ) → 10 ≤ length bytes → rewritten_composite hint order bytes ≡ ok_or (with_front (take 10 bytes) (chain_text hint order (drop 10 bytes))) MalformedFont
@@ -172,7 +172,7 @@ composite_is hint order bytes le =
     let rest = drop 10 bytes in
     let len : length rest ≡ length bytes - 10 = length-drop 10 bytes in
     let same = chain_enough (length bytes) (length rest) rest (omega arith) (omega arith) in
-    ap (λ b. ok_or (option_map (λ p. parts_bytes (renumbered order p)) (parts_asked hint (option_and_then (λ head. option_and_then (λ chain. Some (Composite head chain)) (chain_at (length bytes) rest)) (cond b (Some (take 10 (drop 0 bytes))) None)))) MalformedFont) (le-leb 10 (length bytes) le)
+    ap (λ b. ok_or (option_map (λ p. parts_bytes (renumbered order p)) (requested_parts hint (option_and_then (λ head. option_and_then (λ chain. Some (Composite head chain)) (chain_at (length bytes) rest)) (cond b (Some (take 10 (drop 0 bytes))) None)))) MalformedFont) (le-leb 10 (length bytes) le)
     ∙ ap (λ (o : Option (List ℕ)). ok_or o MalformedFont) (composite_by hint order (take 10 bytes) (chain_at (length bytes) rest) ∙ ap (λ (o : Option Chain). with_front (take 10 bytes) (option_map (chain_bytes hint order) o)) same)
 
 -- the same behind other bytes
@@ -188,7 +188,7 @@ pub rewritten_high : (hint : Bool) (order bytes : List ℕ) → 2 ≤ length byt
 unfolding rewritten rewritten_composite outline_parts
 rewritten_high hint order [] le high = absurd (omega arith)
 rewritten_high hint order (a ∷ []) le high = absurd (omega arith)
-rewritten_high hint order (a ∷ b ∷ bytes) le high = ap (λ q. ok_or (option_map (λ p. parts_bytes (renumbered order p)) (parts_asked hint (cond q (Some (Simple (a ∷ b ∷ bytes))) (composite_parts (a ∷ b ∷ bytes))))) MalformedFont) (le-ltb a 128 high)
+rewritten_high hint order (a ∷ b ∷ bytes) le high = ap (λ q. ok_or (option_map (λ p. parts_bytes (renumbered order p)) (requested_parts hint (cond q (Some (Simple (a ∷ b ∷ bytes))) (composite_parts (a ∷ b ∷ bytes))))) MalformedFont) (le-ltb a 128 high)
 
 -- an outline that begins as a composite does, or has one byte
 pub rewritten_begun : (hint : Bool) (order bytes : List ℕ) (first : ℕ) → first ≡ first_byte_in (Some bytes) → 128 ≤ first → rewritten hint order bytes ≡ rewritten_composite hint order bytes
@@ -213,9 +213,9 @@ simple_bare order [] first is low = refl
 simple_bare order (a ∷ []) first is low = absurd (omega arith)
 simple_bare order (a ∷ b ∷ bytes) first is low =
     let lt : a < 128 = omega arith in
-    ap (λ q. ok_or (option_map (λ p. parts_bytes (renumbered order p)) (parts_asked false (cond q (Some (Simple (a ∷ b ∷ bytes))) (composite_parts (a ∷ b ∷ bytes))))) MalformedFont) (lt-ltb a 128 lt)
+    ap (λ q. ok_or (option_map (λ p. parts_bytes (renumbered order p)) (requested_parts false (cond q (Some (Simple (a ∷ b ∷ bytes))) (composite_parts (a ∷ b ∷ bytes))))) MalformedFont) (lt-ltb a 128 lt)
 
 -- as far as they are asked for
-pub rewritten_simple : (hint : Bool) (order bytes : List ℕ) (first : ℕ) → first ≡ first_byte_in (Some bytes) → first < 128 → rewritten hint order bytes ≡ Ok (simple_asked hint bytes)
+pub rewritten_simple : (hint : Bool) (order bytes : List ℕ) (first : ℕ) → first ≡ first_byte_in (Some bytes) → first < 128 → rewritten hint order bytes ≡ Ok (requested_simple hint bytes)
 rewritten_simple true order bytes first is low = simple_kept order bytes first is low
 rewritten_simple false order bytes first is low = simple_bare order bytes first is low

@@ -6,7 +6,7 @@ use Rattle.std.specs.Option.{option_copied}
 use Rattle.std.proofs.lemmas.Bool.{leb-false}
 use Rattle.std.proofs.lemmas.List.{append-nil, length_push, length-append}
 use Rattle.std.proofs.lemmas.List.Elements.{Contains-append_left, Contains-append_right, Contains-append_cases, Contains-push, Contains-push_cases}
-use Rattle.subsetter_base.specs.Places.{place, with_glyph, IsWithoutRepeats}
+use Rattle.subsetter_base.specs.Indexes.{index_of, with_glyph, IsWithoutRepeats}
 use Rattle.subsetter_base.proofs.PlaceLemmas.{IsWithoutRepeats-push}
 use Rattle.subsetter_base.proofs.GlyphLemmas.{place-Contains, length-le_small, small-push}
 use Rattle.subsetter.specs.Glyf.Read.{Outlines, outline_in}
@@ -34,7 +34,7 @@ here x h xs is = (0, omega arith, is)
 -- the numbers that aren't in the order are among the numbers
 pub others_are : (order ns : List ℕ) (h : ℕ) → Contains (others_in order ns) h → Contains ns h
 others_are order [] h c = c
-others_are order (n ∷ ns) h c = by (λ d. others_are order ns h d) (is_some (place order n)) c
+others_are order (n ∷ ns) h c = by (λ d. others_are order ns h d) (is_some (index_of order n)) c
   where
     by : (Contains (others_in order ns) h → Contains ns h) → (b : Bool) → Contains (cond (not b) (n ∷ others_in order ns) (others_in order ns)) h → Contains (n ∷ ns) h
     by again true d = Contains-later n h ns (again d)
@@ -43,9 +43,9 @@ others_are order (n ∷ ns) h c = by (λ d. others_are order ns h d) (is_some (p
 -- each number is in the order or among the others
 pub others_have : (order ns : List ℕ) (h : ℕ) → Contains ns h → Contains order h ⊎ Contains (others_in order ns) h
 others_have order [] h c = inr c
-others_have order (n ∷ ns) h c = by (λ d. others_have order ns h d) (is_some (place order n)) refl
+others_have order (n ∷ ns) h c = by (λ d. others_have order ns h d) (is_some (index_of order n)) refl
   where
-    by : (Contains ns h → Contains order h ⊎ Contains (others_in order ns) h) → (b : Bool) → is_some (place order n) ≡ b → Contains order h ⊎ Contains (cond (not b) (n ∷ others_in order ns) (others_in order ns)) h
+    by : (Contains ns h → Contains order h ⊎ Contains (others_in order ns) h) → (b : Bool) → is_some (index_of order n) ≡ b → Contains order h ⊎ Contains (cond (not b) (n ∷ others_in order ns) (others_in order ns)) h
     by again true known = elim (cons_cases n h ns c) [ inl is ↦ inl (subst (Contains order) is (place-Contains order n known)) | inr later ↦ again later ]
     by again false known = elim (cons_cases n h ns c) [
       | inl is ↦ inr (here n h (others_in order ns) is)
@@ -123,7 +123,7 @@ follow t glyphs left waiting order g after is f =
     })
 
 -- a glyph that waited was taken, and was there already
-known_glyph : (t : Outlines) (glyphs left waiting order : List ℕ) (g : ℕ) → is_some (place order g) ≡ true → Follows t glyphs left (waiting ++ g ∷ []) order → Follows t glyphs left waiting order
+known_glyph : (t : Outlines) (glyphs left waiting order : List ℕ) (g : ℕ) → is_some (index_of order g) ≡ true → Follows t glyphs left (waiting ++ g ∷ []) order → Follows t glyphs left waiting order
 known_glyph t glyphs left waiting order g known f = record {
   others = f.others;
   begins = f.begins;
@@ -142,7 +142,7 @@ known_glyph t glyphs left waiting order g known f = record {
 }
 
 -- a glyph that waited was taken, and went last
-new_glyph : (t : Outlines) (glyphs left waiting order : List ℕ) (g : ℕ) → is_some (place order g) ≡ false → length (order ++ g ∷ []) < 65536 → Follows t glyphs left (waiting ++ g ∷ []) order
+new_glyph : (t : Outlines) (glyphs left waiting order : List ℕ) (g : ℕ) → is_some (index_of order g) ≡ false → length (order ++ g ∷ []) < 65536 → Follows t glyphs left (waiting ++ g ∷ []) order
     → Follows t glyphs left (waiting ++ others_in (order ++ g ∷ []) (components_in (outline_in t g))) (order ++ g ∷ [])
 new_glyph t glyphs left waiting order g absent room f =
     let longer = order ++ g ∷ [] in
@@ -151,7 +151,7 @@ new_glyph t glyphs left waiting order g absent room f =
     record {
       others = f.others ++ g ∷ [];
       begins = ap (λ (l : List ℕ). l ++ g ∷ []) f.begins ∙ append_assoc glyphs f.others (g ∷ []);
-      once = IsWithoutRepeats-push order g (none_of (place order g) absent) f.once;
+      once = IsWithoutRepeats-push order g (none_of (index_of order g) absent) f.once;
       room = room;
       are_given = f.are_given;
       reached = λ q c. elim (Contains-push_cases order g q c) [ inl d ↦ f.reached q d | inr e ↦ subst (Reached t glyphs) e waited ];
@@ -172,9 +172,9 @@ new_glyph t glyphs left waiting order g absent room f =
     }
 
 pub visited : (t : Outlines) (glyphs left waiting order : List ℕ) (g : ℕ) (order_after after : List ℕ) → IsVisited t order waiting g order_after after → Follows t glyphs left (waiting ++ g ∷ []) order → Follows t glyphs left after order_after
-visited t glyphs left waiting order g order_after after v f = by (is_some (place order g)) refl v.is_last v.wait
+visited t glyphs left waiting order g order_after after v f = by (is_some (index_of order g)) refl v.is_last v.wait
   where
-    by : (b : Bool) → is_some (place order g) ≡ b → order_after ≡ cond b order (order ++ g ∷ []) → after ≡ cond b waiting (waiting ++ others_in order_after (components_in (outline_in t g))) → Follows t glyphs left after order_after
+    by : (b : Bool) → is_some (index_of order g) ≡ b → order_after ≡ cond b order (order ++ g ∷ []) → after ≡ cond b waiting (waiting ++ others_in order_after (components_in (outline_in t g))) → Follows t glyphs left after order_after
     by true known o w = subst (λ (l : List ℕ). Follows t glyphs left after l) (sym o) (subst (λ (l : List ℕ). Follows t glyphs left l order) (sym w) (known_glyph t glyphs left waiting order g known f))
     by false known o w =
         let same : after ≡ waiting ++ others_in (order ++ g ∷ []) (components_in (outline_in t g)) = w ∙ ap (λ (l : List ℕ). waiting ++ others_in l (components_in (outline_in t g))) o in
@@ -182,7 +182,7 @@ visited t glyphs left waiting order g order_after after v f = by (is_some (place
 
 -- each visit takes from the numbers that are left, or from those that wait
 pub fewer : (t : Outlines) (waiting order : List ℕ) (g : ℕ) (order_after after : List ℕ) → IsVisited t order waiting g order_after after → (65536 - length order_after) * 2 ^ 40 + length after < (65536 - length order) * 2 ^ 40 + (length waiting + 1)
-fewer t waiting order g order_after after v = by (is_some (place order g)) v.is_last v.wait
+fewer t waiting order g order_after after v = by (is_some (index_of order g)) v.is_last v.wait
   where
     by : (b : Bool) → order_after ≡ cond b order (order ++ g ∷ []) → after ≡ cond b waiting (waiting ++ others_in order_after (components_in (outline_in t g))) → (65536 - length order_after) * 2 ^ 40 + length after < (65536 - length order) * 2 ^ 40 + (length waiting + 1)
     by true o w = omega (arith, ap length o, ap length w)
@@ -209,13 +209,13 @@ finish t glyphs order f = record {
 
 -- a full order and a further glyph are all numbers
 pub all_numbers : (order : List ℕ) (g : ℕ) → IsWithoutRepeats order → IsFull order g → (q : ℕ) → q < 65536 → Contains (order ++ g ∷ []) q
-all_numbers order g once full q lt = by (is_some (place (order ++ g ∷ []) q)) refl
+all_numbers order g once full q lt = by (is_some (index_of (order ++ g ∷ []) q)) refl
   where
-    by : (b : Bool) → is_some (place (order ++ g ∷ []) q) ≡ b → Contains (order ++ g ∷ []) q
+    by : (b : Bool) → is_some (index_of (order ++ g ∷ []) q) ≡ b → Contains (order ++ g ∷ []) q
     by true known = place-Contains (order ++ g ∷ []) q known
     by false absent =
         let once_more = IsWithoutRepeats-push order g full.further once in
-        let all_once = IsWithoutRepeats-push (order ++ g ∷ []) q (none_of (place (order ++ g ∷ []) q) absent) once_more in
+        let all_once = IsWithoutRepeats-push (order ++ g ∷ []) q (none_of (index_of (order ++ g ∷ []) q) absent) once_more in
         let all_small = small-push 65536 (order ++ g ∷ []) q (small-push 65536 order g full.small full.fits) lt in
         absurd (omega (arith, full.full, length_push order g, length_push (order ++ g ∷ []) q, length-le_small 65536 ((order ++ g ∷ []) ++ q ∷ []) all_once all_small))
 
@@ -271,7 +271,7 @@ waits_reached t glyphs left before waiting order g is f = f.waits g (subst (λ (
 -- at most as many wait as the outline has bytes
 others_few : (order ns : List ℕ) → length (others_in order ns) ≤ length ns
 others_few order [] = omega arith
-others_few order (n ∷ ns) = elim (is_some (place order n)) as (λ b. length (cond (not b) (n ∷ others_in order ns) (others_in order ns)) ≤ length (n ∷ ns)) [ true ↦ omega (arith, others_few order ns) | false ↦ omega (arith, others_few order ns) ]
+others_few order (n ∷ ns) = elim (is_some (index_of order n)) as (λ b. length (cond (not b) (n ∷ others_in order ns) (others_in order ns)) ≤ length (n ∷ ns)) [ true ↦ omega (arith, others_few order ns) | false ↦ omega (arith, others_few order ns) ]
 
 pub few_more : (before order bytes : List ℕ) (o : Option (List ℕ)) → Some bytes ≡ o → length bytes < 2 ^ 32 → length (before ++ others_in order (components_in o)) < length before + 2 ^ 32
 few_more before order bytes o e lt =
@@ -294,12 +294,12 @@ none_wait waiting order o first is low =
     sym (append-nil waiting) ∙ ap (λ (l : List ℕ). waiting ++ others_in order l) (sym (simple_parts o (sym (ap (nat_le 128) is) ∙ low)))
 
 pub room_left : (order after : List ℕ) (g : ℕ) → after ≡ with_glyph order g → length order < 65535 → length after < 65536
-room_left order after g is lt = omega (arith, ap length is, by (is_some (place order g)))
+room_left order after g is lt = omega (arith, ap length is, by (is_some (index_of order g)))
   where
     by : (b : Bool) → length (cond b order (order ++ g ∷ [])) ≤ length order + 1
     by true = omega arith
     by false = omega (arith, length_push order g)
 
 -- a glyph that wasn't there went last
-pub gone_last : (order after : List ℕ) (g : ℕ) → place order g ≡ None → after ≡ with_glyph order g → after ≡ order ++ g ∷ []
+pub gone_last : (order after : List ℕ) (g : ℕ) → index_of order g ≡ None → after ≡ with_glyph order g → after ≡ order ++ g ∷ []
 gone_last order after g absent is = is ∙ ap (λ (o : Option ℕ). cond (is_some o) order (order ++ g ∷ [])) absent

@@ -18,7 +18,7 @@ use Rattle.subsetter.specs.Glyf.Parts.{Parts, outline_parts}
 use Rattle.subsetter.specs.Glyf.Reach.{IsReachableBy, IsReachable, IsGlyphOrderBy, IsGlyphOrder}
 use Rattle.subsetter.specs.Glyf.Closure.{StopsClosure, no_memory, faulty_glyph, all_reached, too_long}
 use Rattle.subsetter.specs.Glyf.Plain.{outlines_read, kept_all}
-use Rattle.subsetter.specs.Glyf.Size.{asked_size, asked_sizes, AreLonger}
+use Rattle.subsetter.specs.Glyf.Size.{requested_size, requested_sizes, AreLonger}
 use Rattle.subsetter.specs.Glyf.Written.{glyf_bytes}
 use Rattle.subsetter.specs.Glyf.Fault as faults
 use Rattle.subsetter.specs.Glyf.Fault.{HasOutlineFault}
@@ -153,9 +153,9 @@ module _ (font : Font) (glyphs order : List ℕ) (t : Outlines) (bs : List (List
   -- those of some reached glyphs are no longer than the new `glyf`
   pub not_longer : (most : ℕ) (long : Bool) → length (glyf_bytes long bs) ≤ most → AreLonger font.extras.hinting (outline font) glyphs most → ⊥
   not_longer most long small l =
-      let sizes = λ (hint : Bool) (o : Option Outlines). asked_sizes hint (λ h. option_and_then (λ u. outline_in u h) o) order in
-      let same : sizes font.extras.hinting (outlines font) ≡ asked_sizes t.hinting (outline_in t) order = ap (sizes font.extras.hinting) read ∙ ap (λ (b : Bool). sizes b (Some t)) (sym (has_tables font.extras.hinting (table font) t read).asks) in
-      omega (arith, l.longer, sum_by_part (λ g. asked_size font.extras.hinting (outline font g)) l.part order l.once (λ g c. (closed.members g).1 (l.reached g c)), same, kept_sizes t order order bs long keeps, small)
+      let sizes = λ (hint : Bool) (o : Option Outlines). requested_sizes hint (λ h. option_and_then (λ u. outline_in u h) o) order in
+      let same : sizes font.extras.hinting (outlines font) ≡ requested_sizes t.hinting (outline_in t) order = ap (sizes font.extras.hinting) read ∙ ap (λ (b : Bool). sizes b (Some t)) (sym (has_tables font.extras.hinting (table font) t read).asks) in
+      omega (arith, l.longer, sum_by_part (λ g. requested_size font.extras.hinting (outline font g)) l.part order l.once (λ g c. (closed.members g).1 (l.reached g c)), same, kept_sizes t order order bs long keeps, small)
 
   -- a reached glyph has an outline with parts
   has_parts : (g : ℕ) → IsReachable font glyphs g → (bytes : List ℕ) × (outline font g ≡ Some bytes) × ((p : Parts) × (outline_parts bytes ≡ Some p))

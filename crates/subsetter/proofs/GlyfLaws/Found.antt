@@ -2,7 +2,7 @@
 use Rattle.std.proofs.Common.{◌≡◌, ℕ, cond, List, [], ◌∷◌, ◌++◌, length, refl, sym, ap, subst, ◌∙◌, arith}
 use Rattle.std.specs.Prelude.{is_some}
 use Rattle.std.proofs.lemmas.List.{length_push}
-use Rattle.subsetter_base.specs.Places.{place}
+use Rattle.subsetter_base.specs.Indexes.{index_of}
 use Rattle.subsetter.specs.Glyf.Read.{Outlines, outline_in}
 use Rattle.subsetter.specs.Glyf.Closure.{components_in, others_in, IsVisited, Finds, all_found, follows, visits}
 
@@ -26,7 +26,7 @@ push_same (a ∷ xs) (b ∷ ys) x y h =
 visited_same : (t : Outlines) (order rest : List ℕ) (g : ℕ) (longer after other later : List ℕ) → IsVisited t order rest g longer after → IsVisited t order rest g other later → (longer ≡ other) × (after ≡ later)
 visited_same t order rest g longer after other later v w =
     let same : longer ≡ other = v.is_last ∙ sym w.is_last in
-    (same, v.wait ∙ ap (λ (l : List ℕ). cond (is_some (place order g)) rest (rest ++ others_in l (components_in (outline_in t g)))) same ∙ sym w.wait)
+    (same, v.wait ∙ ap (λ (l : List ℕ). cond (is_some (index_of order g)) rest (rest ++ others_in l (components_in (outline_in t g)))) same ∙ sym w.wait)
 
 pub same_found : (t : Outlines) (a b left waiting order : List ℕ) → Finds t a left waiting order → Finds t b left waiting order → a ≡ b
 same_found t a b left waiting order (all_found l w is) (all_found m v k) = sym is ∙ k

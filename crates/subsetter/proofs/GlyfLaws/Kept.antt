@@ -8,7 +8,7 @@ use Rattle.subsetter_base.specs.declared.error.Error.TheVariants.{MalformedFont}
 use Rattle.subsetter_base.proofs.Results.{bind_ok, bind_err, named_ok, named_err, done_is}
 use Rattle.subsetter_base.proofs.Options.{map_some, map_none}
 use Rattle.subsetter.specs.Glyf.Read.{Outlines, outline_in}
-use Rattle.subsetter.specs.Glyf.Bare.{parts_asked}
+use Rattle.subsetter.specs.Glyf.Bare.{requested_parts}
 use Rattle.subsetter.specs.Glyf.Parts.{Parts, outline_parts, parts_bytes}
 use Rattle.subsetter.specs.Glyf.Plain.{renumbered, rewritten, kept, kept_all}
 
@@ -21,24 +21,24 @@ pub record IsKept (t : Outlines) (order : List ℕ) (g : ℕ) (b : List ℕ) : T
   pub bytes : List ℕ
   pub there : outline_in t g ≡ Some bytes
   pub parts : Parts
-  pub parts_are : parts_asked t.hinting (outline_parts bytes) ≡ Some parts
+  pub parts_are : requested_parts t.hinting (outline_parts bytes) ≡ Some parts
   pub written : parts_bytes (renumbered order parts) ≡ b
 
 pub is_kept : (t : Outlines) (order : List ℕ) (g : ℕ) (b : List ℕ) → kept t order g ≡ Ok b → IsKept t order g b
 unfolding kept rewritten
 is_kept t order g b h =
-    let a = bind_ok (ok_or (outline_in t g) MalformedFont) (λ bytes. ok_or (option_map (λ p. parts_bytes (renumbered order p)) (parts_asked t.hinting (outline_parts bytes))) MalformedFont) b h in
-    let m = map_some (λ p. parts_bytes (renumbered order p)) (parts_asked t.hinting (outline_parts a.0)) b (named_ok (option_map (λ p. parts_bytes (renumbered order p)) (parts_asked t.hinting (outline_parts a.0))) MalformedFont b a.2) in
+    let a = bind_ok (ok_or (outline_in t g) MalformedFont) (λ bytes. ok_or (option_map (λ p. parts_bytes (renumbered order p)) (requested_parts t.hinting (outline_parts bytes))) MalformedFont) b h in
+    let m = map_some (λ p. parts_bytes (renumbered order p)) (requested_parts t.hinting (outline_parts a.0)) b (named_ok (option_map (λ p. parts_bytes (renumbered order p)) (requested_parts t.hinting (outline_parts a.0))) MalformedFont b a.2) in
     record { bytes = a.0; there = named_ok (outline_in t g) MalformedFont a.0 a.1; parts = m.0; parts_are = m.1; written = m.2 }
 
 -- parts that aren't asked for are there
-pub none_before : (hint : Bool) (o : Option Parts) → parts_asked hint o ≡ None → o ≡ None
+pub none_before : (hint : Bool) (o : Option Parts) → requested_parts hint o ≡ None → o ≡ None
 none_before true o h = h
 none_before false None h = refl
 none_before false (Some p) h = absurd cc
 
 -- and those that are come from some
-pub some_before : (hint : Bool) (o : Option Parts) (p : Parts) → parts_asked hint o ≡ Some p → (q : Parts) × (o ≡ Some q)
+pub some_before : (hint : Bool) (o : Option Parts) (p : Parts) → requested_parts hint o ≡ Some p → (q : Parts) × (o ≡ Some q)
 some_before true o p h = (p, h)
 some_before false None p h = absurd cc
 some_before false (Some q) p h = (q, refl)
@@ -47,11 +47,11 @@ some_before false (Some q) p h = (q, refl)
 pub not_kept : (t : Outlines) (order : List ℕ) (g : ℕ) (e : Error) → kept t order g ≡ Err e → (MalformedFont ≡ e) × ((outline_in t g ≡ None) ⊎ ((bytes : List ℕ) × (outline_in t g ≡ Some bytes) × (outline_parts bytes ≡ None)))
 unfolding kept rewritten
 not_kept t order g e h =
-    elim (bind_err (ok_or (outline_in t g) MalformedFont) (λ bytes. ok_or (option_map (λ p. parts_bytes (renumbered order p)) (parts_asked t.hinting (outline_parts bytes))) MalformedFont) e h) [
+    elim (bind_err (ok_or (outline_in t g) MalformedFont) (λ bytes. ok_or (option_map (λ p. parts_bytes (renumbered order p)) (requested_parts t.hinting (outline_parts bytes))) MalformedFont) e h) [
       | inl k ↦ let u = named_err (outline_in t g) MalformedFont e k in (u.1, inl u.0)
       | inr k ↦
-          let u = named_err (option_map (λ p. parts_bytes (renumbered order p)) (parts_asked t.hinting (outline_parts k.0))) MalformedFont e k.2 in
-          (u.1, inr (k.0, named_ok (outline_in t g) MalformedFont k.0 k.1, none_before t.hinting (outline_parts k.0) (map_none (λ p. parts_bytes (renumbered order p)) (parts_asked t.hinting (outline_parts k.0)) u.0)))
+          let u = named_err (option_map (λ p. parts_bytes (renumbered order p)) (requested_parts t.hinting (outline_parts k.0))) MalformedFont e k.2 in
+          (u.1, inr (k.0, named_ok (outline_in t g) MalformedFont k.0 k.1, none_before t.hinting (outline_parts k.0) (map_none (λ p. parts_bytes (renumbered order p)) (requested_parts t.hinting (outline_parts k.0)) u.0)))
     ]
 
 -- ---- all of them

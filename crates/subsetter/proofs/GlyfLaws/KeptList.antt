@@ -11,7 +11,7 @@ use Rattle.subsetter_base.specs.declared.error.Error.TheVariants as errors
 use Rattle.subsetter_base.proofs.Lists.{rest_of}
 use Rattle.subsetter_base.proofs.Results.{with_front, bind_ok, done_is, named_err}
 use Rattle.subsetter.specs.Glyf.Read.{Outlines, outline_in}
-use Rattle.subsetter.specs.Glyf.Bare.{simple_asked}
+use Rattle.subsetter.specs.Glyf.Bare.{requested_simple}
 use Rattle.subsetter.specs.Glyf.Plain.{kept, kept_outline, kept_outlines, kept_all, with_last, with_outlines, rewritten_composite}
 use Rattle.subsetter.specs.Glyf.Closure.{first_byte_in}
 use Rattle.subsetter.proofs.GlyfLaws.Chains.{rewritten_begun, rewritten_simple}
@@ -135,7 +135,7 @@ kept_composite hint order o b first is head high =
     ap (λ (p : Option (Bor (List ℕ))). kept_outline hint order (option_copied p)) is ∙ rewritten_begun hint order b.now first here high
 
 -- another stays as it is, or loses its instructions
-pub kept_simple : (hint : Bool) (order : List ℕ) (o : Option (Bor (List ℕ))) (b : Bor (List ℕ)) (first : ℕ) → o ≡ Some b → first ≡ first_byte_in (option_copied o) → first < 128 → kept_outline hint order (option_copied o) ≡ Ok (simple_asked hint b.now)
+pub kept_simple : (hint : Bool) (order : List ℕ) (o : Option (Bor (List ℕ))) (b : Bor (List ℕ)) (first : ℕ) → o ≡ Some b → first ≡ first_byte_in (option_copied o) → first < 128 → kept_outline hint order (option_copied o) ≡ Ok (requested_simple hint b.now)
 unfolding kept_outline
 kept_simple hint order o b first is head low =
     let here : first ≡ first_byte_in (Some b.now) = head ∙ ap (λ (p : Option (Bor (List ℕ))). first_byte_in (option_copied p)) is in

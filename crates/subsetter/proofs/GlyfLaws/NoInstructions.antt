@@ -10,11 +10,11 @@ use Rattle.std.proofs.lemmas.Nat.{and_assoc}
 use Rattle.subsetter_base.specs.Bytes.{be, number, from_offset}
 use Rattle.subsetter_base.proofs.ByteLemmas.{range-left, range-take_drop, number-fits, number_at}
 use Rattle.subsetter_base.proofs.Options.{just, just_is, some_not_none, bind_some}
-use Rattle.subsetter.specs.Glyf.Bare.{bare_at, bare_found, bare_simple, component_asked, bare}
+use Rattle.subsetter.specs.Glyf.Bare.{bare_at, bare_found, bare_simple, requested_component, bare}
 use Rattle.subsetter.specs.Glyf.Instructions.{IsBareSimple, AreBare}
 use Rattle.subsetter.specs.Glyf.Parts.{Component, Parts, Empty, Simple, Composite, has_instructions, spelled, parts_bytes}
 use Rattle.subsetter.specs.Glyf.Plain.{renumbered_component, renumbered}
-use Rattle.subsetter_base.specs.Places.{new_index}
+use Rattle.subsetter_base.specs.Indexes.{new_index}
 use Rattle.subsetter.specs.Glyf.Unfold.{padded}
 use Rattle.subsetter.proofs.GlyfLaws.Parts.{padded-append, padded-nil, bare_is, chain-even}
 use Rattle.subsetter.proofs.GlyfLaws.Unfold.{CanBeWritten, can_empty, can_simple, can_composite, padded_parts}
@@ -96,7 +96,7 @@ bare_has long a b rest =
 cleared : (flags : ℕ) → has_instructions (bit_and flags 0xFEFF) ≡ false
 cleared flags = ap (λ (n : ℕ). not (n == 0)) (and_assoc 0x0100 flags 0xFEFF ∙ and_zero_r flags)
 
-all_cleared : (order : List ℕ) (cs : List Component) → AllByRecursion (λ (c : Component). has_instructions c.flags ≡ false) (map (renumbered_component order) (map (component_asked false) cs))
+all_cleared : (order : List ℕ) (cs : List Component) → AllByRecursion (λ (c : Component). has_instructions c.flags ≡ false) (map (renumbered_component order) (map (requested_component false) cs))
 all_cleared order [] = tt
 all_cleared order (c ∷ cs) = (cleared c.flags, all_cleared order cs)
 
@@ -107,7 +107,7 @@ pub written_bare : (long : Bool) (order : List ℕ) (p : Parts) → ((g : ℕ) �
 written_bare long order Empty small can_empty = tt
 written_bare long order (Simple _) small (can_simple a b rest bytes e t) = subst (λ (l : List ℕ). IsBareSimple (padded long (bare_simple l))) (sym e) (bare_has long a b rest)
 written_bare long order (Composite _ _) small (can_composite H chain size high good) =
-    let cs = map (component_asked false) chain.components in
+    let cs = map (requested_component false) chain.components in
     let C = flat_map spelled (map (renumbered_component order) cs) in
     let even : length (H ++ C) % 2 ≡ 0 = omega (arith, length-append H C, size, chain-even order small [] cs (bare_is chain.tail chain.components good)) in
     record {

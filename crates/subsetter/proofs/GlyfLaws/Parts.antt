@@ -10,10 +10,10 @@ use Rattle.subsetter_base.specs.Bytes.{range, number, IsBytes, has_flag}
 use Rattle.subsetter_base.proofs.ByteLemmas.{be-u16, range-middle, number_at, IsBytes-drop, number-small}
 use Rattle.subsetter_base.proofs.Options.{just, just_is, bind_some}
 use Rattle.subsetter.specs.Glyf.Unfold.{padded}
-use Rattle.subsetter.specs.Glyf.Bare.{flags_asked, component_asked}
+use Rattle.subsetter.specs.Glyf.Bare.{requested_flags, requested_component}
 use Rattle.subsetter.specs.Glyf.Parts.{Component, Chain, rest_size, has_more, has_instructions, component_at, with_component, last_component, chain_at, spelled}
 use Rattle.subsetter.specs.Glyf.Plain.{renumbered_component}
-use Rattle.subsetter_base.specs.Places.{new_index}
+use Rattle.subsetter_base.specs.Indexes.{new_index}
 use Rattle.subsetter.proofs.GlyfLaws.Chains.{IsComponent, is_component, chain_none, chain_more, made}
 
 -- ---- bytes
@@ -80,25 +80,25 @@ chain_is (suc n) bytes chain fit h = by (λ rest whole r e. chain_is n rest whol
 -- ---- components without instructions
 
 -- a flag that isn't that of instructions stays
-flag_stays : (hint : Bool) (flags flag : ℕ) → bit_and 0xFEFF flag ≡ flag → has_flag (flags_asked hint flags) flag ≡ has_flag flags flag
+flag_stays : (hint : Bool) (flags flag : ℕ) → bit_and 0xFEFF flag ≡ flag → has_flag (requested_flags hint flags) flag ≡ has_flag flags flag
 flag_stays true flags flag e = refl
 flag_stays false flags flag e = ap (λ (n : ℕ). not (n == 0)) (and_assoc flag flags 0xFEFF ∙ ap (bit_and flags) e)
 
-size_stays : (hint : Bool) (flags : ℕ) → rest_size (flags_asked hint flags) ≡ rest_size flags
+size_stays : (hint : Bool) (flags : ℕ) → rest_size (requested_flags hint flags) ≡ rest_size flags
 size_stays hint flags =
-    ap (λ (a : Bool). cond a 4 2 + cond (has_flag (flags_asked hint flags) 0x0008) 2 (cond (has_flag (flags_asked hint flags) 0x0040) 4 (cond (has_flag (flags_asked hint flags) 0x0080) 8 0))) (flag_stays hint flags 0x0001 refl)
-    ∙ ap (λ (a : Bool). cond (has_flag flags 0x0001) 4 2 + cond a 2 (cond (has_flag (flags_asked hint flags) 0x0040) 4 (cond (has_flag (flags_asked hint flags) 0x0080) 8 0))) (flag_stays hint flags 0x0008 refl)
-    ∙ ap (λ (a : Bool). cond (has_flag flags 0x0001) 4 2 + cond (has_flag flags 0x0008) 2 (cond a 4 (cond (has_flag (flags_asked hint flags) 0x0080) 8 0))) (flag_stays hint flags 0x0040 refl)
+    ap (λ (a : Bool). cond a 4 2 + cond (has_flag (requested_flags hint flags) 0x0008) 2 (cond (has_flag (requested_flags hint flags) 0x0040) 4 (cond (has_flag (requested_flags hint flags) 0x0080) 8 0))) (flag_stays hint flags 0x0001 refl)
+    ∙ ap (λ (a : Bool). cond (has_flag flags 0x0001) 4 2 + cond a 2 (cond (has_flag (requested_flags hint flags) 0x0040) 4 (cond (has_flag (requested_flags hint flags) 0x0080) 8 0))) (flag_stays hint flags 0x0008 refl)
+    ∙ ap (λ (a : Bool). cond (has_flag flags 0x0001) 4 2 + cond (has_flag flags 0x0008) 2 (cond a 4 (cond (has_flag (requested_flags hint flags) 0x0080) 8 0))) (flag_stays hint flags 0x0040 refl)
     ∙ ap (λ (a : Bool). cond (has_flag flags 0x0001) 4 2 + cond (has_flag flags 0x0008) 2 (cond (has_flag flags 0x0040) 4 (cond a 8 0))) (flag_stays hint flags 0x0080 refl)
 
-flags_small : (hint : Bool) (flags : ℕ) → flags < 2 ^ 16 → flags_asked hint flags < 2 ^ 16
+flags_small : (hint : Bool) (flags : ℕ) → flags < 2 ^ 16 → requested_flags hint flags < 2 ^ 16
 flags_small true flags lt = lt
 flags_small false flags lt = omega (arith, lt, and_le_l flags 0xFEFF)
 
-pub bare_is : (tail : List ℕ) (cs : List Component) → IsChain tail cs → IsChain [] (map (component_asked false) cs)
+pub bare_is : (tail : List ℕ) (cs : List Component) → IsChain tail cs → IsChain [] (map (requested_component false) cs)
 bare_is tail [] h = elim h [ ]
-bare_is tail (c ∷ []) (last _ len fit stop none) = last (component_asked false c) (len ∙ sym (size_stays false c.flags)) (flags_small false c.flags fit) (flag_stays false c.flags 0x0020 refl ∙ stop) (λ k. refl)
-bare_is tail (c ∷ cs) (more _ _ len fit go h) = more (component_asked false c) (map (component_asked false) cs) (len ∙ sym (size_stays false c.flags)) (flags_small false c.flags fit) (flag_stays false c.flags 0x0020 refl ∙ go) (bare_is tail cs h)
+bare_is tail (c ∷ []) (last _ len fit stop none) = last (requested_component false c) (len ∙ sym (size_stays false c.flags)) (flags_small false c.flags fit) (flag_stays false c.flags 0x0020 refl ∙ stop) (λ k. refl)
+bare_is tail (c ∷ cs) (more _ _ len fit go h) = more (requested_component false c) (map (requested_component false) cs) (len ∙ sym (size_stays false c.flags)) (flags_small false c.flags fit) (flag_stays false c.flags 0x0020 refl ∙ go) (bare_is tail cs h)
 
 -- ---- components that were written
 

@@ -3,9 +3,9 @@ use Rattle.std.proofs.Common.{◌≡◌, ℕ, ◌+◌, ◌-◌, ◌≤◌, Bool,
 use Rattle.std.specs.Int.{w16, to_be_bytes}
 use Rattle.std.proofs.lemmas.List.{append-nil, length-append, length-drop, length-take-le, take-append-drop, take-append-le, take-take, drop-drop, take_at, drop_at}
 use Rattle.subsetter_base.proofs.ByteLemmas.{range-take_drop}
-use Rattle.subsetter.specs.Glyf.Bare.{flags_asked, tail_asked}
+use Rattle.subsetter.specs.Glyf.Bare.{requested_flags, requested_tail}
 use Rattle.subsetter.specs.Glyf.Parts.{Component, rest_size, has_more, has_instructions, component_at, spelled}
-use Rattle.subsetter_base.specs.Places.{new_index}
+use Rattle.subsetter_base.specs.Indexes.{new_index}
 use Rattle.subsetter.proofs.GlyfLaws.Chains.{with_front, written, chain_text, is_component, text_goes_on, text_ends}
 
 -- the last bytes are the components that have their old numbers; what stands before them and what these are to become is the whole
@@ -21,13 +21,13 @@ pub record IsRenumbered (hint : Bool) (order out : List ℕ) (at : ℕ) (c : Com
   pub behind : drop (length after_out - length after) after_out ≡ after
 
 abbrev patched : Bool → List ℕ → List ℕ → ℕ → Component → List ℕ
-patched hint order out at c = take at out ++ to_be_bytes w16 (flags_asked hint c.flags) ++ to_be_bytes w16 (new_index order c.glyph) ++ drop (at + 4) out
+patched hint order out at c = take at out ++ to_be_bytes w16 (requested_flags hint c.flags) ++ to_be_bytes w16 (new_index order c.glyph) ++ drop (at + 4) out
 
 pub is_renumbered : (hint : Bool) (order out rest : List ℕ) (at : ℕ) (c : Component) (after_out after : List ℕ) (total : Option (List ℕ)) → IsUnderway hint order out rest total → at ≡ length out - length rest → component_at rest ≡ Some c → after_out ≡ patched hint order out at c → after ≡ drop (4 + rest_size c.flags) rest → IsRenumbered hint order out at c after_out after
 is_renumbered hint order out rest at c after_out after total u place h is e =
     let k = is_component rest c h in
     let size = rest_size c.flags in
-    let F = to_be_bytes w16 (flags_asked hint c.flags) in
+    let F = to_be_bytes w16 (requested_flags hint c.flags) in
     let N = to_be_bytes w16 (new_index order c.glyph) in
     let R = c.rest in
     let some : Some (take size (drop 4 rest)) ≡ Some R = sym (range-take_drop rest 4 size k.within) ∙ k.rest_is in
@@ -57,7 +57,7 @@ underway_next hint order out rest at c after_out after total u place h is e more
       whole = text_goes_on hint order (take at out) rest c (take (length after_out - length after) after_out) after total h more r.front e (ap (λ n. with_front (take n out) (chain_text hint order rest)) place ∙ u.whole);
     }
 
-tail_kept : (hint b : Bool) (whole front after : List ℕ) → whole ≡ front ++ after → cond (hint && b) whole front ≡ front ++ tail_asked hint (cond b after [])
+tail_kept : (hint b : Bool) (whole front after : List ℕ) → whole ≡ front ++ after → cond (hint && b) whole front ≡ front ++ requested_tail hint (cond b after [])
 tail_kept true true whole front after h = h
 tail_kept true false whole front after h = sym (append-nil front)
 tail_kept false true whole front after h = sym (append-nil front)
@@ -97,7 +97,7 @@ behind_starts before outline out rest is e = record {
 pub behind_next : (hint : Bool) (before order out rest : List ℕ) (at : ℕ) (c : Component) (after_out after : List ℕ) → IsBehind before out rest → at ≡ length out - length rest → component_at rest ≡ Some c → after_out ≡ patched hint order out at c → after ≡ drop (4 + rest_size c.flags) rest → IsBehind before after_out after
 behind_next hint before order out rest at c after_out after b place h is e =
     let k = is_component rest c h in
-    let F = to_be_bytes w16 (flags_asked hint c.flags) in
+    let F = to_be_bytes w16 (requested_flags hint c.flags) in
     let N = to_be_bytes w16 (new_index order c.glyph) in
     let behind = drop (at + 4) out in
     let room = b.room in

@@ -7,7 +7,7 @@ use Rattle.std.proofs.lemmas.List.{get_or_default, length-append}
 use Rattle.std.proofs.lemmas.List.Concat.{flat_map-cons}
 use Rattle.std.proofs.lemmas.List.Sums.{sum_by-cons, sum_by_push}
 use Rattle.subsetter_base.specs.Bytes.{◌>>=◌}
-use Rattle.subsetter_base.specs.Places.{place, IsWithoutRepeats}
+use Rattle.subsetter_base.specs.Indexes.{index_of, IsWithoutRepeats}
 use Rattle.subsetter_base.proofs.Lists.{Contains-later}
 use Rattle.subsetter_base.proofs.Options.{just_is}
 use Rattle.subsetter_base.proofs.Results.{bind_ok, done_is}
@@ -17,7 +17,7 @@ use Rattle.subsetter.specs.Glyf.Closure.{IsFaulty, StopsClosure, faulty_glyph, t
 use Rattle.subsetter.specs.Glyf.Plain.{kept, kept_all}
 use Rattle.subsetter.specs.Glyf.Reach.{IsReachableBy}
 use Rattle.subsetter.specs.Glyf.Read.{Outlines, outline_in}
-use Rattle.subsetter.specs.Glyf.Size.{asked_size, asked_sizes}
+use Rattle.subsetter.specs.Glyf.Size.{requested_size, requested_sizes}
 use Rattle.subsetter.specs.Glyf.Unfold.{padded}
 use Rattle.subsetter.specs.Glyf.Written.{glyf_bytes}
 use Rattle.subsetter.proofs.GlyfLaws.Closure.{Follows, cons_cases, here}
@@ -49,12 +49,12 @@ placed_later false (Some k) i h = (refl, ap (λ (n : ℕ). Some n) (let e : k �
 
 module _ (g : ℕ) (gs : List ℕ) (once : IsWithoutRepeats (g ∷ gs)) where
   later_once : IsWithoutRepeats gs
-  later_once i lt = (placed_later (eqb g (get_or gs i 0)) (place gs (get_or gs i 0)) i (once (suc i) (omega arith))).1
+  later_once i lt = (placed_later (eqb g (get_or gs i 0)) (index_of gs (get_or gs i 0)) i (once (suc i) (omega arith))).1
 
   first_once : Contains gs g → ⊥
   first_once c =
       let is_g : get_or gs c.0 0 ≡ g = get_or_default gs c.0 0 g c.1 ∙ c.2 in
-      let other = (placed_later (eqb g (get_or gs c.0 0)) (place gs (get_or gs c.0 0)) c.0 (once (suc c.0) (omega (arith, c.1)))).0 in
+      let other = (placed_later (eqb g (get_or gs c.0 0)) (index_of gs (get_or gs c.0 0)) c.0 (once (suc c.0) (omega (arith, c.1)))).0 in
       false≢true (sym other ∙ eq-eqb g (get_or gs c.0 0) (sym is_g))
 
 pub sum_by_part : (f : ℕ → ℕ) (part all : List ℕ) → IsWithoutRepeats part → ((g : ℕ) → Contains part g → Contains all g) → sum_by f part ≤ sum_by f all
@@ -71,31 +71,31 @@ length-padded : (long : Bool) (b : List ℕ) → length b ≤ length (padded lon
 length-padded true b = omega arith
 length-padded false b = omega (arith, length-append b (replicate ((2 - length b % 2) % 2) 0))
 
-kept_size : (t : Outlines) (order : List ℕ) (g : ℕ) (b : List ℕ) → IsKept t order g b → asked_size t.hinting (outline_in t g) ≡ length b
-kept_size t order g b k = ap (asked_size t.hinting) k.there ∙ size_of_parts t.hinting k.bytes k.parts k.parts_are ∙ sym (length-renumbered order k.parts) ∙ ap length k.written
+kept_size : (t : Outlines) (order : List ℕ) (g : ℕ) (b : List ℕ) → IsKept t order g b → requested_size t.hinting (outline_in t g) ≡ length b
+kept_size t order g b k = ap (requested_size t.hinting) k.there ∙ size_of_parts t.hinting k.bytes k.parts k.parts_are ∙ sym (length-renumbered order k.parts) ∙ ap length k.written
 
-pub kept_sizes : (t : Outlines) (order gs : List ℕ) (bs : List (List ℕ)) (long : Bool) → kept_all t order gs ≡ Ok bs → asked_sizes t.hinting (outline_in t) gs ≤ length (glyf_bytes long bs)
+pub kept_sizes : (t : Outlines) (order gs : List ℕ) (bs : List (List ℕ)) (long : Bool) → kept_all t order gs ≡ Ok bs → requested_sizes t.hinting (outline_in t) gs ≤ length (glyf_bytes long bs)
 kept_sizes t order [] bs long h = omega arith
 kept_sizes t order (g ∷ gs) bs long h =
     let a = bind_ok (kept t order g) (λ first. kept_all t order gs >>= λ rest. Ok (first ∷ rest)) bs h in
     let b = bind_ok (kept_all t order gs) (λ rest. Ok (a.0 ∷ rest)) bs a.2 in
     let whole : length (glyf_bytes long bs) ≡ length (padded long a.0 ++ glyf_bytes long b.0) = ap (λ (l : List (List ℕ)). length (glyf_bytes long l)) (sym (done_is (a.0 ∷ b.0) bs b.2)) ∙ ap length (flat_map-cons (padded long) a.0 b.0) in
-    omega (arith, sum_by-cons (λ q. asked_size t.hinting (outline_in t q)) g gs, kept_size t order g a.0 (is_kept t order g a.0 a.1), length-padded long a.0, whole, length-append (padded long a.0) (glyf_bytes long b.0), kept_sizes t order gs b.0 long b.1)
+    omega (arith, sum_by-cons (λ q. requested_size t.hinting (outline_in t q)) g gs, kept_size t order g a.0 (is_kept t order g a.0 a.1), length-padded long a.0, whole, length-append (padded long a.0) (glyf_bytes long b.0), kept_sizes t order gs b.0 long b.1)
 
 -- ---- while glyphs are found
 
 -- a glyph that was given is followed
-given_more : (t : Outlines) (before left order : List ℕ) (g size more next : ℕ) → before ≡ left ++ g ∷ [] → more ≤ asked_size t.hinting (outline_in t g) → next ≡ size + more → size + asked_sizes t.hinting (outline_in t) before ≤ asked_sizes t.hinting (outline_in t) order → next + asked_sizes t.hinting (outline_in t) left ≤ asked_sizes t.hinting (outline_in t) order
+given_more : (t : Outlines) (before left order : List ℕ) (g size more next : ℕ) → before ≡ left ++ g ∷ [] → more ≤ requested_size t.hinting (outline_in t g) → next ≡ size + more → size + requested_sizes t.hinting (outline_in t) before ≤ requested_sizes t.hinting (outline_in t) order → next + requested_sizes t.hinting (outline_in t) left ≤ requested_sizes t.hinting (outline_in t) order
 given_more t before left order g size more next is le e so_far =
-    omega (arith, ap (asked_sizes t.hinting (outline_in t)) is, sum_by_push (λ q. asked_size t.hinting (outline_in t q)) left g, le, e, so_far)
+    omega (arith, ap (requested_sizes t.hinting (outline_in t)) is, sum_by_push (λ q. requested_size t.hinting (outline_in t q)) left g, le, e, so_far)
 
 -- a glyph that waited went last
-pub further_size : (t : Outlines) (order after : List ℕ) (g more : ℕ) → after ≡ order ++ g ∷ [] → more ≤ asked_size t.hinting (outline_in t g) → more + asked_sizes t.hinting (outline_in t) order ≤ asked_sizes t.hinting (outline_in t) after
-further_size t order after g more is le = omega (arith, ap (asked_sizes t.hinting (outline_in t)) is, sum_by_push (λ q. asked_size t.hinting (outline_in t q)) order g, le)
+pub further_size : (t : Outlines) (order after : List ℕ) (g more : ℕ) → after ≡ order ++ g ∷ [] → more ≤ requested_size t.hinting (outline_in t g) → more + requested_sizes t.hinting (outline_in t) order ≤ requested_sizes t.hinting (outline_in t) after
+further_size t order after g more is le = omega (arith, ap (requested_sizes t.hinting (outline_in t)) is, sum_by_push (λ q. requested_size t.hinting (outline_in t q)) order g, le)
 
 -- what was counted: no more than the outlines take in a new `glyf`, or one of those that are reached has no parts
 pub record IsCounted (t : Outlines) (glyphs left order : List ℕ) (bytes : ℕ) (cut : Bool) : Type 0 where
-  pub whole : cut ≡ false → bytes + asked_sizes t.hinting (outline_in t) left ≤ asked_sizes t.hinting (outline_in t) order
+  pub whole : cut ≡ false → bytes + requested_sizes t.hinting (outline_in t) left ≤ requested_sizes t.hinting (outline_in t) order
   pub faulty : cut ≡ true → (g : ℕ) × (IsReachableBy (outline_in t) glyphs g × IsFaulty t g)
 
 neither : (a b c : Bool) → c ≡ (a || b) → c ≡ false → (a ≡ false) × (b ≡ false)
@@ -107,14 +107,14 @@ either false b c is e = inr (sym is ∙ e)
 either true b c is e = inl refl
 
 pub count_given : (t : Outlines) (glyphs before left order : List ℕ) (g bytes more next : ℕ) (cut also cut_next : Bool) → before ≡ left ++ g ∷ [] → IsReachableBy (outline_in t) glyphs g
-    → (also ≡ false → more ≤ asked_size t.hinting (outline_in t g)) → (also ≡ true → IsFaulty t g) → next ≡ bytes + more → cut_next ≡ (cut || also) → IsCounted t glyphs before order bytes cut → IsCounted t glyphs left order next cut_next
+    → (also ≡ false → more ≤ requested_size t.hinting (outline_in t g)) → (also ≡ true → IsFaulty t g) → next ≡ bytes + more → cut_next ≡ (cut || also) → IsCounted t glyphs before order bytes cut → IsCounted t glyphs left order next cut_next
 count_given t glyphs before left order g bytes more next cut also cut_next is reached le faulty e f k = record {
   whole = λ c. let n = neither cut also cut_next f c in given_more t before left order g bytes more next is (le n.1) e (k.whole n.0);
   faulty = λ c. elim (either cut also cut_next f c) [ inl a ↦ k.faulty a | inr b ↦ (g, (reached, faulty b)) ];
 }
 
 pub count_further : (t : Outlines) (glyphs left order after : List ℕ) (g bytes more next : ℕ) (cut also cut_next : Bool) → IsReachableBy (outline_in t) glyphs g
-    → (also ≡ false → more + asked_sizes t.hinting (outline_in t) order ≤ asked_sizes t.hinting (outline_in t) after) → (also ≡ true → IsFaulty t g) → next ≡ bytes + more → cut_next ≡ (cut || also) → IsCounted t glyphs left order bytes cut → IsCounted t glyphs left after next cut_next
+    → (also ≡ false → more + requested_sizes t.hinting (outline_in t) order ≤ requested_sizes t.hinting (outline_in t) after) → (also ≡ true → IsFaulty t g) → next ≡ bytes + more → cut_next ≡ (cut || also) → IsCounted t glyphs left order bytes cut → IsCounted t glyphs left after next cut_next
 count_further t glyphs left order after g bytes more next cut also cut_next reached le faulty e f k = record {
   whole = λ c. let n = neither cut also cut_next f c in omega (arith, le n.1, e, k.whole n.0);
   faulty = λ c. elim (either cut also cut_next f c) [ inl a ↦ k.faulty a | inr b ↦ (g, (reached, faulty b)) ];
@@ -122,7 +122,7 @@ count_further t glyphs left order after g bytes more next cut also cut_next reac
 
 pub count_start : (t : Outlines) (glyphs left order : List ℕ) (bytes : ℕ) (cut : Bool) → bytes ≡ 0 → cut ≡ false → left ≡ order → IsCounted t glyphs left order bytes cut
 count_start t glyphs left order bytes cut none whole same = record {
-  whole = λ c. omega (arith, none, ap (asked_sizes t.hinting (outline_in t)) same);
+  whole = λ c. omega (arith, none, ap (requested_sizes t.hinting (outline_in t)) same);
   faulty = λ c. absurd (false≢true (sym whole ∙ c));
 }
 

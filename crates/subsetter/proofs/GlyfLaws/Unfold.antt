@@ -6,7 +6,7 @@ use Rattle.std.specs.List.{flat_map}
 use Rattle.std.proofs.lemmas.Bool.{le-ltb, ltb-false}
 use Rattle.std.proofs.lemmas.List.{get_or-take, get_or_append_left, get_or_default, length-append, length-drop, drop_at}
 use Rattle.subsetter_base.specs.Bytes.{range, number, IsBytes, between_offsets, from_offset}
-use Rattle.subsetter_base.specs.Places.{place, new_index}
+use Rattle.subsetter_base.specs.Indexes.{index_of, new_index}
 use Rattle.subsetter_base.proofs.ByteLemmas.{range-middle, range-fits, range-length, range-take_drop, IsBytes-drop, IsBytes-range}
 use Rattle.subsetter_base.proofs.GlyphLemmas.{place-finds, Contains-place}
 use Rattle.subsetter_base.proofs.Options.{just, just_is, some_of, bind_some}
@@ -14,7 +14,7 @@ use Rattle.subsetter_base.proofs.Lists.{Contains-later}
 use Rattle.subsetter_sfnt.specs.Read.{Font}
 use Rattle.subsetter.specs.Glyf.Read.{Outlines, outlines, outline_in, outline, offset}
 use Rattle.subsetter.specs.Glyf.Unfold.{padded, SameComponents, SameParts, HaveSameParts, UnfoldAlike}
-use Rattle.subsetter.specs.Glyf.Bare.{bare_at, bare_found, bare_simple, component_asked, chain_asked, bare, parts_asked}
+use Rattle.subsetter.specs.Glyf.Bare.{bare_at, bare_found, bare_simple, requested_component, requested_chain, bare, requested_parts}
 use Rattle.subsetter.specs.Glyf.Parts.{Component, Chain, Parts, Empty, Simple, Composite, rest_size, has_more, component_at, with_component, last_component, chain_at, numbers_at, component_numbers, composite_parts, outline_parts, spelled, parts_bytes}
 use Rattle.subsetter.specs.Glyf.Plain.{renumbered_component, renumbered, kept_all}
 use Rattle.subsetter.specs.Glyf.Reach.{IsGlyphOrder, step}
@@ -164,9 +164,9 @@ bare_can Empty can_empty = can_empty
 bare_can (Simple _) (can_simple a b rest bytes e t) =
     let k = bare_begins a b rest in
     can_simple a b k.0 (bare_simple bytes) (ap bare_simple e ∙ k.1) t
-bare_can (Composite _ _) (can_composite head chain size high good) = can_composite head (chain_asked false chain) size high (bare_is chain.tail chain.components good)
+bare_can (Composite _ _) (can_composite head chain size high good) = can_composite head (requested_chain false chain) size high (bare_is chain.tail chain.components good)
 
-pub asked_can : (hint : Bool) (bytes : List ℕ) (p : Parts) → IsBytes bytes → parts_asked hint (outline_parts bytes) ≡ Some p → CanBeWritten p
+pub asked_can : (hint : Bool) (bytes : List ℕ) (p : Parts) → IsBytes bytes → requested_parts hint (outline_parts bytes) ≡ Some p → CanBeWritten p
 asked_can true bytes p fit h = can_write bytes p fit h
 asked_can false bytes p fit h = by (outline_parts bytes) refl h
   where
@@ -197,7 +197,7 @@ written_back long order (Composite _ _) small (can_composite H chain size high g
     ∙ ap (λ (o : Option Chain). option_and_then (λ c. parts_there (Composite H c)) o) read
 
 -- so are those of an outline, as far as they are asked for
-pub parts_back : (hint long : Bool) (order bytes : List ℕ) (p : Parts) → ((g : ℕ) → new_index order g < 2 ^ 16) → IsBytes bytes → parts_asked hint (outline_parts bytes) ≡ Some p
+pub parts_back : (hint long : Bool) (order bytes : List ℕ) (p : Parts) → ((g : ℕ) → new_index order g < 2 ^ 16) → IsBytes bytes → requested_parts hint (outline_parts bytes) ≡ Some p
     → outline_parts (padded long (parts_bytes (renumbered order p))) ≡ Some (padded_parts long (renumbered order p))
 parts_back hint long order bytes p small fit h = written_back long order p small (asked_can hint bytes p fit h)
 
@@ -230,7 +230,7 @@ are_numbered bytes p h = by (parts_are bytes p h)
         let numbers : numbers_at (length bytes) rest ≡ component_numbers bytes = numbers_enough (length bytes) (length rest) rest (omega (arith, length-drop 10 bytes)) (omega arith) ∙ sym (components_composite bytes is.long is.high) in
         subst (λ (r : Parts). EachGlyph (λ g. Contains (component_numbers bytes) g) (components_of r)) (sym q) (subst (λ (l : List ℕ). EachGlyph (λ g. Contains l g) chain.components) numbers (each_numbered (length bytes) rest chain is.chain_read))
 
-bare_glyphs : (P : ℕ → Type 0) (cs : List Component) → EachGlyph P cs → EachGlyph P (map (component_asked false) cs)
+bare_glyphs : (P : ℕ → Type 0) (cs : List Component) → EachGlyph P cs → EachGlyph P (map (requested_component false) cs)
 bare_glyphs P [] h = tt
 bare_glyphs P (c ∷ cs) h = (h.0, bare_glyphs P cs h.1)
 
@@ -240,7 +240,7 @@ bare_numbered P (Simple bytes) h = tt
 bare_numbered P (Composite head chain) h = bare_glyphs P chain.components h
 
 -- also where instructions aren't asked for
-pub asked_numbered : (hint : Bool) (bytes : List ℕ) (p : Parts) → parts_asked hint (outline_parts bytes) ≡ Some p → EachGlyph (λ g. Contains (component_numbers bytes) g) (components_of p)
+pub asked_numbered : (hint : Bool) (bytes : List ℕ) (p : Parts) → requested_parts hint (outline_parts bytes) ≡ Some p → EachGlyph (λ g. Contains (component_numbers bytes) g) (components_of p)
 asked_numbered true bytes p h = are_numbered bytes p h
 asked_numbered false bytes p h = by (outline_parts bytes) refl h
   where
@@ -272,14 +272,14 @@ outline_is font t g read = ap (λ (o : Option Outlines). option_and_then (λ u. 
 -- the new number of a glyph of the order is its place
 pub has_number : (order : List ℕ) (g : ℕ) → Contains order g → (k : ℕ) × (k < length order) × (get_or order k 0 ≡ g) × (new_index order g ≡ k)
 has_number order g at =
-    let k = some_of (place order g) (Contains-place order g at) in
+    let k = some_of (index_of order g) (Contains-place order g at) in
     let f = place-finds order g k.0 k.1 in
     (k.0, f.0, f.1, ap (λ (o : Option ℕ). unwrap_or o 0) k.1)
 
 pub small_numbers : (order : List ℕ) → length order < 2 ^ 16 → (g : ℕ) → new_index order g < 2 ^ 16
-small_numbers order few g = by (place order g) refl
+small_numbers order few g = by (index_of order g) refl
   where
-    by : (o : Option ℕ) → place order g ≡ o → unwrap_or o 0 < 2 ^ 16
+    by : (o : Option ℕ) → index_of order g ≡ o → unwrap_or o 0 < 2 ^ 16
     by None e = omega arith
     by (Some k) e = omega (arith, (place-finds order g k e).0, few)
 
@@ -302,9 +302,9 @@ module _ (font out : Font) (glyphs order : List ℕ) (t u : Outlines) (bs : List
         tables = u;
         read = again;
         source = k.parts;
-        source_is = ap (λ (o : Option (List ℕ)). parts_asked font.extras.hinting (option_and_then outline_parts o)) source ∙ ap (λ (b : Bool). parts_asked b (outline_parts k.bytes)) (sym asks) ∙ k.parts_are;
+        source_is = ap (λ (o : Option (List ℕ)). requested_parts font.extras.hinting (option_and_then outline_parts o)) source ∙ ap (λ (b : Bool). requested_parts b (outline_parts k.bytes)) (sym asks) ∙ k.parts_are;
         copy = padded_parts u.long (renumbered order k.parts);
-        copy_is = ap (λ (o : Option (List ℕ)). parts_asked out.extras.hinting (option_and_then outline_parts o)) copy ∙ ap (λ (b : Bool). parts_asked b (outline_parts (padded u.long (parts_bytes (renumbered order k.parts))))) whole ∙ parts_back t.hinting u.long order k.bytes k.parts (small_numbers order few) (outline_bytes t g k.bytes fit k.there) k.parts_are;
+        copy_is = ap (λ (o : Option (List ℕ)). requested_parts out.extras.hinting (option_and_then outline_parts o)) copy ∙ ap (λ (b : Bool). requested_parts b (outline_parts (padded u.long (parts_bytes (renumbered order k.parts))))) whole ∙ parts_back t.hinting u.long order k.bytes k.parts (small_numbers order few) (outline_bytes t g k.bytes fit k.there) k.parts_are;
         same = same_parts u.long alike order k.parts each;
       }
 
@@ -318,5 +318,5 @@ module _ (font out : Font) (glyphs order : List ℕ) (t u : Outlines) (bs : List
           subst (λ (k : ℕ). UnfoldAlike font out m h k) (sym at.3) (subst (λ (k : ℕ). UnfoldAlike font out m k at.0) at.2 (unfolds at.0 at.1))
 
   -- the new number of a component is the place of its glyph
-  pub numbered_alike : (i : ℕ) → i < length order → HaveSameParts font out (λ g h. place order g ≡ Some h) (get_or order i 0) i
-  numbered_alike i lt = parts_alike (λ g h. place order g ≡ Some h) (λ h c. let k = some_of (place order h) (Contains-place order h c) in k.1 ∙ ap (λ (n : ℕ). Some n) (sym (ap (λ (o : Option ℕ). unwrap_or o 0) k.1))) i lt
+  pub numbered_alike : (i : ℕ) → i < length order → HaveSameParts font out (λ g h. index_of order g ≡ Some h) (get_or order i 0) i
+  numbered_alike i lt = parts_alike (λ g h. index_of order g ≡ Some h) (λ h c. let k = some_of (index_of order h) (Contains-place order h c) in k.1 ∙ ap (λ (n : ℕ). Some n) (sym (ap (λ (o : Option ℕ). unwrap_or o 0) k.1))) i lt

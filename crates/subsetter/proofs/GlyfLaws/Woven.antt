@@ -3,7 +3,7 @@ use Rattle.std.proofs.Common.{◌≡◌, ◌<◌, ◌≤◌, ℕ, Bool, true, fa
 use Rattle.std.proofs.lemmas.List.{take-append-le, drop-append-le, length-append, take_all}
 use Rattle.std.specs.Borrow.{Bor}
 use Rattle.subsetter.specs.Name.View.{nows}
-use Rattle.subsetter.specs.Glyf.Bare.{bare_simple, simple_asked}
+use Rattle.subsetter.specs.Glyf.Bare.{bare_simple, requested_simple}
 use Rattle.subsetter.specs.Glyf.Woven.{woven, AreWoven}
 use Rattle.subsetter.proofs.NameLaws.Written.{nows-push}
 
@@ -17,18 +17,18 @@ filled [] h = absurd (omega arith)
 filled (x ∷ xs) h = tt
 
 -- an empty outline has no instructions
-pub asked_empty : (hint : Bool) (l : List ℕ) → length l < 1 → simple_asked hint l ≡ []
+pub asked_empty : (hint : Bool) (l : List ℕ) → length l < 1 → requested_simple hint l ≡ []
 unfolding bare_simple
 asked_empty true [] h = refl
 asked_empty false [] h = refl
 asked_empty hint (x ∷ l) h = absurd (omega (arith, h))
 
 -- a borrowed one, which isn't empty
-pub woven_kept : (hint : Bool) (kept : List (List ℕ)) (sizes bytes : List ℕ) (x : ℕ) (xs : List ℕ) → AreWoven kept sizes bytes → woven hint (kept ++ (x ∷ xs) ∷ []) sizes bytes ≡ woven hint kept sizes bytes ++ simple_asked hint (x ∷ xs) ∷ []
+pub woven_kept : (hint : Bool) (kept : List (List ℕ)) (sizes bytes : List ℕ) (x : ℕ) (xs : List ℕ) → AreWoven kept sizes bytes → woven hint (kept ++ (x ∷ xs) ∷ []) sizes bytes ≡ woven hint kept sizes bytes ++ requested_simple hint (x ∷ xs) ∷ []
 woven_kept hint [] sizes bytes x xs h = refl
 woven_kept hint ([] ∷ kept) [] bytes x xs h = absurd h
 woven_kept hint ([] ∷ kept) (n ∷ sizes) bytes x xs h = ap (λ l. take n bytes ∷ l) (woven_kept hint kept sizes (drop n bytes) x xs h.1)
-woven_kept hint ((y ∷ ys) ∷ kept) sizes bytes x xs h = ap (λ l. simple_asked hint (y ∷ ys) ∷ l) (woven_kept hint kept sizes bytes x xs h)
+woven_kept hint ((y ∷ ys) ∷ kept) sizes bytes x xs h = ap (λ l. requested_simple hint (y ∷ ys) ∷ l) (woven_kept hint kept sizes bytes x xs h)
 
 pub are_kept : (kept : List (List ℕ)) (sizes bytes : List ℕ) (x : ℕ) (xs : List ℕ) → AreWoven kept sizes bytes → AreWoven (kept ++ (x ∷ xs) ∷ []) sizes bytes
 are_kept [] sizes bytes x xs h = h
@@ -41,7 +41,7 @@ pub woven_made : (hint : Bool) (kept : List (List ℕ)) (sizes bytes b : List �
 woven_made hint [] sizes bytes b (p, q) = rw (p, q) (ap (λ (l : List ℕ). l ∷ []) (take_all (length b) b (omega arith)))
 woven_made hint ([] ∷ kept) [] bytes b h = absurd h
 woven_made hint ([] ∷ kept) (n ∷ sizes) bytes b h = ap (λ (l : List ℕ). l ∷ woven hint (kept ++ [] ∷ []) (sizes ++ length b ∷ []) (drop n (bytes ++ b))) (take-append-le n bytes b h.0) ∙ ap (λ (l : List ℕ). take n bytes ∷ woven hint (kept ++ [] ∷ []) (sizes ++ length b ∷ []) l) (drop-append-le n bytes b h.0) ∙ ap (λ l. take n bytes ∷ l) (woven_made hint kept sizes (drop n bytes) b h.1)
-woven_made hint ((y ∷ ys) ∷ kept) sizes bytes b h = ap (λ l. simple_asked hint (y ∷ ys) ∷ l) (woven_made hint kept sizes bytes b h)
+woven_made hint ((y ∷ ys) ∷ kept) sizes bytes b h = ap (λ l. requested_simple hint (y ∷ ys) ∷ l) (woven_made hint kept sizes bytes b h)
 
 pub are_made : (kept : List (List ℕ)) (sizes bytes b : List ℕ) → AreWoven kept sizes bytes → AreWoven (kept ++ [] ∷ []) (sizes ++ length b ∷ []) (bytes ++ b)
 are_made [] sizes bytes b (p, q) = rw (p, q) (omega arith, (refl, drop_whole b))
@@ -64,10 +64,10 @@ length-woven hint ((y ∷ ys) ∷ kept) sizes bytes h = omega (arith, length-wov
 
 module _ (hint : Bool) (kept : List (Bor (List ℕ))) (sizes bytes : List ℕ) (before : AreWoven (nows kept) sizes bytes) (b : Bor (List ℕ)) where
   -- a borrowed one is put last
-  pub kept_last : (after : List (Bor (List ℕ))) → IsFilled b.now → after ≡ kept ++ b ∷ [] → (AreWoven (nows after) sizes bytes) × (woven hint (nows after) sizes bytes ≡ woven hint (nows kept) sizes bytes ++ simple_asked hint b.now ∷ [])
+  pub kept_last : (after : List (Bor (List ℕ))) → IsFilled b.now → after ≡ kept ++ b ∷ [] → (AreWoven (nows after) sizes bytes) × (woven hint (nows after) sizes bytes ≡ woven hint (nows kept) sizes bytes ++ requested_simple hint b.now ∷ [])
   kept_last after filled is = by b.now filled (ap nows is ∙ nows-push kept b)
     where
-      by : (l : List ℕ) → IsFilled l → nows after ≡ nows kept ++ l ∷ [] → (AreWoven (nows after) sizes bytes) × (woven hint (nows after) sizes bytes ≡ woven hint (nows kept) sizes bytes ++ simple_asked hint l ∷ [])
+      by : (l : List ℕ) → IsFilled l → nows after ≡ nows kept ++ l ∷ [] → (AreWoven (nows after) sizes bytes) × (woven hint (nows after) sizes bytes ≡ woven hint (nows kept) sizes bytes ++ requested_simple hint l ∷ [])
       by [] f e = absurd f
       by (x ∷ xs) f e = rw e (are_kept (nows kept) sizes bytes x xs before, woven_kept hint (nows kept) sizes bytes x xs before)
 

@@ -65,7 +65,7 @@ pub record Steps (find : List ℕ → Option (List ℕ)) (order : List ℕ) (t :
   pub hhea : List ℕ
   pub hhea_is : find (codes "hhea") ≡ Some hhea
   pub count : ℕ
-  pub pairs : HasPairs hhea hmtx count
+  pub number_of_h_metrics : HasPairs hhea hmtx count
   pub metrics : List LongHorMetric
   pub all : metrics_all hmtx count order ≡ Ok metrics
   pub tables : t ≡ record { hhea = hhea_bytes (least_count metrics) hhea; hmtx = hmtx_bytes (least_count metrics) metrics }
@@ -85,7 +85,7 @@ steps_in find order hmtx t at h =
       hhea = a.0;
       hhea_is = named_ok (find (codes "hhea")) MalformedFont a.0 a.1;
       count = b.0;
-      pairs = has_pairs a.0 hmtx b.0 b.1;
+      number_of_h_metrics = has_pairs a.0 hmtx b.0 b.1;
       metrics = c.0;
       all = c.1;
       tables = sym (done_is (record { hhea = hhea_bytes (least_count c.0) a.0; hmtx = hmtx_bytes (least_count c.0) c.0 }) t c.2);
@@ -163,7 +163,7 @@ module _ (find out : List ℕ → Option (List ℕ)) (order : List ℕ) (t : Met
   -- the source's metric of a glyph of the order
   source_metric : (i : ℕ) → i < length order → metric_of find (slice_index order i) ≡ Some (get_or s.metrics i zeros)
   unfolding metric_of
-  source_metric i lt = rw (s.hhea_is, s.hmtx_is, s.pairs.count_is) (metrics_at s.hmtx s.count order s.metrics i zeros s.all lt)
+  source_metric i lt = rw (s.hhea_is, s.hmtx_is, s.number_of_h_metrics.count_is) (metrics_at s.hmtx s.count order s.metrics i zeros s.all lt)
 
   copy_metric : (n : ℕ) → n ≡ least_count s.metrics → n < 2 ^ 16 → 36 ≤ length s.hhea → IsBytes s.hmtx → out (codes "hhea") ≡ Some (hhea_bytes n s.hhea) → out (codes "hmtx") ≡ Some (hmtx_bytes n s.metrics) → (i : ℕ) → i < length order
       → metric_of out i ≡ Some (get_or s.metrics i zeros)
@@ -182,7 +182,7 @@ module _ (find out : List ℕ → Option (List ℕ)) (order : List ℕ) (t : Met
       let n = least_count s.metrics in
       let len = metrics-length s.hmtx s.count order s.metrics s.all in
       let small : n < 2 ^ 16 = omega (arith, len, least_count-le s.metrics) in
-      let long = number-fits s.hhea 34 2 s.count s.pairs.count_is in
+      let long = number-fits s.hhea 34 2 s.count s.number_of_h_metrics.count_is in
       let hhea_at : out (codes "hhea") ≡ Some (hhea_bytes n s.hhea) = a ∙ ap (λ (x : MetricBytes). Some x.hhea) s.tables in
       let hmtx_at : out (codes "hmtx") ≡ Some (hmtx_bytes n s.metrics) = b ∙ ap (λ (x : MetricBytes). Some x.hmtx) s.tables in
       record {
@@ -282,14 +282,14 @@ module _ (find : List ℕ → Option (List ℕ)) (order : List ℕ) where
   same_hmtx t s hmtx h = just_is s.hmtx hmtx (sym s.hmtx_is ∙ h)
 
   same_count : (t : MetricBytes) (s : Steps find order t) (hhea : List ℕ) (count : ℕ) → find (codes "hhea") ≡ Some hhea → number_of_h_metrics hhea ≡ Some count → s.count ≡ count
-  same_count t s hhea count h k = just_is s.count count (sym s.pairs.count_is ∙ ap number_of_h_metrics (same_header t s hhea h) ∙ k)
+  same_count t s hhea count h k = just_is s.count count (sym s.number_of_h_metrics.count_is ∙ ap number_of_h_metrics (same_header t s hhea h) ∙ k)
 
   some_clean : (t : MetricBytes) (e : Error) → Steps find order t → HasMetricsFault find (Contains order) e → ⊥
   some_clean t e s (no_hhea a b) = some_not_none (find (codes "hhea")) s.hhea s.hhea_is b
-  some_clean t e s (short_hhea hhea a b c) = omega (arith, ap length (same_header t s hhea b), number-fits s.hhea 34 2 s.count s.pairs.count_is, c)
-  some_clean t e s (no_pairs hhea a b c) = omega (arith, same_count t s hhea 0 b c, s.pairs.positive)
+  some_clean t e s (short_hhea hhea a b c) = omega (arith, ap length (same_header t s hhea b), number-fits s.hhea 34 2 s.count s.number_of_h_metrics.count_is, c)
+  some_clean t e s (no_pairs hhea a b c) = omega (arith, same_count t s hhea 0 b c, s.number_of_h_metrics.positive)
   some_clean t e s (last_advance_outside hhea hmtx count a b c d f) =
-      some_not_none (number s.hmtx (4 * (s.count - 1)) 2) s.pairs.advance s.pairs.last (ap (λ k. number s.hmtx (4 * (k - 1)) 2) (same_count t s hhea count b c) ∙ ap (λ (l : List ℕ). number l (4 * (count - 1)) 2) (same_hmtx t s hmtx a) ∙ f)
+      some_not_none (number s.hmtx (4 * (s.count - 1)) 2) s.number_of_h_metrics.advance s.number_of_h_metrics.last (ap (λ k. number s.hmtx (4 * (k - 1)) 2) (same_count t s hhea count b c) ∙ ap (λ (l : List ℕ). number l (4 * (count - 1)) 2) (same_hmtx t s hmtx a) ∙ f)
   some_clean t e s (metric_outside g hhea hmtx count r a b c d f) =
       let is_g : slice_index order r.0 ≡ g = get_or_default order r.0 0 g r.1 ∙ r.2 in
       let found = metrics_at s.hmtx s.count order s.metrics r.0 zeros s.all r.1 in

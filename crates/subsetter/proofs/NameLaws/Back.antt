@@ -108,7 +108,7 @@ length-records (r ∷ rs) = omega (arith, length-records rs, length-append (name
 
 pub record IsBack (new : List ℕ) (records : List NameRecord) (storage : List ℕ) : Type 0 where
   pub table : name_table new ≡ Some (record { records = records; storage = storage })
-  pub place : number new 4 2 ≡ Some (6 + 12 * length records)
+  pub offset : number new 4 2 ≡ Some (6 + 12 * length records)
 
 pub table_back : (records : List NameRecord) (storage : List ℕ) → AllByRecursion FitsRecord records → length records ≤ 5460 → IsBack (name_bytes records storage) records storage
 unfolding name_bytes name_table
@@ -126,5 +126,5 @@ table_back records storage fit few =
     let storage_is : from_offset new (6 + 12 * n) ≡ Some storage = tail_at new (zeros ++ count ++ offset ++ body) storage (6 + 12 * n) refl (omega (arith, length-records records)) in
     record {
       table = rw (version, count_is, offset_is, records_are, storage_is) (ap (λ (rs : List NameRecord). Some (record { records = rs; storage = storage })) (records_back records fit));
-      place = offset_is;
+      offset = offset_is;
     }

@@ -12,7 +12,7 @@ use Rattle.subsetter_base.proofs.Results.{bind_ok, named_ok}
 use Rattle.subsetter_base.proofs.Options.{bind_some}
 use Rattle.subsetter_base.proofs.ByteLemmas.{number-fits}
 use Rattle.subsetter_sfnt.specs.declared.fields.name.NameRecord.{NameRecord}
-use Rattle.subsetter.specs.Name.Read.{Name, NameTable, name_records_in, name_parts, name_table, name_records, name_bytes, is_kept_record, is_kept_name, distinct, string_place}
+use Rattle.subsetter.specs.Name.Read.{Name, NameTable, name_records_in, name_parts, name_table, name_records, name_bytes, is_kept_record, is_kept_name, distinct, string_offset}
 use Rattle.subsetter_sfnt.specs.Fields.Name.{string_of}
 use Rattle.subsetter.specs.Name.Plain.{subset_names, name_of_table, new_name, name_of}
 use Rattle.subsetter.specs.Name.Fault.{HasNameFault, kept_strings, name_without_version, name_header_cut, name_records_cut, name_storage_outside, name_string_outside, too_many_names, name_string_too_far}
@@ -130,7 +130,7 @@ not_many bytes y names h many k =
     let count : length (filter is_kept_name names) ≡ length (filter is_kept_record r.t.records) = ap (λ (l : List Name). length (filter is_kept_name l)) same ∙ ap length (kept_alike r.t.storage r.t.records) ∙ length-map (filter is_kept_record r.t.records) _ in
     omega (arith, count, s.few, placed_length r.t.storage [] (filter is_kept_record r.t.records) s.p s.placed_is)
 
-not_far : (bytes y : List ℕ) (names : List Name) (s : List ℕ) → IsBytes bytes → name_records bytes ≡ Some names → Contains (kept_strings names) s → 65535 < string_place (distinct (kept_strings names)) s → name_of_table bytes ≡ Ok y → ⊥
+not_far : (bytes y : List ℕ) (names : List Name) (s : List ℕ) → IsBytes bytes → name_records bytes ≡ Some names → Contains (kept_strings names) s → 65535 < string_offset (distinct (kept_strings names)) s → name_of_table bytes ≡ Ok y → ⊥
 not_far bytes y names s all h c lt k =
     let r = ran bytes y (version_zero bytes names h) k in
     let sub = subsetted r.t r.n r.names in
@@ -138,8 +138,8 @@ not_far bytes y names s all h c lt k =
     let by = placed_as r.t.storage [] kept sub.p (fits_kept r.t.records (fit_table bytes r.t (all_bytes bytes all) r.parts)) sub.placed_is in
     let same : kept_strings names ≡ by.strings = ap kept_strings (same_names bytes names (names_of r.t) h (records_are bytes r.t r.table)) ∙ kept_strings_are r.t ∙ readable_is r.t.storage kept by.strings by.read in
     let among_them : Contains by.strings s = subst (λ (l : List (List ℕ)). Contains l s) same c in
-    let near : string_place sub.p.strings s < 65536 = all_at (λ (x : List ℕ). string_place sub.p.strings x < 65536) by.strings among_them.0 s by.near among_them.1 among_them.2 in
-    let place : string_place (distinct (kept_strings names)) s ≡ string_place sub.p.strings s = ap (λ (l : List (List ℕ)). string_place (distinct l) s) same ∙ ap (λ (l : List (List ℕ)). string_place l s) (sym by.all) in
+    let near : string_offset sub.p.strings s < 65536 = all_at (λ (x : List ℕ). string_offset sub.p.strings x < 65536) by.strings among_them.0 s by.near among_them.1 among_them.2 in
+    let place : string_offset (distinct (kept_strings names)) s ≡ string_offset sub.p.strings s = ap (λ (l : List (List ℕ)). string_offset (distinct l) s) same ∙ ap (λ (l : List (List ℕ)). string_offset l s) (sym by.all) in
     omega (arith, lt, near, place)
 
 pub name_clean : (find : List ℕ → Option (List ℕ)) (x : Option (List ℕ)) (e : Error) → ((bytes : List ℕ) → find (codes "name") ≡ Some bytes → IsBytes bytes) → name_of find ≡ Ok x → HasNameFault find e → ⊥

@@ -11,7 +11,7 @@ use Rattle.subsetter_base.specs.declared.error.Error.TheVariants.{MalformedFont,
 use Rattle.subsetter_base.proofs.Results.{bind_ok, named_ok, done_is, failed_is, bind_err, named_err}
 use Rattle.subsetter_base.proofs.ByteLemmas.{number-short, range-short}
 use Rattle.subsetter_sfnt.specs.declared.fields.name.NameRecord.{NameRecord}
-use Rattle.subsetter.specs.Name.Read.{Name, NameTable, name_records_in, name_parts, name_table, name_records, name_of_record, name_bytes, is_kept_record, is_kept_name, with_string, with_strings, distinct, string_place, joined}
+use Rattle.subsetter.specs.Name.Read.{Name, NameTable, name_records_in, name_parts, name_table, name_records, name_of_record, name_bytes, is_kept_record, is_kept_name, with_string, with_strings, distinct, string_offset, joined}
 use Rattle.subsetter_sfnt.specs.Fields.Name.{string_of}
 use Rattle.subsetter.specs.Name.Plain.{Placed, placed, placed_string, with_name, few_names, subset_names, name_of_table, new_name, name_of}
 use Rattle.subsetter.specs.Name.Fault.{HasNameFault, kept_strings, name_without_version, name_header_cut, name_records_cut, name_storage_outside, name_string_outside, too_many_names, name_string_too_far}
@@ -46,7 +46,7 @@ readable storage rs = filter_map (string_of storage) rs
 
 pub data Misplaced (storage : List ℕ) (seen : List (List ℕ)) (rs : List NameRecord) : Type 0 where
   outside : (r : NameRecord) → Contains rs r → string_of storage r ≡ None → Misplaced storage seen rs
-  far : (s : List ℕ) → Contains (readable storage rs) s → 65535 < string_place (with_strings seen (readable storage rs)) s → Misplaced storage seen rs
+  far : (s : List ℕ) → Contains (readable storage rs) s → 65535 < string_offset (with_strings seen (readable storage rs)) s → Misplaced storage seen rs
 
 later_one : {X : Type 0} (xs : List X) (y x : X) → Contains xs x → Contains (y ∷ xs) x
 later_one xs y x h = (suc h.0, omega (arith, h.1), h.2)
@@ -58,14 +58,14 @@ lifted : (storage : List ℕ) (seen : List (List ℕ)) (r : NameRecord) (rs : Li
 lifted storage seen r rs s h (outside q c n) = outside q (later_one rs r q c) n
 lifted storage seen r rs s h (far q c lt) =
     far q (subst (λ (l : List (List ℕ)). Contains l q) (sym (front_string storage r rs s h)) (later_one (readable storage rs) s q c))
-    (subst (λ (l : List (List ℕ)). 65535 < string_place (with_strings seen l) q) (sym (front_string storage r rs s h)) lt)
+    (subst (λ (l : List (List ℕ)). 65535 < string_offset (with_strings seen l) q) (sym (front_string storage r rs s h)) lt)
 
-not_placed : (ts : List (List ℕ)) (s : List ℕ) (e : Error) → placed_string ts s ≡ Err e → (SubsetError ≡ e) × (65535 < string_place ts s)
-not_placed ts s e h = by (ltb (string_place ts s) 65536) refl h
+not_placed : (ts : List (List ℕ)) (s : List ℕ) (e : Error) → placed_string ts s ≡ Err e → (SubsetError ≡ e) × (65535 < string_offset ts s)
+not_placed ts s e h = by (ltb (string_offset ts s) 65536) refl h
   where
-    by : (b : Bool) → ltb (string_place ts s) 65536 ≡ b → cond b (Ok (string_place ts s)) (Err SubsetError) ≡ Err e → (SubsetError ≡ e) × (65535 < string_place ts s)
+    by : (b : Bool) → ltb (string_offset ts s) 65536 ≡ b → cond b (Ok (string_offset ts s)) (Err SubsetError) ≡ Err e → (SubsetError ≡ e) × (65535 < string_offset ts s)
     by true t k = absurd cc
-    by false t k = (failed_is {A = ℕ} SubsetError e k, let far_off : 65536 ≤ string_place ts s = ltb-false _ _ t in omega arith)
+    by false t k = (failed_is {A = ℕ} SubsetError e k, let far_off : 65536 ≤ string_offset ts s = ltb-false _ _ t in omega arith)
 
 misplaced : (storage : List ℕ) (seen : List (List ℕ)) (rs : List NameRecord) (e : Error) → placed storage seen rs ≡ Err e → (SubsetError ≡ e) × Misplaced storage seen rs
 misplaced storage seen [] e h = absurd cc
@@ -80,7 +80,7 @@ misplaced storage seen (r ∷ rs) e h = by (string_of storage r) refl h (λ s k.
     second s o later (inl k) =
         let n = not_placed seen s e k in
         let front = front_string storage r rs s o in
-        (n.0, far s (subst (λ (l : List (List ℕ)). Contains l s) (sym front) (0, omega arith, refl)) (subst (λ (l : List (List ℕ)). 65535 < string_place (with_strings seen l) s) (sym front) (omega (arith, n.1, (stored seen (readable storage rs) s).place))))
+        (n.0, far s (subst (λ (l : List (List ℕ)). Contains l s) (sym front) (0, omega arith, refl)) (subst (λ (l : List (List ℕ)). 65535 < string_offset (with_strings seen l) s) (sym front) (omega (arith, n.1, (stored seen (readable storage rs) s).offset))))
     second s o later (inr k) = third s k.0 o later (bind_err (placed storage (with_string seen s) rs) (λ p. Ok (with_name r k.0 p)) e k.2)
 
     by : (o : Option (List ℕ)) → string_of storage r ≡ o → (ok_or o SubsetError >>= λ s. placed_string seen s >>= λ at. placed storage (with_string seen s) rs >>= λ p. Ok (with_name r at p)) ≡ Err e
@@ -126,7 +126,7 @@ subset_refused find bytes t e is read h =
   where
     wrong : Misplaced t.storage [] (filter is_kept_record t.records) → HasNameFault find SubsetError
     wrong (outside r c n) = name_string_outside bytes (names_of t) (name_of_record t.storage r) is (records_are bytes t read) (subst (λ (l : List Name). Contains l (name_of_record t.storage r)) (sym (kept_alike t.storage t.records)) (contains_map (name_of_record t.storage) (filter is_kept_record t.records) c.0 r c.1 c.2)) n
-    wrong (far s c lt) = name_string_too_far bytes (names_of t) s is (records_are bytes t read) (subst (λ (l : List (List ℕ)). Contains l s) (sym (kept_strings_are t)) c) (subst (λ (l : List (List ℕ)). 65535 < string_place (distinct l) s) (sym (kept_strings_are t)) lt)
+    wrong (far s c lt) = name_string_too_far bytes (names_of t) s is (records_are bytes t read) (subst (λ (l : List (List ℕ)). Contains l s) (sym (kept_strings_are t)) c) (subst (λ (l : List (List ℕ)). 65535 < string_offset (distinct l) s) (sym (kept_strings_are t)) lt)
 
     many : (p : Placed) → placed t.storage [] (filter is_kept_record t.records) ≡ Ok p → (b : Bool) → leb (length p.names) 5460 ≡ b → few_by b p ≡ Err e → HasNameFault find e
     many p k true b j = absurd cc

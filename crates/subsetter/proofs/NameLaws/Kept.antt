@@ -13,7 +13,7 @@ use Rattle.subsetter_base.proofs.Options.{bind_some}
 use Rattle.subsetter_base.proofs.Lists.{bytes_eq_is, bytes_eq_self}
 use Rattle.subsetter_base.proofs.ByteLemmas.{range-middle}
 use Rattle.subsetter_sfnt.specs.declared.fields.name.NameRecord.{NameRecord}
-use Rattle.subsetter.specs.Name.Read.{Name, NameTable, name_records_in, name_parts, name_table, name_records, name_storage, name_of_record, name_bytes, is_kept_record, is_kept_name, among, with_string, with_strings, string_place, joined, HasKeptNames, KeepsNames, rewritten, copied}
+use Rattle.subsetter.specs.Name.Read.{Name, NameTable, name_records_in, name_parts, name_table, name_records, name_storage, name_of_record, name_bytes, is_kept_record, is_kept_name, among, with_string, with_strings, string_offset, joined, HasKeptNames, KeepsNames, rewritten, copied}
 use Rattle.subsetter_sfnt.specs.Fields.Name.{string_of}
 use Rattle.subsetter.specs.Name.Plain.{Placed, placed, placed_string, with_name, few_names, subset_names, name_of_table, new_name, name_of}
 use Rattle.subsetter.proofs.NameLaws.Written.{among-append, place_before, place_behind, place_new}
@@ -33,10 +33,10 @@ more_strings ts (s ∷ ss) = by (among ts s) (more_strings ts ss) (more_strings 
     by false same longer = (s ∷ longer.0, longer.1 ∙ append_assoc ts (s ∷ []) longer.0)
 
 -- after a string was put among others it is there, at the place that was given to it
-pub there_now : (ts : List (List ℕ)) (s : List ℕ) → (among (with_string ts s) s ≡ true) × (string_place (with_string ts s) s ≡ string_place ts s)
+pub there_now : (ts : List (List ℕ)) (s : List ℕ) → (among (with_string ts s) s ≡ true) × (string_offset (with_string ts s) s ≡ string_offset ts s)
 there_now ts s = by (among ts s) refl
   where
-    by : (b : Bool) → among ts s ≡ b → (among (cond b ts (ts ++ s ∷ [])) s ≡ true) × (string_place (cond b ts (ts ++ s ∷ [])) s ≡ string_place ts s)
+    by : (b : Bool) → among ts s ≡ b → (among (cond b ts (ts ++ s ∷ [])) s ≡ true) × (string_offset (cond b ts (ts ++ s ∷ [])) s ≡ string_offset ts s)
     by true t = (t, refl)
     by false t =
         let self = bytes_eq_self s in (
@@ -44,12 +44,12 @@ there_now ts s = by (among ts s) refl
           place_behind ts (s ∷ []) s t ∙ ap (λ b. length (joined ts) + cond b 0 (length s + 0)) self ∙ omega (arith, place_new ts s t),
         )
 
-stored_after : (ts more : List (List ℕ)) (s pre bytes : List ℕ) (at : ℕ) → among ts s ≡ true → bytes ≡ pre ++ joined (ts ++ more) → at ≡ length pre + string_place ts s → range bytes at (length s) ≡ Some s
+stored_after : (ts more : List (List ℕ)) (s pre bytes : List ℕ) (at : ℕ) → among ts s ≡ true → bytes ≡ pre ++ joined (ts ++ more) → at ≡ length pre + string_offset ts s → range bytes at (length s) ≡ Some s
 stored_after [] more s pre bytes at h is a = absurd (false≢true h)
 stored_after (t ∷ ts) more s pre bytes at h is a =
     by (bytes_eq s t) refl h a (λ k b. stored_after ts more s (pre ++ t) bytes at k (is ∙ sym (append_assoc pre t (joined (ts ++ more)))) b)
   where
-    by : (b : Bool) → bytes_eq s t ≡ b → (b || among ts s) ≡ true → at ≡ length pre + cond b 0 (length t + string_place ts s) → (among ts s ≡ true → at ≡ length (pre ++ t) + string_place ts s → range bytes at (length s) ≡ Some s) → range bytes at (length s) ≡ Some s
+    by : (b : Bool) → bytes_eq s t ≡ b → (b || among ts s) ≡ true → at ≡ length pre + cond b 0 (length t + string_offset ts s) → (among ts s ≡ true → at ≡ length (pre ++ t) + string_offset ts s → range bytes at (length s) ≡ Some s) → range bytes at (length s) ≡ Some s
     by true e k p later =
         let same : s ≡ t = bytes_eq_is s t e in
         range-middle bytes pre s (joined (ts ++ more)) at (length s) (is ∙ ap (λ (x : List ℕ). pre ++ (x ++ joined (ts ++ more))) (sym same)) (omega arith) refl
@@ -57,16 +57,16 @@ stored_after (t ∷ ts) more s pre bytes at h is a =
 
 -- what a string's place among the strings before it says of all strings
 pub record Stored (ts ss : List (List ℕ)) (s : List ℕ) : Type 0 where
-  pub bytes : range (joined (with_strings (with_string ts s) ss)) (string_place ts s) (length s) ≡ Some s
-  pub place : string_place (with_strings (with_string ts s) ss) s ≡ string_place ts s
+  pub bytes : range (joined (with_strings (with_string ts s) ss)) (string_offset ts s) (length s) ≡ Some s
+  pub offset : string_offset (with_strings (with_string ts s) ss) s ≡ string_offset ts s
 
 pub stored : (ts ss : List (List ℕ)) (s : List ℕ) → Stored ts ss s
 stored ts ss s =
     let m = more_strings (with_string ts s) ss in
     let n = there_now ts s in
     record {
-      bytes = stored_after (with_string ts s) m.0 s [] (joined (with_strings (with_string ts s) ss)) (string_place ts s) n.0 (ap joined m.1) (omega (arith, n.1));
-      place = ap (λ l. string_place l s) m.1 ∙ place_before (with_string ts s) m.0 s n.0 ∙ n.1;
+      bytes = stored_after (with_string ts s) m.0 s [] (joined (with_strings (with_string ts s) ss)) (string_offset ts s) n.0 (ap joined m.1) (omega (arith, n.1));
+      offset = ap (λ l. string_offset l s) m.1 ∙ place_before (with_string ts s) m.0 s n.0 ∙ n.1;
     }
 
 -- ---- records that were placed
@@ -78,13 +78,13 @@ pub record PlacedAs (storage : List ℕ) (seen : List (List ℕ)) (rs : List Nam
   pub same : map (name_of_record (joined p.strings)) p.names ≡ map (name_of_record storage) rs
   pub count : length p.names ≡ length strings
   pub fit : AllByRecursion FitsRecord p.names
-  pub near : AllByRecursion (λ (s : List ℕ). string_place p.strings s < 65536) strings
+  pub near : AllByRecursion (λ (s : List ℕ). string_offset p.strings s < 65536) strings
 
-near_enough : (ts : List (List ℕ)) (s : List ℕ) (at : ℕ) → placed_string ts s ≡ Ok at → (string_place ts s < 65536) × (string_place ts s ≡ at)
-near_enough ts s at h = by (ltb (string_place ts s) 65536) refl h
+near_enough : (ts : List (List ℕ)) (s : List ℕ) (at : ℕ) → placed_string ts s ≡ Ok at → (string_offset ts s < 65536) × (string_offset ts s ≡ at)
+near_enough ts s at h = by (ltb (string_offset ts s) 65536) refl h
   where
-    by : (b : Bool) → ltb (string_place ts s) 65536 ≡ b → cond b (Ok (string_place ts s)) (Err SubsetError) ≡ Ok at → (string_place ts s < 65536) × (string_place ts s ≡ at)
-    by true t k = (ltb-true _ _ t, done_is (string_place ts s) at k)
+    by : (b : Bool) → ltb (string_offset ts s) 65536 ≡ b → cond b (Ok (string_offset ts s)) (Err SubsetError) ≡ Ok at → (string_offset ts s < 65536) × (string_offset ts s ≡ at)
+    by true t k = (ltb-true _ _ t, done_is (string_offset ts s) at k)
     by false t k = absurd cc
 
 same_name : (storage bytes : List ℕ) (r : NameRecord) (at : ℕ) → range bytes at r.length ≡ string_of storage r → name_of_record bytes (record r { string_offset = at }) ≡ name_of_record storage r
@@ -95,8 +95,8 @@ one_placed storage seen r rs s at q fit h k later =
     let near = near_enough seen s at k in
     let size : length s ≡ r.length = (range_found storage r.string_offset r.length s h).long in
     let st = stored seen later.strings s in
-    let where_is : range (joined q.strings) at r.length ≡ Some s = ap (λ (l : List (List ℕ)). range (joined l) at r.length) later.all ∙ ap (λ (n : ℕ). range (joined (with_strings (with_string seen s) later.strings)) n r.length) (sym near.1) ∙ ap (range (joined (with_strings (with_string seen s) later.strings)) (string_place seen s)) (sym size) ∙ st.bytes in
-    let place : string_place q.strings s ≡ string_place seen s = ap (λ (l : List (List ℕ)). string_place l s) later.all ∙ st.place in
+    let where_is : range (joined q.strings) at r.length ≡ Some s = ap (λ (l : List (List ℕ)). range (joined l) at r.length) later.all ∙ ap (λ (n : ℕ). range (joined (with_strings (with_string seen s) later.strings)) n r.length) (sym near.1) ∙ ap (range (joined (with_strings (with_string seen s) later.strings)) (string_offset seen s)) (sym size) ∙ st.bytes in
+    let place : string_offset q.strings s ≡ string_offset seen s = ap (λ (l : List (List ℕ)). string_offset l s) later.all ∙ st.offset in
     record {
       strings = s ∷ later.strings;
       read = ap (λ (o : Option (List ℕ)). o ∷ map (string_of storage) rs) h ∙ ap (λ (l : List (Option (List ℕ))). Some s ∷ l) later.read;
@@ -179,7 +179,7 @@ has_kept_names source t n all h read k =
       readable = ap (map (λ (x : Name). x.string)) alike ∙ strings_of t.storage kept ∙ done_as.read;
       new_is = ap name_records new_is_bytes ∙ ap (option_map (λ (x : NameTable). map (name_of_record x.storage) x.records)) back.table ∙ ap Some (done_as.same ∙ sym alike);
       stored = ap name_storage new_is_bytes ∙ ap (option_map (λ (x : NameTable). x.storage)) back.table ∙ ap (λ (l : List (List ℕ)). Some (joined l)) done_as.all;
-      place = ap (λ (l : List ℕ). number l 4 2) new_is_bytes ∙ back.place ∙ ap (λ (m : ℕ). Some (6 + 12 * m)) done_as.count;
+      offset = ap (λ (l : List ℕ). number l 4 2) new_is_bytes ∙ back.offset ∙ ap (λ (m : ℕ). Some (6 + 12 * m)) done_as.count;
     }
 
 pub read_by_version : (source : List ℕ) (version : ℕ) (t : NameTable) → number source 0 2 ≡ Some version → eqb version 0 ≡ true → name_parts source ≡ Some t → name_table source ≡ Some t

@@ -25,7 +25,7 @@ use Rattle.subsetter.specs.Glyf.Closure.{Finds}
 use Rattle.subsetter.specs.Glyf.Plain.{outlines_read}
 use Rattle.subsetter.specs.Glyf.Read.{Outlines, outline_in}
 use Rattle.subsetter.specs.Glyf.Reach.{IsGlyphOrderBy}
-use Rattle.subsetter.specs.Glyf.Size.{asked_size, AreLonger}
+use Rattle.subsetter.specs.Glyf.Size.{requested_size, AreLonger}
 use Rattle.subsetter.specs.Glyf.Written.{is_long, glyf_bytes}
 use Rattle.subsetter.specs.Laid.{AreMade, of_outlines, of_charstrings}
 use Rattle.subsetter.specs.Truetype.Answered.{IsAnswered}
@@ -71,7 +71,7 @@ module _ (hinting : Bool) (find : List ℕ → Option (List ℕ)) (glyphs : List
       omega (
         arith,
         longer.longer,
-        sum_by_part (λ g. asked_size a.source.hinting (outline_in a.source g)) longer.part a.order longer.once (λ g c. (a.is_order.members g).1 (longer.reached g c)),
+        sum_by_part (λ g. requested_size a.source.hinting (outline_in a.source g)) longer.part a.order longer.once (λ g c. (a.is_order.members g).1 (longer.reached g c)),
         kept_sizes a.source a.order a.order bs (is_long bs) steps.kept,
         within,
         file_holds (kind_word TrueType) a.tables out all a.laid_out,

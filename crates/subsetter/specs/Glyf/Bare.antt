@@ -25,37 +25,37 @@ unfoldable pub bare_simple : List ℕ → List ℕ
 bare_simple bytes = unwrap_or (bare_found bytes) bytes
 
 -- a simple outline as far as it is asked for
-abbrev pub simple_asked : Bool → List ℕ → List ℕ
-simple_asked true bytes = bytes
-simple_asked false bytes = bare_simple bytes
+abbrev pub requested_simple : Bool → List ℕ → List ℕ
+requested_simple true bytes = bytes
+requested_simple false bytes = bare_simple bytes
 
 -- flags, without WE_HAVE_INSTRUCTIONS where instructions aren't asked for
-abbrev pub flags_asked : Bool → ℕ → ℕ
-flags_asked true flags = flags
-flags_asked false flags = bit_and flags 0xFEFF
+abbrev pub requested_flags : Bool → ℕ → ℕ
+requested_flags true flags = flags
+requested_flags false flags = bit_and flags 0xFEFF
 
-abbrev pub component_asked : Bool → Component → Component
-component_asked hinting c = record { flags = flags_asked hinting c.flags; glyph = c.glyph; rest = c.rest }
+abbrev pub requested_component : Bool → Component → Component
+requested_component hinting c = record { flags = requested_flags hinting c.flags; glyph = c.glyph; rest = c.rest }
 
 -- the bytes behind the last component are instructions
-abbrev pub tail_asked : Bool → List ℕ → List ℕ
-tail_asked true tail = tail
-tail_asked false tail = []
+abbrev pub requested_tail : Bool → List ℕ → List ℕ
+requested_tail true tail = tail
+requested_tail false tail = []
 
-abbrev pub chain_asked : Bool → Chain → Chain
-chain_asked hinting chain = record { components = map (component_asked hinting) chain.components; tail = tail_asked hinting chain.tail }
+abbrev pub requested_chain : Bool → Chain → Chain
+requested_chain hinting chain = record { components = map (requested_component hinting) chain.components; tail = requested_tail hinting chain.tail }
 
 -- parts without instructions
 abbrev pub bare : Parts → Parts
 bare Empty = Empty
 bare (Simple bytes) = Simple (bare_simple bytes)
-bare (Composite head chain) = Composite head (chain_asked false chain)
+bare (Composite head chain) = Composite head (requested_chain false chain)
 
 -- parts as far as they are asked for
-abbrev pub parts_asked : Bool → Option Parts → Option Parts
-parts_asked true found = found
-parts_asked false found = option_map bare found
+abbrev pub requested_parts : Bool → Option Parts → Option Parts
+requested_parts true found = found
+requested_parts false found = option_map bare found
 
 -- the parts of a glyph's outline, as far as they are asked for
 abbrev pub glyph_parts : Font → ℕ → Option Parts
-glyph_parts font g = parts_asked font.extras.hinting (option_and_then outline_parts (outline font g))
+glyph_parts font g = requested_parts font.extras.hinting (option_and_then outline_parts (outline font g))

@@ -2,7 +2,7 @@
 use Rattle.std.specs.Prelude.{◌≡◌, ℕ, ◌+◌, ◌<◌, ◌^◌, not, List, [], ◌∷◌, ◌++◌, length, Option, Some, None, is_some, filter, map, slice_index, if◌then◌else◌}
 use Rattle.std.specs.Borrow.{Bor}
 use Rattle.std.specs.Option.{option_copied}
-use Rattle.subsetter_base.specs.Places.{place, with_glyph}
+use Rattle.subsetter_base.specs.Indexes.{index_of, with_glyph}
 use Rattle.subsetter_base.specs.declared.error.Error.{Error}
 use Rattle.subsetter_base.specs.declared.error.Error.TheVariants.{MalformedFont, OverflowError, OutOfMemory}
 use Rattle.subsetter.specs.Glyf.Read.{Outlines, outline_in}
@@ -17,7 +17,7 @@ components_in (Some bytes) = component_numbers bytes
 
 -- the numbers that aren't in a list
 abbrev pub others_in : List ℕ → List ℕ → List ℕ
-others_in order numbers = filter (λ h. not (is_some (place order h))) numbers
+others_in order numbers = filter (λ h. not (is_some (index_of order h))) numbers
 
 -- the outlines of some glyphs, each if it is there
 abbrev pub AreFound : Outlines → List ℕ → List (Option (Bor (List ℕ))) → Type 0
@@ -54,14 +54,14 @@ IsFaulty t g = LacksParts (outline_in t g)
 -- a list of 65535 glyphs lacks a further one
 pub record IsFull (order : List ℕ) (g : ℕ) : Type 0 where
   pub full : length order ≡ 65535
-  pub further : place order g ≡ None
+  pub further : index_of order g ≡ None
   pub fits : g < 65536
   pub small : (i : ℕ) → slice_index order i < 65536
 
 -- an order and the waiting glyphs, before and after a glyph was taken
 pub record IsVisited (t : Outlines) (order waiting : List ℕ) (g : ℕ) (order_after waiting_after : List ℕ) : Type 0 where
   pub is_last : order_after ≡ with_glyph order g
-  pub wait : waiting_after ≡ (if is_some (place order g) then waiting else waiting ++ others_in order_after (components_in (outline_in t g)))
+  pub wait : waiting_after ≡ (if is_some (index_of order g) then waiting else waiting ++ others_in order_after (components_in (outline_in t g)))
   -- an outline has fewer than 2 ^ 32 components
   pub few : length waiting_after < length waiting + 2 ^ 32
   -- the order has at most 65535 glyphs

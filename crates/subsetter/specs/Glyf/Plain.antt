@@ -2,11 +2,11 @@
 use Rattle.std.specs.Prelude.{ℕ, Bool, List, [], ◌∷◌, ◌++◌, map, Option, Result, Ok}
 use Rattle.std.specs.Option.{option_map, ok_or}
 use Rattle.subsetter_base.specs.Bytes.{◌>>=◌}
-use Rattle.subsetter_base.specs.Places.{new_index}
+use Rattle.subsetter_base.specs.Indexes.{new_index}
 use Rattle.subsetter_base.specs.declared.error.Error.{Error}
 use Rattle.subsetter_base.specs.declared.error.Error.TheVariants.{MalformedFont}
 use Rattle.subsetter.specs.Glyf.Read.{Outlines, outlines_in, outline_in}
-use Rattle.subsetter.specs.Glyf.Bare.{parts_asked}
+use Rattle.subsetter.specs.Glyf.Bare.{requested_parts}
 use Rattle.subsetter.specs.Glyf.Parts.{Component, Chain, Parts, Empty, Simple, Composite, composite_parts, outline_parts, parts_bytes}
 
 -- the tables of the outlines
@@ -28,11 +28,11 @@ renumbered order (Composite head chain) = Composite head (renumbered_chain order
 
 -- a composite with its components under the new numbers
 unfoldable pub rewritten_composite : Bool → List ℕ → List ℕ → Result (List ℕ) Error
-rewritten_composite hinting order bytes = ok_or (option_map (λ p. parts_bytes (renumbered order p)) (parts_asked hinting (composite_parts bytes))) MalformedFont
+rewritten_composite hinting order bytes = ok_or (option_map (λ p. parts_bytes (renumbered order p)) (requested_parts hinting (composite_parts bytes))) MalformedFont
 
 -- an outline with its components under the new numbers
 unfoldable pub rewritten : Bool → List ℕ → List ℕ → Result (List ℕ) Error
-rewritten hinting order bytes = ok_or (option_map (λ p. parts_bytes (renumbered order p)) (parts_asked hinting (outline_parts bytes))) MalformedFont
+rewritten hinting order bytes = ok_or (option_map (λ p. parts_bytes (renumbered order p)) (requested_parts hinting (outline_parts bytes))) MalformedFont
 
 -- a list with one outline more
 abbrev pub with_last : List (List ℕ) → Result (List ℕ) Error → Result (List (List ℕ)) Error

@@ -1,6 +1,6 @@
 -- Which glyphs a list of glyphs reaches through components, and the order of the glyphs of a subset.
 use Rattle.std.specs.Prelude.{◌≡◌, ℕ, ◌↔◌, List, ◌++◌, Option, Some, Contains}
-use Rattle.subsetter_base.specs.Places.{IsWithoutRepeats}
+use Rattle.subsetter_base.specs.Indexes.{IsWithoutRepeats}
 use Rattle.subsetter_sfnt.specs.Read.{Font}
 use Rattle.subsetter.specs.Glyf.Read.{outline}
 use Rattle.subsetter.specs.Glyf.Parts.{component_numbers}

@@ -1,6 +1,6 @@
 -- A list of outlines of which some are borrowed and the others stand one after another.
 use Rattle.std.specs.Prelude.{◌≡◌, ◌≤◌, ◌<◌, ◌^◌, ℕ, Bool, List, [], ◌∷◌, length, take, drop}
-use Rattle.subsetter.specs.Glyf.Bare.{simple_asked}
+use Rattle.subsetter.specs.Glyf.Bare.{requested_simple}
 
 -- a list of outlines, and whether instructions are asked for
 pub record Listed : Type 0 where
@@ -12,7 +12,7 @@ abbrev pub woven : Bool → List (List ℕ) → List ℕ → List ℕ → List (
 woven hinting [] sizes bytes = []
 woven hinting ([] ∷ kept) [] bytes = []
 woven hinting ([] ∷ kept) (n ∷ sizes) bytes = take n bytes ∷ woven hinting kept sizes (drop n bytes)
-woven hinting ((x ∷ xs) ∷ kept) sizes bytes = simple_asked hinting (x ∷ xs) ∷ woven hinting kept sizes bytes
+woven hinting ((x ∷ xs) ∷ kept) sizes bytes = requested_simple hinting (x ∷ xs) ∷ woven hinting kept sizes bytes
 
 -- there is a size for each of the others, and their bytes are there, and no more
 abbrev pub AreWoven : List (List ℕ) → List ℕ → List ℕ → Type 0

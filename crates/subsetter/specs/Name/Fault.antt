@@ -3,7 +3,7 @@ use Rattle.std.specs.Prelude.{◌≡◌, ℕ, ◌+◌, ◌*◌, ◌<◌, List, l
 use Rattle.subsetter_base.specs.Bytes.{number}
 use Rattle.subsetter_base.specs.declared.error.Error.{Error}
 use Rattle.subsetter_base.specs.declared.error.Error.TheVariants.{MalformedFont, SubsetError}
-use Rattle.subsetter.specs.Name.Read.{Name, name_records, is_kept_name, distinct, string_place}
+use Rattle.subsetter.specs.Name.Read.{Name, name_records, is_kept_name, distinct, string_offset}
 
 -- the strings of the kept names that are inside the storage
 abbrev pub kept_strings : List Name → List (List ℕ)
@@ -18,4 +18,4 @@ pub data HasNameFault (find : List ℕ → Option (List ℕ)) : Error → Type 0
   name_string_outside : (bytes : List ℕ) (names : List Name) (n : Name) → find (codes "name") ≡ Some bytes → name_records bytes ≡ Some names → Contains (filter is_kept_name names) n → n.string ≡ None → HasNameFault find SubsetError
   too_many_names : (bytes : List ℕ) (names : List Name) → find (codes "name") ≡ Some bytes → name_records bytes ≡ Some names → 5460 < length (filter is_kept_name names) → HasNameFault find SubsetError
   -- a string's new offset does not fit 16 bits
-  name_string_too_far : (bytes : List ℕ) (names : List Name) (s : List ℕ) → find (codes "name") ≡ Some bytes → name_records bytes ≡ Some names → Contains (kept_strings names) s → 65535 < string_place (distinct (kept_strings names)) s → HasNameFault find SubsetError
+  name_string_too_far : (bytes : List ℕ) (names : List Name) (s : List ℕ) → find (codes "name") ≡ Some bytes → name_records bytes ≡ Some names → Contains (kept_strings names) s → 65535 < string_offset (distinct (kept_strings names)) s → HasNameFault find SubsetError

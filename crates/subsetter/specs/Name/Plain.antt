@@ -6,7 +6,7 @@ use Rattle.subsetter_base.specs.Bytes.{◌>>=◌, number}
 use Rattle.subsetter_base.specs.declared.error.Error.{Error}
 use Rattle.subsetter_base.specs.declared.error.Error.TheVariants.{MalformedFont, SubsetError}
 use Rattle.subsetter_sfnt.specs.declared.fields.name.NameRecord.{NameRecord}
-use Rattle.subsetter.specs.Name.Read.{NameTable, name_parts, is_kept_record, with_string, string_place, joined, name_bytes}
+use Rattle.subsetter.specs.Name.Read.{NameTable, name_parts, is_kept_record, with_string, string_offset, joined, name_bytes}
 use Rattle.subsetter_sfnt.specs.Fields.Name.{name_record_bytes, string_of}
 
 -- records with their new offsets, and the strings that they use
@@ -16,7 +16,7 @@ pub record Placed : Type 0 where
 
 -- where a string begins among those before it; a record has 16 bits for that
 abbrev pub placed_string : List (List ℕ) → List ℕ → Result ℕ Error
-placed_string strings s = if nat_lt (string_place strings s) 65536 then Ok (string_place strings s) else Err SubsetError
+placed_string strings s = if nat_lt (string_offset strings s) 65536 then Ok (string_offset strings s) else Err SubsetError
 
 abbrev pub with_name : NameRecord → ℕ → Placed → Placed
 with_name r at p = record { names = record r { string_offset = at } ∷ p.names; strings = p.strings }

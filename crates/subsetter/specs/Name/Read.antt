@@ -85,9 +85,9 @@ abbrev pub distinct : List (List ℕ) → List (List ℕ)
 distinct ss = with_strings [] ss
 
 -- where a string begins among strings that stand one after another; behind them all where it isn't one of them
-abbrev pub string_place : List (List ℕ) → List ℕ → ℕ
-string_place [] s = 0
-string_place (t ∷ ts) s = if bytes_eq s t then 0 else length t + string_place ts s
+abbrev pub string_offset : List (List ℕ) → List ℕ → ℕ
+string_offset [] s = 0
+string_offset (t ∷ ts) s = if bytes_eq s t then 0 else length t + string_offset ts s
 
 -- strings one after another, without gaps
 abbrev pub joined : List (List ℕ) → List ℕ
@@ -109,7 +109,7 @@ pub record HasKeptNames (source new : List ℕ) : Type 0 where
   pub readable : map (λ (n : Name). n.string) (filter is_kept_name names) ≡ map Some strings
   pub new_is : name_records new ≡ Some (filter is_kept_name names)
   pub stored : name_storage new ≡ Some (joined (distinct strings))
-  pub place : number new 4 2 ≡ Some (6 + 12 * length strings)
+  pub offset : number new 4 2 ≡ Some (6 + 12 * length strings)
 
 -- a table of version 0 has the kept names; one of another version is copied
 pub data KeepsNames (source new : List ℕ) : Type 0 where

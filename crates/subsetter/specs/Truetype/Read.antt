@@ -1,6 +1,6 @@
 -- What a subset keeps of outlines in `glyf`, read afresh (OpenType, "glyf", "loca").
 use Rattle.std.specs.Prelude.{◌≡◌, ℕ, ◌+◌, ◌*◌, ◌<◌, List, length, slice_index, codes, Some, IsSome}
-use Rattle.subsetter_base.specs.Places.{place}
+use Rattle.subsetter_base.specs.Indexes.{index_of}
 use Rattle.subsetter_sfnt.specs.Read.{Font, table}
 use Rattle.subsetter.specs.Glyf.Read.{Outlines, outlines, entry_size}
 use Rattle.subsetter.specs.Glyf.Unfold.{HaveSameParts, UnfoldAlike}
@@ -25,5 +25,5 @@ pub record KeepsOutlines (font : Font) (order : List ℕ) (out : Font) : Type 0 
   -- each glyph draws as its source, to every depth
   pub drawing : (n i : ℕ) → i < length order → UnfoldAlike font out n (slice_index order i) i
   -- the new number of a component is the place of its glyph in the order
-  pub numbering : (i : ℕ) → i < length order → HaveSameParts font out (λ g h. place order g ≡ Some h) (slice_index order i) i
+  pub numbering : (i : ℕ) → i < length order → HaveSameParts font out (λ g h. index_of order g ≡ Some h) (slice_index order i) i
   pub programs : KeepsPrograms font out

@@ -8,13 +8,13 @@ ghost use Rattle.std.specs.Prelude.{◌≡◌, ◌⊎◌, ◌+◌, ◌-◌, ◌�
 ghost use Rattle.std.specs.Int.{w16, to_be_bytes};
 ghost use Rattle.std.specs.Option.{option_map};
 ghost use Rattle.subsetter_base.specs.Gives.{Fails, behind};
-ghost use Rattle.subsetter_base.specs.Places.{place, new_index};
+ghost use Rattle.subsetter_base.specs.Indexes.{index_of, new_index};
 ghost use Rattle.subsetter_base.specs.declared.error.Error.TheVariants.{OutOfMemory, MalformedFont};
 ghost use Rattle.subsetter.specs.Glyf.View.{component_seen};
 ghost use Rattle.subsetter.specs.Glyf.Closure.{first_byte_in, others_in};
 ghost use Rattle.subsetter.specs.Glyf.Parts.{rest_size, has_more, has_instructions, component_at, numbers_at, component_numbers, outline_parts};
-ghost use Rattle.subsetter.specs.Glyf.Size.{asked_size};
-ghost use Rattle.subsetter.specs.Glyf.Bare.{flags_asked, tail_asked};
+ghost use Rattle.subsetter.specs.Glyf.Size.{requested_size};
+ghost use Rattle.subsetter.specs.Glyf.Bare.{requested_flags, requested_tail};
 ghost use Rattle.subsetter.specs.Glyf.Plain.{rewritten_composite};
 
 use subsetter_base::read::u16_at;
@@ -100,7 +100,7 @@ fn rest_after<'a>(bytes: &'a [u8], component: Component<'_>) -> &'a [u8]
 
 /// How many of the bytes behind the last component, which has these flags, are its instructions, if they are asked for.
 fn kept_len(flags: u16, behind: &[u8], hinting: bool) -> usize
-    ensures { result ≡ length (tail_asked hinting (if has_instructions flags then behind.now else [])) }
+    ensures { result ≡ length (requested_tail hinting (if has_instructions flags then behind.now else [])) }
 {
     if hinting && has_instructions(flags) {
         behind.len()
@@ -111,7 +111,7 @@ fn kept_len(flags: u16, behind: &[u8], hinting: bool) -> usize
 
 /// Puts a glyph that is not in the order behind those that wait.
 fn push_new(order: &GlyphRemapper, waiting: &mut Vec<u16>, glyph: u16) -> Result<(), Error>
-    ensures ok { OnOk result (waiting.new.items ≡ (if is_some (place order.now glyph) then waiting.old.items else waiting.old.items ++ glyph ∷ [])) }
+    ensures ok { OnOk result (waiting.new.items ≡ (if is_some (index_of order.now glyph) then waiting.old.items else waiting.old.items ++ glyph ∷ [])) }
     ensures err { IfErr result (λ e. e ≡ OutOfMemory) }
 {
     if order.get(glyph).is_none() {
@@ -152,7 +152,7 @@ pub fn push_components(
 ) -> Result<Count, Error>
     requires { 128 ≤ first_byte_in (Some outline.now) }
     ensures ok { OnOk result (waiting.new.items ≡ waiting.old.items ++ others_in order.now (component_numbers outline.now)) }
-    ensures size { IfOk result (λ n. n.cut ≡ false → n.bytes ≡ asked_size hinting (Some outline.now)) }
+    ensures size { IfOk result (λ n. n.cut ≡ false → n.bytes ≡ requested_size hinting (Some outline.now)) }
     ensures cut { IfOk result (λ n. n.cut ≡ true → outline_parts outline.now ≡ None) }
     ensures err { IfErr result (λ e. (e ≡ OutOfMemory) ⊎ ((e ≡ MalformedFont) × (outline_parts outline.now ≡ None))) }
 {
@@ -189,8 +189,8 @@ fn put_number(out: &mut Vec<u8>, at: usize, number: u16)
 }
 
 /// The flags of a component, without that of instructions where these are not asked for.
-fn flags_asked(hinting: bool, flags: u16) -> u16
-    ensures { result ≡ flags_asked hinting flags }
+fn requested_flags(hinting: bool, flags: u16) -> u16
+    ensures { result ≡ requested_flags hinting flags }
 {
     if hinting {
         flags
@@ -208,10 +208,10 @@ fn renumber(
     hinting: bool,
 )
     requires { at + 4 ≤ length out.old.items }
-    ensures { out.new.items ≡ take at out.old.items ++ to_be_bytes w16 (flags_asked hinting component.entry.flags) ++ to_be_bytes w16 (new_index order.now component.entry.glyph) ++ drop (at + 4) out.old.items }
+    ensures { out.new.items ≡ take at out.old.items ++ to_be_bytes w16 (requested_flags hinting component.entry.flags) ++ to_be_bytes w16 (new_index order.now component.entry.glyph) ++ drop (at + 4) out.old.items }
 {
     let number = order.get(component.glyph).unwrap_or(0);
-    put_number(out, at, flags_asked(hinting, component.flags));
+    put_number(out, at, requested_flags(hinting, component.flags));
     put_number(out, at + 2, number);
 }
 

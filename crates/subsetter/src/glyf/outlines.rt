@@ -10,7 +10,7 @@ ghost use Rattle.std.specs.Prelude.{◌≡◌, ◌+◌, ◌<◌, ◌≤◌, ◌^
 ghost use Rattle.std.specs.Iterator.{YieldsFirstBy, item_count};
 ghost use Rattle.subsetter_base.specs.Gives.{Fails};
 ghost use Rattle.subsetter_base.specs.declared.error.Error.TheVariants.{OutOfMemory};
-ghost use Rattle.subsetter.specs.Glyf.Bare.{simple_asked};
+ghost use Rattle.subsetter.specs.Glyf.Bare.{requested_simple};
 ghost use Rattle.subsetter.specs.Glyf.Plain.{rewritten_composite, with_last};
 ghost use Rattle.subsetter.specs.Glyf.Unfold.{padded};
 ghost use Rattle.subsetter.specs.Glyf.View.{outline_bytes};
@@ -101,7 +101,7 @@ impl<'a> OutlineList<'a> {
 
     /// Puts a simple outline of the source last, with its instructions if they are asked for.
     pub fn push_simple(&mut self, outline: &'a [u8]) -> Result<(), Error>
-        ensures ok { OnOk result (self.new.items ≡ self.old.items ++ simple_asked self.old.hinting outline.now ∷ []) }
+        ensures ok { OnOk result (self.new.items ≡ self.old.items ++ requested_simple self.old.hinting outline.now ∷ []) }
         ensures same { OnOk result (self.new.hinting ≡ self.old.hinting) }
         ensures err { IfErr result (λ e. e ≡ OutOfMemory) }
     {
@@ -114,7 +114,7 @@ impl<'a> OutlineList<'a> {
     /// Puts a simple outline that isn't empty last. It is borrowed.
     fn push_kept(&mut self, outline: &'a [u8]) -> Result<(), Error>
         requires { 1 ≤ length outline.now }
-        ensures ok { OnOk result (self.new.items ≡ self.old.items ++ simple_asked self.old.hinting outline.now ∷ []) }
+        ensures ok { OnOk result (self.new.items ≡ self.old.items ++ requested_simple self.old.hinting outline.now ∷ []) }
         ensures same { OnOk result (self.new.hinting ≡ self.old.hinting) }
         ensures err { IfErr result (λ e. e ≡ OutOfMemory) }
     {

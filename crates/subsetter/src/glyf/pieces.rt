@@ -3,7 +3,7 @@
 
 ghost use Rattle.std.specs.Prelude.{◌≡◌, ◌+◌, ◌<◌, ◌^◌, ◌∷◌, ◌++◌, length};
 ghost use Rattle.std.specs.Option.{option_map, unwrap_or};
-ghost use Rattle.subsetter.specs.Glyf.Bare.{bare_simple, simple_asked};
+ghost use Rattle.subsetter.specs.Glyf.Bare.{bare_simple, requested_simple};
 ghost use Rattle.subsetter.specs.Glyf.Unfold.{padded};
 
 use subsetter_base::read::u16_at;
@@ -57,7 +57,7 @@ impl<'a> Outline<'a> {
 
     /// A simple outline of the source, with its instructions if they are asked for.
     pub fn simple(outline: &'a [u8], hinting: bool) -> Self
-        ensures { outline_bytes result ≡ simple_asked hinting outline.now }
+        ensures { outline_bytes result ≡ requested_simple hinting outline.now }
     {
         if hinting {
             return Outline::Whole(outline);

@@ -14,7 +14,7 @@ use Rattle.subsetter_cff.specs.Read.Fields.{field_by, taken_as, holds_as, demand
 use Rattle.subsetter_cff.specs.Read.OperandDemands.{one_string, one_offset, one_range, so_many, top_demands, font_dict_demands}
 use Rattle.subsetter_cff.specs.Read.Opened.{meets}
 use Rattle.subsetter_cff.specs.Read.Operators.{notice_operator, font_box_operator, charset_operator, char_strings_operator, private_operator, copyright_operator, font_matrix_operator, registry_operator, font_dicts_operator, font_dict_select_operator, font_name_operator}
-use Rattle.subsetter_cff.specs.Read.Said.{Said, taken}
+use Rattle.subsetter_cff.specs.Read.Values.{DictValues, taken}
 
 -- an operator that says nothing that is kept
 record IsOther (o : List ℕ) : Type 0 where
@@ -81,7 +81,7 @@ by_field P p1 p2 p3 p4 p5 p6 p7 p8 p9 p10 p11 other o =
       ])
     ]
 
-pub taken_is : (s : Said) (o : List ℕ) (xs : List Number) → taken s o xs ≡ taken_as s (field_by o) xs
+pub taken_is : (s : DictValues) (o : List ℕ) (xs : List Number) → taken s o xs ≡ taken_as s (field_by o) xs
 taken_is s o xs =
     by_field (λ (o : List ℕ) (f : Field). taken s o xs ≡ taken_as s f xs) refl refl refl refl refl refl refl refl refl refl refl
     (λ (o : List ℕ) (e : IsOther o). rw (e.notice, e.copyright, e.font_name, e.charset, e.char_strings, e.font_dicts, e.select, e.private, e.font_matrix, e.font_box, e.registry) refl) o
@@ -174,7 +174,7 @@ many4 (a ∷ b ∷ c ∷ []) = refl
 many4 (a ∷ b ∷ c ∷ d ∷ []) = refl
 many4 (a ∷ b ∷ c ∷ d ∷ e ∷ more) = past4 a b c d e (take 2 more) ∙ sym (past4 a b c d e (take 43 more))
 
-pub few_taken : (s : Said) (f : Field) (xs : List Number) → taken_as s f (take 7 xs) ≡ taken_as s f (take 48 xs)
+pub few_taken : (s : DictValues) (f : Field) (xs : List Number) → taken_as s f (take 7 xs) ≡ taken_as s f (take 48 xs)
 few_taken s fields.Notice xs = ap (λ (o : Option ℕ). record s { notice = o }) (string7 xs)
 few_taken s fields.Copyright xs = ap (λ (o : Option ℕ). record s { copyright = o }) (string7 xs)
 few_taken s fields.FontName xs = ap (λ (o : Option ℕ). record s { font_name = o }) (string7 xs)

@@ -5,7 +5,7 @@ use Rattle.std.specs.Option.{option_map, ok_or}
 use Rattle.std.proofs.lemmas.Bool.{cases_Bool, eqb-true}
 use Rattle.std.proofs.lemmas.Option.{none-some, same_Some}
 use Rattle.subsetter_base.specs.Bytes.{◌>>=◌}
-use Rattle.subsetter_base.specs.Places.{place}
+use Rattle.subsetter_base.specs.Indexes.{index_of}
 use Rattle.subsetter_base.specs.declared.error.Error.{Error}
 use Rattle.subsetter_cff.specs.Read.Opened.{check}
 
@@ -27,7 +27,7 @@ passed false e r y h = absurd cc
 -- ---- places
 pub record In (xs : List ℕ) (x : ℕ) : Type 0 where
   pub at : ℕ
-  pub is : place xs x ≡ Some at
+  pub is : index_of xs x ≡ Some at
 
 pub in_head : (x : ℕ) (ys : List ℕ) → In (x ∷ ys) x
 in_head x ys = record { at = 0; is = grind arith }
@@ -47,13 +47,13 @@ pub in_either : (y : ℕ) (ys : List ℕ) (x : ℕ) → In (y ∷ ys) x → (y �
 in_either y ys x h =
     elim (cases_Bool (eqb y x)) [
       | inl same ↦ inl (eqb-true y x same)
-      | inr other ↦ (let more = behind (place ys x) h.at (rw other at h.is) in inr (record { at = more.0; is = more.1.0 }))
+      | inr other ↦ (let more = behind (index_of ys x) h.at (rw other at h.is) in inr (record { at = more.0; is = more.1.0 }))
     ]
 
-pub number_there : (xs : List ℕ) (x i : ℕ) → place xs x ≡ Some i → slice_get xs i ≡ Some x
+pub number_there : (xs : List ℕ) (x i : ℕ) → index_of xs x ≡ Some i → slice_get xs i ≡ Some x
 number_there [] x i e = absurd (none-some i e)
 number_there (y ∷ ys) x i e =
     elim (cases_Bool (eqb y x)) [
       | inl same ↦ (let zero : 0 ≡ i = same_Some _ _ (rw same at e) in rw (← zero) (ap Some (eqb-true y x same)))
-      | inr other ↦ (let more = behind (place ys x) i (rw other at e) in rw more.1.1 (number_there ys x more.0 more.1.0))
+      | inr other ↦ (let more = behind (index_of ys x) i (rw other at e) in rw more.1.1 (number_there ys x more.0 more.1.0))
     ]

@@ -15,7 +15,7 @@ use Rattle.subsetter_cff.specs.Read.Opened.{opened}
 use Rattle.subsetter_cff.specs.Write.Plain.{KeptGlyph, kept_glyphs, used_numbers, new_font_dicts, parts_for, counted_parts, parts_of, cff_subset}
 use Rattle.subsetter_cff.specs.Read.Fault.{HasGlyphFault, HasStringFault, bad_copyright, bad_notice, bad_font_name}
 use Rattle.subsetter_cff.specs.Write.LimitFault.{HasLimitFault}
-use Rattle.subsetter_cff.specs.Write.CffFault.{HasCffFault, in_opening, in_glyph, in_strings, in_limits, RefusedStands}
+use Rattle.subsetter_cff.specs.Write.CffFault.{HasCffFault, in_opening, in_glyph, in_strings, in_limits, RefusedHasFault}
 use Rattle.subsetter_cff.proofs.ReadLaws.Results.{passed}
 use Rattle.subsetter_cff.proofs.ReadLaws.Refusals.{bind_err, none_of, failed}
 use Rattle.subsetter_cff.proofs.ReadLaws.Faults.{opening_refused}
@@ -86,7 +86,7 @@ parts_refused bytes tokens depth glyphs cff e opened_ok h =
       ]
     ]
 
-pub refused_stands : RefusedStands
+pub refused_stands : RefusedHasFault
 unfolding cff_subset
 refused_stands bytes tokens depth glyphs e h =
     elim (bind_err (opened bytes) _ e h) [

@@ -15,7 +15,7 @@ use Rattle.subsetter_cff.specs.Read.FontDicts.{font_dict_number}
 use Rattle.subsetter_cff.specs.Read.Private.{private_of, own_entries, private_entries}
 use Rattle.subsetter_cff.specs.Read.Matrices.{own_matrix, font_dict_name, thousandth_matrix, zero_box}
 use Rattle.subsetter_cff.specs.Read.Operators.{copyright_operator, notice_operator, font_name_operator, font_matrix_operator}
-use Rattle.subsetter_cff.specs.Write.Layout.{FontDict, Parts, char_strings_place}
+use Rattle.subsetter_cff.specs.Write.Layout.{FontDict, Parts, char_strings_offset}
 use Rattle.subsetter_cff.specs.Write.Made.{new_matrix, MadeGlyph, IsMade}
 use Rattle.subsetter_cff.specs.Read.Opened.{opened}
 use Rattle.subsetter_cff.specs.Write.WrittenNumbers.{any_long, entry_numbers, font_dict_numbers}
@@ -128,8 +128,8 @@ module _ (cff : Cff) (tokens depth : ℕ) (glyphs : List ℕ) (p : Parts) (ok : 
       let small = contained (λ is. length (concat is) + 1 < 2 ^ 32) (written_indexes p) items (indexes_small p answer.limits) (subst (λ r. Contains (written_indexes r) items) (same_parts q laid) inside) in
       absurd (omega (arith, large, small))
   no_limit_fault _ (large_offset q n laid inside large) =
-      let small = contained (λ m. m ≤ char_strings_place p) (written_offsets p) n (offsets_small p) (subst (λ r. Contains (written_offsets r) n) (same_parts q laid) inside) in
-      absurd (omega (arith, large, small, answer.limits.place))
+      let small = contained (λ m. m ≤ char_strings_offset p) (written_offsets p) n (offsets_small p) (subst (λ r. Contains (written_offsets r) n) (same_parts q laid) inside) in
+      absurd (omega (arith, large, small, answer.limits.offset))
 
 -- ---- the whole
 excluded : (bytes : List ℕ) (tokens depth : ℕ) (glyphs : List ℕ) (source : Cff) (p : Parts) (e : Error) → opened bytes ≡ Ok source → parts_of source tokens depth glyphs ≡ Ok p → HasCffFault bytes tokens depth glyphs e → ⊥

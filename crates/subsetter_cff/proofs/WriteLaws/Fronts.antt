@@ -7,13 +7,13 @@ use Rattle.subsetter_cffdata.proofs.Indexes.{index_again}
 use Rattle.subsetter_cffdata.proofs.Dicts.{dict_again}
 use Rattle.subsetter_cff.specs.Read.Cff.{Cff, behind_header, name_index, top_index, string_index, subroutine_index, top_dict, before, name_bytes, cff_parts}
 use Rattle.subsetter_base.specs.Bytes.{first_number}
-use Rattle.subsetter_cff.specs.Write.Layout.{Parts, strings, top_entries, front, places, behind_front, cff_table, header}
+use Rattle.subsetter_cff.specs.Write.Layout.{Parts, strings, top_entries, front, table_offsets, behind_front, cff_table, header}
 use Rattle.subsetter_cff.specs.Write.Fits.{Fits}
 use Rattle.subsetter_cff.proofs.WriteLaws.Tops.{tops}
 use Rattle.subsetter_cff.proofs.WriteLaws.Sizes.{top_fits, strings_fit, none_fit, all_entries_fit}
 
 abbrev top_bytes : Parts → List ℕ
-top_bytes p = dict (top_entries p (places p))
+top_bytes p = dict (top_entries p (table_offsets p))
 
 abbrev behind_strings : Parts → List ℕ
 behind_strings p = index [] ++ behind_front p
@@ -54,9 +54,9 @@ subroutines_read : (p : Parts) → Fits p → subroutine_index (cff_table p) ≡
 unfolding subroutine_index
 subroutines_read p fits = rw (strings_read p fits) (index_again [] none_fit (behind_front p))
 
-top_read : (p : Parts) → Fits p → top_dict (cff_table p) ≡ Some (tops p (places p))
+top_read : (p : Parts) → Fits p → top_dict (cff_table p) ≡ Some (tops p (table_offsets p))
 unfolding top_dict
-top_read p fits = rw (tops_read p fits) (ap Some (dict_again (top_entries p (places p)) (all_entries_fit p fits)))
+top_read p fits = rw (tops_read p fits) (ap Some (dict_again (top_entries p (table_offsets p)) (all_entries_fit p fits)))
 
 before_is : (xs ys : List ℕ) → before (xs ++ ys) ys ≡ xs
 before_is xs ys = take_at xs ys (length (xs ++ ys) - length ys) (omega (arith, length-append xs ys))
@@ -67,7 +67,7 @@ name_bytes_read p fits = rw (header_read p, names_read p fits) (ap Some (before_
 
 -- the table as it is read
 abbrev pub laid_out : Parts → Cff
-laid_out p = record { bytes = cff_table p; names = p.names; top = tops p (places p); strings = map Some (strings p); subroutines = [] }
+laid_out p = record { bytes = cff_table p; names = p.names; top = tops p (table_offsets p); strings = map Some (strings p); subroutines = [] }
 
 pub parts_read : (p : Parts) → Fits p → cff_parts (cff_table p) ≡ Some (laid_out p)
 unfolding cff_parts

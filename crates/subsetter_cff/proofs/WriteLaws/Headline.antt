@@ -6,7 +6,7 @@ use Rattle.std.specs.List.{AllByRecursion, flat_map}
 use Rattle.std.proofs.lemmas.Bool.{cases_Bool}
 use Rattle.std.proofs.lemmas.Option.{none-some, same_Some, slice_get_within}
 use Rattle.std.proofs.lemmas.List.{length-map}
-use Rattle.subsetter_base.specs.Places.{place}
+use Rattle.subsetter_base.specs.Indexes.{index_of}
 use Rattle.subsetter_base.specs.declared.error.Error.TheVariants.{MalformedFont, CFFError}
 use Rattle.subsetter_cffdata.specs.Numbers.{Number}
 use Rattle.subsetter_cffdata.specs.Dict.{Entry}
@@ -102,7 +102,7 @@ some_used : (kept : List KeptGlyph) → 1 ≤ length kept → 1 ≤ length (used
 some_used [] some = absurd (omega arith)
 some_used (k ∷ kept) some = some_with k.number (used_numbers kept)
 
-place_inside : (used : List ℕ) (n : ℕ) (o : Option ℕ) → place used n ≡ o → 1 ≤ length used → unwrap_or o 0 < length used
+place_inside : (used : List ℕ) (n : ℕ) (o : Option ℕ) → index_of used n ≡ o → 1 ≤ length used → unwrap_or o 0 < length used
 place_inside used n None e some = omega (arith, some)
 place_inside used n (Some i) e some = slice_get_within used i n (number_there used n i e)
 
@@ -111,8 +111,8 @@ select_fits cff kept count some is =
     let used = used_numbers kept in
     elim (cases_Bool (is_cid_keyed cff)) [
       | inl cid ↦ rw cid (
-        length-map kept (λ (k : KeptGlyph). unwrap_or (place used k.number) 0) ∙ sym (length-map kept (λ (k : KeptGlyph). k.bytes)),
-        all_map (λ n. n < count) (λ (k : KeptGlyph). unwrap_or (place used k.number) 0) kept (λ k. rw is (place_inside used k.number (place used k.number) refl (some_used kept some))),
+        length-map kept (λ (k : KeptGlyph). unwrap_or (index_of used k.number) 0) ∙ sym (length-map kept (λ (k : KeptGlyph). k.bytes)),
+        all_map (λ n. n < count) (λ (k : KeptGlyph). unwrap_or (index_of used k.number) 0) kept (λ k. rw is (place_inside used k.number (index_of used k.number) refl (some_used kept some))),
       )
       | inr sid ↦ rw (sid, is) (some_used kept some)
     ]
@@ -145,7 +145,7 @@ parts_fit bytes cff tokens depth glyphs kept copyright notice font_name dicts so
       some_glyph = omega (arith, some, count, chars);
       glyph_count = omega (arith, few, count, chars);
       char_strings_size = limits.char_strings_size;
-      place = limits.place;
+      offset = limits.offset;
     }
 
 pub answer_fits : (bytes : List ℕ) (cff : Cff) (tokens depth : ℕ) (glyphs : List ℕ) (p : Parts) → Source bytes cff → 1 ≤ length glyphs → length glyphs ≤ 65535 → parts_of cff tokens depth glyphs ≡ Ok p → Fits p

@@ -6,7 +6,7 @@ use Rattle.std.specs.List.{AllByRecursion}
 use Rattle.std.proofs.lemmas.Bool.{cases_Bool}
 use Rattle.std.proofs.lemmas.Option.{none-some, same_Some}
 use Rattle.subsetter_base.specs.Bytes.{◌>>=◌}
-use Rattle.subsetter_base.specs.Places.{place}
+use Rattle.subsetter_base.specs.Indexes.{index_of}
 use Rattle.subsetter_base.specs.declared.error.Error.TheVariants.{MalformedFont}
 use Rattle.subsetter_type2.specs.Flat.{flat_form}
 use Rattle.subsetter_cff.specs.Read.Cff.{Cff, char_string, is_cid_keyed}
@@ -115,7 +115,7 @@ zero_number [] i k all at = absurd (none-some k at)
 zero_number (l ∷ kept) zero k all at = ap (λ (x : KeptGlyph). x.number) (sym (same_Some _ _ at)) ∙ all.0
 zero_number (l ∷ kept) (suc i) k all at = zero_number kept i k all.1 at
 
-pub zero_first : (k : KeptGlyph) (kept : List KeptGlyph) (i : ℕ) → AllZero kept → slice_get kept i ≡ Some k → place (used_numbers kept) k.number ≡ Some 0
+pub zero_first : (k : KeptGlyph) (kept : List KeptGlyph) (i : ℕ) → AllZero kept → slice_get kept i ≡ Some k → index_of (used_numbers kept) k.number ≡ Some 0
 zero_first k [] i all at = absurd (none-some k at)
 zero_first k (l ∷ kept) i all at = rw (used_of_zeros l kept all, zero_number (l ∷ kept) i k all at) refl
 

@@ -3,8 +3,8 @@ use Rattle.std.proofs.Common.{◌≡◌, ℕ, zero, suc, ◌+◌, ◌^◌, ◌<�
 use Rattle.std.specs.Prelude.{Contains, slice_index_or}
 use Rattle.std.specs.List.{AllByRecursion, concat}
 use Rattle.subsetter_cffdata.specs.Dict.{dict}
-use Rattle.subsetter_cff.specs.Write.Layout.{FontDict, Parts, strings, top_entries, places, private_bytes, privates, font_dicts_from, privates_place, char_strings_place, font_dicts_of}
-use Rattle.subsetter_cff.specs.Write.LimitFault.{written_indexes, private_places, written_offsets}
+use Rattle.subsetter_cff.specs.Write.Layout.{FontDict, Parts, strings, top_entries, table_offsets, private_bytes, privates, font_dicts_from, privates_offset, char_strings_offset, font_dicts_of}
+use Rattle.subsetter_cff.specs.Write.LimitFault.{written_indexes, private_offsets, written_offsets}
 use Rattle.subsetter_cff.proofs.WriteLaws.MadeOf.{Limits}
 use Rattle.subsetter_cff.proofs.WriteLaws.Places.{length-front}
 use Rattle.subsetter_cff.proofs.WriteLaws.Sizes.{index_holds, in_front}
@@ -18,21 +18,21 @@ at_place P (y ∷ xs) (suc k) x all lt is = at_place P xs k x all.1 (omega arith
 pub contained : {A : Type 0} (P : A → Type 0) (xs : List A) (x : A) → AllByRecursion P xs → Contains xs x → P x
 contained P xs x all inside = at_place P xs inside.0 x all inside.1 inside.2
 
-private_small : (place limit : ℕ) (fs : List FontDict) → place + length (privates fs) ≤ limit → AllByRecursion (λ m. m ≤ limit) (private_places place fs)
+private_small : (place limit : ℕ) (fs : List FontDict) → place + length (privates fs) ≤ limit → AllByRecursion (λ m. m ≤ limit) (private_offsets place fs)
 private_small place limit [] le = tt
 private_small place limit (f ∷ fs) le =
     let whole = length-append (private_bytes f) (privates fs) in
     (omega (arith, le, whole), (omega (arith, le), private_small (place + length (private_bytes f)) limit fs (omega (arith, le, whole))))
 
-pub offsets_small : (p : Parts) → AllByRecursion (λ m. m ≤ char_strings_place p) (written_offsets p)
-offsets_small p = (omega arith, (omega arith, (omega arith, (omega arith, private_small (privates_place p) (char_strings_place p) p.font_dicts (omega arith)))))
+pub offsets_small : (p : Parts) → AllByRecursion (λ m. m ≤ char_strings_offset p) (written_offsets p)
+offsets_small p = (omega arith, (omega arith, (omega arith, (omega arith, private_small (privates_offset p) (char_strings_offset p) p.font_dicts (omega arith)))))
 
-font_dicts_small : (p : Parts) → char_strings_place p < 2 ^ 31 → length (concat (font_dicts_from (strings p) (privates_place p) p.font_dicts)) + 1 < 2 ^ 32
+font_dicts_small : (p : Parts) → char_strings_offset p < 2 ^ 31 → length (concat (font_dicts_from (strings p) (privates_offset p) p.font_dicts)) + 1 < 2 ^ 32
 unfolding font_dicts_of
-font_dicts_small p lt = omega (arith, lt, index_holds (font_dicts_from (strings p) (privates_place p) p.font_dicts))
+font_dicts_small p lt = omega (arith, lt, index_holds (font_dicts_from (strings p) (privates_offset p) p.font_dicts))
 
 pub indexes_small : (p : Parts) → Limits p → AllByRecursion (λ items. length (concat items) + 1 < 2 ^ 32) (written_indexes p)
 indexes_small p limits = (
-  omega (arith, limits.place, index_holds (dict (top_entries p (places p)) ∷ []), in_front p (places p), length-front p (places p)),
-  (omega (arith, limits.place, index_holds (strings p), in_front p (places p), length-front p (places p)), (font_dicts_small p limits.place, (limits.char_strings_size, tt))),
+  omega (arith, limits.offset, index_holds (dict (top_entries p (table_offsets p)) ∷ []), in_front p (table_offsets p), length-front p (table_offsets p)),
+  (omega (arith, limits.offset, index_holds (strings p), in_front p (table_offsets p), length-front p (table_offsets p)), (font_dicts_small p limits.offset, (limits.char_strings_size, tt))),
 )

@@ -14,7 +14,7 @@ use Rattle.subsetter_cff.specs.Read.Cff.{Cff, is_cid_keyed}
 use Rattle.subsetter_cff.specs.Read.Private.{Private, own_entries, private_of, private_entries}
 use Rattle.subsetter_cff.specs.Read.Matrices.{thousandth_matrix, unit_matrix, zero_box, own_matrix}
 use Rattle.subsetter_cff.specs.Read.Operators.{font_matrix_operator, font_box_operator}
-use Rattle.subsetter_cff.specs.Write.Layout.{FontDict, Parts, char_strings_place}
+use Rattle.subsetter_cff.specs.Write.Layout.{FontDict, Parts, char_strings_offset}
 use Rattle.subsetter_cff.specs.Write.Made.{new_matrix}
 use Rattle.subsetter_cff.specs.Read.OperandDemands.{so_many, top_demands}
 use Rattle.subsetter_cff.specs.Write.WrittenNumbers.{any_long, entry_numbers, font_dict_numbers, written_numbers}
@@ -125,8 +125,8 @@ limit_stands cff tokens depth glyphs kept p e sound are made h =
       | inl over ↦ subst F over.1 (long_stands cff tokens depth glyphs kept p sound are made (not_false (any_long (written_numbers p)) over.0))
       | inr h2 ↦ elim (failed (ltb (length (concat p.char_strings) + 1) (2 ^ 32)) OverflowError e _ h2.1) [
         | inl over ↦ subst F over.1 (large_index p p.char_strings laid (3, omega arith, refl) (ltb-false (length (concat p.char_strings) + 1) (2 ^ 32) over.0))
-        | inr h3 ↦ elim (failed (ltb (char_strings_place p) (2 ^ 31)) OverflowError e _ h3.1) [
-          | inl over ↦ subst F over.1 (large_offset p (char_strings_place p) laid (0, omega arith, refl) (ltb-false (char_strings_place p) (2 ^ 31) over.0))
+        | inr h3 ↦ elim (failed (ltb (char_strings_offset p) (2 ^ 31)) OverflowError e _ h3.1) [
+          | inl over ↦ subst F over.1 (large_offset p (char_strings_offset p) laid (0, omega arith, refl) (ltb-false (char_strings_offset p) (2 ^ 31) over.0))
           | inr h4 ↦ absurd (no_error p e h4.1)
         ]
       ]

@@ -11,14 +11,14 @@ use Rattle.subsetter_cffdata.specs.Dict.{dict}
 use Rattle.subsetter_cffdata.specs.Index.{index}
 use Rattle.subsetter_cffdata.specs.Numbers.{Number, is_too_long}
 use Rattle.subsetter_cff.specs.declared.write.table.TableParts.{TableParts}
-use Rattle.subsetter_cff.specs.Write.Layout.{FontDict, Parts, Offsets, strings, front, nowhere, placed_entries, top_of, charset_bytes, select_bytes, privates, private_bytes, font_dicts_from, font_dicts_of, top_entries, char_strings_place}
+use Rattle.subsetter_cff.specs.Write.Layout.{FontDict, Parts, Offsets, strings, front, nowhere, placed_entries, top_of, charset_bytes, select_bytes, privates, private_bytes, font_dicts_from, font_dicts_of, top_entries, char_strings_offset}
 use Rattle.subsetter_cff.specs.Write.FrontDraft.{named_bytes}
 use Rattle.subsetter_cff.specs.Write.PartsView.{font_dict_view, parts_view, top_by, front_by, select_of_table, HasCharStrings}
 use Rattle.subsetter_cff.specs.Read.Opened.{check}
 use Rattle.subsetter_cff.specs.Write.Plain.{limited}
 use Rattle.subsetter_cff.specs.Write.WrittenNumbers.{any_long, entry_numbers, font_dict_numbers, written_numbers}
 use Rattle.subsetter_cff.specs.Write.TableBy.{front_size, new_dicts}
-use Rattle.subsetter_cff.specs.Write.TableLimits.{limit, short, is_offset, has_index, numbers_limits, front_limits, dict_limits, dicts_limits, pieces_limits, places_limits, laid_limits, table_limits}
+use Rattle.subsetter_cff.specs.Write.TableLimits.{limit, short, is_offset, has_index, numbers_limits, front_limits, dict_limits, dicts_limits, pieces_limits, offset_limits, laid_limits, table_limits}
 use Rattle.subsetter_cff.proofs.WriteLaws.FlatIndexes.{length-ends}
 use Rattle.subsetter_cff.proofs.WriteLaws.FrontDrafts.{top_split}
 use Rattle.subsetter_cff.proofs.WriteLaws.Places.{length-placed}
@@ -60,8 +60,8 @@ pieces_either texts t glyphs size =
     let place = size + length (charset_bytes glyphs) in
     then_either tt _ _ (limit_either (is_offset place)) (then_either tt _ _ (dicts_either place (new_dicts t)) (limit_either (has_index (font_dicts_from texts place (new_dicts t)))))
 
-places_either : (size charset private select dicts : ℕ) → Either tt (places_limits size charset private select dicts)
-unfolding places_limits
+places_either : (size charset private select dicts : ℕ) → Either tt (offset_limits size charset private select dicts)
+unfolding offset_limits
 places_either size charset private select dicts =
     then_either tt _ _ (limit_either (is_offset (size + charset))) (then_either tt _ _ (limit_either (is_offset (size + charset + private)))
     (then_either tt _ _ (limit_either (is_offset (size + charset + private + select))) (limit_either (is_offset (size + charset + private + select + dicts)))))
@@ -79,7 +79,7 @@ table_either texts t glyphs =
 record Kept (p : Parts) : Type 0 where
   short_numbers : any_long (written_numbers p) ≡ false
   size : length (concat p.char_strings) + 1 < 2 ^ 32
-  place : char_strings_place p < 2 ^ 31
+  offset : char_strings_offset p < 2 ^ 31
 
 not_true : (b : Bool) → cond b false true ≡ true → b ≡ false
 not_true true e = absurd cc
@@ -90,11 +90,11 @@ unfolding limited
 kept_of p q e =
     let b = passed (cond (any_long (written_numbers p)) false true) OverflowError _ q e in
     let c = passed (nat_lt (length (concat p.char_strings) + 1) (2 ^ 32)) OverflowError _ q b.1 in
-    let d = passed (nat_lt (char_strings_place p) (2 ^ 31)) OverflowError _ q c.1 in
+    let d = passed (nat_lt (char_strings_offset p) (2 ^ 31)) OverflowError _ q c.1 in
     record {
       short_numbers = not_true (any_long (written_numbers p)) b.0;
       size = ltb-true (length (concat p.char_strings) + 1) (2 ^ 32) c.0;
-      place = ltb-true (char_strings_place p) (2 ^ 31) d.0;
+      offset = ltb-true (char_strings_offset p) (2 ^ 31) d.0;
     }
 
 -- they are kept, or they are not
@@ -106,12 +106,12 @@ limited_either : (p : Parts) → Either p (limited p)
 unfolding limited
 limited_either p =
     check_either p (cond (any_long (written_numbers p)) false true) _
-    (check_either p (nat_lt (length (concat p.char_strings) + 1) (2 ^ 32)) _ (check_either p (nat_lt (char_strings_place p) (2 ^ 31)) _ (inl refl)))
+    (check_either p (nat_lt (length (concat p.char_strings) + 1) (2 ^ 32)) _ (check_either p (nat_lt (char_strings_offset p) (2 ^ 31)) _ (inl refl)))
 
 limits_hold : (p : Parts) → Kept p → limited p ≡ Ok p
 unfolding limited
 limits_hold p k =
-    rw (k.short_numbers, lt-ltb (length (concat p.char_strings) + 1) (2 ^ 32) k.size, lt-ltb (char_strings_place p) (2 ^ 31) k.place) refl
+    rw (k.short_numbers, lt-ltb (length (concat p.char_strings) + 1) (2 ^ 32) k.size, lt-ltb (char_strings_offset p) (2 ^ 31) k.offset) refl
 
 -- ---- what was checked is kept
 is_kept : (b : Bool) (x : Unit {0}) → limit b ≡ Ok x → b ≡ true
@@ -158,8 +158,8 @@ pieces_kept texts t glyphs size x e =
     let b = bind_ok (dicts_limits place (new_dicts t)) _ x a.1.1 in
     dicts_kept place (new_dicts t) b.0 b.1.0
 
-places_kept : (size charset private select dicts : ℕ) (x : Unit {0}) → places_limits size charset private select dicts ≡ Ok x → size + charset + private + select + dicts < 2 ^ 31
-unfolding places_limits
+places_kept : (size charset private select dicts : ℕ) (x : Unit {0}) → offset_limits size charset private select dicts ≡ Ok x → size + charset + private + select + dicts < 2 ^ 31
+unfolding offset_limits
 places_kept size charset private select dicts x e =
     let a = bind_ok (limit (is_offset (size + charset))) _ x e in
     let b = bind_ok (limit (is_offset (size + charset + private))) _ x a.1.1 in
@@ -186,7 +186,7 @@ front_is : (t : TableParts) (cs : List (List ℕ)) → front (parts_view t cs) n
 unfolding front front_by index
 front_is t cs = refl
 
-place_is : (t : TableParts) (cs : List (List ℕ)) → char_strings_place (parts_view t cs) ≡ place_by (strings (parts_view t cs)) t (length cs) (front_size (strings (parts_view t cs)) t)
+place_is : (t : TableParts) (cs : List (List ℕ)) → char_strings_offset (parts_view t cs) ≡ place_by (strings (parts_view t cs)) t (length cs) (front_size (strings (parts_view t cs)) t)
 unfolding front front_by font_dicts_of index
 place_is t cs = refl
 
@@ -202,7 +202,7 @@ table_kept t cs x same e =
     record {
       short_numbers = both_short (top_by texts t).matrix ((top_by texts t).box ++ flat_map font_dict_numbers (new_dicts t)) top.0 (both_short (top_by texts t).box (flat_map font_dict_numbers (new_dicts t)) top.1 laid.0);
       size = omega (arith, size, ap length same);
-      place = omega (arith, laid.1, place_is t cs);
+      offset = omega (arith, laid.1, place_is t cs);
     }
 
 -- ---- what is kept passes the checks
@@ -232,7 +232,7 @@ front_passes t cs few k =
     let p = parts_view t cs in
     let behind = short_back p.matrix _ k.short_numbers in
     let room = in_front p nowhere in
-    let whole : front_size (strings p) t < 2 ^ 31 = omega (arith, k.place, place_is t cs) in
+    let whole : front_size (strings p) t < 2 ^ 31 = omega (arith, k.offset, place_is t cs) in
     let same : length (front p nowhere) ≡ front_size (strings p) t = ap length (front_is t cs) in
     goes_on _ _ (goes_on _ _ (short_holds p.matrix (short_front p.matrix _ k.short_numbers)) (short_holds p.box (short_front p.box _ behind)))
     (goes_on _ _ (offset_holds (length (named_bytes (top_of p)) + 33) (omega (arith, named_in_top p nowhere, room, same, whole)))
@@ -259,8 +259,8 @@ pieces_pass texts t glyphs size few e lt =
     goes_on _ _ (offset_holds place (omega (arith, lt))) (goes_on _ _ (dicts_pass place (new_dicts t) e (omega (arith, lt)))
     (index_there items (omega (arith, length-font_dicts_from texts place (new_dicts t), length-map t.font_dicts.items font_dict_view, few)) (omega (arith, lt))))
 
-places_pass : (size charset private select dicts : ℕ) → size + charset + private + select + dicts < 2 ^ 31 → places_limits size charset private select dicts ≡ Ok tt
-unfolding places_limits
+places_pass : (size charset private select dicts : ℕ) → size + charset + private + select + dicts < 2 ^ 31 → offset_limits size charset private select dicts ≡ Ok tt
+unfolding offset_limits
 places_pass size charset private select dicts lt =
     goes_on _ _ (offset_holds (size + charset) (omega arith)) (goes_on _ _ (offset_holds (size + charset + private) (omega arith))
     (goes_on _ _ (offset_holds (size + charset + private + select) (omega arith)) (offset_holds (size + charset + private + select + dicts) lt)))
@@ -271,7 +271,7 @@ laid_passes t cs few k =
     let p = parts_view t cs in
     let texts = strings p in
     let dicts = short_back p.box (flat_map font_dict_numbers p.font_dicts) (short_back p.matrix _ k.short_numbers) in
-    let place : place_by texts t (length cs) (front_size texts t) < 2 ^ 31 = omega (arith, k.place, place_is t cs) in
+    let place : place_by texts t (length cs) (front_size texts t) < 2 ^ 31 = omega (arith, k.offset, place_is t cs) in
     goes_on _ _ (pieces_pass texts t (length cs) (front_size texts t) few dicts place) (places_pass (front_size texts t) _ _ _ _ place)
 
 table_passes : (t : TableParts) (cs : List (List ℕ)) → t.char_strings.items ≡ concat cs → length t.font_dicts.items ≤ 256 → Kept (parts_view t cs) → table_limits (strings (parts_view t cs)) t (length cs) ≡ Ok tt

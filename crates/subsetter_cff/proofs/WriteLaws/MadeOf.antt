@@ -6,13 +6,13 @@ use Rattle.std.specs.List.{concat}
 use Rattle.std.proofs.lemmas.Bool.{cases_Bool, ltb-true}
 use Rattle.std.proofs.lemmas.List.{length-map}
 use Rattle.std.proofs.lemmas.Option.{same_Some, slice_get-map, get_or_from_slice_get}
-use Rattle.subsetter_base.specs.Places.{place}
+use Rattle.subsetter_base.specs.Indexes.{index_of}
 use Rattle.subsetter_base.specs.declared.error.Error.TheVariants.{SubsetError, OverflowError}
 use Rattle.subsetter_cff.specs.Read.Strings.{FontString, standard_strings, string_at}
 use Rattle.subsetter_cff.specs.Read.Cff.{Cff, is_cid_keyed}
 use Rattle.subsetter_cff.specs.Read.Private.{own_entries}
 use Rattle.subsetter_cff.specs.Read.Operators.{copyright_operator, notice_operator, font_name_operator}
-use Rattle.subsetter_cff.specs.Write.Layout.{FontDict, Parts, strings, char_strings_place}
+use Rattle.subsetter_cff.specs.Write.Layout.{FontDict, Parts, strings, char_strings_offset}
 use Rattle.subsetter_cff.specs.Write.ReadsAs.{number_in}
 use Rattle.subsetter_cff.specs.Write.Made.{MadeGlyph, IsMade}
 use Rattle.subsetter_cff.specs.Write.WrittenNumbers.{any_long, written_numbers}
@@ -55,7 +55,7 @@ parts_steps cff kept p e =
     }
 
 -- ---- a glyph
-new_number : (used : List ℕ) (k : KeptGlyph) (j : ℕ) (o : Option KeptGlyph) → o ≡ Some k → place used k.number ≡ Some j → option_map (λ (l : KeptGlyph). unwrap_or (place used l.number) 0) o ≡ Some j
+new_number : (used : List ℕ) (k : KeptGlyph) (j : ℕ) (o : Option KeptGlyph) → o ≡ Some k → index_of used k.number ≡ Some j → option_map (λ (l : KeptGlyph). unwrap_or (index_of used l.number) 0) o ≡ Some j
 new_number used k j o e is = rw (e, is) refl
 
 pub bytes_of : (k : KeptGlyph) (o : Option KeptGlyph) → o ≡ Some k → option_map (λ (l : KeptGlyph). l.bytes) o ≡ Some k.bytes
@@ -63,11 +63,11 @@ bytes_of k o e = rw e refl
 
 -- the new number of its font dict
 pub selects : (cff : Cff) (tokens depth : ℕ) (glyphs : List ℕ) (kept : List KeptGlyph) (i j : ℕ) (k : KeptGlyph) → kept_glyphs cff tokens depth glyphs ≡ Ok kept → slice_get kept i ≡ Some k
-    → place (used_numbers kept) k.number ≡ Some j → number_in (new_select cff (used_numbers kept) kept) i ≡ j
+    → index_of (used_numbers kept) k.number ≡ Some j → number_in (new_select cff (used_numbers kept) kept) i ≡ j
 selects cff tokens depth glyphs kept i j k e at is =
     elim (cases_Bool (is_cid_keyed cff)) [
-      | inl cid ↦ rw cid (get_or_from_slice_get (map (λ (l : KeptGlyph). unwrap_or (place (used_numbers kept) l.number) 0) kept) i j 0
-          (slice_get-map (λ (l : KeptGlyph). unwrap_or (place (used_numbers kept) l.number) 0) kept i ∙ new_number (used_numbers kept) k j (slice_get kept i) at is))
+      | inl cid ↦ rw cid (get_or_from_slice_get (map (λ (l : KeptGlyph). unwrap_or (index_of (used_numbers kept) l.number) 0) kept) i j 0
+          (slice_get-map (λ (l : KeptGlyph). unwrap_or (index_of (used_numbers kept) l.number) 0) kept i ∙ new_number (used_numbers kept) k j (slice_get kept i) at is))
       | inr sid ↦ rw sid (same_Some _ _ (sym (zero_first k kept i (zeros cff tokens depth glyphs kept sid e) at) ∙ is))
     ]
 
@@ -132,7 +132,7 @@ pub record Limits (p : Parts) : Type 0 where
   pub string_count : length (strings p) + standard_strings ≤ 65536
   pub short : any_long (written_numbers p) ≡ false
   pub char_strings_size : length (concat p.char_strings) + 1 < 2 ^ 32
-  pub place : char_strings_place p < 2 ^ 31
+  pub offset : char_strings_offset p < 2 ^ 31
 
 not_true : (b : Bool) → cond b false true ≡ true → b ≡ false
 not_true true e = absurd cc
@@ -143,13 +143,13 @@ unfolding limited
 limit_steps p q few e =
     let c = passed (cond (any_long (written_numbers p)) false true) OverflowError _ q e in
     let d = passed (ltb (length (concat p.char_strings) + 1) (2 ^ 32)) OverflowError _ q c.1 in
-    let f = passed (ltb (char_strings_place p) (2 ^ 31)) OverflowError _ q d.1 in (
+    let f = passed (ltb (char_strings_offset p) (2 ^ 31)) OverflowError _ q d.1 in (
       record {
         font_dict_count = omega (arith, few);
         string_count = omega (arith, few_strings p, few);
         short = not_true (any_long (written_numbers p)) c.0;
         char_strings_size = ltb-true (length (concat p.char_strings) + 1) (2 ^ 32) d.0;
-        place = ltb-true (char_strings_place p) (2 ^ 31) f.0;
+        offset = ltb-true (char_strings_offset p) (2 ^ 31) f.0;
       },
       same_Ok p q f.1,
     )

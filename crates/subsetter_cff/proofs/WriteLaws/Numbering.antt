@@ -3,7 +3,7 @@ use Rattle.std.proofs.Common.{◌≡◌, ℕ, ◌+◌, ◌≤◌, Bool, true, fa
 use Rattle.std.specs.Prelude.{unwrap_or, is_some, codes}
 use Rattle.std.specs.Option.{option_map}
 use Rattle.std.specs.Str.{bytes_eq}
-use Rattle.subsetter_base.specs.Remap.{with_value, place_by}
+use Rattle.subsetter_base.specs.Remap.{with_value, index_by}
 use Rattle.std.specs.List.{flat_map}
 use Rattle.subsetter_cff.specs.declared.write.table.FontDictParts.{FontDictParts}
 use Rattle.subsetter_cff.specs.declared.write.table.TableParts.{TableParts}
@@ -15,8 +15,8 @@ numbered : (o : Option ℕ) → unwrap_or (option_map (λ i. standard_strings + 
 numbered None = refl
 numbered (Some i) = refl
 
-pub number_is : (texts : List (List ℕ)) (s : List ℕ) → unwrap_or (option_map (λ i. standard_strings + i) (place_by bytes_eq texts s)) standard_strings ≡ standard_strings + unwrap_or (place_by bytes_eq texts s) 0
-number_is texts s = numbered (place_by bytes_eq texts s)
+pub number_is : (texts : List (List ℕ)) (s : List ℕ) → unwrap_or (option_map (λ i. standard_strings + i) (index_by bytes_eq texts s)) standard_strings ≡ standard_strings + unwrap_or (index_by bytes_eq texts s) 0
+number_is texts s = numbered (index_by bytes_eq texts s)
 
 pub behind_strings : (found xs ys : List (List ℕ)) → with_strings found (xs ++ ys) ≡ with_strings (with_strings found xs) ys
 behind_strings found [] ys = refl
@@ -27,7 +27,7 @@ longer true xs x = omega arith
 longer false xs x = omega (arith, length-append xs (x ∷ []))
 
 pub longer_by_one : (xs : List (List ℕ)) (x : List ℕ) → length (with_value bytes_eq xs x) ≤ length xs + 1
-longer_by_one xs x = longer (is_some (place_by bytes_eq xs x)) xs x
+longer_by_one xs x = longer (is_some (index_by bytes_eq xs x)) xs x
 
 -- five strings and those of the font dicts
 pub all_numbered : (p : Parts) (t0 t1 t2 t3 t4 t5 t6 a b c d : List (List ℕ)) → t0 ≡ [] → t1 ≡ with_strings t0 (codes "Adobe" ∷ []) → t2 ≡ with_strings t1 (codes "Identity" ∷ []) → t3 ≡ with_strings t2 a → t4 ≡ with_strings t3 b

@@ -8,7 +8,7 @@ use Rattle.std.proofs.lemmas.List.{append-nil}
 use Rattle.std.proofs.lemmas.Option.{none-some, same_Some, slice_get-get_or}
 use Rattle.subsetter_base.specs.Bytes.{◌>>=◌}
 use Rattle.subsetter_base.specs.Gives.{Fails}
-use Rattle.subsetter_base.specs.Places.{place, new_index}
+use Rattle.subsetter_base.specs.Indexes.{index_of, new_index}
 use Rattle.subsetter_base.specs.declared.error.Error.{Error}
 use Rattle.subsetter_base.specs.declared.error.Error.TheVariants.{MalformedFont, SubsetError, OverflowError}
 use Rattle.subsetter_cffdata.specs.Dict.{Entry, entries}
@@ -179,9 +179,9 @@ parts_made s t numbers used is a b c u d chosen names matrix box =
     ∙ from_pieces (cff_of s) (string_view t.copyright) (string_view t.font_name) (string_view t.notice) (map font_dict_view t.font_dicts.items) (select_by (cff_of s) used numbers) _ _ _ _ a b c d
     ∙ ap (λ (p : Parts). Ok p) (same_parts s t (select_by (cff_of s) used numbers) is names matrix box chosen)
 
-numbers_mapped : (used : List ℕ) (kept : List KeptGlyph) → map (λ (k : KeptGlyph). unwrap_or (place used k.number) 0) kept ≡ map (new_index used) (numbers_of kept)
+numbers_mapped : (used : List ℕ) (kept : List KeptGlyph) → map (λ (k : KeptGlyph). unwrap_or (index_of used k.number) 0) kept ≡ map (new_index used) (numbers_of kept)
 numbers_mapped used [] = refl
-numbers_mapped used (k ∷ kept) = ap (λ (l : List ℕ). unwrap_or (place used k.number) 0 ∷ l) (numbers_mapped used kept)
+numbers_mapped used (k ∷ kept) = ap (λ (l : List ℕ). unwrap_or (index_of used k.number) 0 ∷ l) (numbers_mapped used kept)
 
 by_glyphs : (cff : Cff) (kept : List KeptGlyph) → parts_for cff kept ≡ parts_with cff (texts_of kept) (used_numbers kept) (new_select cff (used_numbers kept) kept)
 unfolding parts_for

@@ -3,12 +3,12 @@ use Rattle.std.proofs.Common.{◌≡◌, ℕ, suc, ◌+◌, List, [], ◌∷◌,
 use Rattle.std.specs.Int.{bytes_high_first}
 use Rattle.std.proofs.lemmas.List.{drop_at, append-nil}
 use Rattle.std.proofs.lemmas.List.Concat.{flat_map-append}
-use Rattle.subsetter_cffdata.specs.Bytes.{StandsAt}
+use Rattle.subsetter_cffdata.specs.Bytes.{IsAt}
 use Rattle.subsetter_cffdata.specs.Index.{index, header as index_header, offset_size, numbers}
 use Rattle.subsetter_cffdata.specs.Numbers.{integer as written_integer}
 use Rattle.subsetter_cffdata.specs.Dict.{NewEntry, entry_bytes, dict}
 use Rattle.subsetter_cff.specs.Read.Operators.{copyright_operator, notice_operator, font_name_operator, font_matrix_operator, font_box_operator}
-use Rattle.subsetter_cff.specs.Write.Layout.{Parts, Offsets, strings, string_entries, plain_entry, registry_entry, placed_entries, top_entries, top_entries_by, front, nowhere, places, charset_of, privates, select_of, font_dicts_of, charset_place, privates_place, select_place, font_dicts_place, char_strings_place, cff_table}
+use Rattle.subsetter_cff.specs.Write.Layout.{Parts, Offsets, strings, string_entries, plain_entry, registry_entry, placed_entries, top_entries, top_entries_by, front, nowhere, table_offsets, charset_of, privates, select_of, font_dicts_of, charset_offset, privates_offset, fd_select_offset, fd_array_offset, char_strings_offset, cff_table}
 
 -- ---- the length of the front doesn't depend on the places
 same_header : (d e : List ℕ) → length d ≡ length e → index_header (d ∷ []) ≡ index_header (e ∷ [])
@@ -54,42 +54,42 @@ length-front p o =
     ap (λ (n : ℕ). suc (suc (suc (suc n)))) (between p.names (index (dict (top_entries p o) ∷ [])) (index (dict (top_entries p nowhere) ∷ [])) (index (strings p) ++ index []) top)
 
 -- ---- the parts
-stands_behind : (table before piece after : List ℕ) (n : ℕ) → table ≡ before ++ (piece ++ after) → n ≡ length before → StandsAt table n piece
+stands_behind : (table before piece after : List ℕ) (n : ℕ) → table ≡ before ++ (piece ++ after) → n ≡ length before → IsAt table n piece
 stands_behind table before piece after n e at = (after, rw (e, at) (drop_at before (piece ++ after) (length before) refl))
 
-pub charset_stands : (p : Parts) → StandsAt (cff_table p) (charset_place p) (charset_of p)
+pub charset_stands : (p : Parts) → IsAt (cff_table p) (charset_offset p) (charset_of p)
 unfolding cff_table
-charset_stands p = stands_behind _ (front p (places p)) (charset_of p) _ (charset_place p) refl (sym (length-front p (places p)))
+charset_stands p = stands_behind _ (front p (table_offsets p)) (charset_of p) _ (charset_offset p) refl (sym (length-front p (table_offsets p)))
 
 -- what stands in front of the private dicts
 abbrev pub before_privates : Parts → List ℕ
-before_privates p = front p (places p) ++ charset_of p
+before_privates p = front p (table_offsets p) ++ charset_of p
 
-pub length-before_privates : (p : Parts) → length (before_privates p) ≡ privates_place p
-length-before_privates p = omega (arith, length-front p (places p), length-append (front p (places p)) (charset_of p))
+pub length-before_privates : (p : Parts) → length (before_privates p) ≡ privates_offset p
+length-before_privates p = omega (arith, length-front p (table_offsets p), length-append (front p (table_offsets p)) (charset_of p))
 
 pub privates_in_table : (p : Parts) → cff_table p ≡ before_privates p ++ (privates p.font_dicts ++ (select_of p ++ (font_dicts_of p ++ index p.char_strings)))
 unfolding cff_table
-privates_in_table p = sym (append_assoc (front p (places p)) (charset_of p) (privates p.font_dicts ++ (select_of p ++ (font_dicts_of p ++ index p.char_strings))))
+privates_in_table p = sym (append_assoc (front p (table_offsets p)) (charset_of p) (privates p.font_dicts ++ (select_of p ++ (font_dicts_of p ++ index p.char_strings))))
 
-pub select_stands : (p : Parts) → StandsAt (cff_table p) (select_place p) (select_of p)
+pub select_stands : (p : Parts) → IsAt (cff_table p) (fd_select_offset p) (select_of p)
 select_stands p =
     let before = before_privates p ++ privates p.font_dicts in
     let after = font_dicts_of p ++ index p.char_strings in
-    stands_behind _ before (select_of p) after (select_place p) (privates_in_table p ∙ sym (append_assoc (before_privates p) (privates p.font_dicts) (select_of p ++ after)))
+    stands_behind _ before (select_of p) after (fd_select_offset p) (privates_in_table p ∙ sym (append_assoc (before_privates p) (privates p.font_dicts) (select_of p ++ after)))
     (omega (arith, length-before_privates p, length-append (before_privates p) (privates p.font_dicts)))
 
-pub font_dicts_stand : (p : Parts) → StandsAt (cff_table p) (font_dicts_place p) (font_dicts_of p)
+pub font_dicts_stand : (p : Parts) → IsAt (cff_table p) (fd_array_offset p) (font_dicts_of p)
 font_dicts_stand p =
     let first = before_privates p ++ privates p.font_dicts in
     let before = first ++ select_of p in
     let after = font_dicts_of p ++ index p.char_strings in
     let whole : cff_table p ≡ before ++ after =
     privates_in_table p ∙ sym (append_assoc (before_privates p) (privates p.font_dicts) (select_of p ++ after)) ∙ sym (append_assoc first (select_of p) after) in
-    stands_behind _ before (font_dicts_of p) (index p.char_strings) (font_dicts_place p) whole
+    stands_behind _ before (font_dicts_of p) (index p.char_strings) (fd_array_offset p) whole
     (omega (arith, length-before_privates p, length-append (before_privates p) (privates p.font_dicts), length-append first (select_of p)))
 
-pub char_strings_stand : (p : Parts) → StandsAt (cff_table p) (char_strings_place p) (index p.char_strings)
+pub char_strings_stand : (p : Parts) → IsAt (cff_table p) (char_strings_offset p) (index p.char_strings)
 char_strings_stand p =
     let first = before_privates p ++ privates p.font_dicts in
     let second = first ++ select_of p in
@@ -99,5 +99,5 @@ char_strings_stand p =
     let whole : cff_table p ≡ before ++ (chars ++ []) =
     privates_in_table p ∙ sym (append_assoc (before_privates p) (privates p.font_dicts) (select_of p ++ after)) ∙ sym (append_assoc first (select_of p) after)
     ∙ sym (append_assoc second (font_dicts_of p) chars) ∙ ap (λ (l : List ℕ). before ++ l) (sym (append-nil chars)) in
-    stands_behind _ before chars [] (char_strings_place p) whole
+    stands_behind _ before chars [] (char_strings_offset p) whole
     (omega (arith, length-before_privates p, length-append (before_privates p) (privates p.font_dicts), length-append first (select_of p), length-append second (font_dicts_of p)))

@@ -5,14 +5,14 @@ use Rattle.std.specs.List.{concat, AllByRecursion}
 use Rattle.std.specs.Str.{bytes_eq}
 use Rattle.std.proofs.lemmas.List.{length-map, append-nil}
 use Rattle.std.proofs.lemmas.Option.{slice_get_within}
-use Rattle.subsetter_base.specs.Remap.{place_by}
+use Rattle.subsetter_base.specs.Remap.{index_by}
 use Rattle.subsetter_cffdata.specs.Index.{index, header as index_header}
 use Rattle.subsetter_cffdata.specs.Numbers.{Number, FitsDict}
 use Rattle.subsetter_cffdata.specs.Dict.{Plain, NewEntry, dict, IsOperator, FitsOperand, FitsNewEntry}
 use Rattle.subsetter_cffdata.specs.Owned.{FitIndex}
 use Rattle.subsetter_cff.specs.Read.Strings.{FontString, Standard, Custom, standard_strings}
 use Rattle.subsetter_cff.specs.Read.Operators.{notice_operator, font_box_operator, charset_operator, char_strings_operator, copyright_operator, font_matrix_operator, registry_operator, cid_count_operator, font_dicts_operator, font_dict_select_operator, font_name_operator}
-use Rattle.subsetter_cff.specs.Write.Layout.{FontDict, Parts, Offsets, strings, number_of, integer, plain_entry, string_entries, offset_entry, private_entry, private_bytes, entries_of_font_dict, entries_of_font_dict_by, font_dicts_from, placed_entries, top_entries, top_entries_by, front, places, privates_place, font_dicts_of}
+use Rattle.subsetter_cff.specs.Write.Layout.{FontDict, Parts, Offsets, strings, number_of, integer, plain_entry, string_entries, offset_entry, private_entry, private_bytes, entries_of_font_dict, entries_of_font_dict_by, font_dicts_from, placed_entries, top_entries, top_entries_by, front, table_offsets, privates_offset, font_dicts_of}
 use Rattle.subsetter_cff.specs.Write.Fits.{Fits, FitsString, FitNumbers, FitsFontDict}
 use Rattle.subsetter_cff.proofs.WriteLaws.Strings.{place_found}
 use Rattle.subsetter_cff.proofs.WriteLaws.Places.{length-front}
@@ -30,12 +30,12 @@ in_front p o =
     let ss = index (strings p) in
     omega (arith, length-append p.names (top ++ (ss ++ index [])), length-append top (ss ++ index []), length-append ss (index []))
 
-pub top_fits : (p : Parts) → Fits p → FitIndex (dict (top_entries p (places p)) ∷ [])
+pub top_fits : (p : Parts) → Fits p → FitIndex (dict (top_entries p (table_offsets p)) ∷ [])
 top_fits p fits =
-    record { count = omega arith; size = omega (arith, fits.place, index_holds (dict (top_entries p (places p)) ∷ []), in_front p (places p), length-front p (places p)) }
+    record { count = omega arith; size = omega (arith, fits.offset, index_holds (dict (top_entries p (table_offsets p)) ∷ []), in_front p (table_offsets p), length-front p (table_offsets p)) }
 
 pub strings_fit : (p : Parts) → Fits p → FitIndex (strings p)
-strings_fit p fits = record { count = omega (arith, fits.string_count); size = omega (arith, fits.place, index_holds (strings p), in_front p (places p), length-front p (places p)) }
+strings_fit p fits = record { count = omega (arith, fits.string_count); size = omega (arith, fits.offset, index_holds (strings p), in_front p (table_offsets p), length-front p (table_offsets p)) }
 
 pub none_fit : FitIndex []
 none_fit = record { count = omega arith; size = omega arith }
@@ -47,11 +47,11 @@ pub length-font_dicts_from : (ss : List (List ℕ)) (place : ℕ) (fs : List Fon
 length-font_dicts_from ss place [] = refl
 length-font_dicts_from ss place (f ∷ fs) = ap suc (length-font_dicts_from ss (place + length (private_bytes f)) fs)
 
-pub font_dicts_fit : (p : Parts) → Fits p → FitIndex (font_dicts_from (strings p) (privates_place p) p.font_dicts)
+pub font_dicts_fit : (p : Parts) → Fits p → FitIndex (font_dicts_from (strings p) (privates_offset p) p.font_dicts)
 unfolding font_dicts_of
 font_dicts_fit p fits =
-    let items = font_dicts_from (strings p) (privates_place p) p.font_dicts in
-    record { count = omega (arith, fits.font_dict_count, length-font_dicts_from (strings p) (privates_place p) p.font_dicts); size = omega (arith, fits.place, index_holds items) }
+    let items = font_dicts_from (strings p) (privates_offset p) p.font_dicts in
+    record { count = omega (arith, fits.font_dict_count, length-font_dicts_from (strings p) (privates_offset p) p.font_dicts); size = omega (arith, fits.offset, index_holds items) }
 
 -- ---- entries
 fits_operands : (xs : List Number) → AllByRecursion FitsDict xs → AllByRecursion FitsOperand (map Plain xs)
@@ -64,13 +64,13 @@ plain_fits operator xs is fit = record { operator = is; operands = fits_operands
 pub one_integer : (n : ℕ) → n < 2 ^ 31 → FitNumbers (integer n ∷ [])
 one_integer n lt = record { each = (record { sfits = lt }, tt); few = omega arith }
 
-place_small : (ss : List (List ℕ)) (s : List ℕ) (o : Option ℕ) → place_by bytes_eq ss s ≡ o → unwrap_or o 0 ≤ length ss
+place_small : (ss : List (List ℕ)) (s : List ℕ) (o : Option ℕ) → index_by bytes_eq ss s ≡ o → unwrap_or o 0 ≤ length ss
 place_small ss s None e = omega arith
 place_small ss s (Some i) e = omega (arith, slice_get_within ss i s (place_found ss s i e))
 
 number_small : (ss : List (List ℕ)) (t : FontString) → FitsString (Some t) → length ss + standard_strings ≤ 65536 → number_of ss t < 2 ^ 31
 number_small ss (Standard n) fits few = omega (arith, fits)
-number_small ss (Custom s) fits few = omega (arith, few, place_small ss s (place_by bytes_eq ss s) refl)
+number_small ss (Custom s) fits few = omega (arith, few, place_small ss s (index_by bytes_eq ss s) refl)
 
 pub strings_fit_entries : (ss : List (List ℕ)) (operator : List ℕ) (o : Option FontString) (ls : List NewEntry) → IsOperator operator → FitsString o → length ss + standard_strings ≤ 65536
     → AllByRecursion FitsNewEntry ls → AllByRecursion FitsNewEntry (string_entries ss operator o ++ ls)
@@ -103,7 +103,7 @@ placed_fit o a b c d = (
   ),
 )
 
-pub all_entries_fit : (p : Parts) → Fits p → AllByRecursion FitsNewEntry (top_entries p (places p))
+pub all_entries_fit : (p : Parts) → Fits p → AllByRecursion FitsNewEntry (top_entries p (table_offsets p))
 unfolding top_entries_by
 all_entries_fit p fits =
     let few = fits.string_count in (
@@ -114,7 +114,7 @@ all_entries_fit p fits =
             plain_fits font_matrix_operator p.matrix refl fits.matrix,
             (
               plain_fits font_box_operator p.box (refl, λ e. omega arith) fits.box,
-              placed_fit (places p) (omega (arith, fits.place)) (omega (arith, fits.place)) (omega (arith, fits.place)) (omega (arith, fits.place)),
+              placed_fit (table_offsets p) (omega (arith, fits.offset)) (omega (arith, fits.offset)) (omega (arith, fits.offset)) (omega (arith, fits.offset)),
             ),
           ))),
     )

@@ -14,7 +14,7 @@ use Rattle.subsetter_cff.specs.declared.write.table.TableParts.{TableParts}
 use Rattle.subsetter_cff.specs.declared.write.writing.CffPieces.{CffPieces}
 use Rattle.subsetter_cff.specs.Read.Cff.{Cff}
 use Rattle.subsetter_cff.specs.Write.KeptView.{numbers_of, texts_of, texts_size, AreAllKept}
-use Rattle.subsetter_cff.specs.Write.Layout.{Parts, strings, front, places, charset_of, privates, select_of, font_dicts_of, cff_table}
+use Rattle.subsetter_cff.specs.Write.Layout.{Parts, strings, front, table_offsets, charset_of, privates, select_of, font_dicts_of, cff_table}
 use Rattle.subsetter_cff.specs.Write.PartsBy.{parts_by}
 use Rattle.subsetter_cff.specs.Write.PartsView.{font_dict_view, parts_view, HasCharStrings}
 use Rattle.subsetter_cff.specs.Read.Opened.{opened}
@@ -155,7 +155,7 @@ texts_in_table p =
     let select = select_of p in
     let private = privates p.font_dicts in
     let charset = charset_of p in
-    omega (arith, index_holds p.char_strings, length-append dicts own, length-append select (dicts ++ own), length-append private (select ++ (dicts ++ own)), length-append charset (private ++ (select ++ (dicts ++ own))), length-append (front p (places p)) (charset ++ (private ++ (select ++ (dicts ++ own)))))
+    omega (arith, index_holds p.char_strings, length-append dicts own, length-append select (dicts ++ own), length-append private (select ++ (dicts ++ own)), length-append charset (private ++ (select ++ (dicts ++ own))), length-append (front p (table_offsets p)) (charset ++ (private ++ (select ++ (dicts ++ own)))))
 
 -- what is answered has the charstrings of its glyphs
 kept_in_table : (bytes : List ℕ) (cff : Cff) (tokens depth : ℕ) (glyphs new : List ℕ) → opened bytes ≡ Ok cff → cff_subset bytes tokens depth glyphs ≡ Ok new → (kept : List KeptGlyph) × (kept_glyphs cff tokens depth glyphs ≡ Ok kept) × (texts_size kept ≤ length new)
@@ -188,7 +188,7 @@ privates_in_table p =
     let select = select_of p in
     let private = privates p.font_dicts in
     let charset = charset_of p in
-    omega (arith, length-append private (select ++ (dicts ++ own)), length-append charset (private ++ (select ++ (dicts ++ own))), length-append (front p (places p)) (charset ++ (private ++ (select ++ (dicts ++ own)))))
+    omega (arith, length-append private (select ++ (dicts ++ own)), length-append charset (private ++ (select ++ (dicts ++ own))), length-append (front p (table_offsets p)) (charset ++ (private ++ (select ++ (dicts ++ own)))))
 
 privates_in_whole : (whole : Result (List ℕ) Error) (t : TableParts) (new : List ℕ) (m : Made whole t) → whole ≡ Ok new → length (privates (new_dicts t)) ≤ length new
 privates_in_whole whole t new m is =

@@ -3,7 +3,7 @@ use Rattle.std.proofs.Common.{ℕ, suc, ◌+◌, ◌≤◌, Bool, true, false, c
 use Rattle.std.specs.Prelude.{is_some}
 use Rattle.std.specs.List.{flat_map}
 use Rattle.std.specs.Str.{bytes_eq}
-use Rattle.subsetter_base.specs.Remap.{with_value, place_by}
+use Rattle.subsetter_base.specs.Remap.{with_value, index_by}
 use Rattle.subsetter_cff.specs.Read.Strings.{FontString, Standard, Custom}
 use Rattle.subsetter_cff.specs.Write.Layout.{FontDict, Parts, custom_string, named_strings, with_strings, strings}
 
@@ -13,7 +13,7 @@ one_more false xs x = omega (arith, length-append xs (x ∷ []))
 
 with_all : (found more : List (List ℕ)) → length (with_strings found more) ≤ length found + length more
 with_all found [] = omega arith
-with_all found (s ∷ more) = omega (arith, with_all (with_value bytes_eq found s) more, one_more (is_some (place_by bytes_eq found s)) found s)
+with_all found (s ∷ more) = omega (arith, with_all (with_value bytes_eq found s) more, one_more (is_some (index_by bytes_eq found s)) found s)
 
 custom_one : (o : Option FontString) → length (custom_string o) ≤ 1
 custom_one None = omega arith

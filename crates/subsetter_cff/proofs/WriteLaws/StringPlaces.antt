@@ -10,7 +10,7 @@ use Rattle.std.proofs.lemmas.Bool.{cases_Bool, eq-eqb}
 use Rattle.std.proofs.lemmas.Option.{none-some}
 use Rattle.std.proofs.lemmas.Map.Keys.{IsDistinct-push}
 use Rattle.std.proofs.lemmas.Slice.Eq.{bytes_eq-Decides}
-use Rattle.subsetter_base.specs.Remap.{place_by, with_value}
+use Rattle.subsetter_base.specs.Remap.{index_by, with_value}
 use Rattle.subsetter_base.proofs.Lists.{bytes_eq_is, bytes_eq_self}
 use Rattle.subsetter_base.proofs.RemapLemmas.{any-is_placed}
 use Rattle.subsetter_cff.specs.Write.SidRemapping.{Remapped, number_in, known_number, new_number, with_old}
@@ -21,12 +21,12 @@ not_there : (f : ℕ → ℕ) (o : Option ℕ) → option_map f o ≡ None → o
 not_there f None e = refl
 not_there f (Some i) e = absurd (none-some (f i) (sym e))
 
-pub at_the_end : (xs : List (List ℕ)) (x : List ℕ) → place_by bytes_eq xs x ≡ None → place_by bytes_eq (xs ++ x ∷ []) x ≡ Some (length xs)
+pub at_the_end : (xs : List (List ℕ)) (x : List ℕ) → index_by bytes_eq xs x ≡ None → index_by bytes_eq (xs ++ x ∷ []) x ≡ Some (length xs)
 at_the_end [] x e = rw ((bytes_eq-Decides x x).1 refl) refl
 at_the_end (y ∷ ys) x e =
     elim (cases_Bool (bytes_eq y x)) [
       | inl same ↦ absurd (none-some 0 (sym (rw same at e)))
-      | inr other ↦ (let below : place_by bytes_eq ys x ≡ None = not_there (λ i. i + 1) (place_by bytes_eq ys x) (rw other at e) in rw (other, at_the_end ys x below) (ap (λ (n : ℕ). Some n) (let one : length ys + 1 ≡ length (y ∷ ys) = omega arith in one)))
+      | inr other ↦ (let below : index_by bytes_eq ys x ≡ None = not_there (λ i. i + 1) (index_by bytes_eq ys x) (rw other at e) in rw (other, at_the_end ys x below) (ap (λ (n : ℕ). Some n) (let one : length ys + 1 ≡ length (y ∷ ys) = omega arith in one)))
     ]
 
 views_added : (xs : List (Bor (List ℕ))) (x : Bor (List ℕ)) → views (xs ++ x ∷ []) ≡ views xs ++ x.now ∷ []
@@ -37,7 +37,7 @@ length_views : (xs : List (Bor (List ℕ))) → length (views xs) ≡ length xs
 length_views [] = refl
 length_views (y ∷ ys) = ap suc (length_views ys)
 
-pub number_added : (xs new : List (Bor (List ℕ))) (x : Bor (List ℕ)) (n : ℕ) → None ≡ place_by bytes_eq (views xs) x.now → new ≡ xs ++ x ∷ [] → n ≡ length xs → number_in (views new) x.now ≡ Some (391 + n)
+pub number_added : (xs new : List (Bor (List ℕ))) (x : Bor (List ℕ)) (n : ℕ) → None ≡ index_by bytes_eq (views xs) x.now → new ≡ xs ++ x ∷ [] → n ≡ length xs → number_in (views new) x.now ≡ Some (391 + n)
 number_added xs new x n absent is count =
     rw (is, views_added xs x, at_the_end (views xs) x.now (sym absent)) (ap (λ (m : ℕ). Some (391 + m)) (length_views xs ∙ sym count))
 
@@ -85,10 +85,10 @@ bytes_eq_equiv = record {
   congr = λ x y z e. ap (λ w. bytes_eq w z) (bytes_eq_is x y e);
 }
 
-with_once : (o : Option ℕ) (xs : List (List ℕ)) (x : List ℕ) → place_by bytes_eq xs x ≡ o → IsDistinct bytes_eq xs → IsDistinct bytes_eq (cond (is_some o) xs (xs ++ x ∷ []))
+with_once : (o : Option ℕ) (xs : List (List ℕ)) (x : List ℕ) → index_by bytes_eq xs x ≡ o → IsDistinct bytes_eq xs → IsDistinct bytes_eq (cond (is_some o) xs (xs ++ x ∷ []))
 with_once (Some i) xs x e once = once
 with_once None xs x e once = IsDistinct-push bytes_eq_equiv xs x once (any-is_placed bytes_eq_equiv xs x ∙ ap is_some e)
 
 pub once_after : (b : Bool) (xs new : List (List ℕ)) (x : List ℕ) → IsDistinct bytes_eq xs → new ≡ cond b (with_value bytes_eq xs x) xs → IsDistinct bytes_eq new
-once_after true xs new x once e = rw e (with_once (place_by bytes_eq xs x) xs x refl once)
+once_after true xs new x once e = rw e (with_once (index_by bytes_eq xs x) xs x refl once)
 once_after false xs new x once e = rw e once

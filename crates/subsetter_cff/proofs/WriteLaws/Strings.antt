@@ -8,7 +8,7 @@ use Rattle.std.proofs.lemmas.Bool.{lt-ltb, le-ltb, cases_Bool}
 use Rattle.std.proofs.lemmas.Option.{none-some, same_Some, slice_get-map, slice_get_within}
 use Rattle.std.proofs.lemmas.List.{append-nil}
 use Rattle.std.proofs.lemmas.Slice.Eq.{bytes_eq-Decides}
-use Rattle.subsetter_base.specs.Remap.{with_value, place_by}
+use Rattle.subsetter_base.specs.Remap.{with_value, index_by}
 use Rattle.subsetter_cffdata.specs.Numbers.{Number, as_i32, in_i32}
 use Rattle.subsetter_cffdata.specs.Operands.{string_operand}
 use Rattle.subsetter_cff.specs.Read.Strings.{FontString, Standard, Custom, standard_strings, string_of, string_by}
@@ -18,7 +18,7 @@ use Rattle.subsetter_cff.specs.Write.Fits.{FitsString}
 -- ---- places of strings
 pub record Has (xs : List (List ℕ)) (x : List ℕ) : Type 0 where
   pub at : ℕ
-  pub is : place_by bytes_eq xs x ≡ Some at
+  pub is : index_by bytes_eq xs x ≡ Some at
 
 same_bytes : (x : List ℕ) → bytes_eq x x ≡ true
 same_bytes x = (bytes_eq-Decides x x).1 refl
@@ -29,12 +29,12 @@ found_behind y ys x i None h e = absurd (none-some i e)
 found_behind y ys x i (Some j) h e = let step : suc j ≡ i = omega (arith, same_Some _ _ e) in rw (← step) (h j refl)
 
 -- at its place stands the string
-pub place_found : (xs : List (List ℕ)) (x : List ℕ) (i : ℕ) → place_by bytes_eq xs x ≡ Some i → slice_get xs i ≡ Some x
+pub place_found : (xs : List (List ℕ)) (x : List ℕ) (i : ℕ) → index_by bytes_eq xs x ≡ Some i → slice_get xs i ≡ Some x
 place_found [] x i e = absurd (none-some i e)
 place_found (y ∷ ys) x i e =
     elim (cases_Bool (bytes_eq y x)) [
       | inl same ↦ (let zero : 0 ≡ i = same_Some _ _ (rw same at e) in rw (← zero) (ap Some ((bytes_eq-Decides y x).0 same)))
-      | inr other ↦ found_behind y ys x i (place_by bytes_eq ys x) (λ j h. place_found ys x j h) (rw other at e)
+      | inr other ↦ found_behind y ys x i (index_by bytes_eq ys x) (λ j h. place_found ys x j h) (rw other at e)
     ]
 
 stays_step : (b : Bool) (o o' : Option ℕ) (i : ℕ) → ((j : ℕ) → o ≡ Some j → o' ≡ Some j) → cond b (Some 0) (option_map (λ i. i + 1) o) ≡ Some i → cond b (Some 0) (option_map (λ i. i + 1) o') ≡ Some i
@@ -42,9 +42,9 @@ stays_step true o o' i h e = e
 stays_step false None o' i h e = absurd (none-some i e)
 stays_step false (Some j) o' i h e = rw (h j refl) e
 
-stays : (xs ys : List (List ℕ)) (x : List ℕ) (i : ℕ) → place_by bytes_eq xs x ≡ Some i → place_by bytes_eq (xs ++ ys) x ≡ Some i
+stays : (xs ys : List (List ℕ)) (x : List ℕ) (i : ℕ) → index_by bytes_eq xs x ≡ Some i → index_by bytes_eq (xs ++ ys) x ≡ Some i
 stays [] ys x i e = absurd (none-some i e)
-stays (z ∷ xs) ys x i e = stays_step (bytes_eq z x) (place_by bytes_eq xs x) (place_by bytes_eq (xs ++ ys) x) i (λ j h. stays xs ys x j h) e
+stays (z ∷ xs) ys x i e = stays_step (bytes_eq z x) (index_by bytes_eq xs x) (index_by bytes_eq (xs ++ ys) x) i (λ j h. stays xs ys x j h) e
 
 has_last : (xs : List (List ℕ)) (x : List ℕ) → Has (xs ++ x ∷ []) x
 has_last [] x = record { at = 0; is = rw (same_bytes x) refl }
@@ -56,7 +56,7 @@ has_last (y ∷ ys) x =
     ]
 
 -- ---- strings that are added
-has_added : (xs : List (List ℕ)) (x : List ℕ) (o : Option ℕ) → place_by bytes_eq xs x ≡ o → Has (cond (is_some o) xs (xs ++ x ∷ [])) x
+has_added : (xs : List (List ℕ)) (x : List ℕ) (o : Option ℕ) → index_by bytes_eq xs x ≡ o → Has (cond (is_some o) xs (xs ++ x ∷ [])) x
 has_added xs x None e = has_last xs x
 has_added xs x (Some i) e = record { at = i; is = e }
 
@@ -66,7 +66,7 @@ still_has false xs s x h = record { at = h.at; is = stays xs (s ∷ []) x h.at h
 
 keeps : (xs more : List (List ℕ)) (x : List ℕ) → Has xs x → Has (with_strings xs more) x
 keeps xs [] x h = h
-keeps xs (s ∷ more) x h = keeps (with_value bytes_eq xs s) more x (still_has (is_some (place_by bytes_eq xs s)) xs s x h)
+keeps xs (s ∷ more) x h = keeps (with_value bytes_eq xs s) more x (still_has (is_some (index_by bytes_eq xs s)) xs s x h)
 
 in_order : (found a b : List (List ℕ)) → with_strings found (a ++ b) ≡ with_strings (with_strings found a) b
 in_order found [] b = refl
@@ -79,7 +79,7 @@ grows false xs front s h = (h.0 ++ s ∷ [], ap (λ (l : List (List ℕ)). l ++ 
 
 stay_behind : (found front more : List (List ℕ)) → (rest : List (List ℕ)) × (found ≡ front ++ rest) → (rest : List (List ℕ)) × (with_strings found more ≡ front ++ rest)
 stay_behind found front [] h = h
-stay_behind found front (s ∷ more) h = stay_behind (with_value bytes_eq found s) front more (grows (is_some (place_by bytes_eq found s)) found front s h)
+stay_behind found front (s ∷ more) h = stay_behind (with_value bytes_eq found s) front more (grows (is_some (index_by bytes_eq found s)) found front s h)
 
 pub stay_first : (found more : List (List ℕ)) → (rest : List (List ℕ)) × (with_strings found more ≡ found ++ rest)
 stay_first found more = stay_behind found found more ([], sym (append-nil found))
@@ -97,7 +97,7 @@ pub record IsIn (x : List ℕ) (xs : List (List ℕ)) : Type 0 where
 has_named : (found xs : List (List ℕ)) (x : List ℕ) → IsIn x xs → Has (with_strings found xs) x
 has_named found xs x i =
     let start = with_strings found i.front in
-    rw (i.is, in_order found i.front (x ∷ i.back)) (keeps (with_value bytes_eq start x) i.back x (has_added start x (place_by bytes_eq start x) refl))
+    rw (i.is, in_order found i.front (x ∷ i.back)) (keeps (with_value bytes_eq start x) i.back x (has_added start x (index_by bytes_eq start x) refl))
 
 pub in_first : (x : List ℕ) (ys : List (List ℕ)) → IsIn x (x ∷ ys)
 in_first x ys = record { front = []; back = ys; is = refl }

@@ -10,7 +10,7 @@ use Rattle.subsetter_cff.specs.Write.FrontDraft.{front_of_draft, IsDraft}
 use Rattle.subsetter_cff.proofs.WriteLaws.FrontDrafts.{front_split}
 use Rattle.subsetter_cff.specs.Write.Layout.{Offsets, charset_bytes, select_bytes, privates, font_dicts_from, strings, front, font_dicts_of, cff_table}
 use Rattle.subsetter_cff.specs.Write.PartsView.{select_of_table, parts_view, front_by, HasCharStrings}
-use Rattle.subsetter_cff.specs.Write.TableBy.{new_dicts, front_size, places_by, laid_by, table_by, ArePieces, TableIsLaidOut}
+use Rattle.subsetter_cff.specs.Write.TableBy.{new_dicts, front_size, offsets_by, laid_by, table_by, ArePieces, TableIsLaidOut}
 use Rattle.subsetter_cff.proofs.WriteLaws.FlatIndexes.{length-ends, flat_is_index}
 
 same_strings : (t : TableParts) (cs : List (List ℕ)) → strings (parts_view t []) ≡ strings (parts_view t cs)
@@ -39,7 +39,7 @@ five_written : (w0 w1 w2 w3 w4 w5 a b c d e : List ℕ) → w0 ≡ [] → w1 ≡
 five_written w0 w1 w2 w3 w4 w5 a b c d e g h i j k l = l ∙ rw (k, j, i, h, g) (simp (append_assoc, append-nil))
 
 in_pieces : (t : TableParts) (texts : List (List ℕ)) (glyphs size : ℕ) (x : Pieces) (o : Offsets) → size ≡ front_size texts t → ArePieces texts t glyphs size x
-    → o ≡ places_by size x.charset (length x.privates) x.select (length x.font_dicts.items)
+    → o ≡ offsets_by size x.charset (length x.privates) x.select (length x.font_dicts.items)
     → front_by texts t o ++ (charset_bytes glyphs ++ (x.privates ++ (select_bytes glyphs (select_of_table t.numbers) ++ (x.font_dicts.items ++ [])))) ≡ laid_by texts t glyphs []
 unfolding laid_by
 in_pieces t texts glyphs size x o c are d = rw (d, are.charset, are.privates_are, are.select, are.font_dicts, c) refl
@@ -48,7 +48,7 @@ drafted : (t : TableParts) (texts : List (List ℕ)) (d : FrontDraft) (o : Offse
 drafted t texts d o w0 w1 is e = e ∙ rw (is.named, is.tail, front_split texts t o) refl
 
 pub laid_written : (t : TableParts) (texts : List (List ℕ)) (glyphs : ℕ) (d : FrontDraft) (x : Pieces) (o : Offsets) (w0 w1 w2 w3 w4 w5 : List ℕ) → IsDraft texts t d → ArePieces texts t glyphs d.size x
-    → o ≡ places_by d.size x.charset (length x.privates) x.select (length x.font_dicts.items)
+    → o ≡ offsets_by d.size x.charset (length x.privates) x.select (length x.font_dicts.items)
     → w0 ≡ [] → w1 ≡ w0 ++ front_of_draft t.names.now d.named d.tail o → w2 ≡ w1 ++ charset_bytes glyphs → w3 ≡ w2 ++ x.privates → w4 ≡ w3 ++ select_bytes glyphs (select_of_table t.numbers) → w5 ≡ w4 ++ x.font_dicts.items → w5 ≡ laid_by texts t glyphs []
 laid_written t texts glyphs d x o w0 w1 w2 w3 w4 w5 is are at g h i j k l =
     five_written w0 w1 w2 w3 w4 w5 (front_by texts t o) (charset_bytes glyphs) x.privates (select_bytes glyphs (select_of_table t.numbers)) x.font_dicts.items g (drafted t texts d o w0 w1 is h) i j k l ∙ in_pieces t texts glyphs d.size x o is.size are at
@@ -62,7 +62,7 @@ unfolding laid_by
 laid_more texts t glyphs z =
     let charset = charset_bytes glyphs in
     let dicts = index (font_dicts_from texts (front_size texts t + length charset) (new_dicts t)) in
-    let front = front_by texts t (places_by (front_size texts t) (length charset) (length (privates (new_dicts t))) (length (select_bytes glyphs (select_of_table t.numbers))) (length dicts)) in
+    let front = front_by texts t (offsets_by (front_size texts t) (length charset) (length (privates (new_dicts t))) (length (select_bytes glyphs (select_of_table t.numbers))) (length dicts)) in
     six front charset (privates (new_dicts t)) (select_bytes glyphs (select_of_table t.numbers)) dicts z
 
 pub whole_written : (t : TableParts) (texts : List (List ℕ)) (glyphs : ℕ) (w front : List ℕ) → texts ≡ strings (parts_view t []) → glyphs ≡ length t.ends.items → w ≡ laid_by texts t glyphs []

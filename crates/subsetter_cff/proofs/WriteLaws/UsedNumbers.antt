@@ -3,7 +3,7 @@ use Rattle.std.proofs.Common.{◌≡◌, ◌≢◌, ℕ, zero, suc, ◌+◌, ◌
 use Rattle.std.specs.Prelude.{◌==◌, Ok, Err}
 use Rattle.std.specs.List.{filter, range_with_len, AllByRecursion}
 use Rattle.std.specs.Option.{option_map}
-use Rattle.subsetter_base.specs.Places.{place, is_listed}
+use Rattle.subsetter_base.specs.Indexes.{index_of, is_listed}
 use Rattle.std.proofs.Math.ListN.{set, get_or}
 use Rattle.std.proofs.Math.Seq.{drop-length}
 use Rattle.std.proofs.lemmas.Bool.{cases_Bool, cases_eq, eq-eqb, ne_eqb, lt-ltb, le-ltb}
@@ -137,26 +137,26 @@ shifted : (i : ℕ) (o : Option ℕ) → option_map (λ (j : ℕ). i + 1 + j) o 
 shifted i None = refl
 shifted i (Some j) = ap Some (let e : i + 1 + j ≡ i + (j + 1) = omega arith in e)
 
-next_place : (places : List (Option ℕ)) (m n i : ℕ) (rest : List ℕ) → m < length places → get_or places n None ≡ option_map (λ (j : ℕ). i + 1 + j) (place rest n)
-    → get_or (set places m (Some i)) n None ≡ option_map (λ (j : ℕ). i + j) (place (m ∷ rest) n)
+next_place : (places : List (Option ℕ)) (m n i : ℕ) (rest : List ℕ) → m < length places → get_or places n None ≡ option_map (λ (j : ℕ). i + 1 + j) (index_of rest n)
+    → get_or (set places m (Some i)) n None ≡ option_map (λ (j : ℕ). i + j) (index_of (m ∷ rest) n)
 next_place places m n i rest lt e =
     elim (cases_eq n m) [
       | inl same ↦ rw (same, get_or-set_same places m (Some i) None lt, eq-eqb m m refl) (ap Some (let z : i ≡ i + 0 = omega arith in z))
-      | inr other ↦ rw (get_or-set_other places m n (Some i) None other, ne_eqb m n (λ x. other (sym x))) (e ∙ shifted i (place rest n))
+      | inr other ↦ rw (get_or-set_other places m n (Some i) None other, ne_eqb m n (λ x. other (sym x))) (e ∙ shifted i (index_of rest n))
     ]
 
-pub next_placed : (places : List (Option ℕ)) (xs : List ℕ) (n i k : ℕ) → i ≡ k + 1 → i ≤ length xs → get_or xs k 0 < length places → get_or places n None ≡ option_map (λ (j : ℕ). i + j) (place (drop i xs) n)
-    → get_or (set places (get_or xs k 0) (Some k)) n None ≡ option_map (λ (j : ℕ). k + j) (place (drop k xs) n)
+pub next_placed : (places : List (Option ℕ)) (xs : List ℕ) (n i k : ℕ) → i ≡ k + 1 → i ≤ length xs → get_or xs k 0 < length places → get_or places n None ≡ option_map (λ (j : ℕ). i + j) (index_of (drop i xs) n)
+    → get_or (set places (get_or xs k 0) (Some k)) n None ≡ option_map (λ (j : ℕ). k + j) (index_of (drop k xs) n)
 next_placed places xs n i k is le lt e =
-    next_place places (get_or xs k 0) n k (drop (k + 1) xs) lt (subst (λ (m : ℕ). get_or places n None ≡ option_map (λ (j : ℕ). m + j) (place (drop m xs) n)) is e)
-    ∙ sym (at_drop_more (λ (l : List ℕ). option_map (λ (j : ℕ). k + j) (place l n)) xs k 0 (omega arith))
+    next_place places (get_or xs k 0) n k (drop (k + 1) xs) lt (subst (λ (m : ℕ). get_or places n None ≡ option_map (λ (j : ℕ). m + j) (index_of (drop m xs) n)) is e)
+    ∙ sym (at_drop_more (λ (l : List ℕ). option_map (λ (j : ℕ). k + j) (index_of l n)) xs k 0 (omega arith))
 
-pub none_placed : (xs : List ℕ) (n i : ℕ) → None ≡ option_map (λ (j : ℕ). i + j) (place (drop (length xs) xs) n)
-none_placed xs n i = sym (ap (λ (l : List ℕ). option_map (λ (j : ℕ). i + j) (place l n)) (drop-length xs))
+pub none_placed : (xs : List ℕ) (n i : ℕ) → None ≡ option_map (λ (j : ℕ). i + j) (index_of (drop (length xs) xs) n)
+none_placed xs n i = sym (ap (λ (l : List ℕ). option_map (λ (j : ℕ). i + j) (index_of l n)) (drop-length xs))
 
 from_first : (o : Option ℕ) → option_map (λ (j : ℕ). 0 + j) o ≡ o
 from_first None = refl
 from_first (Some j) = ap Some (let e : 0 + j ≡ j = omega arith in e)
 
-pub all_placed : (o : Option ℕ) (xs : List ℕ) (n i : ℕ) → i ≡ 0 → o ≡ option_map (λ (j : ℕ). i + j) (place (drop i xs) n) → o ≡ place xs n
-all_placed o xs n i is e = e ∙ ap (λ (m : ℕ). option_map (λ (j : ℕ). m + j) (place (drop m xs) n)) is ∙ from_first (place xs n)
+pub all_placed : (o : Option ℕ) (xs : List ℕ) (n i : ℕ) → i ≡ 0 → o ≡ option_map (λ (j : ℕ). i + j) (index_of (drop i xs) n) → o ≡ index_of xs n
+all_placed o xs n i is e = e ∙ ap (λ (m : ℕ). option_map (λ (j : ℕ). m + j) (index_of (drop m xs) n)) is ∙ from_first (index_of xs n)

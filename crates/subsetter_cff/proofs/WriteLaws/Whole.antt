@@ -18,7 +18,7 @@ use Rattle.subsetter_cff.specs.Read.Private.{private_at, private_of}
 use Rattle.subsetter_cff.specs.Read.Matrices.{own_matrix as own_matrix_of, stated_matrices, font_dict_name}
 use Rattle.subsetter_cff.specs.Read.Keying.{keying_by, keying}
 use Rattle.subsetter_cff.specs.Read.Operators.{charset_operator, char_strings_operator, font_dicts_operator, font_dict_select_operator}
-use Rattle.subsetter_cff.specs.Write.Layout.{FontDict, Select, First, Numbers, Parts, given_strings, strings, integer, private_bytes, privates, entries_of_font_dict, font_dicts_from, font_dicts_of, select_of, places, charset_place, privates_place, select_place, font_dicts_place, char_strings_place, cff_table}
+use Rattle.subsetter_cff.specs.Write.Layout.{FontDict, Select, First, Numbers, Parts, given_strings, strings, integer, private_bytes, privates, entries_of_font_dict, font_dicts_from, font_dicts_of, select_of, table_offsets, charset_offset, privates_offset, fd_select_offset, fd_array_offset, char_strings_offset, cff_table}
 use Rattle.subsetter_cff.specs.Write.Fits.{Fits, FitsString, FitsFontDict, FitsSelect}
 use Rattle.subsetter_cff.specs.Write.ReadsAs.{IsForEach, number_in, font_dict_in, adobe_identity, GlyphReadsAs, ReadsAs, LaidOutIsRead}
 use Rattle.subsetter_cff.proofs.WriteLaws.Strings.{IsNamed, stay_first, get_at, copyright_named, notice_named, font_name_named, font_dict_named, string_operand_is, string_again, custom_again}
@@ -39,20 +39,20 @@ pub chars_read : (p : Parts) → Fits p → char_strings (laid_out p) ≡ Some (
 unfolding char_strings
 chars_read p fits =
     let stands = char_strings_stand p in
-    rw (at_place (laid_out p) char_strings_operator (char_strings_place p) (char_strings_is p (places p)) fits.place, stands.1, index_again p.char_strings (char_strings_fit p fits) stands.0) refl
+    rw (at_place (laid_out p) char_strings_operator (char_strings_offset p) (char_strings_is p (table_offsets p)) fits.offset, stands.1, index_again p.char_strings (char_strings_fit p fits) stands.0) refl
 
 cid_read : (p : Parts) → Fits p → (glyph : ℕ) → glyph < length p.char_strings → cid_of (laid_out p) glyph ≡ Some glyph
 unfolding cid_of
 cid_read p fits glyph lt =
     let stands = charset_stands p in
-    rw (at_place (laid_out p) charset_operator (charset_place p) (charset_is p (places p)) (omega (arith, fits.place)), stands.1) (charset_again (length p.char_strings) glyph stands.0 fits.glyph_count lt)
+    rw (at_place (laid_out p) charset_operator (charset_offset p) (charset_is p (table_offsets p)) (omega (arith, fits.offset)), stands.1) (charset_again (length p.char_strings) glyph stands.0 fits.glyph_count lt)
 
-pub dicts_read : (p : Parts) → Fits p → font_dicts (laid_out p) ≡ Some (map entries (font_dicts_from (strings p) (privates_place p) p.font_dicts))
+pub dicts_read : (p : Parts) → Fits p → font_dicts (laid_out p) ≡ Some (map entries (font_dicts_from (strings p) (privates_offset p) p.font_dicts))
 unfolding font_dicts font_dicts_of
 dicts_read p fits =
-    let items = font_dicts_from (strings p) (privates_place p) p.font_dicts in
+    let items = font_dicts_from (strings p) (privates_offset p) p.font_dicts in
     let stands = font_dicts_stand p in
-    rw (at_place (laid_out p) font_dicts_operator (font_dicts_place p) (font_dicts_is p (places p)) (omega (arith, fits.place)), stands.1, index_again items (font_dicts_fit p fits) stands.0)
+    rw (at_place (laid_out p) font_dicts_operator (fd_array_offset p) (font_dicts_is p (table_offsets p)) (omega (arith, fits.offset)), stands.1, index_again items (font_dicts_fit p fits) stands.0)
     (ap (λ (xs : List (List ℕ)). Some (map entries xs)) (readable_all items))
 
 -- ---- the font dict of a glyph
@@ -72,7 +72,7 @@ select_read p fits =
     let count : length (map Some p.char_strings) ≡ length p.char_strings = length-map p.char_strings Some in
     record {
       rest = stands.0;
-      is = rw (chars_read p fits, at_place (laid_out p) font_dict_select_operator (select_place p) (select_is p (places p)) (omega (arith, fits.place)), stands.1, count)
+      is = rw (chars_read p fits, at_place (laid_out p) font_dict_select_operator (fd_select_offset p) (select_is p (table_offsets p)) (omega (arith, fits.offset)), stands.1, count)
           (select_again p.select (length p.char_strings) stands.0 (of_each p.select (length p.char_strings) (length p.font_dicts) fits.select));
     }
 
@@ -106,7 +106,7 @@ keying_read p =
     let two = first_two p in
     let adobe = custom_again (strings p) (codes "Adobe") 0 (ap (λ (l : List (List ℕ)). slice_get l 0) two.1) in
     let identity = custom_again (strings p) (codes "Identity") 1 (ap (λ (l : List (List ℕ)). slice_get l 1) two.1) in
-    rw (registry_is p (places p), string_operand_is 391 (omega arith), adobe, string_operand_is 392 (omega arith), identity) refl
+    rw (registry_is p (table_offsets p), string_operand_is 391 (omega arith), adobe, string_operand_is 392 (omega arith), identity) refl
 
 get_dict : (p : Parts) → Fits p → (glyph : ℕ) → glyph < length p.char_strings → (f : FontDict) × (font_dict_in p glyph ≡ Some f)
 get_dict p fits glyph lt = get_at p.font_dicts (number_in p.select glyph) (number_inside p.select (length p.char_strings) (length p.font_dicts) glyph fits.select lt)
@@ -119,11 +119,11 @@ module _ (p : Parts) (fits : Fits p) (glyph : ℕ) (lt : glyph < length p.char_s
   ss : List (List ℕ)
   ss = strings p
 
-  own : Found (strings p) (privates_place p) p.font_dicts (number_in p.select glyph) f
-  own = found (strings p) (privates_place p) p.font_dicts (number_in p.select glyph) f is
+  own : Found (strings p) (privates_offset p) p.font_dicts (number_in p.select glyph) f
+  own = found (strings p) (privates_offset p) p.font_dicts (number_in p.select glyph) f is
 
   place : ℕ
-  place = privates_place p + length own.front
+  place = privates_offset p + length own.front
 
   own_fits : FitsFontDict f
   own_fits = all_at FitsFontDict p.font_dicts (number_in p.select glyph) f fits.font_dicts is
@@ -131,25 +131,25 @@ module _ (p : Parts) (fits : Fits p) (glyph : ℕ) (lt : glyph < length p.char_s
   private_length : length own.front + length (private_bytes f) ≤ length (privates p.font_dicts)
   private_length = omega (arith, ap length own.is, length-append own.front (private_bytes f ++ own.back), length-append (private_bytes f) own.back)
 
-  all_entries_again : entries (dict (entries_of_font_dict (strings p) (privates_place p + length own.front) f)) ≡ font_dict_entries (strings p) (privates_place p + length own.front) f
-  all_entries_again = dict_again (entries_of_font_dict (strings p) (privates_place p + length own.front) f)
-      (font_dict_fits (strings p) (privates_place p + length own.front) f own_fits fits.string_count (omega (arith, fits.place, private_length)) (omega (arith, fits.place, private_length)))
+  all_entries_again : entries (dict (entries_of_font_dict (strings p) (privates_offset p + length own.front) f)) ≡ font_dict_entries (strings p) (privates_offset p + length own.front) f
+  all_entries_again = dict_again (entries_of_font_dict (strings p) (privates_offset p + length own.front) f)
+      (font_dict_fits (strings p) (privates_offset p + length own.front) f own_fits fits.string_count (omega (arith, fits.offset, private_length)) (omega (arith, fits.offset, private_length)))
 
-  dict_read : font_dict_of (laid_out p) glyph ≡ Some (font_dict_entries (strings p) (privates_place p + length own.front) f)
+  dict_read : font_dict_of (laid_out p) glyph ≡ Some (font_dict_entries (strings p) (privates_offset p + length own.front) f)
   unfolding font_dict_of
-  dict_read = rw (number_read p fits glyph lt, dicts_read p fits, slice_get-map entries (font_dicts_from (strings p) (privates_place p) p.font_dicts) (number_in p.select glyph), own.dict_is) (ap Some all_entries_again)
+  dict_read = rw (number_read p fits glyph lt, dicts_read p fits, slice_get-map entries (font_dicts_from (strings p) (privates_offset p) p.font_dicts) (number_in p.select glyph), own.dict_is) (ap Some all_entries_again)
 
   keyed : is_cid_keyed (laid_out p) ≡ true
-  keyed = rw (registry_is p (places p)) refl
+  keyed = rw (registry_is p (table_offsets p)) refl
 
-  private_there : private_at (cff_table p) (font_dict_entries (strings p) (privates_place p + length own.front) f) ≡ Some (record { entries = f.private; subroutines = [] })
+  private_there : private_at (cff_table p) (font_dict_entries (strings p) (privates_offset p + length own.front) f) ≡ Some (record { entries = f.private; subroutines = [] })
   private_there =
       let before = before_privates p ++ own.front in
       let after = select_of p ++ (font_dicts_of p ++ index p.char_strings) in
       let split : cff_table p ≡ before ++ (private_bytes f ++ (own.back ++ after)) =
       privates_in_table p ∙ ap (λ (l : List ℕ). before_privates p ++ (l ++ after)) own.is ∙ regroup (before_privates p) own.front (private_bytes f) own.back after in
-      private_named (strings p) (cff_table p) (privates_place p + length own.front) f _ (omega (arith, fits.place, private_length)) (omega (arith, fits.place, private_length))
-      (private_again (cff_table p) before (own.back ++ after) (privates_place p + length own.front) f own_fits split (omega (arith, length-before_privates p, length-append (before_privates p) own.front)))
+      private_named (strings p) (cff_table p) (privates_offset p + length own.front) f _ (omega (arith, fits.offset, private_length)) (omega (arith, fits.offset, private_length))
+      (private_again (cff_table p) before (own.back ++ after) (privates_offset p + length own.front) f own_fits split (omega (arith, length-before_privates p, length-append (before_privates p) own.front)))
 
   private_read : private_of (laid_out p) glyph ≡ Some (record { entries = f.private; subroutines = [] })
   unfolding private_of
@@ -157,11 +157,11 @@ module _ (p : Parts) (fits : Fits p) (glyph : ℕ) (lt : glyph < length p.char_s
 
   matrices_read : stated_matrices (laid_out p) glyph ≡ Some (map value p.matrix, map value f.matrix)
   unfolding stated_matrices own_matrix_of
-  matrices_read = rw (keyed, dict_read, matrix_is p (places p), own_matrix (strings p) (privates_place p + length own.front) f) refl
+  matrices_read = rw (keyed, dict_read, matrix_is p (table_offsets p), own_matrix (strings p) (privates_offset p + length own.front) f) refl
 
   name_read : font_dict_name (laid_out p) glyph ≡ Some f.name
   unfolding font_dict_name
-  name_read = rw (keyed, dict_read, own_name (strings p) (privates_place p + length own.front) f)
+  name_read = rw (keyed, dict_read, own_name (strings p) (privates_offset p + length own.front) f)
       (string_if p f.name own_fits.name fits.string_count (font_dict_named p (number_in p.select glyph) f is))
 
   pub glyph_read : GlyphReadsAs p (laid_out p) glyph
@@ -172,10 +172,10 @@ pub reads_as : (p : Parts) → Fits p → ReadsAs p (laid_out p)
 reads_as p fits = record {
   keyed = keying_read p;
   names = refl;
-  copyright = ap (string_by (map Some (strings p))) (copyright_is p (places p)) ∙ string_if p p.copyright fits.copyright fits.string_count (copyright_named p);
-  notice = ap (string_by (map Some (strings p))) (notice_is p (places p)) ∙ string_if p p.notice fits.notice fits.string_count (notice_named p);
-  font_name = ap (string_by (map Some (strings p))) (font_name_is p (places p)) ∙ string_if p p.font_name fits.font_name fits.string_count (font_name_named p);
-  box = box_is p (places p);
+  copyright = ap (string_by (map Some (strings p))) (copyright_is p (table_offsets p)) ∙ string_if p p.copyright fits.copyright fits.string_count (copyright_named p);
+  notice = ap (string_by (map Some (strings p))) (notice_is p (table_offsets p)) ∙ string_if p p.notice fits.notice fits.string_count (notice_named p);
+  font_name = ap (string_by (map Some (strings p))) (font_name_is p (table_offsets p)) ∙ string_if p p.font_name fits.font_name fits.string_count (font_name_named p);
+  box = box_is p (table_offsets p);
   charstrings = chars_read p fits;
   no_subroutines = refl;
   glyphs = λ glyph lt. glyph_read p fits glyph lt (get_dict p fits glyph lt).0 (get_dict p fits glyph lt).1;

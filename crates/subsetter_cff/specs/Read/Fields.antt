@@ -9,7 +9,7 @@ use Rattle.subsetter_cff.specs.declared.read.fields.Demands.{Demands}
 use Rattle.subsetter_cff.specs.declared.read.fields.Demands.TheVariants as kinds
 use Rattle.subsetter_cff.specs.Read.OperandDemands.{Demand, one_string, one_offset, one_range, so_many, top_demands, font_dict_demands}
 use Rattle.subsetter_cff.specs.Read.Operators.{notice_operator, font_box_operator, charset_operator, char_strings_operator, private_operator, copyright_operator, font_matrix_operator, registry_operator, font_dicts_operator, font_dict_select_operator, font_name_operator}
-use Rattle.subsetter_cff.specs.Read.Said.{Said}
+use Rattle.subsetter_cff.specs.Read.Values.{DictValues}
 
 -- what an operator says
 abbrev pub field_by : List ℕ → Field
@@ -28,7 +28,7 @@ field_by o =
     else fields.Other
 
 -- one entry more
-abbrev pub taken_as : Said → Field → List Number → Said
+abbrev pub taken_as : DictValues → Field → List Number → DictValues
 taken_as s fields.Notice xs = record s { notice = string_operand xs }
 taken_as s fields.Copyright xs = record s { copyright = string_operand xs }
 taken_as s fields.FontName xs = record s { font_name = string_operand xs }

@@ -54,35 +54,35 @@ TablesKeepAllCharStrings = (bytes out again : List ℕ) (tokens depth : ℕ) (fi
 
 -- ---- the table that is answered, of a CID-keyed font
 -- 1 to 65535 glyphs, and a depth of 1 or more
-pub record IsAsked (depth : ℕ) (glyphs : List ℕ) : Type 0 where
+pub record IsRequested (depth : ℕ) (glyphs : List ℕ) : Type 0 where
   pub deep : 1 ≤ depth
   pub some : 1 ≤ length glyphs
   pub few : length glyphs ≤ 65535
 
 -- the subset of the subset is that of the first font, byte for byte, and is refused where that is, by the same error
 abbrev pub IsSameTable : Type 0
-IsSameTable = (bytes : List ℕ) (cff : Cff) (tokens depth : ℕ) (first second out : List ℕ) → IsAsked depth first → cff_parts bytes ≡ Some cff → is_cid_keyed cff ≡ true
+IsSameTable = (bytes : List ℕ) (cff : Cff) (tokens depth : ℕ) (first second out : List ℕ) → IsRequested depth first → cff_parts bytes ≡ Some cff → is_cid_keyed cff ≡ true
     → cff_subset bytes tokens depth first ≡ Ok out → AreGlyphs first second → cff_subset out tokens depth second ≡ cff_subset bytes tokens depth (composed first second)
 
 -- all glyphs in order give the table back: none is refused, and no byte is another
 abbrev pub IsGivenBack : Type 0
-IsGivenBack = (bytes : List ℕ) (cff : Cff) (tokens depth : ℕ) (first all out : List ℕ) → IsAsked depth first → cff_parts bytes ≡ Some cff → is_cid_keyed cff ≡ true
+IsGivenBack = (bytes : List ℕ) (cff : Cff) (tokens depth : ℕ) (first all out : List ℕ) → IsRequested depth first → cff_parts bytes ≡ Some cff → is_cid_keyed cff ≡ true
     → cff_subset bytes tokens depth first ≡ Ok out → AreAll (length first) all → cff_subset out tokens depth all ≡ Ok out
 
 -- no fault stands in the table, for all its glyphs
 abbrev pub HasNoFaultAgain : Type 0
-HasNoFaultAgain = (bytes : List ℕ) (cff : Cff) (tokens depth : ℕ) (first all out : List ℕ) (e : Error) → IsAsked depth first → cff_parts bytes ≡ Some cff → is_cid_keyed cff ≡ true
+HasNoFaultAgain = (bytes : List ℕ) (cff : Cff) (tokens depth : ℕ) (first all out : List ℕ) (e : Error) → IsRequested depth first → cff_parts bytes ≡ Some cff → is_cid_keyed cff ≡ true
     → cff_subset bytes tokens depth first ≡ Ok out → AreAll (length first) all → HasCffFault out tokens depth all e → ⊥
 
 -- ---- of any font, so also of one that isn't CID-keyed
 -- what is answered for all glyphs of a subset is given back from then on
 abbrev pub StaysFromThenOn : Type 0
-StaysFromThenOn = (bytes : List ℕ) (tokens depth : ℕ) (first all out again : List ℕ) → IsAsked depth first
+StaysFromThenOn = (bytes : List ℕ) (tokens depth : ℕ) (first all out again : List ℕ) → IsRequested depth first
     → cff_subset bytes tokens depth first ≡ Ok out → AreAll (length first) all → cff_subset out tokens depth all ≡ Ok again → cff_subset again tokens depth all ≡ Ok again
 
 -- what is answered for all glyphs of a subset has its charstrings, and is given back from then on
 abbrev pub AnsweredAgain : Type 0
-AnsweredAgain = (bytes : List ℕ) (tokens depth : ℕ) (first all out again : List ℕ) → IsAsked depth first
+AnsweredAgain = (bytes : List ℕ) (tokens depth : ℕ) (first all out again : List ℕ) → IsRequested depth first
     → cff_subset bytes tokens depth first ≡ Ok out → AreAll (length first) all → cff_subset out tokens depth all ≡ Ok again
     → HaveSameCharStrings out again × (cff_subset again tokens depth all ≡ Ok again)
 

@@ -18,8 +18,8 @@ pub data HasCffFault (bytes : List ℕ) (tokens depth : ℕ) (glyphs : List ℕ)
   in_limits : {e : Error} (cff : Cff) → cff_parts bytes ≡ Some cff → HasLimitFault cff tokens depth glyphs e → HasCffFault bytes tokens depth glyphs e
 
 -- what is refused has a fault of the name that is answered
-abbrev pub RefusedStands : Type 0
-RefusedStands = (bytes : List ℕ) (tokens depth : ℕ) (glyphs : List ℕ) (e : Error) → cff_subset bytes tokens depth glyphs ≡ Err e → HasCffFault bytes tokens depth glyphs e
+abbrev pub RefusedHasFault : Type 0
+RefusedHasFault = (bytes : List ℕ) (tokens depth : ℕ) (glyphs : List ℕ) (e : Error) → cff_subset bytes tokens depth glyphs ≡ Err e → HasCffFault bytes tokens depth glyphs e
 
 -- where a table is answered, no fault stands
 abbrev pub AnsweredExcludes : Type 0

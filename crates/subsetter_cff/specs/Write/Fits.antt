@@ -8,7 +8,7 @@ use Rattle.subsetter_cffdata.specs.Numbers.{Number, FitsDict}
 use Rattle.subsetter_cff.specs.Read.Lookup.{first_of}
 use Rattle.subsetter_cff.specs.Read.Operators.{subroutines_operator}
 use Rattle.subsetter_cff.specs.Read.Strings.{FontString, Standard, Custom, standard_strings}
-use Rattle.subsetter_cff.specs.Write.Layout.{FontDict, Select, First, Numbers, Parts, rewritten_entries, strings, char_strings_place}
+use Rattle.subsetter_cff.specs.Write.Layout.{FontDict, Select, First, Numbers, Parts, rewritten_entries, strings, char_strings_offset}
 
 -- a standard string is one of 391
 abbrev pub FitsString : Option FontString → Type 0
@@ -50,4 +50,4 @@ pub record Fits (p : Parts) : Type 0 where
   pub glyph_count : length p.char_strings ≤ 65535
   pub char_strings_size : length (concat p.char_strings) + 1 < 2 ^ 32
   -- the greatest of the offsets
-  pub place : char_strings_place p < 2 ^ 31
+  pub offset : char_strings_offset p < 2 ^ 31

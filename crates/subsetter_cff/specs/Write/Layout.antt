@@ -6,7 +6,7 @@ use Rattle.std.specs.Int.{w16, to_be_bytes}
 use Rattle.std.specs.List.{flat_map}
 use Rattle.std.specs.Option.{option_map}
 use Rattle.std.specs.Str.{bytes_eq}
-use Rattle.subsetter_base.specs.Remap.{with_value, place_by}
+use Rattle.subsetter_base.specs.Remap.{with_value, index_by}
 use Rattle.subsetter_cffdata.specs.Index.{index}
 use Rattle.subsetter_cffdata.specs.Dict.{Plain, Long, NewEntry, dict, Entry}
 use Rattle.subsetter_cffdata.specs.Numbers.{Number, Integer}
@@ -63,7 +63,7 @@ strings p = with_strings [] (named_strings p)
 -- the number of a string: a standard one's own, or its place from 391 on
 abbrev pub number_of : List (List ℕ) → FontString → ℕ
 number_of strings (Standard n) = n
-number_of strings (Custom s) = standard_strings + unwrap_or (place_by bytes_eq strings s) 0
+number_of strings (Custom s) = standard_strings + unwrap_or (index_by bytes_eq strings s) 0
 
 -- ---- entries of dicts: operands and an operator (section 4 "DICT Data")
 abbrev pub integer : ℕ → Number
@@ -178,29 +178,29 @@ select_of p = select_bytes (length p.char_strings) p.select
 abbrev pub nowhere : Offsets
 nowhere = record { charset = 0; char_strings = 0; font_dicts = 0; select = 0 }
 
-abbrev pub charset_place : Parts → ℕ
-charset_place p = length (front p nowhere)
+abbrev pub charset_offset : Parts → ℕ
+charset_offset p = length (front p nowhere)
 
-abbrev pub privates_place : Parts → ℕ
-privates_place p = charset_place p + length (charset_of p)
+abbrev pub privates_offset : Parts → ℕ
+privates_offset p = charset_offset p + length (charset_of p)
 
-abbrev pub select_place : Parts → ℕ
-select_place p = privates_place p + length (privates p.font_dicts)
+abbrev pub fd_select_offset : Parts → ℕ
+fd_select_offset p = privates_offset p + length (privates p.font_dicts)
 
-abbrev pub font_dicts_place : Parts → ℕ
-font_dicts_place p = select_place p + length (select_of p)
+abbrev pub fd_array_offset : Parts → ℕ
+fd_array_offset p = fd_select_offset p + length (select_of p)
 
 unfoldable pub font_dicts_of : Parts → List ℕ
-font_dicts_of p = index (font_dicts_from (strings p) (privates_place p) p.font_dicts)
+font_dicts_of p = index (font_dicts_from (strings p) (privates_offset p) p.font_dicts)
 
-abbrev pub char_strings_place : Parts → ℕ
-char_strings_place p = font_dicts_place p + length (font_dicts_of p)
+abbrev pub char_strings_offset : Parts → ℕ
+char_strings_offset p = fd_array_offset p + length (font_dicts_of p)
 
-abbrev pub places : Parts → Offsets
-places p = record { charset = charset_place p; char_strings = char_strings_place p; font_dicts = font_dicts_place p; select = select_place p }
+abbrev pub table_offsets : Parts → Offsets
+table_offsets p = record { charset = charset_offset p; char_strings = char_strings_offset p; font_dicts = fd_array_offset p; select = fd_select_offset p }
 
 abbrev pub behind_front : Parts → List ℕ
 behind_front p = charset_of p ++ (privates p.font_dicts ++ (select_of p ++ (font_dicts_of p ++ index p.char_strings)))
 
 unfoldable pub cff_table : Parts → List ℕ
-cff_table p = front p (places p) ++ behind_front p
+cff_table p = front p (table_offsets p) ++ behind_front p

@@ -12,7 +12,7 @@ use Rattle.subsetter_cff.specs.Read.FontDicts.{font_dict_number, font_dict_of}
 use Rattle.subsetter_cff.specs.Read.Private.{private_entries}
 use Rattle.subsetter_cff.specs.Read.Matrices.{own_matrix}
 use Rattle.subsetter_cff.specs.Read.Operators.{font_matrix_operator, font_box_operator}
-use Rattle.subsetter_cff.specs.Write.Layout.{FontDict, Parts, strings, private_bytes, top_entries, places, font_dicts_from, charset_place, privates_place, select_place, font_dicts_place, char_strings_place}
+use Rattle.subsetter_cff.specs.Write.Layout.{FontDict, Parts, strings, private_bytes, top_entries, table_offsets, font_dicts_from, charset_offset, privates_offset, fd_select_offset, fd_array_offset, char_strings_offset}
 use Rattle.subsetter_cff.specs.Write.Made.{new_matrix}
 use Rattle.subsetter_cff.specs.Write.WrittenNumbers.{any_long, entry_numbers}
 use Rattle.subsetter_cff.specs.Write.Plain.{with_number, KeptGlyph, kept_glyphs, parts_for}
@@ -38,16 +38,16 @@ pub record IsLaidOut (cff : Cff) (tokens depth : ℕ) (glyphs : List ℕ) (p : P
 
 -- the INDEX structures that are written: top dict, strings, font dicts, charstrings
 abbrev pub written_indexes : Parts → List (List (List ℕ))
-written_indexes p = (dict (top_entries p (places p)) ∷ []) ∷ strings p ∷ font_dicts_from (strings p) (privates_place p) p.font_dicts ∷ p.char_strings ∷ []
+written_indexes p = (dict (top_entries p (table_offsets p)) ∷ []) ∷ strings p ∷ font_dicts_from (strings p) (privates_offset p) p.font_dicts ∷ p.char_strings ∷ []
 
 -- the lengths and offsets of private dicts that stand one behind the other from a place on
-abbrev pub private_places : ℕ → List FontDict → List ℕ
-private_places place [] = []
-private_places place (f ∷ fs) = length (private_bytes f) ∷ place ∷ private_places (place + length (private_bytes f)) fs
+abbrev pub private_offsets : ℕ → List FontDict → List ℕ
+private_offsets place [] = []
+private_offsets place (f ∷ fs) = length (private_bytes f) ∷ place ∷ private_offsets (place + length (private_bytes f)) fs
 
 -- all offsets and private lengths that are written
 abbrev pub written_offsets : Parts → List ℕ
-written_offsets p = char_strings_place p ∷ charset_place p ∷ font_dicts_place p ∷ select_place p ∷ private_places (privates_place p) p.font_dicts
+written_offsets p = char_strings_offset p ∷ charset_offset p ∷ fd_array_offset p ∷ fd_select_offset p ∷ private_offsets (privates_offset p) p.font_dicts
 
 pub data HasLimitFault (cff : Cff) (tokens depth : ℕ) (glyphs : List ℕ) : Error → Type 0 where
   -- 256 used font dicts

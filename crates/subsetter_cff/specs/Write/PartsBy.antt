@@ -18,7 +18,7 @@ use Rattle.subsetter_cff.specs.Read.PrivateView.{private_view}
 use Rattle.subsetter_cff.specs.Write.SidRemapping.{named}
 use Rattle.subsetter_cff.specs.Read.Strings.{string_at}
 use Rattle.subsetter_cff.specs.Write.UsedFontDicts.{counted_font_dicts}
-use Rattle.subsetter_base.specs.Places.{new_index}
+use Rattle.subsetter_base.specs.Indexes.{new_index}
 
 -- what a font dict in memory says
 abbrev pub stored_dict : List (Option (List ℕ)) → StoredDict → SourceDict

@@ -4,7 +4,7 @@ use Rattle.std.specs.Prelude.{ℕ, ◌+◌, ◌^◌, ◌==◌, nat_lt, if◌then
 use Rattle.std.specs.List.{concat}
 use Rattle.std.specs.Option.{ok_or, option_and_then}
 use Rattle.subsetter_base.specs.Bytes.{◌>>=◌}
-use Rattle.subsetter_base.specs.Places.{place}
+use Rattle.subsetter_base.specs.Indexes.{index_of}
 use Rattle.subsetter_base.specs.declared.error.Error.{Error}
 use Rattle.subsetter_base.specs.declared.error.Error.TheVariants.{MalformedFont, SubsetError, OverflowError}
 use Rattle.subsetter_cffdata.specs.Numbers.{Number}
@@ -18,7 +18,7 @@ use Rattle.subsetter_cff.specs.Read.Private.{Private, no_private, own_entries, p
 use Rattle.subsetter_cff.specs.Read.Matrices.{thousandth_matrix, zero_box}
 use Rattle.subsetter_cff.specs.Read.GlyphTrace.{library}
 use Rattle.subsetter_cff.specs.Read.Operators.{copyright_operator, notice_operator, font_name_operator, font_box_operator, font_matrix_operator}
-use Rattle.subsetter_cff.specs.Write.Layout.{FontDict, Select, First, Numbers, Parts, char_strings_place, cff_table}
+use Rattle.subsetter_cff.specs.Write.Layout.{FontDict, Select, First, Numbers, Parts, char_strings_offset, cff_table}
 use Rattle.subsetter_cff.specs.Write.Made.{new_matrix}
 use Rattle.subsetter_cff.specs.Read.Opened.{check, opened}
 use Rattle.subsetter_cff.specs.Write.WrittenNumbers.{any_long, written_numbers}
@@ -92,7 +92,7 @@ new_font_dicts cff (n ∷ ns) = do
 
 -- the new number of each glyph's font dict is its place among the used ones
 abbrev pub new_select : Cff → List ℕ → List KeptGlyph → Select
-new_select cff used kept = if is_cid_keyed cff then Numbers (map (λ (k : KeptGlyph). unwrap_or (place used k.number) 0) kept) else First
+new_select cff used kept = if is_cid_keyed cff then Numbers (map (λ (k : KeptGlyph). unwrap_or (index_of used k.number) 0) kept) else First
 
 -- ---- the parts
 abbrev pub all_parts : Cff → Option FontString → Option FontString → Option FontString → List FontDict → Select → List (List ℕ) → Parts
@@ -130,7 +130,7 @@ unfoldable pub limited : Parts → Result Parts Error
 limited p =
     check (if any_long (written_numbers p) then false else true) OverflowError
     (check (nat_lt (length (concat p.char_strings) + 1) (2 ^ 32)) OverflowError
-    (check (nat_lt (char_strings_place p) (2 ^ 31)) OverflowError (Ok p)))
+    (check (nat_lt (char_strings_offset p) (2 ^ 31)) OverflowError (Ok p)))
 
 unfoldable pub parts_of : Cff → ℕ → ℕ → List ℕ → Result Parts Error
 parts_of cff tokens depth glyphs = do

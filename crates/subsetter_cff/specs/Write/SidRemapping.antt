@@ -3,7 +3,7 @@ use Rattle.std.specs.Prelude.{ℕ, ◌+◌, nat_lt, ◌==◌, if◌then◌else�
 use Rattle.std.specs.Option.{option_map}
 use Rattle.std.specs.List.{flat_map}
 use Rattle.std.specs.Str.{bytes_eq}
-use Rattle.subsetter_base.specs.Remap.{place_by, with_value}
+use Rattle.subsetter_base.specs.Remap.{index_by, with_value}
 use Rattle.subsetter_cff.specs.declared.read.string_names.StringName.{StringName}
 use Rattle.subsetter_cff.specs.declared.read.string_names.StringName.TheVariants as names
 use Rattle.subsetter_cff.specs.Read.Strings.{FontString, Standard, Custom, standard_strings, string_of}
@@ -16,7 +16,7 @@ pub record Remapped : Type 0 where
 
 -- the new number of a string
 abbrev pub number_in : List (List ℕ) → List ℕ → Option ℕ
-number_in texts s = option_map (λ i. standard_strings + i) (place_by bytes_eq texts s)
+number_in texts s = option_map (λ i. standard_strings + i) (index_by bytes_eq texts s)
 
 abbrev pub known_number : List (ℕ × ℕ) → ℕ → Option ℕ
 known_number [] old = None

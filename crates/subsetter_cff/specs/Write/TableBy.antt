@@ -22,8 +22,8 @@ pub record ArePieces (texts : List (List ℕ)) (t : TableParts) (glyphs size : �
   pub font_dicts : x.font_dicts.items ≡ index (font_dicts_from texts (size + length (charset_bytes glyphs)) (new_dicts t))
 
 -- the places of pieces behind a front of a size
-abbrev pub places_by : ℕ → ℕ → ℕ → ℕ → ℕ → Offsets
-places_by size charset private select dicts = record {
+abbrev pub offsets_by : ℕ → ℕ → ℕ → ℕ → ℕ → Offsets
+offsets_by size charset private select dicts = record {
   charset = size;
   char_strings = size + charset + private + select + dicts;
   font_dicts = size + charset + private + select;
@@ -34,7 +34,7 @@ unfoldable pub laid_by : List (List ℕ) → TableParts → ℕ → List ℕ →
 laid_by texts t glyphs chars =
     let charset = charset_bytes glyphs in
     let dicts = index (font_dicts_from texts (front_size texts t + length charset) (new_dicts t)) in
-    front_by texts t (places_by (front_size texts t) (length charset) (length (privates (new_dicts t))) (length (select_bytes glyphs (select_of_table t.numbers))) (length dicts))
+    front_by texts t (offsets_by (front_size texts t) (length charset) (length (privates (new_dicts t))) (length (select_bytes glyphs (select_of_table t.numbers))) (length dicts))
     ++ (charset ++ (privates (new_dicts t) ++ (select_bytes glyphs (select_of_table t.numbers) ++ (dicts ++ chars))))
 
 abbrev pub table_by : TableParts → List ℕ

@@ -61,8 +61,8 @@ pieces_limits texts t glyphs size = do
   limit (has_index (font_dicts_from texts (size + length (charset_bytes glyphs)) (new_dicts t)))
 
 -- of the places of pieces behind a front of a size
-unfoldable pub places_limits : ℕ → ℕ → ℕ → ℕ → ℕ → Result (Unit {0}) Error
-places_limits size charset private select dicts = do
+unfoldable pub offset_limits : ℕ → ℕ → ℕ → ℕ → ℕ → Result (Unit {0}) Error
+offset_limits size charset private select dicts = do
   privates ← limit (is_offset (size + charset))
   behind_privates ← limit (is_offset (size + charset + private))
   behind_select ← limit (is_offset (size + charset + private + select))
@@ -75,7 +75,7 @@ laid_limits texts t glyphs size =
     let private = length (privates (new_dicts t)) in
     let select = length (select_bytes glyphs (select_of_table t.numbers)) in
     let dicts = length (index (font_dicts_from texts (size + charset) (new_dicts t))) in
-    pieces_limits texts t glyphs size >>= λ pieces. places_limits size charset private select dicts
+    pieces_limits texts t glyphs size >>= λ pieces. offset_limits size charset private select dicts
 
 unfoldable pub table_limits : List (List ℕ) → TableParts → ℕ → Result (Unit {0}) Error
 table_limits texts t glyphs = do

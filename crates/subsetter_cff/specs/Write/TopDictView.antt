@@ -15,8 +15,8 @@ top_dict_of t = record {
   box = map number_of t.font_box.now;
 }
 
-abbrev pub places_of : Offsets → Written_places
-places_of o = record { charset = o.charset; char_strings = o.char_strings; font_dicts = o.font_dicts; select = o.select }
+abbrev pub offsets_of : Offsets → Written_places
+offsets_of o = record { charset = o.charset; char_strings = o.char_strings; font_dicts = o.font_dicts; select = o.select }
 
 -- offsets are at most 2147483647
 pub record AreOffsets (o : Offsets) : Type 0 where

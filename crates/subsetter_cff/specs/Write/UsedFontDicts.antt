@@ -1,7 +1,7 @@
 -- The font dicts that glyphs use: their new numbers follow the old ones.
 use Rattle.std.specs.Prelude.{ℕ, nat_lt, List, length, Result, Ok}
 use Rattle.std.specs.List.{filter, range_with_len}
-use Rattle.subsetter_base.specs.Places.{is_listed}
+use Rattle.subsetter_base.specs.Indexes.{is_listed}
 use Rattle.subsetter_base.specs.declared.error.Error.{Error}
 use Rattle.subsetter_base.specs.declared.error.Error.TheVariants.{OverflowError}
 use Rattle.subsetter_cff.specs.Read.Opened.{check}

@@ -3,7 +3,7 @@
 ghost use Rattle.std.specs.Prelude.{◌≡◌, map};
 ghost use Rattle.subsetter_cffdata.specs.Views.{number_of, operator_of};
 ghost use Rattle.subsetter_cff.specs.Read.Fields.{field_by, taken_as, holds_as, is_demanded};
-ghost use Rattle.subsetter_cff.specs.Read.Said.{said_of};
+ghost use Rattle.subsetter_cff.specs.Read.Values.{values_of};
 
 use crate::read::top_dict::TopDictData;
 use subsetter_cffdata::dict::operators::{first_byte, second_byte};
@@ -71,7 +71,7 @@ pub fn field_of(operator: &Operator) -> Field
 
 /// Takes what an entry says, in place of what an earlier one said, and answers whether its operands are as a top dict demands.
 pub fn take_field(field: Field, operands: &[Number], said: &mut TopDictData) -> bool
-    ensures value { said_of said.new ≡ taken_as (said_of said.old) field (map number_of operands.now) }
+    ensures value { values_of said.new ≡ taken_as (values_of said.old) field (map number_of operands.now) }
     ensures met { result ≡ holds_as field (map number_of operands.now) }
 {
     match field {

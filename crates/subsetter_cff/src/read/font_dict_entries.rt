@@ -7,7 +7,7 @@ ghost use Rattle.subsetter_cff.specs.Read.OperandDemands.{font_dict_demands};
 ghost use Rattle.subsetter_cff.specs.Read.TopDicts.{IsFontDict};
 
 use crate::read::fields::Demands;
-use crate::read::top_dict::{nothing_said, read_entries};
+use crate::read::top_dict::{no_values, read_entries};
 use std::ops::Range;
 use subsetter_cffdata::number::{Number, StringId};
 
@@ -28,7 +28,7 @@ pub fn parse_font_dict_data(dict: &[u8]) -> Option<FontDictData>
     ensures sound { IfSome result (λ _. HasWrongOperands font_dict_demands (entries dict.now) → ⊥) }
     ensures fault { IfNone result (HasWrongOperands font_dict_demands (entries dict.now)) }
 {
-    let mut said = nothing_said();
+    let mut said = no_values();
     if !read_entries(Demands::FontDict, dict, &mut said) {
         return None;
     }

@@ -19,7 +19,7 @@ use crate::read::font_dict::FontDict;
 use crate::read::font_dict_list::parse_font_dicts;
 use crate::read::front::{Front, parse_front};
 use crate::read::private::{PrivateDict, index_at, parse_private};
-use crate::read::top_dict::{TopDictData, nothing_said, read_top_dict};
+use crate::read::top_dict::{TopDictData, no_values, read_top_dict};
 use std::alloc::Global;
 use subsetter_base::error::Error;
 use subsetter_cffdata::index::Index;
@@ -137,7 +137,7 @@ fn open_top<'a>(alloc: Global, front: Front<'a>) -> Result<Table<'a>, Error>
     ensures value { Gives cff_of result (opened_top (front_of front.entry)) }
     ensures ok { IfOk result IsSource }
 {
-    let mut top = nothing_said();
+    let mut top = no_values();
     if !read_top_dict(front.top, &mut top) {
         return Err(Error::MalformedFont);
     }

@@ -7,7 +7,7 @@ ghost use Rattle.subsetter_cff.specs.Read.Fault.{HasWrongOperands};
 ghost use Rattle.subsetter_cff.specs.Read.OperandDemands.{top_demands};
 ghost use Rattle.subsetter_cff.specs.Read.Fields.{demands_of};
 ghost use Rattle.subsetter_cff.specs.Read.Opened.{meets, all_meet};
-ghost use Rattle.subsetter_cff.specs.Read.Said.{said_of, taken, nothing_said};
+ghost use Rattle.subsetter_cff.specs.Read.Values.{values_of, taken, no_values};
 ghost use Rattle.subsetter_cff.specs.Read.TopDicts.{IsTopDict};
 
 use crate::read::fields::{Demands, field_of, is_demanded, take_field};
@@ -52,15 +52,15 @@ fn take_entry(
     said: &mut TopDictData,
 ) -> bool
     ensures met { result ≡ meets (demands_of demands) (record { operator = operator_of operator.now; operands = map number_of operands.now }) }
-    ensures value { said_of said.new ≡ taken (said_of said.old) (operator_of operator.now) (map number_of operands.now) }
+    ensures value { values_of said.new ≡ taken (values_of said.old) (operator_of operator.now) (map number_of operands.now) }
 {
     let field = field_of(operator);
     take_field(field, operands, said) || !is_demanded(demands, field)
 }
 
 /// What a dict without entries says.
-pub fn nothing_said() -> TopDictData
-    ensures { said_of result ≡ nothing_said }
+pub fn no_values() -> TopDictData
+    ensures { values_of result ≡ no_values }
 {
     TopDictData {
         copyright: None,
@@ -80,7 +80,7 @@ pub fn nothing_said() -> TopDictData
 /// What the entries of a top dict or a font dict say; None where one doesn't meet all demands. Seven operands tell of each
 /// entry whether it has as many as are demanded, which are at most six.
 pub fn read_entries(demands: Demands, dict: &[u8], said: &mut TopDictData) -> bool
-    requires { said_of said.old ≡ nothing_said }
+    requires { values_of said.old ≡ no_values }
     ensures met { result ≡ all_meet (demands_of demands) (entries dict.now) }
     ensures value { IsTrue result → IsTopDict (entries dict.now) said.new }
 {
@@ -96,7 +96,7 @@ pub fn read_entries(demands: Demands, dict: &[u8], said: &mut TopDictData) -> bo
 
 /// Reads a top dict into a place, so that its numbers aren't moved; false where an entry has wrong operands.
 pub fn read_top_dict(dict: &[u8], said: &mut TopDictData) -> bool
-    requires { said_of said.old ≡ nothing_said }
+    requires { values_of said.old ≡ no_values }
     ensures value { IsTrue result → IsTopDict (entries dict.now) said.new }
     ensures sound { IsTrue result → HasWrongOperands top_demands (entries dict.now) → ⊥ }
     ensures fault { result ≡ false → HasWrongOperands top_demands (entries dict.now) }

@@ -43,7 +43,7 @@ pub struct WrittenDicts {
 
 /// The place behind a piece. An offset is at most 2147483647: a greater one is `OverflowError`.
 #[tactic(auto, using(crate::proofs::WriteLaws::Offsets::offset_kept, crate::proofs::WriteLaws::Offsets::offset_broken))]
-pub fn place_behind(place: usize, size: usize) -> Result<usize, Error>
+pub fn offset_behind(place: usize, size: usize) -> Result<usize, Error>
     ensures value { IfOk result (λ n. n ≡ place + size) }
     ensures small { OnOk result (place + size < 2 ^ 31) }
     ensures checked { Gives (λ _. tt) result (limit (is_offset (place + size))) }
@@ -77,7 +77,7 @@ fn font_dict_text(
     place: usize,
 ) -> Result<Vec<u8>, Error>
     requires size { size < 2 ^ 31 }
-    requires place { place < 2 ^ 31 }
+    requires offset { place < 2 ^ 31 }
     ensures value { IfOk result (λ v. v.items ≡ dict_bytes (entries_of_font_dict_by (map number_view dict.now.matrix) size place (option_map (number_of remapper.now.texts) (string_view dict.now.name)))) }
     ensures checked { Gives (λ _. tt) result (limit (short (map number_view dict.now.matrix))) }
 {
@@ -107,7 +107,7 @@ fn put_dict(
 {
     let start = made.privates.len();
     write_private(dict, &mut made.privates)?;
-    place_behind(place, made.privates.len())?;
+    offset_behind(place, made.privates.len())?;
     let size = made.privates.len() - start;
     let text = font_dict_text(alloc, remapper, dict, size, place + start)?;
     made.dicts.push(text)?;

@@ -48,7 +48,7 @@ pub fn write_offset(place: u32, operator: Operator, w: &mut Writer) -> Result<()
 /// Writes a size, an offset and an operator.
 pub fn write_range(size: u32, place: u32, operator: Operator, w: &mut Writer) -> Result<(), Error>
     requires size { size < 2 ^ 31 }
-    requires place { place < 2 ^ 31 }
+    requires offset { place < 2 ^ 31 }
     ensures ok { OnOk result (w.new ≡ w.old ++ (offset size ++ (offset place ++ operator_of operator))) }
     ensures err { IfErr result (λ e. e ≡ OutOfMemory) }
 {

@@ -24,7 +24,7 @@ pub fn write_font_dict(
     w: &mut Writer,
 ) -> Result<(), Error>
     requires size { size < 2 ^ 31 }
-    requires place { place < 2 ^ 31 }
+    requires offset { place < 2 ^ 31 }
     ensures ok { OnOk result (w.new ≡ w.old ++ dict (entries_of_font_dict_by (map number_of matrix.now) size place (option_map (λ s. s.0) name))) }
     ensures checked { Gives (λ _. tt) result (limit (short (map number_of matrix.now))) }
 {

@@ -3,7 +3,7 @@
 ghost use Rattle.std.specs.Prelude.{◌≡◌, ◌++◌, ◌∷◌, ◌≤◌, ◌<◌, [], ℕ, false, if◌then◌else◌, map, length, slice_index_or, None, IfOk, OnOk, IfErr};
 ghost use Rattle.std.specs.List.{filter, range_with_len};
 ghost use Rattle.subsetter_base.specs.Gives.{Gives};
-ghost use Rattle.subsetter_base.specs.Places.{place, is_listed, new_index};
+ghost use Rattle.subsetter_base.specs.Indexes.{index_of, is_listed, new_index};
 ghost use Rattle.subsetter_base.specs.declared.error.Error.TheVariants.{OutOfMemory};
 ghost use Rattle.subsetter_cff.specs.Write.UsedFontDicts.{counted_font_dicts};
 
@@ -20,7 +20,7 @@ pub struct FontDictRemapper {
 
 impl Model for FontDictRemapper {
     ghost use Rattle.std.specs.Prelude.{◌≡◌, ℕ, List, length, slice_index_or, None, ◌<◌, ◌≤◌};
-    ghost use Rattle.subsetter_base.specs.Places.{place};
+    ghost use Rattle.subsetter_base.specs.Indexes.{index_of};
 
     ghost Value = { List ℕ };
 
@@ -28,7 +28,7 @@ impl Model for FontDictRemapper {
 
     ghost invariant = { λ r. record {
       few : length r.numbers.items ≤ 255;
-      stands : (n : ℕ) → n < 256 → slice_index_or r.places n None ≡ place r.numbers.items n;
+      stands : (n : ℕ) → n < 256 → slice_index_or r.places n None ≡ index_of r.numbers.items n;
     } };
 }
 
@@ -69,7 +69,7 @@ fn put_marked(places: &mut Vec<u8>, is_marked: bool, place: u8) -> Result<(), Al
 }
 
 /// The places before an end that are marked, ascending.
-fn marked_places(alloc: Global, used: &[bool], end: usize) -> Result<Vec<u8>, Error>
+fn marked_numbers(alloc: Global, used: &[bool], end: usize) -> Result<Vec<u8>, Error>
     requires within { end ≤ length used.now }
     requires few { length used.now ≤ 256 }
     ensures ok { IfOk result (λ v. v.items ≡ filter (λ n. slice_index_or used.now n false) (range_with_len 0 end)) }
@@ -83,9 +83,9 @@ fn marked_places(alloc: Global, used: &[bool], end: usize) -> Result<Vec<u8>, Er
 }
 
 /// Where each number stands first.
-fn places_of(numbers: &[u8]) -> [Option<u8>; 256]
+fn indexes_of(numbers: &[u8]) -> [Option<u8>; 256]
     requires { length numbers.now ≤ 255 }
-    ensures { (n : ℕ) → n < 256 → slice_index_or result n None ≡ place numbers.now n }
+    ensures { (n : ℕ) → n < 256 → slice_index_or result n None ≡ index_of numbers.now n }
 {
     let mut places = [None; 256];
     for i in (0..numbers.len()).rev() {
@@ -100,17 +100,17 @@ impl FontDictRemapper {
         ensures { Gives (λ r. r) result (counted_font_dicts numbers.now) }
     {
         let used = mark_used(numbers);
-        let numbers = marked_places(alloc, &used, end_of(numbers))?;
+        let numbers = marked_numbers(alloc, &used, end_of(numbers))?;
         if numbers.len() > 255 {
             return Err(Error::OverflowError);
         }
-        let places = places_of(&numbers);
+        let places = indexes_of(&numbers);
         Ok(FontDictRemapper { numbers, places })
     }
 
     /// The new number of a font dict.
     pub fn get(&self, number: u8) -> Option<u8>
-        ensures { result ≡ place self.now number }
+        ensures { result ≡ index_of self.now number }
     {
         self.places[number as usize]
     }

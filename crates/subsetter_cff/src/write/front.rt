@@ -9,9 +9,9 @@ ghost use Rattle.subsetter_cff.specs.Write.FrontDraft.{front_of_draft, named_byt
 ghost use Rattle.subsetter_cff.specs.Write.Layout.{placed_entries};
 ghost use Rattle.subsetter_cff.specs.Write.PartsView.{top_by};
 ghost use Rattle.subsetter_cff.specs.Write.TableLimits.{limit, has_index, is_offset, numbers_limits, front_limits};
-ghost use Rattle.subsetter_cff.specs.Write.TopDictView.{top_dict_of, places_of, AreOffsets};
+ghost use Rattle.subsetter_cff.specs.Write.TopDictView.{top_dict_of, offsets_of, AreOffsets};
 
-use crate::write::dicts::place_behind;
+use crate::write::dicts::offset_behind;
 use crate::write::flat_index::{single_size, write_single_header};
 use crate::write::sid_remapper::SidRemapper;
 use crate::write::slice_index::write_index;
@@ -82,7 +82,7 @@ fn sum_front(names: usize, top: usize, tail: usize) -> Result<usize, Error>
     ensures small { IfOk result (λ n. n < 2 ^ 31) }
     ensures checked { Gives (λ _. tt) result (limit (is_offset (4 + (names + (top + tail))))) }
 {
-    place_behind(4, names.saturating_add(top.saturating_add(tail)))
+    offset_behind(4, names.saturating_add(top.saturating_add(tail)))
 }
 
 /// The front but for its offsets. A real that is too long, an INDEX that is too large, and a front that passes 2147483647
@@ -97,7 +97,7 @@ pub fn draft_front(
     ensures checked { Gives (λ _. tt) result (front_limits remapper.now.texts table.now) }
 {
     let named = draft_top(alloc, table, remapper)?;
-    let top = place_behind(named.len(), OFFSETS_SIZE)?;
+    let top = offset_behind(named.len(), OFFSETS_SIZE)?;
     let tail = draft_tail(alloc, remapper)?;
     let size = sum_front(table.names.len(), single_size(top as u32), tail.len())?;
     Ok(FrontDraft { named, tail, size })
@@ -107,7 +107,7 @@ pub fn draft_front(
 fn rewrite_top_dict_index(named: &Writer, offsets: &Offsets, w: &mut Writer) -> Result<(), Error>
     requires offsets { AreOffsets offsets.now }
     requires small { length named.now + 33 < 2 ^ 31 }
-    ensures ok { OnOk result (w.new ≡ w.old ++ index ((named.now ++ dict (placed_entries (places_of offsets.now))) ∷ [])) }
+    ensures ok { OnOk result (w.new ≡ w.old ++ index ((named.now ++ dict (placed_entries (offsets_of offsets.now))) ∷ [])) }
     ensures err { IfErr result (λ e. e ≡ OutOfMemory) }
 {
     write_single_header((named.len() + OFFSETS_SIZE) as u32, w)?;
@@ -124,7 +124,7 @@ pub fn write_front(
 ) -> Result<(), Error>
     requires offsets { AreOffsets offsets.now }
     requires small { length draft.now.named + 33 < 2 ^ 31 }
-    ensures ok { OnOk result (w.new ≡ w.old ++ front_of_draft names.now draft.now.named draft.now.tail (places_of offsets.now)) }
+    ensures ok { OnOk result (w.new ≡ w.old ++ front_of_draft names.now draft.now.named draft.now.tail (offsets_of offsets.now)) }
     ensures err { IfErr result (λ e. e ≡ OutOfMemory) }
 {
     w.extend(&[1, 0, 4, 4])?;

@@ -1,7 +1,7 @@
 //! The laws of the CFF table: what is laid out is read afresh as it was meant, what is answered is a subset, and what is
 //! refused has a fault.
 
-ghost use Rattle.subsetter_cff.specs.Write.CffFault.{RefusedStands, AnsweredExcludes, FaultIsNamed};
+ghost use Rattle.subsetter_cff.specs.Write.CffFault.{RefusedHasFault, AnsweredExcludes, FaultIsNamed};
 ghost use Rattle.subsetter_cff.specs.Write.Headline.{AnsweredIsSubset};
 ghost use Rattle.subsetter_cff.specs.Write.Made.{MadeIsSubset};
 ghost use Rattle.subsetter_cff.specs.Write.ReadsAs.{CharsetIsRead, SelectIsRead, LaidOutIsRead};
@@ -38,8 +38,8 @@ pub fn answered_is_subset()
 
 /// What is refused has a fault of the name that is answered.
 #[tactic(auto, using(crate::proofs::WriteLaws::CffFaults::refused_stands))]
-pub fn refused_stands()
-    ensures { RefusedStands }
+pub fn refused_has_fault()
+    ensures { RefusedHasFault }
 {}
 
 /// Where a table is answered, no fault stands in its source.

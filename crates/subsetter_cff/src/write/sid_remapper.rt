@@ -4,7 +4,7 @@ ghost use Rattle.std.specs.Prelude.{◌≡◌, ◌+◌, ◌<◌, ◌≤◌, [], 
 ghost use Rattle.std.specs.List.{IsDistinct};
 ghost use Rattle.std.specs.Option.{option_map};
 ghost use Rattle.std.specs.Str.{bytes_eq};
-ghost use Rattle.subsetter_base.specs.Remap.{place_by, with_value};
+ghost use Rattle.subsetter_base.specs.Remap.{index_by, with_value};
 ghost use Rattle.subsetter_base.specs.declared.error.Error.TheVariants.{OutOfMemory};
 ghost use Rattle.subsetter_cff.specs.Write.Layout.{with_strings};
 ghost use Rattle.subsetter_cff.specs.Write.SidRemapping.{number_in, known_number, new_number, with_old, texts_of};
@@ -41,8 +41,8 @@ impl<'a> Model for SidRemapper<'a> {
 }
 
 /// Where a string stands first.
-fn place_of(strings: &[&[u8]], string: &[u8]) -> Option<usize>
-    ensures value { result ≡ place_by bytes_eq (views strings.now) string.now }
+fn index_of(strings: &[&[u8]], string: &[u8]) -> Option<usize>
+    ensures value { result ≡ index_by bytes_eq (views strings.now) string.now }
     ensures within { IfSome result (λ i. i < length strings.now) }
 {
     for i in 0..strings.len() {
@@ -70,7 +70,7 @@ fn put_string<'a>(strings: &mut Vec<&'a [u8]>, string: &'a [u8]) -> Result<Strin
     ensures known { IsSome (number_in (views strings.old.items) string.now) → IsOk result }
     ensures err { IfErr result (λ e. e ≡ OutOfMemory) }
 {
-    if let Some(place) = place_of(strings, string) {
+    if let Some(place) = index_of(strings, string) {
         return Ok(number_at(place));
     }
     let number = number_at(strings.len());
@@ -118,7 +118,7 @@ impl<'a> SidRemapper<'a> {
     pub fn get(&self, string: &[u8]) -> Option<StringId>
         ensures { option_map (λ s. s.0) result ≡ number_in self.now.texts string.now }
     {
-        let place = place_of(&self.strings, string)?;
+        let place = index_of(&self.strings, string)?;
         Some(number_at(place))
     }
 

@@ -8,7 +8,7 @@ ghost use Rattle.subsetter_cffdata.specs.Views.{number_of};
 ghost use Rattle.subsetter_cff.specs.Write.FrontDraft.{named_bytes};
 ghost use Rattle.subsetter_cff.specs.Write.Layout.{registry_entry, placed_entries};
 ghost use Rattle.subsetter_cff.specs.Write.TableLimits.{numbers_limits};
-ghost use Rattle.subsetter_cff.specs.Write.TopDictView.{top_dict_of, places_of, AreOffsets};
+ghost use Rattle.subsetter_cff.specs.Write.TopDictView.{top_dict_of, offsets_of, AreOffsets};
 
 use crate::write::entries::{write_integer, write_numbers, write_offset, write_string};
 use subsetter_base::error::Error;
@@ -65,7 +65,7 @@ pub const OFFSETS_SIZE: usize = 33;
 /// Writes the entries with offsets.
 pub fn write_offsets(offsets: &Offsets, w: &mut Writer) -> Result<(), Error>
     requires { AreOffsets offsets.now }
-    ensures ok { OnOk result (w.new ≡ w.old ++ dict (placed_entries (places_of offsets.now))) }
+    ensures ok { OnOk result (w.new ≡ w.old ++ dict (placed_entries (offsets_of offsets.now))) }
     ensures err { IfErr result (λ e. e ≡ OutOfMemory) }
 {
     write_offset(offsets.charset, CHARSET, w)?;

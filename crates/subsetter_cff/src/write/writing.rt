@@ -5,12 +5,12 @@ ghost use Rattle.subsetter_base.specs.Gives.{Gives};
 ghost use Rattle.subsetter_cff.specs.Write.Layout.{strings};
 ghost use Rattle.subsetter_cff.specs.Write.FrontDraft.{IsDraft};
 ghost use Rattle.subsetter_cff.specs.Write.PartsView.{parts_view};
-ghost use Rattle.subsetter_cff.specs.Write.TableBy.{places_by, laid_by, table_by, table_bytes, ArePieces, TableIsLaidOut};
-ghost use Rattle.subsetter_cff.specs.Write.TableLimits.{pieces_limits, places_limits, laid_limits, table_limits};
-ghost use Rattle.subsetter_cff.specs.Write.TopDictView.{places_of, AreOffsets};
+ghost use Rattle.subsetter_cff.specs.Write.TableBy.{offsets_by, laid_by, table_by, table_bytes, ArePieces, TableIsLaidOut};
+ghost use Rattle.subsetter_cff.specs.Write.TableLimits.{pieces_limits, offset_limits, laid_limits, table_limits};
+ghost use Rattle.subsetter_cff.specs.Write.TopDictView.{offsets_of, AreOffsets};
 
 use crate::write::charset::{charset_size, rewrite_charset};
-use crate::write::dicts::{make_index, place_behind, select_size, write_dicts, write_select};
+use crate::write::dicts::{make_index, offset_behind, select_size, write_dicts, write_select};
 use crate::write::flat_index::{header_room, write_flat_header};
 use crate::write::front::{FrontDraft, draft_front, write_front};
 use crate::write::sid_remapper::SidRemapper;
@@ -56,7 +56,7 @@ fn write_pieces(
 {
     let charset = charset_size(glyphs);
     let select = select_size(table, glyphs);
-    let place = place_behind(size, charset)?;
+    let place = offset_behind(size, charset)?;
     let made = write_dicts(alloc, place, remapper, &table.font_dicts)?;
     let font_dicts = make_index(alloc, &made.dicts)?;
     Ok(Pieces {
@@ -68,16 +68,16 @@ fn write_pieces(
 }
 
 /// Where the pieces stand behind a front of a size.
-#[tactic(auto, unfolding(crate::specs::Write::TableLimits::places_limits))]
+#[tactic(auto, unfolding(crate::specs::Write::TableLimits::offset_limits))]
 fn find_offsets(size: usize, pieces: &Pieces) -> Result<Offsets, Error>
     ensures offsets { IfOk result AreOffsets }
-    ensures value { IfOk result (λ o. places_of o ≡ places_by size pieces.now.charset (length pieces.now.privates) pieces.now.select (length pieces.now.font_dicts.items)) }
-    ensures checked { Gives (λ _. tt) result (places_limits size pieces.now.charset (length pieces.now.privates) pieces.now.select (length pieces.now.font_dicts.items)) }
+    ensures value { IfOk result (λ o. offsets_of o ≡ offsets_by size pieces.now.charset (length pieces.now.privates) pieces.now.select (length pieces.now.font_dicts.items)) }
+    ensures checked { Gives (λ _. tt) result (offset_limits size pieces.now.charset (length pieces.now.privates) pieces.now.select (length pieces.now.font_dicts.items)) }
 {
-    let privates = place_behind(size, pieces.charset)?;
-    let select = place_behind(privates, pieces.privates.len())?;
-    let font_dicts = place_behind(select, pieces.select)?;
-    let char_strings = place_behind(font_dicts, pieces.font_dicts.len())?;
+    let privates = offset_behind(size, pieces.charset)?;
+    let select = offset_behind(privates, pieces.privates.len())?;
+    let font_dicts = offset_behind(select, pieces.select)?;
+    let char_strings = offset_behind(font_dicts, pieces.font_dicts.len())?;
     Ok(Offsets {
         charset: size as u32,
         char_strings: char_strings as u32,

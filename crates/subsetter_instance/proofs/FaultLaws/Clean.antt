@@ -10,7 +10,7 @@ use Rattle.subsetter_sfnt.specs.Fault.{HasOpeningFault}
 use Rattle.subsetter_sfnt.specs.Plain.{opened, flavored}
 use Rattle.subsetter_sfnt.specs.Read.{Font, table_in, stored}
 use Rattle.subsetter_sfnt.specs.Written.{fits, start_of}
-use Rattle.subsetter_instance.specs.Source.{Source, place, source_in}
+use Rattle.subsetter_instance.specs.Source.{Source, normalized_coordinates, source_in}
 use Rattle.subsetter_instance.specs.Drawn.{Drawn, drawn}
 use Rattle.subsetter_instance.specs.Lines.{Lines, lines_of}
 use Rattle.subsetter_instance.specs.Plain.{drawn_all, by_flavor, instance_of}
@@ -26,10 +26,10 @@ use Rattle.subsetter_instance.proofs.FileLaws.Instance.{is_instance}
 use Rattle.subsetter_instance.proofs.FileLaws.Steps.{laid_tables, source_glyf, InstanceSteps, font_steps}
 
 module _ (font : Font) (settings : List (Tag × ℤ)) (glyphs : List ℕ) (steps : ℕ) (out : List ℕ) (i : InstanceSteps (stored font) settings glyphs steps out) where
-  same_place : (at : List ℤ) → place (stored font) settings ≡ Ok at → i.at ≡ at
-  same_place at h = done_is i.at at (sym i.place_is ∙ h)
+  same_place : (at : List ℤ) → normalized_coordinates (stored font) settings ≡ Ok at → i.at ≡ at
+  same_place at h = done_is i.at at (sym i.coordinates_are ∙ h)
 
-  same_source : (at : List ℤ) (s : Source) → place (stored font) settings ≡ Ok at → source_in (stored font) (length at) ≡ Some s → i.source ≡ s
+  same_source : (at : List ℤ) (s : Source) → normalized_coordinates (stored font) settings ≡ Ok at → source_in (stored font) (length at) ≡ Some s → i.source ≡ s
   same_source at s p h = just_is i.source s (sym i.source_is ∙ ap (λ (l : List ℤ). source_in (stored font) (length l)) (same_place at p) ∙ h)
 
   no_fault_in : (e : Error) (at : List ℤ) (s : Source) (g : ℕ) → i.at ≡ at → i.source ≡ s → Contains glyphs g → HasGlyphFault s at steps g e → ⊥
@@ -51,7 +51,7 @@ module _ (font : Font) (settings : List (Tag × ℤ)) (glyphs : List ℕ) (steps
   no_fault : (e : Error) → (HasOpeningFault font e → ⊥) → HasInstanceFault font settings glyphs steps e → ⊥
   no_fault e opening (in_opening f) = opening f
   no_fault e opening (no_glyf none cff) = let g = source_glyf (stored font) (length i.at) i.source i.source_is in some_not_none (stored font (codes "glyf")) g.0 g.1 none
-  no_fault e opening (in_place f) = place_clean (stored font) settings i.at e i.place_is f
+  no_fault e opening (in_place f) = place_clean (stored font) settings i.at e i.coordinates_are f
   no_fault e opening (in_versions f) = let clash : true ≡ false = sym (other_version_of (stored font) e f) ∙ i.known in cc
   no_fault e opening (in_source at p f) = tables_clean (stored font) (length at) i.source (ap (λ (l : List ℤ). source_in (stored font) (length l)) (sym (same_place at p)) ∙ i.source_is) f
   no_fault e opening (in_glyph at s g p h there f) = no_fault_in e at s g (same_place at p) (same_source at s p h) there f

@@ -7,7 +7,7 @@ use Rattle.subsetter_base.specs.Bytes.{number}
 use Rattle.subsetter_base.proofs.ByteLemmas.{number-fits, number-short}
 use Rattle.subsetter_base.proofs.Options.{bind_some, just_is, map_none, map_some}
 use Rattle.subsetter_base.specs.Options.{◌>>=◌}
-use Rattle.subsetter_variation.specs.ItemVariations.{entry_place, map_head, mapped_index, split_index}
+use Rattle.subsetter_variation.specs.ItemVariations.{entry_index, map_head, mapped_index, split_index}
 use Rattle.subsetter_instance.specs.ItemFault.{HasMapFault, cut_map_head, other_map_format, cut_map_count, cut_long_map_count, no_entries, cut_entry}
 use Rattle.subsetter_instance.proofs.FaultLaws.Parts.{bind_none, not_long, unless_none, unless_some}
 
@@ -55,7 +55,7 @@ module _ (map : List ℕ) where
     size_by form = form / 16 % 4 + 1
 
     abbrev entry_in : ℕ × ℕ → ℕ → Option ℕ
-    entry_in head form = if head.0 == 0 then None else number map (head.1 + entry_place head.0 g * size_by form) (size_by form)
+    entry_in head form = if head.0 == 0 then None else number map (head.1 + entry_index head.0 g * size_by form) (size_by form)
 
     abbrev last_index : ℕ → ℕ → Option (ℕ × ℕ)
     last_index form entry = Some (split_index (form % 16 + 1) entry)
@@ -77,9 +77,9 @@ module _ (map : List ℕ) where
           | inr a ↦ elim (bind_none (number map 1 1) (after_form a.0) a.2) [
             | inl k ↦ cut_map_head (number-short map 1 1 k)
             | inr b ↦ elim (bind_none (entry_in a.0 b.0) (last_index b.0) b.2) [
-              | inl k ↦ elim (unless_none (a.0.0 == 0) (number map (a.0.1 + entry_place a.0.0 g * size_by b.0) (size_by b.0)) k) [
+              | inl k ↦ elim (unless_none (a.0.0 == 0) (number map (a.0.1 + entry_index a.0.0 g * size_by b.0) (size_by b.0)) k) [
                 | inl l ↦ no_entries a.0.1 (a.1 ∙ ap (λ (n : ℕ). Some (n, a.0.1)) (eqb-true a.0.0 0 l))
-                | inr l ↦ cut_entry a.0.0 a.0.1 b.0 a.1 b.1 (number-short map (a.0.1 + entry_place a.0.0 g * size_by b.0) (size_by b.0) l.1)
+                | inr l ↦ cut_entry a.0.0 a.0.1 b.0 a.1 b.1 (number-short map (a.0.1 + entry_index a.0.0 g * size_by b.0) (size_by b.0) l.1)
               ]
               | inr k ↦ absurd cc
             ]
@@ -91,10 +91,10 @@ module _ (map : List ℕ) where
         let a = bind_some (map_head map) after_head index (sym map_in_turn ∙ h) in
         let b = bind_some (number map 1 1) (after_form a.0) index a.2 in
         let c = bind_some (entry_in a.0 b.0) (last_index b.0) index b.2 in
-        let d = unless_some (a.0.0 == 0) (number map (a.0.1 + entry_place a.0.0 g * size_by b.0) (size_by b.0)) c.0 c.1 in
+        let d = unless_some (a.0.0 == 0) (number map (a.0.1 + entry_index a.0.0 g * size_by b.0) (size_by b.0)) c.0 c.1 in
         by a.0 a.1 (head_steps a.0 a.1) b.0 b.1 (eqb-false a.0.0 0 d.0) c.0 d.1 f
       where
-        by : (head : ℕ × ℕ) → map_head map ≡ Some head → HeadSteps head → (form : ℕ) → number map 1 1 ≡ Some form → head.0 ≢ 0 → (entry : ℕ) → number map (head.1 + entry_place head.0 g * size_by form) (size_by form) ≡ Some entry → HasMapFault map g → ⊥
+        by : (head : ℕ × ℕ) → map_head map ≡ Some head → HeadSteps head → (form : ℕ) → number map 1 1 ≡ Some form → head.0 ≢ 0 → (entry : ℕ) → number map (head.1 + entry_index head.0 g * size_by form) (size_by form) ≡ Some entry → HasMapFault map g → ⊥
         by head is t form form_is some entry entry_is (cut_map_head less) = not_long map 1 1 form less form_is
         by head is t form form_is some entry entry_is (other_map_format format format_is more) =
             let x : format ≡ t.format = just_is format t.format (sym format_is ∙ t.format_is) in
@@ -109,6 +109,6 @@ module _ (map : List ℕ) where
         by head is t form form_is some entry entry_is (cut_entry count at other there other_is less) =
             let x : head ≡ (count, at) = just_is head (count, at) (sym is ∙ there) in
             let y : form ≡ other = just_is form other (sym form_is ∙ other_is) in
-            let at_place : number map (at + entry_place count g * size_by other) (size_by other) ≡ Some entry =
-            ap (λ (p : ℕ × ℕ). number map (p.1 + entry_place p.0 g * size_by other) (size_by other)) (sym x) ∙ ap (λ (n : ℕ). number map (head.1 + entry_place head.0 g * size_by n) (size_by n)) (sym y) ∙ entry_is in
-            not_long map (at + entry_place count g * size_by other) (size_by other) entry less at_place
+            let at_place : number map (at + entry_index count g * size_by other) (size_by other) ≡ Some entry =
+            ap (λ (p : ℕ × ℕ). number map (p.1 + entry_index p.0 g * size_by other) (size_by other)) (sym x) ∙ ap (λ (n : ℕ). number map (head.1 + entry_index head.0 g * size_by n) (size_by n)) (sym y) ∙ entry_is in
+            not_long map (at + entry_index count g * size_by other) (size_by other) entry less at_place

@@ -6,7 +6,7 @@ use Rattle.subsetter_base.specs.declared.error.Error.{Error}
 use Rattle.subsetter_base.specs.declared.error.Error.TheVariants.{UnknownKind, Unimplemented}
 use Rattle.subsetter_sfnt.specs.declared.flavor.FontFlavor.{FontFlavor}
 use Rattle.subsetter_sfnt.specs.declared.flavor.FontFlavor.TheVariants.{TrueType, Cff}
-use Rattle.subsetter_sfnt.specs.Extras.{by_hinting, by_names, by_glyph_names, asked}
+use Rattle.subsetter_sfnt.specs.Extras.{by_hinting, by_names, by_glyph_names, requested}
 use Rattle.subsetter_sfnt.specs.Fault.{HasOpeningFault}
 use Rattle.subsetter_sfnt.specs.Plain.{opened, flavored}
 use Rattle.subsetter_sfnt.specs.Read.{Font, table_in, stored}
@@ -54,10 +54,10 @@ flavored_is : (find : List ℕ → Option (List ℕ)) → flavored find ≡ flav
 unfolding flavored flavored_by
 flavored_is find = refl
 
-pub same_flavor : (x : Extras) (find : List ℕ → Option (List ℕ)) → flavored (asked x find) ≡ flavored find
+pub same_flavor : (x : Extras) (find : List ℕ → Option (List ℕ)) → flavored (requested x find) ≡ flavored find
 same_flavor x find =
-    flavored_is (asked x find) ∙ ap (λ o. flavored_by o (asked x find (codes "CFF ")) (asked x find (codes "CFF2"))) (glyf_asked x.hinting x.names x.glyph_names (find (codes "glyf")))
-    ∙ ap (λ o. flavored_by (find (codes "glyf")) o (asked x find (codes "CFF2"))) (cff_asked x.hinting x.names x.glyph_names (find (codes "CFF "))) ∙ ap (λ o. flavored_by (find (codes "glyf")) (find (codes "CFF ")) o) (cff2_asked x.hinting x.names x.glyph_names (find (codes "CFF2")))
+    flavored_is (requested x find) ∙ ap (λ o. flavored_by o (requested x find (codes "CFF ")) (requested x find (codes "CFF2"))) (glyf_asked x.hinting x.names x.glyph_names (find (codes "glyf")))
+    ∙ ap (λ o. flavored_by (find (codes "glyf")) o (requested x find (codes "CFF2"))) (cff_asked x.hinting x.names x.glyph_names (find (codes "CFF "))) ∙ ap (λ o. flavored_by (find (codes "glyf")) (find (codes "CFF ")) o) (cff2_asked x.hinting x.names x.glyph_names (find (codes "CFF2")))
     ∙ sym (flavored_is find)
 
 -- the tables of the directory that was opened

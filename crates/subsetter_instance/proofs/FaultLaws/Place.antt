@@ -19,8 +19,8 @@ use Rattle.subsetter_variation.specs.Axes.{axes, axes_at, axis_of}
 use Rattle.subsetter_variation.specs.Segments.{axis_value_maps, segment_map_at}
 use Rattle.subsetter_variation.specs.Coordinates.{coordinate, coordinates_at, coordinates_by, is_other, is_other_version, mapped_coordinates, normalized, normalized_or_fault}
 use Rattle.subsetter_variation.specs.declared.axes.Axis.{Axis}
-use Rattle.subsetter_instance.specs.Source.{place, place_by}
-use Rattle.subsetter_instance.specs.PlaceFault.{HasOtherVersion, HasAxesFault, HasSegmentFault, HasAvarFault, HasPlaceFault, cut_fvar, short_axis, cut_axis, cut_count, cut_map, later_map, cut_avar, other_axis_count, in_segments, other_fvar, other_avar, in_axes, in_avar}
+use Rattle.subsetter_instance.specs.Source.{normalized_coordinates, normalized_by}
+use Rattle.subsetter_instance.specs.CoordinatesFault.{HasOtherVersion, HasAxesFault, HasSegmentFault, HasAvarFault, HasCoordinatesFault, cut_fvar, short_axis, cut_axis, cut_count, cut_map, later_map, cut_avar, other_axis_count, in_segments, other_fvar, other_avar, in_axes, in_avar}
 use Rattle.subsetter_instance.proofs.FaultLaws.Parts.{bind_none, if_none, if_some, not_long, some_is_not, unless_none, unless_some}
 
 -- ---- versions
@@ -224,13 +224,13 @@ module _ (find : List ℕ → Option (List ℕ)) (settings : List (Tag × ℤ)) 
   versioned b fvar avar = cond b (Err Unimplemented) (ok_or (normalized fvar avar settings) MalformedFont)
 
   -- which of the two tables has another version
-  version_is_other : (fvar : List ℕ) → find (codes "fvar") ≡ Some fvar → (is_other_version (Some fvar) || is_other_version (find (codes "avar"))) ≡ true → HasPlaceFault find Unimplemented
+  version_is_other : (fvar : List ℕ) → find (codes "fvar") ≡ Some fvar → (is_other_version (Some fvar) || is_other_version (find (codes "avar"))) ≡ true → HasCoordinatesFault find Unimplemented
   version_is_other fvar is h = elim (or_cases (is_other_version (Some fvar)) (is_other_version (find (codes "avar"))) h) [
     | inl k ↦ other_fvar (other_is find (codes "fvar") (ap is_other_version is ∙ k))
     | inr k ↦ other_avar (is_some_of (find (codes "fvar")) fvar is) (other_is find (codes "avar") k)
   ]
 
-  not_normalized : (fvar : List ℕ) (avar : Option (List ℕ)) → find (codes "fvar") ≡ Some fvar → find (codes "avar") ≡ avar → normalized fvar avar settings ≡ None → HasPlaceFault find MalformedFont
+  not_normalized : (fvar : List ℕ) (avar : Option (List ℕ)) → find (codes "fvar") ≡ Some fvar → find (codes "avar") ≡ avar → normalized fvar avar settings ≡ None → HasCoordinatesFault find MalformedFont
   unfolding normalized
   not_normalized fvar avar is avar_is h =
       elim (bind_none (axes fvar) (coordinates_by avar settings) h) [
@@ -238,23 +238,23 @@ module _ (find : List ℕ → Option (List ℕ)) (settings : List (Tag × ℤ)) 
         | inr k ↦ by avar avar_is k.0 k.1 k.2
       ]
     where
-      by : (avar : Option (List ℕ)) → find (codes "avar") ≡ avar → (l : List Axis) → axes fvar ≡ Some l → coordinates_by avar settings l ≡ None → HasPlaceFault find MalformedFont
+      by : (avar : Option (List ℕ)) → find (codes "avar") ≡ avar → (l : List Axis) → axes fvar ≡ Some l → coordinates_by avar settings l ≡ None → HasCoordinatesFault find MalformedFont
       by None avar_is l read k = absurd cc
       by (Some avar) avar_is l read k =
           let p = axes_parts fvar l read in
           in_avar fvar avar (length l) is avar_is (p.count_is ∙ ap (λ (n : ℕ). Some n) (sym (axes_count p.count p.size fvar p.at l p.records))) (avar_refused settings avar l k)
 
-  pub place_refused : (e : Error) → place find settings ≡ Err e → HasPlaceFault find e
+  pub place_refused : (e : Error) → normalized_coordinates find settings ≡ Err e → HasCoordinatesFault find e
   unfolding normalized_or_fault
   place_refused e h = by (find (codes "fvar")) refl h
     where
-      by_version : (fvar : List ℕ) → find (codes "fvar") ≡ Some fvar → (b : Bool) → (is_other_version (Some fvar) || is_other_version (find (codes "avar"))) ≡ b → versioned b fvar (find (codes "avar")) ≡ Err e → HasPlaceFault find e
-      by_version fvar is true t k = subst (HasPlaceFault find) (failed_is {A = List ℤ} Unimplemented e k) (version_is_other fvar is t)
+      by_version : (fvar : List ℕ) → find (codes "fvar") ≡ Some fvar → (b : Bool) → (is_other_version (Some fvar) || is_other_version (find (codes "avar"))) ≡ b → versioned b fvar (find (codes "avar")) ≡ Err e → HasCoordinatesFault find e
+      by_version fvar is true t k = subst (HasCoordinatesFault find) (failed_is {A = List ℤ} Unimplemented e k) (version_is_other fvar is t)
       by_version fvar is false t k =
           let n = named_err (normalized fvar (find (codes "avar")) settings) MalformedFont e k in
-          subst (HasPlaceFault find) n.1 (not_normalized fvar (find (codes "avar")) is refl n.0)
+          subst (HasCoordinatesFault find) n.1 (not_normalized fvar (find (codes "avar")) is refl n.0)
 
-      by : (o : Option (List ℕ)) → find (codes "fvar") ≡ o → place_by o (find (codes "avar")) settings ≡ Err e → HasPlaceFault find e
+      by : (o : Option (List ℕ)) → find (codes "fvar") ≡ o → normalized_by o (find (codes "avar")) settings ≡ Err e → HasCoordinatesFault find e
       by None is k = absurd cc
       by (Some fvar) is k = by_version fvar is (is_other_version (Some fvar) || is_other_version (find (codes "avar"))) refl k
 
@@ -265,9 +265,9 @@ module _ (find : List ℕ → Option (List ℕ)) (settings : List (Tag × ℤ)) 
     axes_are : axes fvar ≡ Some axes_read
     read : coordinates_by (find (codes "avar")) settings axes_read ≡ Some at
 
-  place_steps : (fvar : List ℕ) (at : List ℤ) → find (codes "fvar") ≡ Some fvar → place find settings ≡ Ok at → PlaceSteps fvar at
+  place_steps : (fvar : List ℕ) (at : List ℤ) → find (codes "fvar") ≡ Some fvar → normalized_coordinates find settings ≡ Ok at → PlaceSteps fvar at
   unfolding normalized_or_fault normalized
-  place_steps fvar at is h = by (is_other_version (Some fvar) || is_other_version (find (codes "avar"))) refl (ap (λ o. place_by o (find (codes "avar")) settings) (sym is) ∙ h)
+  place_steps fvar at is h = by (is_other_version (Some fvar) || is_other_version (find (codes "avar"))) refl (ap (λ o. normalized_by o (find (codes "avar")) settings) (sym is) ∙ h)
     where
       by : (b : Bool) → (is_other_version (Some fvar) || is_other_version (find (codes "avar"))) ≡ b → versioned b fvar (find (codes "avar")) ≡ Ok at → PlaceSteps fvar at
       by true t k = absurd cc
@@ -281,7 +281,7 @@ module _ (find : List ℕ → Option (List ℕ)) (settings : List (Tag × ℤ)) 
       let same : n ≡ length s.axes_read = just_is n p.count (sym n_is ∙ p.count_is) ∙ sym (axes_count p.count p.size fvar p.at s.axes_read p.records) in
       avar_clean settings avar s.axes_read at (ap (λ o. coordinates_by o settings s.axes_read) (sym is) ∙ s.read) (subst (λ (k : ℕ). HasAvarFault k avar) same f)
 
-  pub place_clean : (at : List ℤ) (e : Error) → place find settings ≡ Ok at → HasPlaceFault find e → ⊥
+  pub place_clean : (at : List ℤ) (e : Error) → normalized_coordinates find settings ≡ Ok at → HasCoordinatesFault find e → ⊥
   place_clean at _ h (other_fvar f) =
       let s = place_steps f.table at f.table_is h in
       let t : is_other_version (Some f.table) ≡ true = ap is_other_version (sym f.table_is) ∙ is_other_of find (codes "fvar") f in

@@ -13,7 +13,7 @@ use Rattle.subsetter_sfnt.specs.Plain.{opened, flavored, file_of}
 use Rattle.subsetter_sfnt.specs.Read.{Font, table_in, stored}
 use Rattle.subsetter_sfnt.specs.Written.{Table, fits, file, start_of, kind_word}
 use Rattle.subsetter_sfnt.proofs.Laws.Fault.{opened_refused}
-use Rattle.subsetter_instance.specs.Source.{Source, place, source_in, source_or_fault}
+use Rattle.subsetter_instance.specs.Source.{Source, normalized_coordinates, source_in, source_or_fault}
 use Rattle.subsetter_instance.specs.Drawn.{Drawn}
 use Rattle.subsetter_instance.specs.Lines.{Lines, lines_of}
 use Rattle.subsetter_instance.specs.Plain.{drawn_all, header, laid, instance_in, by_flavor, instance_of}
@@ -43,7 +43,7 @@ module _ (font : Font) (settings : List (Tag × ℤ)) (glyphs : List ℕ) (steps
   abbrev Faulty : Type 0
   Faulty = HasInstanceFault font settings glyphs steps e
 
-  module _ (at : List ℤ) (s : Source) (placed : place (stored font) settings ≡ Ok at) (read : source_in (stored font) (length at) ≡ Some s) where
+  module _ (at : List ℤ) (s : Source) (placed : normalized_coordinates (stored font) settings ≡ Ok at) (read : source_in (stored font) (length at) ≡ Some s) where
     unlaid : (ds : List Drawn) (l : Lines) → drawn_all s at steps glyphs ≡ Ok ds → lines_of (stored font) at ≡ Ok l → laid (stored font) l s glyphs ds ≡ Err e → Faulty
     unfolding laid
     unlaid ds l drawn varies h =
@@ -69,7 +69,7 @@ module _ (font : Font) (settings : List (Tag × ℤ)) (glyphs : List ℕ) (steps
           | inr k ↦ unvaried k.0 k.1 k.2
         ]
 
-  unread : (at : List ℤ) → place (stored font) settings ≡ Ok at → (source_or_fault (stored font) (length at) >>= λ s. drawn_all s at steps glyphs >>= λ ds. lines_of (stored font) at >>= λ l. laid (stored font) l s glyphs ds) ≡ Err e → Faulty
+  unread : (at : List ℤ) → normalized_coordinates (stored font) settings ≡ Ok at → (source_or_fault (stored font) (length at) >>= λ s. drawn_all s at steps glyphs >>= λ ds. lines_of (stored font) at >>= λ l. laid (stored font) l s glyphs ds) ≡ Err e → Faulty
   unread at placed h =
       elim (bind_err (source_or_fault (stored font) (length at)) (λ s. drawn_all s at steps glyphs >>= λ ds. lines_of (stored font) at >>= λ l. laid (stored font) l s glyphs ds) e h) [
         | inl k ↦ elim (source_refused (stored font) (length at) e k) [
@@ -82,7 +82,7 @@ module _ (font : Font) (settings : List (Tag × ℤ)) (glyphs : List ℕ) (steps
   in_tables : instance_in (stored font) settings glyphs steps ≡ Err e → Faulty
   unfolding instance_in
   in_tables h =
-      elim (bind_err (place (stored font) settings) (λ at. source_or_fault (stored font) (length at) >>= λ s. drawn_all s at steps glyphs >>= λ ds. lines_of (stored font) at >>= λ l. laid (stored font) l s glyphs ds) e h) [
+      elim (bind_err (normalized_coordinates (stored font) settings) (λ at. source_or_fault (stored font) (length at) >>= λ s. drawn_all s at steps glyphs >>= λ ds. lines_of (stored font) at >>= λ l. laid (stored font) l s glyphs ds) e h) [
         | inl k ↦ in_place (place_refused (stored font) settings e k)
         | inr k ↦ unread k.0 k.1 k.2
       ]

@@ -274,5 +274,5 @@ module _ (find : List ℕ → Option (List ℕ)) (axes : ℕ) where
       by t (no_hmtx none) = some_not_none (find (codes "hmtx")) t.hmtx t.hmtx_is none
       by t (cut_head head is less) = long_enough (codes "head") head t.head 50 t.format t.head_is t.format_is is less
       by t (cut_maxp maxp is less) = long_enough (codes "maxp") maxp t.maxp 4 s.count t.maxp_is t.count_is is less
-      by t (cut_hhea hhea is less) = long_enough (codes "hhea") hhea t.hhea 34 s.pairs t.hhea_is t.pairs_is is less
+      by t (cut_hhea hhea is less) = long_enough (codes "hhea") hhea t.hhea 34 s.number_of_h_metrics t.hhea_is t.pairs_is is less
       by t (in_gvar gvar is g) = gvar_clean axes gvar t.gvar (ap (λ o. variations_in o axes) (sym is) ∙ t.gvar_is) g

@@ -128,26 +128,26 @@ module _ (s : Source) (g : ℕ) where
   own_pair = metric_at s.hmtx (4 * g) (4 * g + 2)
 
   abbrev last_pair : Option LongHorMetric
-  last_pair = metric_at s.hmtx (4 * (s.pairs - 1)) (4 * s.pairs + 2 * (g - s.pairs))
+  last_pair = metric_at s.hmtx (4 * (s.number_of_h_metrics - 1)) (4 * s.number_of_h_metrics + 2 * (g - s.number_of_h_metrics))
 
   pub hmtx_refused : metric s g ≡ None → HasHmtxFault s g
   unfolding metric
-  hmtx_refused h = by (nat_lt g s.pairs) (s.pairs == 0) refl refl h
+  hmtx_refused h = by (nat_lt g s.number_of_h_metrics) (s.number_of_h_metrics == 0) refl refl h
     where
-      by : (b c : Bool) → nat_lt g s.pairs ≡ b → (s.pairs == 0) ≡ c → cond b own_pair (cond c None last_pair) ≡ None → HasHmtxFault s g
-      by true c t u k = cut_pair (ltb-true g s.pairs t) (let less = pair_none (4 * g) (4 * g + 2) (omega arith) k in omega arith)
-      by false true t u k = no_pairs (eqb-true s.pairs 0 u)
-      by false false t u k = cut_bearing (ltb-false g s.pairs t) (pair_none (4 * (s.pairs - 1)) (4 * s.pairs + 2 * (g - s.pairs)) (omega arith) k)
+      by : (b c : Bool) → nat_lt g s.number_of_h_metrics ≡ b → (s.number_of_h_metrics == 0) ≡ c → cond b own_pair (cond c None last_pair) ≡ None → HasHmtxFault s g
+      by true c t u k = cut_pair (ltb-true g s.number_of_h_metrics t) (let less = pair_none (4 * g) (4 * g + 2) (omega arith) k in omega arith)
+      by false true t u k = no_pairs (eqb-true s.number_of_h_metrics 0 u)
+      by false false t u k = cut_bearing (ltb-false g s.number_of_h_metrics t) (pair_none (4 * (s.number_of_h_metrics - 1)) (4 * s.number_of_h_metrics + 2 * (g - s.number_of_h_metrics)) (omega arith) k)
 
   pub hmtx_missing : HasHmtxFault s g → metric s g ≡ None
   unfolding metric
-  hmtx_missing f = missing (metric s g) (λ m h. by m (nat_lt g s.pairs) (s.pairs == 0) refl refl h f)
+  hmtx_missing f = missing (metric s g) (λ m h. by m (nat_lt g s.number_of_h_metrics) (s.number_of_h_metrics == 0) refl refl h f)
     where
-      by : (m : LongHorMetric) (b c : Bool) → nat_lt g s.pairs ≡ b → (s.pairs == 0) ≡ c → cond b own_pair (cond c None last_pair) ≡ Some m → HasHmtxFault s g → ⊥
-      by m true c t u k (no_pairs none) = let less = ltb-true g s.pairs t in omega arith
+      by : (m : LongHorMetric) (b c : Bool) → nat_lt g s.number_of_h_metrics ≡ b → (s.number_of_h_metrics == 0) ≡ c → cond b own_pair (cond c None last_pair) ≡ Some m → HasHmtxFault s g → ⊥
+      by m true c t u k (no_pairs none) = let less = ltb-true g s.number_of_h_metrics t in omega arith
       by m true c t u k (cut_pair less cut) = let fits = pair_some (4 * g) (4 * g + 2) m k in omega arith
-      by m true c t u k (cut_bearing le cut) = let less = ltb-true g s.pairs t in omega arith
+      by m true c t u k (cut_bearing le cut) = let less = ltb-true g s.number_of_h_metrics t in omega arith
       by m false true t u k f = absurd cc
-      by m false false t u k (no_pairs none) = eqb-false s.pairs 0 u none
-      by m false false t u k (cut_pair less cut) = let le = ltb-false g s.pairs t in omega arith
-      by m false false t u k (cut_bearing le cut) = let fits = pair_some (4 * (s.pairs - 1)) (4 * s.pairs + 2 * (g - s.pairs)) m k in omega arith
+      by m false false t u k (no_pairs none) = eqb-false s.number_of_h_metrics 0 u none
+      by m false false t u k (cut_pair less cut) = let le = ltb-false g s.number_of_h_metrics t in omega arith
+      by m false false t u k (cut_bearing le cut) = let fits = pair_some (4 * (s.number_of_h_metrics - 1)) (4 * s.number_of_h_metrics + 2 * (g - s.number_of_h_metrics)) m k in omega arith

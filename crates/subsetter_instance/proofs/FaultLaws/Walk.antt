@@ -271,18 +271,18 @@ record StopsAt (child : Child) (cs : List Component) (k : ℕ) (xs ys : List ℤ
   are : cs ≡ before ++ component ∷ more
   to : Unfolded × ℕ
   to_is : joined child before k xs ys all ≡ Ok to
-  place : ℕ
-  place_is : place ≡ k + length before
-  why : (child to.1 component.glyph ≡ Err e) ⊎ ((part : Unfolded × ℕ) × (child to.1 component.glyph ≡ Ok part) × (with_component component (slice_index_or xs place (pos 0)) (slice_index_or ys place (pos 0)) to.0 part.0 part.1 ≡ Err e))
+  index : ℕ
+  index_is : index ≡ k + length before
+  why : (child to.1 component.glyph ≡ Err e) ⊎ ((part : Unfolded × ℕ) × (child to.1 component.glyph ≡ Ok part) × (with_component component (slice_index_or xs index (pos 0)) (slice_index_or ys index (pos 0)) to.0 part.0 part.1 ≡ Err e))
 
 joined_refused : (child : Child) (cs : List Component) (k : ℕ) (xs ys : List ℤ) (all : Unfolded × ℕ) (e : Error) → joined child cs k xs ys all ≡ Err e → StopsAt child cs k xs ys all e
 unfolding joined
 joined_refused child [] k xs ys all e h = absurd cc
 joined_refused child (c ∷ cs) k xs ys all e h =
     elim (bind_err (child all.1 c.glyph) (joined_next child c cs k xs ys all) e h) [
-      | inl l ↦ record { before = []; component = c; more = cs; are = refl; to = all; to_is = refl; place = k; place_is = omega arith; why = inl l }
+      | inl l ↦ record { before = []; component = c; more = cs; are = refl; to = all; to_is = refl; index = k; index_is = omega arith; why = inl l }
       | inr l ↦ elim (bind_err (with_component c (slice_index_or xs k (pos 0)) (slice_index_or ys k (pos 0)) all.0 l.0.0 l.0.1) (joined child cs (k + 1) xs ys) e l.2) [
-        | inl n ↦ record { before = []; component = c; more = cs; are = refl; to = all; to_is = refl; place = k; place_is = omega arith; why = inr (l.0, l.1, n) }
+        | inl n ↦ record { before = []; component = c; more = cs; are = refl; to = all; to_is = refl; index = k; index_is = omega arith; why = inr (l.0, l.1, n) }
         | inr n ↦ deeper l.0 n.0 l.1 n.1 (joined_refused child cs (k + 1) xs ys n.0 e n.2)
       ]
     ]
@@ -296,8 +296,8 @@ joined_refused child (c ∷ cs) k xs ys all e h =
       to = t.to;
       to_is = behind (child all.1 c.glyph) (joined_next child c t.before k xs ys all) part part_is
           ∙ behind (with_component c (slice_index_or xs k (pos 0)) (slice_index_or ys k (pos 0)) all.0 part.0 part.1) (joined child t.before (k + 1) xs ys) on on_is ∙ t.to_is;
-      place = t.place;
-      place_is = let is = t.place_is in omega arith;
+      index = t.index;
+      index_is = let is = t.index_is in omega arith;
       why = t.why;
     }
 
@@ -331,8 +331,8 @@ module _ (s : Source) (at : List ℤ) where
   in_joined : (depth steps g : ℕ) (bytes : List ℕ) (m : LongHorMetric) (c : Composite) (e : Error) → counted_description s g ≡ Some bytes → metric s g ≡ Some m → is_composite bytes ≡ true → composite s at steps g bytes m ≡ Ok c
       → ((left h : ℕ) → unfolded depth s at left h ≡ Err e → HasWalkFault s at depth left h e) → StopsAt (unfolded depth s at) c.components 0 c.xs c.ys (no_points c.left c.right, c.steps) e → HasWalkFault s at (suc depth) steps g e
   in_joined depth steps g bytes m c e is m_is kind c_is deeper t =
-      let here : t.place ≡ length t.before = let p = t.place_is in omega arith in
-      let i : IsAtComponent s at depth steps g t.component (slice_index_or c.xs t.place (pos 0)) (slice_index_or c.ys t.place (pos 0)) t.to = record {
+      let here : t.index ≡ length t.before = let p = t.index_is in omega arith in
+      let i : IsAtComponent s at depth steps g t.component (slice_index_or c.xs t.index (pos 0)) (slice_index_or c.ys t.index (pos 0)) t.to = record {
         bytes = bytes;
         description_is = is;
         m = m;
@@ -348,9 +348,9 @@ module _ (s : Source) (at : List ℤ) where
         all_are = t.to_is;
       } in
       elim t.why [
-        | inl k ↦ in_component depth steps g t.component (slice_index_or c.xs t.place (pos 0)) (slice_index_or c.ys t.place (pos 0)) t.to i (deeper t.to.1 t.component.glyph k)
-        | inr k ↦ in_place depth steps g t.component (slice_index_or c.xs t.place (pos 0)) (slice_index_or c.ys t.place (pos 0)) t.to k.0 i k.1
-            (part_refused t.component (slice_index_or c.xs t.place (pos 0)) (slice_index_or c.ys t.place (pos 0)) (with_metrics t.component.flags t.to.0 k.0.0) k.0.0 k.0.1 e k.2)
+        | inl k ↦ in_component depth steps g t.component (slice_index_or c.xs t.index (pos 0)) (slice_index_or c.ys t.index (pos 0)) t.to i (deeper t.to.1 t.component.glyph k)
+        | inr k ↦ in_place depth steps g t.component (slice_index_or c.xs t.index (pos 0)) (slice_index_or c.ys t.index (pos 0)) t.to k.0 i k.1
+            (part_refused t.component (slice_index_or c.xs t.index (pos 0)) (slice_index_or c.ys t.index (pos 0)) (with_metrics t.component.flags t.to.0 k.0.0) k.0.0 k.0.1 e k.2)
       ]
 
   kind_refused : (depth steps g : ℕ) (bytes : List ℕ) (m : LongHorMetric) (e : Error) → ((left h : ℕ) → unfolded depth s at left h ≡ Err e → HasWalkFault s at depth left h e) → counted_description s g ≡ Some bytes → metric s g ≡ Some m → (b : Bool) → is_composite bytes ≡ b

@@ -67,7 +67,7 @@ module _ (font : Font) (settings : List (Tag × ℤ)) (glyphs : List ℕ) (steps
   long_head = omega (arith, number-fits read.head 50 2 read.format read.format_is, ap length (just_is read.head i.head (sym read.head_is ∙ i.head_is)))
 
   long_hhea : 36 ≤ length hhea
-  long_hhea = lines_long (stored font) i.at i.lines (subst (λ (o : Option (List ℕ)). IfSome o (λ h. 36 ≤ length h)) (sym read.hhea_is) (number-fits read.hhea 34 2 i.source.pairs read.pairs_is)) i.lines_are
+  long_hhea = lines_long (stored font) i.at i.lines (subst (λ (o : Option (List ℕ)). IfSome o (λ h. 36 ≤ length h)) (sym read.hhea_is) (number-fits read.hhea 34 2 i.source.number_of_h_metrics read.pairs_is)) i.lines_are
 
   few : count < 2 ^ 16
   few = number-small read.maxp 4 count (stored_bytes font (codes "maxp") read.maxp bytes read.maxp_is) read.count_is
@@ -96,13 +96,13 @@ module _ (font : Font) (settings : List (Tag × ℤ)) (glyphs : List ℕ) (steps
 
   -- the file's own tables
   abbrev pub afresh : Source
-  afresh = record { glyf = glyf_bytes all; loca = loca_bytes long (offsets_from 0 all); long = long; count = count; pairs = count; hmtx = hmtx_bytes all; gvar = None; hvar = None }
+  afresh = record { glyf = glyf_bytes all; loca = loca_bytes long (offsets_from 0 all); long = long; count = count; number_of_h_metrics = count; hmtx = hmtx_bytes all; gvar = None; hvar = None }
 
   pub read_back : source_in (stored (as_font made)) 0 ≡ Some afresh
   read_back =
       source_by (stored (as_font made)) (glyf_bytes all) (loca_bytes long (offsets_from 0 all)) new_head (be (format_bytes long)) (maxp_bytes count i.ds) count (hhea_bytes count i.ds hhea) count (hmtx_bytes all) (back (codes "glyf") refl) (back (codes "loca") refl) head_back (head_format word long i.ds i.head long_head)
       (back (codes "maxp") refl) (count_back count i.ds few) (back (codes "hhea") refl) (pairs_back count i.ds hhea long_hhea few) (back (codes "hmtx") refl) (back (codes "gvar") refl) (back (codes "HVAR") refl)
-      ∙ ap (λ (l : Bool). Some (record { glyf = glyf_bytes all; loca = loca_bytes long (offsets_from 0 all); long = l; count = count; pairs = count; hmtx = hmtx_bytes all; gvar = None; hvar = None })) (format_back long)
+      ∙ ap (λ (l : Bool). Some (record { glyf = glyf_bytes all; loca = loca_bytes long (offsets_from 0 all); long = l; count = count; number_of_h_metrics = count; hmtx = hmtx_bytes all; gvar = None; hvar = None })) (format_back long)
 
   -- ---- glyphs
 

@@ -5,7 +5,7 @@ use Rattle.std.specs.Option.{option_and_then, option_map}
 use Rattle.std.proofs.lemmas.Bool.{eqb-true, ltb-true, eq-eqb}
 use Rattle.std.proofs.lemmas.List.FromFn.{get_or-map-range_with_len, length-map-range_with_len}
 use Rattle.subsetter_base.specs.Bytes.{◌>>=◌}
-use Rattle.subsetter_base.specs.Places.{place}
+use Rattle.subsetter_base.specs.Indexes.{index_of}
 use Rattle.subsetter_base.specs.declared.error.Error.TheVariants.{MalformedFont}
 use Rattle.subsetter_base.proofs.Results.{done_is, bind_ok}
 use Rattle.subsetter_instance.specs.Source.{Source}
@@ -48,7 +48,7 @@ among_by true d ds o = refl
 among_by false d ds o = one_later d ds o
 
 pub among_cons : (q : ℕ) (gs : List ℕ) (d : Drawn) (ds : List Drawn) (g : ℕ) → glyph_among (q ∷ gs) (d ∷ ds) g ≡ cond (eqb q g) (Some d) (glyph_among gs ds g)
-among_cons q gs d ds g = among_by (eqb q g) d ds (place gs g)
+among_cons q gs d ds g = among_by (eqb q g) d ds (index_of gs g)
 
 contains_rest : (q g : ℕ) (gs : List ℕ) → eqb q g ≡ false → Contains (q ∷ gs) g → Contains gs g
 contains_rest q g gs e (zero, lt, is) = absurd (let t = sym e ∙ eq-eqb q g is in cc)
@@ -75,11 +75,11 @@ is_among s at steps (q ∷ gs) ds g h there = let p = parts s at steps q gs ds h
         record { d = m.d; among = ap (λ l. glyph_among (q ∷ gs) l g) p.all ∙ among_cons q gs p.d p.rest g ∙ ap (λ b. cond b (Some p.d) (glyph_among gs p.rest g)) e ∙ m.among; drawn_is = m.drawn_is }
 
 -- nothing is drawn of a glyph that wasn't
-pub not_placed : (glyphs : List ℕ) (g : ℕ) → (Contains glyphs g → ⊥) → place glyphs g ≡ None
+pub not_placed : (glyphs : List ℕ) (g : ℕ) → (Contains glyphs g → ⊥) → index_of glyphs g ≡ None
 not_placed [] g none = refl
 not_placed (q ∷ gs) g none = by (not_placed gs g (λ c. none (suc c.0, omega (arith, c.1), c.2))) (eqb q g) refl
   where
-    by : place gs g ≡ None → (b : Bool) → eqb q g ≡ b → cond b (Some 0) (option_map (λ i. i + 1) (place gs g)) ≡ None
+    by : index_of gs g ≡ None → (b : Bool) → eqb q g ≡ b → cond b (Some 0) (option_map (λ i. i + 1) (index_of gs g)) ≡ None
     by later true e = absurd (none (0, omega arith, eqb-true q g e))
     by later false e = ap (option_map (λ i. i + 1)) later
 

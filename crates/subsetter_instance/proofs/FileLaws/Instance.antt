@@ -12,7 +12,7 @@ module _ (font : Font) (settings : List (Tag × ℤ)) (glyphs : List ℕ) (steps
   unfoldable by_steps : (i : InstanceSteps (stored font) settings glyphs steps out) → instance_of font settings glyphs steps ≡ Ok (made font settings glyphs steps out bytes i) → IsInstance font settings glyphs (made font settings glyphs steps out bytes i)
   by_steps i laid = record {
     at = i.at;
-    place_is = i.place_is;
+    coordinates_are = i.coordinates_are;
     lines = i.lines;
     lines_are = i.lines_are;
     container = container font settings glyphs steps out bytes i;
@@ -21,10 +21,10 @@ module _ (font : Font) (settings : List (Tag × ℤ)) (glyphs : List ℕ) (steps
     out = afresh font settings glyphs steps out bytes i;
     out_is = read_back font settings glyphs steps out bytes i;
     steps = steps;
-    asked_for = asked_for font settings glyphs steps out bytes i;
+    requests = asked_for font settings glyphs steps out bytes i;
     others = others font settings glyphs steps out bytes i;
     count = refl;
-    pairs = refl;
+    number_of_h_metrics = refl;
     drawn = i.ds;
     all_drawn = i.drawn_is;
     head = keeps_head font settings glyphs steps out bytes i;

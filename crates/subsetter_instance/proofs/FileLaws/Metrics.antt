@@ -52,11 +52,11 @@ first : (b : Bool) (x y z : Option LongHorMetric) → b ≡ true → x ≡ z →
 first b x y z e is = ap (λ t. cond t x y) e ∙ is
 
 -- the metric of a glyph that was asked for
-pub metric_back : (t : Source) (all : List (Option Drawn)) (i : ℕ) (d : Drawn) → t.hmtx ≡ hmtx_bytes all → i < t.pairs → get_or all i None ≡ Some d → d.advance < 2 ^ 16 → cast_unsigned w16 d.bearing < 2 ^ 16 → metric t i ≡ Some (record { advance = d.advance; bearing = cast_unsigned w16 d.bearing })
+pub metric_back : (t : Source) (all : List (Option Drawn)) (i : ℕ) (d : Drawn) → t.hmtx ≡ hmtx_bytes all → i < t.number_of_h_metrics → get_or all i None ≡ Some d → d.advance < 2 ^ 16 → cast_unsigned w16 d.bearing < 2 ^ 16 → metric t i ≡ Some (record { advance = d.advance; bearing = cast_unsigned w16 d.bearing })
 unfolding metric
 metric_back t all i d is lt at small_a small_b =
     let f = found_at all i d [] t.hmtx (4 * i) at small_a small_b is (omega arith) in
-    first _ _ _ _ (lt-ltb i t.pairs lt) (two_numbers t.hmtx (4 * i) (4 * i + 2) d.advance (cast_unsigned w16 d.bearing) f.advance f.bearing)
+    first _ _ _ _ (lt-ltb i t.number_of_h_metrics lt) (two_numbers t.hmtx (4 * i) (4 * i + 2) d.advance (cast_unsigned w16 d.bearing) f.advance f.bearing)
 
 -- ---- hhea
 

@@ -16,7 +16,7 @@ use Rattle.subsetter_sfnt.specs.Rows.{rows, present}
 use Rattle.subsetter_sfnt.specs.Written.{Table, fits, file, start_of, kind_word}
 use Rattle.subsetter_sfnt.proofs.Laws.Fault.{opened_records}
 use Rattle.subsetter_variation.specs.Tuples.{Gvar}
-use Rattle.subsetter_instance.specs.Source.{Source, has_other_version, place, source_in, source_or_fault, variations_in}
+use Rattle.subsetter_instance.specs.Source.{Source, has_other_version, normalized_coordinates, source_in, source_or_fault, variations_in}
 use Rattle.subsetter_instance.specs.Drawn.{Drawn}
 use Rattle.subsetter_instance.specs.Plain.{drawn_all, header, laid, instance_in, by_flavor, instance_of}
 use Rattle.subsetter_instance.specs.Lines.{Lines, lines_of, with_lines}
@@ -37,7 +37,7 @@ pub record SourceSteps (find : List ℕ → Option (List ℕ)) (axes : ℕ) (s :
   pub count_is : number maxp 4 2 ≡ Some s.count
   pub hhea : List ℕ
   pub hhea_is : find (codes "hhea") ≡ Some hhea
-  pub pairs_is : number hhea 34 2 ≡ Some s.pairs
+  pub pairs_is : number hhea 34 2 ≡ Some s.number_of_h_metrics
   pub hmtx : List ℕ
   pub hmtx_is : find (codes "hmtx") ≡ Some hmtx
   pub gvar : Option Gvar
@@ -46,7 +46,7 @@ pub record SourceSteps (find : List ℕ → Option (List ℕ)) (axes : ℕ) (s :
 -- what is read after each of the tables
 module _ (find : List ℕ → Option (List ℕ)) (axes : ℕ) where
   abbrev pub made : List ℕ → List ℕ → ℕ → ℕ → ℕ → List ℕ → Option Gvar → Option Source
-  made glyf loca format count pairs hmtx gvar = Some (record { glyf = glyf; loca = loca; long = not (format == 0); count = count; pairs = pairs; hmtx = hmtx; gvar = gvar; hvar = find (codes "HVAR") })
+  made glyf loca format count pairs hmtx gvar = Some (record { glyf = glyf; loca = loca; long = not (format == 0); count = count; number_of_h_metrics = pairs; hmtx = hmtx; gvar = gvar; hvar = find (codes "HVAR") })
 
   abbrev pub after_hmtx : List ℕ → List ℕ → ℕ → ℕ → ℕ → List ℕ → Option Source
   after_hmtx glyf loca format count pairs hmtx = option_and_then (made glyf loca format count pairs hmtx) (variations_in (find (codes "gvar")) axes)
@@ -87,7 +87,7 @@ module _ (find : List ℕ → Option (List ℕ)) (axes : ℕ) where
     count_is : number maxp 4 2 ≡ Some s.count
     hhea : List ℕ
     hhea_is : find (codes "hhea") ≡ Some hhea
-    pairs_is : number hhea 34 2 ≡ Some s.pairs
+    pairs_is : number hhea 34 2 ≡ Some s.number_of_h_metrics
     hmtx : List ℕ
     hmtx_is : find (codes "hmtx") ≡ Some hmtx
     gvar : Option Gvar
@@ -100,8 +100,8 @@ module _ (find : List ℕ → Option (List ℕ)) (axes : ℕ) where
       let i = bind_some (number g.0 34 2) (after_pairs glyf loca format f.0) s g.2 in
       let j = bind_some (find (codes "hmtx")) (after_hmtx glyf loca format f.0 i.0) s i.2 in
       let k = bind_some (variations_in (find (codes "gvar")) axes) (made glyf loca format f.0 i.0 j.0) s j.2 in
-      let is = just_is (record { glyf = glyf; loca = loca; long = not (format == 0); count = f.0; pairs = i.0; hmtx = j.0; gvar = k.0; hvar = find (codes "HVAR") }) s k.2 in
-      record { count_is = f.1 ∙ ap (λ (t : Source). Some t.count) is; hhea = g.0; hhea_is = g.1; pairs_is = i.1 ∙ ap (λ (t : Source). Some t.pairs) is; hmtx = j.0; hmtx_is = j.1; gvar = k.0; gvar_is = k.1 }
+      let is = just_is (record { glyf = glyf; loca = loca; long = not (format == 0); count = f.0; number_of_h_metrics = i.0; hmtx = j.0; gvar = k.0; hvar = find (codes "HVAR") }) s k.2 in
+      record { count_is = f.1 ∙ ap (λ (t : Source). Some t.count) is; hhea = g.0; hhea_is = g.1; pairs_is = i.1 ∙ ap (λ (t : Source). Some t.number_of_h_metrics) is; hmtx = j.0; hmtx_is = j.1; gvar = k.0; gvar_is = k.1 }
 
   pub source_steps : (s : Source) → source_in find axes ≡ Some s → SourceSteps find axes s
   source_steps s h =
@@ -132,7 +132,7 @@ source_refused find axes e h = by (has_other_version find) refl h
 -- the tables of the file, read for no axes: what isn't there doesn't vary
 pub source_by : (find : List ℕ → Option (List ℕ)) (glyf loca head : List ℕ) (format : ℕ) (maxp : List ℕ) (count : ℕ) (hhea : List ℕ) (pairs : ℕ) (hmtx : List ℕ) → find (codes "glyf") ≡ Some glyf → find (codes "loca") ≡ Some loca → find (codes "head") ≡ Some head → number head 50 2 ≡ Some format
     → find (codes "maxp") ≡ Some maxp → number maxp 4 2 ≡ Some count → find (codes "hhea") ≡ Some hhea → number hhea 34 2 ≡ Some pairs → find (codes "hmtx") ≡ Some hmtx → find (codes "gvar") ≡ None → find (codes "HVAR") ≡ None
-    → source_in find 0 ≡ Some (record { glyf = glyf; loca = loca; long = not (format == 0); count = count; pairs = pairs; hmtx = hmtx; gvar = None; hvar = None })
+    → source_in find 0 ≡ Some (record { glyf = glyf; loca = loca; long = not (format == 0); count = count; number_of_h_metrics = pairs; hmtx = hmtx; gvar = None; hvar = None })
 unfolding source_in
 source_by find glyf loca head format maxp count hhea pairs hmtx a b c d e f g h i j k = rw (a, b, c, d, e, f, g, h, i, j, k) refl
 
@@ -154,7 +154,7 @@ laid_tables find lines s glyphs ds head = present (rows (tables (with_lines find
 
 pub record InstanceSteps (find : List ℕ → Option (List ℕ)) (settings : List (Tag × ℤ)) (glyphs : List ℕ) (steps : ℕ) (out : List ℕ) : Type 0 where
   pub at : List ℤ
-  pub place_is : place find settings ≡ Ok at
+  pub coordinates_are : normalized_coordinates find settings ≡ Ok at
   pub known : has_other_version find ≡ false
   pub source : Source
   pub source_is : source_in find (length at) ≡ Some source
@@ -170,7 +170,7 @@ pub record InstanceSteps (find : List ℕ → Option (List ℕ)) (settings : Lis
 instance_steps : (find : List ℕ → Option (List ℕ)) (settings : List (Tag × ℤ)) (glyphs : List ℕ) (steps : ℕ) (out : List ℕ) → instance_in find settings glyphs steps ≡ Ok out → InstanceSteps find settings glyphs steps out
 unfolding instance_in laid
 instance_steps find settings glyphs steps out h =
-    let a = bind_ok (place find settings) (λ at. source_or_fault find (length at) >>= λ s. drawn_all s at steps glyphs >>= λ ds. lines_of find at >>= λ lines. laid find lines s glyphs ds) out h in
+    let a = bind_ok (normalized_coordinates find settings) (λ at. source_or_fault find (length at) >>= λ s. drawn_all s at steps glyphs >>= λ ds. lines_of find at >>= λ lines. laid find lines s glyphs ds) out h in
     let b = bind_ok (source_or_fault find (length a.0)) (λ s. drawn_all s a.0 steps glyphs >>= λ ds. lines_of find a.0 >>= λ lines. laid find lines s glyphs ds) out a.2 in
     let r = source_read find (length a.0) b.0 b.1 in
     let c = bind_ok (drawn_all b.0 a.0 steps glyphs) (λ ds. lines_of find a.0 >>= λ lines. laid find lines b.0 glyphs ds) out b.2 in
@@ -179,7 +179,7 @@ instance_steps find settings glyphs steps out h =
     let f = file_steps (kind_word TrueType) (laid_tables find l.0 b.0 glyphs c.0 d.0) out d.2 in
     record {
       at = a.0;
-      place_is = a.1;
+      coordinates_are = a.1;
       known = r.0;
       source = b.0;
       source_is = r.1;

@@ -49,7 +49,7 @@ all_alike s at m n (g ∷ gs) xs ys e f =
 -- the file
 by_steps : (find : List ℕ → Option (List ℕ)) (settings : List (Tag × ℤ)) (glyphs : List ℕ) (m n : ℕ) (x y : List ℕ) → InstanceSteps find settings glyphs m x → InstanceSteps find settings glyphs n y → x ≡ y
 by_steps find settings glyphs m n x y i j =
-    let at : j.at ≡ i.at = done_is j.at i.at (sym j.place_is ∙ i.place_is) in
+    let at : j.at ≡ i.at = done_is j.at i.at (sym j.coordinates_are ∙ i.coordinates_are) in
     let source : j.source ≡ i.source = just_is j.source i.source (sym j.source_is ∙ ap (λ (l : List ℤ). source_in find (length l)) at ∙ i.source_is) in
     let ds : i.ds ≡ j.ds = all_alike i.source i.at m n glyphs i.ds j.ds i.drawn_is (ap (λ (l : List ℤ). drawn_all i.source l n glyphs) (sym at) ∙ ap (λ (s : Source). drawn_all s j.at n glyphs) (sym source) ∙ j.drawn_is) in
     let head : i.head ≡ j.head = just_is i.head j.head (sym i.head_is ∙ j.head_is) in

@@ -10,7 +10,7 @@ use Rattle.subsetter_base.specs.Bytes.{be, range, number, aligned}
 use Rattle.subsetter_base.proofs.ByteLemmas.{range-middle, be-u16, be-u32, number_at}
 use Rattle.subsetter_sfnt.specs.declared.face.TableRecord.{TableRecord}
 use Rattle.subsetter_sfnt.specs.declared.face.FontKind.TheVariants.{Single}
-use Rattle.subsetter_sfnt.specs.Read.{as_font, kind_of, kind_at, header_by_kind, header_place, records_at, records, directory, table, table_in, record_of, directory_records, find_record}
+use Rattle.subsetter_sfnt.specs.Read.{as_font, kind_of, kind_at, header_by_kind, header_offset, records_at, records, directory, table, table_in, record_of, directory_records, find_record}
 use Rattle.subsetter_sfnt.specs.Checksum.{checksum}
 use Rattle.subsetter_sfnt.specs.Written.{Table, selector, header_bytes, record_bytes, directory_bytes, body, front, adjusted, adjustment, with_adjustment, file, fits, start_of, IsTable}
 use Rattle.subsetter_sfnt.proofs.Laws.Checksum.{checksum_fits}
@@ -47,7 +47,7 @@ first_back : (at : ℕ) (t : Table) (ts : List Table) (rest : List ℕ) → IsTa
 first_back at t ts rest is h =
     let f = fitting at t ts h in
     let cs = be-u32 (checksum t.bytes) (checksum_fits t.bytes) in
-    let pl = be-u32 at f.place in
+    let pl = be-u32 at f.offset in
     let ln = be-u32 (length t.bytes) f.len in
     let got = fields t.tag (to_be_bytes w32 (checksum t.bytes)) (to_be_bytes w32 at) (to_be_bytes w32 (length t.bytes)) rest is.tag_len refl refl refl in
     got ∙ ap (λ (n : ℕ). record { tag = record { 0 = t.tag }; checksum = n; offset = be (to_be_bytes w32 at); length = be (to_be_bytes w32 (length t.bytes)) }) cs
@@ -115,8 +115,8 @@ module _ (kind : ℕ) (ts : List Table) (rest : List ℕ) where
   pub kind_back : kind < 2 ^ 32 → number (front kind ts ++ rest) 0 4 ≡ Some kind
   kind_back lt = number_at (front kind ts ++ rest) [] (to_be_bytes w32 kind) _ 0 4 kind parts refl refl (be-u32 kind lt)
 
-  pub header_back : IsKind kind → header_place (as_font (front kind ts ++ rest)) ≡ Some 0
-  unfolding header_place
+  pub header_back : IsKind kind → header_offset (as_font (front kind ts ++ rest)) ≡ Some 0
+  unfolding header_offset
   header_back is =
       let single : kind_at (front kind ts ++ rest) 0 ≡ Some Single = elim is [
         | inl e ↦ ap (option_and_then kind_of) (kind_back (omega arith) ∙ ap (λ (k : ℕ). Some k) e)

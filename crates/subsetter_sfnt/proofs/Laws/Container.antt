@@ -137,7 +137,7 @@ names_from pre w (t ∷ ts) bytes at all is place =
     let next : at + length (aligned 4 t.bytes) ≡ length (pre ++ aligned 4 A.bytes) = omega (arith, place, length-append pre (aligned 4 A.bytes), aligned_len A.bytes t.bytes same) in
     let others = names_from (pre ++ aligned 4 A.bytes) w ts bytes (at + length (aligned 4 t.bytes)) all.1 beyond next in (
       record {
-        place = refl;
+        offset = refl;
         bytes = A.bytes;
         there = range-middle bytes pre A.bytes (zeros ++ rest) at (length t.bytes) split place (sym same);
         zeros_after = range-middle bytes pre (aligned 4 A.bytes) rest at (length (aligned 4 A.bytes)) is place refl;

@@ -12,8 +12,8 @@ use Rattle.subsetter_sfnt.specs.declared.face.FontKind.{FontKind}
 use Rattle.subsetter_sfnt.specs.declared.face.FontKind.TheVariants.{Collection, Single}
 use Rattle.subsetter_sfnt.specs.declared.flavor.FontFlavor.{FontFlavor}
 use Rattle.subsetter_sfnt.specs.declared.flavor.FontFlavor.TheVariants.{TrueType, Cff}
-use Rattle.subsetter_sfnt.specs.Extras.{asked}
-use Rattle.subsetter_sfnt.specs.Read.{Font, kind_at, collection_entry, if_single, header_place, records_at, records, table, table_in}
+use Rattle.subsetter_sfnt.specs.Extras.{requested}
+use Rattle.subsetter_sfnt.specs.Read.{Font, kind_at, collection_entry, if_single, header_offset, records_at, records, table, table_in}
 use Rattle.subsetter_sfnt.specs.Plain.{opened_by_kind, opened_header, opened, flavored}
 use Rattle.subsetter_sfnt.specs.Fault.{HasOpeningFault, no_kind, no_entry, entry_outside, no_face, nested, cut_directory, no_outlines, lone_cff2}
 
@@ -21,11 +21,11 @@ use Rattle.subsetter_sfnt.specs.Fault.{HasOpeningFault, no_kind, no_entry, entry
 
 -- what each outcome of the header's steps says
 abbrev HeaderCase : Font → Result ℕ Error → Type 0
-HeaderCase font r = ((e : Error) × (r ≡ Err e) × HasOpeningFault font e) ⊎ ((at : ℕ) × (r ≡ Ok at) × (header_place font ≡ Some at))
+HeaderCase font r = ((e : Error) × (r ≡ Err e) × HasOpeningFault font e) ⊎ ((at : ℕ) × (r ≡ Ok at) × (header_offset font ≡ Some at))
 
 in_face : (font : Font) (at : ℕ) (word : Option FontKind) → kind_at font.bytes 0 ≡ Some Collection → collection_entry font ≡ Some at → kind_at font.bytes at ≡ word
     → HeaderCase font (ok_or word MalformedFont >>= λ kind. ok_or (if_single kind at) MalformedFont)
-unfolding header_place
+unfolding header_offset
 in_face font at None k c w = inl (MalformedFont, refl, no_face at k c w)
 in_face font at (Some Collection) k c w = inl (MalformedFont, refl, nested at k c w)
 in_face font at (Some Single) k c w = inr (at, refl, rw (k, c, w) refl)
@@ -36,7 +36,7 @@ in_entry font None k c = inl (MalformedFont, refl, no_entry k c)
 in_entry font (Some at) k c = in_face font at (kind_at font.bytes at) k c refl
 
 in_kind : (font : Font) (word : Option FontKind) → kind_at font.bytes 0 ≡ word → HeaderCase font (ok_or word UnknownKind >>= λ kind. opened_by_kind kind font)
-unfolding header_place
+unfolding header_offset
 in_kind font None k = inl (UnknownKind, refl, no_kind k)
 in_kind font (Some Single) k = inr (0, refl, rw k refl)
 in_kind font (Some Collection) k = in_entry font (collection_entry font) k refl
@@ -50,7 +50,7 @@ header_case font = in_kind font (kind_at font.bytes 0) refl
 abbrev OpeningCase : Font → Result (List ℕ) Error → Type 0
 OpeningCase font r = ((e : Error) × (r ≡ Err e) × HasOpeningFault font e) ⊎ ((d : List ℕ) × (r ≡ Ok d) × (records font ≡ Some d))
 
-in_records : (font : Font) (at : ℕ) (found : Option (List ℕ)) → header_place font ≡ Some at → records_at font.bytes at ≡ found → OpeningCase font (ok_or found MalformedFont)
+in_records : (font : Font) (at : ℕ) (found : Option (List ℕ)) → header_offset font ≡ Some at → records_at font.bytes at ≡ found → OpeningCase font (ok_or found MalformedFont)
 in_records font at None h r = inl (MalformedFont, refl, cut_directory at h r)
 in_records font at (Some d) h r = inr (d, refl, ap (option_and_then (λ k. records_at font.bytes k)) h ∙ r)
 
@@ -83,9 +83,9 @@ pub opened_records : (font : Font) (d : List ℕ) → opened font ≡ Ok d → r
 opened_records font d h = by_records font (opened font) d (opening_case font) h
 
 -- its tables are found among these records
-pub opened_table : (font : Font) (d tag : List ℕ) → opened font ≡ Ok d → table font tag ≡ asked font.extras (table_in font.bytes d) tag
+pub opened_table : (font : Font) (d tag : List ℕ) → opened font ≡ Ok d → table font tag ≡ requested font.extras (table_in font.bytes d) tag
 opened_table font d tag h =
-    let by : Option (List ℕ) → Option (List ℕ) = λ o. asked font.extras (λ t. option_and_then (λ directory. table_in font.bytes directory t) o) tag in
+    let by : Option (List ℕ) → Option (List ℕ) = λ o. requested font.extras (λ t. option_and_then (λ directory. table_in font.bytes directory t) o) tag in
     ap by (opened_records font d h)
 
 -- ---- the kind of the outlines
@@ -98,11 +98,11 @@ in_tables font None None (Some c) e r h1 h2 h3 h = subst (HasOpeningFault font) 
 in_tables font None None None e r h1 h2 h3 h = subst (HasOpeningFault font) (failed_is {A = FontFlavor} UnknownKind e h) (no_outlines r h1 h2 h3)
 
 -- a font without outlines that are taken has a fault of that name
-pub flavored_refused : (font : Font) (d : List ℕ) (e : Error) → opened font ≡ Ok d → flavored (asked font.extras (table_in font.bytes d)) ≡ Err e → HasOpeningFault font e
+pub flavored_refused : (font : Font) (d : List ℕ) (e : Error) → opened font ≡ Ok d → flavored (requested font.extras (table_in font.bytes d)) ≡ Err e → HasOpeningFault font e
 unfolding flavored
 flavored_refused font d e o h =
     let t = λ (tag : List ℕ). opened_table font d tag o in
-    in_tables font (asked font.extras (table_in font.bytes d) (codes "glyf")) (asked font.extras (table_in font.bytes d) (codes "CFF ")) (asked font.extras (table_in font.bytes d) (codes "CFF2")) e (rw (opened_records font d o) refl) (t (codes "glyf")) (t (codes "CFF ")) (t (codes "CFF2")) h
+    in_tables font (requested font.extras (table_in font.bytes d) (codes "glyf")) (requested font.extras (table_in font.bytes d) (codes "CFF ")) (requested font.extras (table_in font.bytes d) (codes "CFF2")) e (rw (opened_records font d o) refl) (t (codes "glyf")) (t (codes "CFF ")) (t (codes "CFF2")) h
 
 -- ---- no fault stands
 
@@ -114,21 +114,21 @@ past_by bytes at false h lt = rw h refl
 past_end : (bytes : List ℕ) (at : ℕ) → length bytes < at → kind_at bytes at ≡ None
 past_end bytes at lt = past_by bytes at (leb (at + 4) (length bytes)) refl lt
 
-none_here : (font : Font) → kind_at font.bytes 0 ≡ None → header_place font ≡ None
-unfolding header_place
+none_here : (font : Font) → kind_at font.bytes 0 ≡ None → header_offset font ≡ None
+unfolding header_offset
 none_here font h = rw h refl
 
-no_face_at : (font : Font) (at : ℕ) → kind_at font.bytes 0 ≡ Some Collection → collection_entry font ≡ Some at → (kind_at font.bytes at ≡ None) ⊎ (kind_at font.bytes at ≡ Some Collection) → header_place font ≡ None
-unfolding header_place
+no_face_at : (font : Font) (at : ℕ) → kind_at font.bytes 0 ≡ Some Collection → collection_entry font ≡ Some at → (kind_at font.bytes at ≡ None) ⊎ (kind_at font.bytes at ≡ Some Collection) → header_offset font ≡ None
+unfolding header_offset
 no_face_at font at k c (inl w) = rw (k, c, w) refl
 no_face_at font at k c (inr w) = rw (k, c, w) refl
 
-no_header : (font : Font) → kind_at font.bytes 0 ≡ Some Collection → (collection_entry font ≡ None) ⊎ ((at : ℕ) × (collection_entry font ≡ Some at) × ((kind_at font.bytes at ≡ None) ⊎ (kind_at font.bytes at ≡ Some Collection))) → header_place font ≡ None
-unfolding header_place
+no_header : (font : Font) → kind_at font.bytes 0 ≡ Some Collection → (collection_entry font ≡ None) ⊎ ((at : ℕ) × (collection_entry font ≡ Some at) × ((kind_at font.bytes at ≡ None) ⊎ (kind_at font.bytes at ≡ Some Collection))) → header_offset font ≡ None
+unfolding header_offset
 no_header font k (inl c) = rw (k, c) refl
 no_header font k (inr c) = no_face_at font c.0 k c.1 c.2
 
-unread : (font : Font) (d : List ℕ) → opened font ≡ Ok d → header_place font ≡ None → ⊥
+unread : (font : Font) (d : List ℕ) → opened font ≡ Ok d → header_offset font ≡ None → ⊥
 unread font d o h = some_not_none (records font) d (opened_records font d o) (ap (option_and_then (λ k. records_at font.bytes k)) h)
 
 -- what is answered without `glyf` and `CFF `
@@ -141,13 +141,13 @@ not_taken f None (Some b) o3 h1 h2 h = cc
 not_taken f None None (Some x) h1 h2 h = cc
 not_taken f None None None h1 h2 h = cc
 
-taken : (font : Font) (d : List ℕ) (f : FontFlavor) → opened font ≡ Ok d → flavored (asked font.extras (table_in font.bytes d)) ≡ Ok f → table font (codes "glyf") ≡ None → table font (codes "CFF ") ≡ None → ⊥
+taken : (font : Font) (d : List ℕ) (f : FontFlavor) → opened font ≡ Ok d → flavored (requested font.extras (table_in font.bytes d)) ≡ Ok f → table font (codes "glyf") ≡ None → table font (codes "CFF ") ≡ None → ⊥
 unfolding flavored
 taken font d f o h g c =
-    not_taken f (asked font.extras (table_in font.bytes d) (codes "glyf")) (asked font.extras (table_in font.bytes d) (codes "CFF ")) (asked font.extras (table_in font.bytes d) (codes "CFF2")) (sym (opened_table font d (codes "glyf") o) ∙ g) (sym (opened_table font d (codes "CFF ") o) ∙ c) h
+    not_taken f (requested font.extras (table_in font.bytes d) (codes "glyf")) (requested font.extras (table_in font.bytes d) (codes "CFF ")) (requested font.extras (table_in font.bytes d) (codes "CFF2")) (sym (opened_table font d (codes "glyf") o) ∙ g) (sym (opened_table font d (codes "CFF ") o) ∙ c) h
 
 -- a font that is opened and has outlines that are taken has no fault
-pub opened_clean : (font : Font) (d : List ℕ) (f : FontFlavor) (e : Error) → opened font ≡ Ok d → flavored (asked font.extras (table_in font.bytes d)) ≡ Ok f → HasOpeningFault font e → ⊥
+pub opened_clean : (font : Font) (d : List ℕ) (f : FontFlavor) (e : Error) → opened font ≡ Ok d → flavored (requested font.extras (table_in font.bytes d)) ≡ Ok f → HasOpeningFault font e → ⊥
 opened_clean font d f e o h (no_kind k) = unread font d o (none_here font k)
 opened_clean font d f e o h (no_entry k c) = unread font d o (no_header font k (inl c))
 opened_clean font d f e o h (entry_outside at k c far) = unread font d o (no_header font k (inr (at, c, inl (past_end font.bytes at far))))

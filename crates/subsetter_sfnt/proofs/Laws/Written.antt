@@ -68,7 +68,7 @@ length-file kind ts all =
 -- ---- places that fit
 
 pub record Fitting (at : ℕ) (t : Table) (ts : List Table) : Type 0 where
-  pub place : at < 2 ^ 32
+  pub offset : at < 2 ^ 32
   pub len : length t.bytes < 2 ^ 32
   pub rest : fits (at + length (aligned 4 t.bytes)) ts ≡ true
 
@@ -76,7 +76,7 @@ pub fitting : (at : ℕ) (t : Table) (ts : List Table) → fits at (t ∷ ts) �
 fitting at t ts h =
     let a = and_parts (ltb at (2 ^ 32)) (ltb (length t.bytes) (2 ^ 32) && fits (at + length (aligned 4 t.bytes)) ts) h in
     let b = and_parts (ltb (length t.bytes) (2 ^ 32)) (fits (at + length (aligned 4 t.bytes)) ts) a.1 in
-    record { place = ltb-true _ _ a.0; len = ltb-true _ _ b.0; rest = b.1 }
+    record { offset = ltb-true _ _ a.0; len = ltb-true _ _ b.0; rest = b.1 }
 
 -- the code's way to round up
 pub rounded : (b : List ℕ) → length (aligned 4 b) ≡ (length b + 3) / 4 * 4

@@ -14,7 +14,7 @@ returns-in_err-advance c =
     let m = measures_seen c.args.metrics.now in
     let g = c.loop-glyph.glyph in
     let step : c.args.count - g ≡ suc (c.args.count - (g + 1)) = omega arith in
-    let lost : ok_or (advance_in m.hmtx m.pairs g) MalformedFont ≡ Err c.in_err-advance.field-0.0 = ap (λ (o : Option ℕ). ok_or o MalformedFont) (sym c.advance.ensures) ∙ sym c.ok_or.ensures.value ∙ c.in_err-advance.was in
+    let lost : ok_or (advance_in m.hmtx m.number_of_h_metrics g) MalformedFont ≡ Err c.in_err-advance.field-0.0 = ap (λ (o : Option ℕ). ok_or o MalformedFont) (sym c.advance.ensures) ∙ sym c.ok_or.ensures.value ∙ c.in_err-advance.was in
     rw (p.1, p.2) (width_missing {X = Vec ℕ Global} (λ v. v.items) m c.loop-glyph.widths.items g (c.args.count - g) (c.args.count - (g + 1)) c.in_err-advance.field-0.0 _ step lost c.loop-glyph.invariant)
 
 pub loop-glyph-preserved : goal.loop-glyph-preserved
@@ -22,6 +22,6 @@ loop-glyph-preserved c =
     let m = measures_seen c.args.metrics.now in
     let g = c.loop-glyph.glyph in
     let step : c.args.count - g ≡ suc (c.args.count - (g + 1)) = omega arith in
-    let found : ok_or (advance_in m.hmtx m.pairs g) MalformedFont ≡ Ok c.in_ok-advance.advance = ap (λ (o : Option ℕ). ok_or o MalformedFont) (sym c.advance.ensures) ∙ sym c.ok_or.ensures.value ∙ c.in_ok-advance.was in
+    let found : ok_or (advance_in m.hmtx m.number_of_h_metrics g) MalformedFont ≡ Ok c.in_ok-advance.advance = ap (λ (o : Option ℕ). ok_or o MalformedFont) (sym c.advance.ensures) ∙ sym c.ok_or.ensures.value ∙ c.in_ok-advance.was in
     let items = c.in_ok-push.ensures.items ∙ ap (λ (w : ℕ). c.loop-glyph.widths.items ++ w ∷ []) c.thousandths.ensures in
     ap (λ (l : List ℕ). with_front l (widths_from m (g + 1) (c.args.count - (g + 1)))) items ∙ width_read m c.loop-glyph.widths.items g (c.args.count - g) (c.args.count - (g + 1)) c.in_ok-advance.advance _ step found c.loop-glyph.invariant

@@ -6,7 +6,7 @@ use Rattle.subsetter_sfnt.specs.FontAt.{font_at}
 use Rattle.subsetter_sfnt.specs.Read.{Font}
 use Rattle.subsetter_instance.specs.Fault.{HasInstanceFault}
 use Rattle.subsetter_instance.specs.Instance.{IsInstance}
-use Rattle.subsetter_variable.specs.Standing.{IsAtDefault}
+use Rattle.subsetter_variable.specs.DefaultLocation.{IsAtDefault}
 use Rattle.subsetter_variable.specs.Subset.{IsStatic, as_it_is, instanced, whole}
 use Rattle.subsetter_variable.proofs.Afresh.{not_drawn, drawn_at}
 use Rattle.subsetter_variable.proofs.Static.{opened_at, some_apart, same_at}

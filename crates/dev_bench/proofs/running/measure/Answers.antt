@@ -1,6 +1,6 @@
 use Rattle.std.proofs.Common.{rules, ◌≡◌, ◌∷◌, [], ◌<◌, ℕ, List, length, subst}
 use Rattle.subsetter_sfnt.specs.Extras.{all_extras}
-use Rattle.subsetter_base.specs.Places.{with_glyphs}
+use Rattle.subsetter_base.specs.Indexes.{with_glyphs}
 use Rattle.dev_bench.specs.Measured.{IsMeasured}
 use Rattle.dev_bench.proofs.running.measure.Goals as goal
 

@@ -1,6 +1,6 @@
 use Rattle.std.proofs.Common.{◌≡◌, ℕ, ◌++◌, List, map, ap, ◌∙◌, Some, drop, ◌+◌}
 use Rattle.std.proofs.lemmas.Result.{err_from_is_err_and}
-use Rattle.subsetter_base.specs.Remap.{place_by}
+use Rattle.subsetter_base.specs.Remap.{index_by}
 use Rattle.pdf_codes.specs.Codes.{Used, pairs_of, same, used_of, with_pairs}
 use Rattle.pdf_codes.proofs.EachSteps.{all_more, all_refused, codes_more, keys}
 use Rattle.pdf_codes.proofs.codes.each_text.Goals as goal
@@ -18,7 +18,7 @@ loop-entry-preserved c =
       all = all;
       few = c.in_ok-number_of-2.ensures.few;
       so_far =
-          ap (λ (l : List ℕ). map Some l ++ map (place_by same total) (keys (drop (i + 1) es))) c.in_ok-push.ensures.items
+          ap (λ (l : List ℕ). map Some l ++ map (index_by same total) (keys (drop (i + 1) es))) c.in_ok-push.ensures.items
           ∙ codes_more es i _ now total (used_of c.keyed.result) c.loop-entry.codes.items c.in_ok-number_of-2.field-0 _ c.loop-entry-test.true c.keyed.ensures c.in_ok-number_of-2.ensures.number all c.loop-entry.invariant.so_far;
     }
 

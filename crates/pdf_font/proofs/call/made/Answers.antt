@@ -2,7 +2,7 @@ use Rattle.std.proofs.Common.{◌≡◌, ◌<◌, ℕ, List, length, refl, subst
 use Rattle.std.proofs.lemmas.Result.{err_from_is_err_and}
 use Rattle.subsetter_sfnt.specs.Read.{Font, table_in}
 use Rattle.subsetter_variable.specs.Afresh.{HasGlyphsDrawn}
-use Rattle.subsetter_variable.specs.Standing.{IsAtDefault}
+use Rattle.subsetter_variable.specs.DefaultLocation.{IsAtDefault}
 use Rattle.subsetter_variable.specs.Subset.{IsTheAnswerAt, whole}
 use Rattle.cid_embed.specs.Embed.{numbering}
 use Rattle.pdf_codes.specs.Shown.{uses_of}

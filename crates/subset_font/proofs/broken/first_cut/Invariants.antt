@@ -7,9 +7,9 @@ use Rattle.subset_font.proofs.broken.first_cut.Given as goal
 abbrev pub invariant-loop-one : goal.invariant-loop-one
 invariant-loop-one l = record {
   same : l.r.bytes ≡ l.records;
-  within : l.r.place ≤ length l.records;
-  rest : first_cut l.size (records_from l.records l.r.place) ≡ first_cut l.size (records_in l.records);
+  within : l.r.offset ≤ length l.records;
+  rest : first_cut l.size (records_from l.records l.r.offset) ≡ first_cut l.size (records_in l.records);
 }
 
 abbrev pub decreases-loop-one : goal.decreases-loop-one
-decreases-loop-one l = length l.records - l.r.place
+decreases-loop-one l = length l.records - l.r.offset

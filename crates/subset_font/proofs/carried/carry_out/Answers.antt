@@ -2,7 +2,7 @@ use Rattle.subset_font.proofs.Failing.{not_output, all_ok}
 use Rattle.subset_font.proofs.carried.carry_out.Goals as goal
 
 pub returns-in-Ok-clause-ok : goal.returns-in-Ok-clause-ok
-returns-in-Ok-clause-ok g c = all_ok c.emit.result _ _ _ _ (λ p w t. record { outcome = c.in-Ok.outcome; is_made = c.in-Ok.ensures.ok; is_shown = p; is_written = w; is_told = t }) c.emit.ensures.page c.emit.ensures.font c.emit.ensures.lines
+returns-in-Ok-clause-ok g c = all_ok c.emit.result _ _ _ _ (λ p w t. record { outcome = c.in-Ok.outcome; is_made = c.in-Ok.ensures.ok; is_shown = p; is_written = w; is_reported = t }) c.emit.ensures.page c.emit.ensures.font c.emit.ensures.lines
 
 pub returns-in-Ok-clause-written : goal.returns-in-Ok-clause-written
 returns-in-Ok-clause-written g c = λ h. record { outcome = c.in-Ok.outcome; is_made = c.in-Ok.ensures.ok; is_written = c.emit.ensures.written h }

@@ -1,5 +1,5 @@
 use Rattle.std.proofs.Common.{◌≡◌, drop}
-use Rattle.subsetter_base.specs.Places.{is_listed}
+use Rattle.subsetter_base.specs.Indexes.{is_listed}
 use Rattle.subset_font.proofs.missing.is_listed.Given as goal
 
 abbrev pub invariant-loop-one : goal.invariant-loop-one

@@ -8,7 +8,7 @@ use Rattle.subset_font.proofs.tables.push_old_rows.Goals as goal
 
 pub loop-one-preserved : goal.loop-one-preserved
 loop-one-preserved c =
-    let p = c.loop-one.r.place in
+    let p = c.loop-one.r.offset in
     let read = reads_record c.args.old.now p c.in-Some.one (ap (λ (b : List ℕ). option_and_then (λ bytes. Some (record_of bytes)) (range b p 16)) (sym c.loop-one.invariant.same) ∙ sym c.in-Some.ensures.value) in
     rw c.in-Some.ensures.moves (record {
       same = c.loop-one.invariant.same;

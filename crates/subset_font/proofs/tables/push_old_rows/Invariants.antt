@@ -6,9 +6,9 @@ use Rattle.subset_font.proofs.tables.push_old_rows.Given as goal
 abbrev pub invariant-loop-one : goal.invariant-loop-one
 invariant-loop-one l = record {
   same : l.r.bytes ≡ l.old;
-  within : l.r.place ≤ length l.old;
-  rest : l.rows.items ++ map (old_row (records_in l.new)) (records_from l.old l.r.place) ≡ l.fn.rows.items ++ map (old_row (records_in l.new)) (records_in l.old);
+  within : l.r.offset ≤ length l.old;
+  rest : l.rows.items ++ map (old_row (records_in l.new)) (records_from l.old l.r.offset) ≡ l.fn.rows.items ++ map (old_row (records_in l.new)) (records_in l.old);
 }
 
 abbrev pub decreases-loop-one : goal.decreases-loop-one
-decreases-loop-one l = length l.old - l.r.place
+decreases-loop-one l = length l.old - l.r.offset

@@ -6,9 +6,9 @@ use Rattle.subset_font.proofs.tables.tables_of.Given as goal
 abbrev pub invariant-loop-one : goal.invariant-loop-one
 invariant-loop-one l = record {
   same : l.r.bytes ≡ l.records;
-  within : l.r.place ≤ length l.records;
-  rest : l.tables.items ++ map tag_and_size (records_from l.records l.r.place) ≡ map tag_and_size (records_in l.records);
+  within : l.r.offset ≤ length l.records;
+  rest : l.tables.items ++ map tag_and_size (records_from l.records l.r.offset) ≡ map tag_and_size (records_in l.records);
 }
 
 abbrev pub decreases-loop-one : goal.decreases-loop-one
-decreases-loop-one l = length l.records - l.r.place
+decreases-loop-one l = length l.records - l.r.offset

@@ -8,5 +8,5 @@ use Rattle.subset_lines.proofs.axes.records_at.Given as goal
 abbrev pub invariant-loop-i : goal.invariant-loop-i
 invariant-loop-i l = record {
   bytes : l.r.bytes ≡ l.fvar;
-  read : with_front (map (λ b. b.now) l.records.items) (ok_or (records_at (l.count - l.i) l.size l.fvar l.r.place) MalformedFont) ≡ ok_or (records_at l.count l.size l.fvar l.at) MalformedFont;
+  read : with_front (map (λ b. b.now) l.records.items) (ok_or (records_at (l.count - l.i) l.size l.fvar l.r.offset) MalformedFont) ≡ ok_or (records_at l.count l.size l.fvar l.at) MalformedFont;
 }

@@ -7,7 +7,7 @@ use Rattle.std.proofs.Math.Seq.{take-length}
 use Rattle.subsetter.specs.Glyf.Closure.{first_byte_in, EndsWith, components_in, others_in, LacksParts}
 use Rattle.subsetter_base.specs.declared.error.Error.TheVariants.{OutOfMemory, MalformedFont}
 use Rattle.subsetter.specs.Glyf.Read.{outline_in}
-use Rattle.subsetter.specs.Glyf.Size.{asked_size}
+use Rattle.subsetter.specs.Glyf.Size.{requested_size}
 use Rattle.subsetter.specs.Glyf.View.{seen}
 use Rattle.subsetter.proofs.GlyfLaws.Closure.{Follows, start, followed, visited_next, finished, given_reached, waits_reached, stops_memory, stops_given, stops_visit}
 use Rattle.subsetter.proofs.GlyfLaws.Found.{FoundFrom, found_start, found_followed, found_visited, found_last}
@@ -109,7 +109,7 @@ loop-component-init c =
       found = found_followed t glyphs _ _ c.loop-left.waiting.items order g c.follow.new.waiting.items parts i.none_waits wait i.found;
       within_most = c.in_ok-size.ensures.within;
       counted = count_given t glyphs _ _ order g c.loop-left.size.bytes c.in_ok-given.given.bytes _ c.loop-left.size.cut c.in_ok-given.given.cut _ parts (given_reached t glyphs _ _ [] order g parts i.follows)
-          (λ e. subst (λ o. c.in_ok-given.given.bytes ≤ asked_size t.hinting o) here (c.in_ok-given.ensures.size e)) (λ e. subst LacksParts here (c.in_ok-given.ensures.cut e)) c.in_ok-size.ensures.bytes c.in_ok-size.ensures.cut i.counted;
+          (λ e. subst (λ o. c.in_ok-given.given.bytes ≤ requested_size t.hinting o) here (c.in_ok-given.ensures.size e)) (λ e. subst LacksParts here (c.in_ok-given.ensures.cut e)) c.in_ok-size.ensures.bytes c.in_ok-size.ensures.cut i.counted;
     }
 
 pub visit-requires : goal.visit-requires
@@ -186,7 +186,7 @@ returns-in_err-size-clause-err c =
     let parts = one_taken glyphs c.loop-left.left n lt (omega (arith, c.loop-left-test.true)) in
     let here = ap option_copied c.index.ensures ∙ found_at t glyphs i.follows.others order c.loop-left.outlines.items n c.index.result.now i.outlines i.follows.begins lt in
     let counted = count_given t glyphs _ (take n glyphs) order g c.loop-left.size.bytes c.in_ok-given.given.bytes (c.loop-left.size.bytes + c.in_ok-given.given.bytes) c.loop-left.size.cut c.in_ok-given.given.cut (c.loop-left.size.cut || c.in_ok-given.given.cut) parts (given_reached t glyphs _ _ [] order g parts i.follows)
-    (λ e. subst (λ o. c.in_ok-given.given.bytes ≤ asked_size t.hinting o) here (c.in_ok-given.ensures.size e)) (λ e. subst LacksParts here (c.in_ok-given.ensures.cut e)) refl refl i.counted in
+    (λ e. subst (λ o. c.in_ok-given.given.bytes ≤ requested_size t.hinting o) here (c.in_ok-given.ensures.size e)) (λ e. subst LacksParts here (c.in_ok-given.ensures.cut e)) refl refl i.counted in
     let wait = subst (λ o. c.follow.new.waiting.items ≡ c.loop-left.waiting.items ++ others_in order (components_in o)) here c.in_ok-given.ensures.ok in
     let follows = followed t glyphs _ (take n glyphs) c.loop-left.waiting.items order g c.follow.new.waiting.items parts i.none_waits wait i.follows in
     rw (p.1, p.2) (stops_long c.args.most t glyphs _ c.follow.new.waiting.items order _ _ c.in_err-size.field-0.0 follows counted c.in_err-size.ensures.err)

@@ -1,7 +1,7 @@
 use Rattle.std.proofs.Common.{sym, ap, arith}
 use Rattle.std.proofs.lemmas.Bool.{leb-true}
 use Rattle.subsetter.specs.Glyf.Closure.{first_byte_in}
-use Rattle.subsetter.specs.Glyf.Size.{asked_size}
+use Rattle.subsetter.specs.Glyf.Size.{requested_size}
 use Rattle.subsetter.proofs.GlyfLaws.Counts.{size_at_most, cut_lacks}
 use Rattle.std.specs.Option.{option_copied}
 use Rattle.subsetter.proofs.GlyfLaws.Closure.{none_wait}
@@ -15,7 +15,7 @@ push_components-requires c =
     omega (arith, c.requires, leb-true 128 c.args.first (sym c.if-is_composite.ensures), ap first_byte_in (ap option_copied c.in-Some.is))
 
 pub returns-in-Some-clause-size : goal.returns-in-Some-clause-size
-returns-in-Some-clause-size c = size_at_most c.push_components.result _ _ (ap (asked_size c.args.hinting) (sym (ap option_copied c.in-Some.is))) c.push_components.ensures.size
+returns-in-Some-clause-size c = size_at_most c.push_components.result _ _ (ap (requested_size c.args.hinting) (sym (ap option_copied c.in-Some.is))) c.push_components.ensures.size
 
 pub returns-in-Some-clause-cut : goal.returns-in-Some-clause-cut
 returns-in-Some-clause-cut c = cut_lacks c.push_components.result c.in-Some.outline.now _ (ap option_copied c.in-Some.is) c.push_components.ensures.cut

@@ -36,7 +36,7 @@ returns-in_err-push_composite-clause-err c =
     let rest = map option_copied (drop (i + 1) block) in
     let total = with_outlines c.args.list.now.items (kept_outlines c.args.list.now.hinting order (map option_copied block)) in
     let is = named_ok _ MalformedFont c.in_ok-outline.outline (sym c.in_ok-outline.ensures.value) in
-    let head = c.index.ensures ∙ ap (λ n. get_or c.read_first_bytes.new.first_bytes.items n c.index.result.now) c.loop-outline.invariant.place ∙ first_byte_at block c.read_first_bytes.new.first_bytes.items i _ c.index.result.now c.loop-outline.invariant.first_bytes c.loop-outline-test.true in
+    let head = c.index.ensures ∙ ap (λ n. get_or c.read_first_bytes.new.first_bytes.items n c.index.result.now) c.loop-outline.invariant.offset ∙ first_byte_at block c.read_first_bytes.new.first_bytes.items i _ c.index.result.now c.loop-outline.invariant.first_bytes c.loop-outline-test.true in
     let k = kept_composite hint order _ c.in_ok-outline.outline c.index.result.now is head (leb-true 128 _ (sym c.if-is_composite.ensures)) in
     rw (p.1, p.2) (outlines_ends c.in_err-push_composite.field-0.0 hint order list _ rest total (subst (λ r. Fails c.in_err-push_composite.field-0.0 (with_last list r)) (sym k) c.in_err-push_composite.ensures.err) (outline_at hint order list block i _ total c.loop-outline-test.true c.loop-outline.invariant.kept))
 
@@ -50,7 +50,7 @@ loop-outline-preserved c =
     let rest = map option_copied (drop (i + 1) block) in
     let total = with_outlines c.args.list.now.items (kept_outlines c.args.list.now.hinting order (map option_copied block)) in
     let is = named_ok _ MalformedFont c.in_ok-outline.outline (sym c.in_ok-outline.ensures.value) in
-    let head = c.index.ensures ∙ ap (λ n. get_or c.read_first_bytes.new.first_bytes.items n c.index.result.now) c.loop-outline.invariant.place ∙ first_byte_at block c.read_first_bytes.new.first_bytes.items i _ c.index.result.now c.loop-outline.invariant.first_bytes c.loop-outline-test.true in
+    let head = c.index.ensures ∙ ap (λ n. get_or c.read_first_bytes.new.first_bytes.items n c.index.result.now) c.loop-outline.invariant.offset ∙ first_byte_at block c.read_first_bytes.new.first_bytes.items i _ c.index.result.now c.loop-outline.invariant.first_bytes c.loop-outline-test.true in
     let so_far = outline_at hint order list block i _ total c.loop-outline-test.true c.loop-outline.invariant.kept in
     elim c.if-is_composite.branch [
       | then-is_composite+in_ok-push_composite w ↦
@@ -58,7 +58,7 @@ loop-outline-preserved c =
           record {
             kept = outlines_next hint c.if-is_composite.list.hinting order list c.if-is_composite.list.items _ rest total (ap (λ (l : Listed). l.hinting) w.list-is ∙ w.in_ok-push_composite.ensures.same) (ap (with_last list) k ∙ w.in_ok-push_composite.ensures.ok ∙ ap (λ (l : Listed). Ok l.items) (sym w.list-is)) so_far;
             same = ap (λ (l : Listed). l.hinting) w.list-is ∙ w.in_ok-push_composite.ensures.same ∙ c.loop-outline.invariant.same;
-            place = search rules;
+            offset = search rules;
             first_bytes = c.loop-outline.invariant.first_bytes;
           }
       | else-is_composite+in_ok-push_simple w ↦
@@ -66,7 +66,7 @@ loop-outline-preserved c =
           record {
             kept = outlines_next hint c.if-is_composite.list.hinting order list c.if-is_composite.list.items _ rest total (ap (λ (l : Listed). l.hinting) w.list-is ∙ w.in_ok-push_simple.ensures.same) (ap (with_last list) k ∙ ap Ok (sym w.in_ok-push_simple.ensures.ok) ∙ ap (λ (l : Listed). Ok l.items) (sym w.list-is)) so_far;
             same = ap (λ (l : Listed). l.hinting) w.list-is ∙ w.in_ok-push_simple.ensures.same ∙ c.loop-outline.invariant.same;
-            place = search rules;
+            offset = search rules;
             first_bytes = c.loop-outline.invariant.first_bytes;
           }
     ]

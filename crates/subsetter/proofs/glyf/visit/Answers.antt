@@ -1,7 +1,7 @@
 use Rattle.std.proofs.Common.{◌+◌, ◌<◌, ◌≤◌, ◌^◌, List, ℕ, rules, length, sym, subst, ◌∙◌, arith}
 use Rattle.subsetter_base.proofs.Options.{none_of}
 use Rattle.subsetter.specs.Glyf.Closure.{LacksParts}
-use Rattle.subsetter.specs.Glyf.Size.{asked_size}
+use Rattle.subsetter.specs.Glyf.Size.{requested_size}
 use Rattle.subsetter.specs.Glyf.View.{seen}
 use Rattle.subsetter.proofs.GlyfLaws.Closure.{few_found, room_left, gone_last}
 use Rattle.subsetter.proofs.GlyfLaws.Sizes.{further_size}
@@ -19,7 +19,7 @@ pub returns-clause-size : goal.returns-clause-size
 returns-clause-size c =
     let t = seen c.args.table.now in
     λ e. further_size t c.args.order.now c.remap.new.self c.args.glyph c.in_ok-count.count.bytes (gone_last c.args.order.now c.remap.new.self c.args.glyph (sym c.get.ensures ∙ none_of c.get.result (sym c.if-is_some.ensures)) c.in_ok-remap.ensures.list)
-    (subst (λ o. c.in_ok-count.count.bytes ≤ asked_size t.hinting o) c.glyph_data-outline.ensures.exact (c.in_ok-count.ensures.size e))
+    (subst (λ o. c.in_ok-count.count.bytes ≤ requested_size t.hinting o) c.glyph_data-outline.ensures.exact (c.in_ok-count.ensures.size e))
 
 pub returns-clause-cut : goal.returns-clause-cut
 returns-clause-cut c = λ e. subst LacksParts c.glyph_data-outline.ensures.exact (c.in_ok-count.ensures.cut e)

@@ -3,16 +3,16 @@ use Rattle.std.proofs.lemmas.Result.{err_from_is_err_and}
 use Rattle.subsetter_base.specs.declared.error.Error.{Error}
 use Rattle.subsetter_sfnt.specs.declared.extras.Extras.{Extras}
 use Rattle.subsetter_sfnt.specs.declared.flavor.FontFlavor.{FontFlavor}
-use Rattle.subsetter_sfnt.specs.Extras.{asked}
+use Rattle.subsetter_sfnt.specs.Extras.{requested}
 use Rattle.subsetter_sfnt.specs.Read.{Font, table_in}
 use Rattle.subsetter_sfnt.specs.Plain.{flavored}
 use Rattle.subsetter_sfnt.proofs.Laws.Fault.{opened_refused, flavored_refused, opened_clean}
 use Rattle.subsetter.proofs.subsetting.check_opening.Goals as goal
 
 -- the kind of the outlines of the file's own bytes
-same_flavor : (seen bytes records : List ℕ) (x y : Extras) (r : Result FontFlavor Error) → seen ≡ bytes → x ≡ y → r ≡ flavored (asked x (table_in seen records)) → flavored (asked y (table_in bytes records)) ≡ r
+same_flavor : (seen bytes records : List ℕ) (x y : Extras) (r : Result FontFlavor Error) → seen ≡ bytes → x ≡ y → r ≡ flavored (requested x (table_in seen records)) → flavored (requested y (table_in bytes records)) ≡ r
 same_flavor seen bytes records x y r e f h =
-    ap (λ (b : List ℕ). flavored (asked y (table_in b records))) (sym e) ∙ ap (λ (z : Extras). flavored (asked z (table_in seen records))) (sym f) ∙ sym h
+    ap (λ (b : List ℕ). flavored (requested y (table_in b records))) (sym e) ∙ ap (λ (z : Extras). flavored (requested z (table_in seen records))) (sym f) ∙ sym h
 
 pub returns-in_err-face-clause-err : goal.returns-in_err-face-clause-err
 returns-in_err-face-clause-err c =

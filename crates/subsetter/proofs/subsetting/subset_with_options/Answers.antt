@@ -7,7 +7,7 @@ use Rattle.subsetter_base.specs.declared.error.Error.TheVariants.{OutOfMemory}
 use Rattle.subsetter.specs.Truetype.Answered.{IsAnswered, IsRefused}
 use Rattle.subsetter_sfnt.specs.declared.flavor.FontFlavor.{FontFlavor}
 use Rattle.subsetter_sfnt.specs.declared.extras.Extras.{Extras}
-use Rattle.subsetter_sfnt.specs.Extras.{asked}
+use Rattle.subsetter_sfnt.specs.Extras.{requested}
 use Rattle.subsetter_sfnt.specs.Read.{Font, as_font, table_in}
 use Rattle.subsetter_sfnt.specs.Plain.{flavored}
 use Rattle.subsetter.specs.Fault.{HasFault}
@@ -52,11 +52,11 @@ returns-in_err-face-clause-before_memory c = λ e f.
     err_apart c.in_err-face.field-0.0 (not_memory font c.in_err-face.field-0.0 (opened_refused font c.in_err-face.field-0.0 c.in_err-face.ensures.err)) c.from_residual.result (p.1 ∙ ap Err p.2)
 
 -- what holds of the tables of a face holds of those of the file's own bytes
-moved : (P : Bool → (List ℕ → Option (List ℕ)) → Type 0) (seen bytes records : List ℕ) (x y : Extras) → seen ≡ bytes → x ≡ y → P x.hinting (asked x (table_in seen records)) → P y.hinting (asked y (table_in bytes records))
-moved P seen bytes records x y e f h = subst (λ (b : List ℕ). P y.hinting (asked y (table_in b records))) e (subst (λ (z : Extras). P z.hinting (asked z (table_in seen records))) f h)
+moved : (P : Bool → (List ℕ → Option (List ℕ)) → Type 0) (seen bytes records : List ℕ) (x y : Extras) → seen ≡ bytes → x ≡ y → P x.hinting (requested x (table_in seen records)) → P y.hinting (requested y (table_in bytes records))
+moved P seen bytes records x y e f h = subst (λ (b : List ℕ). P y.hinting (requested y (table_in b records))) e (subst (λ (z : Extras). P z.hinting (requested z (table_in seen records))) f h)
 
 -- the kind of the outlines of the file's own bytes
-same_flavor : (seen bytes records : List ℕ) (x y : Extras) (r : Result FontFlavor Error) → seen ≡ bytes → x ≡ y → r ≡ flavored (asked x (table_in seen records)) → flavored (asked y (table_in bytes records)) ≡ r
+same_flavor : (seen bytes records : List ℕ) (x y : Extras) (r : Result FontFlavor Error) → seen ≡ bytes → x ≡ y → r ≡ flavored (requested x (table_in seen records)) → flavored (requested y (table_in bytes records)) ≡ r
 same_flavor seen bytes records x y r e f h = moved (λ (hinting : Bool) (find : List ℕ → Option (List ℕ)). flavored find ≡ r) seen bytes records x y e f (sym h)
 
 pub returns-in_err-flavor-clause-err : goal.returns-in_err-flavor-clause-err
@@ -77,7 +77,7 @@ pub returns-in-TrueType-clause-exact : goal.returns-in-TrueType-clause-exact
 returns-in-TrueType-clause-exact c =
     let font : Font = record { bytes = c.args.«data».now; index = c.args.index; extras = c.args.options.now.extras } in
     let f = same_flavor c.in_ok-face.face.«data».now c.args.«data».now c.in_ok-face.face.records.now c.in_ok-face.face.extras c.args.options.now.extras (Ok c.in_ok-flavor.field-0) c.in_ok-face.ensures.ok.0 c.in_ok-face.ensures.extras c.in_ok-flavor.ensures ∙ ap (λ (x : FontFlavor). Ok x) c.in-TrueType.is in
-    for_ok c.subset_truetype.result (λ v. IsAnswered c.in_ok-face.face.extras.hinting (asked c.in_ok-face.face.extras (table_in c.in_ok-face.face.«data».now c.in_ok-face.face.records.now)) c.args.mapper.now v.items) (λ v. IsAnswer c.args.options.now.limits.tokens c.args.options.now.limits.depth font c.args.mapper.now v.items)
+    for_ok c.subset_truetype.result (λ v. IsAnswered c.in_ok-face.face.extras.hinting (requested c.in_ok-face.face.extras (table_in c.in_ok-face.face.«data».now c.in_ok-face.face.records.now)) c.args.mapper.now v.items) (λ v. IsAnswer c.args.options.now.limits.tokens c.args.options.now.limits.depth font c.args.mapper.now v.items)
     (λ v a. truetype_subset c.args.options.now.limits.bytes c.args.options.now.limits.tokens c.args.options.now.limits.depth font c.args.mapper.now c.in_ok-face.face.records.now c.in_ok-face.ensures.ok.1 f v.items c.parse.ensures.bytes c.num_gids-count.ensures.first
     (moved (λ (hinting : Bool) (find : List ℕ → Option (List ℕ)). IsAnswered hinting find c.args.mapper.now v.items) c.in_ok-face.face.«data».now c.args.«data».now c.in_ok-face.face.records.now c.in_ok-face.face.extras c.args.options.now.extras c.in_ok-face.ensures.ok.0 c.in_ok-face.ensures.extras a)) c.subset_truetype.ensures.ok
 
@@ -90,9 +90,9 @@ pub returns-in-TrueType-clause-err : goal.returns-in-TrueType-clause-err
 returns-in-TrueType-clause-err c =
     let font : Font = record { bytes = c.args.«data».now; index = c.args.index; extras = c.args.options.now.extras } in
     let f = same_flavor c.in_ok-face.face.«data».now c.args.«data».now c.in_ok-face.face.records.now c.in_ok-face.face.extras c.args.options.now.extras (Ok c.in_ok-flavor.field-0) c.in_ok-face.ensures.ok.0 c.in_ok-face.ensures.extras c.in_ok-flavor.ensures ∙ ap (λ (x : FontFlavor). Ok x) c.in-TrueType.is in
-    for_err c.subset_truetype.result (λ e. IsRefused c.in_ok-face.face.extras.hinting (asked c.in_ok-face.face.extras (table_in c.in_ok-face.face.«data».now c.in_ok-face.face.records.now)) c.bytes.result c.args.mapper.now e) (λ e. (e ≡ OutOfMemory) ⊎ StandsWithin c.args.options.now.limits.bytes c.args.options.now.limits.tokens c.args.options.now.limits.depth font c.args.mapper.now e)
+    for_err c.subset_truetype.result (λ e. IsRefused c.in_ok-face.face.extras.hinting (requested c.in_ok-face.face.extras (table_in c.in_ok-face.face.«data».now c.in_ok-face.face.records.now)) c.bytes.result c.args.mapper.now e) (λ e. (e ≡ OutOfMemory) ⊎ StandsWithin c.args.options.now.limits.bytes c.args.options.now.limits.tokens c.args.options.now.limits.depth font c.args.mapper.now e)
     (λ e r. truetype_refused c.args.options.now.limits.bytes c.args.options.now.limits.tokens c.args.options.now.limits.depth font c.args.mapper.now c.in_ok-face.face.records.now c.in_ok-face.ensures.ok.1 f e
-    (subst (λ (b : Option ℕ). IsRefused c.args.options.now.extras.hinting (asked c.args.options.now.extras (table_in c.args.«data».now c.in_ok-face.face.records.now)) b c.args.mapper.now e) c.bytes.ensures (moved (λ (hinting : Bool) (find : List ℕ → Option (List ℕ)). IsRefused hinting find c.bytes.result c.args.mapper.now e) c.in_ok-face.face.«data».now c.args.«data».now c.in_ok-face.face.records.now c.in_ok-face.face.extras c.args.options.now.extras c.in_ok-face.ensures.ok.0 c.in_ok-face.ensures.extras r))) c.subset_truetype.ensures.err
+    (subst (λ (b : Option ℕ). IsRefused c.args.options.now.extras.hinting (requested c.args.options.now.extras (table_in c.args.«data».now c.in_ok-face.face.records.now)) b c.args.mapper.now e) c.bytes.ensures (moved (λ (hinting : Bool) (find : List ℕ → Option (List ℕ)). IsRefused hinting find c.bytes.result c.args.mapper.now e) c.in_ok-face.face.«data».now c.args.«data».now c.in_ok-face.face.records.now c.in_ok-face.face.extras c.args.options.now.extras c.in_ok-face.ensures.ok.0 c.in_ok-face.ensures.extras r))) c.subset_truetype.ensures.err
 
 pub returns-in-TrueType-clause-before_memory : goal.returns-in-TrueType-clause-before_memory
 returns-in-TrueType-clause-before_memory c = λ e g k.
@@ -101,14 +101,14 @@ returns-in-TrueType-clause-before_memory c = λ e g k.
     opening_clean c.args.options.now.limits.bytes c.args.options.now.limits.tokens c.args.options.now.limits.depth font c.args.mapper.now c.in_ok-face.face.records.now c.in_ok-face.ensures.ok.1 f e g
 
 -- the file of a font with a CFF table, by the file's own bytes
-same_file : (tokens depth : ℕ) (seen bytes records glyphs : List ℕ) (x y : Extras) (r : Result (List ℕ) Error) → seen ≡ bytes → x ≡ y → cff_file (asked x (table_in seen records)) tokens depth glyphs ≡ r → cff_file (asked y (table_in bytes records)) tokens depth glyphs ≡ r
+same_file : (tokens depth : ℕ) (seen bytes records glyphs : List ℕ) (x y : Extras) (r : Result (List ℕ) Error) → seen ≡ bytes → x ≡ y → cff_file (requested x (table_in seen records)) tokens depth glyphs ≡ r → cff_file (requested y (table_in bytes records)) tokens depth glyphs ≡ r
 same_file tokens depth seen bytes records glyphs x y r e f h = moved (λ (hinting : Bool) (find : List ℕ → Option (List ℕ)). cff_file find tokens depth glyphs ≡ r) seen bytes records x y e f h
 
 pub returns-in-Cff-clause-exact : goal.returns-in-Cff-clause-exact
 returns-in-Cff-clause-exact c =
     let font : Font = record { bytes = c.args.«data».now; index = c.args.index; extras = c.args.options.now.extras } in
     let f = same_flavor c.in_ok-face.face.«data».now c.args.«data».now c.in_ok-face.face.records.now c.in_ok-face.face.extras c.args.options.now.extras (Ok c.in_ok-flavor.field-0) c.in_ok-face.ensures.ok.0 c.in_ok-face.ensures.extras c.in_ok-flavor.ensures ∙ ap (λ (x : FontFlavor). Ok x) c.in-Cff.is in
-    gave_ok_within (λ v. v.items) c.args.options.now.limits.bytes length c.subset_cff.result (cff_file (asked c.in_ok-face.face.extras (table_in c.in_ok-face.face.«data».now c.in_ok-face.face.records.now)) c.args.options.now.limits.tokens c.args.options.now.limits.depth c.args.mapper.now) (IsAnswer c.args.options.now.limits.tokens c.args.options.now.limits.depth font c.args.mapper.now) c.subset_cff.ensures.gives
+    gave_ok_within (λ v. v.items) c.args.options.now.limits.bytes length c.subset_cff.result (cff_file (requested c.in_ok-face.face.extras (table_in c.in_ok-face.face.«data».now c.in_ok-face.face.records.now)) c.args.options.now.limits.tokens c.args.options.now.limits.depth c.args.mapper.now) (IsAnswer c.args.options.now.limits.tokens c.args.options.now.limits.depth font c.args.mapper.now) c.subset_cff.ensures.gives
     (λ out h. cff_answered c.args.options.now.limits.bytes c.args.options.now.limits.tokens c.args.options.now.limits.depth font c.args.mapper.now c.in_ok-face.face.records.now c.in_ok-face.ensures.ok.1 f out c.parse.ensures.bytes (omega (arith, c.depth-depth.ensures.above, c.depth-depth.ensures.value)) c.num_gids-count.ensures.first c.num_gids-count.ensures.few c.num_gids-count.ensures.once
     (same_file c.args.options.now.limits.tokens c.args.options.now.limits.depth c.in_ok-face.face.«data».now c.args.«data».now c.in_ok-face.face.records.now c.args.mapper.now c.in_ok-face.face.extras c.args.options.now.extras (Ok out) c.in_ok-face.ensures.ok.0 c.in_ok-face.ensures.extras h))
 
@@ -121,7 +121,7 @@ pub returns-in-Cff-clause-err : goal.returns-in-Cff-clause-err
 returns-in-Cff-clause-err c =
     let font : Font = record { bytes = c.args.«data».now; index = c.args.index; extras = c.args.options.now.extras } in
     let f = same_flavor c.in_ok-face.face.«data».now c.args.«data».now c.in_ok-face.face.records.now c.in_ok-face.face.extras c.args.options.now.extras (Ok c.in_ok-flavor.field-0) c.in_ok-face.ensures.ok.0 c.in_ok-face.ensures.extras c.in_ok-flavor.ensures ∙ ap (λ (x : FontFlavor). Ok x) c.in-Cff.is in
-    gave_err_within (λ v. v.items) c.args.options.now.limits.bytes length c.subset_cff.result (cff_file (asked c.in_ok-face.face.extras (table_in c.in_ok-face.face.«data».now c.in_ok-face.face.records.now)) c.args.options.now.limits.tokens c.args.options.now.limits.depth c.args.mapper.now) (λ e. (e ≡ OutOfMemory) ⊎ StandsWithin c.args.options.now.limits.bytes c.args.options.now.limits.tokens c.args.options.now.limits.depth font c.args.mapper.now e) c.subset_cff.ensures.gives (inl refl)
+    gave_err_within (λ v. v.items) c.args.options.now.limits.bytes length c.subset_cff.result (cff_file (requested c.in_ok-face.face.extras (table_in c.in_ok-face.face.«data».now c.in_ok-face.face.records.now)) c.args.options.now.limits.tokens c.args.options.now.limits.depth c.args.mapper.now) (λ e. (e ≡ OutOfMemory) ⊎ StandsWithin c.args.options.now.limits.bytes c.args.options.now.limits.tokens c.args.options.now.limits.depth font c.args.mapper.now e) c.subset_cff.ensures.gives (inl refl)
     (λ e h. cff_refused c.args.options.now.limits.bytes c.args.options.now.limits.tokens c.args.options.now.limits.depth font c.args.mapper.now c.in_ok-face.face.records.now c.in_ok-face.ensures.ok.1 f e c.num_gids-count.ensures.once
     (same_file c.args.options.now.limits.tokens c.args.options.now.limits.depth c.in_ok-face.face.«data».now c.args.«data».now c.in_ok-face.face.records.now c.args.mapper.now c.in_ok-face.face.extras c.args.options.now.extras (Err e) c.in_ok-face.ensures.ok.0 c.in_ok-face.ensures.extras h))
     (λ l. cff_long c.args.options.now.limits.bytes c.args.options.now.limits.tokens c.args.options.now.limits.depth font c.args.mapper.now c.in_ok-face.face.records.now c.in_ok-face.ensures.ok.1 f
@@ -174,15 +174,15 @@ pub returns-in-TrueType-clause-no_answer : goal.returns-in-TrueType-clause-no_an
 returns-in-TrueType-clause-no_answer c =
     let font : Font = record { bytes = c.args.«data».now; index = c.args.index; extras = c.args.options.now.extras } in
     let f = same_flavor c.in_ok-face.face.«data».now c.args.«data».now c.in_ok-face.face.records.now c.in_ok-face.face.extras c.args.options.now.extras (Ok c.in_ok-flavor.field-0) c.in_ok-face.ensures.ok.0 c.in_ok-face.ensures.extras c.in_ok-flavor.ensures ∙ ap (λ (x : FontFlavor). Ok x) c.in-TrueType.is in
-    for_err c.subset_truetype.result (λ e. IsRefused c.in_ok-face.face.extras.hinting (asked c.in_ok-face.face.extras (table_in c.in_ok-face.face.«data».now c.in_ok-face.face.records.now)) c.bytes.result c.args.mapper.now e) (λ e. (e ≡ OutOfMemory) ⊎ HasNoAnswerWithin c.args.options.now.limits.bytes c.args.options.now.limits.tokens c.args.options.now.limits.depth font c.args.mapper.now)
+    for_err c.subset_truetype.result (λ e. IsRefused c.in_ok-face.face.extras.hinting (requested c.in_ok-face.face.extras (table_in c.in_ok-face.face.«data».now c.in_ok-face.face.records.now)) c.bytes.result c.args.mapper.now e) (λ e. (e ≡ OutOfMemory) ⊎ HasNoAnswerWithin c.args.options.now.limits.bytes c.args.options.now.limits.tokens c.args.options.now.limits.depth font c.args.mapper.now)
     (λ e r. truetype_no_answer c.args.options.now.limits.bytes c.args.options.now.limits.tokens c.args.options.now.limits.depth font c.args.mapper.now c.in_ok-face.face.records.now c.in_ok-face.ensures.ok.1 f e
-    (subst (λ (b : Option ℕ). IsRefused c.args.options.now.extras.hinting (asked c.args.options.now.extras (table_in c.args.«data».now c.in_ok-face.face.records.now)) b c.args.mapper.now e) c.bytes.ensures (moved (λ (hinting : Bool) (find : List ℕ → Option (List ℕ)). IsRefused hinting find c.bytes.result c.args.mapper.now e) c.in_ok-face.face.«data».now c.args.«data».now c.in_ok-face.face.records.now c.in_ok-face.face.extras c.args.options.now.extras c.in_ok-face.ensures.ok.0 c.in_ok-face.ensures.extras r))) c.subset_truetype.ensures.err
+    (subst (λ (b : Option ℕ). IsRefused c.args.options.now.extras.hinting (requested c.args.options.now.extras (table_in c.args.«data».now c.in_ok-face.face.records.now)) b c.args.mapper.now e) c.bytes.ensures (moved (λ (hinting : Bool) (find : List ℕ → Option (List ℕ)). IsRefused hinting find c.bytes.result c.args.mapper.now e) c.in_ok-face.face.«data».now c.args.«data».now c.in_ok-face.face.records.now c.in_ok-face.face.extras c.args.options.now.extras c.in_ok-face.ensures.ok.0 c.in_ok-face.ensures.extras r))) c.subset_truetype.ensures.err
 
 pub returns-in-Cff-clause-no_answer : goal.returns-in-Cff-clause-no_answer
 returns-in-Cff-clause-no_answer c =
     let font : Font = record { bytes = c.args.«data».now; index = c.args.index; extras = c.args.options.now.extras } in
     let f = same_flavor c.in_ok-face.face.«data».now c.args.«data».now c.in_ok-face.face.records.now c.in_ok-face.face.extras c.args.options.now.extras (Ok c.in_ok-flavor.field-0) c.in_ok-face.ensures.ok.0 c.in_ok-face.ensures.extras c.in_ok-flavor.ensures ∙ ap (λ (x : FontFlavor). Ok x) c.in-Cff.is in
-    gave_err_within (λ v. v.items) c.args.options.now.limits.bytes length c.subset_cff.result (cff_file (asked c.in_ok-face.face.extras (table_in c.in_ok-face.face.«data».now c.in_ok-face.face.records.now)) c.args.options.now.limits.tokens c.args.options.now.limits.depth c.args.mapper.now) (λ e. (e ≡ OutOfMemory) ⊎ HasNoAnswerWithin c.args.options.now.limits.bytes c.args.options.now.limits.tokens c.args.options.now.limits.depth font c.args.mapper.now) c.subset_cff.ensures.gives (inl refl)
+    gave_err_within (λ v. v.items) c.args.options.now.limits.bytes length c.subset_cff.result (cff_file (requested c.in_ok-face.face.extras (table_in c.in_ok-face.face.«data».now c.in_ok-face.face.records.now)) c.args.options.now.limits.tokens c.args.options.now.limits.depth c.args.mapper.now) (λ e. (e ≡ OutOfMemory) ⊎ HasNoAnswerWithin c.args.options.now.limits.bytes c.args.options.now.limits.tokens c.args.options.now.limits.depth font c.args.mapper.now) c.subset_cff.ensures.gives (inl refl)
     (λ e h. cff_no_answer c.args.options.now.limits.bytes c.args.options.now.limits.tokens c.args.options.now.limits.depth font c.args.mapper.now c.in_ok-face.face.records.now c.in_ok-face.ensures.ok.1 f e c.num_gids-count.ensures.once
     (same_file c.args.options.now.limits.tokens c.args.options.now.limits.depth c.in_ok-face.face.«data».now c.args.«data».now c.in_ok-face.face.records.now c.args.mapper.now c.in_ok-face.face.extras c.args.options.now.extras (Err e) c.in_ok-face.ensures.ok.0 c.in_ok-face.ensures.extras h))
     (λ l. cff_long_no_answer c.args.options.now.limits.bytes c.args.options.now.limits.tokens c.args.options.now.limits.depth font c.args.mapper.now c.in_ok-face.face.records.now c.in_ok-face.ensures.ok.1 f

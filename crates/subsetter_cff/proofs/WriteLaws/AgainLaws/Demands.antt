@@ -4,12 +4,12 @@ use Rattle.std.specs.Prelude.{unwrap_or}
 use Rattle.std.specs.List.{AllByRecursion}
 use Rattle.std.specs.Str.{bytes_eq}
 use Rattle.std.proofs.lemmas.Option.{slice_get_within}
-use Rattle.subsetter_base.specs.Remap.{place_by}
+use Rattle.subsetter_base.specs.Remap.{index_by}
 use Rattle.subsetter_cffdata.specs.Numbers.{Number}
 use Rattle.subsetter_cffdata.specs.Dict.{NewEntry, meaning}
 use Rattle.subsetter_cff.specs.Read.Strings.{FontString, Standard, Custom, standard_strings}
 use Rattle.subsetter_cff.specs.Read.Operators.{font_name_operator, copyright_operator, notice_operator, font_matrix_operator, font_box_operator}
-use Rattle.subsetter_cff.specs.Write.Layout.{FontDict, Parts, Offsets, strings, number_of, integer, plain_entry, string_entries, places, placed_entries, top_entries_by}
+use Rattle.subsetter_cff.specs.Write.Layout.{FontDict, Parts, Offsets, strings, number_of, integer, plain_entry, string_entries, table_offsets, placed_entries, top_entries_by}
 use Rattle.subsetter_cff.specs.Write.Fits.{Fits, FitsString}
 use Rattle.subsetter_cff.specs.Read.Opened.{meets, all_meet}
 use Rattle.subsetter_cff.specs.Read.OperandDemands.{Demand, top_demands}
@@ -24,13 +24,13 @@ pub record Shaped (p : Parts) : Type 0 where
   pub font_dicts : AllByRecursion (λ (f : FontDict). length f.matrix ≡ 6) p.font_dicts
 
 -- ---- numbers of strings
-place_under : (ss : List (List ℕ)) (s : List ℕ) (o : Option ℕ) → place_by bytes_eq ss s ≡ o → length ss + standard_strings ≤ 65536 → standard_strings + unwrap_or o 0 < 65536
+place_under : (ss : List (List ℕ)) (s : List ℕ) (o : Option ℕ) → index_by bytes_eq ss s ≡ o → length ss + standard_strings ≤ 65536 → standard_strings + unwrap_or o 0 < 65536
 place_under ss s None e few = omega (arith, few)
 place_under ss s (Some i) e few = omega (arith, few, slice_get_within ss i s (place_found ss s i e))
 
 number_under : (ss : List (List ℕ)) (t : FontString) → FitsString (Some t) → length ss + standard_strings ≤ 65536 → number_of ss t < 65536
 number_under ss (Standard n) fits few = omega (arith, fits)
-number_under ss (Custom s) fits few = place_under ss s (place_by bytes_eq ss s) refl few
+number_under ss (Custom s) fits few = place_under ss s (index_by bytes_eq ss s) refl few
 
 pub strings_meet : (ds : List Demand) (ss : List (List ℕ)) (operator : List ℕ) (o : Option FontString) (ls : List NewEntry) → FitsString o → length ss + standard_strings ≤ 65536
     → ((n : ℕ) → n < 65536 → meets ds (record { operator = operator; operands = integer n ∷ [] }) ≡ true) → all_meet ds (map meaning ls) ≡ true → all_meet ds (map meaning (string_entries ss operator o ++ ls)) ≡ true
@@ -53,12 +53,12 @@ placed_meet o a b c d = rw (offset_operand_is o.charset a, offset_operand_is o.c
 numbers_meet : (m b : List Number) (ls : List NewEntry) → length m ≡ 6 → length b ≡ 4 → all_meet top_demands (map meaning ls) ≡ true → all_meet top_demands (map meaning (plain_entry font_matrix_operator m ∷ plain_entry font_box_operator b ∷ ls)) ≡ true
 numbers_meet m b ls six four e = rw (plain_values m, plain_values b, six, four, e) refl
 
-pub top_meets : (p : Parts) → Fits p → Shaped p → all_meet top_demands (tops p (places p)) ≡ true
+pub top_meets : (p : Parts) → Fits p → Shaped p → all_meet top_demands (tops p (table_offsets p)) ≡ true
 unfolding top_entries_by
 top_meets p fits shaped =
     let few = fits.string_count in
     strings_meet top_demands (strings p) copyright_operator p.copyright _ fits.copyright few copyright_meets
     (strings_meet top_demands (strings p) notice_operator p.notice _ fits.notice few notice_meets
     (strings_meet top_demands (strings p) font_name_operator p.font_name _ fits.font_name few font_name_meets
-    (numbers_meet p.matrix p.box (placed_entries (places p)) shaped.matrix shaped.box
-    (placed_meet (places p) (omega (arith, fits.place)) (omega (arith, fits.place)) (omega (arith, fits.place)) (omega (arith, fits.place))))))
+    (numbers_meet p.matrix p.box (placed_entries (table_offsets p)) shaped.matrix shaped.box
+    (placed_meet (table_offsets p) (omega (arith, fits.offset)) (omega (arith, fits.offset)) (omega (arith, fits.offset)) (omega (arith, fits.offset))))))

@@ -9,7 +9,7 @@ use Rattle.subsetter_cffdata.specs.Dict.{Entry, NewEntry, meaning, entries}
 use Rattle.subsetter_cff.specs.Read.Strings.{FontString, standard_strings}
 use Rattle.subsetter_cff.specs.Read.Private.{Private, private_by, private_at}
 use Rattle.subsetter_cff.specs.Read.Operators.{font_name_operator, font_matrix_operator}
-use Rattle.subsetter_cff.specs.Write.Layout.{FontDict, Parts, strings, integer, plain_entry, private_entry, string_entries, private_bytes, entries_of_font_dict_by, font_dicts_from, privates_place, cff_table}
+use Rattle.subsetter_cff.specs.Write.Layout.{FontDict, Parts, strings, integer, plain_entry, private_entry, string_entries, private_bytes, entries_of_font_dict_by, font_dicts_from, privates_offset, cff_table}
 use Rattle.subsetter_cff.specs.Write.Fits.{Fits, FitsString}
 use Rattle.subsetter_cff.specs.Read.Opened.{meets, all_meet, all_lead, sound_font_dicts, opened_cid, opened_parts, opened}
 use Rattle.subsetter_cff.specs.Read.OperandDemands.{font_dict_demands}
@@ -63,19 +63,19 @@ sound_all bytes (d ∷ ds) h =
 
 module _ (p : Parts) (fits : Fits p) (shaped : Shaped p) where
   items : List (List Entry)
-  items = map entries (font_dicts_from (strings p) (privates_place p) p.font_dicts)
+  items = map entries (font_dicts_from (strings p) (privates_offset p) p.font_dicts)
 
   one_sound : (i : ℕ) (d : List Entry) → i < length items → slice_get items i ≡ Some d → (all_meet font_dict_demands d ≡ true) × (all_lead (cff_table p) d ≡ true)
   unfolding items
   one_sound i d lt at =
-      let inside : i < length p.font_dicts = omega (arith, lt, length-map (font_dicts_from (strings p) (privates_place p) p.font_dicts) entries, length-font_dicts_from (strings p) (privates_place p) p.font_dicts) in
+      let inside : i < length p.font_dicts = omega (arith, lt, length-map (font_dicts_from (strings p) (privates_offset p) p.font_dicts) entries, length-font_dicts_from (strings p) (privates_offset p) p.font_dicts) in
       let f = get_at p.font_dicts i inside in
       let o = own p fits i f.0 f.1 in
       let short = private_length p fits i f.0 f.1 in
       subst (λ e. (all_meet font_dict_demands e ≡ true) × (all_lead (cff_table p) e ≡ true)) (same_Some _ _ (sym (read_at p fits i f.0 f.1) ∙ at)) (
-        dict_meets (strings p) (privates_place p + length o.front) f.0 (all_at (λ (g : FontDict). length g.matrix ≡ 6) p.font_dicts i f.0 shaped.font_dicts f.1) (own_fits p fits i f.0 f.1).name fits.string_count
-            (omega (arith, fits.place, short)) (omega (arith, fits.place, short)),
-        dict_leads (cff_table p) (strings p) (privates_place p + length o.front) f.0 _ (private_there p fits i f.0 f.1),
+        dict_meets (strings p) (privates_offset p + length o.front) f.0 (all_at (λ (g : FontDict). length g.matrix ≡ 6) p.font_dicts i f.0 shaped.font_dicts f.1) (own_fits p fits i f.0 f.1).name fits.string_count
+            (omega (arith, fits.offset, short)) (omega (arith, fits.offset, short)),
+        dict_leads (cff_table p) (strings p) (privates_offset p + length o.front) f.0 _ (private_there p fits i f.0 f.1),
       )
 
   opened_dicts : opened_cid (laid_out p) ≡ Ok (laid_out p)

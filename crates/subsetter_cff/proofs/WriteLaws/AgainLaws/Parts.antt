@@ -5,7 +5,7 @@ use Rattle.std.specs.List.{AllByRecursion}
 use Rattle.std.proofs.lemmas.Option.{slice_get-map}
 use Rattle.std.proofs.lemmas.List.{length-map}
 use Rattle.subsetter_base.specs.Bytes.{◌>>=◌}
-use Rattle.subsetter_base.specs.Places.{place}
+use Rattle.subsetter_base.specs.Indexes.{index_of}
 use Rattle.subsetter_base.specs.declared.error.Error.{Error}
 use Rattle.subsetter_cff.specs.Read.Cff.{Cff, is_cid_keyed}
 use Rattle.subsetter_cff.specs.Read.GlyphTrace.{library}
@@ -41,7 +41,7 @@ same_bytes r [] = refl
 same_bytes r (k ∷ ks) = ap (λ (l : List (List ℕ)). k.bytes ∷ l) (same_bytes r ks)
 
 pub same_places : (r : ℕ → ℕ) (P : ℕ → Type 0) (order : KeepsOrder r P) (ns : List ℕ) (ks : List KeptGlyph) → AllByRecursion P ns → AllByRecursion (λ (k : KeptGlyph). P k.number) ks
-    → map (λ (k : KeptGlyph). unwrap_or (place (map r ns) k.number) 0) (map (renumbered r) ks) ≡ map (λ (k : KeptGlyph). unwrap_or (place ns k.number) 0) ks
+    → map (λ (k : KeptGlyph). unwrap_or (index_of (map r ns) k.number) 0) (map (renumbered r) ks) ≡ map (λ (k : KeptGlyph). unwrap_or (index_of ns k.number) 0) ks
 same_places r P order ns [] all all' = refl
 same_places r P order ns (k ∷ ks) all all' = rw (place_again r P order ns k.number all'.0 all, same_places r P order ns ks all all'.1) refl
 
@@ -80,7 +80,7 @@ module _ (cff : Cff) (tokens depth : ℕ) (first : List ℕ) (kept : List KeptGl
       let at = kept_at cff tokens depth first kept g kept_is lt in
       subst (λ (k : KeptGlyph). In (used_numbers kept) k.number) (sym (picked g at.one at.at)) (in_used kept g at.one at.at)
 
-  number_is : (n i : ℕ) → place (used_numbers kept) n ≡ Some i → number n ≡ i
+  number_is : (n i : ℕ) → index_of (used_numbers kept) n ≡ Some i → number n ≡ i
   number_is n i e = rw e refl
 
   -- that glyph of the table that was laid out

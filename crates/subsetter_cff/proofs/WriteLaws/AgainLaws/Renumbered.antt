@@ -4,7 +4,7 @@ use Rattle.std.specs.Prelude.{slice_get, unwrap_or}
 use Rattle.std.specs.List.{AllByRecursion}
 use Rattle.std.proofs.lemmas.Bool.{cases_Bool, cases_lt, lt-ltb, ltb-true}
 use Rattle.std.proofs.lemmas.Option.{none-some, same_Some}
-use Rattle.subsetter_base.specs.Places.{place}
+use Rattle.subsetter_base.specs.Indexes.{index_of}
 use Rattle.subsetter_cff.specs.Write.Plain.{with_number, KeptGlyph, used_numbers}
 use Rattle.subsetter_cff.proofs.ReadLaws.Results.{In, number_there}
 
@@ -66,7 +66,7 @@ get_ascends (n ∷ ns) (suc i) (suc j) a b all lt at at' = get_ascends ns i j a 
 
 -- ---- a new number for each
 abbrev pub new_number : List ℕ → ℕ → ℕ
-new_number used n = unwrap_or (place used n) 0
+new_number used n = unwrap_or (index_of used n) 0
 
 -- numbers are renumbered in order
 abbrev pub KeepsOrder : (ℕ → ℕ) → (ℕ → Type 0) → Type 0

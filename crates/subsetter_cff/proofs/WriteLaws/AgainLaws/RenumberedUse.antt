@@ -2,7 +2,7 @@
 use Rattle.std.proofs.Common.{◌≡◌, ℕ, ltb, eqb, List, [], ◌∷◌, map, refl, ap, inl, inr}
 use Rattle.std.specs.List.{AllByRecursion}
 use Rattle.std.proofs.lemmas.Bool.{cases_Bool}
-use Rattle.subsetter_base.specs.Places.{place}
+use Rattle.subsetter_base.specs.Indexes.{index_of}
 use Rattle.subsetter_cff.specs.Write.Plain.{with_number, KeptGlyph, used_numbers}
 use Rattle.subsetter_cff.proofs.WriteLaws.AgainLaws.Renumbered.{KeepsOrder}
 
@@ -42,6 +42,6 @@ module _ (r : ℕ → ℕ) (P : ℕ → Type 0) (order : KeepsOrder r P) where
   used_again [] all = refl
   used_again (k ∷ ks) all = rw (used_again ks all.1) (with_again k.number (used_numbers ks) all.0 (used_all ks all.1))
 
-  pub place_again : (ns : List ℕ) (n : ℕ) → P n → AllByRecursion P ns → place (map r ns) (r n) ≡ place ns n
+  pub place_again : (ns : List ℕ) (n : ℕ) → P n → AllByRecursion P ns → index_of (map r ns) (r n) ≡ index_of ns n
   place_again [] n h all = refl
   place_again (m ∷ ns) n h all = rw ((order m n all.0 h).1, place_again ns n h all.1) refl

@@ -3,13 +3,13 @@ use Rattle.std.proofs.Common.{◌≡◌, ℕ, ◌≤◌, true, List, map, length
 use Rattle.std.specs.Prelude.{unwrap_or, Ok}
 use Rattle.std.specs.List.{AllByRecursion}
 use Rattle.std.proofs.lemmas.List.{length-map}
-use Rattle.subsetter_base.specs.Places.{place}
+use Rattle.subsetter_base.specs.Indexes.{index_of}
 use Rattle.subsetter_cff.specs.Read.Cff.{Cff, is_cid_keyed}
 use Rattle.subsetter_cff.specs.Read.Strings.{FontString, string_at}
 use Rattle.subsetter_cff.specs.Read.Operators.{copyright_operator, notice_operator, font_name_operator, font_matrix_operator, font_box_operator}
 use Rattle.subsetter_cff.specs.Read.Lookup.{last_of}
 use Rattle.subsetter_cff.specs.Read.Matrices.{thousandth_matrix, zero_box}
-use Rattle.subsetter_cff.specs.Write.Layout.{FontDict, Parts, Select, Numbers, places}
+use Rattle.subsetter_cff.specs.Write.Layout.{FontDict, Parts, Select, Numbers, table_offsets}
 use Rattle.subsetter_cff.specs.Write.Fits.{Fits}
 use Rattle.subsetter_cff.specs.Write.Plain.{KeptGlyph, kept_glyphs, used_numbers, new_font_dicts, new_select, new_parts, parts_for, counted_parts, parts_of}
 use Rattle.subsetter_cff.specs.Write.Again.{composed, AreGlyphs}
@@ -42,7 +42,7 @@ unfolding parts_of
 parts_of_same cff out tokens depth old new ks ks' e f same = rw (e, f, same) refl
 
 select_same : (cff out : Cff) (ns ns' : List ℕ) (ks ks' : List KeptGlyph) → is_cid_keyed cff ≡ true → is_cid_keyed out ≡ true
-    → map (λ (k : KeptGlyph). unwrap_or (place ns' k.number) 0) ks' ≡ map (λ (k : KeptGlyph). unwrap_or (place ns k.number) 0) ks → new_select out ns' ks' ≡ new_select cff ns ks
+    → map (λ (k : KeptGlyph). unwrap_or (index_of ns' k.number) 0) ks' ≡ map (λ (k : KeptGlyph). unwrap_or (index_of ns k.number) 0) ks → new_select out ns' ks' ≡ new_select cff ns ks
 select_same cff out ns ns' ks ks' cid cid' e = rw (cid, cid') (ap Numbers e)
 
 made_same : (cff out : Cff) (a b c : Option FontString) (d : List FontDict) (s s' : Select) (ks ks' : List KeptGlyph) → out.names ≡ cff.names
@@ -82,7 +82,7 @@ module _ (cff : Cff) (tokens depth : ℕ) (first : List ℕ) (kept : List KeptGl
   same_made second all d =
       let order' = order cff tokens depth first kept kept_is copyright notice font_name dicts dicts_are cid deep in
       made_same cff (laid_out ps) copyright notice font_name d _ _ (of_first second) (map (renumbered r) (of_first second)) refl
-      (ap (λ o. unwrap_or o thousandth_matrix) (matrix_is ps (places ps))) (ap (λ o. unwrap_or o zero_box) (box_is ps (places ps)))
+      (ap (λ o. unwrap_or o thousandth_matrix) (matrix_is ps (table_offsets ps))) (ap (λ o. unwrap_or o zero_box) (box_is ps (table_offsets ps)))
       (ap (λ ns. new_select (laid_out ps) ns (map (renumbered r) (of_first second))) (used_is second all)
       ∙ select_same cff (laid_out ps) (used_numbers (of_first second)) (map r (used_numbers (of_first second))) (of_first second) (map (renumbered r) (of_first second)) cid (keyed_again ps)
       (same_places r (In (used_numbers kept)) order' (used_numbers (of_first second)) (of_first second) (all_in second all) all))

@@ -10,7 +10,7 @@ use Rattle.subsetter_cff.specs.Write.Layout.{Parts, cff_table}
 use Rattle.subsetter_cff.specs.Write.Fits.{Fits}
 use Rattle.subsetter_cff.specs.Read.Opened.{opened}
 use Rattle.subsetter_cff.specs.Write.Plain.{parts_of, cff_subset}
-use Rattle.subsetter_cff.specs.Write.Again.{composed, AreGlyphs, AreAll, IsAsked, IsSameTable, IsGivenBack, StaysFromThenOn}
+use Rattle.subsetter_cff.specs.Write.Again.{composed, AreGlyphs, AreAll, IsRequested, IsSameTable, IsGivenBack, StaysFromThenOn}
 use Rattle.subsetter_cff.proofs.ReadLaws.Results.{bind_ok, same_Ok}
 use Rattle.subsetter_cff.proofs.ReadLaws.SourceBytes.{source_of}
 use Rattle.subsetter_cff.proofs.WriteLaws.Headline.{opened_is, answer_fits}
@@ -34,7 +34,7 @@ record IsAnswered (bytes : List ℕ) (tokens depth : ℕ) (glyphs out : List ℕ
   fits : Fits made
   shape : Shaped made
 
-is_answered : (bytes : List ℕ) (tokens depth : ℕ) (glyphs out : List ℕ) → IsAsked depth glyphs → cff_subset bytes tokens depth glyphs ≡ Ok out → IsAnswered bytes tokens depth glyphs out
+is_answered : (bytes : List ℕ) (tokens depth : ℕ) (glyphs out : List ℕ) → IsRequested depth glyphs → cff_subset bytes tokens depth glyphs ≡ Ok out → IsAnswered bytes tokens depth glyphs out
 unfolding cff_subset
 is_answered bytes tokens depth glyphs out asked e =
     let a = bind_ok (opened bytes) _ out e in
@@ -97,6 +97,6 @@ stays_from_then_on bytes tokens depth first all out again asked e they f =
     let a = is_answered bytes tokens depth first out asked e in
     let some : 1 ≤ length all = omega (arith, asked.some, they.count) in
     let few : length all ≤ 65535 = omega (arith, asked.few, they.count) in
-    let asked' : IsAsked depth all = record { deep = asked.deep; some = some; few = few } in
+    let asked' : IsRequested depth all = record { deep = asked.deep; some = some; few = few } in
     is_given_back out (laid_out a.made) tokens depth all all again asked' (ap cff_parts (sym a.out_is) ∙ parts_read a.made a.fits) (keyed_again a.made) f
     (subst (λ n. AreAll n all) (sym they.count) they)

@@ -8,7 +8,7 @@ pub returns-in-Operator : goal.returns-in-Operator
 returns-in-Operator c =
     sym c.loop-found.invariant.operator
     ∙ part_at_operator (rest c.loop-found.r) (operator_of c.in-Operator.operator) (rest c.next_token.new.r) (rw c.in-Operator.is at c.in-Some.ensures.value)
-    ∙ ap (λ (d : List ℕ). Some (operator_of c.in-Operator.operator, drop c.next_token.new.r.place d)) (c.in-Some.ensures.same ∙ c.loop-found.invariant.same)
+    ∙ ap (λ (d : List ℕ). Some (operator_of c.in-Operator.operator, drop c.next_token.new.r.offset d)) (c.in-Some.ensures.same ∙ c.loop-found.invariant.same)
     ∙ ap (λ (n : ℕ). Some (operator_of c.in-Operator.operator, drop n c.args.bytes.now)) (sym c.offset.ensures)
 
 pub loop-found-preserved : goal.loop-found-preserved

@@ -32,14 +32,14 @@ pub returns-in-Operator-clause-operator : goal.returns-in-Operator-clause-operat
 returns-in-Operator-clause-operator c =
     part_of_whole _ _ _ c.loop-found.invariant.operands
     ∙ part_at_operator (rest c.loop-found.r) (operator_of c.in-Operator.operator) (rest c.next_token.new.r) (rw c.in-Operator.is at c.in-Some.ensures.value)
-    ∙ ap (λ (d : List ℕ). Some (operator_of c.in-Operator.operator, drop c.next_token.new.r.place d)) (c.in-Some.ensures.same ∙ c.loop-found.invariant.same)
+    ∙ ap (λ (d : List ℕ). Some (operator_of c.in-Operator.operator, drop c.next_token.new.r.offset d)) (c.in-Some.ensures.same ∙ c.loop-found.invariant.same)
     ∙ ap (λ (n : ℕ). Some (operator_of c.in-Operator.operator, drop n c.args.bytes.now)) (sym c.offset.ensures)
 
 pub returns-then-len-buffer-clause-operands : goal.returns-then-len-buffer-clause-operands
 unfolding operands_at
 returns-then-len-buffer-clause-operands c =
     let r = c.next_token.new.r in
-    let here : rest r ≡ drop c.offset-then-len-buffer.result c.args.bytes.now = ap (drop r.place) (c.in-Some.ensures.same ∙ c.loop-found.invariant.same) ∙ ap (λ (n : ℕ). drop n c.args.bytes.now) (sym c.offset-then-len-buffer.ensures) in
+    let here : rest r ≡ drop c.offset-then-len-buffer.result c.args.bytes.now = ap (drop r.offset) (c.in-Some.ensures.same ∙ c.loop-found.invariant.same) ∙ ap (λ (n : ℕ). drop n c.args.bytes.now) (sym c.offset-then-len-buffer.ensures) in
     let buffer = set c.loop-found.buffer c.loop-found.len c.next_token.new.operand in
     full (map number_of (take (c.loop-found.len + 1) buffer)) (rest r) (length c.args.buffer.now) _ _ (ap (λ (b : List ℕ). operator_part (entry_at b)) here ∙ c.in_ok-read-in-Operand.ensures)
     (goes_on number_of c.loop-found.buffer c.loop-found.len (rest c.loop-found.r) (rest r) c.next_token.new.operand _ c.loop-found.invariant.operands (rw c.in-Operand.is at c.in-Some.ensures.value) c.loop-found.invariant.room)
@@ -48,7 +48,7 @@ returns-then-len-buffer-clause-operands c =
 pub returns-then-len-buffer-clause-operator : goal.returns-then-len-buffer-clause-operator
 returns-then-len-buffer-clause-operator c =
     let r = c.next_token.new.r in
-    let here : rest r ≡ drop c.offset-then-len-buffer.result c.args.bytes.now = ap (drop r.place) (c.in-Some.ensures.same ∙ c.loop-found.invariant.same) ∙ ap (λ (n : ℕ). drop n c.args.bytes.now) (sym c.offset-then-len-buffer.ensures) in
+    let here : rest r ≡ drop c.offset-then-len-buffer.result c.args.bytes.now = ap (drop r.offset) (c.in-Some.ensures.same ∙ c.loop-found.invariant.same) ∙ ap (λ (n : ℕ). drop n c.args.bytes.now) (sym c.offset-then-len-buffer.ensures) in
     part_of_whole _ _ _ (goes_on number_of c.loop-found.buffer c.loop-found.len (rest c.loop-found.r) (rest r) c.next_token.new.operand _ c.loop-found.invariant.operands (rw c.in-Operand.is at c.in-Some.ensures.value) c.loop-found.invariant.room)
     ∙ ap (λ (b : List ℕ). operator_part (entry_at b)) here ∙ c.in_ok-read-in-Operand.ensures
 
@@ -56,14 +56,14 @@ pub returns-in_err-read-in-Operand-clause-operands : goal.returns-in_err-read-in
 unfolding operands_at
 returns-in_err-read-in-Operand-clause-operands c =
     let r = c.next_token.new.r in
-    let here : rest r ≡ drop c.offset-then-len-buffer.result c.args.bytes.now = ap (drop r.place) (c.in-Some.ensures.same ∙ c.loop-found.invariant.same) ∙ ap (λ (n : ℕ). drop n c.args.bytes.now) (sym c.offset-then-len-buffer.ensures) in
+    let here : rest r ≡ drop c.offset-then-len-buffer.result c.args.bytes.now = ap (drop r.offset) (c.in-Some.ensures.same ∙ c.loop-found.invariant.same) ∙ ap (λ (n : ℕ). drop n c.args.bytes.now) (sym c.offset-then-len-buffer.ensures) in
     rw c.from_residual.ensures (cut _ (rest r) (length c.args.buffer.now) _ (ap (λ (b : List ℕ). operator_part (entry_at b)) here ∙ c.in_err-read-in-Operand.ensures)
     (goes_on number_of c.loop-found.buffer c.loop-found.len (rest c.loop-found.r) (rest r) c.next_token.new.operand _ c.loop-found.invariant.operands (rw c.in-Operand.is at c.in-Some.ensures.value) c.loop-found.invariant.room))
 
 pub returns-in_err-read-in-Operand-clause-operator : goal.returns-in_err-read-in-Operand-clause-operator
 returns-in_err-read-in-Operand-clause-operator c =
     let r = c.next_token.new.r in
-    let here : rest r ≡ drop c.offset-then-len-buffer.result c.args.bytes.now = ap (drop r.place) (c.in-Some.ensures.same ∙ c.loop-found.invariant.same) ∙ ap (λ (n : ℕ). drop n c.args.bytes.now) (sym c.offset-then-len-buffer.ensures) in
+    let here : rest r ≡ drop c.offset-then-len-buffer.result c.args.bytes.now = ap (drop r.offset) (c.in-Some.ensures.same ∙ c.loop-found.invariant.same) ∙ ap (λ (n : ℕ). drop n c.args.bytes.now) (sym c.offset-then-len-buffer.ensures) in
     rw c.from_residual.ensures (part_of_whole _ _ _ (goes_on number_of c.loop-found.buffer c.loop-found.len (rest c.loop-found.r) (rest r) c.next_token.new.operand _ c.loop-found.invariant.operands (rw c.in-Operand.is at c.in-Some.ensures.value) c.loop-found.invariant.room)
     ∙ ap (λ (b : List ℕ). operator_part (entry_at b)) here ∙ c.in_err-read-in-Operand.ensures)
 

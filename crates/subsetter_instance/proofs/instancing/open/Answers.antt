@@ -3,7 +3,7 @@ use Rattle.std.proofs.lemmas.Result.{err_from_is_err_and}
 use Rattle.subsetter_base.specs.declared.error.Error.{Error}
 use Rattle.subsetter_sfnt.specs.declared.extras.Extras.{Extras}
 use Rattle.subsetter_sfnt.specs.declared.flavor.FontFlavor.{FontFlavor}
-use Rattle.subsetter_sfnt.specs.Extras.{all_extras, asked}
+use Rattle.subsetter_sfnt.specs.Extras.{all_extras, requested}
 use Rattle.subsetter_sfnt.specs.FontAt.{font_at}
 use Rattle.subsetter_sfnt.specs.Plain.{flavored}
 use Rattle.subsetter_sfnt.specs.Read.{table_in}
@@ -11,8 +11,8 @@ use Rattle.subsetter_instance.proofs.Opened.{closed_unopened, closed_unflavored,
 use Rattle.subsetter_instance.proofs.instancing.open.Goals as goal
 
 -- the kind of the outlines of the file's own bytes
-own : (seen bytes records : List ℕ) (x : Extras) (r : Result FontFlavor Error) → seen ≡ bytes → r ≡ flavored (asked x (table_in seen records)) → flavored (asked x (table_in bytes records)) ≡ r
-own seen bytes records x r e h = ap (λ (b : List ℕ). flavored (asked x (table_in b records))) (sym e) ∙ sym h
+own : (seen bytes records : List ℕ) (x : Extras) (r : Result FontFlavor Error) → seen ≡ bytes → r ≡ flavored (requested x (table_in seen records)) → flavored (requested x (table_in bytes records)) ≡ r
+own seen bytes records x r e h = ap (λ (b : List ℕ). flavored (requested x (table_in b records))) (sym e) ∙ sym h
 
 pub returns-in_err-face-clause-err : goal.returns-in_err-face-clause-err
 returns-in_err-face-clause-err c =

@@ -31,7 +31,7 @@ write_table-sum-requires-clause-at g c =
     let others = drop (i + 1) ts in
     let more : views g.T.TableBytes.bytes_of (drop i ts) ≡ view g.T.TableBytes.bytes_of t ∷ views g.T.TableBytes.bytes_of others = ap (views g.T.TableBytes.bytes_of) (drop_more ts i t c.loop-table-test.true ∙ ap (λ (x : NewTable g.row.T.Denot). x ∷ others) (sym c.table-item.is)) in
     let f = fitting at (view g.T.TableBytes.bytes_of t) (views g.T.TableBytes.bytes_of others) (ap (fits at) (sym more) ∙ c.loop-table.invariant.fit) in
-    (f.place, f.len)
+    (f.offset, f.len)
 
 pub aligned_len-at-requires : goal.aligned_len-at-requires
 aligned_len-at-requires g c =
@@ -53,7 +53,7 @@ overflow_add-at g c =
     let others = drop (i + 1) ts in
     let more : views g.T.TableBytes.bytes_of (drop i ts) ≡ view g.T.TableBytes.bytes_of t ∷ views g.T.TableBytes.bytes_of others = ap (views g.T.TableBytes.bytes_of) (drop_more ts i t c.loop-table-test.true ∙ ap (λ (x : NewTable g.row.T.Denot). x ∷ others) (sym c.table-item.is)) in
     let f = fitting at (view g.T.TableBytes.bytes_of t) (views g.T.TableBytes.bytes_of others) (ap (fits at) (sym more) ∙ c.loop-table.invariant.fit) in
-    omega (arith, c.len.ensures.exact f.len, f.len, f.place, c.aligned_len-at.ensures)
+    omega (arith, c.len.ensures.exact f.len, f.len, f.offset, c.aligned_len-at.ensures)
 
 pub loop-table-preserved : goal.loop-table-preserved
 loop-table-preserved g c =

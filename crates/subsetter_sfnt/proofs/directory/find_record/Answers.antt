@@ -8,14 +8,14 @@ use Rattle.subsetter_sfnt.proofs.directory.find_record.Goals as goal
 pub returns-then-eq : goal.returns-then-eq
 returns-then-eq c =
     let R = c.args.records.now in
-    let p = c.loop-record.r.place in
+    let p = c.loop-record.r.offset in
     let now = ap (λ (b : List ℕ). option_and_then (λ bytes. Some (record_of bytes)) (range b p 16)) (sym c.loop-record.invariant.same) ∙ sym c.in-Some.ensures.value in
     found_here c.args.tag.0 _ _ c.in-Some.record _ (reads R p c.in-Some.record now).more (sym c.if-eq.ensures) c.loop-record.invariant.rest
 
 pub loop-record-preserved : goal.loop-record-preserved
 loop-record-preserved c =
     let R = c.args.records.now in
-    let p = c.loop-record.r.place in
+    let p = c.loop-record.r.offset in
     let now = ap (λ (b : List ℕ). option_and_then (λ bytes. Some (record_of bytes)) (range b p 16)) (sym c.loop-record.invariant.same) ∙ sym c.in-Some.ensures.value in
     let read = reads R p c.in-Some.record now in
     rw c.in-Some.ensures.moves (record {

@@ -5,9 +5,9 @@ use Rattle.subsetter_sfnt.proofs.directory.find_record.Given as goal
 abbrev pub invariant-loop-record : goal.invariant-loop-record
 invariant-loop-record l = record {
   same : l.r.bytes ≡ l.records;
-  within : l.r.place ≤ length l.records;
-  rest : find_record l.tag.0 (directory_records ((length l.records - l.r.place) / 16) (drop l.r.place l.records)) ≡ find_record l.tag.0 (directory_records (length l.records / 16) l.records);
+  within : l.r.offset ≤ length l.records;
+  rest : find_record l.tag.0 (directory_records ((length l.records - l.r.offset) / 16) (drop l.r.offset l.records)) ≡ find_record l.tag.0 (directory_records (length l.records / 16) l.records);
 }
 
 abbrev pub decreases-loop-record : goal.decreases-loop-record
-decreases-loop-record l = length l.records - l.r.place
+decreases-loop-record l = length l.records - l.r.offset

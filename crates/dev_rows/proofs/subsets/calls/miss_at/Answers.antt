@@ -1,5 +1,5 @@
 use Rattle.std.proofs.Common.{[], ◌∷◌, ℕ, List, subst, ◌∙◌}
-use Rattle.subsetter_base.specs.Places.{with_glyphs}
+use Rattle.subsetter_base.specs.Indexes.{with_glyphs}
 use Rattle.subsetter_sfnt.specs.FontAt.{font_at}
 use Rattle.subsetter_variable.specs.Subset.{IsSubsetAt}
 use Rattle.dev_rows.specs.Answers.{IsSame}

@@ -1,6 +1,6 @@
 use Rattle.std.proofs.Common.{[], ◌∷◌, ℕ, List, subst, ◌∙◌}
 use Rattle.subsetter.specs.Subset.{IsSubset}
-use Rattle.subsetter_base.specs.Places.{with_glyphs}
+use Rattle.subsetter_base.specs.Indexes.{with_glyphs}
 use Rattle.dev_rows.specs.Answers.{IsSame}
 use Rattle.dev_rows.proofs.subsets.calls.miss_of.Goals as goal
 

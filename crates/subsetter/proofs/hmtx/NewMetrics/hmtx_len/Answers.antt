@@ -4,4 +4,4 @@ use Rattle.subsetter.proofs.HmtxLaws.Written.{length-hmtx}
 use Rattle.subsetter.proofs.hmtx.NewMetrics.hmtx_len.Goals as goal
 
 pub returns : goal.returns
-returns c = omega (arith, length-hmtx c.self.inside.pairs c.self.inside.metrics.items c.self.invariant.within, ap (λ (m : MetricBytes). length m.hmtx) c.self.view_is, c.len.ensures, c.from.ensures)
+returns c = omega (arith, length-hmtx c.self.inside.number_of_h_metrics c.self.inside.metrics.items c.self.invariant.within, ap (λ (m : MetricBytes). length m.hmtx) c.self.view_is, c.len.ensures, c.from.ensures)

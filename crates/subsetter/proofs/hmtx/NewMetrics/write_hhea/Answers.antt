@@ -15,4 +15,4 @@ returns-clause-items c =
     let out = c.args.out.now.items in
     let middle = c.put-2.ensures.items ∙ ap (λ (l : List ℕ). c.put.new.out.items ++ l) c.to_be_bytes.ensures in
     let last = c.put-3.ensures.items ∙ ap (λ (l : List ℕ). c.put-2.new.out.items ++ l) (take_rest h 36) in
-    header_written c.self.inside.pairs h out _ _ _ c.put.ensures.items middle last ∙ ap (λ (m : MetricBytes). out ++ m.hhea) c.self.view_is
+    header_written c.self.inside.number_of_h_metrics h out _ _ _ c.put.ensures.items middle last ∙ ap (λ (m : MetricBytes). out ++ m.hhea) c.self.view_is

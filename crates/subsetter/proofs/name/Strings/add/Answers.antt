@@ -15,7 +15,7 @@ invariant_of-self-2 c =
     let ts = nows bs in
     let s = c.args.string.now in
     let absent : among ts s ≡ false = ap (λ (l : List (List ℕ)). among l s) c.self.view_is ∙ c.requires.new in
-    let place : c.args.place ≡ length (joined ts) = c.requires.place ∙ ap (λ (l : List (List ℕ)). length (joined l)) (sym c.self.view_is) in
+    let place : c.args.place ≡ length (joined ts) = c.requires.offset ∙ ap (λ (l : List (List ℕ)). length (joined l)) (sym c.self.view_is) in
     let count : c.len.result ≡ length ts = omega (arith, c.len.ensures, ap length c.reserve.ensures.items, length-map bs (λ (b : Bor (List ℕ)). b.now)) in
     let now : nows c.push.new.self.items ≡ ts ++ s ∷ [] = ap nows (pushed (c.args.string ∷ []) c.reserve.ensures.items c.unwrap.ensures c.push.ensures.items) ∙ nows-push bs c.args.string in
     rw now (record {

@@ -7,8 +7,8 @@ use Rattle.subsetter.proofs.PostLaws.Marks.{from_mark, mark_is}
 use Rattle.subsetter.specs.Post.Marks.{step_of}
 use Rattle.subsetter.proofs.post.NameList.from_mark.Goals as goal
 
-pub from_place-requires : goal.from_place-requires
-from_place-requires c =
+pub from_offset-requires : goal.from_offset-requires
+from_offset-requires c =
     let here = slice_get_read c.deref.result.now (length c.deref.result.now) c.mark_of-place.result.0 c.in-Some.mark.now refl (ltb-true _ _ (sym c.in-Some.ensures.lookup.0)) c.in-Some.ensures.lookup.1 in
     let all = c.self.inside.all.now in
     (mark_is (step_of c.self.inside.is_dense) all (names_in all) c.self.inside.marks.items c.mark_of-place.result.0 c.in-Some.mark.now c.self.invariant (ap (λ l. slice_get l c.mark_of-place.result.0) (sym c.deref.ensures.value) ∙ here)).1
@@ -17,4 +17,4 @@ pub returns-in-Some : goal.returns-in-Some
 returns-in-Some c =
     let here = slice_get_read c.deref.result.now (length c.deref.result.now) c.mark_of-place.result.0 c.in-Some.mark.now refl (ltb-true _ _ (sym c.in-Some.ensures.lookup.0)) c.in-Some.ensures.lookup.1 in
     let all = c.self.inside.all.now in
-    ap (λ (l : List ℕ). drop (c.mark_of-place.result.1) (names_in l)) c.from_place.ensures ∙ from_mark (step_of c.self.inside.is_dense) all c.self.inside.marks.items c.args.number c.mark_of-place.result.0 c.mark_of-place.result.1 c.in-Some.mark.now c.mark_of-place.ensures c.self.invariant (ap (λ l. slice_get l c.mark_of-place.result.0) (sym c.deref.ensures.value) ∙ here) ∙ ap (drop c.args.number) c.self.view_is
+    ap (λ (l : List ℕ). drop (c.mark_of-place.result.1) (names_in l)) c.from_offset.ensures ∙ from_mark (step_of c.self.inside.is_dense) all c.self.inside.marks.items c.args.number c.mark_of-place.result.0 c.mark_of-place.result.1 c.in-Some.mark.now c.mark_of-place.ensures c.self.invariant (ap (λ l. slice_get l c.mark_of-place.result.0) (sym c.deref.ensures.value) ∙ here) ∙ ap (drop c.args.number) c.self.view_is

@@ -12,7 +12,7 @@ returns-clause-steps g c =
     let S = g.T.Readable.SIZE in
     let V = g.T.Readable.value_of in
     let bytes = c.self.inside.rest.now in
-    let some : Some c.in_ok-value.value ≡ option_and_then V (range bytes 0 S) = sym c.in_ok-value.was ∙ c.read.ensures.value ∙ ap (λ (s : Source). option_and_then V (range s.bytes s.place S)) c.new.ensures in
+    let some : Some c.in_ok-value.value ≡ option_and_then V (range bytes 0 S) = sym c.in_ok-value.was ∙ c.read.ensures.value ∙ ap (λ (s : Source). option_and_then V (range s.bytes s.offset S)) c.new.ensures in
     let one : c.self.inside.len ≡ suc (c.self.inside.len - 1) = omega arith in
     let after : take (length bytes - c.SIZE.result) (drop c.SIZE.result bytes) ≡ drop S bytes = rest_of c.SIZE.result bytes ∙ ap (λ (k : ℕ). drop k bytes) c.SIZE.ensures in
     ap (values S V) (sym c.self.view_is) ∙ values_of-more S V c.self.inside.len (c.self.inside.len - 1) bytes _ c.in_ok-value.value one after some

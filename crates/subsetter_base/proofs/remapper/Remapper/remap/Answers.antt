@@ -4,7 +4,7 @@ use Rattle.std.specs.HashMap.{get}
 use Rattle.std.proofs.lemmas.List.{length_push}
 use Rattle.std.proofs.lemmas.Map.Keys.{IsDistinct-push}
 use Rattle.std.proofs.lemmas.Slice.{pushed}
-use Rattle.subsetter_base.specs.Remap.{place_by}
+use Rattle.subsetter_base.specs.Remap.{index_by}
 use Rattle.subsetter_base.proofs.RemapLemmas.{place_by-push, place_by-pushed, any-is_placed, sum_is, mapped_cond}
 use Rattle.std.specs.Prelude.{is_some}
 use Rattle.subsetter_base.proofs.remapper.Remapper.remap.Goals as goal
@@ -16,7 +16,7 @@ invariant_of-self-2 g c =
     let laws = g.met.T.Eq.laws in
     let xs = c.self.inside.backward.items in
     let x = c.args.old in
-    let absent : place_by E xs x ≡ None = sym (c.self.invariant.forward_is_place x) ∙ ap (option_map N) (sym c.in_default.ensures.value) in
+    let absent : index_by E xs x ≡ None = sym (c.self.invariant.forward_is_place x) ∙ ap (option_map N) (sym c.in_default.ensures.value) in
     let now : c.push.new.self.items ≡ xs ++ x ∷ [] = pushed (x ∷ []) c.reserve.ensures.items c.unwrap.ensures c.push.ensures.items in
     let one : N c.from.result ≡ 1 = g.met.C.CheckedAdd.same_number 1 c.from.result c.from.ensures in
     let sum : N c.unwrap-next.result ≡ N c.self.inside.counter + N c.from.result = sum_is g.C.CheckedAdd.limit (N c.self.inside.counter) (N c.from.result) (N c.unwrap-next.result) (sym c.checked_add.ensures ∙ ap (option_map N) c.unwrap-next.ensures) in
@@ -37,6 +37,6 @@ returns-clause-number g c =
     let laws = g.met.T.Eq.laws in
     let xs = c.self.inside.backward.items in
     let x = c.args.old in
-    let absent : place_by E xs x ≡ None = sym (c.self.invariant.forward_is_place x) ∙ ap (option_map N) (sym c.in_default.ensures.value) in
+    let absent : index_by E xs x ≡ None = sym (c.self.invariant.forward_is_place x) ∙ ap (option_map N) (sym c.in_default.ensures.value) in
     let now : c.push.new.self.items ≡ xs ++ x ∷ [] = pushed (x ∷ []) c.reserve.ensures.items c.unwrap.ensures c.push.ensures.items in
     rw now (place_by-pushed laws xs x (N c.self.inside.counter) absent c.self.invariant.counted)

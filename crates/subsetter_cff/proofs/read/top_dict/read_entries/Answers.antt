@@ -4,7 +4,7 @@ use Rattle.subsetter_cffdata.specs.Operands.{operands_at}
 use Rattle.subsetter_cffdata.specs.ParserView.{left}
 use Rattle.subsetter_cffdata.specs.Views.{number_of, operator_of}
 use Rattle.subsetter_cff.specs.Read.Fields.{demands_of}
-use Rattle.subsetter_cff.specs.Read.Said.{Said, said_of, said_after}
+use Rattle.subsetter_cff.specs.Read.Values.{DictValues, values_of, values_after}
 use Rattle.subsetter_cff.proofs.ReadLaws.LastEntries.{meet_next, meet_end, fails_all, passes}
 use Rattle.subsetter_cff.proofs.ReadLaws.SaidByEntries.{take_next, take_end, all_said}
 use Rattle.subsetter_cff.proofs.WriteLaws.Rewriting.{shorter}
@@ -24,8 +24,8 @@ loop-operator-preserved c =
     record {
       meet = passes _ _ _ (meet_next c.args.demands (left c.loop-operator.parser) (operator_of c.in-Some.operator) (left c.parse_entry.new.self) _ _ c.in-Some.ensures.value c.loop-operator.invariant.room shown ∙ c.loop-operator.invariant.meet) (sym c.take_entry.ensures.met ∙ c.if-not-take_entry.false);
       said =
-          ap (λ (s : Said). said_after s (entries (left c.parse_entry.new.self))) c.take_entry.ensures.value
-          ∙ take_next (said_of c.loop-operator.said) (left c.loop-operator.parser) (operator_of c.in-Some.operator) (left c.parse_entry.new.self) _ _ c.in-Some.ensures.value c.loop-operator.invariant.room shown
+          ap (λ (s : DictValues). values_after s (entries (left c.parse_entry.new.self))) c.take_entry.ensures.value
+          ∙ take_next (values_of c.loop-operator.said) (left c.loop-operator.parser) (operator_of c.in-Some.operator) (left c.parse_entry.new.self) _ _ c.in-Some.ensures.value c.loop-operator.invariant.room shown
           ∙ c.loop-operator.invariant.said;
       room = c.in-Some.ensures.room ∙ c.loop-operator.invariant.room;
     }
@@ -34,4 +34,4 @@ pub returns-clause-met : goal.returns-clause-met
 returns-clause-met c = sym (meet_end (demands_of c.args.demands) (left c.loop-operator.parser) c.in_default.ensures.value) ∙ c.loop-operator.invariant.meet
 
 pub returns-clause-value : goal.returns-clause-value
-returns-clause-value c = λ _. all_said (entries c.args.dict.now) _ (sym (take_end (said_of c.loop-operator.said) (left c.loop-operator.parser) c.in_default.ensures.value) ∙ c.loop-operator.invariant.said)
+returns-clause-value c = λ _. all_said (entries c.args.dict.now) _ (sym (take_end (values_of c.loop-operator.said) (left c.loop-operator.parser) c.in_default.ensures.value) ∙ c.loop-operator.invariant.said)

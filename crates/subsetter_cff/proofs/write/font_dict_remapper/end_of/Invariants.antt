@@ -1,5 +1,5 @@
 use Rattle.std.proofs.Common.{◌≡◌, ◌≤◌, ℕ, drop}
-use Rattle.subsetter_base.specs.Places.{is_listed}
+use Rattle.subsetter_base.specs.Indexes.{is_listed}
 use Rattle.subsetter_cff.proofs.write.font_dict_remapper.end_of.Given as goal
 
 -- from here on, just those stand that are left

@@ -1,7 +1,7 @@
 use Rattle.std.proofs.Common.{rules, ◌||◌, ◌+◌, ℕ, List, Bool, true, false, drop, arith, ap, sym, ◌∙◌, slice_index}
 use Rattle.std.proofs.Math.ListN.{get_or, length-set}
 use Rattle.std.proofs.lemmas.List.{at_drop_more, get_or-replicate}
-use Rattle.subsetter_base.specs.Places.{is_listed}
+use Rattle.subsetter_base.specs.Indexes.{is_listed}
 use Rattle.subsetter_cff.proofs.WriteLaws.UsedNumbers.{marked}
 use Rattle.subsetter_cff.proofs.write.font_dict_remapper.mark_used.Goals as goal
 

@@ -1,5 +1,5 @@
 use Rattle.std.proofs.Common.{◌≡◌, ◌<◌, ◌||◌, ℕ, drop, false, length, slice_index_or}
-use Rattle.subsetter_base.specs.Places.{is_listed}
+use Rattle.subsetter_base.specs.Indexes.{is_listed}
 use Rattle.subsetter_cff.proofs.write.font_dict_remapper.mark_used.Given as goal
 
 -- those that are marked or among what is left are those among all

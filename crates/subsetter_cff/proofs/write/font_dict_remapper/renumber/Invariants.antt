@@ -1,5 +1,5 @@
 use Rattle.std.proofs.Common.{◌≡◌, ◌++◌, drop, map}
-use Rattle.subsetter_base.specs.Places.{new_index}
+use Rattle.subsetter_base.specs.Indexes.{new_index}
 use Rattle.subsetter_cff.proofs.write.font_dict_remapper.renumber.Given as goal
 
 abbrev pub invariant-loop-number : goal.invariant-loop-number

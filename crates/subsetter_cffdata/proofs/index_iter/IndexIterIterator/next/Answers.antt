@@ -6,10 +6,10 @@ use Rattle.subsetter_cffdata.proofs.index_iter.IndexIterIterator.next.Goals as g
 pub returns-in_err-entry-clause-steps : goal.returns-in_err-entry-clause-steps
 returns-in_err-entry-clause-steps c =
     let es = items c.args.self.now.index in
-    rw c.from_residual.ensures (readable_none es c.args.self.now.place (sym c.in_err-entry.ensures), readable_end es c.len-end.result (omega (arith, c.len-end.ensures)))
+    rw c.from_residual.ensures (readable_none es c.args.self.now.offset (sym c.in_err-entry.ensures), readable_end es c.len-end.result (omega (arith, c.len-end.ensures)))
 
 pub returns-clause-steps : goal.returns-clause-steps
-returns-clause-steps c = readable_some (items c.args.self.now.index) c.args.self.now.place c.in_ok-entry.entry.now (sym c.in_ok-entry.ensures)
+returns-clause-steps c = readable_some (items c.args.self.now.index) c.args.self.now.offset c.in_ok-entry.entry.now (sym c.in_ok-entry.ensures)
 
 pub returns-clause-goes : goal.returns-clause-goes
 returns-clause-goes c =

@@ -1,5 +1,5 @@
 use Rattle.std.proofs.Common.{true, false, [], ◌∷◌, ◌++◌, length, ap, ◌∙◌, List, ℕ}
-use Rattle.subsetter.specs.Glyf.Bare.{simple_asked}
+use Rattle.subsetter.specs.Glyf.Bare.{requested_simple}
 use Rattle.subsetter.specs.Glyf.Unfold.{padded}
 use Rattle.subsetter.specs.Glyf.Woven.{Listed}
 use Rattle.subsetter.proofs.GlyfLaws.Counted.{counted_more}
@@ -11,14 +11,14 @@ returns-clause-ok c =
     let o = c.self.inside in
     let b = c.args.outline in
     let all = kept_last o.hinting o.kept.items o.sizes.items o.made.items c.self.invariant.parts b c.push.new.self.items (filled b.now c.requires) c.in_ok-push.ensures.items in
-    all.1 ∙ ap (λ (l : Listed). l.items ++ simple_asked l.hinting b.now ∷ []) c.self.view_is
+    all.1 ∙ ap (λ (l : Listed). l.items ++ requested_simple l.hinting b.now ∷ []) c.self.view_is
 
 pub invariant_of-self-2 : goal.invariant_of-self-2
 invariant_of-self-2 c =
     let o = c.self.inside in
     let b = c.args.outline in
     let all = kept_last o.hinting o.kept.items o.sizes.items o.made.items c.self.invariant.parts b c.push.new.self.items (filled b.now c.requires) c.in_ok-push.ensures.items in
-    let asked = simple_asked o.hinting b.now in
+    let asked = requested_simple o.hinting b.now in
     record {
       parts = all.0;
       counted = counted_more true _ _ asked o.size c.padded_len-long_len.result c.saturating_add-self-inside.result c.self.invariant.counted all.1 (c.padded_len-long_len.ensures ∙ ap (λ (l : List ℕ). length (padded true l)) c.simple-pieces.ensures) c.saturating_add-self-inside.ensures;

@@ -1,5 +1,5 @@
 use Rattle.std.proofs.Common.{arith, ◌∙◌, ap, ℕ, List}
-use Rattle.subsetter_base.specs.Places.{place}
+use Rattle.subsetter_base.specs.Indexes.{index_of}
 use Rattle.subsetter_cff.proofs.WriteLaws.UsedNumbers.{used_are, counted, too_many}
 use Rattle.subsetter_cff.proofs.write.font_dict_remapper.FontDictRemapper.of_used.Goals as goal
 
@@ -16,5 +16,5 @@ returns c =
 pub invariant_of-result : goal.invariant_of-result
 invariant_of-result c = record {
   few = omega (arith, c.len.ensures, c.if-len-gt255.false);
-  stands = λ n lt. c.places_of-places.ensures n lt ∙ ap (λ (l : List ℕ). place l n) c.deref.ensures.value;
+  stands = λ n lt. c.indexes_of-places.ensures n lt ∙ ap (λ (l : List ℕ). index_of l n) c.deref.ensures.value;
 }

@@ -1,5 +1,0 @@
-use Rattle.subsetter_cff_at.proofs.Faults.{refused_stands}
-use Rattle.subsetter_cff_at.proofs.laws.refused_stands.Goals as goal
-
-pub returns : goal.returns
-returns c = refused_stands

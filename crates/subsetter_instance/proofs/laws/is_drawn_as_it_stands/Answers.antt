@@ -1,5 +1,0 @@
-use Rattle.subsetter_instance.proofs.Defaults.{is_drawn_as_it_stands}
-use Rattle.subsetter_instance.proofs.laws.is_drawn_as_it_stands.Goals as goal
-
-pub returns : goal.returns
-returns c = is_drawn_as_it_stands

@@ -1,5 +1,0 @@
-use Rattle.subsetter_variation.proofs.Masters.{is_free_of_place}
-use Rattle.subsetter_variation.proofs.laws.is_free_of_place.Goals as goal
-
-pub returns : goal.returns
-returns c = is_free_of_place
