@@ -3,7 +3,7 @@ import os
 import re
 import sys
 
-sys.path.insert(0, os.path.dirname(os.path.dirname(os.path.realpath(__file__))))
+sys.path[:0] = [os.path.dirname(os.path.dirname(os.path.realpath(__file__))) + it for it in ("/lib", "")]
 
 import rattle_tree  # noqa: E402
 from rattle_text import Trouble  # noqa: E402

@@ -20,7 +20,7 @@ import re
 import sys
 
 sys.dont_write_bytecode = True
-sys.path.insert(0, os.path.dirname(os.path.dirname(os.path.realpath(__file__))))
+sys.path[:0] = [os.path.dirname(os.path.dirname(os.path.realpath(__file__))) + it for it in ("/lib", "")]
 
 import contracts  # noqa: E402
 import rattle_tree  # noqa: E402

@@ -12,7 +12,7 @@ import sys
 
 sys.dont_write_bytecode = True
 ROOT = os.path.dirname(os.path.dirname(os.path.dirname(os.path.realpath(__file__))))
-sys.path.insert(0, os.path.join(ROOT, "compare"))
+sys.path[:0] = [os.path.join(ROOT, "compare", "lib"), os.path.join(ROOT, "compare")]
 SPEC = importlib.util.spec_from_file_location("words", os.path.join(ROOT, ".ci", "words.py"))
 words = importlib.util.module_from_spec(SPEC)
 SPEC.loader.exec_module(words)
