@@ -186,7 +186,7 @@ def life(room):
     step.passes("a new result")
     commit(room, "docs/PDF.md", "\nA further line.\n")
     step.passes("a document changed")
-    commit(room, "crates/subsetter_c/src/status.rt", "// further\n")
+    commit(room, "crates/subsetter_c/src/answers/status.rt", "// further\n")
     refresh(room)
     step.holds("other code changed", "code changed since" not in row(room, "widths"))
     planted.edit(room, "code", CODE, None, "// further\n")

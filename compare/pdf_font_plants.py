@@ -26,13 +26,13 @@ READ = ["--seen", "1", "--faces", "5", "--copies", "1", "--no-pdfbox"]
 FEW = ["--seen", "0", "--faces", "6", "--copies", "4"]
 # What is planted: the name, where, the file, the text that is there (of an answer a pattern), the other, and the words.
 PLANTS = [
-    ("a swapped constant", CRATE, "proved/pdf_values/weight.rs", "10 + (31 * u32::from(weight)", "10 + (13 * u32::from(weight)", VALUES),
-    ("the bits of Serif and Script swapped", CRATE, "proved/pdf_values/flags.rs", "flag(has_serifs(os2), 2)\n        + flag(is_script(os2), 8)",
+    ("a swapped constant", CRATE, "proved/pdf_values/looks/weight.rs", "10 + (31 * u32::from(weight)", "10 + (13 * u32::from(weight)", VALUES),
+    ("the bits of Serif and Script swapped", CRATE, "proved/pdf_values/looks/flags.rs", "flag(has_serifs(os2), 2)\n        + flag(is_script(os2), 8)",
      "flag(has_serifs(os2), 8)\n        + flag(is_script(os2), 2)", VALUES),
-    ("a Descent above 0", CRATE, "proved/pdf_values/heights.rs", "-line.descent.abs()", "line.descent.abs()", VALUES),
+    ("a Descent above 0", CRATE, "proved/pdf_values/looks/heights.rs", "-line.descent.abs()", "line.descent.abs()", VALUES),
     ("Ascent and CapHeight in the wrong order", CRATE, "pdf/font.rs", "ascent: heights.ascent", "ascent: heights.cap_height", VALUES),
-    ("a cut text", CRATE, "proved/pdf_text/to_unicode.rs", "defineresource pop\\nend\\nend\\n", "defineresource pop\\nend\\n", VALUES),
-    ("a CMap from CIDs to codes", CRATE, "proved/pdf_text/encoding.rs", "write_hex(text, &[pair.code])?;\n    text.extend_from_slice(b\" \")?;\n    write_count(text, pair.cid as usize)?;",
+    ("a cut text", CRATE, "proved/pdf_text/cmaps/to_unicode.rs", "defineresource pop\\nend\\nend\\n", "defineresource pop\\nend\\n", VALUES),
+    ("a CMap from CIDs to codes", CRATE, "proved/pdf_text/cmaps/encoding.rs", "write_hex(text, &[pair.code])?;\n    text.extend_from_slice(b\" \")?;\n    write_count(text, pair.cid as usize)?;",
      "write_hex(text, &[pair.cid])?;\n    text.extend_from_slice(b\" \")?;\n    write_count(text, pair.code as usize)?;", VALUES),
     ("CIDSet, low bits first", CRATE, "proved/pdf_text/bits.rs", "255 - (255 >> ones)", "255 >> (8 - ones)", VALUES),
     ("bit 8 of fsType unread", CRATE, "proved/pdf_values/permission.rs", "subsetting: !(later && has_bit(fs_type, 8))", "subsetting: !(later && has_bit(fs_type, 7))", ["--seen", "0", "--faces", "0", "--copies", "90"]),

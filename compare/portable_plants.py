@@ -26,11 +26,11 @@ PLANTS = [
     ("the bound on bytes ignored", "library.rs", "Some(bytes) => within.with_bytes(bytes)", "Some(_) => within"),
     ("a greater depth", "library.rs", "limits.tokens(), limits.depth())", "limits.tokens(), limits.depth().saturating_add(1))"),
     ("no CIDs", "library.rs", "cids: made.cids.into_inner()", "cids: Vec::new()"),
-    ("another row of deltas", "proved/subsetter_variation/item_variations.rs", ".saturating_add((inner as usize).saturating_mul(size))", ".saturating_add((inner as usize).saturating_mul(size + 1))"),
-    ("a shorter run of deltas", "proved/subsetter_variation/packed_sums.rs", "at + usize::from(control % 64) + 1", "at + usize::from(control % 63) + 1"),
+    ("another row of deltas", "proved/subsetter_variation/items/item_variations.rs", ".saturating_add((inner as usize).saturating_mul(size))", ".saturating_add((inner as usize).saturating_mul(size + 1))"),
+    ("a shorter run of deltas", "proved/subsetter_variation/packing/packed_sums.rs", "at + usize::from(control % 64) + 1", "at + usize::from(control % 63) + 1"),
     ("a composite of few bytes refused", "proved/subsetter/glyf/component.rs", "    if outline.len() < 10 {\n        return Err(Error::MalformedFont);\n    }\n    let mut rest", "    if outline.len() < 20 {\n        return Err(Error::MalformedFont);\n    }\n    let mut rest"),
     ("an even outline is padded", "proved/subsetter/glyf/pieces.rs", "len + len % 2", "len + 2 - len % 2"),
-    ("a panic at 2,000 bytes", "proved/subsetter_cff/write/dicts.rs", "if end >= 2147483648 {", "assert!(end < 2_000);\n    if end >= 2147483648 {"),
+    ("a panic at 2,000 bytes", "proved/subsetter_cff/write/new_dicts/dicts.rs", "if end >= 2147483648 {", "assert!(end < 2_000);\n    if end >= 2147483648 {"),
     ("a request that can't be refused", "rattle/vec.rs", "list.try_reserve_exact(count).map_err(|_| AllocError)?;", "list.reserve_exact(count);"),
 ]
 

@@ -12,10 +12,10 @@ use Rattle.subsetter_base.proofs.ByteLemmas.{number-short}
 use Rattle.subsetter_base.proofs.Options.{just_is, is_some_of, some_not_none}
 use Rattle.subsetter_sfnt.specs.declared.fields.hmtx.LongHorMetric.{LongHorMetric}
 use Rattle.subsetter_sfnt.specs.Read.{Font, as_font, table}
-use Rattle.subsetter_sfnt.specs.Rows.{tags_of}
+use Rattle.subsetter_sfnt.specs.Laying.Rows.{tags_of}
 use Rattle.subsetter.specs.Glyf.Fault.{short_head}
-use Rattle.subsetter.specs.Head.Read.{KeepsHead}
-use Rattle.subsetter.specs.Hmtx.Read.{metric_of, KeepsMetrics}
+use Rattle.subsetter.specs.Common.Head.Read.{KeepsHead}
+use Rattle.subsetter.specs.Common.Hmtx.Read.{metric_of, KeepsMetrics}
 use Rattle.subsetter_sfnt.specs.Fields.Hmtx.{metric_at, metric_in, advance_in}
 use Rattle.subsetter_sfnt.specs.Fields.Hhea.{number_of_h_metrics}
 use Rattle.subsetter.specs.Fault.{HasFault, in_outlines}

@@ -10,8 +10,8 @@ use Rattle.subsetter_sfnt.specs.declared.flavor.FontFlavor.{FontFlavor}
 use Rattle.subsetter_sfnt.specs.declared.flavor.FontFlavor.TheVariants.{TrueType, Cff}
 use Rattle.subsetter_sfnt.specs.Container.{NameTablesFrom, padded_size, IsSoundContainer}
 use Rattle.subsetter_sfnt.specs.Read.{Font, as_font, kind_of, header_by_kind, header_offset, directory_records, find_record, records, records_at, table, table_in}
-use Rattle.subsetter_sfnt.specs.Rows.{Row, opt, present, tags, rows, called_for, tags_of}
-use Rattle.subsetter_sfnt.specs.Written.{kind_word}
+use Rattle.subsetter_sfnt.specs.Laying.Rows.{Row, opt, present, tags, rows, called_for, tags_of}
+use Rattle.subsetter_sfnt.specs.Laying.Written.{kind_word}
 use Rattle.cid_embed.specs.Afresh.{directory_bytes, table_of}
 
 -- ---- a font's header stands at the start

@@ -6,7 +6,7 @@ use Rattle.subsetter_base.specs.declared.error.Error.TheVariants.{MalformedFont}
 use Rattle.subsetter_base.specs.Options.{◌>>=◌}
 use Rattle.subsetter_sfnt.specs.Read.{Font, table}
 use Rattle.subsetter_sfnt.specs.Fields.Head.{units_per_em as units_in}
-use Rattle.subsetter.specs.Hmtx.Read.{metric}
+use Rattle.subsetter.specs.Common.Hmtx.Read.{metric}
 
 abbrev pub units_per_em : Font → Option ℕ
 units_per_em font = table font (codes "head") >>= units_in

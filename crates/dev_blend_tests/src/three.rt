@@ -2,7 +2,7 @@
 
 ghost use Rattle.std.specs.Prelude.{◌≤◌, ◌^◌, unsigned_abs};
 
-use subsetter_blend::regions::Regions;
+use subsetter_blend::runs::regions::Regions;
 
 /// The scalars of the three regions.
 #[derive(Drop)]

@@ -5,7 +5,7 @@ use Rattle.std.proofs.lemmas.Bool.{eqb-true, leb-true}
 use Rattle.std.proofs.lemmas.List.{append-nil, drop_all, take-append-drop}
 use Rattle.subsetter_points.specs.Simple.{are_ends}
 use Rattle.subsetter_points.proofs.Back.{both, are_ends_count}
-use Rattle.subsetter_variation.specs.Varied.{AreEnds}
+use Rattle.subsetter_variation.specs.Glyphs.Varied.{AreEnds}
 
 -- the four phantom points behind n points are a contour each
 phantom_ends : (n : ℕ) → AreEnds n (n ∷ (n + 1) ∷ (n + 2) ∷ (n + 3) ∷ []) (n + 4)

@@ -1,5 +1,5 @@
 -- What a listed operator says.
-use Rattle.subsetter_blend.specs.Taking.{Event}
+use Rattle.subsetter_blend.specs.Writing.Taking.{Event}
 use Rattle.dev_parts.specs.declared.cff2.listing.Listed.{Listed}
 
 abbrev pub event_of : Listed → Event

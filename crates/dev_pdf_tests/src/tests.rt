@@ -2,15 +2,13 @@
 
 mod cff;
 mod codes;
-mod expected;
 mod font;
-mod fonts;
 mod glyphs;
+pub(crate) mod made;
 mod moved;
 mod names;
 mod objects;
 mod sheet;
-mod tables;
 mod text;
 mod values;
 

@@ -2,7 +2,7 @@
 use Rattle.std.proofs.Common.{◌≡◌, ℕ, List, map, refl, sym, ap, ◌∙◌}
 use Rattle.std.specs.Borrow.{Bor}
 use Rattle.subsetter_cff.specs.Read.Opened.{opened}
-use Rattle.subsetter_cffdata.specs.IndexView.{items}
+use Rattle.subsetter_cffdata.specs.Indexes.IndexView.{items}
 use Rattle.glyph_names.specs.Names.{glyph_name}
 use Rattle.subsetter_base.specs.Texts.{or_else}
 use Rattle.glyph_names.specs.Post.{own_names, name_by_names, post_name}

@@ -1,7 +1,7 @@
 -- What the names of a font's glyphs are found by.
 use Rattle.std.specs.Prelude.{◌≡◌, ℕ, List, map}
 use Rattle.subsetter_cff.specs.Read.Opened.{opened}
-use Rattle.subsetter_cffdata.specs.IndexView.{items}
+use Rattle.subsetter_cffdata.specs.Indexes.IndexView.{items}
 use Rattle.glyph_names.specs.Post.{own_names}
 use Rattle.glyph_names.specs.Standard.{macintosh_names, standard_strings}
 use Rattle.glyph_names.specs.Strings.{sids_of_opened, strings_of_opened}

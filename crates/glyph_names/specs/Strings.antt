@@ -4,8 +4,8 @@ use Rattle.std.specs.Option.{option_map_or}
 use Rattle.subsetter_base.specs.declared.error.Error.{Error}
 use Rattle.subsetter_cff.specs.Read.Cff.{Cff, char_strings, is_cid_keyed}
 use Rattle.subsetter_cff.specs.Read.Opened.{opened}
-use Rattle.subsetter_cff.specs.Read.Operators.{charset_operator}
-use Rattle.subsetter_cff.specs.Read.TopDicts.{last_offset}
+use Rattle.subsetter_cff.specs.Read.Entries.Operators.{charset_operator}
+use Rattle.subsetter_cff.specs.Read.Entries.TopDicts.{last_offset}
 use Rattle.subsetter_type2.specs.Subroutines.{entry_at}
 use Rattle.glyph_names.specs.Charset.{sids_at}
 use Rattle.glyph_names.specs.Standard.{standard_strings}

@@ -1,7 +1,7 @@
 //! The names of glyphs in a `CFF ` table (Technical Note 5176, sections 10 "String INDEX" and 13 "Charsets").
 
 ghost use Rattle.std.specs.Prelude.{◌≡◌, [], map, length, unwrap_or, IfOk};
-ghost use Rattle.subsetter_cffdata.specs.IndexView.{items};
+ghost use Rattle.subsetter_cffdata.specs.Indexes.IndexView.{items};
 ghost use Rattle.subsetter_cff.specs.Read.Cff.{char_strings};
 ghost use Rattle.subsetter_cff.specs.Read.Opened.{opened};
 ghost use Rattle.subsetter_cff.specs.Read.Source.{cff_of, IsSource};
@@ -11,7 +11,7 @@ use crate::charset::sids_at;
 use std::alloc::{AllocError, Global};
 use subsetter_base::Error;
 use subsetter_cff::read::source::Table;
-use subsetter_cffdata::index::Index;
+use subsetter_cffdata::indexes::index::Index;
 
 /// How a `CFF ` table names its glyphs.
 #[derive(Drop)]

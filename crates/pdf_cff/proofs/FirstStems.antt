@@ -1,14 +1,14 @@
 -- The private dicts of a CID-keyed font are those of its font dicts.
 use Rattle.std.proofs.Common.{◌≡◌, ℕ, Bool, true, cond, List, [], ◌∷◌, map, Option, Some, refl, ap, ◌∙◌}
 use Rattle.std.specs.Option.{unwrap_or}
-use Rattle.subsetter_cffdata.specs.Dict.{Entry, entries}
+use Rattle.subsetter_cffdata.specs.Dicts.Dict.{Entry, entries}
 use Rattle.subsetter_cff.specs.Read.Cff.{Cff, is_cid_keyed}
-use Rattle.subsetter_cff.specs.Read.FontDicts.{font_dicts}
-use Rattle.subsetter_cff.specs.Read.FontDictList.{AreFontDicts}
-use Rattle.subsetter_cff.specs.Read.Private.{Private, private_at}
-use Rattle.subsetter_cff.specs.Read.PrivateView.{private_view}
+use Rattle.subsetter_cff.specs.Read.FdArray.FontDicts.{font_dicts}
+use Rattle.subsetter_cff.specs.Read.FdArray.FontDictList.{AreFontDicts}
+use Rattle.subsetter_cff.specs.Read.FdArray.Private.{Private, private_at}
+use Rattle.subsetter_cff.specs.Read.FdArray.PrivateView.{private_view}
 use Rattle.subsetter_cff.specs.Read.Source.{IsCidParts}
-use Rattle.subsetter_cff.specs.declared.read.font_dict.FontDict.{FontDict}
+use Rattle.subsetter_cff.specs.declared.read.fd_array.font_dict.FontDict.{FontDict}
 use Rattle.subsetter_cff.specs.declared.read.source.CIDMetadata.{CIDMetadata}
 use Rattle.pdf_cff.specs.Values.{private_of, privates}
 

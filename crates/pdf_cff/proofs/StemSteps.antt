@@ -3,12 +3,12 @@ use Rattle.std.proofs.Common.{◌≡◌, ℕ, cond, List, [], ◌∷◌, take, O
 use Rattle.std.proofs.lemmas.Option.{same_Some}
 use Rattle.std.specs.Option.{option_or}
 use Rattle.std.specs.Str.{bytes_eq}
-use Rattle.subsetter_cffdata.specs.Numbers.{Number}
-use Rattle.subsetter_cffdata.specs.Dict.{Entry, entry_at, entries, operand_limit}
-use Rattle.subsetter_cffdata.specs.Operands.{operands_at}
-use Rattle.subsetter_cffdata.specs.Tokens.{operator_part}
-use Rattle.subsetter_cffdata.proofs.Entries.{entries_step}
-use Rattle.subsetter_cff.proofs.WriteLaws.Rewriting.{found, entries_are, none_left}
+use Rattle.subsetter_cffdata.specs.Numerals.Numbers.{Number}
+use Rattle.subsetter_cffdata.specs.Dicts.Dict.{Entry, entry_at, entries, operand_limit}
+use Rattle.subsetter_cffdata.specs.Dicts.Operands.{operands_at}
+use Rattle.subsetter_cffdata.specs.Dicts.Tokens.{operator_part}
+use Rattle.subsetter_cffdata.proofs.DictsLaws.Entries.{entries_step}
+use Rattle.subsetter_cff.proofs.WriteLaws.NewDictsLaws.Rewriting.{found, entries_are, none_left}
 use Rattle.pdf_cff.specs.Stems.{stem_by, stem_in, stem_of, stem_operator}
 
 -- two operands tell whether there is just one

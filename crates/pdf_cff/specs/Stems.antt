@@ -2,9 +2,9 @@
 use Rattle.std.specs.Prelude.{ℕ, ◌+◌, ◌*◌, ◌/◌, ◌<◌, ◌≤◌, ◌==◌, if◌then◌else◌, List, [], ◌∷◌, Option, Some, None}
 use Rattle.std.specs.Option.{option_and_then, option_or}
 use Rattle.std.specs.Str.{bytes_eq}
-use Rattle.subsetter_cffdata.specs.Dict.{Entry}
-use Rattle.subsetter_cffdata.specs.Numbers.{Number, as_u32}
-use Rattle.subsetter_cffdata.specs.Values.{thousand}
+use Rattle.subsetter_cffdata.specs.Dicts.Dict.{Entry}
+use Rattle.subsetter_cffdata.specs.Numerals.Numbers.{Number, as_u32}
+use Rattle.subsetter_cffdata.specs.Numerals.Values.{thousand}
 
 -- StdVW (section 15, table 23)
 abbrev pub stem_operator : List ℕ

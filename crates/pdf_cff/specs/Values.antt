@@ -2,12 +2,12 @@
 use Rattle.std.specs.Prelude.{ℕ, if◌then◌else◌, List, [], ◌∷◌, map, Option, None}
 use Rattle.std.specs.Option.{option_and_then, option_map, option_or, unwrap_or}
 use Rattle.std.specs.Result.{result_ok}
-use Rattle.subsetter_cffdata.specs.Index.{index_at}
+use Rattle.subsetter_cffdata.specs.Indexes.Index.{index_at}
 use Rattle.subsetter_type2.specs.Subroutines.{entry_at}
 use Rattle.subsetter_cff.specs.Read.Cff.{Cff, is_cid_keyed}
-use Rattle.subsetter_cff.specs.Read.FontDicts.{font_dicts}
+use Rattle.subsetter_cff.specs.Read.FdArray.FontDicts.{font_dicts}
 use Rattle.subsetter_cff.specs.Read.Opened.{opened}
-use Rattle.subsetter_cff.specs.Read.Private.{Private, no_private, private_at}
+use Rattle.subsetter_cff.specs.Read.FdArray.Private.{Private, no_private, private_at}
 use Rattle.pdf_cff.specs.Stems.{stem_in}
 
 -- the first entry of the Name INDEX (section 7)

@@ -2,13 +2,13 @@
 
 ghost use Rattle.std.specs.Prelude.{◌≡◌, ◌<◌, map};
 ghost use Rattle.std.specs.Str.{bytes_eq};
-ghost use Rattle.subsetter_cffdata.specs.Dict.{entries};
+ghost use Rattle.subsetter_cffdata.specs.Dicts.Dict.{entries};
 ghost use Rattle.subsetter_cffdata.specs.Views.{number_of, operator_of};
 ghost use Rattle.pdf_cff.specs.Stems.{IsNearest, in_thousandths, of_em, stem_by, stem_in, stem_of, stem_operator};
 
-use subsetter_cffdata::dict::DictionaryParser;
-use subsetter_cffdata::number::Number;
-use subsetter_cffdata::operator::Operator;
+use subsetter_cffdata::dicts::dict::DictionaryParser;
+use subsetter_cffdata::numerals::number::Number;
+use subsetter_cffdata::dicts::operator::Operator;
 
 /// Whether an operator is StdVW.
 fn is_stem(operator: &Operator) -> bool

@@ -4,9 +4,9 @@ ghost use Rattle.std.specs.Prelude.{◌≡◌, ◌≢◌, ◌<◌, IfErr, Ok, On
 ghost use Rattle.std.specs.Option.{option_and_then, option_copied, option_map};
 ghost use Rattle.subsetter_base.specs.Gives.{Gives};
 ghost use Rattle.subsetter_base.specs.declared.error.Error.TheVariants.{OutOfMemory};
-ghost use Rattle.subsetter_cffdata.specs.Index.{index_at};
+ghost use Rattle.subsetter_cffdata.specs.Indexes.Index.{index_at};
 ghost use Rattle.subsetter_type2.specs.Subroutines.{entry_at};
-ghost use Rattle.subsetter_cff.specs.Read.PrivateView.{private_view};
+ghost use Rattle.subsetter_cff.specs.Read.FdArray.PrivateView.{private_view};
 ghost use Rattle.subsetter_cff.specs.Read.Source.{IsSource, cff_of};
 ghost use Rattle.pdf_cff.specs.Values.{first_stem, privates, cff_values_in, cff_values_of};
 ghost use Rattle.pdf_cff.specs.View.{cff_values_view};
@@ -16,7 +16,7 @@ use std::alloc::Global;
 use subsetter_base::Error;
 use subsetter_base::read::Reader;
 use subsetter_cff::read::source::{CIDMetadata, Table};
-use subsetter_cffdata::index::parse_index;
+use subsetter_cffdata::indexes::index::parse_index;
 
 /// What a PDF takes of a table.
 #[derive(Clone, Copy)]

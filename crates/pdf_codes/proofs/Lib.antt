@@ -1,12 +1,7 @@
 pub mod CodeLaws
 pub mod EachSteps
-pub mod LeadingSteps
-pub mod LedLaws
-pub mod LimitSteps
+pub mod CmapsLaws
 pub mod Pairs
-pub mod ReadBack
 pub mod RoomLaws
 pub mod ShownSteps
 pub mod StayLaws
-pub mod TextSteps
-pub mod Written

@@ -3,7 +3,7 @@ use Rattle.std.specs.Prelude.{◌≡◌, ◌<◌, ℕ, Bool, ◌==◌, ◌&&◌,
 use Rattle.std.specs.Cmp.Lexicographic.{pointwise}
 use Rattle.subsetter_base.specs.Indexes.{index_of, with_glyphs, HasAllAboveZero}
 use Rattle.subsetter_base.specs.Remap.{index_by, with_value}
-use Rattle.pdf_text.specs.Cmap.{Line}
+use Rattle.pdf_text.specs.Cmaps.Cmap.{Line}
 use Rattle.pdf_codes.specs.declared.codes.Codes.{Codes}
 use Rattle.pdf_codes.specs.declared.codes.Codes.TheVariants.{Consecutive, Source, EachText}
 use Rattle.pdf_codes.specs.declared.codes.Entry.{Entry}

@@ -1,6 +1,5 @@
 pub mod Codes
 pub mod Laws
-pub mod Leading
+pub mod Cmaps
 pub mod Shown
-pub mod Texts
 pub mod Units

@@ -2,17 +2,17 @@
 
 ghost use Rattle.std.specs.Prelude.{◌≡◌, ◌⊎◌, ℕ, List, length, map, IfOk, IfErr, OnOk, Some};
 ghost use Rattle.subsetter_base.specs.declared.error.Error.TheVariants.{OutOfMemory, OverflowError};
-ghost use Rattle.pdf_text.specs.Cmap.{cmap_text};
+ghost use Rattle.pdf_text.specs.Cmaps.Cmap.{cmap_text};
 ghost use Rattle.pdf_codes.specs.declared.codes.Codes.{Codes};
 ghost use Rattle.pdf_codes.specs.Codes.{AreCids, AreCodes, IsOverfull, Used, coded, used_of};
-ghost use Rattle.pdf_codes.specs.Leading.{AreLed, name_of, own_cmap, own_name, pairs_with, text_of};
+ghost use Rattle.pdf_codes.specs.Cmaps.Leading.{AreLed, name_of, own_cmap, own_name, pairs_with, text_of};
 ghost use Rattle.pdf_codes.specs.Shown.{uses_of};
-ghost use Rattle.pdf_codes.specs.Texts.{first_text, is_line_found, lines_of_codes, text_in};
+ghost use Rattle.pdf_codes.specs.Cmaps.Texts.{first_text, is_line_found, lines_of_codes, text_in};
 
 use crate::codes::{Codes, codes_for, lines_of};
-use crate::leading::{are_cids, pairs_with, write_leading};
+use crate::cmaps::leading::{are_cids, pairs_with, write_leading};
 use crate::shown::{Shown, entries_of, units_of_all};
-use crate::texts::texts_for;
+use crate::cmaps::texts::texts_for;
 use pdf_text::NamedCmap;
 use std::alloc::Global;
 use subsetter_base::Error;

@@ -8,11 +8,10 @@
 #![tactic(auto)]
 
 mod calls;
+mod cmaps;
 mod codes;
 mod laws;
-mod leading;
 mod shown;
-mod texts;
 mod units;
 
 pub use calls::{ShownCodes, codes_and_texts, codes_of, encoding_of};

@@ -48,7 +48,7 @@ pub fn glyphs_of(alloc: Global, shown: &[Shown<'_>]) -> Result<Vec<u16>, Error>
 }
 
 /// The texts in UTF-16, one behind the other.
-#[tactic(auto, using(crate::proofs::Written::one_more))]
+#[tactic(auto, using(crate::proofs::CmapsLaws::Written::one_more))]
 pub fn units_of_all(alloc: Global, shown: &[Shown<'_>]) -> Result<Vec<u16>, Error>
     ensures ok { IfOk result (λ units. units.items ≡ all_units (uses_of shown.now)) }
     ensures err { IfErr result (λ e. e ≡ OutOfMemory) }

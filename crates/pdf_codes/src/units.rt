@@ -51,7 +51,7 @@ fn push_character(units: &mut Vec<u16>, character: char) -> Result<(), Error>
 }
 
 /// Writes a text in UTF-16, without U+0000, U+FEFF and U+FFFE.
-#[tactic(auto, using(crate::proofs::Written::one_more))]
+#[tactic(auto, using(crate::proofs::CmapsLaws::Written::one_more))]
 pub fn push_text(units: &mut Vec<u16>, text: &[char]) -> Result<(), Error>
     ensures ok { OnOk result (units.new.items ≡ units.old.items ++ units_of text.now) }
     ensures err { IfErr result (λ e. e ≡ OutOfMemory) }
@@ -74,7 +74,7 @@ fn unit_count(character: char) -> usize
 }
 
 /// How many units a text has, with which these begin.
-#[tactic(auto, using(crate::proofs::Written::count_more))]
+#[tactic(auto, using(crate::proofs::CmapsLaws::Written::count_more))]
 pub fn count_of(text: &[char], units: &[u16]) -> usize
     requires { length (units_of text.now) ≤ length units.now }
     ensures { result ≡ length (units_of text.now) }
@@ -87,7 +87,7 @@ pub fn count_of(text: &[char], units: &[u16]) -> usize
 }
 
 /// Whether a text has more than 256 units.
-#[tactic(auto, using(crate::proofs::Written::count_more))]
+#[tactic(auto, using(crate::proofs::CmapsLaws::Written::count_more))]
 pub fn is_long(text: &[char]) -> bool
     ensures { result ≡ is_long_text (units_of text.now) }
 {

@@ -8,7 +8,7 @@ use Rattle.subsetter_base.proofs.Options.{map_some}
 use Rattle.subsetter_sfnt.specs.Container.{IsSoundContainer}
 use Rattle.subsetter_sfnt.specs.Plain.{opened, opened_by_kind, opened_header}
 use Rattle.subsetter_sfnt.specs.Read.{as_font, directory_records, header_by_kind, header_offset, kind_of, records, records_at, stored, table_in}
-use Rattle.subsetter_sfnt.specs.Written.{kind_word}
+use Rattle.subsetter_sfnt.specs.Laying.Written.{kind_word}
 use Rattle.subsetter_sfnt.specs.declared.flavor.FontFlavor.{FontFlavor}
 use Rattle.subsetter_sfnt.specs.declared.flavor.FontFlavor.TheVariants.{TrueType, Cff}
 use Rattle.pdf_source.specs.Program.{flavor_by, flavor_in}

@@ -10,14 +10,14 @@ use Rattle.subsetter_base.specs.declared.error.Error.TheVariants.{MalformedFont}
 use Rattle.subsetter_base.proofs.Options.{is_some_of}
 use Rattle.subsetter_sfnt.specs.Container.{IsSoundContainer}
 use Rattle.subsetter_sfnt.specs.Read.{Font, as_font, stored, table, table_in}
-use Rattle.subsetter_sfnt.specs.Rows.{tags_of}
-use Rattle.subsetter_sfnt.specs.Written.{kind_word}
+use Rattle.subsetter_sfnt.specs.Laying.Rows.{tags_of}
+use Rattle.subsetter_sfnt.specs.Laying.Written.{kind_word}
 use Rattle.subsetter_sfnt.specs.declared.flavor.FontFlavor.{FontFlavor}
 use Rattle.subsetter_sfnt.specs.declared.flavor.FontFlavor.TheVariants.{TrueType, Cff}
 use Rattle.subsetter.specs.Cff.Read.{KeepsCharStrings}
-use Rattle.subsetter.specs.Maxp.Read.{IsMaxProfile}
+use Rattle.subsetter.specs.Common.Maxp.Read.{IsMaxProfile}
 use Rattle.subsetter.specs.Subset.{KeepsDrawing, by_outlines, by_charstrings}
-use Rattle.subsetter_again.proofs.GivenOrder.{only_given}
+use Rattle.subsetter_again.proofs.OrderLaws.GivenOrder.{only_given}
 use Rattle.cid_embed.specs.Afresh.{widths_of}
 use Rattle.cid_embed.specs.Embed.{numbering, IsEmbeddingAnswer, in_subset, in_widths}
 use Rattle.cid_embed.specs.Width.{width}

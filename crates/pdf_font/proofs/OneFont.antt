@@ -15,17 +15,17 @@ use Rattle.cid_embed.specs.Afresh.{widths_of}
 use Rattle.cid_embed.specs.Embed.{numbering, in_subset, in_widths}
 use Rattle.cid_embed.specs.Width.{width}
 use Rattle.pdf_codes.specs.Codes.{Used, coded, glyphs_of}
-use Rattle.pdf_codes.specs.Leading.{own_cmap, own_name, pairs_with}
-use Rattle.pdf_codes.specs.Texts.{is_line_found, lines_of_codes}
+use Rattle.pdf_codes.specs.Cmaps.Leading.{own_cmap, own_name, pairs_with}
+use Rattle.pdf_codes.specs.Cmaps.Texts.{is_line_found, lines_of_codes}
 use Rattle.pdf_codes.proofs.StayLaws.{codes_are_determined}
 use Rattle.pdf_glyphs.specs.Frequent.{most_frequent}
 use Rattle.pdf_glyphs.specs.HeightVariation.{Variation}
 use Rattle.pdf_glyphs.specs.Vertical.{Vertical}
 use Rattle.pdf_glyphs.specs.declared.columns.Columns.{Columns}
-use Rattle.pdf_text.specs.Cmap.{cmap_text}
+use Rattle.pdf_text.specs.Cmaps.Cmap.{cmap_text}
 use Rattle.pdf_text.specs.SubsetName.{font_name}
-use Rattle.pdf_text.specs.declared.columns.Column.{Column}
-use Rattle.pdf_text.specs.declared.columns.DefaultColumn.{DefaultColumn}
+use Rattle.pdf_text.specs.declared.metrics.columns.Column.{Column}
+use Rattle.pdf_text.specs.declared.metrics.columns.DefaultColumn.{DefaultColumn}
 use Rattle.pdf_text.specs.declared.values.ProgramKind.{ProgramKind}
 use Rattle.pdf_text.specs.declared.values.ProgramKind.TheVariants.{TrueType as TrueTypeFile, BareCff, OpenType as OpenTypeFile}
 use Rattle.pdf_source.specs.Chosen.{is_vertical}

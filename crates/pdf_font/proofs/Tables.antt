@@ -9,8 +9,8 @@ use Rattle.subsetter_sfnt.specs.declared.face.TableRecord.{TableRecord}
 use Rattle.subsetter_sfnt.specs.declared.flavor.FontFlavor.TheVariants.{TrueType}
 use Rattle.subsetter_sfnt.specs.Container.{NameTablesFrom, padded_size, IsSoundContainer}
 use Rattle.subsetter_sfnt.specs.Read.{Font, as_font, directory_records, find_record, records, table, table_in}
-use Rattle.subsetter_sfnt.specs.Rows.{Row, opt, present, tags, rows, called_for, tags_of}
-use Rattle.subsetter_sfnt.specs.Written.{kind_word}
+use Rattle.subsetter_sfnt.specs.Laying.Rows.{Row, opt, present, tags, rows, called_for, tags_of}
+use Rattle.subsetter_sfnt.specs.Laying.Written.{kind_word}
 
 -- ---- a sound file has a table exactly where its tag is named
 

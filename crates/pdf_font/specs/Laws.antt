@@ -5,10 +5,10 @@ use Rattle.subsetter_base.specs.declared.tag.Tag.{Tag}
 use Rattle.subsetter_sfnt.specs.Read.{Font, as_font, stored}
 use Rattle.cid_embed.specs.Afresh.{widths_of}
 use Rattle.pdf_codes.specs.Codes.{AreCodes, Used}
-use Rattle.pdf_codes.specs.Leading.{name_of, text_of}
+use Rattle.pdf_codes.specs.Cmaps.Leading.{name_of, text_of}
 use Rattle.pdf_glyphs.specs.declared.columns.Columns.{Columns}
-use Rattle.pdf_text.specs.declared.columns.Column.{Column}
-use Rattle.pdf_text.specs.declared.columns.DefaultColumn.{DefaultColumn}
+use Rattle.pdf_text.specs.declared.metrics.columns.Column.{Column}
+use Rattle.pdf_text.specs.declared.metrics.columns.DefaultColumn.{DefaultColumn}
 use Rattle.pdf_text.specs.declared.values.ProgramKind.TheVariants.{BareCff}
 use Rattle.pdf_font.specs.PdfFont.{HasFontFault, IsPdfFont}
 use Rattle.pdf_source.specs.declared.choice.FontOptions.{FontOptions}

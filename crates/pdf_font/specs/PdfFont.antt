@@ -16,15 +16,15 @@ use Rattle.cid_embed.specs.Width.{width}
 use Rattle.cid_embed.specs.declared.embedding.Embedded.{Embedded}
 use Rattle.cid_embed_at.specs.Embed.{HasEmbedFaultAt, IsEmbeddingAnswerAt}
 use Rattle.pdf_codes.specs.Codes.{AreCodes, IsOverfull, Used, coded, glyphs_of}
-use Rattle.pdf_codes.specs.Leading.{AreLed, name_of, own_cmap, own_name, pairs_with, text_of}
+use Rattle.pdf_codes.specs.Cmaps.Leading.{AreLed, name_of, own_cmap, own_name, pairs_with, text_of}
 use Rattle.pdf_codes.specs.Shown.{has_long_text}
-use Rattle.pdf_codes.specs.Texts.{first_text, is_line_found, lines_of_codes, text_in}
+use Rattle.pdf_codes.specs.Cmaps.Texts.{first_text, is_line_found, lines_of_codes, text_in}
 use Rattle.pdf_glyphs.specs.Frequent.{most_frequent}
 use Rattle.pdf_glyphs.specs.HeightVariation.{Variation}
 use Rattle.pdf_glyphs.specs.Vertical.{Vertical, columns_at}
 use Rattle.pdf_glyphs.specs.declared.columns.Columns.{Columns}
 use Rattle.pdf_text.specs.Bits.{IsCidSet}
-use Rattle.pdf_text.specs.Cmap.{cmap_text}
+use Rattle.pdf_text.specs.Cmaps.Cmap.{cmap_text}
 use Rattle.pdf_text.specs.SubsetName.{font_name}
 use Rattle.pdf_values.specs.Permission.{is_permitted, permission}
 use Rattle.pdf_source.specs.Chosen.{extras_of, is_vertical}

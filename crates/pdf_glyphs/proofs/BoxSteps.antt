@@ -1,6 +1,6 @@
 -- The least box around the first glyphs, found from the last of them on.
 use Rattle.std.proofs.Common.{◌≡◌, ℕ, suc, ◌+◌, ◌-◌, ◌<◌, None, ap, ◌∙◌, ℤ, arith}
-use Rattle.pdf_values.specs.declared.bounds.GlyphBox.{GlyphBox}
+use Rattle.pdf_values.specs.declared.looks.bounds.GlyphBox.{GlyphBox}
 use Rattle.pdf_glyphs.specs.Boxes.{Outlines, boxes_from, glyph_box, joined}
 
 abbrev pub box : ℤ → ℤ → ℤ → ℤ → GlyphBox

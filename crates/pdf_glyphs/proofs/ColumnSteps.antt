@@ -2,7 +2,7 @@
 use Rattle.std.proofs.Common.{◌≡◌, ℕ, ◌≤◌, min, List, [], ◌∷◌, ◌++◌, length, drop, Option, refl, sym, ap, ◌∙◌, inl, inr, arith}
 use Rattle.std.proofs.lemmas.Bool.{cases_lt}
 use Rattle.std.proofs.lemmas.List.{append-nil, drop_all}
-use Rattle.pdf_text.specs.declared.columns.Column.{Column}
+use Rattle.pdf_text.specs.declared.metrics.columns.Column.{Column}
 use Rattle.pdf_glyphs.specs.HeightVariation.{Variation}
 use Rattle.pdf_glyphs.specs.Vertical.{Vertical, columns_at}
 

@@ -2,8 +2,8 @@
 use Rattle.std.proofs.Common.{◌≡◌, ℕ, ◌+◌, ◌<◌, ◌≤◌, Bool, true, false, cond, ltb, List, length, take, drop, get_or, sym, ap, ◌∙◌, ℤ, arith}
 use Rattle.std.proofs.lemmas.List.{drop_more, length-take, take_more}
 use Rattle.std.proofs.lemmas.List.Sums.{count_by-le-length, sum_by_push}
-use Rattle.pdf_text.specs.declared.columns.Column.{Column}
-use Rattle.pdf_text.specs.declared.columns.DefaultColumn.{DefaultColumn}
+use Rattle.pdf_text.specs.declared.metrics.columns.Column.{Column}
+use Rattle.pdf_text.specs.declared.metrics.columns.DefaultColumn.{DefaultColumn}
 use Rattle.pdf_glyphs.specs.declared.frequent.Best.{Best}
 use Rattle.pdf_glyphs.specs.declared.frequent.Key.{Key}
 use Rattle.pdf_glyphs.specs.Keys.{key_of, same_key}

@@ -7,9 +7,9 @@ use Rattle.std.proofs.lemmas.Bool.Decides.{Decides-int_eq}
 use Rattle.std.proofs.lemmas.Cmp.{int_eq_equiv}
 use Rattle.std.proofs.lemmas.List.Sums.{sum_by-cons}
 use Rattle.subsetter_base.proofs.Lists.{and_parts}
-use Rattle.pdf_text.specs.declared.columns.Column.{Column}
-use Rattle.pdf_text.specs.declared.columns.DefaultColumn.{DefaultColumn}
-use Rattle.pdf_text.specs.Columns.{no_column}
+use Rattle.pdf_text.specs.declared.metrics.columns.Column.{Column}
+use Rattle.pdf_text.specs.declared.metrics.columns.DefaultColumn.{DefaultColumn}
+use Rattle.pdf_text.specs.Metrics.Columns.{no_column}
 use Rattle.pdf_glyphs.specs.Frequent.{IsMostFrequent, IsMostOfAll, count, count_at, default_of, has_both, most_from, own_default}
 
 counted_cons : (p : Column → Bool) (c : Column) (cs : List Column) → count_by p (c ∷ cs) ≡ cond (p c) 1 0 + count_by p cs

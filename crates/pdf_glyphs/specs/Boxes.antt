@@ -2,7 +2,7 @@
 use Rattle.std.specs.Prelude.{ℕ, zero, suc, ◌+◌, ◌*◌, ◌==◌, nat_le, Bool, true, if◌then◌else◌, List, Option, Some, None}
 use Rattle.std.specs.Option.{option_and_then, option_copied, option_map, option_map_or}
 use Rattle.subsetter_base.specs.Bytes.{field, signed_field}
-use Rattle.pdf_values.specs.declared.bounds.GlyphBox.{GlyphBox}
+use Rattle.pdf_values.specs.declared.looks.bounds.GlyphBox.{GlyphBox}
 use Rattle.pdf_glyphs.specs.declared.boxes.OutlineTables.{OutlineTables}
 use Rattle.std.specs.Int.{int_min, int_max}
 

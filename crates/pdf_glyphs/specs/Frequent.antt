@@ -1,9 +1,9 @@
 -- DW2, the most frequent column (ISO 32000-1, 9.7.4.3).
 use Rattle.std.specs.Prelude.{◌≡◌, ◌<◌, ◌≤◌, ℕ, nat_lt, ◌&&◌, Bool, if◌then◌else◌, List, [], ◌∷◌, length, get_or, count_by, ℤ, pos, neg_ℤ}
 use Rattle.std.specs.Ordering.{int_eq}
-use Rattle.pdf_text.specs.declared.columns.Column.{Column}
-use Rattle.pdf_text.specs.declared.columns.DefaultColumn.{DefaultColumn}
-use Rattle.pdf_text.specs.Columns.{no_column}
+use Rattle.pdf_text.specs.declared.metrics.columns.Column.{Column}
+use Rattle.pdf_text.specs.declared.metrics.columns.DefaultColumn.{DefaultColumn}
+use Rattle.pdf_text.specs.Metrics.Columns.{no_column}
 
 -- whether a column has this y and this advance
 abbrev pub has_both : ℤ → ℤ → Column → Bool

@@ -1,7 +1,7 @@
 -- When the code takes two columns for one.
 use Rattle.std.specs.Prelude.{Bool, ◌&&◌}
 use Rattle.std.specs.Ordering.{int_eq}
-use Rattle.pdf_text.specs.declared.columns.Column.{Column}
+use Rattle.pdf_text.specs.declared.metrics.columns.Column.{Column}
 use Rattle.pdf_glyphs.specs.declared.frequent.Key.{Key}
 
 abbrev pub key_of : Column → Key

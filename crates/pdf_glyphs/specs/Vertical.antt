@@ -1,7 +1,7 @@
 -- Vertical metrics of glyphs (OpenType, "vhea", "vmtx", "VORG"), as a PDF has them (ISO 32000-1, 9.7.4.3).
 use Rattle.std.specs.Prelude.{ℕ, zero, suc, ◌+◌, ◌-◌, ◌*◌, ◌/◌, ◌^◌, ◌==◌, min, nat_lt, if◌then◌else◌, List, [], ◌∷◌, Option, Some, None, ℤ, pos, neg_ℤ, ◌+ℤ◌}
 use Rattle.std.specs.Option.{option_and_then, option_copied, option_map, option_map_or, option_or, unwrap_or}
-use Rattle.pdf_text.specs.declared.columns.Column.{Column}
+use Rattle.pdf_text.specs.declared.metrics.columns.Column.{Column}
 use Rattle.subsetter_base.specs.Bytes.{field, signed_field}
 use Rattle.pdf_values.specs.Head.{units_per_em}
 use Rattle.pdf_values.specs.Rounding.{thousandths}

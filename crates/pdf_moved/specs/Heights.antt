@@ -1,11 +1,11 @@
 -- Ascent, Descent, CapHeight and XHeight (ISO 32000-1, Table 122) of a font that is moved (OpenType, "MVAR", "Value tags").
 use Rattle.std.specs.Prelude.{ℕ, List, codes, Option, ℤ, pos, neg_ℤ}
 use Rattle.std.specs.Option.{option_and_then, option_map, option_or, unwrap_or}
-use Rattle.pdf_values.specs.Heights.{above_0, box_line, descent_of, first_line, typographic_line, windows_line}
+use Rattle.pdf_values.specs.Looks.Heights.{above_0, box_line, descent_of, first_line, typographic_line, windows_line}
 use Rattle.subsetter_sfnt.specs.Fields.Os2.{sx_height, s_cap_height}
 use Rattle.pdf_values.specs.Rounding.{thousandths}
-use Rattle.pdf_values.specs.declared.heights.Heights.{Heights}
-use Rattle.pdf_values.specs.declared.heights.Line.{Line}
+use Rattle.pdf_values.specs.declared.looks.heights.Heights.{Heights}
+use Rattle.pdf_values.specs.declared.looks.heights.Line.{Line}
 use Rattle.pdf_moved.specs.Movement.{Movement, varied}
 
 -- the line of `hhea`, and the typographic one

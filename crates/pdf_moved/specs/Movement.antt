@@ -4,10 +4,10 @@ use Rattle.std.specs.Int.{int_max, int_min}
 use Rattle.std.specs.Option.{option_copied, option_map, option_map_or}
 use Rattle.std.specs.Result.{result_unwrap_or}
 use Rattle.subsetter_base.specs.declared.tag.Tag.{Tag}
-use Rattle.subsetter_variation.specs.Axes.{user_coordinate, find_axis}
-use Rattle.subsetter_variation.specs.FontMetrics.{metric_delta}
-use Rattle.subsetter_variation.specs.ItemVariations.{whole_or_fault}
-use Rattle.subsetter_variation.specs.declared.axes.Axis.{Axis}
+use Rattle.subsetter_variation.specs.Locations.Axes.{user_coordinate, find_axis}
+use Rattle.subsetter_variation.specs.Items.FontMetrics.{metric_delta}
+use Rattle.subsetter_variation.specs.Items.ItemVariations.{whole_or_fault}
+use Rattle.subsetter_variation.specs.declared.locations.axes.Axis.{Axis}
 use Rattle.pdf_moved.specs.declared.movement.Movement.{Movement as Given}
 
 -- the normalized coordinates, in 16384ths; the axes, and settings of user coordinates, in 65536ths; and `MVAR`, if it is there

@@ -2,14 +2,14 @@
 use Rattle.std.specs.Prelude.{ℕ, if◌then◌else◌, int_le, List, codes, Option, ℤ, pos, unsigned_abs}
 use Rattle.std.specs.Option.{option_map_or}
 use Rattle.subsetter_variation.specs.Nearest.{nearest}
-use Rattle.pdf_values.specs.Bounds.{bounds_of}
+use Rattle.pdf_values.specs.Looks.Bounds.{bounds_of}
 use Rattle.pdf_values.specs.Descriptor.{SourceTables}
-use Rattle.pdf_values.specs.Flags.{flags_of}
+use Rattle.pdf_values.specs.Looks.Flags.{flags_of}
 use Rattle.pdf_values.specs.Head.{units_per_em}
-use Rattle.pdf_values.specs.ItalicAngle.{angle}
+use Rattle.pdf_values.specs.Looks.ItalicAngle.{angle}
 use Rattle.pdf_values.specs.Rounding.{thousandths}
-use Rattle.pdf_values.specs.Weight.{font_weight, stem_v, weight_of}
-use Rattle.pdf_values.specs.declared.bounds.Bounds.TheVariants.{Kept}
+use Rattle.pdf_values.specs.Looks.Weight.{font_weight, stem_v, weight_of}
+use Rattle.pdf_values.specs.declared.looks.bounds.Bounds.TheVariants.{Kept}
 use Rattle.pdf_values.specs.declared.descriptor.Known.{Known}
 use Rattle.pdf_values.specs.declared.descriptor.Values.{Values}
 use Rattle.pdf_moved.specs.Heights.{heights_at}

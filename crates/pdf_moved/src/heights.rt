@@ -2,7 +2,7 @@
 
 ghost use Rattle.std.specs.Prelude.{◌≡◌, ◌<◌, ◌≤◌, ◌^◌, IfSome, codes, unsigned_abs};
 ghost use Rattle.std.specs.Option.{option_and_then, option_copied, option_map, option_or, unwrap_or};
-ghost use Rattle.pdf_values.specs.Heights.{above_0, box_line, counted, descent_of, first_line, line, typographic_line, windows_line};
+ghost use Rattle.pdf_values.specs.Looks.Heights.{above_0, box_line, counted, descent_of, first_line, line, typographic_line, windows_line};
 ghost use Rattle.pdf_values.specs.Rounding.{thousandths};
 ghost use Rattle.pdf_moved.specs.Heights.{clip_line, heights_at, heights_by, moved_height, moved_line, moved_text_line, other_line, source_line, text_line};
 ghost use Rattle.pdf_moved.specs.Lines.{line_view};

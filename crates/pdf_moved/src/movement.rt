@@ -2,11 +2,11 @@
 
 ghost use Rattle.std.specs.Prelude.{◌≡◌, ◌≤◌, ◌^◌, unsigned_abs};
 ghost use Rattle.pdf_moved.specs.Movement.{clamped, coordinate_on, delta_of, if_small, movement_view, varied, within};
-ghost use Rattle.subsetter_variation.specs.Axes.{find_axis};
+ghost use Rattle.subsetter_variation.specs.Locations.Axes.{find_axis};
 
 use subsetter_base::Tag;
-use subsetter_variation::axes::{Axis, find_axis, user_coordinate};
-use subsetter_variation::font_metrics::metric_delta;
+use subsetter_variation::locations::axes::{Axis, find_axis, user_coordinate};
+use subsetter_variation::items::font_metrics::metric_delta;
 
 /// Where a font is moved to.
 #[derive(Clone, Copy)]

@@ -3,7 +3,7 @@ use Rattle.std.proofs.Common.{◌≡◌, ℕ, ℤ, suc, ◌+◌, ◌-◌, ◌<�
 use Rattle.std.specs.Prelude.{is_some}
 use Rattle.subsetter_base.specs.Bytes.{range}
 use Rattle.subsetter_base.specs.declared.tag.Tag.{Tag}
-use Rattle.subsetter_variation.specs.declared.axes.Axis.{Axis}
+use Rattle.subsetter_variation.specs.declared.locations.axes.Axis.{Axis}
 use Rattle.pdf_names.specs.Instances.{behind_flags, record_from}
 
 one_more : (n i : ℕ) → i < n → n - i ≡ suc (n - (i + 1))

@@ -8,7 +8,7 @@ use Rattle.pdf_sheet.specs.File.{AreInTable, body_of, file_of}
 use Rattle.pdf_sheet.specs.Pages.{sheet_values, IsTooLarge}
 use Rattle.pdf_sheet.specs.declared.frame.Layout.{Layout}
 use Rattle.pdf_sheet.specs.declared.glyphs.SheetGlyph.{SheetGlyph}
-use Rattle.pdf_text.specs.Columns.{no_column}
+use Rattle.pdf_text.specs.Metrics.Columns.{no_column}
 use Rattle.pdf_text.specs.declared.values.FontValues.{FontValues}
 use Rattle.pdf_codes.specs.Shown.{texts_of}
 

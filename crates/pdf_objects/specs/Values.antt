@@ -3,15 +3,15 @@ use Rattle.std.specs.Prelude.{◌≡◌, ◌<◌, ℕ, ◌&&◌, if◌then◌els
 use Rattle.std.specs.List.{concat}
 use Rattle.std.specs.Option.{option_copied, option_map}
 use Rattle.std.specs.Ordering.{int_eq}
-use Rattle.pdf_text.specs.Arrays.{entries, array_text}
-use Rattle.pdf_text.specs.Columns.{spans, columns_text}
+use Rattle.pdf_text.specs.Metrics.Arrays.{entries, array_text}
+use Rattle.pdf_text.specs.Metrics.Columns.{spans, columns_text}
 use Rattle.pdf_text.specs.Objects.{font_objects, offsets_from, AreDictionaries, AreFontObjectsAt}
 use Rattle.pdf_text.specs.declared.objects.FontDictionaries.{FontDictionaries}
 use Rattle.pdf_text.specs.declared.objects.FontObjects.{FontObjects}
 use Rattle.pdf_text.specs.declared.values.Descriptor.{Descriptor}
 use Rattle.pdf_text.specs.declared.values.FontValues.{FontValues}
 use Rattle.pdf_text.specs.declared.values.References.{References}
-use Rattle.pdf_text.specs.declared.named.NamedCmap.{NamedCmap}
+use Rattle.pdf_text.specs.declared.cmaps.named.NamedCmap.{NamedCmap}
 use Rattle.pdf_glyphs.specs.declared.columns.Columns.{Columns}
 use Rattle.pdf_font.specs.declared.font.PdfFont.{PdfFont}
 use Rattle.pdf_text.specs.View.{name_of, text_of}

@@ -3,7 +3,7 @@
 ghost use Rattle.std.specs.Prelude.{◌≡◌, ◌<◌, ◌≤◌, ◌⊎◌, ◌∷◌, [], ℕ, length, get_or, IfOk, IfErr, OnOk, Some};
 ghost use Rattle.std.specs.Option.{option_copied, option_map};
 ghost use Rattle.subsetter_base.specs.declared.error.Error.TheVariants.{OutOfMemory, OverflowError};
-ghost use Rattle.pdf_text.specs.Arrays.{value_in};
+ghost use Rattle.pdf_text.specs.Metrics.Arrays.{value_in};
 ghost use Rattle.pdf_objects.specs.Values.{AreValuesOf, HasManyColumns, IsDescriptorOf, default_column, w2_text, w_text};
 ghost use Rattle.pdf_text.specs.View.{name_of, text_of};
 

@@ -6,11 +6,11 @@ use Rattle.std.specs.List.{flat_map}
 use Rattle.std.specs.Str.{bytes_eq}
 use Rattle.std.proofs.lemmas.List.{map-append, take-append-drop, length-drop}
 use Rattle.std.proofs.lemmas.List.Elements.{All-nil, All-cons, All-head, All-tail, All-take, All-drop}
-use Rattle.pdf_text.specs.Cmap.{hex_string, hex_in}
+use Rattle.pdf_text.specs.Cmaps.Cmap.{hex_string, hex_in}
 use Rattle.pdf_text.specs.Tokens.{tokens}
 use Rattle.pdf_text.proofs.TokenLaws.Tokens.{first_token, digits_dark, decimal_digits, decimal_some, no_word}
-use Rattle.pdf_text.proofs.CmapLaws.Tokens.{hex_dark}
-use Rattle.pdf_text.proofs.CmapLaws.Units.{units_read}
+use Rattle.pdf_text.proofs.CmapsLaws.CmapLaws.Tokens.{hex_dark}
+use Rattle.pdf_text.proofs.CmapsLaws.CmapLaws.Units.{units_read}
 use Rattle.pdf_sheet.specs.declared.glyphs.SheetGlyph.{SheetGlyph}
 use Rattle.pdf_sheet.specs.declared.frame.Layout.{Layout}
 use Rattle.pdf_sheet.specs.declared.frame.Layout.TheVariants.{Line, Grid}

@@ -5,12 +5,12 @@ use Rattle.std.specs.List.{concat}
 use Rattle.std.proofs.lemmas.List.{take_all, drop_all, map-append}
 use Rattle.std.proofs.lemmas.List.Elements.{All-nil, All-cons}
 use Rattle.std.proofs.lemmas.List.Folds.{concat-append}
-use Rattle.pdf_text.specs.Cmap.{words}
+use Rattle.pdf_text.specs.Cmaps.Cmap.{words}
 use Rattle.pdf_text.specs.Dictionaries.{reference}
 use Rattle.pdf_text.specs.Objects.{object_text, objects_from, offsets_from, font_objects}
 use Rattle.pdf_text.specs.declared.values.FontValues.{FontValues}
 use Rattle.pdf_text.proofs.ObjectLaws.At.{one_more_offset}
-use Rattle.pdf_text.proofs.WidthLaws.Read.{below_or_not}
+use Rattle.pdf_text.proofs.MetricsLaws.WidthLaws.Read.{below_or_not}
 use Rattle.pdf_text.proofs.Written.{one_more_written, three_written, five_written}
 use Rattle.pdf_sheet.specs.Units.{units_of}
 use Rattle.pdf_sheet.specs.Content.{code_text, span_begin, shown_text, content, frame_of}

@@ -1,6 +1,6 @@
 -- Content streams that show glyphs by their codes (ISO 32000-1, 9.4, 14.6 and 14.9.4).
 use Rattle.std.specs.Prelude.{ℕ, ◌+◌, ◌-◌, ◌*◌, ◌/◌, ◌%◌, ◌==◌, Bool, true, false, if◌then◌else◌, List, [], ◌∷◌, ◌++◌, codes, decimal, min}
-use Rattle.pdf_text.specs.Cmap.{hex_string}
+use Rattle.pdf_text.specs.Cmaps.Cmap.{hex_string}
 use Rattle.pdf_sheet.specs.Units.{units_of}
 use Rattle.pdf_sheet.specs.declared.glyphs.SheetGlyph.{SheetGlyph}
 use Rattle.pdf_sheet.specs.declared.frame.Layout.{Layout}

@@ -3,7 +3,7 @@ use Rattle.std.specs.Prelude.{◌≡◌, ◌<◌, ℕ, if◌then◌else◌, Bool
 use Rattle.std.specs.List.{flat_map}
 use Rattle.std.specs.Str.{bytes_eq}
 use Rattle.pdf_text.specs.Tokens.{tokens}
-use Rattle.pdf_text.specs.Cmap.{hex_in}
+use Rattle.pdf_text.specs.Cmaps.Cmap.{hex_in}
 use Rattle.pdf_sheet.specs.Units.{units_of}
 use Rattle.pdf_sheet.specs.declared.glyphs.SheetGlyph.{SheetGlyph}
 use Rattle.pdf_sheet.specs.declared.frame.Layout.{Layout}

@@ -2,7 +2,7 @@
 
 ghost use Rattle.std.specs.Prelude.{◌≡◌, ◌++◌, ◌∷◌, [], IfErr, OnOk, codes, get_or};
 ghost use Rattle.subsetter_base.specs.declared.error.Error.TheVariants.{OutOfMemory};
-ghost use Rattle.pdf_text.specs.Cmap.{hex_string, words};
+ghost use Rattle.pdf_text.specs.Cmaps.Cmap.{hex_string, words};
 ghost use Rattle.pdf_sheet.specs.Units.{units_of};
 ghost use Rattle.pdf_sheet.specs.Content.{code_text, span_begin, shown_text};
 

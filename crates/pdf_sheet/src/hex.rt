@@ -2,7 +2,7 @@
 
 ghost use Rattle.std.specs.Prelude.{◌≡◌, ◌<◌, ◌+◌, ◌/◌, ◌%◌, ◌++◌, ◌∷◌, [], IfErr, OnOk};
 ghost use Rattle.subsetter_base.specs.declared.error.Error.TheVariants.{OutOfMemory};
-ghost use Rattle.pdf_text.specs.Cmap.{word, words, hex_string};
+ghost use Rattle.pdf_text.specs.Cmaps.Cmap.{word, words, hex_string};
 ghost use Rattle.pdf_sheet.specs.Units.{units_of};
 ghost use Rattle.subsetter_base.specs.Texts.{utf16};
 

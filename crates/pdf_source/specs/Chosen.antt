@@ -2,7 +2,7 @@
 use Rattle.std.specs.Prelude.{◌≡◌, Bool, true, false, None}
 use Rattle.subsetter_sfnt.specs.declared.extras.Extras.{Extras}
 use Rattle.pdf_codes.specs.declared.codes.Codes.TheVariants.{Consecutive}
-use Rattle.pdf_values.specs.declared.bounds.Bounds.TheVariants.{Font}
+use Rattle.pdf_values.specs.declared.looks.bounds.Bounds.TheVariants.{Font}
 use Rattle.pdf_values.specs.declared.permission.Rights.TheVariants.{AsSaid}
 use Rattle.pdf_source.specs.declared.choice.ProgramChoice.TheVariants.{Smallest}
 use Rattle.pdf_source.specs.declared.choice.Direction.{Direction}

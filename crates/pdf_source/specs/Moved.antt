@@ -5,11 +5,11 @@ use Rattle.std.specs.Option.{option_and_then}
 use Rattle.std.specs.Ordering.{int_eq}
 use Rattle.std.specs.Result.{result_ok}
 use Rattle.subsetter_base.specs.declared.tag.Tag.{Tag}
-use Rattle.subsetter_variation.specs.Axes.{axes}
-use Rattle.subsetter_variation.specs.declared.axes.Axis.{Axis}
+use Rattle.subsetter_variation.specs.Locations.Axes.{axes}
+use Rattle.subsetter_variation.specs.declared.locations.axes.Axis.{Axis}
 use Rattle.subsetter_instance.specs.Source.{normalized_coordinates}
 use Rattle.pdf_values.specs.Descriptor.{values_of}
-use Rattle.pdf_values.specs.declared.bounds.Bounds.{Bounds}
+use Rattle.pdf_values.specs.declared.looks.bounds.Bounds.{Bounds}
 use Rattle.pdf_values.specs.declared.descriptor.Values.{Values}
 use Rattle.pdf_moved.specs.Movement.{Movement}
 use Rattle.pdf_moved.specs.Values.{values_at}

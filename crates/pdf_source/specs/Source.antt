@@ -6,8 +6,8 @@ use Rattle.pdf_glyphs.specs.Vertical.{Vertical}
 use Rattle.pdf_text.specs.SubsetName.{tag_of}
 use Rattle.pdf_values.specs.Descriptor.{SourceTables}
 use Rattle.pdf_values.specs.Name.{postscript_name}
-use Rattle.pdf_values.specs.declared.bounds.Bounds.{Bounds}
-use Rattle.pdf_values.specs.declared.bounds.Bounds.TheVariants.{Font}
+use Rattle.pdf_values.specs.declared.looks.bounds.Bounds.{Bounds}
+use Rattle.pdf_values.specs.declared.looks.bounds.Bounds.TheVariants.{Font}
 use Rattle.pdf_values.specs.declared.descriptor.Known.{Known}
 use Rattle.pdf_source.specs.Cff.{cff_values_by}
 use Rattle.pdf_source.specs.declared.tag.SubsetTag.{SubsetTag}

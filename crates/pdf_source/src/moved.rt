@@ -15,7 +15,7 @@ use std::alloc::Global;
 use subsetter_base::{Error, Tag};
 use subsetter_instance::source::normalized_coordinates;
 use subsetter_sfnt::face::Face;
-use subsetter_variation::axes::{Axis, axes};
+use subsetter_variation::locations::axes::{Axis, axes};
 
 /// Where a font is off its default.
 #[derive(Drop)]

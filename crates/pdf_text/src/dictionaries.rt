@@ -6,7 +6,7 @@ ghost use Rattle.subsetter_base.specs.declared.error.Error.TheVariants.{OutOfMem
 ghost use Rattle.pdf_text.specs.Numbers.{thousandths};
 ghost use Rattle.pdf_text.specs.Dictionaries.{reference, array, entry, base_font, cmap_name, name_end, identity_name, encoding_value, font_entries, cid_font_kind, glyph_map, array_entry, column_entry, metric_entries, cid_font_entries, x_height_entry, program_key, cid_set_entry, heading_entries, line_entries, letter_entries, height_entries, weight_entries, descriptor_entries, program_entries, mode_entry, own_cmap_entries, cmap_entries, cid_heading};
 
-use crate::lines::write_count;
+use crate::cmaps::lines::write_count;
 use crate::numbers::{write_integer, write_integers, write_thousandths};
 use crate::values::{Descriptor, FontValues, OwnCmap, ProgramKind, References};
 use subsetter_base::Error;

@@ -5,7 +5,7 @@ ghost use Rattle.std.specs.Fmt.{signed_decimal};
 ghost use Rattle.subsetter_base.specs.declared.error.Error.TheVariants.{OutOfMemory};
 ghost use Rattle.pdf_text.specs.Numbers.{integers, fraction, sign, thousandths};
 
-use crate::lines::write_count;
+use crate::cmaps::lines::write_count;
 use std::io::Write;
 use subsetter_base::Error;
 

@@ -10,7 +10,7 @@ ghost use Rattle.pdf_text.specs.Objects.{AreDictionaries, entries_of, bytes_of, 
 use crate::dictionaries::{
     write_cid_font, write_cmap, write_descriptor, write_font, write_program, write_size,
 };
-use crate::lines::write_count;
+use crate::cmaps::lines::write_count;
 use crate::values::{FontValues, OwnCmap, References};
 use std::alloc::Global;
 use subsetter_base::Error;

@@ -3,16 +3,16 @@ use Rattle.std.proofs.Common.{◌≡◌, ℕ, ◌+◌, ◌-◌, ◌*◌, true, f
 use Rattle.std.specs.Prelude.{nat_lt, if◌then◌else◌, codes}
 use Rattle.std.specs.Option.{option_map}
 use Rattle.subsetter_variation.specs.Nearest.{nearest}
-use Rattle.pdf_values.specs.Bounds.{bounds_of}
-use Rattle.pdf_values.specs.Flags.{flags_of}
+use Rattle.pdf_values.specs.Looks.Bounds.{bounds_of}
+use Rattle.pdf_values.specs.Looks.Flags.{flags_of}
 use Rattle.pdf_values.specs.Head.{units_per_em}
-use Rattle.pdf_values.specs.Heights.{heights_of}
-use Rattle.pdf_values.specs.ItalicAngle.{angle}
+use Rattle.pdf_values.specs.Looks.Heights.{heights_of}
+use Rattle.pdf_values.specs.Looks.ItalicAngle.{angle}
 use Rattle.pdf_values.specs.Name.{postscript_name, string_from}
 use Rattle.pdf_values.specs.Permission.{permission, unsaid, is_permitted}
 use Rattle.pdf_values.specs.Rounding.{thousandths, lowered, raised}
-use Rattle.pdf_values.specs.Weight.{weight_of, font_weight, stem_v}
-use Rattle.pdf_values.specs.declared.bounds.Bounds.TheVariants.{Font, Kept}
+use Rattle.pdf_values.specs.Looks.Weight.{weight_of, font_weight, stem_v}
+use Rattle.pdf_values.specs.declared.looks.bounds.Bounds.TheVariants.{Font, Kept}
 use Rattle.pdf_values.specs.declared.permission.Rights.TheVariants.{AsSaid, Held}
 use Rattle.pdf_values.specs.declared.permission.Usage.TheVariants.{Editable, PreviewAndPrint}
 

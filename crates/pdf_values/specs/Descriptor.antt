@@ -1,13 +1,13 @@
 -- The values of a font descriptor (ISO 32000-1, Table 122) but its name.
 use Rattle.std.specs.Prelude.{ℕ, List, Option}
 use Rattle.std.specs.Option.{option_copied}
-use Rattle.pdf_values.specs.Bounds.{bounds_of}
-use Rattle.pdf_values.specs.Flags.{flags_of}
+use Rattle.pdf_values.specs.Looks.Bounds.{bounds_of}
+use Rattle.pdf_values.specs.Looks.Flags.{flags_of}
 use Rattle.pdf_values.specs.Head.{units_per_em}
-use Rattle.pdf_values.specs.Heights.{heights_of}
-use Rattle.pdf_values.specs.ItalicAngle.{angle}
-use Rattle.pdf_values.specs.Weight.{weight_of, font_weight, stem_v}
-use Rattle.pdf_values.specs.declared.bounds.Bounds.{Bounds}
+use Rattle.pdf_values.specs.Looks.Heights.{heights_of}
+use Rattle.pdf_values.specs.Looks.ItalicAngle.{angle}
+use Rattle.pdf_values.specs.Looks.Weight.{weight_of, font_weight, stem_v}
+use Rattle.pdf_values.specs.declared.looks.bounds.Bounds.{Bounds}
 use Rattle.pdf_values.specs.declared.descriptor.Known.{Known}
 use Rattle.pdf_values.specs.declared.descriptor.Tables.{Tables}
 use Rattle.pdf_values.specs.declared.descriptor.Values.{Values}

@@ -1,17 +1,17 @@
 //! The values of a font descriptor (ISO 32000-1, Table 122) but its name.
 
 ghost use Rattle.std.specs.Prelude.{◌≡◌, ◌≤ℤ◌, pos};
-ghost use Rattle.pdf_values.specs.Bounds.{IsAround, box_of};
+ghost use Rattle.pdf_values.specs.Looks.Bounds.{IsAround, box_of};
 ghost use Rattle.pdf_values.specs.Descriptor.{tables_view, values_of};
-ghost use Rattle.pdf_values.specs.Flags.{IsFlags};
+ghost use Rattle.pdf_values.specs.Looks.Flags.{IsFlags};
 ghost use Rattle.pdf_values.specs.Head.{units_per_em};
 
-use crate::bounds::{Bounds, Edges, GlyphBox, bounds_of};
-use crate::flags::flags_of;
-use crate::heights::{Heights, heights_of};
-use crate::lean::italic_angle;
+use crate::looks::bounds::{Bounds, Edges, GlyphBox, bounds_of};
+use crate::looks::flags::flags_of;
+use crate::looks::heights::{Heights, heights_of};
+use crate::looks::lean::italic_angle;
 use crate::units::units_per_em;
-use crate::weight::{font_weight, stem_v, weight_of};
+use crate::looks::weight::{font_weight, stem_v, weight_of};
 
 /// The tables that the values are read of; none where the font lacks one.
 #[derive(Clone, Copy)]

@@ -11,27 +11,23 @@
 //! ```
 #![tactic(auto)]
 
-mod bounds;
 mod descriptor;
 pub mod fields;
-mod flags;
-mod heights;
 mod laws;
-mod lean;
+mod looks;
 mod naming;
 mod permission;
 mod rounding;
 mod units;
-mod weight;
 
-pub use bounds::{Bounds, Edges, GlyphBox, bounds_of};
+pub use looks::bounds::{Bounds, Edges, GlyphBox, bounds_of};
 pub use descriptor::{Known, Tables, Values, values_of};
-pub use flags::flags_of;
-pub use heights::{Heights, heights_of};
+pub use looks::flags::flags_of;
+pub use looks::heights::{Heights, heights_of};
 pub use laws::{first_is_taken, none_is_passed};
-pub use lean::italic_angle;
+pub use looks::lean::italic_angle;
 pub use naming::{postscript_name, table_name};
 pub use permission::{Permission, Rights, Usage, is_permitted, permission_of};
 pub use rounding::{lowered, raised, thousandths};
 pub use units::units_per_em;
-pub use weight::{font_weight, stem_v, weight_of};
+pub use looks::weight::{font_weight, stem_v, weight_of};

@@ -1,6 +1,6 @@
 -- Numbers in a row.
 use Rattle.std.proofs.Common.{◌≡◌, ℕ, suc, ◌+◌, ◌-◌, ◌<◌, ◌≤◌, [], ◌∷◌, ap, arith}
-use Rattle.subset_args.specs.Lists.{counting}
+use Rattle.subset_args.specs.Listing.Lists.{counting}
 
 left : (first end : ℕ) → first < end → end - first ≡ suc (end - (first + 1))
 left first end h = omega arith

@@ -3,6 +3,4 @@ pub mod Parts
 pub mod Said
 pub mod Quotients
 pub mod Digits
-pub mod CharacterParts
-pub mod Hex
-pub mod Scalars
+pub mod ListingLaws

@@ -2,10 +2,7 @@ pub mod Limits
 pub mod Options
 pub mod Request
 pub mod View
-pub mod Lists
-pub mod Characters
-pub mod Files
-pub mod ListView
+pub mod Listing
 pub mod Coordinates
 pub mod Halves
 pub mod Mistakes

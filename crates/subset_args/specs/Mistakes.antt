@@ -1,8 +1,8 @@
 -- What is wrong with an argument, by itself.
 use Rattle.std.specs.Prelude.{◌≡◌, ◌≢◌, ◌⊎◌, ℕ, true, false, List, None}
 use Rattle.std.specs.Str.{IsUtf8}
-use Rattle.subset_args.specs.Lists.{ends_in, descends}
-use Rattle.subset_args.specs.Characters.{codes_in, codes_descend}
+use Rattle.subset_args.specs.Listing.Lists.{ends_in, descends}
+use Rattle.subset_args.specs.Listing.Characters.{codes_in, codes_descend}
 use Rattle.subset_args.specs.Request.{topic_of}
 use Rattle.subsetter_words.specs.Numbers.{number_in_bits}
 use Rattle.subset_args.specs.Coordinates.{coordinate_in}

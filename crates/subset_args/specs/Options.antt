@@ -13,8 +13,8 @@ use Rattle.subset_args.specs.declared.options.Coding.TheVariants.{Consecutive, S
 use Rattle.subset_args.specs.declared.options.Kind.{Kind}
 use Rattle.subset_args.specs.declared.options.Kind.TheVariants.{Switch as IsSwitch, Setting as IsSetting, Help, Version, End, Place}
 use Rattle.subset_args.specs.declared.options.Switches.{Switches}
-use Rattle.subset_args.specs.declared.lists.FileKind.{FileKind}
-use Rattle.subset_args.specs.declared.lists.FileKind.TheVariants.{Glyphs as OfGlyphs, Characters as OfCharacters, Text as OfText}
+use Rattle.subset_args.specs.declared.listing.lists.FileKind.{FileKind}
+use Rattle.subset_args.specs.declared.listing.lists.FileKind.TheVariants.{Glyphs as OfGlyphs, Characters as OfCharacters, Text as OfText}
 
 -- the option without a value that an argument is
 abbrev pub switch_of : List ℕ → Option Switch

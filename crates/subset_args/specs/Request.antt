@@ -7,8 +7,8 @@ use Rattle.subsetter_words.specs.Numbers.{number_in_bits}
 use Rattle.subsetter_base.specs.declared.tag.Tag.{Tag}
 use Rattle.subset_args.specs.Coordinates.{has_byte, is_equals, coordinates_in}
 use Rattle.subset_args.specs.Limits.{Bounds}
-use Rattle.subset_args.specs.Lists.{FileList, every, these, characters, text_of, argument_list}
-use Rattle.subset_args.specs.Characters.{argument_characters}
+use Rattle.subset_args.specs.Listing.Lists.{FileList, every, these, characters, text_of, argument_list}
+use Rattle.subset_args.specs.Listing.Characters.{argument_characters}
 use Rattle.subset_args.specs.Options.{GlyphSource, in_file, by_text, in_list, in_codes, Choice, Free, Options, helped, versioned, chosen, no_choice, parsed, free}
 use Rattle.subset_args.specs.declared.options.Coding.TheVariants.{Consecutive}
 use Rattle.subset_args.specs.declared.options.PdfChoice.{PdfChoice}

@@ -2,17 +2,17 @@
 
 ghost use Rattle.std.specs.Prelude.{◌≡◌, ◌⊎◌, ℕ, List, map, IfOk, IfErr, IfSome, Some, None, string_bytes};
 ghost use Rattle.std.specs.Option.{option_copied, option_map};
-ghost use Rattle.subset_args.specs.Lists.{argument_list};
-ghost use Rattle.subset_args.specs.Characters.{argument_characters};
+ghost use Rattle.subset_args.specs.Listing.Lists.{argument_list};
+ghost use Rattle.subset_args.specs.Listing.Characters.{argument_characters};
 ghost use Rattle.subset_args.specs.Request.{glyph_list, of_list, requested, is_stream, lists_in_stream, position_option, pdf_choice, pdf_by, is_same, request_of, request_behind, request_plain, names_position, says_file, request_with, request_free, command_by_options, command_free, command_or, is_name, position_in, shown_of, shown_by, topic_of, first_topic, behind_first, command};
-ghost use Rattle.subset_args.specs.ListView.{list_view};
+ghost use Rattle.subset_args.specs.Listing.ListView.{list_view};
 ghost use Rattle.subset_args.specs.View.{source_view, chosen_view, free_view, requested_view, position_view, pdf_view, job_view, command_view};
 ghost use Rattle.subset_args.specs.declared.jobs.ArgsError.TheVariants.{Usage, OutOfMemory};
 
-use crate::characters::read_characters;
+use crate::listing::characters::read_characters;
 use crate::coordinates::read_coordinates;
 use crate::limits::RunLimits;
-use crate::lists::{FileKind, GlyphList, read_argument};
+use crate::listing::lists::{FileKind, GlyphList, read_argument};
 use crate::options::{
     Chosen, Coding, Free, Parsed, PdfChoice, Source, Switches, parse_free, parse_options,
 };

@@ -10,23 +10,21 @@
 //! ```
 #![tactic(auto)]
 
-mod characters;
 mod coordinates;
-mod files;
 mod jobs;
 mod limits;
-mod lists;
+mod listing;
 mod mistakes;
 mod nearest;
 mod options;
 mod texts;
 
-pub use characters::codes_descend;
+pub use listing::characters::codes_descend;
 pub use coordinates::read_coordinates;
-pub use files::{find_wrong, read_list};
+pub use listing::files::{find_wrong, read_list};
 pub use jobs::{ArgsError, Command, Glyphs, Job, PdfJob, Position, Topic, is_stream, read_words};
 pub use limits::RunLimits;
-pub use lists::{FileKind, GlyphList, descends};
+pub use listing::lists::{FileKind, GlyphList, descends};
 pub use mistakes::{Mistake, Wrong, find_mistake};
 pub use options::{Coding, OPTIONS, PdfChoice, Switches};
 pub use texts::{Advice, CODES_WANTED, ORDER_WANTED, PARTS_WANTED, Shown};

@@ -7,7 +7,7 @@ ghost use Rattle.subset_args.specs.Options.{switch_of, setting_of, kind_of, is_o
 ghost use Rattle.subset_args.specs.View.{source_view, chosen_view, parsed_view, free_view};
 
 use crate::limits::RunLimits;
-use crate::lists::FileKind;
+use crate::listing::lists::FileKind;
 use subsetter_words::{u8_of, u32_of};
 
 /// An option without a value.

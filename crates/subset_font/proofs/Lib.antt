@@ -1,7 +1,4 @@
-mod Directory
-mod Making
-mod Failing
+pub mod FacesLaws
+pub mod MakingLaws
+pub mod RefusalsLaws
 mod Steps
-mod Outcomes
-mod Limiting
-mod Sheets

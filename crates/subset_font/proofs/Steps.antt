@@ -4,12 +4,12 @@ use Rattle.std.specs.Prelude.{is_some}
 use Rattle.std.specs.Borrow.{Bor}
 use Rattle.std.specs.Str.{bytes_eq}
 use Rattle.subsetter_base.specs.Bytes.{number}
-use Rattle.subset_lines.specs.Names.{name_of}
-use Rattle.subset_font.specs.Named.{name_behind, before_next, names_behind}
+use Rattle.subset_lines.specs.Faces.Names.{name_of}
+use Rattle.subset_font.specs.Faces.Named.{name_behind, before_next, names_behind}
 use Rattle.subsetter_base.specs.declared.tag.Tag.{Tag}
-use Rattle.subsetter_variation.specs.Axes.{find_axis as first_axis}
-use Rattle.subsetter_variation.specs.declared.axes.Axis.{Axis}
-use Rattle.subset_font.specs.Axes.{find_axis}
+use Rattle.subsetter_variation.specs.Locations.Axes.{find_axis as first_axis}
+use Rattle.subsetter_variation.specs.declared.locations.axes.Axis.{Axis}
+use Rattle.subset_font.specs.Faces.Axes.{find_axis}
 use Rattle.subset_lines.specs.declared.notes.Note.{Note}
 use Rattle.subset_font.specs.Notes.{note_of, if_noted, notes_of}
 

@@ -12,8 +12,8 @@ use Rattle.subset_args.specs.declared.jobs.Job.{Job}
 use Rattle.subset_args.specs.declared.jobs.Position.{Position}
 use Rattle.subset_args.specs.declared.jobs.Position.TheVariants.{Coordinates, Named}
 use Rattle.subsetter_base.specs.declared.tag.Tag.{Tag}
-use Rattle.subset_args.specs.declared.lists.GlyphList.{GlyphList}
-use Rattle.subset_args.specs.declared.lists.GlyphList.TheVariants.{Every as EveryGlyph, These as TheseGlyphs, Characters as TheseCharacters, Text as OfText}
+use Rattle.subset_args.specs.declared.listing.lists.GlyphList.{GlyphList}
+use Rattle.subset_args.specs.declared.listing.lists.GlyphList.TheVariants.{Every as EveryGlyph, These as TheseGlyphs, Characters as TheseCharacters, Text as OfText}
 use Rattle.subset_font.specs.declared.task.RequestedGlyphs.{RequestedGlyphs}
 use Rattle.subset_font.specs.declared.task.RequestedGlyphs.TheVariants.{These, Every, ByText, ByCharacters}
 use Rattle.subset_font.specs.declared.task.Plan.{Plan}

@@ -7,8 +7,8 @@ use Rattle.std.specs.declared.io.ErrorKind.TheVariants.{OutOfMemory}
 use Rattle.subset_args.specs.declared.jobs.Glyphs.{Glyphs}
 use Rattle.subset_args.specs.declared.jobs.Glyphs.TheVariants.{Listed, Characters, InFile, ByText, Every}
 use Rattle.subset_args.specs.declared.jobs.Job.{Job}
-use Rattle.subset_font.specs.declared.failure.Failure.{Failure}
-use Rattle.subset_font.specs.declared.failure.Failure.TheVariants.{Error, NoMapping, NoInstance, NotPermitted, Usage, List as WrongList, Read, ReadList, Write, WritePdf, Output}
+use Rattle.subset_font.specs.declared.refusals.failure.Failure.{Failure}
+use Rattle.subset_font.specs.declared.refusals.failure.Failure.TheVariants.{Error, NoMapping, NoInstance, NotPermitted, Usage, List as WrongList, Read, ReadList, Write, WritePdf, Output}
 
 -- the name of the PDF's file
 abbrev pub pdf_name : Job → Option (List ℕ)

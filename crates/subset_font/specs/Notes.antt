@@ -1,10 +1,10 @@
 -- What is noted of coordinates that a font doesn't have.
 use Rattle.std.specs.Prelude.{ℤ, int_lt, if◌then◌else◌, List, [], ◌∷◌, ◌++◌, Option, Some, None}
 use Rattle.subsetter_base.specs.declared.tag.Tag.{Tag}
-use Rattle.subsetter_variation.specs.declared.axes.Axis.{Axis}
+use Rattle.subsetter_variation.specs.declared.locations.axes.Axis.{Axis}
 use Rattle.subset_lines.specs.declared.notes.Note.{Note}
 use Rattle.subset_lines.specs.declared.notes.Note.TheVariants.{NoAxis, Clamped}
-use Rattle.subset_font.specs.Axes.{find_axis}
+use Rattle.subset_font.specs.Faces.Axes.{find_axis}
 
 -- the ends of an axis: its default is no less than the one and no greater than the other
 abbrev pub least : Axis → ℤ

@@ -8,41 +8,28 @@
 //! of which it is proved what is written.
 #![tactic(auto)]
 
-mod requested;
-mod axes;
-mod broken;
-mod carried;
-mod face;
-mod failure;
+mod faces;
 mod help;
-mod hint;
-mod info;
-mod limit_hint;
-mod missing;
-mod named;
+mod making;
 mod notes;
-mod outcome;
 mod output;
-mod reason;
+mod refusals;
 mod run;
-mod sheet;
 mod streams;
-mod subset;
-mod tables;
 mod task;
 
-pub use requested::{Picked, pick};
-pub use axes::{axes_there, carry_axes};
-pub use carried::carry_out;
-pub use failure::{Failure, Report, status_of_run};
+pub use making::requested::{Picked, pick};
+pub use faces::axes::{axes_there, carry_axes};
+pub use making::carried::carry_out;
+pub use refusals::failure::{Failure, Report, status_of_run};
 pub use help::{HELP, VERSION_LINE};
-pub use hint::{Hint, find_axes_hint, find_hint};
-pub use info::{InfoParts, carry_info};
+pub use refusals::hint::{Hint, find_axes_hint, find_hint};
+pub use faces::info::{InfoParts, carry_info};
 pub use notes::notes_of;
-pub use outcome::{Outcome, make_planned};
+pub use making::outcome::{Outcome, make_planned};
 pub use output::emit;
-pub use subset::{Made, make_of};
-pub use tables::{table_sizes, tables_of};
+pub use making::subset::{Made, make_of};
+pub use faces::tables::{table_sizes, tables_of};
 pub use task::{Form, Plan, RequestedGlyphs, Task};
 
 #[cfg(test)]

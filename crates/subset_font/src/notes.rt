@@ -3,14 +3,14 @@
 ghost use Rattle.std.specs.Prelude.{◌≡◌, ◌++◌, OnOk, IfOk};
 ghost use Rattle.std.specs.Option.{option_copied};
 ghost use Rattle.subsetter_sfnt.specs.Extras.{all_extras};
-ghost use Rattle.subset_font.specs.Axes.{axes_known};
+ghost use Rattle.subset_font.specs.Faces.Axes.{axes_known};
 ghost use Rattle.subset_font.specs.Notes.{least, greatest, clamped, note_of, if_noted, notes_of, notes_for};
 
-use crate::axes::axes_there;
+use crate::faces::axes::axes_there;
 use std::alloc::{AllocError, Global};
 use subset_lines::Note;
 use subsetter::{Error, Tag};
-use subsetter_variation::axes::{Axis, find_axis};
+use subsetter_variation::locations::axes::{Axis, find_axis};
 
 /// The least coordinate of an axis, which is its default where that is less.
 fn least(axis: &Axis) -> i32

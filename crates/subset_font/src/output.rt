@@ -2,12 +2,12 @@
 
 ghost use Rattle.std.specs.Prelude.{◌≡◌, ◌⊎◌, OnOk, IfErr, IsErrOf};
 ghost use Rattle.std.specs.Io.KnownBytes.{Appends};
-ghost use Rattle.subset_font.specs.Sheet.{page_of};
+ghost use Rattle.subset_font.specs.Making.Sheet.{page_of};
 ghost use Rattle.subset_font.specs.Report.{report_of};
-ghost use Rattle.subset_font.specs.declared.failure.Failure.TheVariants.{Write as CannotWrite, WritePdf as CannotWritePdf, Output};
+ghost use Rattle.subset_font.specs.declared.refusals.failure.Failure.TheVariants.{Write as CannotWrite, WritePdf as CannotWritePdf, Output};
 
-use crate::failure::Failure;
-use crate::outcome::Outcome;
+use crate::refusals::failure::Failure;
+use crate::making::outcome::Outcome;
 use crate::task::Form;
 use std::io::Write;
 use subset_lines::{Numbering, write_json, write_lines};

@@ -6,9 +6,9 @@ use Rattle.std.specs.Option.{ok_or, option_map}
 use Rattle.subsetter_base.specs.Bytes.{range}
 use Rattle.subsetter_base.specs.declared.error.Error.{Error}
 use Rattle.subsetter_base.proofs.Results.{with_front}
-use Rattle.subset_lines.specs.Axes.{records_at}
-use Rattle.subset_lines.specs.Names.{is_name, first_name}
-use Rattle.subset_lines.specs.declared.names.Kind.{Kind}
+use Rattle.subset_lines.specs.Faces.Axes.{records_at}
+use Rattle.subset_lines.specs.Faces.Names.{is_name, first_name}
+use Rattle.subset_lines.specs.declared.faces.names.Kind.{Kind}
 
 -- a member that is read moves to the front
 front_more : (front : List (List ℕ)) (x : List ℕ) (o : Option (List (List ℕ))) (e : Error) → with_front front (ok_or (option_map (λ xs. x ∷ xs) o) e) ≡ with_front (front ++ x ∷ []) (ok_or o e)

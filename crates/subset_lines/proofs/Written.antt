@@ -2,7 +2,7 @@
 use Rattle.std.proofs.Common.{◌≡◌, ℕ, List, [], ◌++◌, refl, sym, ap, ◌∙◌, append_assoc, append-nil, Result, Ok, Err, Bool}
 use Rattle.std.specs.Prelude.{⊤, Option, Some, None, OnOk, IfOk}
 use Rattle.std.specs.Io.KnownBytes.{Appends}
-use Rattle.subset_lines.specs.Info.{word_if}
+use Rattle.subset_lines.specs.Faces.Info.{word_if}
 
 -- with the rest, the writer will have gained all
 abbrev pub Reaches : Option (List ℕ) → Option (List ℕ) → List ℕ → List ℕ → Type 0

@@ -1,15 +1,8 @@
 pub mod Text
 pub mod Lines
-pub mod Json
+pub mod Objects
 pub mod View
 pub mod Fixed
-pub mod Names
-pub mod Axes
-pub mod Quoted
-pub mod Pdf
+pub mod Faces
 pub mod Notes
 pub mod Missing
-pub mod Sizes
-pub mod Info
-pub mod AxesJson
-pub mod Members

@@ -1,11 +1,11 @@
 -- What is noted of coordinates and of characters that a font doesn't have.
 use Rattle.std.specs.Prelude.{ℕ, ℤ, List, [], ◌∷◌, ◌++◌, map, codes}
 use Rattle.subsetter_base.specs.declared.tag.Tag.{Tag}
-use Rattle.subsetter_variation.specs.declared.axes.Axis.{Axis}
-use Rattle.subset_lines.specs.Axes.{shown}
+use Rattle.subsetter_variation.specs.declared.locations.axes.Axis.{Axis}
+use Rattle.subset_lines.specs.Faces.Axes.{shown}
 use Rattle.subset_lines.specs.Fixed.{fixed_text}
 use Rattle.subset_lines.specs.Missing.{missing_line, missing_string}
-use Rattle.subset_lines.specs.Quoted.{quoted}
+use Rattle.subset_lines.specs.Objects.Quoted.{quoted}
 use Rattle.subset_lines.specs.declared.notes.Note.{Note}
 use Rattle.subset_lines.specs.declared.notes.Note.TheVariants.{NoAxis, Clamped}
 

@@ -9,29 +9,22 @@
 //! ```
 #![tactic(auto)]
 
-mod axes;
-mod axes_json;
 mod entry;
+mod faces;
 mod fixed;
-mod info;
-mod json;
-mod members;
 mod missing;
-mod names;
 mod notes;
-mod pdf;
+mod objects;
 mod plain;
-mod quoted;
-mod sizes;
 mod text;
 
-pub use axes::{FontAxes, name_of, read_axes, write_axes};
-pub use axes_json::{text_of_name, write_axes_json};
+pub use faces::axes::{FontAxes, name_of, read_axes, write_axes};
+pub use objects::axes_json::{text_of_name, write_axes_json};
 pub use entry::{Numbering, Unwritten, take_first};
-pub use info::{Info, Outlines, write_info, write_info_json};
-pub use json::{json_numbers, write_json};
-pub use members::json_members;
+pub use faces::info::{Info, Outlines, write_info, write_info_json};
+pub use objects::json::{json_numbers, write_json};
+pub use objects::members::json_members;
 pub use notes::{Note, note_lines};
-pub use pdf::json_pdf;
+pub use objects::pdf::json_pdf;
 pub use plain::write_lines;
-pub use sizes::{TableSize, size_lines};
+pub use faces::sizes::{TableSize, size_lines};

@@ -5,7 +5,7 @@ ghost use Rattle.std.specs.Io.KnownBytes.{Appends};
 ghost use Rattle.subset_lines.specs.Missing.{character_text, names_text, others_text, named_text, missing_text, missing_line, missing_string};
 
 use crate::entry::Unwritten;
-use crate::quoted::write_quoted;
+use crate::objects::quoted::write_quoted;
 use crate::text::write_text;
 use std::alloc::Global;
 use std::io::Write;

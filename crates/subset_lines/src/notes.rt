@@ -2,21 +2,21 @@
 
 ghost use Rattle.std.specs.Prelude.{◌≡◌, ◌++◌, [], OnOk, IfOk, codes, map};
 ghost use Rattle.std.specs.Io.KnownBytes.{Appends};
-ghost use Rattle.subset_lines.specs.Axes.{shown};
+ghost use Rattle.subset_lines.specs.Faces.Axes.{shown};
 ghost use Rattle.subset_lines.specs.Fixed.{fixed_text};
 ghost use Rattle.subset_lines.specs.Notes.{no_axis_text, setting_text, clamped_text, note_text, range_text, ranges_text, axes_note, note_lines, notes_text, all_text, note_strings, coordinate_strings, comma_behind, all_strings, notes_array};
-ghost use Rattle.subset_lines.specs.Quoted.{quoted};
+ghost use Rattle.subset_lines.specs.Objects.Quoted.{quoted};
 
-use crate::axes::write_tag;
+use crate::faces::axes::write_tag;
 use crate::entry::Unwritten;
 use crate::fixed::write_labelled;
 use crate::missing::{write_missing_line, write_missing_string};
-use crate::quoted::write_quoted;
+use crate::objects::quoted::write_quoted;
 use crate::text::write_text;
 use std::alloc::Global;
 use std::io::Write;
 use subsetter_base::Tag;
-use subsetter_variation::axes::Axis;
+use subsetter_variation::locations::axes::Axis;
 
 /// What is noted of a coordinate.
 #[derive(Clone, Copy, PartialEq, Eq, Debug)]

@@ -6,7 +6,7 @@ use Rattle.subset_args.specs.declared.options.PdfChoice.{PdfChoice}
 use Rattle.subsetter_type2.specs.declared.limits.Limits.{Limits}
 use Rattle.pdf_codes.specs.declared.codes.Codes.{Codes}
 use Rattle.pdf_codes.specs.declared.codes.Codes.TheVariants.{Consecutive as InOrder, Source as AsInSource, EachText}
-use Rattle.pdf_values.specs.declared.bounds.Bounds.TheVariants.{Font}
+use Rattle.pdf_values.specs.declared.looks.bounds.Bounds.TheVariants.{Font}
 use Rattle.pdf_values.specs.declared.permission.Rights.{Rights}
 use Rattle.pdf_values.specs.declared.permission.Rights.TheVariants.{AsSaid, Held}
 use Rattle.pdf_source.specs.declared.choice.ProgramChoice.TheVariants.{Smallest}

@@ -1,10 +1,5 @@
-pub mod HeadLaws
+pub mod CommonLaws
 pub mod GlyfLaws
-pub mod HmtxLaws
-pub mod NameLaws
-pub mod PostLaws
-pub mod MaxpLaws
-pub mod SharedLaws
 pub mod TruetypeLaws
 pub mod CffLaws
 pub mod Headline

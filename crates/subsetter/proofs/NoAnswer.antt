@@ -9,14 +9,14 @@ use Rattle.subsetter.specs.Answer.{HasNoAnswer}
 use Rattle.subsetter.specs.Bound.{HasNoAnswerWithin}
 use Rattle.subsetter.specs.Fault as faults
 use Rattle.subsetter.specs.Fault.{HasFault}
-use Rattle.subsetter.specs.Glyf.Closure.{Finds}
+use Rattle.subsetter.specs.Glyf.Reaching.Closure.{Finds}
 use Rattle.subsetter.specs.Glyf.Read.{Outlines, outlines}
 use Rattle.subsetter_sfnt.specs.Fault.{HasOpeningFault}
 use Rattle.subsetter_sfnt.specs.Read.{Font, table, flavor}
 use Rattle.subsetter.specs.Truetype.Answered.{IsRefused, no_memory, unread, unclosed, unmade, unlaid, past}
 use Rattle.subsetter.proofs.CffLaws.Order.{no_glyf, no_outlines}
 use Rattle.subsetter.proofs.GlyfLaws.Fault.{tables_refused, closure_refused, order_in}
-use Rattle.subsetter.proofs.GlyfLaws.Found.{same_found}
+use Rattle.subsetter.proofs.GlyfLaws.ReachingLaws.Found.{same_found}
 use Rattle.subsetter.proofs.TruetypeLaws.Bound.{is_beyond, none_within}
 use Rattle.subsetter.proofs.TruetypeLaws.Fault.{tables_not_made, not_laid_out}
 use Rattle.subsetter.proofs.TwoLimits.{only_given}

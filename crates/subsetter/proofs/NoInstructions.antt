@@ -10,13 +10,13 @@ use Rattle.subsetter_sfnt.specs.declared.flavor.FontFlavor.{FontFlavor}
 use Rattle.subsetter_sfnt.specs.declared.flavor.FontFlavor.TheVariants.{TrueType, Cff}
 use Rattle.subsetter_sfnt.specs.Extras.{by_hinting, by_names, by_glyph_names}
 use Rattle.subsetter_sfnt.specs.Read.{Font, as_font, table, flavor}
-use Rattle.subsetter_sfnt.specs.Written.{Table, fits, file, start_of, kind_word}
-use Rattle.subsetter.specs.Glyf.Bare.{bare, requested_parts}
-use Rattle.subsetter.specs.Glyf.Instructions.{AreBare, IsBare, HasNoInstructions}
+use Rattle.subsetter_sfnt.specs.Laying.Written.{Table, fits, file, start_of, kind_word}
+use Rattle.subsetter.specs.Glyf.BareOutlines.Bare.{bare, requested_parts}
+use Rattle.subsetter.specs.Glyf.BareOutlines.Instructions.{AreBare, IsBare, HasNoInstructions}
 use Rattle.subsetter.specs.Glyf.Parts.{Parts, outline_parts, parts_bytes}
 use Rattle.subsetter.specs.Glyf.Plain.{renumbered}
 use Rattle.subsetter.specs.Glyf.Read.{Outlines, outlines, outline, entry_size}
-use Rattle.subsetter.specs.Glyf.Unfold.{padded}
+use Rattle.subsetter.specs.Glyf.Reaching.Unfold.{padded}
 use Rattle.subsetter.specs.Truetype.Plain.{Made, laid}
 use Rattle.subsetter.specs.Cff.Plain.{Made as CffMade, made_of, laid as cff_laid, cff_tables}
 use Rattle.subsetter.specs.Laid.{AreMade, of_outlines, of_charstrings}
@@ -26,9 +26,9 @@ use Rattle.subsetter.proofs.CffLaws.Steps.{MadeSteps as CffSteps, made_steps as 
 use Rattle.subsetter.proofs.CffLaws.Subset.{back as cff_back}
 use Rattle.subsetter.proofs.GlyfLaws.Back.{has_entry, read_back, entry_count}
 use Rattle.subsetter.proofs.GlyfLaws.Kept.{kept_at, length-kept_all}
-use Rattle.subsetter.proofs.GlyfLaws.NoInstructions.{written_bare}
-use Rattle.subsetter.proofs.GlyfLaws.Unfold.{can_write, padded_parts, parts_back, outline_is, outline_bytes, small_numbers}
-use Rattle.subsetter_sfnt.proofs.Laws.TableBytes.{table_bytes}
+use Rattle.subsetter.proofs.GlyfLaws.BareOutlinesLaws.NoInstructions.{written_bare}
+use Rattle.subsetter.proofs.GlyfLaws.ReachingLaws.Unfold.{can_write, padded_parts, parts_back, outline_is, outline_bytes, small_numbers}
+use Rattle.subsetter_sfnt.proofs.Laws.LayingLaws.TableBytes.{table_bytes}
 use Rattle.subsetter.proofs.TruetypeLaws.Steps.{MadeSteps, made_steps, tables_steps}
 use Rattle.subsetter.proofs.TruetypeLaws.Subset.{afresh, back, outlines_back, source, written}
 

@@ -8,14 +8,14 @@ use Rattle.subsetter_base.proofs.Options.{just_is, some_not_none}
 use Rattle.subsetter_base.proofs.Results.{done_is}
 use Rattle.subsetter_sfnt.specs.declared.flavor.FontFlavor.{FontFlavor}
 use Rattle.subsetter_sfnt.specs.Read.{Font, table}
-use Rattle.subsetter_sfnt.specs.Written.{Table, file, kind_word}
+use Rattle.subsetter_sfnt.specs.Laying.Written.{Table, file, kind_word}
 use Rattle.subsetter.specs.Glyf.Read.{Outlines, outlines, outline, outline_in}
-use Rattle.subsetter.specs.Glyf.Reach.{IsReachable, IsGlyphOrder, given, step}
+use Rattle.subsetter.specs.Glyf.Reaching.Reach.{IsReachable, IsGlyphOrder, given, step}
 use Rattle.subsetter.specs.Truetype.Plain.{truetype_tables}
 use Rattle.subsetter.specs.Cff.Plain.{cff_tables}
 use Rattle.subsetter.specs.Laid.{AreMade, of_outlines, of_charstrings}
 use Rattle.subsetter.specs.Answer.{IsAnswer}
-use Rattle.subsetter.proofs.GlyfLaws.Found.{same_found}
+use Rattle.subsetter.proofs.GlyfLaws.ReachingLaws.Found.{same_found}
 use Rattle.subsetter.proofs.CffLaws.TwoLimits.{same_tables}
 
 -- ---- the order

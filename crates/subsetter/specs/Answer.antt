@@ -2,7 +2,7 @@
 use Rattle.std.specs.Prelude.{◌≡◌, ℕ, List, [], Some}
 use Rattle.subsetter_base.specs.declared.error.Error.{Error}
 use Rattle.subsetter_sfnt.specs.Read.{Font}
-use Rattle.subsetter.specs.Glyf.Closure.{Finds}
+use Rattle.subsetter.specs.Glyf.Reaching.Closure.{Finds}
 use Rattle.subsetter.specs.Glyf.Read.{Outlines, outlines}
 use Rattle.subsetter.specs.Fault.{HasFault}
 use Rattle.subsetter.specs.Subset.{IsSubset}

@@ -2,21 +2,21 @@
 use Rattle.std.specs.Prelude.{◌≡◌, ◌≤◌, ◌^◌, ℕ, List, codes, length, false, Some, Ok}
 use Rattle.subsetter_base.specs.declared.error.Error.{Error}
 use Rattle.subsetter_base.specs.declared.error.Error.TheVariants.{OverflowError}
-use Rattle.subsetter_cff.specs.Write.CffFault.{HasCffFault}
+use Rattle.subsetter_cff.specs.Write.Refusals.CffFault.{HasCffFault}
 use Rattle.subsetter_sfnt.specs.declared.flavor.FontFlavor.{FontFlavor}
 use Rattle.subsetter_sfnt.specs.declared.flavor.FontFlavor.TheVariants.{Cff}
 use Rattle.subsetter_sfnt.specs.Read.{Font, flavor, table}
 use Rattle.subsetter.specs.Glyf.Read.{Outlines, outlines}
-use Rattle.subsetter.specs.Post.Fault.{HasGlyphNameFault}
-use Rattle.subsetter_sfnt.specs.Written.{Table, fits, start_of}
-use Rattle.subsetter.specs.Maxp.Read.{HasMaxProfileFault}
-use Rattle.subsetter.specs.Hmtx.Read.{HasMetricsFault}
-use Rattle.subsetter.specs.Name.Fault.{HasNameFault}
+use Rattle.subsetter.specs.Common.Post.Fault.{HasGlyphNameFault}
+use Rattle.subsetter_sfnt.specs.Laying.Written.{Table, fits, start_of}
+use Rattle.subsetter.specs.Common.Maxp.Read.{HasMaxProfileFault}
+use Rattle.subsetter.specs.Common.Hmtx.Read.{HasMetricsFault}
+use Rattle.subsetter.specs.Common.Name.Fault.{HasNameFault}
 use Rattle.subsetter_sfnt.specs.Fault.{HasOpeningFault}
 use Rattle.subsetter.specs.Glyf.Fault.{HasOutlineFault}
 use Rattle.subsetter.specs.Laid.{AreMade}
 use Rattle.subsetter.specs.Glyf.Plain.{kept_all}
-use Rattle.subsetter.specs.Glyf.Reach.{IsReachable, IsGlyphOrder}
+use Rattle.subsetter.specs.Glyf.Reaching.Reach.{IsReachable, IsGlyphOrder}
 use Rattle.subsetter.specs.Glyf.Written.{is_long, glyf_bytes}
 
 -- a fault stands in a font, for a list of glyphs; the size limits are judged for an order of the new font's glyphs, and charstrings are run within two limits

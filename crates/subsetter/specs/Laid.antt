@@ -3,7 +3,7 @@ use Rattle.std.specs.Prelude.{◌≡◌, ℕ, List, codes, true, Some, Ok}
 use Rattle.subsetter_sfnt.specs.declared.flavor.FontFlavor.{FontFlavor}
 use Rattle.subsetter_sfnt.specs.declared.flavor.FontFlavor.TheVariants.{TrueType, Cff}
 use Rattle.subsetter_sfnt.specs.Read.{Font, table, flavor}
-use Rattle.subsetter_sfnt.specs.Written.{Table, file, fits, start_of, kind_word}
+use Rattle.subsetter_sfnt.specs.Laying.Written.{Table, file, fits, start_of, kind_word}
 use Rattle.subsetter.specs.Glyf.Read.{Outlines, outlines}
 use Rattle.subsetter.specs.Truetype.Plain.{truetype_tables}
 use Rattle.subsetter.specs.Cff.Plain.{cff_tables}

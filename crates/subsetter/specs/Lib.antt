@@ -1,11 +1,6 @@
 pub mod TableView
 pub mod Glyf
-pub mod Head
-pub mod Hmtx
-pub mod Maxp
-pub mod Name
-pub mod Post
-pub mod Shared
+pub mod Common
 pub mod Truetype
 pub mod Cff
 pub mod Laid

@@ -4,14 +4,14 @@ use Rattle.subsetter_sfnt.specs.declared.flavor.FontFlavor.{FontFlavor}
 use Rattle.subsetter_sfnt.specs.declared.flavor.FontFlavor.TheVariants.{TrueType, Cff}
 use Rattle.subsetter_sfnt.specs.Read.{Font, as_font, table, flavor}
 use Rattle.subsetter_sfnt.specs.Container.{IsSoundContainer}
-use Rattle.subsetter_sfnt.specs.Rows.{tags_of}
-use Rattle.subsetter_sfnt.specs.Written.{kind_word}
-use Rattle.subsetter.specs.Glyf.Reach.{IsGlyphOrder}
-use Rattle.subsetter.specs.Head.Read.{KeepsHead}
-use Rattle.subsetter.specs.Hmtx.Read.{KeepsMetrics}
-use Rattle.subsetter.specs.Maxp.Read.{IsMaxProfile}
-use Rattle.subsetter.specs.Name.Read.{KeepsNames}
-use Rattle.subsetter.specs.Post.Read.{KeepsGlyphNames}
+use Rattle.subsetter_sfnt.specs.Laying.Rows.{tags_of}
+use Rattle.subsetter_sfnt.specs.Laying.Written.{kind_word}
+use Rattle.subsetter.specs.Glyf.Reaching.Reach.{IsGlyphOrder}
+use Rattle.subsetter.specs.Common.Head.Read.{KeepsHead}
+use Rattle.subsetter.specs.Common.Hmtx.Read.{KeepsMetrics}
+use Rattle.subsetter.specs.Common.Maxp.Read.{IsMaxProfile}
+use Rattle.subsetter.specs.Common.Name.Read.{KeepsNames}
+use Rattle.subsetter.specs.Common.Post.Read.{KeepsGlyphNames}
 use Rattle.subsetter.specs.Truetype.Read.{KeepsOutlines}
 use Rattle.subsetter.specs.Cff.Read.{KeepsCharStrings}
 use Rattle.subsetter.specs.Laid.{IsLaidOut}

@@ -1,13 +1,13 @@
 -- What the code's tables of a new font stand for.
 use Rattle.std.specs.Prelude.{ℕ, List}
-use Rattle.subsetter_cff.specs.Write.TableBy.{table_bytes as piece_bytes}
+use Rattle.subsetter_cff.specs.Write.Laying.TableBy.{table_bytes as piece_bytes}
 use Rattle.subsetter.specs.declared.tables.TableData.{TableData}
 use Rattle.subsetter.specs.declared.tables.TableData.TheVariants.{Whole, Outlines, Pieces, Head, Hhea, Hmtx, Maxp, Names}
-use Rattle.subsetter_sfnt.specs.declared.tables.NewTable.{NewTable}
-use Rattle.subsetter_sfnt.specs.declared.tables.FontTables.{FontTables as NewFont}
+use Rattle.subsetter_sfnt.specs.declared.laying.tables.NewTable.{NewTable}
+use Rattle.subsetter_sfnt.specs.declared.laying.tables.FontTables.{FontTables as NewFont}
 use Rattle.subsetter_sfnt.specs.View.{view as view_by, views as views_by, font_seen as font_seen_by}
-use Rattle.subsetter_sfnt.specs.Written.{Table}
-use Rattle.subsetter_sfnt.specs.Rows.{FontTables}
+use Rattle.subsetter_sfnt.specs.Laying.Written.{Table}
+use Rattle.subsetter_sfnt.specs.Laying.Rows.{FontTables}
 use Rattle.subsetter.specs.Glyf.Written.{glyf_bytes}
 
 -- the bytes of a table, which is whole, a list of outlines, two pieces, or what a module writes

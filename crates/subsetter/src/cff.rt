@@ -10,14 +10,14 @@ ghost use Rattle.subsetter.specs.TableView.{font_seen};
 ghost use Rattle.subsetter.specs.Cff.Plain.{made_of, font_of};
 ghost use Rattle.subsetter.specs.Cff.View.{made_seen};
 
-use crate::shared::{self, SharedTables};
+use crate::common::shared::{self, SharedTables};
 use crate::tables::TableData;
 use std::alloc::Global;
 use subsetter_base::{Error, GlyphRemapper};
 use subsetter_cff::CffPieces;
 use subsetter_sfnt::face::Face;
 use subsetter_sfnt::flavor::FontFlavor;
-use subsetter_sfnt::tables::FontTables;
+use subsetter_sfnt::laying::tables::FontTables;
 use subsetter_type2::limits::Limits;
 
 /// What is made for the new font.

@@ -18,13 +18,13 @@ ghost use Rattle.std.specs.Prelude.{◌≡◌, ◌+◌, ◌<◌, ◌≤◌, ◌^
 ghost use Rattle.std.specs.Option.{option_copied};
 ghost use Rattle.subsetter_base.specs.Gives.{Gives, Fails};
 ghost use Rattle.subsetter_base.specs.Indexes.{IsWithoutRepeats};
-ghost use Rattle.subsetter.specs.Glyf.Closure.{first_byte_in, AreFound, EndsWith, IsTaken, components_in, others_in, LacksParts, IsFaulty, IsFull, IsVisited, StopsClosure, Finds};
+ghost use Rattle.subsetter.specs.Glyf.Reaching.Closure.{first_byte_in, AreFound, EndsWith, IsTaken, components_in, others_in, LacksParts, IsFaulty, IsFull, IsVisited, StopsClosure, Finds};
 ghost use Rattle.subsetter_sfnt.specs.FontAt.{tables_of};
 ghost use Rattle.subsetter.specs.Glyf.Read.{offset, outline_in};
 ghost use Rattle.subsetter.specs.Glyf.View.{seen};
 ghost use Rattle.subsetter.specs.Glyf.Plain.{outlines_read, kept_outlines, with_outlines};
-ghost use Rattle.subsetter.specs.Glyf.Reach.{IsGlyphOrderBy};
-ghost use Rattle.subsetter.specs.Glyf.Size.{requested_size, requested_sizes};
+ghost use Rattle.subsetter.specs.Glyf.Reaching.Reach.{IsGlyphOrderBy};
+ghost use Rattle.subsetter.specs.Glyf.BareOutlines.Size.{requested_size, requested_sizes};
 ghost use Rattle.subsetter_base.specs.declared.error.Error.TheVariants.{OutOfMemory, MalformedFont, OverflowError};
 
 mod component;

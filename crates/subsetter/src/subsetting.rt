@@ -9,7 +9,7 @@ ghost use Rattle.subsetter.specs.Cff.Plain.{cff_file};
 ghost use Rattle.subsetter_sfnt.specs.Read.{as_font};
 ghost use Rattle.subsetter_sfnt.specs.Extras.{all_extras};
 ghost use Rattle.subsetter_sfnt.specs.FontAt.{font_at, tables_of};
-ghost use Rattle.subsetter.specs.Glyf.Instructions.{HasNoInstructions};
+ghost use Rattle.subsetter.specs.Glyf.BareOutlines.Instructions.{HasNoInstructions};
 ghost use Rattle.subsetter.specs.Truetype.Answered.{IsAnswered, IsRefused};
 ghost use Rattle.subsetter.specs.Fault.{HasFault};
 ghost use Rattle.subsetter_sfnt.specs.Fault.{HasOpeningFault};
@@ -24,12 +24,12 @@ use crate::glyf::{self, GlyfTables, GlyphClosure};
 use crate::truetype::{self, TrueTypeTables};
 use std::alloc::Global;
 use subsetter_base::{Error, GlyphRemapper, Tag};
-use subsetter_sfnt::construct::finish;
+use subsetter_sfnt::laying::construct::finish;
 use subsetter_sfnt::extras::Extras;
 use subsetter_sfnt::face::Face;
 use subsetter_sfnt::flavor::{FontFlavor, flavor};
 use subsetter_sfnt::parse::parse;
-use subsetter_sfnt::tables::in_order;
+use subsetter_sfnt::laying::tables::in_order;
 use subsetter_type2::limits::Limits;
 
 /// A subset of a TrueType font that has at most so many bytes.

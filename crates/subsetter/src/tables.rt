@@ -5,19 +5,19 @@
 
 ghost use Rattle.std.specs.Prelude.{◌≡◌, ◌+◌, ◌<◌, ◌≤◌, ◌^◌, ◌++◌, length, vec_capacity, IfOk, IfErr};
 ghost use Rattle.std.specs.Option.{option_copied, option_map};
-ghost use Rattle.subsetter_sfnt.specs.Checksum.{checksum};
+ghost use Rattle.subsetter_sfnt.specs.Laying.Checksum.{checksum};
 ghost use Rattle.subsetter.specs.TableView.{table_bytes};
 ghost use Rattle.subsetter_base.specs.declared.error.Error.TheVariants.{OutOfMemory};
 
 use crate::glyf::outlines::{OutlineList, outlines_len, write_outlines};
-use crate::head::NewHead;
-use crate::hmtx::NewMetrics;
-use crate::maxp::NewMaxp;
-use crate::name::NewNames;
+use crate::common::head::NewHead;
+use crate::common::hmtx::NewMetrics;
+use crate::common::maxp::NewMaxp;
+use crate::common::name::NewNames;
 use subsetter_cff::CffPieces;
-use subsetter_sfnt::checksum::checksum;
-use subsetter_sfnt::room::put;
-use subsetter_sfnt::tables::TableBytes;
+use subsetter_sfnt::laying::checksum::checksum;
+use subsetter_sfnt::laying::room::put;
+use subsetter_sfnt::laying::tables::TableBytes;
 
 /// The bytes of a table, or what they are written from.
 #[derive(Clone, Copy)]

@@ -9,7 +9,7 @@ ghost use Rattle.subsetter_base.specs.declared.error.Error.TheVariants.{Overflow
 ghost use Rattle.subsetter_base.specs.Gives.{Gives};
 ghost use Rattle.subsetter_sfnt.specs.FontAt.{tables_of};
 ghost use Rattle.subsetter.specs.TableView.{font_seen};
-ghost use Rattle.subsetter.specs.Glyf.Closure.{AreFound};
+ghost use Rattle.subsetter.specs.Glyf.Reaching.Closure.{AreFound};
 ghost use Rattle.subsetter.specs.Glyf.View.{seen};
 ghost use Rattle.subsetter.specs.Glyf.Written.{is_long, glyf_bytes};
 ghost use Rattle.subsetter.specs.Truetype.Plain.{located, made_of, font_of};
@@ -18,13 +18,13 @@ ghost use Rattle.subsetter.specs.Truetype.View.{made_seen};
 use crate::glyf::outlines::{OutlineList, outlines_len};
 use crate::glyf::{self, GlyfTables};
 use crate::loca;
-use crate::shared::{self, SharedTables};
+use crate::common::shared::{self, SharedTables};
 use crate::tables::{TableData, borrowed};
 use std::alloc::Global;
 use subsetter_base::{Error, GlyphRemapper, Tag};
 use subsetter_sfnt::face::Face;
 use subsetter_sfnt::flavor::FontFlavor;
-use subsetter_sfnt::tables::FontTables;
+use subsetter_sfnt::laying::tables::FontTables;
 
 /// What is made for the new font; its programs are the source's.
 #[derive(Drop)]

@@ -6,14 +6,14 @@ use Rattle.std.proofs.lemmas.List.{append-nil}
 use Rattle.subsetter_base.specs.Bytes.{be, range, number, aligned, between_offsets}
 use Rattle.subsetter_sfnt.specs.Read.{Font}
 use Rattle.subsetter.specs.Glyf.Read.{Outlines, outlines, outline, outline_in, offset, entry_size}
-use Rattle.subsetter.specs.Glyf.Bare.{glyph_parts}
+use Rattle.subsetter.specs.Glyf.BareOutlines.Bare.{glyph_parts}
 use Rattle.subsetter.specs.Glyf.Parts.{Parts, outline_parts}
 use Rattle.subsetter.specs.Truetype.Read.{HasGlyphCount}
-use Rattle.subsetter.specs.Glyf.Unfold.{padded}
+use Rattle.subsetter.specs.Glyf.Reaching.Unfold.{padded}
 use Rattle.subsetter_base.proofs.Options.{just_is, bind_some}
 use Rattle.subsetter.proofs.GlyfLaws.Back.{length-even, has_entry}
 use Rattle.subsetter.proofs.GlyfLaws.Kept.{some_before}
-use Rattle.subsetter.proofs.GlyfLaws.Unfold.{outline_is}
+use Rattle.subsetter.proofs.GlyfLaws.ReachingLaws.Unfold.{outline_is}
 
 -- what is found twice is one
 pub one_found : {A : Type 0} (o : Option A) (x y : A) → o ≡ Some x → o ≡ Some y → x ≡ y

@@ -5,10 +5,10 @@ use Rattle.subsetter_sfnt.specs.declared.flavor.FontFlavor.{FontFlavor}
 use Rattle.subsetter_sfnt.specs.declared.flavor.FontFlavor.TheVariants.{TrueType, Cff}
 use Rattle.subsetter_sfnt.specs.Container.{IsSoundContainer}
 use Rattle.subsetter_sfnt.specs.Read.{Font, as_font, table, flavor}
-use Rattle.subsetter_sfnt.specs.Rows.{tags_of}
-use Rattle.subsetter_sfnt.specs.Written.{Table, fits, file, start_of, kind_word}
+use Rattle.subsetter_sfnt.specs.Laying.Rows.{tags_of}
+use Rattle.subsetter_sfnt.specs.Laying.Written.{Table, fits, file, start_of, kind_word}
 use Rattle.subsetter.specs.Glyf.Read.{Outlines, outlines}
-use Rattle.subsetter.specs.Glyf.Reach.{IsGlyphOrder}
+use Rattle.subsetter.specs.Glyf.Reaching.Reach.{IsGlyphOrder}
 use Rattle.subsetter.specs.Truetype.Plain.{truetype_tables}
 use Rattle.subsetter.specs.Truetype.Read.{KeepsOutlines}
 use Rattle.subsetter.specs.Cff.Plain.{cff_tables}

@@ -12,11 +12,11 @@ use Rattle.subsetter_again.specs.Again.{IsTrueTypeOrCidKeyed, KeepsFirst, IsSubs
 use Rattle.subsetter_again.specs.CidKeyed.{IsCidKeyed}
 use Rattle.subsetter_again.proofs.Basics.{one_found}
 use Rattle.subsetter_again.proofs.ByKind.{IsOutlineSubset, IsCharStringSubset, ByKind, with_outlines, with_charstrings, by_kind}
-use Rattle.subsetter_again.proofs.CidKeyed.{subset_keyed}
-use Rattle.subsetter_again.proofs.CharStringLaws.{charstring_flavor, charstrings_kept, charstrings_composed, charstrings_canonical, charstrings_same, charstrings_sound, unknown_charstring}
+use Rattle.subsetter_again.proofs.OutlinesLaws.CidKeyed.{subset_keyed}
+use Rattle.subsetter_again.proofs.OutlinesLaws.CharStringLaws.{charstring_flavor, charstrings_kept, charstrings_composed, charstrings_canonical, charstrings_same, charstrings_sound, unknown_charstring}
 use Rattle.subsetter_again.proofs.Less.{flavor_less}
-use Rattle.subsetter_again.proofs.Truetype.{outline_flavor, outlines_composed, outlines_canonical, outlines_sound}
-use Rattle.subsetter_again.proofs.Unknown.{unknown_outline}
+use Rattle.subsetter_again.proofs.OutlinesLaws.Truetype.{outline_flavor, outlines_composed, outlines_canonical, outlines_sound}
+use Rattle.subsetter_again.proofs.OutlinesLaws.Unknown.{unknown_outline}
 
 -- a font has outlines of one kind
 two_kinds : {A : Type 0} (font : Font) → flavor font ≡ Some TrueType → flavor font ≡ Some Cff → A

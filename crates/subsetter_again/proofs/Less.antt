@@ -14,9 +14,9 @@ use Rattle.subsetter_sfnt.specs.declared.flavor.FontFlavor.TheVariants.{TrueType
 use Rattle.subsetter_sfnt.specs.Extras.{without_glyph_names, by_hinting, by_names, by_glyph_names}
 use Rattle.subsetter_sfnt.specs.Read.{Font, kind_at, header_by_kind, header_offset, records_at, records, table_in, stored, table, flavor}
 use Rattle.subsetter.specs.Glyf.Read.{Outlines, outlines_in, outlines, outline_in}
-use Rattle.subsetter.specs.Glyf.Reach.{IsGlyphOrder, IsGlyphOrderBy}
-use Rattle.subsetter.specs.Name.Plain.{new_name, name_of}
-use Rattle.subsetter.specs.Post.Plain.{new_post, post_of}
+use Rattle.subsetter.specs.Glyf.Reaching.Reach.{IsGlyphOrder, IsGlyphOrderBy}
+use Rattle.subsetter.specs.Common.Name.Plain.{new_name, name_of}
+use Rattle.subsetter.specs.Common.Post.Plain.{new_post, post_of}
 use Rattle.subsetter_again.specs.Again.{requests_less}
 
 -- ---- tables

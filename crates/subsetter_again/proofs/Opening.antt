@@ -10,7 +10,7 @@ use Rattle.subsetter_sfnt.specs.declared.flavor.FontFlavor.TheVariants.{TrueType
 use Rattle.subsetter_sfnt.specs.Container.{IsSoundContainer}
 use Rattle.subsetter_sfnt.specs.Fault.{HasOpeningFault, no_kind, no_entry, entry_outside, no_face, nested, cut_directory, no_outlines, lone_cff2}
 use Rattle.subsetter_sfnt.specs.Read.{as_font, table, flavor, kind_of, kind_at, records, records_at, directory_records}
-use Rattle.subsetter_sfnt.specs.Written.{kind_word}
+use Rattle.subsetter_sfnt.specs.Laying.Written.{kind_word}
 
 is_single : (kind : FontFlavor) → kind_of (kind_word kind) ≡ Some Single
 is_single TrueType = refl

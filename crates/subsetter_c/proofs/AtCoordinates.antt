@@ -18,11 +18,11 @@ use Rattle.subsetter_variable.specs.DefaultLocation.{IsAtDefault, no_outlines}
 use Rattle.subsetter_variable.specs.Subset.{whole, IsAnswerAt, HasFaultAt, HasNoAnswerAt, IsTheAnswerAt, as_it_is, in_static}
 use Rattle.subsetter_variable.proofs.Static.{one_static}
 use Rattle.subsetter_variable.proofs.Unopened.{no_glyf, same_stored}
-use Rattle.subsetter_c.specs.Embedding.{lists_of}
+use Rattle.subsetter_c.specs.Answers.Embedding.{lists_of}
 use Rattle.subsetter_c.specs.Settings.{IsSoundSubsetAt, IsRefusalAt, in_numbering, in_subset, IsSoundEmbeddingAt, IsEmbeddingRefusalAt}
-use Rattle.subsetter_c.proofs.Bytes.{wanting, no_room, failed}
-use Rattle.subsetter_c.proofs.Lists.{same_members}
-use Rattle.subsetter_c.proofs.Made.{alike}
+use Rattle.subsetter_c.proofs.AnswersLaws.Bytes.{wanting, no_room, failed}
+use Rattle.subsetter_c.proofs.AnswersLaws.Lists.{same_members}
+use Rattle.subsetter_c.proofs.AnswersLaws.Made.{alike}
 
 module _ (bound : Option ℕ) (tokens depth : ℕ) (font : Font) (settings : List (Tag × ℤ)) (glyphs : List ℕ) where
   -- a font that can't be opened stands at its default

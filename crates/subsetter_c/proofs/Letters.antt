@@ -5,7 +5,7 @@ use Rattle.std.specs.Int.{w32, to_be_bytes}
 use Rattle.std.proofs.lemmas.List.Sums.{AllPass-from_list_all}
 use Rattle.pdf_text.specs.SubsetName.{IsTag, is_capital}
 use Rattle.pdf_source.specs.declared.tag.SubsetTag.{SubsetTag}
-use Rattle.subsetter_c.specs.PdfOptions.{AreLetters, IsTagOf, tag_letters}
+use Rattle.subsetter_c.specs.Documents.PdfOptions.{AreLetters, IsTagOf, tag_letters}
 
 -- the lower three bytes of two words
 abbrev pub six : List ℕ → List ℕ → List ℕ

@@ -1,10 +1,5 @@
 mod Asked
 mod AtCoordinates
-mod Bytes
+pub mod AnswersLaws
 mod Letters
-mod Lists
-mod Made
-mod PdfFonts
-mod PdfGlyphs
-mod PdfLaws
-mod PdfObjects
+pub mod DocumentsLaws

@@ -1,12 +1,5 @@
-pub mod Embedding
-pub mod Handed
-pub mod Made
+pub mod Answers
 pub mod Options
-pub mod PdfFonts
-pub mod PdfGlyphs
-pub mod PdfLaws
-pub mod PdfObjects
-pub mod PdfOptions
+pub mod Documents
 pub mod Settings
-pub mod Status
 pub mod Version

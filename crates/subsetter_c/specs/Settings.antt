@@ -13,10 +13,10 @@ use Rattle.subsetter_variable.specs.DefaultLocation.{IsAtDefault}
 use Rattle.subsetter_variable.specs.Subset.{whole, IsAnswerAt, HasFaultAt, HasNoAnswerAt, IsTheAnswerAt}
 use Rattle.cid_embed.specs.declared.embedding.Embedded.{Embedded}
 use Rattle.cid_embed_at.specs.Embed.{IsEmbeddingAnswerAt, HasEmbedFaultAt, HasNoEmbeddingAt}
-use Rattle.subsetter_c.specs.Embedding.{Buffers, lists_of, AreHandedOver}
-use Rattle.subsetter_c.specs.Handed.{IsHandedOver, IsWantOfMemory}
-use Rattle.subsetter_c.specs.Made.{IsMade, IsFontMade}
-use Rattle.subsetter_c.specs.declared.handing.Sizes.{Sizes}
+use Rattle.subsetter_c.specs.Answers.Embedding.{Buffers, lists_of, AreHandedOver}
+use Rattle.subsetter_c.specs.Answers.Handed.{IsHandedOver, IsWantOfMemory}
+use Rattle.subsetter_c.specs.Answers.Made.{IsMade, IsFontMade}
+use Rattle.subsetter_c.specs.declared.answers.handing.Sizes.{Sizes}
 use Rattle.subsetter_c.specs.declared.settings.Coordinate.{Coordinate}
 
 -- the tag has the bytes of its number, the highest first

@@ -4,17 +4,18 @@ ghost use Rattle.std.specs.Prelude.{◌≡◌, ◌⊎◌, ◌<◌, None, IfOk, I
 ghost use Rattle.subsetter_base.specs.Bytes.{be};
 ghost use Rattle.subsetter_sfnt.specs.Extras.{all_extras};
 ghost use Rattle.subsetter.specs.Limits.{token_limit, depth_limit};
-ghost use Rattle.subsetter_c.specs.Embedding.{IsEmbeddingHanded, AreNoneHanded};
-ghost use Rattle.subsetter_c.specs.Handed.{IsHandedOver, IsSoundSubset, IsRefusal, IsSubsetHanded, IsNothingHanded};
-ghost use Rattle.subsetter_c.specs.Made.{lists_in, IsSubsetMade, IsEmbeddingMade, IsNothingMade};
+ghost use Rattle.subsetter_c.specs.Answers.Embedding.{IsEmbeddingHanded, AreNoneHanded};
+ghost use Rattle.subsetter_c.specs.Answers.Handed.{IsHandedOver, IsSoundSubset, IsRefusal, IsSubsetHanded, IsNothingHanded};
+ghost use Rattle.subsetter_c.specs.Answers.Made.{lists_in, IsSubsetMade, IsEmbeddingMade, IsNothingMade};
 ghost use Rattle.subsetter_c.specs.Options.{AreKnown, requested_bytes, requested_tokens, requested_depth, requested_extras};
-ghost use Rattle.subsetter_c.specs.Status.{status_text, no_depth, unknown_option};
+ghost use Rattle.subsetter_c.specs.Answers.Status.{status_text, no_depth, unknown_option};
 ghost use Rattle.subsetter_c.specs.Version.{version};
 
-use crate::handing::{Sizes, hand_answer, hand_bytes, hand_embedded};
-use crate::making::{self, Made};
+use crate::answers::handing::{Sizes, hand_answer, hand_bytes, hand_embedded};
+use crate::answers::making::{self, Made};
 use crate::options::options_of;
-use crate::{status, version};
+use crate::answers::status;
+use crate::version;
 use cid_embed::{embed, embed_with_options, mapper_for};
 use std::alloc::Global;
 use subsetter::{Error, Extras, Limits, Options, subset_with_options};

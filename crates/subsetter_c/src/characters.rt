@@ -11,7 +11,7 @@ ghost use Rattle.cmap.specs.Subtable.{mapping};
 ghost use Rattle.cmap.specs.View.{mapping_view};
 ghost use Rattle.pdf_font.specs.Opened.{IsOpened};
 ghost use Rattle.subsetter_pdf_c.specs.Entries.{are_scalars};
-ghost use Rattle.subsetter_c.specs.PdfGlyphs.{AreGlyphsOf, HasNoMapping, IsGlyphRefusal, mapping_in};
+ghost use Rattle.subsetter_c.specs.Documents.PdfGlyphs.{AreGlyphsOf, HasNoMapping, IsGlyphRefusal, mapping_in};
 
 use cmap::{Subtable, find_subtable};
 use std::alloc::Global;

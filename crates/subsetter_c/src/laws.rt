@@ -1,6 +1,6 @@
 //! Laws of a font that was laid out for C, which no code runs.
 
-ghost use Rattle.subsetter_c.specs.PdfLaws.{GlyphsAreOfTheFont, ValuesAreOfTheFont};
+ghost use Rattle.subsetter_c.specs.Documents.PdfLaws.{GlyphsAreOfTheFont, ValuesAreOfTheFont};
 
 /// What the objects say of it is what `pdf_objects` says of the font.
 pub fn values_are_of_the_font()

@@ -9,18 +9,12 @@
 //! ```
 #![tactic(auto)]
 
+mod answers;
 mod calls;
 mod characters;
-mod handing;
-mod kept;
+mod documents;
 mod laws;
-mod making;
 mod options;
-mod pdf_calls;
-mod pdf_files;
-mod pdf_fonts;
-mod pdf_options;
 mod settings;
-mod status;
 mod variations;
 mod version;

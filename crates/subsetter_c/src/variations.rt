@@ -1,18 +1,18 @@
 //! The calls at coordinates on the axes of a variable font.
 
 ghost use Rattle.std.specs.Prelude.{◌⊎◌, IfOk, IfErr};
-ghost use Rattle.subsetter_c.specs.Embedding.{AreNoneHanded};
-ghost use Rattle.subsetter_c.specs.Handed.{IsNothingHanded};
-ghost use Rattle.subsetter_c.specs.Made.{lists_in, IsNothingMade};
+ghost use Rattle.subsetter_c.specs.Answers.Embedding.{AreNoneHanded};
+ghost use Rattle.subsetter_c.specs.Answers.Handed.{IsNothingHanded};
+ghost use Rattle.subsetter_c.specs.Answers.Made.{lists_in, IsNothingMade};
 ghost use Rattle.subsetter_c.specs.Options.{AreKnown, requested_bytes, requested_tokens, requested_depth, requested_extras};
 ghost use Rattle.subsetter_c.specs.Settings.{settings_of, IsSoundSubsetAt, IsRefusalAt, IsSubsetHandedAt, IsSubsetMadeAt, IsSoundEmbeddingAt, IsEmbeddingRefusalAt, IsEmbeddingHandedAt, IsEmbeddingMadeAt};
-ghost use Rattle.subsetter_c.specs.Status.{unknown_option};
+ghost use Rattle.subsetter_c.specs.Answers.Status.{unknown_option};
 
-use crate::handing::{Sizes, hand_answer, hand_embedded};
-use crate::making::{self, Made};
+use crate::answers::handing::{Sizes, hand_answer, hand_embedded};
+use crate::answers::making::{self, Made};
 use crate::options::options_of;
 use crate::settings::{Coordinate, settings_for};
-use crate::status;
+use crate::answers::status;
 use cid_embed::{Embedded, mapper_for};
 use cid_embed_at::embed_with_variations_and_options;
 use std::alloc::Global;

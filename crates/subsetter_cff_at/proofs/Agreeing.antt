@@ -5,16 +5,16 @@ use Rattle.std.specs.Option.{ok_or}
 use Rattle.subsetter_base.specs.Bytes.{◌>>=◌}
 use Rattle.subsetter_base.specs.declared.error.Error.{Error}
 use Rattle.subsetter_base.specs.declared.error.Error.TheVariants.{MalformedFont, OverflowError, CFFError}
-use Rattle.subsetter_type2.specs.Machine.{rests_after, unended}
+use Rattle.subsetter_type2.specs.Runs.Machine.{rests_after, unended}
 use Rattle.subsetter_cff.proofs.ReadLaws.Results.{bind_ok, same_Ok, passed}
-use Rattle.subsetter_blend.specs.Machine.{Setting, State, Done, act_at, done, follow, want, ended, run, run_all, start}
+use Rattle.subsetter_blend.specs.Runs.Machine.{Setting, State, Done, act_at, done, follow, want, ended, run, run_all, start}
 use Rattle.subsetter_blend.specs.Resolved.{all_finished, resolved}
-use Rattle.subsetter_blend.specs.Taking.{Event}
-use Rattle.subsetter_blend.specs.Written.{Fitted, fitted, fitted_start, finished}
+use Rattle.subsetter_blend.specs.Writing.Taking.{Event}
+use Rattle.subsetter_blend.specs.Writing.Written.{Fitted, fitted, fitted_start, finished}
 use Rattle.subsetter_cff2.specs.Cff2.{Cff2}
 use Rattle.subsetter_cff2.specs.Made2.{NewDict, new_dicts}
-use Rattle.subsetter_cff2.specs.Private2.{char_string}
-use Rattle.subsetter_cff2.specs.UsedDicts.{counted_dicts, index_in}
+use Rattle.subsetter_cff2.specs.PrivateDicts.Private2.{char_string}
+use Rattle.subsetter_cff2.specs.Selection.UsedDicts.{counted_dicts, index_in}
 use Rattle.subsetter_cff2.specs.Variation.{Variation}
 use Rattle.subsetter_cff_at.specs.Plain.{dict_bound, numbers_from, present, setting, glyph_text, placed_text, text_if, texts_from, Drawn, drawn, Opened, opened, parts_of, some_requested, made_table}
 use Rattle.subsetter_cff_at.specs.Promise.{LimitsAgree}

@@ -8,12 +8,12 @@ use Rattle.subsetter_base.specs.declared.error.Error.{Error}
 use Rattle.subsetter_cff.proofs.ReadLaws.Failing.{fails_on}
 use Rattle.subsetter_cff.proofs.ReadLaws.Results.{same_Ok}
 use Rattle.subsetter_cff2.specs.Cff2.{Cff2}
-use Rattle.subsetter_cffdata.specs.Index.{offsets}
-use Rattle.subsetter_cffdata.proofs.Indexes.{length-offsets}
+use Rattle.subsetter_cffdata.specs.Indexes.Index.{offsets}
+use Rattle.subsetter_cffdata.proofs.IndexesLaws.Indexes.{length-offsets}
 use Rattle.subsetter_cff2.specs.declared.made.PlacedDict.{PlacedDict}
 use Rattle.subsetter_cff2.specs.Made2.{NewDict, new_dicts}
 use Rattle.subsetter_cff2.specs.Made2View.{dict_view}
-use Rattle.subsetter_cff2.specs.UsedDicts.{counted_dicts, index_in}
+use Rattle.subsetter_cff2.specs.Selection.UsedDicts.{counted_dicts, index_in}
 use Rattle.subsetter_cff2.specs.Variation.{Variation}
 use Rattle.subsetter_cff_at.specs.Plain.{dict_bound, numbers_from, present, filled, all_filled, placed_text, text_if, texts_from, texts_size, Drawn, drawn, Opened, opened, drawn_of, parts_of, some_requested, made_table}
 use Rattle.subsetter_cff_at.specs.Request.{Request}

@@ -9,13 +9,13 @@ use Rattle.subsetter_base.specs.Bytes.{◌>>=◌}
 use Rattle.subsetter_base.specs.declared.error.Error.{Error}
 use Rattle.subsetter_base.specs.declared.error.Error.TheVariants.{MalformedFont, OverflowError}
 use Rattle.subsetter_cffdata.proofs.Options.{step}
-use Rattle.subsetter_cffdata.specs.Dict.{entries}
-use Rattle.subsetter_cffdata.specs.Numbers.{Number}
-use Rattle.subsetter_cff.specs.Read.Lookup.{last_of}
-use Rattle.subsetter_cff.specs.Read.Operators.{char_strings_operator, font_dicts_operator, font_dict_select_operator}
-use Rattle.subsetter_cff.specs.Write.Layout.{Parts, char_strings_offset}
+use Rattle.subsetter_cffdata.specs.Dicts.Dict.{entries}
+use Rattle.subsetter_cffdata.specs.Numerals.Numbers.{Number}
+use Rattle.subsetter_cff.specs.Read.Entries.Lookup.{last_of}
+use Rattle.subsetter_cff.specs.Read.Entries.Operators.{char_strings_operator, font_dicts_operator, font_dict_select_operator}
+use Rattle.subsetter_cff.specs.Write.Laying.Layout.{Parts, char_strings_offset}
 use Rattle.subsetter_cff.specs.Write.Plain.{limited}
-use Rattle.subsetter_cff.specs.Write.WrittenNumbers.{any_long, entry_numbers, font_dict_numbers, written_numbers}
+use Rattle.subsetter_cff.specs.Write.NewDicts.WrittenNumbers.{any_long, entry_numbers, font_dict_numbers, written_numbers}
 use Rattle.subsetter_cff.proofs.ReadLaws.Results.{bind_ok, same_Ok, some_of, passed}
 use Rattle.subsetter_cff.proofs.WriteLaws.SourceFits.{short_front, short_back}
 use Rattle.subsetter_blend.specs.Resolved.{resolved}
@@ -23,10 +23,10 @@ use Rattle.subsetter_cff2.specs.Cff2.{Cff2, wide_index, named_index, optional_of
 use Rattle.subsetter_cff2.specs.Front2.{front_at}
 use Rattle.subsetter_cff2.specs.Made2.{NewDict, new_dict, new_font_dict, new_matrix, new_box, new_parts, made_of}
 use Rattle.subsetter_cff2.specs.Operators2.{store_operator}
-use Rattle.subsetter_cff2.specs.Private2.{Private2, font_dict_number, private_numbered, char_string}
-use Rattle.subsetter_cff2.specs.PrivateAt.{Placed, private_at_location}
-use Rattle.subsetter_cff2.specs.PrivateText.{PlacedText, private_text}
-use Rattle.subsetter_cff2.specs.UsedDicts.{used_dicts}
+use Rattle.subsetter_cff2.specs.PrivateDicts.Private2.{Private2, font_dict_number, private_numbered, char_string}
+use Rattle.subsetter_cff2.specs.PrivateDicts.PrivateAt.{Placed, private_at_location}
+use Rattle.subsetter_cff2.specs.PrivateDicts.PrivateText.{PlacedText, private_text}
+use Rattle.subsetter_cff2.specs.Selection.UsedDicts.{used_dicts}
 use Rattle.subsetter_cff2.specs.Variation.{Variation, optional_variation}
 use Rattle.subsetter_cff2.proofs.MadeFits.{new_dict_is_placed}
 use Rattle.subsetter_cff_at.specs.Fault.{HasOpeningFault, HasGlyphFault, HasLimitFault, HasFault, MadeExcludes, bad_front, bad_subroutines, bad_char_strings, bad_font_dicts, bad_store_offset, bad_store, bad_select, bad_matrix, bad_region, no_number, no_font_dict, no_private, bad_private, long_private, no_char_string, stops, wide_advance, many_font_dicts, long_matrix, large_char_strings, large_offset, none_requested, in_opening, in_glyph, in_limits}

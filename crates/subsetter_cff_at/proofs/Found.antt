@@ -11,8 +11,8 @@ use Rattle.subsetter_base.specs.declared.error.Error.TheVariants.{MalformedFont,
 use Rattle.subsetter_cff.proofs.ReadLaws.Results.{bind_ok, same_Ok, some_of, passed, In, in_head, in_tail, number_there}
 use Rattle.subsetter_cff2.specs.Cff2.{Cff2}
 use Rattle.subsetter_cff2.specs.Made2.{NewDict, new_dict, new_dicts}
-use Rattle.subsetter_cff2.specs.Private2.{font_dict_number}
-use Rattle.subsetter_cff2.specs.UsedDicts.{used_dicts, counted_dicts, index_in}
+use Rattle.subsetter_cff2.specs.PrivateDicts.Private2.{font_dict_number}
+use Rattle.subsetter_cff2.specs.Selection.UsedDicts.{used_dicts, counted_dicts, index_in}
 use Rattle.subsetter_cff2.specs.Variation.{Variation}
 use Rattle.subsetter_cff_at.specs.Plain.{dict_bound, dict_number, number_if, numbers_from, with_number, present, text_if, texts_from, some_requested}
 

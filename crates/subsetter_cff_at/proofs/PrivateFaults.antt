@@ -8,20 +8,20 @@ use Rattle.std.proofs.lemmas.Option.{none-some}
 use Rattle.subsetter_base.specs.Bytes.{◌>>=◌}
 use Rattle.subsetter_base.specs.declared.error.Error.{Error}
 use Rattle.subsetter_base.specs.declared.error.Error.TheVariants.{MalformedFont, OverflowError}
-use Rattle.subsetter_cffdata.specs.Dict.{Entry}
-use Rattle.subsetter_cffdata.specs.Numbers.{Number, is_too_long}
-use Rattle.subsetter_cffdata.specs.Operands.{offset_operand}
-use Rattle.subsetter_cff.specs.Write.Rewritten.{written_entry}
+use Rattle.subsetter_cffdata.specs.Dicts.Dict.{Entry}
+use Rattle.subsetter_cffdata.specs.Numerals.Numbers.{Number, is_too_long}
+use Rattle.subsetter_cffdata.specs.Dicts.Operands.{offset_operand}
+use Rattle.subsetter_cff.specs.Write.NewDicts.Rewritten.{written_entry}
 use Rattle.subsetter_cff.proofs.ReadLaws.Refusals.{bind_err, none_of, none_or}
 use Rattle.subsetter_cff.proofs.ReadLaws.Results.{some_of}
-use Rattle.subsetter_cff2.specs.Blend.{blended}
-use Rattle.subsetter_cff2.specs.EntryLists.{entry_lists}
-use Rattle.subsetter_cff2.specs.PrivateAt.{Registers, Step, at_start, blended_by, chosen, last_natural, pushed, silent, step_by}
-use Rattle.subsetter_cff2.specs.PrivateKinds.{kind_by}
-use Rattle.subsetter_cff2.specs.PrivateText.{PlacedText, TextStep, behind, placed_text, private_text, entry_text, step_text}
+use Rattle.subsetter_cff2.specs.PrivateDicts.Blend.{blended}
+use Rattle.subsetter_cff2.specs.PrivateDicts.EntryLists.{entry_lists}
+use Rattle.subsetter_cff2.specs.PrivateDicts.PrivateAt.{Registers, Step, at_start, blended_by, chosen, last_natural, pushed, silent, step_by}
+use Rattle.subsetter_cff2.specs.PrivateDicts.PrivateKinds.{kind_by}
+use Rattle.subsetter_cff2.specs.PrivateDicts.PrivateText.{PlacedText, TextStep, behind, placed_text, private_text, entry_text, step_text}
 use Rattle.subsetter_cff2.specs.Variation.{Variation, data_scalars}
-use Rattle.subsetter_cff2.specs.declared.kinds.PrivateOperator.{PrivateOperator}
-use Rattle.subsetter_cff2.specs.declared.kinds.PrivateOperator.TheVariants.{Blends, ChoosesData, Edges, Numbers, Dropped}
+use Rattle.subsetter_cff2.specs.declared.private_dicts.kinds.PrivateOperator.{PrivateOperator}
+use Rattle.subsetter_cff2.specs.declared.private_dicts.kinds.PrivateOperator.TheVariants.{Blends, ChoosesData, Edges, Numbers, Dropped}
 use Rattle.subsetter_cff_at.specs.PrivateFault.{HasDictOperatorFault, HasEntryFault, HasPrivateFault, blend_without_store, blend_without_count, blend_without_data, few_blended, data_without_store, late_data, unnamed_data, no_data, full_stack, in_operator, long_real, later}
 
 -- ---- blend and vsindex

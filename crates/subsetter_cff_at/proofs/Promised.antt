@@ -11,20 +11,20 @@ use Rattle.subsetter_base.specs.Bytes.{◌>>=◌}
 use Rattle.subsetter_base.specs.Indexes.{index_of}
 use Rattle.subsetter_base.specs.declared.error.Error.TheVariants.{MalformedFont, OverflowError}
 use Rattle.subsetter_cffdata.proofs.Options.{step}
-use Rattle.subsetter_cffdata.specs.Dict.{Entry, entries}
-use Rattle.subsetter_cffdata.specs.Numbers.{Number}
-use Rattle.subsetter_cffdata.specs.Values.{value}
-use Rattle.subsetter_type2.specs.Machine.{Trace, trace}
+use Rattle.subsetter_cffdata.specs.Dicts.Dict.{Entry, entries}
+use Rattle.subsetter_cffdata.specs.Numerals.Numbers.{Number}
+use Rattle.subsetter_cffdata.specs.Numerals.Values.{value}
+use Rattle.subsetter_type2.specs.Runs.Machine.{Trace, trace}
 use Rattle.subsetter_cff.specs.Read.Cff.{Cff, char_strings, char_string}
 use Rattle.subsetter_cff.specs.Read.GlyphTrace.{glyph_trace, library}
-use Rattle.subsetter_cff.specs.Read.Lookup.{last_of}
-use Rattle.subsetter_cff.specs.Read.Matrices.{stated_matrices, unit_matrix}
-use Rattle.subsetter_cff.specs.Read.Operators.{char_strings_operator, font_dicts_operator, font_dict_select_operator, font_matrix_operator, subroutines_operator}
-use Rattle.subsetter_cff.specs.Read.Private.{Private, private_of, private_entries, own_entries}
-use Rattle.subsetter_cff.specs.Write.Layout.{FontDict, Parts}
-use Rattle.subsetter_cff.specs.Write.ReadsAs.{IsReadAs, ReadsAs, GlyphReadsAs}
+use Rattle.subsetter_cff.specs.Read.Entries.Lookup.{last_of}
+use Rattle.subsetter_cff.specs.Read.Entries.Matrices.{stated_matrices, unit_matrix}
+use Rattle.subsetter_cff.specs.Read.Entries.Operators.{char_strings_operator, font_dicts_operator, font_dict_select_operator, font_matrix_operator, subroutines_operator}
+use Rattle.subsetter_cff.specs.Read.FdArray.Private.{Private, private_of, private_entries, own_entries}
+use Rattle.subsetter_cff.specs.Write.Laying.Layout.{FontDict, Parts}
+use Rattle.subsetter_cff.specs.Write.Laying.ReadsAs.{IsReadAs, ReadsAs, GlyphReadsAs}
 use Rattle.subsetter_cff.proofs.ReadLaws.Results.{bind_ok, same_Ok, some_of, passed, number_there}
-use Rattle.subsetter_cff.proofs.WriteLaws.FontDicts.{none_left_out}
+use Rattle.subsetter_cff.proofs.WriteLaws.NewDictsLaws.FontDicts.{none_left_out}
 use Rattle.subsetter_cff.proofs.WriteLaws.Keeping.{entry_of_some}
 use Rattle.subsetter_blend.specs.Laws.{IsDrawnAndWritten}
 use Rattle.subsetter_blend.specs.Resolved.{resolved}
@@ -34,8 +34,8 @@ use Rattle.subsetter_cff2.specs.Front2.{front_at}
 use Rattle.subsetter_cff2.specs.Made2.{NewDict, new_dict, new_dicts, new_font_dict, new_matrix, new_parts, optional_matrix, made_of}
 use Rattle.subsetter_cff2.specs.MadeReads.{IsMadeOf, DictIsPlaced}
 use Rattle.subsetter_cff2.specs.Operators2.{store_operator}
-use Rattle.subsetter_cff2.specs.Private2 as source
-use Rattle.subsetter_cff2.specs.UsedDicts.{counted_dicts, index_in}
+use Rattle.subsetter_cff2.specs.PrivateDicts.Private2 as source
+use Rattle.subsetter_cff2.specs.Selection.UsedDicts.{counted_dicts, index_in}
 use Rattle.subsetter_cff2.specs.Variation.{Variation, optional_variation}
 use Rattle.subsetter_cff2.proofs.MadeFits.{made_is_read, new_dict_is_placed}
 use Rattle.subsetter_cff_at.specs.Plain.{dict_bound, numbers_from, present, setting, glyph_text, placed_text, texts_from, filled, all_filled, no_glyph, Drawn, drawn, Opened, opened, parts_of, some_requested, made_table}

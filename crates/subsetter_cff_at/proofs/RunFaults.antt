@@ -6,24 +6,24 @@ use Rattle.std.proofs.lemmas.Option.{none-some}
 use Rattle.std.proofs.lemmas.Bool.{leb-true, leb-false, ltb-false, eqb-true, eqb-false, le-ltb, lt-leb, eq-eqb, ne_eqb}
 use Rattle.subsetter_base.specs.declared.error.Error.{Error}
 use Rattle.subsetter_base.specs.declared.error.Error.TheVariants.{CFFError, OverflowError}
-use Rattle.subsetter_cffdata.specs.declared.charstring_number.CharStringNumber.{CharStringNumber}
-use Rattle.subsetter_cffdata.specs.declared.operator.Operator.{Operator}
-use Rattle.subsetter_type2.specs.Machine.{Lead, On, rests_after, unended}
+use Rattle.subsetter_cffdata.specs.declared.numerals.charstring_number.CharStringNumber.{CharStringNumber}
+use Rattle.subsetter_cffdata.specs.declared.dicts.operator.Operator.{Operator}
+use Rattle.subsetter_type2.specs.Runs.Machine.{Lead, On, rests_after, unended}
 use Rattle.subsetter_type2.specs.Token.{Token, Operand, Operation, token_of}
-use Rattle.subsetter_blend.specs.declared.kind.Kind.{Kind}
-use Rattle.subsetter_blend.specs.declared.kind.Kind.TheVariants.{ChoosesData, Blends, CountsStems, Draws, CallsLocal, CallsGlobal, Masks}
-use Rattle.subsetter_blend.specs.Blend.{blended}
-use Rattle.subsetter_blend.specs.Flex.{opened}
+use Rattle.subsetter_blend.specs.declared.runs.kind.Kind.{Kind}
+use Rattle.subsetter_blend.specs.declared.runs.kind.Kind.TheVariants.{ChoosesData, Blends, CountsStems, Draws, CallsLocal, CallsGlobal, Masks}
+use Rattle.subsetter_blend.specs.Runs.Blend.{blended}
+use Rattle.subsetter_blend.specs.Writing.Flex.{opened}
 use Rattle.subsetter_blend.specs.Hint.{is_hint}
-use Rattle.subsetter_blend.specs.Kind.{operator_kind, accepts}
-use Rattle.subsetter_blend.specs.Machine.{Setting, Registers, State, Act, Does, Fails, act_at, act_on, blended_by, but_last, chosen, count_stems, done, done_with, emit, ended, enter, follow, if_there, last_natural, last_operand, operate, push, run, run_all, stacked, start, stems_after, subroutine, take_mask, taken_also}
-use Rattle.subsetter_blend.specs.Number.{are_within}
-use Rattle.subsetter_blend.specs.Placed.{Placed, placed}
+use Rattle.subsetter_blend.specs.Runs.Kind.{operator_kind, accepts}
+use Rattle.subsetter_blend.specs.Runs.Machine.{Setting, Registers, State, Act, Does, Fails, act_at, act_on, blended_by, but_last, chosen, count_stems, done, done_with, emit, ended, enter, follow, if_there, last_natural, last_operand, operate, push, run, run_all, stacked, start, stems_after, subroutine, take_mask, taken_also}
+use Rattle.subsetter_blend.specs.Runs.Number.{are_within}
+use Rattle.subsetter_blend.specs.Writing.Placed.{Placed, placed}
 use Rattle.subsetter_blend.specs.Resolved.{resolved, all_finished}
-use Rattle.subsetter_blend.specs.Split.{split}
-use Rattle.subsetter_blend.specs.Taking.{Event, all_taken, and_then}
-use Rattle.subsetter_blend.specs.Written.{Fitted, fitted, fitted_piece, fitted_start, start_point, inked, may_begin, width, with_ink}
-use Rattle.subsetter_blend.proofs.Runs.{run_over, run_out, run_more, run_fault, run_deep, run_on, ended_some}
+use Rattle.subsetter_blend.specs.Writing.Split.{split}
+use Rattle.subsetter_blend.specs.Writing.Taking.{Event, all_taken, and_then}
+use Rattle.subsetter_blend.specs.Writing.Written.{Fitted, fitted, fitted_piece, fitted_start, start_point, inked, may_begin, width, with_ink}
+use Rattle.subsetter_blend.proofs.RunsLaws.Runs.{run_over, run_out, run_more, run_fault, run_deep, run_on, ended_some}
 use Rattle.subsetter_cff_at.specs.RunFault.{HasOperatorFault, HasTokenFault, HasEventFault, HasRunFault, HasCharstringFault, IsFar, unknown, wrong_draw, wrong_stems, wrong_mask, many_stems, many_masked, cut_mask, cut_later_mask, late_stems, no_local, no_global, blend_without_data, blend_without_count, few_blended, far_blended, late_data, wrong_data, unnamed_data, no_data, cut_token, full_stack, in_operator, far_here, far_behind, no_move, far, left_operand, no_token, in_token, in_event, too_deep, later}
 
 -- ---- acts

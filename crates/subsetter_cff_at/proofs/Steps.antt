@@ -7,7 +7,7 @@ use Rattle.subsetter_base.specs.Bytes.{◌>>=◌}
 use Rattle.subsetter_base.specs.Gives.{Fails}
 use Rattle.subsetter_base.specs.Within.{FailsWithin}
 use Rattle.subsetter_base.specs.declared.error.Error.{Error}
-use Rattle.subsetter_cffdata.specs.Index.{offsets}
+use Rattle.subsetter_cffdata.specs.Indexes.Index.{offsets}
 use Rattle.subsetter_cff.proofs.ReadLaws.Failing.{fails_on}
 use Rattle.subsetter_cff.proofs.ReadLaws.Results.{bind_ok, same_Ok}
 use Rattle.subsetter_cff2.specs.Cff2.{Cff2}

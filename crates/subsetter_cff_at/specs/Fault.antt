@@ -3,19 +3,19 @@ use Rattle.std.specs.Prelude.{◌≡◌, ◌<◌, ◌≤◌, ◌+◌, ◌^◌, �
 use Rattle.std.specs.List.{concat}
 use Rattle.subsetter_base.specs.declared.error.Error.{Error}
 use Rattle.subsetter_base.specs.declared.error.Error.TheVariants.{MalformedFont, OverflowError}
-use Rattle.subsetter_cffdata.specs.Dict.{entries}
-use Rattle.subsetter_cffdata.specs.Numbers.{Number}
-use Rattle.subsetter_cff.specs.Read.Lookup.{last_of}
-use Rattle.subsetter_cff.specs.Read.Operators.{char_strings_operator, font_dicts_operator, font_dict_select_operator}
-use Rattle.subsetter_cff.specs.Write.Layout.{char_strings_offset}
-use Rattle.subsetter_cff.specs.Write.WrittenNumbers.{any_long, entry_numbers}
+use Rattle.subsetter_cffdata.specs.Dicts.Dict.{entries}
+use Rattle.subsetter_cffdata.specs.Numerals.Numbers.{Number}
+use Rattle.subsetter_cff.specs.Read.Entries.Lookup.{last_of}
+use Rattle.subsetter_cff.specs.Read.Entries.Operators.{char_strings_operator, font_dicts_operator, font_dict_select_operator}
+use Rattle.subsetter_cff.specs.Write.Laying.Layout.{char_strings_offset}
+use Rattle.subsetter_cff.specs.Write.NewDicts.WrittenNumbers.{any_long, entry_numbers}
 use Rattle.subsetter_cff2.specs.Cff2.{Cff2, wide_index, named_index, optional_offset, store_by, cff2_parts}
 use Rattle.subsetter_cff2.specs.Front2.{front_at}
 use Rattle.subsetter_cff2.specs.Made2.{new_parts}
 use Rattle.subsetter_cff2.specs.Operators2.{store_operator}
-use Rattle.subsetter_cff2.specs.Private2.{Private2, font_dict_number, private_numbered, char_string}
-use Rattle.subsetter_cff2.specs.PrivateAt.{Placed, private_at_location}
-use Rattle.subsetter_cff2.specs.UsedDicts.{used_dicts}
+use Rattle.subsetter_cff2.specs.PrivateDicts.Private2.{Private2, font_dict_number, private_numbered, char_string}
+use Rattle.subsetter_cff2.specs.PrivateDicts.PrivateAt.{Placed, private_at_location}
+use Rattle.subsetter_cff2.specs.Selection.UsedDicts.{used_dicts}
 use Rattle.subsetter_cff2.specs.Variation.{Variation, optional_variation}
 use Rattle.subsetter_cff_at.specs.Plain.{dict_bound, numbers_from, present, setting, Drawn, drawn, Opened, opened, all_filled, made_table}
 use Rattle.subsetter_cff_at.specs.PrivateFault.{HasPrivateFault}

@@ -5,14 +5,14 @@ use Rattle.std.specs.Option.{ok_or}
 use Rattle.subsetter_base.specs.Bytes.{◌>>=◌}
 use Rattle.subsetter_base.specs.declared.error.Error.{Error}
 use Rattle.subsetter_base.specs.declared.error.Error.TheVariants.{MalformedFont, OverflowError}
-use Rattle.subsetter_cffdata.specs.Numbers.{Number}
+use Rattle.subsetter_cffdata.specs.Numerals.Numbers.{Number}
 use Rattle.subsetter_cff.specs.Read.Opened.{check}
-use Rattle.subsetter_blend.specs.Machine.{Setting}
+use Rattle.subsetter_blend.specs.Runs.Machine.{Setting}
 use Rattle.subsetter_blend.specs.Resolved.{resolved}
 use Rattle.subsetter_cff2.specs.Cff2.{Cff2, cff2_parts}
 use Rattle.subsetter_cff2.specs.Made2.{NewDict, new_dicts, new_parts, made_of}
-use Rattle.subsetter_cff2.specs.Private2.{font_dict_number, char_string}
-use Rattle.subsetter_cff2.specs.UsedDicts.{counted_dicts, index_in}
+use Rattle.subsetter_cff2.specs.PrivateDicts.Private2.{font_dict_number, char_string}
+use Rattle.subsetter_cff2.specs.Selection.UsedDicts.{counted_dicts, index_in}
 use Rattle.subsetter_cff2.specs.Variation.{Variation, optional_variation, font_scalars}
 use Rattle.subsetter_cff_at.specs.Request.{Request}
 use Rattle.subsetter_cff_at.specs.Units.{top_matrix}

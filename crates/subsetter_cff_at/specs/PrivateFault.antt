@@ -4,15 +4,15 @@ use Rattle.std.specs.Prelude.{◌≡◌, ℕ, ◌<◌, ◌+◌, ◌-◌, ◌*◌
 use Rattle.std.specs.List.{list_any}
 use Rattle.subsetter_base.specs.declared.error.Error.{Error}
 use Rattle.subsetter_base.specs.declared.error.Error.TheVariants.{MalformedFont, OverflowError}
-use Rattle.subsetter_cffdata.specs.Dict.{Entry}
-use Rattle.subsetter_cffdata.specs.Numbers.{is_too_long}
-use Rattle.subsetter_cffdata.specs.Operands.{offset_operand}
-use Rattle.subsetter_cff2.specs.EntryLists.{entry_lists}
-use Rattle.subsetter_cff2.specs.PrivateAt.{Registers, Step, at_start, last_natural, pushed, step_by}
-use Rattle.subsetter_cff2.specs.PrivateKinds.{kind_by}
-use Rattle.subsetter_cff2.specs.PrivateText.{TextStep, step_text}
+use Rattle.subsetter_cffdata.specs.Dicts.Dict.{Entry}
+use Rattle.subsetter_cffdata.specs.Numerals.Numbers.{is_too_long}
+use Rattle.subsetter_cffdata.specs.Dicts.Operands.{offset_operand}
+use Rattle.subsetter_cff2.specs.PrivateDicts.EntryLists.{entry_lists}
+use Rattle.subsetter_cff2.specs.PrivateDicts.PrivateAt.{Registers, Step, at_start, last_natural, pushed, step_by}
+use Rattle.subsetter_cff2.specs.PrivateDicts.PrivateKinds.{kind_by}
+use Rattle.subsetter_cff2.specs.PrivateDicts.PrivateText.{TextStep, step_text}
 use Rattle.subsetter_cff2.specs.Variation.{Variation, data_scalars}
-use Rattle.subsetter_cff2.specs.declared.kinds.PrivateOperator.TheVariants.{Blends, ChoosesData}
+use Rattle.subsetter_cff2.specs.declared.private_dicts.kinds.PrivateOperator.TheVariants.{Blends, ChoosesData}
 
 -- ---- an operator behind its operands
 pub data HasDictOperatorFault (v : Option Variation) (operator : List ℕ) (r : Registers) : Error → Type 0 where

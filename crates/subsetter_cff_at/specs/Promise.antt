@@ -3,24 +3,24 @@ use Rattle.std.specs.Prelude.{◌≡◌, ℕ, ◌<◌, ◌≤◌, pos, List, [],
 use Rattle.std.specs.Int.{w16}
 use Rattle.std.specs.Prelude.{FitsSigned}
 use Rattle.std.specs.List.{AllByRecursion}
-use Rattle.subsetter_cffdata.specs.Numbers.{Number, Integer}
-use Rattle.subsetter_cffdata.specs.Values.{value}
-use Rattle.subsetter_cff.specs.Read.Lookup.{last_of}
+use Rattle.subsetter_cffdata.specs.Numerals.Numbers.{Number, Integer}
+use Rattle.subsetter_cffdata.specs.Numerals.Values.{value}
+use Rattle.subsetter_cff.specs.Read.Entries.Lookup.{last_of}
 use Rattle.subsetter_cff.specs.Read.Cff.{Cff, cff_parts, char_strings, char_string}
 use Rattle.subsetter_cff.specs.Read.Charset.{cid_of}
 use Rattle.subsetter_cff.specs.Read.GlyphTrace.{glyph_trace}
-use Rattle.subsetter_cff.specs.Read.Keying.{keying}
-use Rattle.subsetter_cff.specs.Read.Matrices.{stated_matrices, unit_matrix}
-use Rattle.subsetter_cff.specs.Read.Operators.{font_box_operator}
-use Rattle.subsetter_cff.specs.Read.Private.{private_entries}
-use Rattle.subsetter_cff.specs.Write.ReadsAs.{adobe_identity}
+use Rattle.subsetter_cff.specs.Read.FdArray.Keying.{keying}
+use Rattle.subsetter_cff.specs.Read.Entries.Matrices.{stated_matrices, unit_matrix}
+use Rattle.subsetter_cff.specs.Read.Entries.Operators.{font_box_operator}
+use Rattle.subsetter_cff.specs.Read.FdArray.Private.{private_entries}
+use Rattle.subsetter_cff.specs.Write.Laying.ReadsAs.{adobe_identity}
 use Rattle.subsetter_blend.specs.Laws.{IsDrawnAndWritten, cost}
-use Rattle.subsetter_blend.specs.Written.{written_events}
+use Rattle.subsetter_blend.specs.Writing.Written.{written_events}
 use Rattle.subsetter_cff2.specs.Cff2.{Cff2, cff2_parts}
 use Rattle.subsetter_cff2.specs.Made2.{new_matrix}
-use Rattle.subsetter_cff2.specs.Private2 as source
-use Rattle.subsetter_cff2.specs.Private2.{Private2, private_of}
-use Rattle.subsetter_cff2.specs.PrivateAt.{Placed, private_at_location}
+use Rattle.subsetter_cff2.specs.PrivateDicts.Private2 as source
+use Rattle.subsetter_cff2.specs.PrivateDicts.Private2.{Private2, private_of}
+use Rattle.subsetter_cff2.specs.PrivateDicts.PrivateAt.{Placed, private_at_location}
 use Rattle.subsetter_cff2.specs.Variation.{Variation, optional_variation}
 use Rattle.subsetter_cff_at.specs.Plain.{setting, no_glyph, made_table}
 use Rattle.subsetter_cff_at.specs.Request.{Request}

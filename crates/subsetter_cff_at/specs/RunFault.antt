@@ -4,21 +4,21 @@ use Rattle.std.specs.Prelude.{◌≡◌, ◌≢◌, ℕ, zero, suc, ◌<◌, ◌
 use Rattle.std.specs.Option.{option_and_then}
 use Rattle.subsetter_base.specs.declared.error.Error.{Error}
 use Rattle.subsetter_base.specs.declared.error.Error.TheVariants.{CFFError, OverflowError}
-use Rattle.subsetter_cffdata.specs.declared.charstring_number.CharStringNumber.{CharStringNumber}
-use Rattle.subsetter_cffdata.specs.declared.operator.Operator.{Operator}
-use Rattle.subsetter_type2.specs.Machine.{Lead, rests_after, unended}
+use Rattle.subsetter_cffdata.specs.declared.numerals.charstring_number.CharStringNumber.{CharStringNumber}
+use Rattle.subsetter_cffdata.specs.declared.dicts.operator.Operator.{Operator}
+use Rattle.subsetter_type2.specs.Runs.Machine.{Lead, rests_after, unended}
 use Rattle.subsetter_type2.specs.Token.{Operand, Operation, token_of}
-use Rattle.subsetter_blend.specs.declared.kind.Kind.TheVariants.{ChoosesData, Blends, CountsStems, Draws, CallsLocal, CallsGlobal, Masks}
-use Rattle.subsetter_blend.specs.Blend.{blended}
-use Rattle.subsetter_blend.specs.Flex.{opened}
+use Rattle.subsetter_blend.specs.declared.runs.kind.Kind.TheVariants.{ChoosesData, Blends, CountsStems, Draws, CallsLocal, CallsGlobal, Masks}
+use Rattle.subsetter_blend.specs.Runs.Blend.{blended}
+use Rattle.subsetter_blend.specs.Writing.Flex.{opened}
 use Rattle.subsetter_blend.specs.Hint.{is_hint}
-use Rattle.subsetter_blend.specs.Kind.{operator_kind, accepts}
-use Rattle.subsetter_blend.specs.Machine.{Setting, Registers, State, Does, act_at, but_last, last_natural, last_operand, start, stems_after, subroutine, taken_also}
-use Rattle.subsetter_blend.specs.Number.{are_within}
-use Rattle.subsetter_blend.specs.Placed.{placed}
-use Rattle.subsetter_blend.specs.Split.{split}
-use Rattle.subsetter_blend.specs.Taking.{Event}
-use Rattle.subsetter_blend.specs.Written.{Fitted, fitted, fitted_piece, fitted_start, start_point, may_begin, width}
+use Rattle.subsetter_blend.specs.Runs.Kind.{operator_kind, accepts}
+use Rattle.subsetter_blend.specs.Runs.Machine.{Setting, Registers, State, Does, act_at, but_last, last_natural, last_operand, start, stems_after, subroutine, taken_also}
+use Rattle.subsetter_blend.specs.Runs.Number.{are_within}
+use Rattle.subsetter_blend.specs.Writing.Placed.{placed}
+use Rattle.subsetter_blend.specs.Writing.Split.{split}
+use Rattle.subsetter_blend.specs.Writing.Taking.{Event}
+use Rattle.subsetter_blend.specs.Writing.Written.{Fitted, fitted, fitted_piece, fitted_start, start_point, may_begin, width}
 
 -- ---- an operator, where these bytes stand behind it
 pub data HasOperatorFault (setting : Setting) (operator : Operator) (rest : List ℕ) (r : Registers) : Error → Type 0 where

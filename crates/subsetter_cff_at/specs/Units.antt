@@ -1,9 +1,9 @@
 -- The FontMatrix of a font whose top dict has none: 1/unitsPerEm 0 0 1/unitsPerEm 0 0 (OpenType, "head"; Technical Note 5176, section 9).
 use Rattle.std.specs.Prelude.{ℕ, ◌+◌, ◌*◌, ◌/◌, ◌%◌, ◌==◌, if◌then◌else◌, List, [], ◌∷◌, ◌++◌, Option, Some, None}
-use Rattle.subsetter_cffdata.specs.Dict.{entries}
-use Rattle.subsetter_cffdata.specs.Numbers.{Number}
-use Rattle.subsetter_cff.specs.Read.Lookup.{last_of}
-use Rattle.subsetter_cff.specs.Read.Operators.{font_matrix_operator}
+use Rattle.subsetter_cffdata.specs.Dicts.Dict.{entries}
+use Rattle.subsetter_cffdata.specs.Numerals.Numbers.{Number}
+use Rattle.subsetter_cff.specs.Read.Entries.Lookup.{last_of}
+use Rattle.subsetter_cff.specs.Read.Entries.Operators.{font_matrix_operator}
 use Rattle.subsetter_cff2.specs.Cff2.{Cff2}
 use Rattle.subsetter_cff2.specs.Made2.{optional_matrix}
 

@@ -6,8 +6,8 @@ use Rattle.subsetter_base.specs.Gives.{Fails}
 use Rattle.subsetter_base.specs.Within.{IsTooLong, is_past}
 use Rattle.subsetter_base.specs.declared.error.Error.{Error}
 use Rattle.subsetter_base.specs.declared.error.Error.TheVariants.{OverflowError}
-use Rattle.subsetter_cffdata.specs.Index.{offsets}
-use Rattle.subsetter_cff.specs.Write.MatrixView.{shown}
+use Rattle.subsetter_cffdata.specs.Indexes.Index.{offsets}
+use Rattle.subsetter_cff.specs.Write.NewDicts.MatrixView.{shown}
 use Rattle.subsetter_cff2.specs.Cff2.{Cff2}
 use Rattle.subsetter_cff2.specs.Cff2View.{cff2_of}
 use Rattle.subsetter_cff2.specs.Made2.{NewDict}

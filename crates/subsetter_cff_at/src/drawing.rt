@@ -11,7 +11,7 @@ use crate::texts::draw_texts;
 use std::alloc::Global;
 use subsetter_base::error::Error;
 use subsetter_cff2::made::{NewGlyphs, PlacedDict, place_dicts};
-use subsetter_cff2::used::{indexes_of, used_dicts};
+use subsetter_cff2::selection::used::{indexes_of, used_dicts};
 use subsetter_type2::limits::Limits;
 
 /// The private dicts at the coordinates, and all glyphs.

@@ -6,7 +6,7 @@ ghost use Rattle.std.specs.List.{AllByRecursion};
 ghost use Rattle.subsetter_base.specs.Within.{IsTooLong};
 ghost use Rattle.subsetter_base.specs.declared.error.Error.{Error as SpecError};
 ghost use Rattle.subsetter_base.specs.declared.error.Error.TheVariants.{OutOfMemory, OverflowError};
-ghost use Rattle.subsetter_cff.specs.Write.TableBy.{table_bytes};
+ghost use Rattle.subsetter_cff.specs.Write.Laying.TableBy.{table_bytes};
 ghost use Rattle.subsetter_cff_at.specs.Fault.{HasFault};
 ghost use Rattle.subsetter_cff_at.specs.Plain.{drawn_of, made_table, some_requested};
 ghost use Rattle.subsetter_cff_at.specs.Promise.{IsTableAt};

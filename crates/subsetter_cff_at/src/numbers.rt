@@ -8,7 +8,7 @@ ghost use Rattle.subsetter_cff_at.specs.Plain.{dict_number, number_if, numbers_f
 
 use std::alloc::Global;
 use subsetter_base::error::Error;
-use subsetter_cff2::search::FontDictSelect;
+use subsetter_cff2::selection::search::FontDictSelect;
 use subsetter_cff2::table::Table2;
 
 /// How many font dicts there are; FDSelect names those below 65536.

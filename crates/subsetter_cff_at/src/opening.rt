@@ -4,7 +4,7 @@ ghost use Rattle.std.specs.Prelude.{◌≡◌, length};
 ghost use Rattle.std.specs.Option.{option_map, ok_or};
 ghost use Rattle.subsetter_base.specs.Gives.{Gives};
 ghost use Rattle.subsetter_base.specs.declared.error.Error.TheVariants.{MalformedFont};
-ghost use Rattle.subsetter_cff.specs.Write.MatrixView.{shown};
+ghost use Rattle.subsetter_cff.specs.Write.NewDicts.MatrixView.{shown};
 ghost use Rattle.subsetter_cff2.specs.Cff2.{cff2_parts};
 ghost use Rattle.subsetter_cff2.specs.Cff2View.{cff2_of};
 ghost use Rattle.subsetter_cff2.specs.Variation.{optional_variation};
@@ -16,10 +16,10 @@ use crate::request::TableRequest;
 use crate::units::top_matrix;
 use std::alloc::Global;
 use subsetter_base::error::Error;
-use subsetter_cff::write::matrix::Matrix;
+use subsetter_cff::write::new_dicts::matrix::Matrix;
 use subsetter_cff2::table::{Table2, open};
 use subsetter_cff2::variation::{FontVariation, optional_store_at};
-use subsetter_variation::item_variations::Store;
+use subsetter_variation::items::item_variations::Store;
 
 /// A table, its FontMatrix, and what varies in it.
 #[derive(Drop)]

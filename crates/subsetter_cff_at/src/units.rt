@@ -2,14 +2,14 @@
 
 ghost use Rattle.std.specs.Prelude.{◌≡◌, ◌≤◌, ◌<◌};
 ghost use Rattle.std.specs.Option.{option_map};
-ghost use Rattle.subsetter_cffdata.specs.Dict.{entries};
-ghost use Rattle.subsetter_cff.specs.Read.Lookup.{last_of};
-ghost use Rattle.subsetter_cff.specs.Read.Operators.{font_matrix_operator};
-ghost use Rattle.subsetter_cff.specs.Write.MatrixView.{shown};
+ghost use Rattle.subsetter_cffdata.specs.Dicts.Dict.{entries};
+ghost use Rattle.subsetter_cff.specs.Read.Entries.Lookup.{last_of};
+ghost use Rattle.subsetter_cff.specs.Read.Entries.Operators.{font_matrix_operator};
+ghost use Rattle.subsetter_cff.specs.Write.NewDicts.MatrixView.{shown};
 ghost use Rattle.subsetter_cff2.specs.Made2.{optional_matrix};
 ghost use Rattle.subsetter_cff_at.specs.Units.{parts_of_unit, two_digits, unit_real, units_dict, matrix_or};
 
-use subsetter_cff::write::matrix::Matrix;
+use subsetter_cff::write::new_dicts::matrix::Matrix;
 use subsetter_cff2::made::find_matrix;
 
 /// 1/unitsPerEm in parts of 10^14, to the nearest; 0.001 where there are no units.

@@ -3,11 +3,11 @@ use Rattle.std.proofs.Common.{◌≡◌, [], ◌∷◌, ◌++◌, replicate, Som
 use Rattle.std.specs.Prelude.{pos, negsuc}
 use Rattle.subsetter_cffdata.specs.Bytes.{card, part}
 use Rattle.subsetter_base.specs.Bytes.{byte}
-use Rattle.subsetter_cffdata.specs.Decimals.{decimal_digits, unsigned_real, real_of, text_at, real_at, real_text, packed}
-use Rattle.subsetter_cffdata.specs.Numbers.{Integer, Real, in_i32, integer, integer_from, signed16, signed32, integer_at, dict_number_from, short_integer}
-use Rattle.subsetter_cffdata.specs.Values.{value, thousand, by_1000}
-use Rattle.subsetter_cffdata.specs.Index.{index_data, index_body, index_of, index_at, header, index}
-use Rattle.subsetter_cffdata.specs.Dict.{entry_in, entry_at, entries_in, entries}
+use Rattle.subsetter_cffdata.specs.Reals.Decimals.{decimal_digits, unsigned_real, real_of, text_at, real_at, real_text, packed}
+use Rattle.subsetter_cffdata.specs.Numerals.Numbers.{Integer, Real, in_i32, integer, integer_from, signed16, signed32, integer_at, dict_number_from, short_integer}
+use Rattle.subsetter_cffdata.specs.Numerals.Values.{value, thousand, by_1000}
+use Rattle.subsetter_cffdata.specs.Indexes.Index.{index_data, index_body, index_of, index_at, header, index}
+use Rattle.subsetter_cffdata.specs.Dicts.Dict.{entry_in, entry_at, entries_in, entries}
 
 -- integers written
 written : (integer (negsuc 106) ≡ 32 ∷ []) × (integer (pos 108) ≡ 0xF7 ∷ 0 ∷ []) × (integer (pos 1131) ≡ 0xFA ∷ 0xFF ∷ [])

@@ -1,14 +1,14 @@
 -- What numbers and operators in memory show.
 use Rattle.std.specs.Prelude.{ℕ, List, ◌++◌, take, slice_index}
 use Rattle.std.specs.Fmt.{decimal}
-use Rattle.subsetter_cffdata.specs.Decimals.{Decimal, signed, number}
-use Rattle.subsetter_cffdata.specs.Numbers.{Number, Integer, Real, Fixed}
-use Rattle.subsetter_cffdata.specs.declared.real_number.RealNumber.{RealNumber}
-use Rattle.subsetter_cffdata.specs.declared.number.Number.{Number as StoredNumber}
-use Rattle.subsetter_cffdata.specs.declared.number.Number.TheVariants as numbers
-use Rattle.subsetter_cffdata.specs.declared.operator.OperatorType.{OperatorType}
-use Rattle.subsetter_cffdata.specs.declared.operator.OperatorType.TheVariants as types
-use Rattle.subsetter_cffdata.specs.declared.operator.Operator.{Operator}
+use Rattle.subsetter_cffdata.specs.Reals.Decimals.{Decimal, signed, number}
+use Rattle.subsetter_cffdata.specs.Numerals.Numbers.{Number, Integer, Real, Fixed}
+use Rattle.subsetter_cffdata.specs.declared.reals.real_number.RealNumber.{RealNumber}
+use Rattle.subsetter_cffdata.specs.declared.numerals.number.Number.{Number as StoredNumber}
+use Rattle.subsetter_cffdata.specs.declared.numerals.number.Number.TheVariants as numbers
+use Rattle.subsetter_cffdata.specs.declared.dicts.operator.OperatorType.{OperatorType}
+use Rattle.subsetter_cffdata.specs.declared.dicts.operator.OperatorType.TheVariants as types
+use Rattle.subsetter_cffdata.specs.declared.dicts.operator.Operator.{Operator}
 
 abbrev pub decimal_of : RealNumber → Decimal
 decimal_of r = record { mantissa = signed r.negative (number (take r.len r.digits)); power = r.power }

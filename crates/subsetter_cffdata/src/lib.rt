@@ -1,8 +1,8 @@
 //! The values of a CFF table (Technical Note 5176): numbers, operators, INDEX structures and DICT structures, read and
 //! written.
 //!
-//! [`index::parse_index`] takes an INDEX, [`dict`]'s `DictionaryParser` the entries of a DICT one after the other, and
-//! `index::create_index` writes an INDEX. [`laws`] says that what is written is read again.
+//! [`indexes::index::parse_index`] takes an INDEX, [`dict`]'s `DictionaryParser` the entries of a DICT one after the other, and
+//! `indexes::index::create_index` writes an INDEX. [`laws`] says that what is written is read again.
 //!
 //! ```text
 //! let strings = parse_index::<u16>(&mut r)?;
@@ -11,27 +11,9 @@
 //! ```
 #![tactic(auto)]
 
-pub mod charstring_number;
-pub mod dict;
-pub mod index;
-mod index_iter;
-mod index_size;
-mod index_view;
+pub mod dicts;
+pub mod indexes;
 pub mod laws;
-pub mod number;
-mod offset_size;
-pub mod operands;
-pub mod operator;
+pub mod numerals;
 pub mod reading;
-mod reading_index;
-mod reading_text;
-mod real_number;
-mod real_text;
-mod real_writing;
-mod string_id;
-mod text;
-mod tokens;
-mod u24;
-mod value;
-mod whole;
-mod writing_index;
+mod reals;

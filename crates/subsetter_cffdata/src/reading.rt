@@ -3,7 +3,7 @@
 ghost use Rattle.std.specs.Prelude.{◌≡◌, ◌≤◌, length, drop, IfSome};
 ghost use Rattle.subsetter_cffdata.specs.Bytes.{card, part};
 ghost use Rattle.subsetter_base.specs.Bytes.{byte};
-ghost use Rattle.subsetter_cffdata.specs.Numbers.{signed16, signed32};
+ghost use Rattle.subsetter_cffdata.specs.Numerals.Numbers.{signed16, signed32};
 ghost use Rattle.subsetter_cffdata.specs.Reading.{rest, Takes};
 
 use subsetter_base::read::{Reader, u16_of, u32_of};
@@ -22,7 +22,7 @@ pub fn next_bytes<'a>(r: &mut Reader<'a>, len: usize) -> Option<&'a [u8]>
 }
 
 /// The next byte.
-#[tactic(auto, using(crate::proofs::Cards::byte_of_part))]
+#[tactic(auto, using(crate::proofs::NumeralsLaws::Cards::byte_of_part))]
 pub fn next_byte(r: &mut Reader<'_>) -> Option<u8>
     ensures value { Takes (λ x. x) result r.old r.new byte }
     ensures same { r.new.bytes ≡ r.old.bytes }
@@ -32,7 +32,7 @@ pub fn next_byte(r: &mut Reader<'_>) -> Option<u8>
 }
 
 /// The next two bytes, as an unsigned number.
-#[tactic(auto, using(crate::proofs::Cards::cards))]
+#[tactic(auto, using(crate::proofs::NumeralsLaws::Cards::cards))]
 pub fn next_u16(r: &mut Reader<'_>) -> Option<u16>
     ensures value { Takes (λ x. x) result r.old r.new (card 2) }
     ensures same { r.new.bytes ≡ r.old.bytes }
@@ -42,7 +42,7 @@ pub fn next_u16(r: &mut Reader<'_>) -> Option<u16>
 }
 
 /// The next four bytes, as an unsigned number.
-#[tactic(auto, using(crate::proofs::Cards::cards))]
+#[tactic(auto, using(crate::proofs::NumeralsLaws::Cards::cards))]
 pub fn next_u32(r: &mut Reader<'_>) -> Option<u32>
     ensures value { Takes (λ x. x) result r.old r.new (card 4) }
     ensures same { r.new.bytes ≡ r.old.bytes }
@@ -52,7 +52,7 @@ pub fn next_u32(r: &mut Reader<'_>) -> Option<u32>
 }
 
 /// The next two bytes, in two's complement.
-#[tactic(auto, using(crate::proofs::Cards::cards), unfolding(crate::specs::Numbers::signed16))]
+#[tactic(auto, using(crate::proofs::NumeralsLaws::Cards::cards), unfolding(crate::specs::Numerals::Numbers::signed16))]
 pub fn next_i16(r: &mut Reader<'_>) -> Option<i16>
     ensures value { Takes (λ x. x) result r.old r.new signed16 }
     ensures same { r.new.bytes ≡ r.old.bytes }
@@ -62,7 +62,7 @@ pub fn next_i16(r: &mut Reader<'_>) -> Option<i16>
 }
 
 /// The next four bytes, in two's complement.
-#[tactic(auto, using(crate::proofs::Cards::cards), unfolding(crate::specs::Numbers::signed32))]
+#[tactic(auto, using(crate::proofs::NumeralsLaws::Cards::cards), unfolding(crate::specs::Numerals::Numbers::signed32))]
 pub fn next_i32(r: &mut Reader<'_>) -> Option<i32>
     ensures value { Takes (λ x. x) result r.old r.new signed32 }
     ensures same { r.new.bytes ≡ r.old.bytes }

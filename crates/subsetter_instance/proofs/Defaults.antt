@@ -5,16 +5,16 @@ use Rattle.subsetter_base.specs.Bytes.{◌>>=◌}
 use Rattle.subsetter_base.specs.declared.error.Error.TheVariants.{MalformedFont}
 use Rattle.subsetter_base.proofs.Options.{just_is}
 use Rattle.subsetter_base.proofs.Results.{bind_ok, done_is, named_ok}
-use Rattle.subsetter_variation.specs.Movement.{Outline}
-use Rattle.subsetter_variation.specs.Tuples.{Gvar}
-use Rattle.subsetter_variation.specs.Varied.{in_units}
+use Rattle.subsetter_variation.specs.Glyphs.Movement.{Outline}
+use Rattle.subsetter_variation.specs.Glyphs.Tuples.{Gvar}
+use Rattle.subsetter_variation.specs.Glyphs.Varied.{in_units}
 use Rattle.subsetter_variation.specs.VariationLaws.{HasBoundTuples}
 use Rattle.subsetter_variation.proofs.Defaults.{stays_at_default}
 use Rattle.subsetter_instance.specs.Source.{Source, description, metric}
 use Rattle.subsetter_sfnt.specs.declared.fields.hmtx.LongHorMetric.{LongHorMetric}
-use Rattle.subsetter_instance.specs.Drawn.{Drawn, drawn, levels, rounded}
+use Rattle.subsetter_instance.specs.Glyphs.Drawn.{Drawn, drawn, levels, rounded}
 use Rattle.subsetter_instance.specs.MetricLaws.{IsDrawnAsUnvaried}
-use Rattle.subsetter_instance.specs.Unfolded.{Unfolded, moved, unfolded}
+use Rattle.subsetter_instance.specs.Glyphs.Unfolded.{Unfolded, moved, unfolded}
 use Rattle.subsetter_instance.specs.Laws.{IsDrawnAsInSource, unvaried}
 use Rattle.subsetter_instance.proofs.SameLaws.Unfolded.{ReadAlike, unfolded_alike}
 

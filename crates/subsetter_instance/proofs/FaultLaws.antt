@@ -3,11 +3,7 @@ pub mod Opening
 pub mod Parts
 pub mod Place
 pub mod Source
-pub mod Stores
-pub mod Rows
-pub mod Maps
-pub mod Hvar
-pub mod Mvar
+pub mod ItemLaws
 pub mod Tables
 pub mod Walk
 pub mod Rounded

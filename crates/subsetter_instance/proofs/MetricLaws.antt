@@ -13,17 +13,17 @@ use Rattle.subsetter_base.proofs.Options.{bind_some, just, just_is}
 use Rattle.subsetter_base.proofs.Results.{bind_ok, done, done_is}
 use Rattle.subsetter_points.specs.Simple.{has_16_bits, signed_word}
 use Rattle.subsetter_base.specs.Options as optional
-use Rattle.subsetter_variation.specs.FontMetrics.{metric_delta, metric_store, value_delta, value_of}
-use Rattle.subsetter_variation.specs.ItemLaws.{HasBoundRegions, IsMaster}
-use Rattle.subsetter_variation.specs.ItemVariations.{Row, Store, advance_delta, advance_index, delta, in_whole_units, item_delta, item_row, store_of, terms, whole_or_fault}
+use Rattle.subsetter_variation.specs.Items.FontMetrics.{metric_delta, metric_store, value_delta, value_of}
+use Rattle.subsetter_variation.specs.Items.ItemLaws.{HasBoundRegions, IsMaster}
+use Rattle.subsetter_variation.specs.Items.ItemVariations.{Row, Store, advance_delta, advance_index, delta, in_whole_units, item_delta, item_row, store_of, terms, whole_or_fault}
 use Rattle.subsetter_variation.specs.Nearest.{nearest}
 use Rattle.subsetter_variation.specs.Region.{unit}
-use Rattle.subsetter_variation.proofs.Items.{is_item_at_default, is_item_at_master, nearest_is}
-use Rattle.subsetter_instance.specs.Drawn.{advance, advance_or_fault, word_or_fault}
-use Rattle.subsetter_instance.specs.Lines.{moved_hhea, moved_post, varied, varied_hhea, varied_post, varied_post_if, varied_underline}
+use Rattle.subsetter_variation.proofs.ItemsLaws.Items.{is_item_at_default, is_item_at_master, nearest_is}
+use Rattle.subsetter_instance.specs.Glyphs.Drawn.{advance, advance_or_fault, word_or_fault}
+use Rattle.subsetter_instance.specs.Tables.Lines.{moved_hhea, moved_post, varied, varied_hhea, varied_post, varied_post_if, varied_underline}
 use Rattle.subsetter_instance.specs.MetricLaws.{IsRow, IsMetricRow, IsAdvanceAtMaster, IsAdvanceAtDefault, IsMetricAtMaster, IsMetricAtDefault, AreLinesAtDefault}
-use Rattle.subsetter_instance.proofs.FaultLaws.Hvar.{advance_in_turn, with_indexes, with_store}
-use Rattle.subsetter_instance.proofs.FaultLaws.Mvar.{metric_delta_in_turn}
+use Rattle.subsetter_instance.proofs.FaultLaws.ItemLaws.Hvar.{advance_in_turn, with_indexes, with_store}
+use Rattle.subsetter_instance.proofs.FaultLaws.ItemLaws.Mvar.{metric_delta_in_turn}
 use Rattle.subsetter_instance.proofs.FaultLaws.Lines.{three_steps, lines, caret, with_caret, with_position}
 use Rattle.subsetter_instance.proofs.FileLaws.Lines.{line_steps}
 

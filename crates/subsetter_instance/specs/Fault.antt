@@ -7,21 +7,21 @@ use Rattle.subsetter_points.specs.declared.outline.Point.{Point}
 use Rattle.subsetter_points.specs.Simple.{parts_fit}
 use Rattle.subsetter_sfnt.specs.Fault.{HasOpeningFault}
 use Rattle.subsetter_sfnt.specs.Read.{Font, stored}
-use Rattle.subsetter_sfnt.specs.Rows.{rows, present}
-use Rattle.subsetter_sfnt.specs.Written.{fits, start_of}
+use Rattle.subsetter_sfnt.specs.Laying.Rows.{rows, present}
+use Rattle.subsetter_sfnt.specs.Laying.Written.{fits, start_of}
 use Rattle.subsetter_instance.specs.Source.{Source, metric, normalized_coordinates, source_in}
 use Rattle.subsetter_sfnt.specs.declared.fields.hmtx.LongHorMetric.{LongHorMetric}
-use Rattle.subsetter_instance.specs.Unfolded.{Unfolded, unfolded}
-use Rattle.subsetter_instance.specs.GlyphFault.{HasHmtxFault}
-use Rattle.subsetter_instance.specs.CoordinatesFault.{HasCoordinatesFault}
-use Rattle.subsetter_instance.specs.SourceFault.{HasSourceFault, HasVersionFault}
-use Rattle.subsetter_instance.specs.WalkFault.{HasWalkFault}
-use Rattle.subsetter_instance.specs.RoundedFault.{HasAdvanceFault, HasFarPoint}
-use Rattle.subsetter_instance.specs.LinesFault.{HasLinesFault}
-use Rattle.subsetter_instance.specs.Drawn.{Drawn, levels, points_or_fault}
+use Rattle.subsetter_instance.specs.Glyphs.Unfolded.{Unfolded, unfolded}
+use Rattle.subsetter_instance.specs.Faults.GlyphFault.{HasHmtxFault}
+use Rattle.subsetter_instance.specs.Faults.CoordinatesFault.{HasCoordinatesFault}
+use Rattle.subsetter_instance.specs.Faults.SourceFault.{HasSourceFault, HasVersionFault}
+use Rattle.subsetter_instance.specs.Faults.WalkFault.{HasWalkFault}
+use Rattle.subsetter_instance.specs.Faults.RoundedFault.{HasAdvanceFault, HasFarPoint}
+use Rattle.subsetter_instance.specs.Faults.LinesFault.{HasLinesFault}
+use Rattle.subsetter_instance.specs.Glyphs.Drawn.{Drawn, levels, points_or_fault}
 use Rattle.subsetter_instance.specs.Plain.{drawn_all}
-use Rattle.subsetter_instance.specs.Lines.{Lines, lines_of, with_lines}
-use Rattle.subsetter_instance.specs.Written.{by_glyph, tables}
+use Rattle.subsetter_instance.specs.Tables.Lines.{Lines, lines_of, with_lines}
+use Rattle.subsetter_instance.specs.Tables.Written.{by_glyph, tables}
 
 -- a fault of one glyph of the tables at a place, in so many steps
 pub data HasGlyphFault (s : Source) (at : List ℤ) (steps g : ℕ) : Error → Type 0 where

@@ -8,13 +8,13 @@ use Rattle.subsetter_base.specs.Bytes.{aligned}
 use Rattle.subsetter_sfnt.specs.declared.flavor.FontFlavor.TheVariants.{TrueType}
 use Rattle.subsetter_sfnt.specs.Container.{IsSoundContainer}
 use Rattle.subsetter_sfnt.specs.Read.{Font, as_font, stored}
-use Rattle.subsetter_sfnt.specs.Rows.{rows, present, tags}
-use Rattle.subsetter_sfnt.specs.Written.{kind_word}
+use Rattle.subsetter_sfnt.specs.Laying.Rows.{rows, present, tags}
+use Rattle.subsetter_sfnt.specs.Laying.Written.{kind_word}
 use Rattle.subsetter_instance.specs.Source.{Source, description, metric, normalized_coordinates, source_in}
-use Rattle.subsetter_instance.specs.Drawn.{Drawn, drawn}
-use Rattle.subsetter_instance.specs.Extremes.{all_extents, box_bytes, extreme_bytes}
-use Rattle.subsetter_instance.specs.Lines.{Lines, lines_of, with_lines}
-use Rattle.subsetter_instance.specs.Written.{tables}
+use Rattle.subsetter_instance.specs.Glyphs.Drawn.{Drawn, drawn}
+use Rattle.subsetter_instance.specs.Tables.Extremes.{all_extents, box_bytes, extreme_bytes}
+use Rattle.subsetter_instance.specs.Tables.Lines.{Lines, lines_of, with_lines}
+use Rattle.subsetter_instance.specs.Tables.Written.{tables}
 use Rattle.subsetter_instance.specs.Plain.{drawn_all, instance_of}
 
 -- the tags of the tables; name and post where the font has them

@@ -7,17 +7,17 @@ use Rattle.subsetter_base.specs.declared.error.Error.{Error}
 use Rattle.subsetter_sfnt.specs.Read.{Font}
 use Rattle.subsetter_points.specs.declared.outline.Point.{Point}
 use Rattle.subsetter_points.specs.Simple.{box}
-use Rattle.subsetter_instance.specs.Drawn.{Drawn}
-use Rattle.subsetter_instance.specs.Extremes.{all_extents, box_bytes}
+use Rattle.subsetter_instance.specs.Glyphs.Drawn.{Drawn}
+use Rattle.subsetter_instance.specs.Tables.Extremes.{all_extents, box_bytes}
 use Rattle.subsetter_instance.specs.Fault.{HasInstanceFault}
 use Rattle.subsetter_instance.specs.Instance.{IsInstance}
 use Rattle.subsetter_instance.specs.Plain.{instance_of}
 use Rattle.subsetter_instance.specs.Source.{Source}
-use Rattle.subsetter_instance.specs.Unfolded.{Unfolded, unfolded}
-use Rattle.subsetter_variation.specs.Movement.{Outline}
-use Rattle.subsetter_variation.specs.Tuples.{Gvar}
+use Rattle.subsetter_instance.specs.Glyphs.Unfolded.{Unfolded, unfolded}
+use Rattle.subsetter_variation.specs.Glyphs.Movement.{Outline}
+use Rattle.subsetter_variation.specs.Glyphs.Tuples.{Gvar}
 use Rattle.subsetter_variation.specs.VariationLaws.{HasBoundTuples}
-use Rattle.subsetter_instance.specs.WalkFault.{HasWalkFault}
+use Rattle.subsetter_instance.specs.Faults.WalkFault.{HasWalkFault}
 
 -- the file that the plain way lays out is an instance, read afresh from its bytes
 abbrev pub IsReadAfresh : Type 0

@@ -2,17 +2,17 @@
 -- the default.
 use Rattle.std.specs.Prelude.{◌≡◌, ◌≤◌, ℕ, ◌==◌, ◌&&◌, false, List, length, codes, Option, Some, None, Ok, All, ℤ, pos, ◌+ℤ◌, ◌≤ℤ◌}
 use Rattle.subsetter_base.specs.Bytes.{IsBytes}
-use Rattle.subsetter_variation.specs.FontMetrics.{metric_store, value_of}
-use Rattle.subsetter_variation.specs.ItemLaws.{HasBoundRegions, IsMaster}
-use Rattle.subsetter_variation.specs.ItemVariations.{Row, Store, advance_index, delta, item_row, store_of}
-use Rattle.subsetter_variation.specs.Movement.{Outline}
-use Rattle.subsetter_variation.specs.Tuples.{Gvar}
+use Rattle.subsetter_variation.specs.Items.FontMetrics.{metric_store, value_of}
+use Rattle.subsetter_variation.specs.Items.ItemLaws.{HasBoundRegions, IsMaster}
+use Rattle.subsetter_variation.specs.Items.ItemVariations.{Row, Store, advance_index, delta, item_row, store_of}
+use Rattle.subsetter_variation.specs.Glyphs.Movement.{Outline}
+use Rattle.subsetter_variation.specs.Glyphs.Tuples.{Gvar}
 use Rattle.subsetter_variation.specs.VariationLaws.{HasBoundTuples}
-use Rattle.subsetter_instance.specs.Drawn.{Drawn, advance, drawn}
+use Rattle.subsetter_instance.specs.Glyphs.Drawn.{Drawn, advance, drawn}
 use Rattle.subsetter_instance.specs.Laws.{unvaried}
-use Rattle.subsetter_instance.specs.Lines.{Lines, lines_of, varied}
+use Rattle.subsetter_instance.specs.Tables.Lines.{Lines, lines_of, varied}
 use Rattle.subsetter_instance.specs.Source.{Source, metric}
-use Rattle.subsetter_instance.specs.Unfolded.{counted_description, is_composite}
+use Rattle.subsetter_instance.specs.Glyphs.Unfolded.{counted_description, is_composite}
 use Rattle.subsetter_sfnt.specs.declared.fields.hmtx.LongHorMetric.{LongHorMetric}
 
 -- ---- items

@@ -9,12 +9,12 @@ use Rattle.subsetter_sfnt.specs.declared.flavor.FontFlavor.{FontFlavor}
 use Rattle.subsetter_sfnt.specs.declared.flavor.FontFlavor.TheVariants.{TrueType, Cff}
 use Rattle.subsetter_sfnt.specs.Read.{Font, table_in}
 use Rattle.subsetter_sfnt.specs.Plain.{opened, flavored, file_of}
-use Rattle.subsetter_sfnt.specs.Rows.{rows, present}
-use Rattle.subsetter_sfnt.specs.Written.{kind_word}
+use Rattle.subsetter_sfnt.specs.Laying.Rows.{rows, present}
+use Rattle.subsetter_sfnt.specs.Laying.Written.{kind_word}
 use Rattle.subsetter_instance.specs.Source.{Source, normalized_coordinates, source_or_fault}
-use Rattle.subsetter_instance.specs.Drawn.{Drawn, drawn}
-use Rattle.subsetter_instance.specs.Lines.{Lines, lines_of, with_lines}
-use Rattle.subsetter_instance.specs.Written.{by_glyph, tables}
+use Rattle.subsetter_instance.specs.Glyphs.Drawn.{Drawn, drawn}
+use Rattle.subsetter_instance.specs.Tables.Lines.{Lines, lines_of, with_lines}
+use Rattle.subsetter_instance.specs.Tables.Written.{by_glyph, tables}
 
 -- each glyph that is asked for is one of the font's, and is drawn in as many steps as each other
 abbrev pub drawn_if : Source → List ℤ → ℕ → ℕ → Result Drawn Error

@@ -5,8 +5,8 @@ use Rattle.subsetter_base.specs.Bytes.{number, between_offsets}
 use Rattle.subsetter_base.specs.declared.tag.Tag.{Tag}
 use Rattle.subsetter_base.specs.declared.error.Error.{Error}
 use Rattle.subsetter_base.specs.declared.error.Error.TheVariants.{MalformedFont, Unimplemented}
-use Rattle.subsetter_variation.specs.Tuples.{Gvar, gvar_table}
-use Rattle.subsetter_variation.specs.Coordinates.{is_other_version, normalized_or_fault}
+use Rattle.subsetter_variation.specs.Glyphs.Tuples.{Gvar, gvar_table}
+use Rattle.subsetter_variation.specs.Locations.Coordinates.{is_other_version, normalized_or_fault}
 use Rattle.subsetter_base.specs.Options.{◌>>=◌}
 use Rattle.subsetter_sfnt.specs.Fields.Hmtx.{metric_at}
 use Rattle.subsetter_sfnt.specs.declared.fields.hmtx.LongHorMetric.{LongHorMetric}

@@ -2,21 +2,10 @@
 //! simple outline, without instructions, that the variable font has at a place, under its old number.
 #![tactic(auto)]
 
-pub mod components;
-pub mod composite;
-pub mod drawn;
-pub mod extremes;
-pub mod file;
-pub mod glyph;
-pub mod headers;
+pub mod glyphs;
 pub mod instancing;
-pub mod kept;
 pub mod laws;
-pub mod lines;
-pub mod placing;
-pub mod simple;
 pub mod source;
-pub mod unfolding;
-pub mod writing;
+pub mod tables;
 
 pub use instancing::instance;

@@ -17,8 +17,8 @@ use subsetter_sfnt::fields::hhea::number_of_h_metrics;
 use subsetter_sfnt::fields::hmtx::{LongHorMetric, glyph_metric};
 use subsetter_sfnt::fields::loca::loca_offset;
 use subsetter_sfnt::fields::maxp::num_glyphs;
-use subsetter_variation::coordinates::{coordinates, is_other_version};
-use subsetter_variation::tuples::{Gvar, gvar_table};
+use subsetter_variation::locations::coordinates::{coordinates, is_other_version};
+use subsetter_variation::glyphs::tuples::{Gvar, gvar_table};
 
 /// The tables of outlines and metrics, and what varies.
 #[derive(Drop)]

@@ -2,10 +2,10 @@
 use Rattle.std.specs.Prelude.{◌≡◌, ℕ, ◌==◌, ◌&&◌, not, min, if◌then◌else◌, Bool, List, [], ◌∷◌, length, get_or, map, codes, Option, Some, None, ℤ, pos, neg_ℤ}
 use Rattle.std.specs.Option.{option_copied, option_map}
 use Rattle.std.specs.Ordering.{int_eq}
-use Rattle.pdf_text.specs.Arrays.{entries, array_text}
-use Rattle.pdf_text.specs.Columns.{spans, columns_text}
-use Rattle.pdf_text.specs.declared.columns.Column.{Column}
-use Rattle.pdf_text.specs.declared.columns.DefaultColumn.{DefaultColumn}
+use Rattle.pdf_text.specs.Metrics.Arrays.{entries, array_text}
+use Rattle.pdf_text.specs.Metrics.Columns.{spans, columns_text}
+use Rattle.pdf_text.specs.declared.metrics.columns.Column.{Column}
+use Rattle.pdf_text.specs.declared.metrics.columns.DefaultColumn.{DefaultColumn}
 use Rattle.pdf_text.specs.declared.values.Descriptor.{Descriptor}
 use Rattle.pdf_text.specs.declared.values.FontValues.{FontValues}
 use Rattle.pdf_text.specs.declared.values.ProgramKind.{ProgramKind}

@@ -3,7 +3,7 @@
 ghost use Rattle.std.specs.Prelude.{◌≡◌, ◌<◌, ◌≤◌, ◌⊎◌, length, map, IfOk, IfErr, OnOk, get_or, pos, true};
 ghost use Rattle.std.specs.Option.{option_copied, option_map};
 ghost use Rattle.subsetter_base.specs.declared.error.Error.TheVariants.{OutOfMemory, OverflowError};
-ghost use Rattle.pdf_text.specs.Columns.{spans, columns_text};
+ghost use Rattle.pdf_text.specs.Metrics.Columns.{spans, columns_text};
 ghost use Rattle.subsetter_pdf_c.specs.Made.{AreValuesOf, IsDescriptorOf, column_of, default_advance, default_column, default_y, is_yes, kind_of, unless_empty, w2_text, w_text, weight_of, x_height_of};
 ghost use Rattle.pdf_text.specs.View.{name_of, text_of};
 ghost use Rattle.subsetter_pdf_c.specs.Written.{HasManyColumns};

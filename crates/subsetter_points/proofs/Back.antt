@@ -10,9 +10,9 @@ use mir.Val.{SFits}
 use Rattle.subsetter_base.proofs.ByteLemmas.{be-u8, be-u16, number_at}
 use Rattle.subsetter_base.specs.Options.{◌>>=◌}
 use Rattle.subsetter_points.specs.declared.outline.Point.{Point}
-use Rattle.subsetter_points.specs.declared.flags.Run.{Run}
-use Rattle.subsetter_points.specs.declared.deltas.Encoding.{Encoding}
-use Rattle.subsetter_points.specs.declared.deltas.Encoding.TheVariants.{Same, Positive, Negative, Word}
+use Rattle.subsetter_points.specs.declared.lists.flags.Run.{Run}
+use Rattle.subsetter_points.specs.declared.lists.deltas.Encoding.{Encoding}
+use Rattle.subsetter_points.specs.declared.lists.deltas.Encoding.TheVariants.{Same, Positive, Negative, Word}
 use Rattle.subsetter_points.specs.Simple.{Outline, all_points, has_16_bits, byte, word, end_at, ends, count, contours, repeats_at, next, flags, encoding_of, delta_at, in_16_bits, coordinate, coordinates, xs, ys, points, points_at, body_at, after, parts_at, description_at, header_at, parts, simple, shortest_encoding, encoded_delta, flag_of, flag_bytes, delta_bytes, xs_of, ys_of, box, end_bytes, point_bytes, parts_bytes, ends_of, simple_bytes, deltas_fit, points_fit, fits, are_ends}
 use Rattle.subsetter_base.specs.Bytes.{has_flag}
 use Rattle.subsetter_points.proofs.ReadLemmas.{onto, flags_suc, ends_suc, coordinates_cons, parts_of_bytes}

@@ -6,7 +6,7 @@ use Rattle.std.proofs.lemmas.Bool.{ne_eqb}
 use Rattle.std.specs.Option.{option_map}
 use Rattle.subsetter_base.specs.Options.{◌>>=◌}
 use Rattle.subsetter_points.specs.declared.outline.Point.{Point}
-use Rattle.subsetter_points.specs.declared.flags.Run.{Run}
+use Rattle.subsetter_points.specs.declared.lists.flags.Run.{Run}
 use Rattle.subsetter_points.specs.Simple.{next, flags, end_at, ends, count, coordinate, coordinates, points, contours, header_at, description_at, parts, simple}
 use Rattle.subsetter_base.specs.Bytes.{has_flag}
 use Rattle.subsetter_points.specs.View.{parts_of, contours_of}

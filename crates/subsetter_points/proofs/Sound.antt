@@ -6,7 +6,7 @@ use Rattle.std.proofs.lemmas.Bool.{eq-eqb}
 use Rattle.subsetter_base.specs.Options.{◌>>=◌}
 use Rattle.subsetter_points.specs.declared.outline.Point.{Point}
 use Rattle.subsetter_points.specs.declared.outline.Outline as code
-use Rattle.subsetter_points.specs.declared.flags.Run.{Run}
+use Rattle.subsetter_points.specs.declared.lists.flags.Run.{Run}
 use Rattle.subsetter_points.specs.declared.outline.Columns.{Columns}
 use Rattle.subsetter_points.specs.View.{parts_of, parts_of_columns}
 use Rattle.subsetter_points.specs.Simple.{word, end_at, ends, count, next, flags, coordinate, coordinates, xs, ys, points, points_at, body_at, header_at, parts_at, description_at, parts, are_ends}

@@ -6,9 +6,9 @@ use Rattle.std.specs.Int.{w16, to_be_bytes, cast_signed, cast_unsigned, int_min,
 use Rattle.subsetter_base.specs.Bytes.{number, has_flag}
 use Rattle.subsetter_base.specs.Options.{◌>>=◌}
 use Rattle.subsetter_points.specs.declared.outline.Point.{Point}
-use Rattle.subsetter_points.specs.declared.deltas.Encoding.{Encoding}
-use Rattle.subsetter_points.specs.declared.deltas.Encoding.TheVariants.{Same, Positive, Negative, Word}
-use Rattle.subsetter_points.specs.declared.flags.Run.{Run}
+use Rattle.subsetter_points.specs.declared.lists.deltas.Encoding.{Encoding}
+use Rattle.subsetter_points.specs.declared.lists.deltas.Encoding.TheVariants.{Same, Positive, Negative, Word}
+use Rattle.subsetter_points.specs.declared.lists.flags.Run.{Run}
 
 -- an outline: its contours, each a list of points
 abbrev pub Outline : Type 0

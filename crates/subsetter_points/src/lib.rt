@@ -16,23 +16,16 @@
 
 mod bounds;
 pub mod component;
-mod coordinates;
-mod delta_bytes;
-mod deltas;
-mod end_bytes;
-mod ends;
-mod fitting;
-mod flag_bytes;
-mod flags;
-mod front;
 pub mod laws;
+mod list_bytes;
+mod lists;
 mod outline;
 mod points;
 mod reading;
 mod writing;
 
 pub use bounds::least_x;
-pub use fitting::fits;
+pub use list_bytes::fitting::fits;
 pub use outline::{Columns, Outline, Point};
 pub use reading::{read_columns, read_simple};
 pub use writing::write_simple;

@@ -4,7 +4,7 @@ ghost use Rattle.std.specs.Prelude.{◌≡◌, IfOk, IfErr, length};
 ghost use Rattle.subsetter_base.specs.declared.error.Error.TheVariants.{OutOfMemory};
 ghost use Rattle.subsetter_points.specs.Simple.{points};
 
-use crate::deltas::has;
+use crate::lists::deltas::has;
 use crate::outline::Point;
 use std::alloc::Global;
 use subsetter_base::Error;

@@ -12,10 +12,10 @@ ghost use Rattle.subsetter_base.specs.declared.error.Error.TheVariants.{OutOfMem
 ghost use Rattle.subsetter_points.specs.Simple.{points, points_at, body_at, parts_at, description_at, header_at, parts, simple, are_ends};
 ghost use Rattle.subsetter_points.specs.View.{parts_of, parts_of_columns, contours_of};
 
-use crate::coordinates::read_coordinates;
-use crate::ends::{count, read_ends};
-use crate::flags::read_flags;
-use crate::front::{read_after, read_word};
+use crate::lists::coordinates::read_coordinates;
+use crate::lists::ends::{count, read_ends};
+use crate::lists::flags::read_flags;
+use crate::lists::front::{read_after, read_word};
 use crate::outline::{Columns, Outline};
 use crate::points::join_points;
 use std::alloc::Global;

@@ -11,9 +11,9 @@ ghost use Rattle.subsetter_points.specs.Simple.{parts_bytes, simple_bytes, parts
 ghost use Rattle.subsetter_points.specs.View.{contours_of};
 
 use crate::bounds::write_box;
-use crate::delta_bytes::{write_xs, write_ys};
-use crate::end_bytes::write_ends;
-use crate::flag_bytes::write_flags;
+use crate::list_bytes::delta_bytes::{write_xs, write_ys};
+use crate::list_bytes::end_bytes::write_ends;
+use crate::list_bytes::flag_bytes::write_flags;
 use crate::outline::{Outline, Point};
 use subsetter_base::Error;
 

@@ -4,8 +4,8 @@ use Rattle.std.specs.Str.{bytes_eq}
 use Rattle.subsetter_base.specs.Bytes.{be, range, number, aligned}
 use Rattle.subsetter_sfnt.specs.declared.face.TableRecord.{TableRecord}
 use Rattle.subsetter_sfnt.specs.Read.{as_font, directory, table}
-use Rattle.subsetter_sfnt.specs.Checksum.{checksum}
-use Rattle.subsetter_sfnt.specs.Written.{with_adjustment}
+use Rattle.subsetter_sfnt.specs.Laying.Checksum.{checksum}
+use Rattle.subsetter_sfnt.specs.Laying.Written.{with_adjustment}
 
 -- `head` is summed with zeros in its bytes 8..12
 abbrev pub summed : TableRecord → List ℕ → List ℕ

@@ -1,11 +1,8 @@
 pub mod Extras
 pub mod Read
 pub mod Plain
-pub mod Checksum
-pub mod Written
+pub mod Laying
 pub mod Container
-pub mod Weights
-pub mod Rows
 pub mod View
 pub mod Fault
 pub mod FontAt

@@ -8,7 +8,7 @@ use Rattle.subsetter_sfnt.specs.declared.face.FontKind.{FontKind}
 use Rattle.subsetter_sfnt.specs.declared.face.FontKind.TheVariants.{Collection, Single}
 use Rattle.subsetter_sfnt.specs.declared.flavor.FontFlavor.{FontFlavor}
 use Rattle.subsetter_sfnt.specs.declared.flavor.FontFlavor.TheVariants.{TrueType, Cff}
-use Rattle.subsetter_sfnt.specs.Written.{Table, start_of, fits, file}
+use Rattle.subsetter_sfnt.specs.Laying.Written.{Table, start_of, fits, file}
 use Rattle.subsetter_sfnt.specs.Read.{Font, kind_at, collection_entry, if_single, records_at}
 
 abbrev pub opened_by_kind : FontKind → Font → Result ℕ Error

@@ -1,10 +1,10 @@
 -- What the code's tables of a new font stand for.
 use Rattle.std.specs.Prelude.{ℕ, List, map}
 use Rattle.std.specs.Option.{option_map}
-use Rattle.subsetter_sfnt.specs.declared.tables.NewTable.{NewTable}
-use Rattle.subsetter_sfnt.specs.declared.tables.FontTables.{FontTables as NewFont}
-use Rattle.subsetter_sfnt.specs.Written.{Table}
-use Rattle.subsetter_sfnt.specs.Rows.{FontTables}
+use Rattle.subsetter_sfnt.specs.declared.laying.tables.NewTable.{NewTable}
+use Rattle.subsetter_sfnt.specs.declared.laying.tables.FontTables.{FontTables as NewFont}
+use Rattle.subsetter_sfnt.specs.Laying.Written.{Table}
+use Rattle.subsetter_sfnt.specs.Laying.Rows.{FontTables}
 
 -- a table by its tag and its bytes
 abbrev pub view : {T : Type 0} → (T → List ℕ) → NewTable T → Table

@@ -4,7 +4,7 @@ ghost use Rattle.std.specs.Prelude.{◌≡◌};
 ghost use Rattle.subsetter_sfnt.specs.Read.{table_in};
 ghost use Rattle.subsetter_sfnt.specs.Extras.{requested};
 ghost use Rattle.subsetter_sfnt.specs.Plain.{flavored};
-ghost use Rattle.subsetter_sfnt.specs.Written.{kind_word};
+ghost use Rattle.subsetter_sfnt.specs.Laying.Written.{kind_word};
 
 use crate::face::{Face, OTTO, TRUETYPE_VERSION};
 use subsetter_base::write::{Writeable, Writer};
@@ -33,7 +33,7 @@ impl FontFlavor {
 
 impl Writeable for FontFlavor {
     ghost use Rattle.std.specs.Int.{w32, to_be_bytes};
-    ghost use Rattle.subsetter_sfnt.specs.Written.{kind_word};
+    ghost use Rattle.subsetter_sfnt.specs.Laying.Written.{kind_word};
 
     ghost bytes_of = { λ flavor. to_be_bytes w32 (kind_word flavor) };
 

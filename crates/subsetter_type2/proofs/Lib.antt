@@ -1,13 +1,7 @@
-pub mod Operating
-pub mod OutputLemmas
+pub mod RunsLaws
 pub mod ProgramLemmas
-pub mod Runs
-pub mod BehindRuns
-pub mod Stretches
-pub mod PlainTables
-pub mod RecursionLemmas
+pub mod StretchesLaws
 pub mod Replay
-pub mod Acts
 pub mod Playback
 pub mod TraceLimits
 pub mod TraceLaws

@@ -2,17 +2,17 @@
 use Rattle.std.proofs.Common.{◌≡◌, ℕ, zero, suc, ◌+◌, ◌-◌, ◌<◌, ◌≤◌, List, [], ◌∷◌, ◌++◌, length, Option, Some, None, Ok, Bool, true, false, refl, sym, ap, ◌∙◌, subst, arith, append_assoc, append-nil}
 use Rattle.std.proofs.lemmas.Bool.{le-leb}
 use Rattle.std.specs.Prelude.{nat_le, if◌then◌else◌}
-use Rattle.subsetter_cffdata.specs.declared.charstring_number.CharStringNumber.{CharStringNumber}
+use Rattle.subsetter_cffdata.specs.declared.numerals.charstring_number.CharStringNumber.{CharStringNumber}
 use Rattle.subsetter_base.specs.declared.error.Error.TheVariants.{CFFError}
 use Rattle.subsetter_cffdata.specs.Views.{operator_of}
 use Rattle.subsetter_type2.specs.Token.{token_of}
 use Rattle.subsetter_type2.specs.Flat.{flat_operands, flat_event, flat_events, flat, bytes_of, flat_form}
-use Rattle.subsetter_type2.specs.Machine.{Library, Registers, State, Event, Trace, Act, Does, Fails, Goes, Faults, Lead, On, Into, Back, Over, Outcome, Finishes, Stops, unended, follow, with_event, act_at, move, rests_after, run, outcome, start}
-use Rattle.subsetter_type2.proofs.Runs.{run_more, run_over, run_out}
-use Rattle.subsetter_type2.proofs.RecursionLemmas.{unended_front}
+use Rattle.subsetter_type2.specs.Runs.Machine.{Library, Registers, State, Event, Trace, Act, Does, Fails, Goes, Faults, Lead, On, Into, Back, Over, Outcome, Finishes, Stops, unended, follow, with_event, act_at, move, rests_after, run, outcome, start}
+use Rattle.subsetter_type2.proofs.RunsLaws.Runs.{run_more, run_over, run_out}
+use Rattle.subsetter_type2.proofs.RunsLaws.RecursionLemmas.{unended_front}
 use Rattle.subsetter_type2.proofs.Replay.{one, operands_run}
-use Rattle.subsetter_type2.specs.OutputView.{AllFit}
-use Rattle.subsetter_type2.proofs.Acts.{Sound, Silent, Loud, Class, class_at, lead_with}
+use Rattle.subsetter_type2.specs.Runs.OutputView.{AllFit}
+use Rattle.subsetter_type2.proofs.RunsLaws.Acts.{Sound, Silent, Loud, Class, class_at, lead_with}
 
 abbrev pub emptied : Registers → Registers
 emptied r = record { operands = []; stems = r.stems; mask_len = r.mask_len }

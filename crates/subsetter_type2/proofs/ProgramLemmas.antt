@@ -2,13 +2,13 @@
 use Rattle.std.proofs.Common.{◌≡◌, ℕ, ◌-◌, List, [], ◌∷◌, ◌++◌, length, refl, sym, ap, ◌∙◌, arith, append_assoc, append-nil}
 use Rattle.std.proofs.lemmas.List.{take_all}
 use Rattle.std.proofs.lemmas.Grind.{flat_map-append}
-use Rattle.subsetter_cffdata.specs.declared.charstring_number.CharStringNumber.{CharStringNumber}
+use Rattle.subsetter_cffdata.specs.declared.numerals.charstring_number.CharStringNumber.{CharStringNumber}
 use Rattle.subsetter_type2.specs.declared.program.Instruction.{Instruction}
 use Rattle.std.specs.Borrow.{Bor}
-use Rattle.subsetter_cffdata.specs.declared.operator.Operator.{Operator}
+use Rattle.subsetter_cffdata.specs.declared.dicts.operator.Operator.{Operator}
 use Rattle.subsetter_type2.specs.declared.program.Instruction.TheVariants as instruction
 use Rattle.subsetter_cffdata.specs.Views.{operator_of}
-use Rattle.subsetter_cffdata.specs.CharStringNumber.{written}
+use Rattle.subsetter_cffdata.specs.Numerals.CharStringNumber.{written}
 use Rattle.subsetter_type2.specs.Flat.{flat_operands}
 use Rattle.subsetter_type2.specs.ProgramView.{instruction_bytes, program_bytes, operand_instructions, settled_program, draft_of, IsDraft}
 

@@ -2,16 +2,16 @@
 use Rattle.std.proofs.Common.{◌≡◌, ℕ, suc, ◌+◌, ◌<◌, ◌≤◌, List, [], ◌∷◌, ◌++◌, length, Option, Some, None, refl, ap, ◌∙◌, arith, append_assoc, append-nil, length-append}
 use Rattle.std.proofs.lemmas.Bool.{le-leb, lt-ltb}
 use Rattle.std.proofs.lemmas.Bool.Decides.{nat_tests}
-use Rattle.subsetter_cffdata.specs.declared.charstring_number.CharStringNumber.{CharStringNumber}
+use Rattle.subsetter_cffdata.specs.declared.numerals.charstring_number.CharStringNumber.{CharStringNumber}
 use Rattle.subsetter_type2.specs.Token.{Operand}
-use Rattle.subsetter_cffdata.specs.CharStringNumber.{NumberFits, number_at, written}
+use Rattle.subsetter_cffdata.specs.Numerals.CharStringNumber.{NumberFits, number_at, written}
 use Rattle.subsetter_type2.specs.Token.{token_of}
 use Rattle.subsetter_type2.specs.Flat.{flat_operands}
-use Rattle.subsetter_type2.specs.OutputView.{AllFit}
-use Rattle.subsetter_type2.specs.Machine.{Library, Registers, State, Event, Does, Goes, On, follow, act_at, move, run}
-use Rattle.subsetter_type2.proofs.Runs.{run_more}
-use Rattle.subsetter_type2.proofs.RecursionLemmas.{unended_front}
-use Rattle.subsetter_cffdata.proofs.CharStringNumbers.{read_back}
+use Rattle.subsetter_type2.specs.Runs.OutputView.{AllFit}
+use Rattle.subsetter_type2.specs.Runs.Machine.{Library, Registers, State, Event, Does, Goes, On, follow, act_at, move, run}
+use Rattle.subsetter_type2.proofs.RunsLaws.Runs.{run_more}
+use Rattle.subsetter_type2.proofs.RunsLaws.RecursionLemmas.{unended_front}
+use Rattle.subsetter_cffdata.proofs.NumeralsLaws.CharStringNumbers.{read_back}
 
 -- a number that is read as a token
 pub token_number : (bytes : List ℕ) (n : CharStringNumber) (rest : List ℕ) → number_at bytes ≡ Some (n, rest) → token_of bytes ≡ Some (Operand n, rest)

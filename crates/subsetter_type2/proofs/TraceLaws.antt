@@ -1,6 +1,6 @@
 -- The laws of the run, in terms of traces.
 use Rattle.std.proofs.Common.{◌≡◌, ℕ, ◌≤◌, List, Some, Ok, refl, sym, ap, subst}
-use Rattle.subsetter_type2.specs.Machine.{Library, Trace, Outcome, Finishes, Stops, outcome, trace_of, trace}
+use Rattle.subsetter_type2.specs.Runs.Machine.{Library, Trace, Outcome, Finishes, Stops, outcome, trace_of, trace}
 use Rattle.subsetter_type2.specs.Flat.{flat, bytes_of, flat_form}
 use Rattle.subsetter_type2.proofs.Playback.{plays_back}
 use Rattle.subsetter_type2.proofs.TraceLimits.{same_trace}

@@ -4,8 +4,8 @@ use Rattle.std.proofs.lemmas.Bool.{le-leb}
 use Rattle.std.proofs.lemmas.Bool.Decides.{nat_tests}
 use Rattle.std.specs.Prelude.{nat_le, if◌then◌else◌}
 use Rattle.subsetter_base.specs.declared.error.Error.TheVariants.{CFFError}
-use Rattle.subsetter_type2.specs.Machine.{Library, State, Event, Trace, Act, Does, Fails, Goes, Faults, Outcome, Finishes, Stops, unended, follow, with_event, act_at, move, rests_after, run, outcome, start}
-use Rattle.subsetter_type2.proofs.Runs.{run_more, run_over, run_out}
+use Rattle.subsetter_type2.specs.Runs.Machine.{Library, State, Event, Trace, Act, Does, Fails, Goes, Faults, Outcome, Finishes, Stops, unended, follow, with_event, act_at, move, rests_after, run, outcome, start}
+use Rattle.subsetter_type2.proofs.RunsLaws.Runs.{run_more, run_over, run_out}
 use Rattle.subsetter_type2.proofs.Playback.{moved}
 
 test_true : (b : Bool) (event : Option Event) (next : State) (said : List Event) (go : List Event → State → Outcome) (u : Trace) → follow (if b then Goes event next else Faults CFFError) said go ≡ Finishes u → b ≡ true

@@ -3,10 +3,10 @@
 use Rattle.std.specs.Prelude.{ℕ, List, ◌++◌, Result, Ok, Err}
 use Rattle.std.specs.List.{flat_map}
 use Rattle.subsetter_base.specs.declared.error.Error.{Error}
-use Rattle.subsetter_cffdata.specs.declared.charstring_number.CharStringNumber.{CharStringNumber}
-use Rattle.subsetter_cffdata.specs.CharStringNumber.{written}
+use Rattle.subsetter_cffdata.specs.declared.numerals.charstring_number.CharStringNumber.{CharStringNumber}
+use Rattle.subsetter_cffdata.specs.Numerals.CharStringNumber.{written}
 use Rattle.subsetter_cffdata.specs.Views.{operator_of}
-use Rattle.subsetter_type2.specs.Machine.{Library, Event, Trace, Outcome, Finishes, Stops, outcome}
+use Rattle.subsetter_type2.specs.Runs.Machine.{Library, Event, Trace, Outcome, Finishes, Stops, outcome}
 
 abbrev pub flat_operands : List CharStringNumber → List ℕ
 flat_operands numbers = flat_map written numbers

@@ -1,6 +1,6 @@
 -- Laws of the run of a charstring.
 use Rattle.std.specs.Prelude.{◌≡◌, ◌≤◌, ℕ, List, Some, Ok}
-use Rattle.subsetter_type2.specs.Machine.{Library, Trace, trace}
+use Rattle.subsetter_type2.specs.Runs.Machine.{Library, Trace, trace}
 use Rattle.subsetter_type2.specs.Flat.{flat, flat_form}
 
 -- the flat form of a trace has that trace, whatever the subroutines, and takes no more tokens

@@ -1,12 +1,12 @@
 -- How a program holds what is written.
 use Rattle.std.specs.Prelude.{◌≡◌, ℕ, ◌-◌, List, ◌++◌, map, length, take}
 use Rattle.std.specs.List.{flat_map}
-use Rattle.subsetter_cffdata.specs.declared.charstring_number.CharStringNumber.{CharStringNumber}
+use Rattle.subsetter_cffdata.specs.declared.numerals.charstring_number.CharStringNumber.{CharStringNumber}
 use Rattle.subsetter_type2.specs.declared.program.Instruction.{Instruction}
 use Rattle.subsetter_type2.specs.declared.program.Instruction.TheVariants as instruction
-use Rattle.subsetter_cffdata.specs.CharStringNumber.{written}
+use Rattle.subsetter_cffdata.specs.Numerals.CharStringNumber.{written}
 use Rattle.subsetter_cffdata.specs.Views.{operator_of}
-use Rattle.subsetter_type2.specs.Output.{Written}
+use Rattle.subsetter_type2.specs.Runs.Output.{Written}
 
 abbrev pub instruction_bytes : Instruction → List ℕ
 instruction_bytes (instruction.Operand number) = written number

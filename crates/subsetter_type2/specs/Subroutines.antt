@@ -1,7 +1,7 @@
 -- How an operand names a subroutine (Technical Note 5177, section 4.7 "Subroutine Operators").
 use Rattle.std.specs.Prelude.{ℕ, ℤ, pos, ◌+ℤ◌, List, Option, nat_lt, if◌then◌else◌, length, slice_get}
 use Rattle.std.specs.Option.{option_and_then}
-use Rattle.subsetter_cffdata.specs.Numbers.{not_negative}
+use Rattle.subsetter_cffdata.specs.Numerals.Numbers.{not_negative}
 
 -- what is added to an operand, by how many subroutines the INDEX holds, readable or not
 abbrev pub bias_of : ℕ → ℕ

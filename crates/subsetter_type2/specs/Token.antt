@@ -1,12 +1,12 @@
 -- The tokens of a charstring (Technical Note 5177, section 3.1 and appendix A).
 use Rattle.std.specs.Prelude.{ℕ, List, [], ◌∷◌, Option, Some, None, nat_le, ◌==◌, ◌||◌, ◌&&◌, if◌then◌else◌}
-use Rattle.subsetter_cffdata.specs.declared.charstring_number.CharStringNumber.{CharStringNumber}
-use Rattle.subsetter_cffdata.specs.declared.operator.Operator.{Operator}
-use Rattle.subsetter_cffdata.specs.declared.operator.OperatorType.{OperatorType}
-use Rattle.subsetter_cffdata.specs.declared.operator.OperatorType.TheVariants.{OneByteOperator, TwoByteOperator}
+use Rattle.subsetter_cffdata.specs.declared.numerals.charstring_number.CharStringNumber.{CharStringNumber}
+use Rattle.subsetter_cffdata.specs.declared.dicts.operator.Operator.{Operator}
+use Rattle.subsetter_cffdata.specs.declared.dicts.operator.OperatorType.{OperatorType}
+use Rattle.subsetter_cffdata.specs.declared.dicts.operator.OperatorType.TheVariants.{OneByteOperator, TwoByteOperator}
 use Rattle.subsetter_type2.specs.declared.token.Effect.{Effect}
 use Rattle.subsetter_type2.specs.declared.token.Effect.TheVariants.{CountsStems, Draws, CallsLocal, CallsGlobal, Returns, Ends, Masks}
-use Rattle.subsetter_cffdata.specs.CharStringNumber.{number_at}
+use Rattle.subsetter_cffdata.specs.Numerals.CharStringNumber.{number_at}
 
 -- a number or an operator
 pub data Token : Type 0 where

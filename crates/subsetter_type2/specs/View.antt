@@ -2,7 +2,7 @@
 use Rattle.std.specs.Prelude.{ℕ, List, [], ◌++◌, map, reverse, Option, Some, None, Result, Ok, Err}
 use Rattle.std.specs.Borrow.{Bor}
 use Rattle.subsetter_base.specs.declared.error.Error.{Error}
-use Rattle.subsetter_type2.specs.Machine.{Registers, Lead, Act, Does, Fails, Event}
+use Rattle.subsetter_type2.specs.Runs.Machine.{Registers, Lead, Act, Does, Fails, Event}
 use Rattle.subsetter_type2.specs.Flat.{flat_event}
 
 -- the rests, the running one first

@@ -2,10 +2,10 @@
 
 ghost use Rattle.std.specs.Prelude.{◌≡◌, ◌≤◌, ◌∷◌, ◌++◌, [], length, OnOk, OnErr, IfErr, MatchOption};
 
-use crate::fixed_stack::FixedStack;
+use crate::runs::fixed_stack::FixedStack;
 use std::marker::Model;
 use subsetter_base::error::Error;
-use subsetter_cffdata::charstring_number::CharStringNumber;
+use subsetter_cffdata::numerals::charstring_number::CharStringNumber;
 
 /// How many numbers the stack holds (Technical Note 5177, appendix B "Type 2 Charstring Implementation Limits").
 pub const MAX_OPERANDS: usize = 48;
@@ -18,7 +18,7 @@ pub struct ArgumentsStack {
 
 impl Model for ArgumentsStack {
     ghost use Rattle.std.specs.Prelude.{◌≤◌, List, length};
-    ghost use Rattle.subsetter_cffdata.specs.declared.charstring_number.CharStringNumber.{CharStringNumber};
+    ghost use Rattle.subsetter_cffdata.specs.declared.numerals.charstring_number.CharStringNumber.{CharStringNumber};
 
     ghost Value = { List CharStringNumber };
 

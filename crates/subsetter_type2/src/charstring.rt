@@ -7,11 +7,11 @@ ghost use Rattle.subsetter_type2.specs.Flat.{flat_form};
 ghost use Rattle.subsetter_type2.specs.ProgramView.{program_bytes};
 
 use crate::limits::Limits;
-use crate::machine::Subroutines;
+use crate::runs::machine::Subroutines;
 pub use crate::operators;
 pub use crate::program::{Instruction, Program};
 use crate::subroutines::SubroutineHandler;
-use crate::{flattening, recursion};
+use crate::runs::{flattening, recursion};
 use std::alloc::Global;
 use std::marker::Model;
 use subsetter_base::error::Error;
@@ -27,8 +27,8 @@ pub struct Decompiler<'a> {
 }
 
 impl<'a> Model for Decompiler<'a> {
-    ghost use Rattle.subsetter_type2.specs.Machine.{Library};
-    ghost use Rattle.subsetter_type2.specs.Setting.{Setting};
+    ghost use Rattle.subsetter_type2.specs.Runs.Machine.{Library};
+    ghost use Rattle.subsetter_type2.specs.Runs.Setting.{Setting};
 
     ghost Value = { Setting };
 
@@ -76,7 +76,7 @@ impl<'a> Decompiler<'a> {
     ///
     /// `CFFError` where the charstring is malformed or passes a limit, `Unimplemented` where it ends by putting two
     /// glyphs together, `OverflowError` where the bytes pass their bound, before more of them are written.
-    #[tactic(auto, using(crate::proofs::BehindRuns::behind_none))]
+    #[tactic(auto, using(crate::proofs::RunsLaws::BehindRuns::behind_none))]
     pub fn flatten(self, alloc: Global, charstring: CharString<'a>) -> Result<Vec<u8>, Error>
         ensures { GivesWithin (λ bytes. bytes.items) self.entry.bytes length result (flat_form self.entry.library self.entry.tokens self.entry.depth charstring.now) }
     {

@@ -12,20 +12,12 @@
 
 pub mod argstack;
 pub mod charstring;
-pub mod fixed_stack;
-mod flattening;
-mod last_number;
 pub mod laws;
 pub mod limits;
-mod machine;
 pub mod operators;
-mod output;
-mod plain;
 mod program;
-mod recursion;
 pub mod rests;
-mod scanning;
-mod sink;
-mod stretch;
+pub mod runs;
+mod stretches;
 pub mod subroutines;
 pub mod token;

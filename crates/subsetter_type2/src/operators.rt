@@ -3,8 +3,8 @@
 ghost use Rattle.std.specs.Prelude.{◌≡◌, [], ◌∷◌, map};
 ghost use Rattle.subsetter_type2.specs.Token.{one_byte, two_byte};
 
-use subsetter_cffdata::operator::OperatorType::{OneByteOperator, TwoByteOperator};
-use subsetter_cffdata::operator::{Operator, TWO_BYTE_OPERATOR_MARK};
+use subsetter_cffdata::dicts::operator::OperatorType::{OneByteOperator, TwoByteOperator};
+use subsetter_cffdata::dicts::operator::{Operator, TWO_BYTE_OPERATOR_MARK};
 
 /// The first bytes of the tokens: an operator's code, or the mark of a number in a longer form.
 pub mod first_byte {

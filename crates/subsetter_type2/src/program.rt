@@ -8,13 +8,13 @@ ghost use Rattle.subsetter_type2.specs.ProgramView.{instruction_bytes, program_b
 ghost use Rattle.subsetter_base.specs.declared.error.Error.TheVariants.{OutOfMemory};
 
 use crate::argstack::ArgumentsStack;
-use crate::output::append_operator;
-use crate::sink::Sink;
+use crate::runs::output::append_operator;
+use crate::runs::sink::Sink;
 use std::alloc::Global;
 use std::marker::Model;
 use subsetter_base::error::Error;
-use subsetter_cffdata::charstring_number::CharStringNumber;
-use subsetter_cffdata::operator::Operator;
+use subsetter_cffdata::numerals::charstring_number::CharStringNumber;
+use subsetter_cffdata::dicts::operator::Operator;
 
 /// One instruction of a program. The bytes of a mask are a part of the charstring that holds them.
 #[derive(Clone, Copy, Debug)]
@@ -103,7 +103,7 @@ pub struct Draft<'a> {
 }
 
 impl<'a> Model for Draft<'a> {
-    ghost use Rattle.subsetter_type2.specs.Output.{Written};
+    ghost use Rattle.subsetter_type2.specs.Runs.Output.{Written};
 
     ghost Value = { Written };
 

@@ -1,10 +1,10 @@
 //! What is left of the callers of a running charstring.
 
 ghost use Rattle.std.specs.Prelude.{◌≡◌, ◌∷◌, ◌<◌, ◌≤◌, [], length, OnSome, MatchOption};
-ghost use Rattle.subsetter_type2.specs.Machine.{unended};
+ghost use Rattle.subsetter_type2.specs.Runs.Machine.{unended};
 ghost use Rattle.subsetter_type2.specs.View.{rests_of};
 
-use crate::fixed_stack::FixedStack;
+use crate::runs::fixed_stack::FixedStack;
 
 /// What is left of the innermost charstring that is not at its end, taken off the stack.
 #[inline(always)]

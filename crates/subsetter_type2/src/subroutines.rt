@@ -2,13 +2,13 @@
 
 ghost use Rattle.std.specs.Prelude.{◌≡◌, ◌+ℤ◌, pos, length, slice_get};
 ghost use Rattle.std.specs.Option.{option_copied};
-ghost use Rattle.subsetter_cffdata.specs.IndexView.{items};
+ghost use Rattle.subsetter_cffdata.specs.Indexes.IndexView.{items};
 ghost use Rattle.subsetter_type2.specs.Subroutines.{bias_of, entry_at, biased_entry};
-ghost use Rattle.subsetter_cffdata.specs.Numbers.{not_negative};
+ghost use Rattle.subsetter_cffdata.specs.Numerals.Numbers.{not_negative};
 
 use crate::charstring::CharString;
 use std::marker::Model;
-use subsetter_cffdata::index::Index;
+use subsetter_cffdata::indexes::index::Index;
 
 /// The local subroutines of each font dict.
 #[derive(Drop)]
@@ -49,7 +49,7 @@ pub struct SubroutineContainer<'a> {
 
 impl<'a> Model for SubroutineContainer<'a> {
     ghost use Rattle.std.specs.Prelude.{ℕ, List, Option};
-    ghost use Rattle.subsetter_cffdata.specs.IndexView.{items};
+    ghost use Rattle.subsetter_cffdata.specs.Indexes.IndexView.{items};
 
     ghost Value = { List (Option (List ℕ)) };
 
@@ -80,7 +80,7 @@ pub struct SubroutineHandler<'a> {
 
 impl<'a> Model for SubroutineHandler<'a> {
     ghost use Rattle.std.specs.Prelude.{ℕ, List, Option};
-    ghost use Rattle.subsetter_cffdata.specs.IndexView.{items};
+    ghost use Rattle.subsetter_cffdata.specs.Indexes.IndexView.{items};
 
     ghost Value = { List (Option (List ℕ)) };
 

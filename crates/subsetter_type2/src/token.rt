@@ -4,7 +4,7 @@ ghost use Rattle.std.specs.Prelude.{◌≡◌};
 ghost use Rattle.subsetter_type2.specs.Token.{effect_of, one_byte_effect, two_byte_effect};
 
 use crate::operators::first_byte;
-use subsetter_cffdata::operator::{Operator, OperatorType, TWO_BYTE_OPERATOR_MARK};
+use subsetter_cffdata::dicts::operator::{Operator, OperatorType, TWO_BYTE_OPERATOR_MARK};
 
 /// What an operator does.
 #[derive(Clone, Copy, PartialEq, Eq, Debug)]

@@ -18,11 +18,11 @@ use Rattle.subsetter_sfnt.specs.declared.flavor.FontFlavor.TheVariants.{TrueType
 use Rattle.subsetter_sfnt.specs.FontAt.{font_at}
 use Rattle.subsetter_sfnt.specs.Read.{Font, as_font, stored, table, flavor}
 use Rattle.subsetter.specs.Glyf.Parts.{component_numbers, outline_parts}
-use Rattle.subsetter.specs.Glyf.Bare.{requested_parts}
-use Rattle.subsetter.specs.Glyf.Reach.{IsReachable, IsGlyphOrder, given, step}
+use Rattle.subsetter.specs.Glyf.BareOutlines.Bare.{requested_parts}
+use Rattle.subsetter.specs.Glyf.Reaching.Reach.{IsReachable, IsGlyphOrder, given, step}
 use Rattle.subsetter.specs.Glyf.Read.{outline}
-use Rattle.subsetter.specs.Glyf.Unfold.{SameParts, UnfoldAlike}
-use Rattle.subsetter.specs.Hmtx.Read as hmtx
+use Rattle.subsetter.specs.Glyf.Reaching.Unfold.{SameParts, UnfoldAlike}
+use Rattle.subsetter.specs.Common.Hmtx.Read as hmtx
 use Rattle.subsetter.specs.Subset.{IsSubset, KeepsDrawing, by_outlines, by_charstrings}
 use Rattle.subsetter.specs.Truetype.Read.{KeepsOutlines}
 use Rattle.subsetter_instance.specs.Instance.{IsInstance, IsDrawn}

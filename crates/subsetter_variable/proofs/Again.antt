@@ -11,17 +11,17 @@ use Rattle.subsetter_base.proofs.Options.{just_is}
 use Rattle.subsetter_base.proofs.Results.{done_is, bind_ok}
 use Rattle.subsetter_sfnt.specs.declared.flavor.FontFlavor.TheVariants.{TrueType}
 use Rattle.subsetter_sfnt.specs.Read.{Font, as_font, stored}
-use Rattle.subsetter_sfnt.specs.Rows.{FontTables, bytes_of, rows, present}
-use Rattle.subsetter_sfnt.specs.Written.{file, kind_word}
-use Rattle.subsetter_sfnt.proofs.Laws.Laid.{row_back}
-use Rattle.subsetter_variation.specs.Tuples.{Gvar}
+use Rattle.subsetter_sfnt.specs.Laying.Rows.{FontTables, bytes_of, rows, present}
+use Rattle.subsetter_sfnt.specs.Laying.Written.{file, kind_word}
+use Rattle.subsetter_sfnt.proofs.Laws.LayingLaws.Laid.{row_back}
+use Rattle.subsetter_variation.specs.Glyphs.Tuples.{Gvar}
 use Rattle.subsetter_instance.specs.Source.{Source, normalized_by, source_in, variations_in}
-use Rattle.subsetter_instance.specs.Drawn.{Drawn, drawn}
-use Rattle.subsetter_instance.specs.Extremes.{all_extents, box_bytes, extreme_bytes}
+use Rattle.subsetter_instance.specs.Glyphs.Drawn.{Drawn, drawn}
+use Rattle.subsetter_instance.specs.Tables.Extremes.{all_extents, box_bytes, extreme_bytes}
 use Rattle.subsetter_instance.specs.Instance.{IsInstance}
-use Rattle.subsetter_instance.specs.Lines.{Lines, lines_of, with_lines}
+use Rattle.subsetter_instance.specs.Tables.Lines.{Lines, lines_of, with_lines}
 use Rattle.subsetter_instance.specs.Plain.{drawn_if, drawn_all}
-use Rattle.subsetter_instance.specs.Written.{by_glyph, glyf_bytes, is_long, offsets_from, loca_bytes, hmtx_bytes, head_bytes, hhea_bytes, maxp_bytes, tables}
+use Rattle.subsetter_instance.specs.Tables.Written.{by_glyph, glyf_bytes, is_long, offsets_from, loca_bytes, hmtx_bytes, head_bytes, hhea_bytes, maxp_bytes, tables}
 use Rattle.subsetter_instance.proofs.FileLaws.Among.{drawn_one}
 use Rattle.subsetter_instance.proofs.FileLaws.Laid.{has_room}
 use Rattle.subsetter_instance.proofs.FileLaws.Lines.{still_lines}

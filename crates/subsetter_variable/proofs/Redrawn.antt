@@ -15,17 +15,17 @@ use Rattle.subsetter_base.proofs.Options.{just_is, bind_some}
 use Rattle.subsetter_base.proofs.Results.{done_is, bind_ok, named_ok}
 use Rattle.subsetter_points.specs.declared.outline.Point.{Point}
 use Rattle.subsetter_points.specs.Simple.{after, description_at, header_at, end_bytes, has_16_bits, parts, parts_bytes, parts_fit, point_bytes, signed_word, xs_of, ys_of}
-use Rattle.subsetter_variation.specs.Movement.{spent}
+use Rattle.subsetter_variation.specs.Glyphs.Movement.{spent}
 use Rattle.subsetter_variation.specs.Nearest.{nearest}
-use Rattle.subsetter_variation.specs.Tuples.{Gvar}
-use Rattle.subsetter_variation.specs.Varied.{in_units}
+use Rattle.subsetter_variation.specs.Glyphs.Tuples.{Gvar}
+use Rattle.subsetter_variation.specs.Glyphs.Varied.{in_units}
 use Rattle.subsetter_sfnt.specs.declared.fields.hmtx.LongHorMetric.{LongHorMetric}
 use Rattle.subsetter_instance.specs.Source.{Source, description, metric}
-use Rattle.subsetter_instance.specs.Unfolded.{Unfolded, moved, with_phantoms, near_or_fault, left_side, left_point, right_point, x_min, signed_or_zero, simple_outline, unfolded_simple, unfolded_composite, is_composite, is_below_zero, counted_description, unfolded}
-use Rattle.subsetter_instance.specs.Drawn.{Drawn, whole, word_or_fault, point_or_fault, points_or_fault, advance_or_fault, advance, bearing, drawn_if_fit, levels, rounded, drawn}
+use Rattle.subsetter_instance.specs.Glyphs.Unfolded.{Unfolded, moved, with_phantoms, near_or_fault, left_side, left_point, right_point, x_min, signed_or_zero, simple_outline, unfolded_simple, unfolded_composite, is_composite, is_below_zero, counted_description, unfolded}
+use Rattle.subsetter_instance.specs.Glyphs.Drawn.{Drawn, whole, word_or_fault, point_or_fault, points_or_fault, advance_or_fault, advance, bearing, drawn_if_fit, levels, rounded, drawn}
 use Rattle.subsetter_instance.specs.Instance.{IsDrawn}
 use Rattle.subsetter_instance.proofs.FileLaws.Fitting.{drawn_fits}
-use Rattle.subsetter_instance.proofs.Phantoms.{left_phantom, right_phantom}
+use Rattle.subsetter_instance.proofs.GlyphsLaws.Phantoms.{left_phantom, right_phantom}
 use Rattle.subsetter_instance.proofs.SameLaws.Simple.{near_is}
 
 -- ---- numbers

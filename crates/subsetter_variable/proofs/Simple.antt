@@ -11,10 +11,10 @@ use Rattle.subsetter_base.proofs.ByteLemmas.{be-u16, number_at}
 use Rattle.subsetter_base.proofs.Options.{just_is, bind_some}
 use Rattle.subsetter_points.specs.declared.outline.Point.{Point}
 use Rattle.subsetter_points.specs.Simple.{after, box, description_at, end_bytes, header_at, parts, parts_bytes, point_bytes}
-use Rattle.subsetter.specs.Glyf.Bare.{bare_at, bare_simple, requested_parts}
+use Rattle.subsetter.specs.Glyf.BareOutlines.Bare.{bare_at, bare_simple, requested_parts}
 use Rattle.subsetter.specs.Glyf.Parts.{Parts, Empty, Simple, component_numbers, outline_parts}
-use Rattle.subsetter.specs.Glyf.Unfold.{padded, SameParts}
-use Rattle.subsetter.proofs.GlyfLaws.Unfold.{PartsAre, parts_are, is_empty, is_simple, is_composite}
+use Rattle.subsetter.specs.Glyf.Reaching.Unfold.{padded, SameParts}
+use Rattle.subsetter.proofs.GlyfLaws.ReachingLaws.Unfold.{PartsAre, parts_are, is_empty, is_simple, is_composite}
 
 -- ---- empty, or begins as a simple glyph does
 

@@ -10,10 +10,10 @@ use Rattle.subsetter_sfnt.specs.declared.flavor.FontFlavor.TheVariants.{TrueType
 use Rattle.subsetter_sfnt.specs.Extras.{by_hinting, by_names, by_glyph_names, is_program}
 use Rattle.subsetter_sfnt.specs.FontAt.{font_at}
 use Rattle.subsetter_sfnt.specs.Read.{as_font, stored, table, flavor}
-use Rattle.subsetter.specs.declared.hmtx.Metric as kept
+use Rattle.subsetter.specs.declared.common.hmtx.Metric as kept
 use Rattle.subsetter.specs.Glyf.Read.{Outlines, outlines, outlines_in, outline, outline_in}
-use Rattle.subsetter.specs.Hmtx.Read as hmtx
-use Rattle.subsetter_variation.specs.Tuples.{Gvar}
+use Rattle.subsetter.specs.Common.Hmtx.Read as hmtx
+use Rattle.subsetter_variation.specs.Glyphs.Tuples.{Gvar}
 use Rattle.subsetter_instance.specs.declared.source.Metric as drawn
 use Rattle.subsetter_instance.specs.Source.{Source, source_in, variations_in, description, metric}
 use Rattle.subsetter_sfnt.specs.Fields.Hmtx.{metric_at}

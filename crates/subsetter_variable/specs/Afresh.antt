@@ -6,10 +6,10 @@ use Rattle.subsetter_base.specs.declared.tag.Tag.{Tag}
 use Rattle.subsetter_points.specs.Simple.{parts, parts_bytes}
 use Rattle.subsetter_sfnt.specs.Read.{Font, as_font, stored}
 use Rattle.subsetter.specs.Glyf.Read.{outline}
-use Rattle.subsetter.specs.Hmtx.Read.{metric}
+use Rattle.subsetter.specs.Common.Hmtx.Read.{metric}
 use Rattle.subsetter.specs.Truetype.Read.{HasGlyphCount}
 use Rattle.subsetter_instance.specs.Source.{Source, normalized_coordinates, source_in}
-use Rattle.subsetter_instance.specs.Drawn.{Drawn, drawn}
+use Rattle.subsetter_instance.specs.Glyphs.Drawn.{Drawn, drawn}
 
 -- glyph i of a font is exactly what is drawn of glyph g of another one
 pub record IsDrawnAs (source : Source) (at : List ℤ) (steps g : ℕ) (out : Font) (i : ℕ) : Type 0 where

@@ -3,7 +3,7 @@ use Rattle.std.specs.Prelude.{◌≡◌, List, codes, All, None, IsSome, Ok, ℤ
 use Rattle.subsetter_base.specs.declared.tag.Tag.{Tag}
 use Rattle.subsetter_base.specs.declared.error.Error.{Error}
 use Rattle.subsetter_sfnt.specs.Read.{Font, stored}
-use Rattle.subsetter_instance.specs.CoordinatesFault.{HasCoordinatesFault}
+use Rattle.subsetter_instance.specs.Faults.CoordinatesFault.{HasCoordinatesFault}
 use Rattle.subsetter_instance.specs.Source.{normalized_coordinates}
 
 -- at its default, where its outlines are as `glyf` has them

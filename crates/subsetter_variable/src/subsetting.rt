@@ -5,7 +5,7 @@ ghost use Rattle.std.specs.Bool.{OnFalse};
 ghost use Rattle.subsetter_base.specs.declared.error.Error.TheVariants.{OutOfMemory};
 ghost use Rattle.subsetter_base.specs.declared.error.Error.{Error as SpecError};
 ghost use Rattle.subsetter.specs.Bound.{IsWithin};
-ghost use Rattle.subsetter.specs.Glyf.Instructions.{HasNoInstructions};
+ghost use Rattle.subsetter.specs.Glyf.BareOutlines.Instructions.{HasNoInstructions};
 ghost use Rattle.subsetter.specs.Limits.{token_limit, depth_limit};
 ghost use Rattle.subsetter_sfnt.specs.Extras.{all_extras};
 ghost use Rattle.subsetter_sfnt.specs.Fault.{HasOpeningFault};

@@ -5,9 +5,9 @@ use Rattle.subsetter_base.specs.Bytes.{◌>>=◌}
 use Rattle.subsetter_base.specs.declared.error.Error.TheVariants.{MalformedFont}
 use Rattle.subsetter_base.proofs.Results.{bind_ok, done, done_is, named_ok}
 use Rattle.subsetter_variation.specs.Region.{scalar}
-use Rattle.subsetter_variation.specs.Tuples.{Gvar, TupleHeader, TupleHeaders, next_header, shared_numbers, tuple_headers, variations_of}
-use Rattle.subsetter_variation.specs.Movement.{Outline, Walk, moved_in_bytes, moved_points, next_walk, scaled_walk, spent, start, walk_all}
-use Rattle.subsetter_variation.specs.Varied.{in_units}
+use Rattle.subsetter_variation.specs.Glyphs.Tuples.{Gvar, TupleHeader, TupleHeaders, next_header, shared_numbers, tuple_headers, variations_of}
+use Rattle.subsetter_variation.specs.Glyphs.Movement.{Outline, Walk, moved_in_bytes, moved_points, next_walk, scaled_walk, spent, start, walk_all}
+use Rattle.subsetter_variation.specs.Glyphs.Varied.{in_units}
 use Rattle.subsetter_variation.specs.VariationLaws.{HaveAxes, StaysAtDefault}
 use Rattle.subsetter_variation.proofs.Masters.{is_nothing_at_default}
 

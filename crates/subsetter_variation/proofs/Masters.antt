@@ -6,10 +6,10 @@ use Rattle.std.proofs.lemmas.Option.{get_or_from_slice_get, slice_get_within}
 use Rattle.std.proofs.Math.IntN.{*ℤ-zero}
 use Rattle.subsetter_variation.specs.declared.region.RegionAxis.{RegionAxis}
 use Rattle.subsetter_variation.specs.Nearest.{part}
-use Rattle.subsetter_variation.specs.Inferred.{after, before, delta_or, moved, moved_at}
+use Rattle.subsetter_variation.specs.Glyphs.Inferred.{after, before, delta_or, moved, moved_at}
 use Rattle.subsetter_variation.specs.Region.{counted, is_ignored, proportion, scalar, scalar_of, unit}
 use Rattle.subsetter_variation.specs.VariationLaws.{IsExactAtPeak, IsFreeOfPosition, IsNothingAtDefault}
-use Rattle.subsetter_variation.proofs.Turning.{nearest_zero}
+use Rattle.subsetter_variation.proofs.GlyphsLaws.Turning.{nearest_zero}
 
 -- ---- at the peak
 

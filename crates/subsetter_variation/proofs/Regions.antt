@@ -2,7 +2,7 @@
 use Rattle.std.proofs.Common.{◌≡◌, ℕ, zero, suc, ◌+◌, ◌-◌, ◌<◌, Bool, false, List, ◌∷◌, drop, length, get_or, ℤ, pos, refl, ap, ◌∙◌, arith}
 use Rattle.std.proofs.lemmas.List.{drop_more}
 use Rattle.subsetter_variation.specs.Region.{counted, scalar_of}
-use Rattle.subsetter_variation.specs.Tuples.{region_axes, region_axis_of}
+use Rattle.subsetter_variation.specs.Glyphs.Tuples.{region_axes, region_axis_of}
 use Rattle.subsetter_variation.proofs.Masters.{scalar_of_none}
 
 pub axes_count : (inner : Bool) (n : ℕ) (p s e : List ℕ) → length (region_axes inner n p s e) ≡ n

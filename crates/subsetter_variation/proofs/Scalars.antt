@@ -6,7 +6,7 @@ use Rattle.subsetter_variation.specs.Nearest.{part}
 use Rattle.subsetter_variation.specs.Region.{counted, is_ignored, proportion, scalar_of, unit}
 use Rattle.subsetter_variation.specs.VariationLaws.{IsBetweenNothingAndFull}
 use Rattle.subsetter_variation.specs.declared.region.RegionAxis.{RegionAxis}
-use Rattle.subsetter_variation.proofs.Ascent.{le_false, lt_true}
+use Rattle.subsetter_variation.proofs.LocationsLaws.Ascent.{le_false, lt_true}
 use Rattle.subsetter_variation.proofs.Quotients.{is_not_negative, part_within}
 
 abbrev IsPart : ℤ → ℤ → Type 0

@@ -1,15 +1,15 @@
 -- Laws of how far tuples count, and of what they move.
 use Rattle.std.specs.Prelude.{◌≡◌, ◌+◌, ◌≤◌, ℕ, zero, suc, ℤ, pos, ◌*ℤ◌, ◌≤ℤ◌, Bool, false, List, [], ◌∷◌, length, map, slice_get, Option, Some, Ok, Err, All, ◌↔◌}
 use Rattle.subsetter_base.specs.declared.error.Error.{Error}
-use Rattle.subsetter_variation.specs.declared.inference.Point.{Point}
+use Rattle.subsetter_variation.specs.declared.glyphs.inference.Point.{Point}
 use Rattle.subsetter_variation.specs.declared.region.RegionAxis.{RegionAxis}
-use Rattle.subsetter_variation.specs.Inferred.{moved}
-use Rattle.subsetter_variation.specs.Packed.{point_numbers}
+use Rattle.subsetter_variation.specs.Glyphs.Inferred.{moved}
+use Rattle.subsetter_variation.specs.Packing.Packed.{point_numbers}
 use Rattle.subsetter_variation.specs.Region.{is_ignored, scalar, unit}
-use Rattle.subsetter_variation.specs.Tuples.{Gvar, TupleHeader, TupleHeaders, next_header, shared_numbers, tuple_headers, variations_of}
-use Rattle.subsetter_variation.specs.Movement.{Outline, Walk, next_walk, moved_points}
-use Rattle.subsetter_variation.specs.Varied.{in_units}
-use Rattle.subsetter_variation.specs.GvarFault.{HasVariationFault}
+use Rattle.subsetter_variation.specs.Glyphs.Tuples.{Gvar, TupleHeader, TupleHeaders, next_header, shared_numbers, tuple_headers, variations_of}
+use Rattle.subsetter_variation.specs.Glyphs.Movement.{Outline, Walk, next_walk, moved_points}
+use Rattle.subsetter_variation.specs.Glyphs.Varied.{in_units}
+use Rattle.subsetter_variation.specs.Glyphs.GvarFault.{HasVariationFault}
 
 -- at the default a region counts nothing if one of its axes isn't ignored
 abbrev pub IsNothingAtDefault : Type 0

@@ -1,8 +1,8 @@
 //! The laws of variations, which name no code: how far a tuple counts, and what it moves the points of a contour by.
 
-ghost use Rattle.subsetter_variation.specs.ItemLaws.{IsItemAtDefault, IsItemAtMaster, IsRoundedAsItIs};
-ghost use Rattle.subsetter_variation.specs.LocationLaws.{IsDefaultAtZero, IsGreatestAtOne, IsKept, IsLeastAtMinusOne, NeverDescends, NeverDescendsBent};
-ghost use Rattle.subsetter_variation.specs.Moves.{IsShift, IsStill, IsTurned, LiesBetween};
+ghost use Rattle.subsetter_variation.specs.Items.ItemLaws.{IsItemAtDefault, IsItemAtMaster, IsRoundedAsItIs};
+ghost use Rattle.subsetter_variation.specs.Locations.LocationLaws.{IsDefaultAtZero, IsGreatestAtOne, IsKept, IsLeastAtMinusOne, NeverDescends, NeverDescendsBent};
+ghost use Rattle.subsetter_variation.specs.Glyphs.Moves.{IsShift, IsStill, IsTurned, LiesBetween};
 ghost use Rattle.subsetter_variation.specs.VariationLaws.{AreAscending, AreFaultsNamed, IsBetweenNothingAndFull, IsExactAtPeak, IsFreeOfPosition, IsNothingAtDefault, IsPassedOver, IsSameAtAnySteps, StaysAtDefault};
 
 /// At the scalar 0 nothing moves.

@@ -2,18 +2,18 @@
 
 ghost use Rattle.std.specs.Prelude.{◌≡◌, [], map, Ok, IfOk, IfErr};
 ghost use Rattle.subsetter_base.specs.declared.error.Error.TheVariants.{OutOfMemory};
-ghost use Rattle.subsetter_blend.specs.Machine.{events};
-ghost use Rattle.subsetter_blend.specs.MachineView.{setting_of};
+ghost use Rattle.subsetter_blend.specs.Runs.Machine.{events};
+ghost use Rattle.subsetter_blend.specs.Runs.MachineView.{setting_of};
 ghost use Rattle.dev_parts.specs.Listed.{event_of};
 
 use std::alloc::Global;
 use std::marker::Model;
 use subsetter_base::Error;
-use subsetter_blend::machine::Subroutines;
-use subsetter_blend::regions::Regions;
-use subsetter_blend::running::run;
-use subsetter_blend::taking::Takes;
-use subsetter_cffdata::operator::Operator;
+use subsetter_blend::runs::machine::Subroutines;
+use subsetter_blend::runs::regions::Regions;
+use subsetter_blend::runs::running::run;
+use subsetter_blend::writing::taking::Takes;
+use subsetter_cffdata::dicts::operator::Operator;
 use subsetter_type2::limits::Limits;
 
 /// An operator with its exact operands and its mask.
@@ -36,7 +36,7 @@ pub struct Listing {
 
 impl Model for Listing {
     ghost use Rattle.std.specs.Prelude.{List, map};
-    ghost use Rattle.subsetter_blend.specs.Taking.{Event};
+    ghost use Rattle.subsetter_blend.specs.Writing.Taking.{Event};
     ghost use Rattle.dev_parts.specs.Listed.{event_of};
 
     ghost Value = { List Event };
@@ -69,7 +69,7 @@ impl Takes for Listing {
 }
 
 /// The operators of the run of a charstring.
-#[tactic(auto, unfolding(subsetter_blend::specs::Machine::events))]
+#[tactic(auto, unfolding(subsetter_blend::specs::Runs::Machine::events))]
 pub fn list_events<'a, R: Regions>(
     alloc: Global,
     subroutines: &Subroutines<'a>,

@@ -2,14 +2,14 @@
 
 ghost use Rattle.std.specs.Prelude.{◌≡◌, ◌+◌, ◌≤◌, ◌<◌, ◌^◌, length, map, IfOk, IsTrue};
 ghost use Rattle.subsetter_points.specs.Simple.{are_ends};
-ghost use Rattle.subsetter_variation.specs.Varied.{AreEnds};
+ghost use Rattle.subsetter_variation.specs.Glyphs.Varied.{AreEnds};
 
 use std::alloc::Global;
 use subsetter_base::Error;
 use subsetter_instance::source::Source;
 use subsetter_points::read_simple;
-use subsetter_variation::movement::{Outline, moved_points};
-use subsetter_variation::tuples::{Gvar, next_header, shared_numbers, tuple_headers};
+use subsetter_variation::glyphs::movement::{Outline, moved_points};
+use subsetter_variation::glyphs::tuples::{Gvar, next_header, shared_numbers, tuple_headers};
 
 /// The points behind an outline that carry its metrics.
 const PHANTOMS: usize = 4;

@@ -14,7 +14,7 @@ use subsetter_instance::instance;
 use subsetter_instance::source::{Source, normalized_coordinates, source_in};
 use subsetter_sfnt::extras::Extras;
 use subsetter_sfnt::parse::parse;
-use subsetter_variation::tuples::Gvar;
+use subsetter_variation::glyphs::tuples::Gvar;
 
 /// How many steps a glyph of the instance may take.
 const STEPS: u32 = 1_000_000;

@@ -7,7 +7,7 @@ use pdf_moved::{Movement, values_at};
 use pdf_values::{GlyphBox, Known, Tables, Values};
 use std::test::*;
 use subsetter_base::Tag;
-use subsetter_variation::axes::Axis;
+use subsetter_variation::locations::axes::Axis;
 
 /// Of axis `wght` the least, the default and the greatest coordinate are 100, 400 and 900.
 const WEIGHTS: [i32; 3] = [6553600, 26214400, 58982400];

@@ -10,7 +10,7 @@ use pdf_names::name_at;
 use std::alloc::Global;
 use std::test::*;
 use subsetter_base::{Error, Tag};
-use subsetter_variation::axes::Axis;
+use subsetter_variation::locations::axes::Axis;
 
 fn axis(tag: &[u8; 4], coordinates: [i32; 3]) -> Axis {
     Axis {

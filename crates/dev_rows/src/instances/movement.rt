@@ -1,18 +1,16 @@
 //! The tuples of a glyph, and its points moved by them.
 
 ghost use Rattle.std.specs.Prelude.{◌≡◌, true, IfOk, IfSome, length};
-ghost use Rattle.subsetter_variation.specs.Movement.{IsOutline};
-ghost use Rattle.subsetter_variation.specs.Varied.{AreEnds};
+ghost use Rattle.subsetter_variation.specs.Glyphs.Movement.{IsOutline};
+ghost use Rattle.subsetter_variation.specs.Glyphs.Varied.{AreEnds};
 
 use crate::instances::answer::{Answer, list, lists};
 use crate::instances::words::{coordinates, count, glyph, numbers, short_numbers};
 use dev_base::failure::Failure;
 use std::alloc::Global;
 use subsetter_base::Error;
-use subsetter_variation::movement::{Outline, moved_points};
-use subsetter_variation::tuples::{
-    Gvar, TupleHeader, gvar_table, next_header, numbers_and_deltas, tuple_headers,
-};
+use subsetter_variation::glyphs::movement::{Outline, moved_points};
+use subsetter_variation::glyphs::tuples::{Gvar, TupleHeader, gvar_table, next_header, numbers_and_deltas, tuple_headers};
 
 /// A tuple that is read: whether tuples share their point numbers, how many tuples there are, the first of them, and how
 /// many are behind it.

@@ -2,8 +2,8 @@
 
 use std::test::*;
 use subsetter_base::write::Writer;
-use subsetter_cffdata::dict::operators as dict;
-use subsetter_cffdata::operator::Operator;
+use subsetter_cffdata::dicts::dict::operators as dict;
+use subsetter_cffdata::dicts::operator::Operator;
 use subsetter_type2::operators as charstring;
 
 #[test]

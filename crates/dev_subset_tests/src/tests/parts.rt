@@ -3,8 +3,8 @@
 use std::test::*;
 use subsetter_base::read::Reader;
 use subsetter_cff::SidRemapper;
-use subsetter_cffdata::index::{Index, create_index, parse_index};
-use subsetter_cffdata::number::StringId;
+use subsetter_cffdata::indexes::index::{Index, create_index, parse_index};
+use subsetter_cffdata::numerals::number::StringId;
 use subsetter_type2::charstring::Decompiler;
 use subsetter_type2::subroutines::SubroutineHandler;
 

@@ -15,18 +15,18 @@ use Rattle.subsetter_sfnt.specs.declared.flavor.FontFlavor.{FontFlavor}
 use Rattle.subsetter_sfnt.specs.declared.flavor.FontFlavor.TheVariants.{TrueType, Cff}
 use Rattle.subsetter_sfnt.specs.Plain.{file_of}
 use Rattle.subsetter_sfnt.specs.Read.{Font, table, flavor}
-use Rattle.subsetter_sfnt.specs.Rows.{rows}
-use Rattle.subsetter_sfnt.specs.Written.{Table, IsTable, file, fits, start_of, kind_word}
-use Rattle.subsetter_sfnt.proofs.Laws.Bound.{has_room}
-use Rattle.subsetter_sfnt.proofs.Laws.Rows.{rows_tables}
+use Rattle.subsetter_sfnt.specs.Laying.Rows.{rows}
+use Rattle.subsetter_sfnt.specs.Laying.Written.{Table, IsTable, file, fits, start_of, kind_word}
+use Rattle.subsetter_sfnt.proofs.Laws.LayingLaws.Bound.{has_room}
+use Rattle.subsetter_sfnt.proofs.Laws.LayingLaws.Rows.{rows_tables}
 use Rattle.subsetter.specs.Answer.{IsAnswer}
 use Rattle.subsetter.specs.Bound.{IsBeyond}
 use Rattle.subsetter.specs.Cff.Plain.{Made, made_of, font_of, laid, cff_tables, cff_file}
 use Rattle.subsetter.specs.Laid.{AreMade, of_outlines, of_charstrings}
-use Rattle.subsetter.specs.Shared.Plain.{SharedTables, shared_of}
+use Rattle.subsetter.specs.Common.Shared.Plain.{SharedTables, shared_of}
 use Rattle.subsetter.proofs.CffLaws.Order.{no_glyf, no_outlines}
 use Rattle.subsetter.proofs.CffLaws.Steps.{made_steps}
-use Rattle.subsetter.proofs.SharedLaws.Kept.{shared_room}
+use Rattle.subsetter.proofs.CommonLaws.SharedLaws.Kept.{shared_room}
 use Rattle.subsetter.proofs.TruetypeLaws.Bound.{row_holds, file_holds}
 use Rattle.subsetter.proofs.TwoLimits.{only_given}
 

@@ -7,24 +7,24 @@ use Rattle.subsetter_base.specs.declared.error.Error.{Error}
 use Rattle.subsetter_base.specs.declared.error.Error.TheVariants.{OverflowError}
 use Rattle.subsetter_base.proofs.Options.{just_is, some_not_none}
 use Rattle.subsetter_base.proofs.Results.{done_is}
-use Rattle.subsetter_cff.specs.Write.CffFault.{HasCffFault}
-use Rattle.subsetter_cff.proofs.WriteLaws.CffFaults.{refused_stands}
-use Rattle.subsetter_cff.proofs.WriteLaws.Excluded.{answered_excludes}
+use Rattle.subsetter_cff.specs.Write.Refusals.CffFault.{HasCffFault}
+use Rattle.subsetter_cff.proofs.WriteLaws.RefusalsLaws.CffFaults.{refused_stands}
+use Rattle.subsetter_cff.proofs.WriteLaws.RefusalsLaws.Excluded.{answered_excludes}
 use Rattle.subsetter_sfnt.specs.declared.flavor.FontFlavor.TheVariants.{Cff}
 use Rattle.subsetter_sfnt.specs.Read.{Font, table, flavor}
 use Rattle.subsetter_sfnt.specs.Fault.{HasOpeningFault}
 use Rattle.subsetter_sfnt.specs.Plain.{file_of}
-use Rattle.subsetter_sfnt.specs.Written.{Table, fits, file, start_of, kind_word}
+use Rattle.subsetter_sfnt.specs.Laying.Written.{Table, fits, file, start_of, kind_word}
 use Rattle.subsetter.specs.Glyf.Fault as outline_faults
 use Rattle.subsetter.specs.Glyf.Fault.{HasOutlineFault}
 use Rattle.subsetter.specs.Glyf.Read.{outlines, outline}
-use Rattle.subsetter.specs.Glyf.Reach.{IsGlyphOrder}
+use Rattle.subsetter.specs.Glyf.Reaching.Reach.{IsGlyphOrder}
 use Rattle.subsetter.specs.Cff.Plain.{Made, laid, cff_tables, cff_file, made_of}
 use Rattle.subsetter.specs.Fault as faults
 use Rattle.subsetter.specs.Fault.{HasFault}
 use Rattle.subsetter.specs.Laid.{of_outlines, of_charstrings}
-use Rattle.subsetter.proofs.SharedLaws.Fault.{shared_refused, no_metrics_fault, no_max_profile_fault, no_name_fault, no_glyph_name_fault}
-use Rattle.subsetter.proofs.SharedLaws.Steps.{head_there, head_from}
+use Rattle.subsetter.proofs.CommonLaws.SharedLaws.Fault.{shared_refused, no_metrics_fault, no_max_profile_fault, no_name_fault, no_glyph_name_fault}
+use Rattle.subsetter.proofs.CommonLaws.SharedLaws.Steps.{head_there, head_from}
 use Rattle.subsetter.proofs.TruetypeLaws.Fault.{not_chosen, is_true_is_false}
 use Rattle.subsetter.specs.Answer.{IsAnswer}
 use Rattle.subsetter.proofs.CffLaws.Order.{no_glyf, no_outlines, no_outline, given_order}

@@ -9,7 +9,7 @@ use Rattle.subsetter_base.specs.Options.{◌>>=◌}
 use Rattle.subsetter_sfnt.specs.declared.flavor.FontFlavor.TheVariants.{TrueType, Cff}
 use Rattle.subsetter_sfnt.specs.Read.{Font, table, flavor}
 use Rattle.subsetter.specs.Glyf.Read.{Outlines, outlines_in, outlines, outline, outline_in}
-use Rattle.subsetter.specs.Glyf.Reach.{IsReachable, IsGlyphOrder, given, step}
+use Rattle.subsetter.specs.Glyf.Reaching.Reach.{IsReachable, IsGlyphOrder, given, step}
 use Rattle.std.specs.Option.{option_and_then}
 
 without_glyf : (o p : Option (List ℕ)) → cond (is_some o) (Some TrueType) (cond (is_some p) (Some Cff) None) ≡ Some Cff → o ≡ None

@@ -10,16 +10,16 @@ use Rattle.subsetter_base.specs.declared.error.Error.TheVariants.{MalformedFont}
 use Rattle.subsetter_base.proofs.Results.{done_is, bind_ok, bind_err, named_ok, named_err}
 use Rattle.subsetter_cff.specs.Write.Plain.{cff_subset}
 use Rattle.subsetter_sfnt.specs.declared.flavor.FontFlavor.TheVariants.{Cff}
-use Rattle.subsetter_sfnt.specs.declared.tables.NewTable.{NewTable}
+use Rattle.subsetter_sfnt.specs.declared.laying.tables.NewTable.{NewTable}
 use Rattle.subsetter.specs.declared.tables.TableData.{TableData}
 use Rattle.subsetter.specs.TableView.{view, views}
-use Rattle.subsetter_sfnt.specs.Written.{Table, IsTable, fits, file, start_of, kind_word}
+use Rattle.subsetter_sfnt.specs.Laying.Written.{Table, IsTable, fits, file, start_of, kind_word}
 use Rattle.subsetter_sfnt.specs.Plain.{file_of}
-use Rattle.subsetter.specs.Shared.Plain.{SharedTables, shared_of}
+use Rattle.subsetter.specs.Common.Shared.Plain.{SharedTables, shared_of}
 use Rattle.subsetter.specs.Cff.Plain.{Made, made_of, font_of, laid, cff_tables, cff_file}
-use Rattle.subsetter_sfnt.proofs.Laws.Rows.{rows_few, rows_tables}
-use Rattle.subsetter.proofs.SharedLaws.Kept.{shared_room}
-use Rattle.subsetter.proofs.SharedLaws.Steps.{SharedSteps, shared_steps}
+use Rattle.subsetter_sfnt.proofs.Laws.LayingLaws.Rows.{rows_few, rows_tables}
+use Rattle.subsetter.proofs.CommonLaws.SharedLaws.Kept.{shared_room}
+use Rattle.subsetter.proofs.CommonLaws.SharedLaws.Steps.{SharedSteps, shared_steps}
 use Rattle.subsetter.proofs.TruetypeLaws.Steps.{file_steps}
 
 -- what was made, part by part

@@ -11,10 +11,10 @@ use Rattle.subsetter_cff.proofs.WriteLaws.Headline.{answered_is_subset}
 use Rattle.subsetter_sfnt.specs.declared.flavor.FontFlavor.TheVariants.{Cff}
 use Rattle.subsetter_sfnt.specs.Container.{IsSoundContainer}
 use Rattle.subsetter_sfnt.specs.Read.{Font, as_font, table, flavor}
-use Rattle.subsetter_sfnt.specs.Rows.{bytes_of, rows, called_for, tags_of}
-use Rattle.subsetter_sfnt.specs.Written.{fits, file, start_of, kind_word}
+use Rattle.subsetter_sfnt.specs.Laying.Rows.{bytes_of, rows, called_for, tags_of}
+use Rattle.subsetter_sfnt.specs.Laying.Written.{fits, file, start_of, kind_word}
 use Rattle.subsetter.specs.Glyf.Read.{outlines}
-use Rattle.subsetter.specs.Hmtx.Written.{MetricBytes}
+use Rattle.subsetter.specs.Common.Hmtx.Written.{MetricBytes}
 use Rattle.subsetter.specs.Cff.Plain.{Made, font_of, laid}
 use Rattle.subsetter.specs.Cff.Read.{KeepsCharStrings}
 use Rattle.subsetter.specs.Fault.{HasFault}
@@ -22,10 +22,10 @@ use Rattle.subsetter.specs.Laid.{of_charstrings}
 use Rattle.subsetter.specs.Subset.{by_charstrings, IsSubset}
 use Rattle.subsetter.specs.Answer.{IsAnswer}
 use Rattle.subsetter_sfnt.proofs.Laws.Back.{word_of}
-use Rattle.subsetter_sfnt.proofs.Laws.Laid.{row_back, head_row_back, rows_sound}
-use Rattle.subsetter_sfnt.proofs.Laws.Rows.{HasRoom, AreAlike, lookup_row, some_table}
-use Rattle.subsetter.proofs.SharedLaws.Steps.{head_there, maxp_there, metrics_there, name_there, post_there}
-use Rattle.subsetter.proofs.SharedLaws.Kept.{shared_room, AreBack, keeps_shared}
+use Rattle.subsetter_sfnt.proofs.Laws.LayingLaws.Laid.{row_back, head_row_back, rows_sound}
+use Rattle.subsetter_sfnt.proofs.Laws.LayingLaws.Rows.{HasRoom, AreAlike, lookup_row, some_table}
+use Rattle.subsetter.proofs.CommonLaws.SharedLaws.Steps.{head_there, maxp_there, metrics_there, name_there, post_there}
+use Rattle.subsetter.proofs.CommonLaws.SharedLaws.Kept.{shared_room, AreBack, keeps_shared}
 use Rattle.subsetter.proofs.CffLaws.Order.{no_glyf, no_outlines, given_order}
 use Rattle.subsetter.proofs.CffLaws.Steps.{MadeSteps, made_tables}
 

@@ -5,18 +5,18 @@ use Rattle.subsetter_base.specs.Bytes.{◌>>=◌}
 use Rattle.subsetter_base.specs.declared.error.Error.{Error}
 use Rattle.subsetter_base.specs.declared.error.Error.TheVariants.{MalformedFont}
 use Rattle.subsetter_base.proofs.Results.{done_is}
-use Rattle.subsetter_type2.specs.Machine.{Library, Trace, Outcome, Finishes, Stops, outcome}
+use Rattle.subsetter_type2.specs.Runs.Machine.{Library, Trace, Outcome, Finishes, Stops, outcome}
 use Rattle.subsetter_type2.specs.Flat.{bytes_of, flat_form}
 use Rattle.subsetter_type2.proofs.TraceLimits.{same_trace}
 use Rattle.subsetter_cff.specs.Read.Cff.{Cff, char_string}
-use Rattle.subsetter_cff.specs.Read.Private.{Private, private_of}
+use Rattle.subsetter_cff.specs.Read.FdArray.Private.{Private, private_of}
 use Rattle.subsetter_cff.specs.Read.GlyphTrace.{library}
-use Rattle.subsetter_cff.specs.Write.Layout.{Parts, cff_table}
+use Rattle.subsetter_cff.specs.Write.Laying.Layout.{Parts, cff_table}
 use Rattle.subsetter_cff.specs.Read.Opened.{opened}
 use Rattle.subsetter_cff.specs.Write.Plain.{KeptGlyph, source_number, kept_glyph, kept_glyphs, counted_parts, limited, parts_of, cff_subset}
 use Rattle.subsetter_sfnt.specs.declared.flavor.FontFlavor.TheVariants.{Cff as CffKind}
-use Rattle.subsetter_sfnt.specs.Written.{Table}
-use Rattle.subsetter.specs.Shared.Plain.{shared_of}
+use Rattle.subsetter_sfnt.specs.Laying.Written.{Table}
+use Rattle.subsetter.specs.Common.Shared.Plain.{shared_of}
 use Rattle.subsetter.specs.Cff.Plain.{Made, made_of, laid, cff_tables}
 
 -- steps that go on from one answer

@@ -8,9 +8,9 @@ use Rattle.std.proofs.lemmas.List.{append-nil, length-drop, length-take}
 use Rattle.subsetter_base.specs.Bytes.{range, number}
 use Rattle.subsetter_base.specs.declared.error.Error.TheVariants.{MalformedFont}
 use Rattle.subsetter_base.proofs.Options.{bind_some}
-use Rattle.subsetter.specs.Glyf.Bare.{requested_component, requested_tail, requested_parts, bare_simple, requested_simple}
+use Rattle.subsetter.specs.Glyf.BareOutlines.Bare.{requested_component, requested_tail, requested_parts, bare_simple, requested_simple}
 use Rattle.subsetter.specs.Glyf.Parts.{Component, Chain, Parts, Composite, Simple, rest_size, has_more, has_instructions, component_at, with_component, last_component, chain_at, composite_parts, outline_parts, spelled, parts_bytes}
-use Rattle.subsetter.specs.Glyf.Closure.{first_byte_in}
+use Rattle.subsetter.specs.Glyf.Reaching.Closure.{first_byte_in}
 use Rattle.subsetter.specs.Glyf.Plain.{renumbered_component, renumbered_chain, renumbered, rewritten_composite, rewritten}
 use Rattle.subsetter_base.specs.Gives.{behind}
 

@@ -15,16 +15,16 @@ use Rattle.subsetter_base.proofs.Options.{some_not_none, just_is, bind_some}
 use Rattle.subsetter_sfnt.specs.Read.{Font, table}
 use Rattle.subsetter.specs.Glyf.Read.{Outlines, outlines_in, outlines, outline_in, outline}
 use Rattle.subsetter.specs.Glyf.Parts.{Parts, outline_parts}
-use Rattle.subsetter.specs.Glyf.Reach.{IsReachableBy, IsReachable, IsGlyphOrderBy, IsGlyphOrder}
-use Rattle.subsetter.specs.Glyf.Closure.{StopsClosure, no_memory, faulty_glyph, all_reached, too_long}
+use Rattle.subsetter.specs.Glyf.Reaching.Reach.{IsReachableBy, IsReachable, IsGlyphOrderBy, IsGlyphOrder}
+use Rattle.subsetter.specs.Glyf.Reaching.Closure.{StopsClosure, no_memory, faulty_glyph, all_reached, too_long}
 use Rattle.subsetter.specs.Glyf.Plain.{outlines_read, kept_all}
-use Rattle.subsetter.specs.Glyf.Size.{requested_size, requested_sizes, AreLonger}
+use Rattle.subsetter.specs.Glyf.BareOutlines.Size.{requested_size, requested_sizes, AreLonger}
 use Rattle.subsetter.specs.Glyf.Written.{glyf_bytes}
 use Rattle.subsetter.specs.Glyf.Fault as faults
 use Rattle.subsetter.specs.Glyf.Fault.{HasOutlineFault}
 use Rattle.subsetter.proofs.GlyfLaws.Kept.{some_before, not_kept, first_not_kept, kept_at}
-use Rattle.subsetter.proofs.GlyfLaws.Sizes.{sum_by_part, kept_sizes}
-use Rattle.subsetter.proofs.GlyfLaws.Unfold.{outline_is}
+use Rattle.subsetter.proofs.GlyfLaws.BareOutlinesLaws.Sizes.{sum_by_part, kept_sizes}
+use Rattle.subsetter.proofs.GlyfLaws.ReachingLaws.Unfold.{outline_is}
 
 -- ---- the tables
 

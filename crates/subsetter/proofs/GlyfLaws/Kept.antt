@@ -8,7 +8,7 @@ use Rattle.subsetter_base.specs.declared.error.Error.TheVariants.{MalformedFont}
 use Rattle.subsetter_base.proofs.Results.{bind_ok, bind_err, named_ok, named_err, done_is}
 use Rattle.subsetter_base.proofs.Options.{map_some, map_none}
 use Rattle.subsetter.specs.Glyf.Read.{Outlines, outline_in}
-use Rattle.subsetter.specs.Glyf.Bare.{requested_parts}
+use Rattle.subsetter.specs.Glyf.BareOutlines.Bare.{requested_parts}
 use Rattle.subsetter.specs.Glyf.Parts.{Parts, outline_parts, parts_bytes}
 use Rattle.subsetter.specs.Glyf.Plain.{renumbered, rewritten, kept, kept_all}
 

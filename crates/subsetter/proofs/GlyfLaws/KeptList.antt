@@ -11,9 +11,9 @@ use Rattle.subsetter_base.specs.declared.error.Error.TheVariants as errors
 use Rattle.subsetter_base.proofs.Lists.{rest_of}
 use Rattle.subsetter_base.proofs.Results.{with_front, bind_ok, done_is, named_err}
 use Rattle.subsetter.specs.Glyf.Read.{Outlines, outline_in}
-use Rattle.subsetter.specs.Glyf.Bare.{requested_simple}
+use Rattle.subsetter.specs.Glyf.BareOutlines.Bare.{requested_simple}
 use Rattle.subsetter.specs.Glyf.Plain.{kept, kept_outline, kept_outlines, kept_all, with_last, with_outlines, rewritten_composite}
-use Rattle.subsetter.specs.Glyf.Closure.{first_byte_in}
+use Rattle.subsetter.specs.Glyf.Reaching.Closure.{first_byte_in}
 use Rattle.subsetter.proofs.GlyfLaws.Chains.{rewritten_begun, rewritten_simple}
 
 regroup : {A : Type 0} (front : List A) (x : A) (read : Result (List A) Error) → with_front front (read >>= λ xs. Ok (x ∷ xs)) ≡ with_front (front ++ x ∷ []) read

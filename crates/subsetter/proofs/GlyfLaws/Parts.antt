@@ -9,8 +9,8 @@ use Rattle.std.proofs.lemmas.List.{append-nil, drop_at, length-append}
 use Rattle.subsetter_base.specs.Bytes.{range, number, IsBytes, has_flag}
 use Rattle.subsetter_base.proofs.ByteLemmas.{be-u16, range-middle, number_at, IsBytes-drop, number-small}
 use Rattle.subsetter_base.proofs.Options.{just, just_is, bind_some}
-use Rattle.subsetter.specs.Glyf.Unfold.{padded}
-use Rattle.subsetter.specs.Glyf.Bare.{requested_flags, requested_component}
+use Rattle.subsetter.specs.Glyf.Reaching.Unfold.{padded}
+use Rattle.subsetter.specs.Glyf.BareOutlines.Bare.{requested_flags, requested_component}
 use Rattle.subsetter.specs.Glyf.Parts.{Component, Chain, rest_size, has_more, has_instructions, component_at, with_component, last_component, chain_at, spelled}
 use Rattle.subsetter.specs.Glyf.Plain.{renumbered_component}
 use Rattle.subsetter_base.specs.Indexes.{new_index}

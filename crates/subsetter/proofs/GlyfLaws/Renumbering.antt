@@ -3,7 +3,7 @@ use Rattle.std.proofs.Common.{◌≡◌, ℕ, ◌+◌, ◌-◌, ◌≤◌, Bool,
 use Rattle.std.specs.Int.{w16, to_be_bytes}
 use Rattle.std.proofs.lemmas.List.{append-nil, length-append, length-drop, length-take-le, take-append-drop, take-append-le, take-take, drop-drop, take_at, drop_at}
 use Rattle.subsetter_base.proofs.ByteLemmas.{range-take_drop}
-use Rattle.subsetter.specs.Glyf.Bare.{requested_flags, requested_tail}
+use Rattle.subsetter.specs.Glyf.BareOutlines.Bare.{requested_flags, requested_tail}
 use Rattle.subsetter.specs.Glyf.Parts.{Component, rest_size, has_more, has_instructions, component_at, spelled}
 use Rattle.subsetter_base.specs.Indexes.{new_index}
 use Rattle.subsetter.proofs.GlyfLaws.Chains.{with_front, written, chain_text, is_component, text_goes_on, text_ends}

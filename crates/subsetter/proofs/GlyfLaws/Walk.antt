@@ -11,11 +11,11 @@ use Rattle.subsetter_base.specs.declared.error.Error.TheVariants.{MalformedFont}
 use Rattle.subsetter_base.proofs.ByteLemmas.{range-take_drop}
 use Rattle.subsetter_base.proofs.Options.{some_not_none, map_some, map_none}
 use Rattle.subsetter_base.proofs.Results.{named_ok, named_err}
-use Rattle.subsetter.specs.Glyf.Bare.{requested_parts, requested_tail}
+use Rattle.subsetter.specs.Glyf.BareOutlines.Bare.{requested_parts, requested_tail}
 use Rattle.subsetter.specs.Glyf.Parts.{Component, Chain, Parts, Empty, Simple, Composite, rest_size, has_more, has_instructions, component_at, numbers_at, component_numbers, outline_parts, parts_bytes, spelled}
 use Rattle.subsetter.specs.Glyf.Plain.{renumbered_component, renumbered, rewritten}
-use Rattle.subsetter.specs.Glyf.Closure.{first_byte_in, others_in}
-use Rattle.subsetter.specs.Glyf.Size.{requested_size}
+use Rattle.subsetter.specs.Glyf.Reaching.Closure.{first_byte_in, others_in}
+use Rattle.subsetter.specs.Glyf.BareOutlines.Size.{requested_size}
 use Rattle.subsetter.proofs.GlyfLaws.Chains.{with_front, written, kept_after, chain_text, made, is_component, text_step, chain_none, composite_is, composite_short, rewritten_begun}
 use Rattle.subsetter.proofs.GlyfLaws.Components.{number_some, numbers_none, numbers_next, drop_short, components_composite}
 use Rattle.subsetter.proofs.GlyfLaws.Kept.{none_before}

@@ -2,10 +2,10 @@
 use Rattle.std.proofs.Common.{◌≡◌, ◌<◌, ◌≤◌, ℕ, Bool, true, false, List, [], ◌∷◌, ◌++◌, length, take, drop, refl, ap, ◌∙◌, arith}
 use Rattle.std.proofs.lemmas.List.{take-append-le, drop-append-le, length-append, take_all}
 use Rattle.std.specs.Borrow.{Bor}
-use Rattle.subsetter.specs.Name.View.{nows}
-use Rattle.subsetter.specs.Glyf.Bare.{bare_simple, requested_simple}
+use Rattle.subsetter.specs.Common.Name.View.{nows}
+use Rattle.subsetter.specs.Glyf.BareOutlines.Bare.{bare_simple, requested_simple}
 use Rattle.subsetter.specs.Glyf.Woven.{woven, AreWoven}
-use Rattle.subsetter.proofs.NameLaws.Written.{nows-push}
+use Rattle.subsetter.proofs.CommonLaws.NameLaws.Written.{nows-push}
 
 -- there is a byte
 abbrev pub IsFilled : List ℕ → Type 0

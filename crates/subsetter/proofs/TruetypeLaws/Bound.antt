@@ -15,23 +15,23 @@ use Rattle.subsetter_sfnt.specs.declared.flavor.FontFlavor.{FontFlavor}
 use Rattle.subsetter_sfnt.specs.declared.flavor.FontFlavor.TheVariants.{TrueType, Cff}
 use Rattle.subsetter_sfnt.specs.Plain.{file_of}
 use Rattle.subsetter_sfnt.specs.Read.{Font, table}
-use Rattle.subsetter_sfnt.specs.Rows.{Row, rows, present, opt, bytes_of}
-use Rattle.subsetter_sfnt.specs.Written.{Table, IsTable, body, file, fits, start_of, kind_word}
-use Rattle.subsetter_sfnt.proofs.Laws.Bound.{has_room}
-use Rattle.subsetter_sfnt.proofs.Laws.Written.{length-file}
+use Rattle.subsetter_sfnt.specs.Laying.Rows.{Row, rows, present, opt, bytes_of}
+use Rattle.subsetter_sfnt.specs.Laying.Written.{Table, IsTable, body, file, fits, start_of, kind_word}
+use Rattle.subsetter_sfnt.proofs.Laws.LayingLaws.Bound.{has_room}
+use Rattle.subsetter_sfnt.proofs.Laws.LayingLaws.Written.{length-file}
 use Rattle.subsetter.specs.Answer.{IsAnswer}
 use Rattle.subsetter.specs.Bound.{IsBeyond, HasNoAnswerWithin}
-use Rattle.subsetter.specs.Glyf.Closure.{Finds}
+use Rattle.subsetter.specs.Glyf.Reaching.Closure.{Finds}
 use Rattle.subsetter.specs.Glyf.Plain.{outlines_read}
 use Rattle.subsetter.specs.Glyf.Read.{Outlines, outline_in}
-use Rattle.subsetter.specs.Glyf.Reach.{IsGlyphOrderBy}
-use Rattle.subsetter.specs.Glyf.Size.{requested_size, AreLonger}
+use Rattle.subsetter.specs.Glyf.Reaching.Reach.{IsGlyphOrderBy}
+use Rattle.subsetter.specs.Glyf.BareOutlines.Size.{requested_size, AreLonger}
 use Rattle.subsetter.specs.Glyf.Written.{is_long, glyf_bytes}
 use Rattle.subsetter.specs.Laid.{AreMade, of_outlines, of_charstrings}
 use Rattle.subsetter.specs.Truetype.Answered.{IsAnswered}
 use Rattle.subsetter.specs.Truetype.Plain.{font_of, truetype_tables}
-use Rattle.subsetter.proofs.GlyfLaws.Found.{same_found}
-use Rattle.subsetter.proofs.GlyfLaws.Sizes.{sum_by_part, kept_sizes}
+use Rattle.subsetter.proofs.GlyfLaws.ReachingLaws.Found.{same_found}
+use Rattle.subsetter.proofs.GlyfLaws.BareOutlinesLaws.Sizes.{sum_by_part, kept_sizes}
 use Rattle.subsetter.proofs.TruetypeLaws.Steps.{made_steps, tables_steps, file_steps}
 use Rattle.subsetter.proofs.TruetypeLaws.Subset.{laid_is, laid_all}
 

@@ -15,16 +15,16 @@ use Rattle.subsetter.specs.Bound.{HasFaultWithin, in_font, beyond}
 use Rattle.subsetter.specs.Laid.{of_outlines, of_charstrings}
 use Rattle.subsetter_sfnt.specs.Read.{Font, table}
 use Rattle.subsetter.specs.Glyf.Read.{Outlines, outlines}
-use Rattle.subsetter_sfnt.specs.Written.{Table, fits, file, start_of, kind_word}
+use Rattle.subsetter_sfnt.specs.Laying.Written.{Table, fits, file, start_of, kind_word}
 use Rattle.subsetter_sfnt.specs.Fault.{HasOpeningFault}
-use Rattle.subsetter.specs.Shared.Plain.{SharedTables, shared_of}
+use Rattle.subsetter.specs.Common.Shared.Plain.{SharedTables, shared_of}
 use Rattle.subsetter.specs.Truetype.Plain.{Made, located, made_of, laid, truetype_tables}
 use Rattle.subsetter_sfnt.specs.Plain.{file_of}
 use Rattle.subsetter.specs.Glyf.Plain.{kept_all}
-use Rattle.subsetter.specs.Glyf.Reach.{IsGlyphOrder}
+use Rattle.subsetter.specs.Glyf.Reaching.Reach.{IsGlyphOrder}
 use Rattle.subsetter.specs.Glyf.Written.{is_long, glyf_bytes, loca_bytes}
 use Rattle.subsetter.proofs.GlyfLaws.Fault.{tables_refused, closure_refused, outlines_refused, order_in, no_outline_fault}
-use Rattle.subsetter.proofs.SharedLaws.Fault.{shared_refused, no_metrics_fault, no_max_profile_fault, no_name_fault, no_glyph_name_fault}
+use Rattle.subsetter.proofs.CommonLaws.SharedLaws.Fault.{shared_refused, no_metrics_fault, no_max_profile_fault, no_name_fault, no_glyph_name_fault}
 use Rattle.subsetter.proofs.TruetypeLaws.Bound.{is_beyond}
 use Rattle.subsetter.proofs.TruetypeLaws.Steps.{MadeSteps, made_steps, tables_steps, file_steps}
 

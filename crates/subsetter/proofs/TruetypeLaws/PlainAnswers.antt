@@ -9,19 +9,19 @@ use Rattle.subsetter_base.specs.Gives.{Fails, Gives}
 use Rattle.subsetter_base.specs.Within.{GivesWithin, IsTooLong}
 use Rattle.subsetter_base.specs.declared.error.Error.{Error}
 use Rattle.subsetter_base.specs.declared.error.Error.TheVariants as errors
-use Rattle.subsetter_sfnt.specs.declared.tables.NewTable.{NewTable}
+use Rattle.subsetter_sfnt.specs.declared.laying.tables.NewTable.{NewTable}
 use Rattle.subsetter.specs.declared.tables.TableData.{TableData}
 use Rattle.subsetter_sfnt.specs.declared.flavor.FontFlavor.TheVariants.{TrueType}
-use Rattle.subsetter_sfnt.specs.Rows.{rows, present}
+use Rattle.subsetter_sfnt.specs.Laying.Rows.{rows, present}
 use Rattle.subsetter.specs.Truetype.Answered.{IsAnswered, IsRefused, no_memory, unclosed, unmade, unlaid, past}
 use Rattle.subsetter.specs.Glyf.Read.{Outlines, outline_in}
-use Rattle.subsetter_sfnt.specs.Written.{Table, IsTable, kind_word}
+use Rattle.subsetter_sfnt.specs.Laying.Written.{Table, IsTable, kind_word}
 use Rattle.subsetter.specs.Truetype.Plain.{Made, made_of, font_of, laid, truetype_tables}
 use Rattle.subsetter_sfnt.specs.Plain.{file_of}
 use Rattle.subsetter.specs.Glyf.Plain.{outlines_read}
-use Rattle.subsetter.specs.Glyf.Closure as stops
-use Rattle.subsetter.specs.Glyf.Closure.{Finds, StopsClosure}
-use Rattle.subsetter.specs.Glyf.Reach.{IsGlyphOrderBy}
+use Rattle.subsetter.specs.Glyf.Reaching.Closure as stops
+use Rattle.subsetter.specs.Glyf.Reaching.Closure.{Finds, StopsClosure}
+use Rattle.subsetter.specs.Glyf.Reaching.Reach.{IsGlyphOrderBy}
 use Rattle.subsetter.specs.TableView.{view, views}
 use Rattle.subsetter.proofs.TruetypeLaws.Bound.{closure_beyond, file_beyond}
 use Rattle.subsetter.proofs.TruetypeLaws.Steps.{made_steps}

@@ -6,14 +6,14 @@ use Rattle.subsetter_base.specs.declared.error.Error.{Error}
 use Rattle.subsetter_base.specs.declared.error.Error.TheVariants.{OverflowError}
 use Rattle.subsetter_base.proofs.Results.{done_is, bind_ok}
 use Rattle.subsetter_sfnt.specs.declared.flavor.FontFlavor.TheVariants.{TrueType}
-use Rattle.subsetter_sfnt.specs.Written.{Table, fits, file, start_of}
+use Rattle.subsetter_sfnt.specs.Laying.Written.{Table, fits, file, start_of}
 use Rattle.subsetter_sfnt.specs.Plain.{file_of}
 use Rattle.subsetter.specs.Glyf.Read.{Outlines}
 use Rattle.subsetter.specs.Glyf.Plain.{kept_all}
 use Rattle.subsetter.specs.Glyf.Written.{is_long, glyf_bytes, loca_bytes}
-use Rattle.subsetter.specs.Shared.Plain.{SharedTables, shared_of}
+use Rattle.subsetter.specs.Common.Shared.Plain.{SharedTables, shared_of}
 use Rattle.subsetter.specs.Truetype.Plain.{Made, located, made_of, laid, truetype_tables}
-use Rattle.subsetter.proofs.SharedLaws.Steps.{SharedSteps, shared_steps}
+use Rattle.subsetter.proofs.CommonLaws.SharedLaws.Steps.{SharedSteps, shared_steps}
 
 -- a test that was passed
 chosen : {A : Type 0} (b : Bool) (x y : A) (e : Error) → cond b (Ok x) (Err e) ≡ Ok y → (b ≡ true) × (x ≡ y)

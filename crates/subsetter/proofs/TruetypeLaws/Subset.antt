@@ -13,14 +13,14 @@ use Rattle.subsetter_base.proofs.Options.{just_is}
 use Rattle.subsetter_sfnt.specs.declared.flavor.FontFlavor.TheVariants.{TrueType}
 use Rattle.subsetter_sfnt.specs.Container.{IsSoundContainer, AscendFrom}
 use Rattle.subsetter_sfnt.specs.Read.{Font, as_font, table, flavor}
-use Rattle.subsetter_sfnt.specs.Rows.{bytes_of, present, lookup, tags, rows, called_for, tags_of}
-use Rattle.subsetter_sfnt.specs.Written.{Table, IsTable, with_adjustment, fits, file, start_of, kind_word}
+use Rattle.subsetter_sfnt.specs.Laying.Rows.{bytes_of, present, lookup, tags, rows, called_for, tags_of}
+use Rattle.subsetter_sfnt.specs.Laying.Written.{Table, IsTable, with_adjustment, fits, file, start_of, kind_word}
 use Rattle.subsetter.specs.Glyf.Read.{Outlines, outlines}
-use Rattle.subsetter.specs.Glyf.Closure.{Finds}
-use Rattle.subsetter.specs.Glyf.Reach.{IsGlyphOrder}
+use Rattle.subsetter.specs.Glyf.Reaching.Closure.{Finds}
+use Rattle.subsetter.specs.Glyf.Reaching.Reach.{IsGlyphOrder}
 use Rattle.subsetter.specs.Glyf.Written.{is_long, glyf_bytes}
-use Rattle.subsetter.specs.Head.Written.{head_bytes}
-use Rattle.subsetter.specs.Hmtx.Written.{MetricBytes}
+use Rattle.subsetter.specs.Common.Head.Written.{head_bytes}
+use Rattle.subsetter.specs.Common.Hmtx.Written.{MetricBytes}
 use Rattle.subsetter.specs.Truetype.Answered.{IsAnswered}
 use Rattle.subsetter.specs.Truetype.Plain.{Made, font_of, laid, truetype_tables}
 use Rattle.subsetter.specs.Truetype.Read.{HasGlyphCount, KeepsPrograms, KeepsOutlines}
@@ -30,15 +30,15 @@ use Rattle.subsetter.specs.Subset.{by_outlines, IsSubset}
 use Rattle.subsetter.specs.Answer.{IsAnswer}
 use Rattle.subsetter_sfnt.proofs.Laws.Back.{word_of}
 use Rattle.subsetter_sfnt.proofs.Laws.Container.{sound, table_of, head_of}
-use Rattle.subsetter_sfnt.proofs.Laws.Rows.{rows_ascend, present_ascends, lookup_row, rows_few, some_table, rows_tables, AreAlike, same_tags}
-use Rattle.subsetter_sfnt.proofs.Laws.TableBytes.{table_bytes}
-use Rattle.subsetter.proofs.HeadLaws.Back.{outlines_afresh}
+use Rattle.subsetter_sfnt.proofs.Laws.LayingLaws.Rows.{rows_ascend, present_ascends, lookup_row, rows_few, some_table, rows_tables, AreAlike, same_tags}
+use Rattle.subsetter_sfnt.proofs.Laws.LayingLaws.TableBytes.{table_bytes}
+use Rattle.subsetter.proofs.CommonLaws.HeadLaws.Back.{outlines_afresh}
 use Rattle.subsetter.proofs.GlyfLaws.Back.{AreWritten, entry_count}
 use Rattle.subsetter.proofs.GlyfLaws.Fault.{HasTables, has_tables, order_in}
 use Rattle.subsetter.proofs.GlyfLaws.Kept.{length-kept_all}
-use Rattle.subsetter.proofs.GlyfLaws.Unfold.{unfolds_alike, numbered_alike}
-use Rattle.subsetter.proofs.SharedLaws.Steps.{head_there, maxp_there, metrics_there, name_there, post_there, head_from}
-use Rattle.subsetter.proofs.SharedLaws.Kept.{shared_room, AreBack, keeps_shared}
+use Rattle.subsetter.proofs.GlyfLaws.ReachingLaws.Unfold.{unfolds_alike, numbered_alike}
+use Rattle.subsetter.proofs.CommonLaws.SharedLaws.Steps.{head_there, maxp_there, metrics_there, name_there, post_there, head_from}
+use Rattle.subsetter.proofs.CommonLaws.SharedLaws.Kept.{shared_room, AreBack, keeps_shared}
 use Rattle.subsetter.proofs.TruetypeLaws.Steps.{MadeSteps, made_steps, tables_steps, file_steps}
 
 some_map : {A B : Type 0} (f : A → B) (o : Option A) → is_some (option_map f o) ≡ is_some o

@@ -6,10 +6,10 @@ use Rattle.subsetter_base.specs.declared.error.Error.{Error}
 use Rattle.subsetter_base.specs.declared.error.Error.TheVariants.{MalformedFont}
 use Rattle.subsetter_cff.specs.Write.Plain.{cff_subset}
 use Rattle.subsetter_sfnt.specs.declared.flavor.FontFlavor.TheVariants.{Cff}
-use Rattle.subsetter_sfnt.specs.Written.{Table, kind_word}
+use Rattle.subsetter_sfnt.specs.Laying.Written.{Table, kind_word}
 use Rattle.subsetter_sfnt.specs.Plain.{file_of}
-use Rattle.subsetter_sfnt.specs.Rows.{FontTables, rows, present}
-use Rattle.subsetter.specs.Shared.Plain.{SharedTables, shared_of, with_shared}
+use Rattle.subsetter_sfnt.specs.Laying.Rows.{FontTables, rows, present}
+use Rattle.subsetter.specs.Common.Shared.Plain.{SharedTables, shared_of, with_shared}
 
 -- what is made for the new font
 pub record Made : Type 0 where

@@ -1,7 +1,7 @@
 -- What the code's parts of a subset with a CFF table stand for.
-use Rattle.subsetter_cff.specs.Write.TableBy.{table_bytes}
+use Rattle.subsetter_cff.specs.Write.Laying.TableBy.{table_bytes}
 use Rattle.subsetter.specs.declared.cff.CffTables.{CffTables}
-use Rattle.subsetter.specs.Shared.View.{shared_seen}
+use Rattle.subsetter.specs.Common.Shared.View.{shared_seen}
 use Rattle.subsetter.specs.Cff.Plain.{Made}
 
 abbrev pub made_seen : CffTables → Made

@@ -5,8 +5,8 @@ use Rattle.subsetter_base.specs.declared.error.Error.TheVariants.{MalformedFont,
 use Rattle.subsetter_sfnt.specs.Read.{Font, table}
 use Rattle.subsetter.specs.Glyf.Read.{outline}
 use Rattle.subsetter.specs.Glyf.Parts.{outline_parts}
-use Rattle.subsetter.specs.Glyf.Reach.{IsReachable}
-use Rattle.subsetter.specs.Glyf.Size.{AreLonger}
+use Rattle.subsetter.specs.Glyf.Reaching.Reach.{IsReachable}
+use Rattle.subsetter.specs.Glyf.BareOutlines.Size.{AreLonger}
 
 pub data HasOutlineFault (font : Font) (glyphs : List ℕ) : Error → Type 0 where
   -- a font with `glyf` lacks `loca` or `head`

@@ -6,7 +6,7 @@ use Rattle.subsetter_base.specs.Indexes.{new_index}
 use Rattle.subsetter_base.specs.declared.error.Error.{Error}
 use Rattle.subsetter_base.specs.declared.error.Error.TheVariants.{MalformedFont}
 use Rattle.subsetter.specs.Glyf.Read.{Outlines, outlines_in, outline_in}
-use Rattle.subsetter.specs.Glyf.Bare.{requested_parts}
+use Rattle.subsetter.specs.Glyf.BareOutlines.Bare.{requested_parts}
 use Rattle.subsetter.specs.Glyf.Parts.{Component, Chain, Parts, Empty, Simple, Composite, composite_parts, outline_parts, parts_bytes}
 
 -- the tables of the outlines

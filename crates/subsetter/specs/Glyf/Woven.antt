@@ -1,6 +1,6 @@
 -- A list of outlines of which some are borrowed and the others stand one after another.
 use Rattle.std.specs.Prelude.{◌≡◌, ◌≤◌, ◌<◌, ◌^◌, ℕ, Bool, List, [], ◌∷◌, length, take, drop}
-use Rattle.subsetter.specs.Glyf.Bare.{requested_simple}
+use Rattle.subsetter.specs.Glyf.BareOutlines.Bare.{requested_simple}
 
 -- a list of outlines, and whether instructions are asked for
 pub record Listed : Type 0 where

@@ -2,7 +2,7 @@
 use Rattle.std.specs.Prelude.{ℕ, ◌+◌, ◌/◌, ◌%◌, Bool, List, [], ◌∷◌, ◌++◌, length, nat_lt, if◌then◌else◌, sum_by}
 use Rattle.std.specs.List.{flat_map}
 use Rattle.std.specs.Int.{w16, w32, to_be_bytes}
-use Rattle.subsetter.specs.Glyf.Unfold.{padded}
+use Rattle.subsetter.specs.Glyf.Reaching.Unfold.{padded}
 
 -- the length of the outlines, each rounded up to even
 abbrev pub even_size : List (List ℕ) → ℕ

@@ -3,13 +3,13 @@ use Rattle.std.specs.Prelude.{◌≡◌, ◌<◌, ◌^◌, ℕ, Bool, List, [], 
 use Rattle.subsetter_base.specs.declared.error.Error.{Error}
 use Rattle.subsetter_base.specs.declared.error.Error.TheVariants.{OverflowError, OutOfMemory}
 use Rattle.subsetter_sfnt.specs.declared.flavor.FontFlavor.TheVariants.{TrueType}
-use Rattle.subsetter.specs.Glyf.Closure.{Finds, StopsClosure}
+use Rattle.subsetter.specs.Glyf.Reaching.Closure.{Finds, StopsClosure}
 use Rattle.subsetter.specs.Glyf.Read.{Outlines, outline_in}
-use Rattle.subsetter_sfnt.specs.Written.{Table, kind_word}
+use Rattle.subsetter_sfnt.specs.Laying.Written.{Table, kind_word}
 use Rattle.subsetter.specs.Truetype.Plain.{truetype_tables}
 use Rattle.subsetter_sfnt.specs.Plain.{file_of}
 use Rattle.subsetter.specs.Glyf.Plain.{outlines_read}
-use Rattle.subsetter.specs.Glyf.Reach.{IsGlyphOrderBy}
+use Rattle.subsetter.specs.Glyf.Reaching.Reach.{IsGlyphOrderBy}
 
 -- the steps to a file
 pub record IsAnswered (hinting : Bool) (find : List ℕ → Option (List ℕ)) (glyphs out : List ℕ) : Type 0 where

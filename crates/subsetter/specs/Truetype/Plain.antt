@@ -4,12 +4,12 @@ use Rattle.subsetter_base.specs.Bytes.{◌>>=◌}
 use Rattle.subsetter_base.specs.declared.error.Error.{Error}
 use Rattle.subsetter_base.specs.declared.error.Error.TheVariants.{OverflowError}
 use Rattle.subsetter_sfnt.specs.declared.flavor.FontFlavor.TheVariants.{TrueType}
-use Rattle.subsetter_sfnt.specs.Written.{Table}
-use Rattle.subsetter_sfnt.specs.Rows.{FontTables, rows, present}
+use Rattle.subsetter_sfnt.specs.Laying.Written.{Table}
+use Rattle.subsetter_sfnt.specs.Laying.Rows.{FontTables, rows, present}
 use Rattle.subsetter.specs.Glyf.Read.{Outlines}
 use Rattle.subsetter.specs.Glyf.Written.{is_long, glyf_bytes, loca_bytes}
 use Rattle.subsetter.specs.Glyf.Plain.{kept_all}
-use Rattle.subsetter.specs.Shared.Plain.{SharedTables, shared_of, with_shared}
+use Rattle.subsetter.specs.Common.Shared.Plain.{SharedTables, shared_of, with_shared}
 
 -- what is made for the new font; its programs are the source's
 pub record Made : Type 0 where

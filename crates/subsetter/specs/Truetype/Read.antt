@@ -3,7 +3,7 @@ use Rattle.std.specs.Prelude.{◌≡◌, ℕ, ◌+◌, ◌*◌, ◌<◌, List, l
 use Rattle.subsetter_base.specs.Indexes.{index_of}
 use Rattle.subsetter_sfnt.specs.Read.{Font, table}
 use Rattle.subsetter.specs.Glyf.Read.{Outlines, outlines, entry_size}
-use Rattle.subsetter.specs.Glyf.Unfold.{HaveSameParts, UnfoldAlike}
+use Rattle.subsetter.specs.Glyf.Reaching.Unfold.{HaveSameParts, UnfoldAlike}
 
 -- loca has one entry more than there are glyphs
 pub record HasGlyphCount (out : Font) (n : ℕ) : Type 0 where

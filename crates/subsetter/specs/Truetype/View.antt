@@ -1,6 +1,6 @@
 -- What the code's parts of a TrueType subset stand for.
 use Rattle.subsetter.specs.declared.truetype.TrueTypeTables.{TrueTypeTables}
-use Rattle.subsetter.specs.Shared.View.{shared_seen}
+use Rattle.subsetter.specs.Common.Shared.View.{shared_seen}
 use Rattle.subsetter.specs.Truetype.Plain.{Made}
 
 abbrev pub made_seen : TrueTypeTables → Made

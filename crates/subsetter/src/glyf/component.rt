@@ -11,10 +11,10 @@ ghost use Rattle.subsetter_base.specs.Gives.{Fails, behind};
 ghost use Rattle.subsetter_base.specs.Indexes.{index_of, new_index};
 ghost use Rattle.subsetter_base.specs.declared.error.Error.TheVariants.{OutOfMemory, MalformedFont};
 ghost use Rattle.subsetter.specs.Glyf.View.{component_seen};
-ghost use Rattle.subsetter.specs.Glyf.Closure.{first_byte_in, others_in};
+ghost use Rattle.subsetter.specs.Glyf.Reaching.Closure.{first_byte_in, others_in};
 ghost use Rattle.subsetter.specs.Glyf.Parts.{rest_size, has_more, has_instructions, component_at, numbers_at, component_numbers, outline_parts};
-ghost use Rattle.subsetter.specs.Glyf.Size.{requested_size};
-ghost use Rattle.subsetter.specs.Glyf.Bare.{requested_flags, requested_tail};
+ghost use Rattle.subsetter.specs.Glyf.BareOutlines.Size.{requested_size};
+ghost use Rattle.subsetter.specs.Glyf.BareOutlines.Bare.{requested_flags, requested_tail};
 ghost use Rattle.subsetter.specs.Glyf.Plain.{rewritten_composite};
 
 use subsetter_base::read::u16_at;

@@ -10,20 +10,20 @@ ghost use Rattle.std.specs.Prelude.{◌≡◌, ◌+◌, ◌<◌, ◌≤◌, ◌^
 ghost use Rattle.std.specs.Iterator.{YieldsFirstBy, item_count};
 ghost use Rattle.subsetter_base.specs.Gives.{Fails};
 ghost use Rattle.subsetter_base.specs.declared.error.Error.TheVariants.{OutOfMemory};
-ghost use Rattle.subsetter.specs.Glyf.Bare.{requested_simple};
+ghost use Rattle.subsetter.specs.Glyf.BareOutlines.Bare.{requested_simple};
 ghost use Rattle.subsetter.specs.Glyf.Plain.{rewritten_composite, with_last};
-ghost use Rattle.subsetter.specs.Glyf.Unfold.{padded};
+ghost use Rattle.subsetter.specs.Glyf.Reaching.Unfold.{padded};
 ghost use Rattle.subsetter.specs.Glyf.View.{outline_bytes};
 ghost use Rattle.subsetter.specs.Glyf.Written.{glyf_bytes};
-ghost use Rattle.subsetter_sfnt.specs.Checksum.{checksum};
+ghost use Rattle.subsetter_sfnt.specs.Laying.Checksum.{checksum};
 
 use crate::glyf::component::rewrite_composite;
 use crate::glyf::pieces::Outline;
 use std::alloc::Global;
 use std::marker::Model;
 use subsetter_base::{Error, GlyphRemapper};
-use subsetter_sfnt::checksum::Sum;
-use subsetter_sfnt::room::put;
+use subsetter_sfnt::laying::checksum::Sum;
+use subsetter_sfnt::laying::room::put;
 
 /// A list of outlines, in less room than a `CowSlice` each: borrowed ones stay in the source, and those that are made
 /// anew stand one after another.
@@ -48,7 +48,7 @@ pub struct OutlineList<'a> {
 
 impl<'a> Model for OutlineList<'a> {
     ghost use Rattle.std.specs.Prelude.{ℕ, List, true, false, length};
-    ghost use Rattle.subsetter.specs.Name.View.{nows};
+    ghost use Rattle.subsetter.specs.Common.Name.View.{nows};
     ghost use Rattle.subsetter.specs.Glyf.Woven.{Listed, woven, AreWoven, IsCounted};
     ghost use Rattle.subsetter.specs.Glyf.Written.{glyf_bytes};
 
@@ -177,7 +177,7 @@ pub struct OutlineIter<'a> {
 
 impl<'a> Model for OutlineIter<'a> {
     ghost use Rattle.std.specs.Prelude.{ℕ, List};
-    ghost use Rattle.subsetter.specs.Name.View.{nows};
+    ghost use Rattle.subsetter.specs.Common.Name.View.{nows};
     ghost use Rattle.subsetter.specs.Glyf.Woven.{woven, AreWoven};
 
     ghost Value = { List (List ℕ) };

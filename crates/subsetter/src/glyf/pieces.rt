@@ -3,8 +3,8 @@
 
 ghost use Rattle.std.specs.Prelude.{◌≡◌, ◌+◌, ◌<◌, ◌^◌, ◌∷◌, ◌++◌, length};
 ghost use Rattle.std.specs.Option.{option_map, unwrap_or};
-ghost use Rattle.subsetter.specs.Glyf.Bare.{bare_simple, requested_simple};
-ghost use Rattle.subsetter.specs.Glyf.Unfold.{padded};
+ghost use Rattle.subsetter.specs.Glyf.BareOutlines.Bare.{bare_simple, requested_simple};
+ghost use Rattle.subsetter.specs.Glyf.Reaching.Unfold.{padded};
 
 use subsetter_base::read::u16_at;
 
@@ -27,7 +27,7 @@ pub enum Outline<'a> {
 }
 
 /// The pieces of a simple outline that has instructions, all of which are there.
-#[tactic(auto, using(crate::proofs::GlyfLaws::Bare::stays_bare), unfolding(crate::specs::Glyf::Bare::bare_simple))]
+#[tactic(auto, using(crate::proofs::GlyfLaws::BareOutlinesLaws::Bare::stays_bare), unfolding(crate::specs::Glyf::BareOutlines::Bare::bare_simple))]
 fn bare_pieces(outline: &[u8]) -> Option<Bare<'_>>
     ensures { unwrap_or (option_map (λ b. b.front.now ++ 0 ∷ 0 ∷ b.behind.now) result) outline.now ≡ bare_simple outline.now }
 {

@@ -7,16 +7,16 @@ use Rattle.std.proofs.lemmas.Option.{none-some, same_Some}
 use Rattle.subsetter_base.specs.Bytes.{◌>>=◌, first_number}
 use Rattle.subsetter_base.specs.declared.error.Error.{Error}
 use Rattle.subsetter_base.specs.declared.error.Error.TheVariants.{MalformedFont, CFFError}
-use Rattle.subsetter_cffdata.specs.Dict.{Entry}
-use Rattle.subsetter_cffdata.specs.Index.{index_at}
+use Rattle.subsetter_cffdata.specs.Dicts.Dict.{Entry}
+use Rattle.subsetter_cffdata.specs.Indexes.Index.{index_at}
 use Rattle.subsetter_cff.specs.Read.Cff.{Cff, behind_header, name_index, string_index, subroutine_index, top_dict, before, name_bytes, cff_parts, char_strings, is_cid_keyed}
-use Rattle.subsetter_cff.specs.Read.FontDicts.{font_dicts, font_dict_select}
-use Rattle.subsetter_cff.specs.Read.OperandDemands.{top_demands, font_dict_demands}
+use Rattle.subsetter_cff.specs.Read.FdArray.FontDicts.{font_dicts, font_dict_select}
+use Rattle.subsetter_cff.specs.Read.Entries.OperandDemands.{top_demands, font_dict_demands}
 use Rattle.subsetter_cff.specs.Read.Opened.{check, all_meet, all_lead, sound_font_dicts, opened_cid, opened_parts, opened}
 use Rattle.subsetter_cff.specs.Read.Fault.{HasFrontFault, short, other_version, bad_names, bad_strings, bad_subroutines, no_top_dict, HasTopFault, wrong_operands, no_char_strings, empty_char_strings, no_font_dicts, no_select, bad_font_dict, bad_private, HasOpeningFault, in_front, in_top}
 use Rattle.subsetter_cff.proofs.ReadLaws.Results.{some_of}
 use Rattle.subsetter_cff.proofs.ReadLaws.Refusals.{bind_err, none_of, failed, none_or, not_both, here, there}
-use Rattle.subsetter_cff.proofs.ReadLaws.EntryFaults.{all_wrong, all_nowhere}
+use Rattle.subsetter_cff.proofs.ReadLaws.EntriesLaws.EntryFaults.{all_wrong, all_nowhere}
 
 -- ---- the front
 pub no_version : (bytes : List ℕ) → first_number bytes ≡ None → HasFrontFault bytes MalformedFont

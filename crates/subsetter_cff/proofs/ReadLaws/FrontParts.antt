@@ -1,7 +1,7 @@
 -- The parts of a table, one step after the other.
 use Rattle.std.proofs.Common.{◌≡◌, ℕ, List, Option, Some, None, refl}
 use Rattle.std.specs.Option.{option_and_then}
-use Rattle.subsetter_cffdata.specs.Index.{index_at}
+use Rattle.subsetter_cffdata.specs.Indexes.Index.{index_at}
 use Rattle.subsetter_type2.specs.Subroutines.{entry_at}
 use Rattle.subsetter_cff.specs.Read.Cff.{behind_header, name_index, top_index, string_index, subroutine_index, top_dict, name_bytes, cff_parts}
 use Rattle.subsetter_base.specs.Bytes.{first_number}

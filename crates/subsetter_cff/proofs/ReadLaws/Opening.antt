@@ -7,23 +7,23 @@ use Rattle.subsetter_base.specs.Bytes.{◌>>=◌, first_number}
 use Rattle.subsetter_base.specs.Gives.{Fails}
 use Rattle.subsetter_base.specs.declared.error.Error.{Error}
 use Rattle.subsetter_base.specs.declared.error.Error.TheVariants.{MalformedFont, OutOfMemory}
-use Rattle.subsetter_cffdata.specs.Dict.{Entry, entries}
-use Rattle.subsetter_cffdata.specs.Index.{index_at, readable}
+use Rattle.subsetter_cffdata.specs.Dicts.Dict.{Entry, entries}
+use Rattle.subsetter_cffdata.specs.Indexes.Index.{index_at, readable}
 use Rattle.subsetter_cff.specs.Read.Cff.{Cff, at_offset, char_strings}
-use Rattle.subsetter_cff.specs.Read.FontDicts.{FontDictSelect, select_at, font_dicts, font_dict_select}
+use Rattle.subsetter_cff.specs.Read.FdArray.FontDicts.{FontDictSelect, select_at, font_dicts, font_dict_select}
 use Rattle.subsetter_cff.specs.Read.Fault.{HasWrongOperands}
-use Rattle.subsetter_cff.specs.Read.FontDictFaults.{HasFontDictFault, wrong_entry}
-use Rattle.subsetter_cff.specs.Read.FontDictList.{HasFaultAmong}
+use Rattle.subsetter_cff.specs.Read.FdArray.FontDictFaults.{HasFontDictFault, wrong_entry}
+use Rattle.subsetter_cff.specs.Read.FdArray.FontDictList.{HasFaultAmong}
 use Rattle.subsetter_cff.specs.Read.FrontView.{front_read}
-use Rattle.subsetter_cff.specs.Read.OperandDemands.{top_demands, font_dict_demands}
+use Rattle.subsetter_cff.specs.Read.Entries.OperandDemands.{top_demands, font_dict_demands}
 use Rattle.subsetter_cff.specs.Read.Opened.{all_meet, all_lead, sound_font_dicts, opened_cid, opened_parts, opened}
-use Rattle.subsetter_cff.specs.Read.Operators.{char_strings_operator, font_dicts_operator, font_dict_select_operator}
+use Rattle.subsetter_cff.specs.Read.Entries.Operators.{char_strings_operator, font_dicts_operator, font_dict_select_operator}
 use Rattle.subsetter_cff.specs.Read.Source.{entries_at, opened_keyed, opened_top}
-use Rattle.subsetter_cff.specs.Read.TopDicts.{last_offset}
-use Rattle.subsetter_cff.proofs.ReadLaws.EntryFaults.{all_wrong}
-use Rattle.subsetter_cff.proofs.ReadLaws.EntrySound.{no_wrong}
+use Rattle.subsetter_cff.specs.Read.Entries.TopDicts.{last_offset}
+use Rattle.subsetter_cff.proofs.ReadLaws.EntriesLaws.EntryFaults.{all_wrong}
+use Rattle.subsetter_cff.proofs.ReadLaws.EntriesLaws.EntrySound.{no_wrong}
 use Rattle.subsetter_cff.proofs.ReadLaws.FrontParts.{parts_are}
-use Rattle.subsetter_cff.proofs.ReadLaws.LeadingEntries.{nowhere_stands, no_font_dict_fault}
+use Rattle.subsetter_cff.proofs.ReadLaws.FdArrayLaws.LeadingEntries.{nowhere_stands, no_font_dict_fault}
 
 -- ---- what an offset of the top dict leads to
 leads_to : (cff : Cff) (operator : List ℕ) (offset : Option ℕ) → offset ≡ last_offset operator cff.top → at_offset cff operator ≡ option_and_then (λ o. Some (drop o cff.bytes)) offset

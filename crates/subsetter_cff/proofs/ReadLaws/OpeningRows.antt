@@ -4,13 +4,13 @@ use Rattle.std.specs.Prelude.{is_ok, Err}
 use Rattle.subsetter_base.specs.declared.error.Error.TheVariants.{MalformedFont}
 use Rattle.subsetter_cffdata.specs.Bytes.{card, part}
 use Rattle.subsetter_base.specs.Bytes.{byte}
-use Rattle.subsetter_cffdata.specs.Numbers.{as_i32, as_u32, in_i32, integer_from, short_integer, dict_number_from}
-use Rattle.subsetter_cffdata.specs.Index.{index_data, index_body, index_of}
-use Rattle.subsetter_cffdata.specs.Dict.{entry_in, entry_at, entries_in, entries}
-use Rattle.subsetter_cffdata.specs.Operands.{offset_operand, range_operands, string_operand}
+use Rattle.subsetter_cffdata.specs.Numerals.Numbers.{as_i32, as_u32, in_i32, integer_from, short_integer, dict_number_from}
+use Rattle.subsetter_cffdata.specs.Indexes.Index.{index_data, index_body, index_of}
+use Rattle.subsetter_cffdata.specs.Dicts.Dict.{entry_in, entry_at, entries_in, entries}
+use Rattle.subsetter_cffdata.specs.Dicts.Operands.{offset_operand, range_operands, string_operand}
 use Rattle.subsetter_cff.specs.Read.Cff.{behind_header, name_index, top_index, string_index, subroutine_index, top_dict, name_bytes, cff_parts, at_offset, char_strings}
-use Rattle.subsetter_cff.specs.Read.FontDicts.{font_dicts, font_dict_select, select_at}
-use Rattle.subsetter_cff.specs.Read.Private.{local_subroutines, private_in}
+use Rattle.subsetter_cff.specs.Read.FdArray.FontDicts.{font_dicts, font_dict_select, select_at}
+use Rattle.subsetter_cff.specs.Read.FdArray.Private.{local_subroutines, private_in}
 use Rattle.subsetter_cff.specs.Read.Opened.{opened_cid, opened_parts, opened}
 
 -- two bytes

@@ -6,17 +6,17 @@ use Rattle.std.proofs.lemmas.Bool.{eqb-true, ltb-true}
 use Rattle.std.proofs.lemmas.Option.{none-some, same_Some}
 use Rattle.subsetter_base.specs.declared.error.Error.{Error}
 use Rattle.subsetter_base.specs.declared.error.Error.TheVariants.{MalformedFont, CFFError}
-use Rattle.subsetter_cffdata.specs.Dict.{Entry}
+use Rattle.subsetter_cffdata.specs.Dicts.Dict.{Entry}
 use Rattle.subsetter_cff.specs.Read.Cff.{Cff, behind_header, name_index, top_index, string_index, subroutine_index, top_dict, name_bytes, cff_parts, char_strings, is_cid_keyed}
 use Rattle.subsetter_base.specs.Bytes.{first_number}
-use Rattle.subsetter_cff.specs.Read.FontDicts.{font_dicts, font_dict_select}
-use Rattle.subsetter_cff.specs.Read.OperandDemands.{top_demands, font_dict_demands}
+use Rattle.subsetter_cff.specs.Read.FdArray.FontDicts.{font_dicts, font_dict_select}
+use Rattle.subsetter_cff.specs.Read.Entries.OperandDemands.{top_demands, font_dict_demands}
 use Rattle.subsetter_cff.specs.Read.Opened.{all_meet, all_lead, sound_font_dicts, opened_cid, opened_parts, opened}
 use Rattle.subsetter_cff.specs.Read.Fault.{HasFrontFault, short, other_version, bad_names, bad_tops, bad_strings, bad_subroutines, no_top_dict, HasTopFault, wrong_operands, no_char_strings, empty_char_strings, no_font_dicts, no_select, bad_font_dict, bad_private, in_front, in_top, HasOpeningFault}
-use Rattle.subsetter_cff.proofs.ReadLaws.Holding.{both}
+use Rattle.subsetter_cff.proofs.ReadLaws.EntriesLaws.Holding.{both}
 use Rattle.subsetter_cff.proofs.ReadLaws.Results.{bind_ok, some_of, passed}
 use Rattle.subsetter_cffdata.proofs.Options.{step, when}
-use Rattle.subsetter_cff.proofs.ReadLaws.EntrySound.{clash, contradiction, no_wrong, no_private_fault}
+use Rattle.subsetter_cff.proofs.ReadLaws.EntriesLaws.EntrySound.{clash, contradiction, no_wrong, no_private_fault}
 
 long_enough : (bytes start : List ℕ) → behind_header bytes ≡ Some start → length bytes < 3 → ⊥
 unfolding behind_header

@@ -6,19 +6,19 @@ use Rattle.std.specs.List.{AllByRecursion}
 use Rattle.std.proofs.lemmas.Bool.{cases_Bool}
 use Rattle.std.proofs.lemmas.Option.{none-some, same_Some}
 use Rattle.subsetter_base.specs.Bytes.{range, first_number}
-use Rattle.subsetter_cffdata.specs.Numbers.{Number}
-use Rattle.subsetter_cffdata.specs.Index.{index_at, readable}
-use Rattle.subsetter_cffdata.specs.Dict.{Entry, entries, operand_limit}
-use Rattle.subsetter_cffdata.specs.Operands.{range_operands}
+use Rattle.subsetter_cffdata.specs.Numerals.Numbers.{Number}
+use Rattle.subsetter_cffdata.specs.Indexes.Index.{index_at, readable}
+use Rattle.subsetter_cffdata.specs.Dicts.Dict.{Entry, entries, operand_limit}
+use Rattle.subsetter_cffdata.specs.Dicts.Operands.{range_operands}
 use Rattle.subsetter_type2.specs.Subroutines.{entry_at}
-use Rattle.subsetter_cff.specs.Read.Lookup.{last_after, last_of, first_of, without}
+use Rattle.subsetter_cff.specs.Read.Entries.Lookup.{last_after, last_of, first_of, without}
 use Rattle.subsetter_cff.specs.Read.Cff.{Cff, top_index, string_index, subroutine_index, top_dict, name_bytes, cff_parts, at_offset}
-use Rattle.subsetter_cff.specs.Read.FontDicts.{font_dicts}
-use Rattle.subsetter_cff.specs.Read.Private.{Private, local_subroutines, private_in, private_by, private_at}
-use Rattle.subsetter_cff.specs.Read.Operators.{font_dicts_operator, private_operator}
+use Rattle.subsetter_cff.specs.Read.FdArray.FontDicts.{font_dicts}
+use Rattle.subsetter_cff.specs.Read.FdArray.Private.{Private, local_subroutines, private_in, private_by, private_at}
+use Rattle.subsetter_cff.specs.Read.Entries.Operators.{font_dicts_operator, private_operator}
 use Rattle.subsetter_cffdata.proofs.Options.{step, when}
-use Rattle.subsetter_cff.proofs.ReadLaws.ReadNumbers.{IsWritable, FitsNumber, all_writable, FitsEntry}
-use Rattle.subsetter_cff.proofs.ReadLaws.EntriesFit.{entries_fit}
+use Rattle.subsetter_cff.proofs.ReadLaws.EntriesLaws.ReadNumbers.{IsWritable, FitsNumber, all_writable, FitsEntry}
+use Rattle.subsetter_cff.proofs.ReadLaws.EntriesLaws.EntriesFit.{entries_fit}
 
 pub all_map : {A B : Type 0} (P : B → Type 0) (f : A → B) (xs : List A) → ((x : A) → P (f x)) → AllByRecursion P (map f xs)
 all_map P f [] h = tt

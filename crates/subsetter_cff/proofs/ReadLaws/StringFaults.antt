@@ -4,16 +4,16 @@ use Rattle.std.specs.Prelude.{Contains}
 use Rattle.std.specs.Option.{option_map}
 use Rattle.std.proofs.lemmas.Bool.{false≢true}
 use Rattle.std.proofs.lemmas.Option.{none-some}
-use Rattle.subsetter_cffdata.specs.Numbers.{Number}
-use Rattle.subsetter_cffdata.specs.Dict.{Entry}
-use Rattle.subsetter_cffdata.specs.Operands.{string_operand}
-use Rattle.subsetter_cff.specs.Read.Lookup.{last_of}
+use Rattle.subsetter_cffdata.specs.Numerals.Numbers.{Number}
+use Rattle.subsetter_cffdata.specs.Dicts.Dict.{Entry}
+use Rattle.subsetter_cffdata.specs.Dicts.Operands.{string_operand}
+use Rattle.subsetter_cff.specs.Read.Entries.Lookup.{last_of}
 use Rattle.subsetter_cff.specs.Read.Strings.{FontString, string_of, string_by, string_at}
-use Rattle.subsetter_cff.specs.Read.OperandDemands.{Demand, one_string}
+use Rattle.subsetter_cff.specs.Read.Entries.OperandDemands.{Demand, one_string}
 use Rattle.subsetter_cff.specs.Read.Opened.{all_meet}
 use Rattle.subsetter_cff.specs.Read.Fault.{NamesNoString}
 use Rattle.subsetter_cff.proofs.ReadLaws.Refusals.{none_or}
-use Rattle.subsetter_cff.proofs.ReadLaws.Holding.{demand_holds, last_holds}
+use Rattle.subsetter_cff.proofs.ReadLaws.EntriesLaws.Holding.{demand_holds, last_holds}
 
 no_some : (o : Option FontString) → option_map Some o ≡ None → o ≡ None
 no_some None e = refl

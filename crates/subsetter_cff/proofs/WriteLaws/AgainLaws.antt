@@ -1,9 +1,6 @@
 -- A subset of a subset.
 pub mod Composition
-pub mod Renumbered
-pub mod RenumberedUse
-pub mod FontDicts
-pub mod KeptGlyphs
+pub mod NumberLaws
 pub mod Parts
 pub mod SameParts
 pub mod Demands

@@ -8,31 +8,31 @@ use Rattle.std.proofs.lemmas.Option.{none-some, same_Some, slice_get_within}
 use Rattle.std.proofs.lemmas.List.{length-map}
 use Rattle.subsetter_base.specs.Indexes.{index_of}
 use Rattle.subsetter_base.specs.declared.error.Error.TheVariants.{MalformedFont, CFFError}
-use Rattle.subsetter_cffdata.specs.Numbers.{Number}
-use Rattle.subsetter_cffdata.specs.Dict.{Entry}
-use Rattle.subsetter_cff.specs.Read.Lookup.{last_of}
+use Rattle.subsetter_cffdata.specs.Numerals.Numbers.{Number}
+use Rattle.subsetter_cffdata.specs.Dicts.Dict.{Entry}
+use Rattle.subsetter_cff.specs.Read.Entries.Lookup.{last_of}
 use Rattle.subsetter_cff.specs.Read.Strings.{FontString, string_at}
 use Rattle.subsetter_cff.specs.Read.Cff.{Cff, cff_parts, char_strings, is_cid_keyed}
 use Rattle.subsetter_base.specs.Bytes.{first_number}
-use Rattle.subsetter_cff.specs.Read.FontDicts.{font_dicts, font_dict_select}
-use Rattle.subsetter_cff.specs.Read.Private.{Private, no_private, private_at}
-use Rattle.subsetter_cff.specs.Read.Operators.{subroutines_operator, copyright_operator, notice_operator, font_name_operator, font_matrix_operator, font_box_operator}
-use Rattle.subsetter_cff.specs.Read.Matrices.{thousandth_matrix, zero_box}
-use Rattle.subsetter_cff.specs.Write.Layout.{FontDict, Parts}
-use Rattle.subsetter_cff.specs.Write.Fits.{FitsString, FitsFontDict, FitsSelect, Fits}
+use Rattle.subsetter_cff.specs.Read.FdArray.FontDicts.{font_dicts, font_dict_select}
+use Rattle.subsetter_cff.specs.Read.FdArray.Private.{Private, no_private, private_at}
+use Rattle.subsetter_cff.specs.Read.Entries.Operators.{subroutines_operator, copyright_operator, notice_operator, font_name_operator, font_matrix_operator, font_box_operator}
+use Rattle.subsetter_cff.specs.Read.Entries.Matrices.{thousandth_matrix, zero_box}
+use Rattle.subsetter_cff.specs.Write.Laying.Layout.{FontDict, Parts}
+use Rattle.subsetter_cff.specs.Write.Laying.Fits.{FitsString, FitsFontDict, FitsSelect, Fits}
 use Rattle.subsetter_cff.specs.Read.Opened.{sound_font_dicts, opened_cid, opened_parts, opened}
-use Rattle.subsetter_cff.specs.Write.WrittenNumbers.{any_long, entry_numbers, font_dict_numbers}
+use Rattle.subsetter_cff.specs.Write.NewDicts.WrittenNumbers.{any_long, entry_numbers, font_dict_numbers}
 use Rattle.subsetter_cff.specs.Write.Plain.{with_number, KeptGlyph, kept_glyphs, used_numbers, SourceDict, as_source_dict, source_dict, new_font_dict, new_font_dicts, new_select, new_parts, parts_of, cff_subset}
 use Rattle.subsetter_cff.specs.Write.Headline.{AnsweredIsSubset}
 use Rattle.subsetter_cff.proofs.ReadLaws.Results.{bind_ok, same_Ok, some_of, passed, number_there}
 use Rattle.subsetter_cffdata.proofs.Options.{step}
-use Rattle.subsetter_cff.proofs.ReadLaws.Locals.{names_again}
-use Rattle.subsetter_cff.proofs.WriteLaws.FontDicts.{all_at}
+use Rattle.subsetter_cff.proofs.ReadLaws.FdArrayLaws.Locals.{names_again}
+use Rattle.subsetter_cff.proofs.WriteLaws.NewDictsLaws.FontDicts.{all_at}
 use Rattle.subsetter_cff.proofs.ReadLaws.SourceBytes.{Fitting, AreWritable, last_of_read, without_fits, none_first, all_map, Source, source_of, top_fits, font_dicts_fit, private_fits}
 use Rattle.subsetter_cff.proofs.WriteLaws.SourceFits.{short_front, short_back, numbers_fit, thousandth_read, box_read, or_else_read, new_matrix_read, string_fits, private_fit}
-use Rattle.subsetter_cff.proofs.WriteLaws.KeptSteps.{length-kept}
-use Rattle.subsetter_cff.proofs.WriteLaws.FontDictSteps.{length-dicts, dict_made, dict_steps}
-use Rattle.subsetter_cff.proofs.WriteLaws.MadeOf.{parts_steps, Limits, answer_steps, parts_made}
+use Rattle.subsetter_cff.proofs.WriteLaws.GlyphsLaws.KeptSteps.{length-kept}
+use Rattle.subsetter_cff.proofs.WriteLaws.NewDictsLaws.FontDictSteps.{length-dicts, dict_made, dict_steps}
+use Rattle.subsetter_cff.proofs.WriteLaws.LayingLaws.MadeOf.{parts_steps, Limits, answer_steps, parts_made}
 use Rattle.subsetter_cff.proofs.WriteLaws.Keeping.{made_is_subset}
 
 -- ---- font dicts

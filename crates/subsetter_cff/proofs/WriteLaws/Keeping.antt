@@ -5,25 +5,25 @@ use Rattle.std.specs.Option.{option_map}
 use Rattle.std.proofs.lemmas.Bool.{cases_lt, lt-ltb, le-ltb}
 use Rattle.std.proofs.lemmas.Option.{none-some, same_Some, slice_get-map}
 use Rattle.std.proofs.lemmas.List.{length-map}
-use Rattle.subsetter_cffdata.specs.Decimals.{Decimal}
-use Rattle.subsetter_cffdata.specs.Numbers.{Number, Real, in_i32}
-use Rattle.subsetter_cffdata.specs.Values.{value, thousandfold, thousand, by_1000}
+use Rattle.subsetter_cffdata.specs.Reals.Decimals.{Decimal}
+use Rattle.subsetter_cffdata.specs.Numerals.Numbers.{Number, Real, in_i32}
+use Rattle.subsetter_cffdata.specs.Numerals.Values.{value, thousandfold, thousand, by_1000}
 use Rattle.subsetter_cffdata.proofs.Options.{step}
-use Rattle.subsetter_type2.specs.Machine.{Trace, trace}
+use Rattle.subsetter_type2.specs.Runs.Machine.{Trace, trace}
 use Rattle.subsetter_type2.specs.Subroutines.{entry_at}
 use Rattle.subsetter_type2.proofs.TraceLaws.{keeps_trace}
-use Rattle.subsetter_cff.specs.Read.Lookup.{last_of}
+use Rattle.subsetter_cff.specs.Read.Entries.Lookup.{last_of}
 use Rattle.subsetter_cff.specs.Read.Cff.{Cff, char_string}
-use Rattle.subsetter_cff.specs.Read.Private.{Private, private_of, private_entries, own_entries}
-use Rattle.subsetter_cff.specs.Read.Matrices.{thousandth_matrix, magnified, matrix_pair, own_matrix, matrices}
+use Rattle.subsetter_cff.specs.Read.FdArray.Private.{Private, private_of, private_entries, own_entries}
+use Rattle.subsetter_cff.specs.Read.Entries.Matrices.{thousandth_matrix, magnified, matrix_pair, own_matrix, matrices}
 use Rattle.subsetter_cff.specs.Read.GlyphTrace.{library, glyph_trace}
-use Rattle.subsetter_cff.specs.Read.Operators.{subroutines_operator, font_matrix_operator}
-use Rattle.subsetter_cff.specs.Write.Layout.{Parts, FontDict}
-use Rattle.subsetter_cff.specs.Write.ReadsAs.{GlyphReadsAs, ReadsAs}
+use Rattle.subsetter_cff.specs.Read.Entries.Operators.{subroutines_operator, font_matrix_operator}
+use Rattle.subsetter_cff.specs.Write.Laying.Layout.{Parts, FontDict}
+use Rattle.subsetter_cff.specs.Write.Laying.ReadsAs.{GlyphReadsAs, ReadsAs}
 use Rattle.subsetter_cff.specs.Write.Subset.{KeepsGlyph, IsCffSubset}
 use Rattle.subsetter_cff.specs.Write.Made.{new_matrix, MadeGlyph, IsMade, MadeIsSubset}
-use Rattle.subsetter_cff.proofs.WriteLaws.FontDicts.{none_left_out}
-use Rattle.subsetter_cff.proofs.WriteLaws.Whole.{laid_out_is_read}
+use Rattle.subsetter_cff.proofs.WriteLaws.NewDictsLaws.FontDicts.{none_left_out}
+use Rattle.subsetter_cff.proofs.WriteLaws.LayingLaws.Whole.{laid_out_is_read}
 
 -- ---- matrices a thousand times as great
 pub in_i32_is : (z y : ℤ) → in_i32 z ≡ Some y → y ≡ z

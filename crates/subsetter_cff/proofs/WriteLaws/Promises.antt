@@ -7,10 +7,10 @@ use Rattle.subsetter_base.specs.declared.error.Error.{Error}
 use Rattle.subsetter_base.specs.declared.error.Error.TheVariants.{UnknownKind, MalformedFont, Unimplemented, SubsetError, OverflowError, CFFError, OutOfMemory}
 use Rattle.subsetter_cff.specs.Write.Plain.{cff_subset}
 use Rattle.subsetter_cff.specs.Write.Headline.{IsSubsetLaidOut}
-use Rattle.subsetter_cff.specs.Write.CffFault.{HasCffFault}
+use Rattle.subsetter_cff.specs.Write.Refusals.CffFault.{HasCffFault}
 use Rattle.subsetter_cff.proofs.WriteLaws.Headline.{answered_is_subset}
-use Rattle.subsetter_cff.proofs.WriteLaws.CffFaults.{refused_stands}
-use Rattle.subsetter_cff.proofs.WriteLaws.Excluded.{answered_excludes}
+use Rattle.subsetter_cff.proofs.WriteLaws.RefusalsLaws.CffFaults.{refused_stands}
+use Rattle.subsetter_cff.proofs.WriteLaws.RefusalsLaws.Excluded.{answered_excludes}
 
 -- glyph 0 comes first
 some_given : (glyphs : List ℕ) → slice_get glyphs 0 ≡ Some 0 → 1 ≤ length glyphs

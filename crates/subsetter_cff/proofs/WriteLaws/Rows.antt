@@ -3,20 +3,20 @@ use Rattle.std.proofs.Common.{◌≡◌, ℕ, List, [], ◌∷◌, Some, None, r
 use Rattle.std.specs.Prelude.{pos}
 use Rattle.subsetter_cffdata.specs.Bytes.{card, part}
 use Rattle.subsetter_base.specs.Bytes.{byte}
-use Rattle.subsetter_cffdata.specs.Decimals.{decimal_digits, real_text}
-use Rattle.subsetter_cffdata.specs.Numbers.{Integer, integer, as_i32, as_u32, in_i32, integer_from, short_integer, dict_number_from}
-use Rattle.subsetter_cffdata.specs.Index.{index, header, index_data, index_body, index_of}
-use Rattle.subsetter_cffdata.specs.Dict.{entry_in, entry_at, entries_in, entries}
-use Rattle.subsetter_cffdata.specs.Operands.{offset_operand, range_operands, string_operand}
-use Rattle.subsetter_cff.specs.Read.Lookup.{last_of}
+use Rattle.subsetter_cffdata.specs.Reals.Decimals.{decimal_digits, real_text}
+use Rattle.subsetter_cffdata.specs.Numerals.Numbers.{Integer, integer, as_i32, as_u32, in_i32, integer_from, short_integer, dict_number_from}
+use Rattle.subsetter_cffdata.specs.Indexes.Index.{index, header, index_data, index_body, index_of}
+use Rattle.subsetter_cffdata.specs.Dicts.Dict.{entry_in, entry_at, entries_in, entries}
+use Rattle.subsetter_cffdata.specs.Dicts.Operands.{offset_operand, range_operands, string_operand}
+use Rattle.subsetter_cff.specs.Read.Entries.Lookup.{last_of}
 use Rattle.subsetter_cff.specs.Read.Strings.{Standard, string_of, string_at}
 use Rattle.subsetter_cff.specs.Read.Cff.{Cff, behind_header, name_index, top_index, string_index, subroutine_index, top_dict, name_bytes, cff_parts, at_offset, char_strings}
 use Rattle.subsetter_cff.specs.Read.Charset.{in_ranges as in_charset_ranges, in_format, in_charset}
-use Rattle.subsetter_cff.specs.Read.FontDicts.{Ranges, Each, in_ranges, selected, select_at}
-use Rattle.subsetter_cff.specs.Read.Private.{local_subroutines, private_in, private_at, private_of}
-use Rattle.subsetter_cff.specs.Read.Matrices.{thousandth_matrix, unit_matrix, stated_matrices}
-use Rattle.subsetter_cff.specs.Read.Operators.{notice_operator, font_matrix_operator}
-use Rattle.subsetter_cff.specs.Write.Layout.{Parts, First, strings, charset_bytes, select_bytes, private_bytes, entries_of_font_dict_by, top_entries_by, front, font_dicts_of as written_font_dicts, cff_table}
+use Rattle.subsetter_cff.specs.Read.FdArray.FontDicts.{Ranges, Each, in_ranges, selected, select_at}
+use Rattle.subsetter_cff.specs.Read.FdArray.Private.{local_subroutines, private_in, private_at, private_of}
+use Rattle.subsetter_cff.specs.Read.Entries.Matrices.{thousandth_matrix, unit_matrix, stated_matrices}
+use Rattle.subsetter_cff.specs.Read.Entries.Operators.{notice_operator, font_matrix_operator}
+use Rattle.subsetter_cff.specs.Write.Laying.Layout.{Parts, First, strings, charset_bytes, select_bytes, private_bytes, entries_of_font_dict_by, top_entries_by, front, font_dicts_of as written_font_dicts, cff_table}
 
 -- one glyph, no strings of its own, an empty private dict
 abbrev smallest : Parts

@@ -9,23 +9,23 @@ use Rattle.std.proofs.lemmas.Bool.{cases_Bool, ltb-true, ltb-false}
 use Rattle.std.proofs.lemmas.Int.{ints}
 use Rattle.std.proofs.lemmas.Int.Digits.{all_below_base_digits_of, length-digits_of-le}
 use Rattle.std.proofs.lemmas.Option.{none-some, same_Some}
-use Rattle.subsetter_cffdata.specs.Decimals.{Decimal, real_text, text_limit}
-use Rattle.subsetter_cffdata.specs.Numbers.{Number, Integer, Real, Fixed, FitsDict, is_too_long, in_i32}
-use Rattle.subsetter_cffdata.specs.Values.{value, thousandfold, held, thousand, by_1000}
-use Rattle.subsetter_cffdata.specs.Dict.{Entry, FitsNewEntry}
-use Rattle.subsetter_cffdata.proofs.PlainDigits.{digits_are_all}
+use Rattle.subsetter_cffdata.specs.Reals.Decimals.{Decimal, real_text, text_limit}
+use Rattle.subsetter_cffdata.specs.Numerals.Numbers.{Number, Integer, Real, Fixed, FitsDict, is_too_long, in_i32}
+use Rattle.subsetter_cffdata.specs.Numerals.Values.{value, thousandfold, held, thousand, by_1000}
+use Rattle.subsetter_cffdata.specs.Dicts.Dict.{Entry, FitsNewEntry}
+use Rattle.subsetter_cffdata.proofs.RealsLaws.PlainDigits.{digits_are_all}
 use Rattle.subsetter_cff.specs.Read.Strings.{FontString, Custom, standard_strings, string_of, string_by}
-use Rattle.subsetter_cff.specs.Read.Matrices.{thousandth, thousandth_matrix, unit_matrix, zero_box}
-use Rattle.subsetter_cff.specs.Write.Layout.{rewritten_entries}
-use Rattle.subsetter_cff.specs.Write.Fits.{FitNumbers, FitsString}
+use Rattle.subsetter_cff.specs.Read.Entries.Matrices.{thousandth, thousandth_matrix, unit_matrix, zero_box}
+use Rattle.subsetter_cff.specs.Write.Laying.Layout.{rewritten_entries}
+use Rattle.subsetter_cff.specs.Write.Laying.Fits.{FitNumbers, FitsString}
 use Rattle.subsetter_cff.specs.Write.Made.{new_matrix}
-use Rattle.subsetter_cff.specs.Write.WrittenNumbers.{any_long, entry_numbers}
-use Rattle.subsetter_cffdata.specs.Operands.{string_operand}
+use Rattle.subsetter_cff.specs.Write.NewDicts.WrittenNumbers.{any_long, entry_numbers}
+use Rattle.subsetter_cffdata.specs.Dicts.Operands.{string_operand}
 use Rattle.subsetter_cff.proofs.WriteLaws.Keeping.{in_i32_is}
-use Rattle.subsetter_cff.proofs.WriteLaws.Sizes.{plain_fits}
+use Rattle.subsetter_cff.proofs.WriteLaws.LayingLaws.Sizes.{plain_fits}
 use Rattle.subsetter_cffdata.proofs.Options.{step}
-use Rattle.subsetter_cff.proofs.ReadLaws.Plains.{PlainDecimal, text_fits, decimal_plain, thousandfold_plain}
-use Rattle.subsetter_cff.proofs.ReadLaws.ReadNumbers.{IsWritable, all_writable}
+use Rattle.subsetter_cff.proofs.ReadLaws.EntriesLaws.Plains.{PlainDecimal, text_fits, decimal_plain, thousandfold_plain}
+use Rattle.subsetter_cff.proofs.ReadLaws.EntriesLaws.ReadNumbers.{IsWritable, all_writable}
 use Rattle.subsetter_cff.proofs.ReadLaws.SourceBytes.{Fitting, AreWritable}
 
 -- ---- reals that aren't too long

@@ -8,29 +8,29 @@ use Rattle.subsetter_base.specs.Gives.{Fails, Gives}
 use Rattle.subsetter_base.specs.Within.{FailsWithin, GivesWithin}
 use Rattle.subsetter_base.specs.declared.error.Error.{Error}
 use Rattle.subsetter_base.specs.declared.error.Error.TheVariants.{OutOfMemory, OverflowError}
-use Rattle.subsetter_cffdata.specs.Index.{index, offsets}
-use Rattle.subsetter_cff.specs.declared.write.kept_glyphs.KeptGlyphs.{KeptGlyphs}
-use Rattle.subsetter_cff.specs.declared.write.table.TableParts.{TableParts}
-use Rattle.subsetter_cff.specs.declared.write.writing.CffPieces.{CffPieces}
+use Rattle.subsetter_cffdata.specs.Indexes.Index.{index, offsets}
+use Rattle.subsetter_cff.specs.declared.write.glyphs.kept_glyphs.KeptGlyphs.{KeptGlyphs}
+use Rattle.subsetter_cff.specs.declared.write.laying.table.TableParts.{TableParts}
+use Rattle.subsetter_cff.specs.declared.write.laying.writing.CffPieces.{CffPieces}
 use Rattle.subsetter_cff.specs.Read.Cff.{Cff}
-use Rattle.subsetter_cff.specs.Write.KeptView.{numbers_of, texts_of, texts_size, AreAllKept}
-use Rattle.subsetter_cff.specs.Write.Layout.{Parts, strings, front, table_offsets, charset_of, privates, select_of, font_dicts_of, cff_table}
-use Rattle.subsetter_cff.specs.Write.PartsBy.{parts_by}
-use Rattle.subsetter_cff.specs.Write.PartsView.{font_dict_view, parts_view, HasCharStrings}
+use Rattle.subsetter_cff.specs.Write.Glyphs.KeptView.{numbers_of, texts_of, texts_size, AreAllKept}
+use Rattle.subsetter_cff.specs.Write.Laying.Layout.{Parts, strings, front, table_offsets, charset_of, privates, select_of, font_dicts_of, cff_table}
+use Rattle.subsetter_cff.specs.Write.Laying.PartsBy.{parts_by}
+use Rattle.subsetter_cff.specs.Write.Laying.PartsView.{font_dict_view, parts_view, HasCharStrings}
 use Rattle.subsetter_cff.specs.Read.Opened.{opened}
 use Rattle.subsetter_cff.specs.Write.Plain.{KeptGlyph, kept_glyphs, counted_parts, limited, parts_of, cff_subset}
-use Rattle.subsetter_cff.specs.Write.PrivatesBound.{ArePast}
-use Rattle.subsetter_cff.specs.Write.TableBy.{new_dicts, table_by, table_bytes}
-use Rattle.subsetter_cff.specs.Write.TableLimits.{table_limits}
+use Rattle.subsetter_cff.specs.Write.NewDicts.PrivatesBound.{ArePast}
+use Rattle.subsetter_cff.specs.Write.Laying.TableBy.{new_dicts, table_by, table_bytes}
+use Rattle.subsetter_cff.specs.Write.Laying.TableLimits.{table_limits}
 use Rattle.subsetter_cff.proofs.ReadLaws.Failing.{fails_on}
 use Rattle.subsetter_cff.proofs.ReadLaws.Results.{bind_ok, same_Ok}
-use Rattle.subsetter_cff.proofs.WriteLaws.FlatIndexes.{length-ends}
-use Rattle.subsetter_cff.proofs.WriteLaws.KeptSteps.{length-kept}
-use Rattle.subsetter_cff.proofs.WriteLaws.LimitsKept.{limits_are}
-use Rattle.subsetter_cff.proofs.WriteLaws.MadeOf.{parts_steps, answer_steps}
-use Rattle.subsetter_cff.proofs.WriteLaws.Sizes.{index_holds}
-use Rattle.subsetter_cff.proofs.WriteLaws.PartsMade.{parts_for_is, parts_filled, few_dicts}
-use Rattle.subsetter_cff.proofs.WriteLaws.TablesWritten.{table_is_laid_out}
+use Rattle.subsetter_cff.proofs.WriteLaws.GlyphsLaws.FlatIndexes.{length-ends}
+use Rattle.subsetter_cff.proofs.WriteLaws.GlyphsLaws.KeptSteps.{length-kept}
+use Rattle.subsetter_cff.proofs.WriteLaws.LayingLaws.LimitsKept.{limits_are}
+use Rattle.subsetter_cff.proofs.WriteLaws.LayingLaws.MadeOf.{parts_steps, answer_steps}
+use Rattle.subsetter_cff.proofs.WriteLaws.LayingLaws.Sizes.{index_holds}
+use Rattle.subsetter_cff.proofs.WriteLaws.LayingLaws.PartsMade.{parts_for_is, parts_filled, few_dicts}
+use Rattle.subsetter_cff.proofs.WriteLaws.LayingLaws.TablesWritten.{table_is_laid_out}
 
 -- ---- numbers are bytes
 all_small : (kept : List KeptGlyph) → ((i : ℕ) → slice_index (numbers_of kept) i < 256) → AllByRecursion (λ (k : KeptGlyph). k.number < 256) kept

@@ -3,12 +3,12 @@
 use Rattle.std.specs.Prelude.{ℕ, ◌-◌, ◌==◌, if◌then◌else◌, Bool, List, ◌∷◌, take, drop, length, is_some, Option, Some, None}
 use Rattle.std.specs.Option.{option_map}
 use Rattle.subsetter_base.specs.Options.{◌>>=◌}
-use Rattle.subsetter_cffdata.specs.Index.{index_at}
-use Rattle.subsetter_cffdata.specs.Dict.{Entry, entries}
-use Rattle.subsetter_cffdata.specs.Operands.{offset_operand}
+use Rattle.subsetter_cffdata.specs.Indexes.Index.{index_at}
+use Rattle.subsetter_cffdata.specs.Dicts.Dict.{Entry, entries}
+use Rattle.subsetter_cffdata.specs.Dicts.Operands.{offset_operand}
 use Rattle.subsetter_type2.specs.Subroutines.{entry_at}
-use Rattle.subsetter_cff.specs.Read.Lookup.{last_of}
-use Rattle.subsetter_cff.specs.Read.Operators.{registry_operator, char_strings_operator}
+use Rattle.subsetter_cff.specs.Read.Entries.Lookup.{last_of}
+use Rattle.subsetter_cff.specs.Read.Entries.Operators.{registry_operator, char_strings_operator}
 use Rattle.subsetter_base.specs.Bytes.{first_number}
 
 -- ---- in the order of the bytes

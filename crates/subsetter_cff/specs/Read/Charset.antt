@@ -4,7 +4,7 @@ use Rattle.subsetter_cffdata.specs.Bytes.{card}
 use Rattle.subsetter_base.specs.Options.{◌>>=◌}
 use Rattle.subsetter_base.specs.Bytes.{byte}
 use Rattle.subsetter_cff.specs.Read.Cff.{Cff, at_offset}
-use Rattle.subsetter_cff.specs.Read.Operators.{charset_operator}
+use Rattle.subsetter_cff.specs.Read.Entries.Operators.{charset_operator}
 
 -- Ranges, a first CID and how many glyphs follow its own: where the glyph lies in them. Each covers a glyph, so glyph + 1 steps are enough.
 unfoldable pub in_ranges : ℕ → ℕ → List ℕ → Option ℕ

@@ -5,19 +5,19 @@ use Rattle.subsetter_base.specs.declared.error.Error.{Error}
 use Rattle.subsetter_base.specs.declared.error.Error.TheVariants.{MalformedFont, CFFError, SubsetError}
 use Rattle.subsetter_base.specs.Bytes.{range, first_number}
 use Rattle.subsetter_base.specs.Options.{◌>>=◌}
-use Rattle.subsetter_cffdata.specs.Index.{index_at}
-use Rattle.subsetter_cffdata.specs.Numbers.{Number}
-use Rattle.subsetter_cffdata.specs.Dict.{Entry, entries}
-use Rattle.subsetter_cffdata.specs.Operands.{string_operand, offset_operand, range_operands}
-use Rattle.subsetter_type2.specs.Machine.{Stops, outcome}
-use Rattle.subsetter_cff.specs.Read.Lookup.{last_of, first_of}
+use Rattle.subsetter_cffdata.specs.Indexes.Index.{index_at}
+use Rattle.subsetter_cffdata.specs.Numerals.Numbers.{Number}
+use Rattle.subsetter_cffdata.specs.Dicts.Dict.{Entry, entries}
+use Rattle.subsetter_cffdata.specs.Dicts.Operands.{string_operand, offset_operand, range_operands}
+use Rattle.subsetter_type2.specs.Runs.Machine.{Stops, outcome}
+use Rattle.subsetter_cff.specs.Read.Entries.Lookup.{last_of, first_of}
 use Rattle.subsetter_cff.specs.Read.Strings.{string_of}
 use Rattle.subsetter_cff.specs.Read.Cff.{Cff, name_index, top_index, string_index, subroutine_index, top_dict, cff_parts, char_strings, char_string, is_cid_keyed}
-use Rattle.subsetter_cff.specs.Read.FontDicts.{font_dicts, font_dict_select, font_dict_number, font_dict_of}
-use Rattle.subsetter_cff.specs.Read.Private.{Private, private_of}
+use Rattle.subsetter_cff.specs.Read.FdArray.FontDicts.{font_dicts, font_dict_select, font_dict_number, font_dict_of}
+use Rattle.subsetter_cff.specs.Read.FdArray.Private.{Private, private_of}
 use Rattle.subsetter_cff.specs.Read.GlyphTrace.{library}
-use Rattle.subsetter_cff.specs.Read.Operators.{copyright_operator, notice_operator, font_name_operator, private_operator, subroutines_operator}
-use Rattle.subsetter_cff.specs.Read.OperandDemands.{Demand, top_demands, font_dict_demands}
+use Rattle.subsetter_cff.specs.Read.Entries.Operators.{copyright_operator, notice_operator, font_name_operator, private_operator, subroutines_operator}
+use Rattle.subsetter_cff.specs.Read.Entries.OperandDemands.{Demand, top_demands, font_dict_demands}
 
 -- of the table's front (section 2 "Data Layout")
 pub data HasFrontFault (bytes : List ℕ) : Error → Type 0 where

@@ -4,9 +4,9 @@ use Rattle.std.specs.Option.{ok_or, option_and_then}
 use Rattle.subsetter_base.specs.Bytes.{◌>>=◌, first_number}
 use Rattle.subsetter_base.specs.declared.error.Error.{Error}
 use Rattle.subsetter_base.specs.declared.error.Error.TheVariants.{MalformedFont, CFFError}
-use Rattle.subsetter_cffdata.specs.Dict.{entries}
-use Rattle.subsetter_cffdata.specs.Index.{index_at}
-use Rattle.subsetter_cffdata.specs.IndexView.{items}
+use Rattle.subsetter_cffdata.specs.Dicts.Dict.{entries}
+use Rattle.subsetter_cffdata.specs.Indexes.Index.{index_at}
+use Rattle.subsetter_cffdata.specs.Indexes.IndexView.{items}
 use Rattle.subsetter_type2.specs.Subroutines.{entry_at}
 use Rattle.subsetter_cff.specs.Read.Cff.{Cff, behind_header, before}
 use Rattle.subsetter_cff.specs.declared.read.front.Front.{Front}

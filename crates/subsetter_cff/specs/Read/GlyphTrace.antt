@@ -1,9 +1,9 @@
 -- What a glyph of a CFF table draws (Technical Note 5176, section 14 "CharStrings INDEX"; Technical Note 5177).
 use Rattle.std.specs.Prelude.{ℕ, Option}
 use Rattle.subsetter_base.specs.Options.{◌>>=◌}
-use Rattle.subsetter_type2.specs.Machine.{Library, Trace, trace}
+use Rattle.subsetter_type2.specs.Runs.Machine.{Library, Trace, trace}
 use Rattle.subsetter_cff.specs.Read.Cff.{Cff, char_string}
-use Rattle.subsetter_cff.specs.Read.Private.{Private, private_of}
+use Rattle.subsetter_cff.specs.Read.FdArray.Private.{Private, private_of}
 
 -- the subroutines that a charstring under this private dict may call
 abbrev pub library : Cff → Private → Library

@@ -6,12 +6,12 @@ use Rattle.std.specs.Str.{bytes_eq}
 use Rattle.subsetter_base.specs.Bytes.{◌>>=◌, first_number}
 use Rattle.subsetter_base.specs.declared.error.Error.{Error}
 use Rattle.subsetter_base.specs.declared.error.Error.TheVariants.{MalformedFont, CFFError}
-use Rattle.subsetter_cffdata.specs.Dict.{Entry}
-use Rattle.subsetter_cff.specs.Read.Operators.{private_operator}
+use Rattle.subsetter_cffdata.specs.Dicts.Dict.{Entry}
+use Rattle.subsetter_cff.specs.Read.Entries.Operators.{private_operator}
 use Rattle.subsetter_cff.specs.Read.Cff.{Cff, cff_parts, char_strings, is_cid_keyed}
-use Rattle.subsetter_cff.specs.Read.FontDicts.{font_dicts, font_dict_select}
-use Rattle.subsetter_cff.specs.Read.Private.{private_by}
-use Rattle.subsetter_cff.specs.Read.OperandDemands.{Demand, top_demands, font_dict_demands}
+use Rattle.subsetter_cff.specs.Read.FdArray.FontDicts.{font_dicts, font_dict_select}
+use Rattle.subsetter_cff.specs.Read.FdArray.Private.{private_by}
+use Rattle.subsetter_cff.specs.Read.Entries.OperandDemands.{Demand, top_demands, font_dict_demands}
 
 -- an entry meets each demand on its operator
 abbrev pub meets : List Demand → Entry → Bool

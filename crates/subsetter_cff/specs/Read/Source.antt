@@ -4,20 +4,20 @@ use Rattle.std.specs.Option.{option_map, ok_or}
 use Rattle.subsetter_base.specs.Bytes.{◌>>=◌}
 use Rattle.subsetter_base.specs.declared.error.Error.{Error}
 use Rattle.subsetter_base.specs.declared.error.Error.TheVariants.{MalformedFont}
-use Rattle.subsetter_cffdata.specs.Dict.{entries}
-use Rattle.subsetter_cffdata.specs.Index.{index_at}
-use Rattle.subsetter_cffdata.specs.IndexView.{items}
+use Rattle.subsetter_cffdata.specs.Dicts.Dict.{entries}
+use Rattle.subsetter_cffdata.specs.Indexes.Index.{index_at}
+use Rattle.subsetter_cffdata.specs.Indexes.IndexView.{items}
 use Rattle.subsetter_cff.specs.declared.read.source.CIDMetadata.{CIDMetadata}
 use Rattle.subsetter_cff.specs.declared.read.source.Table.{Table}
 use Rattle.subsetter_cff.specs.Read.Cff.{Cff, char_strings, is_cid_keyed}
-use Rattle.subsetter_cff.specs.Read.FontDicts.{font_dicts, font_dict_select}
-use Rattle.subsetter_cff.specs.Read.FontDictList.{AreFontDicts}
+use Rattle.subsetter_cff.specs.Read.FdArray.FontDicts.{font_dicts, font_dict_select}
+use Rattle.subsetter_cff.specs.Read.FdArray.FontDictList.{AreFontDicts}
 use Rattle.subsetter_cff.specs.Read.FrontView.{front_of}
-use Rattle.subsetter_cff.specs.Read.OperandDemands.{top_demands}
+use Rattle.subsetter_cff.specs.Read.Entries.OperandDemands.{top_demands}
 use Rattle.subsetter_cff.specs.Read.Opened.{check, all_meet, sound_font_dicts, opened_cid}
-use Rattle.subsetter_cff.specs.Read.Private.{no_private, private_at}
-use Rattle.subsetter_cff.specs.Read.PrivateView.{private_view}
-use Rattle.subsetter_cff.specs.Read.TopDicts.{IsTopDict}
+use Rattle.subsetter_cff.specs.Read.FdArray.Private.{no_private, private_at}
+use Rattle.subsetter_cff.specs.Read.FdArray.PrivateView.{private_view}
+use Rattle.subsetter_cff.specs.Read.Entries.TopDicts.{IsTopDict}
 use Rattle.subsetter_cff.specs.Read.Views.{select_view}
 
 abbrev pub cff_of : Table → Cff

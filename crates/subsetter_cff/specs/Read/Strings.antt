@@ -2,11 +2,11 @@
 use Rattle.std.specs.Prelude.{ℕ, ◌-◌, nat_lt, if◌then◌else◌, List, Option, Some, None}
 use Rattle.std.specs.Option.{option_map}
 use Rattle.subsetter_base.specs.Options.{◌>>=◌}
-use Rattle.subsetter_cffdata.specs.Numbers.{Number}
-use Rattle.subsetter_cffdata.specs.Dict.{Entry}
-use Rattle.subsetter_cffdata.specs.Operands.{string_operand}
+use Rattle.subsetter_cffdata.specs.Numerals.Numbers.{Number}
+use Rattle.subsetter_cffdata.specs.Dicts.Dict.{Entry}
+use Rattle.subsetter_cffdata.specs.Dicts.Operands.{string_operand}
 use Rattle.subsetter_type2.specs.Subroutines.{entry_at}
-use Rattle.subsetter_cff.specs.Read.Lookup.{last_of}
+use Rattle.subsetter_cff.specs.Read.Entries.Lookup.{last_of}
 
 -- a standard string by its number (appendix A "Standard Strings"), or one by its bytes
 pub data FontString : Type 0 where

@@ -7,7 +7,7 @@ use Rattle.subsetter_cff.specs.Read.Cff.{Cff, cff_parts, char_strings, is_cid_ke
 use Rattle.subsetter_cff.specs.Write.Subset.{IsCffSubset}
 use Rattle.subsetter_cff.specs.Write.Headline.{IsSubsetTable}
 use Rattle.subsetter_cff.specs.Read.Fault.{HasGlyphFault}
-use Rattle.subsetter_cff.specs.Write.CffFault.{HasCffFault}
+use Rattle.subsetter_cff.specs.Write.Refusals.CffFault.{HasCffFault}
 use Rattle.subsetter_cff.specs.Write.Plain.{cff_subset}
 
 -- the glyphs of the first font: glyph i of the second subset is glyph first[second[i]]

@@ -1,19 +1,19 @@
 -- The parts that are made of a source: what of it they keep (Technical Note 5176).
 use Rattle.std.specs.Prelude.{◌≡◌, ℕ, ◌<◌, ◌≤◌, List, length, slice_index, slice_get, unwrap_or, Option, Some, None, Ok}
-use Rattle.subsetter_cffdata.specs.Numbers.{Number}
-use Rattle.subsetter_cffdata.specs.Values.{by_1000}
+use Rattle.subsetter_cffdata.specs.Numerals.Numbers.{Number}
+use Rattle.subsetter_cffdata.specs.Numerals.Values.{by_1000}
 use Rattle.subsetter_type2.specs.Flat.{flat_form}
-use Rattle.subsetter_cff.specs.Read.Lookup.{last_of}
+use Rattle.subsetter_cff.specs.Read.Entries.Lookup.{last_of}
 use Rattle.subsetter_cff.specs.Read.Strings.{string_at}
 use Rattle.subsetter_cff.specs.Read.Cff.{Cff, cff_parts, char_string}
-use Rattle.subsetter_cff.specs.Read.Private.{Private, private_of, own_entries}
-use Rattle.subsetter_cff.specs.Read.Matrices.{thousandth_matrix, unit_matrix, zero_box, font_dict_name, own_matrix}
+use Rattle.subsetter_cff.specs.Read.FdArray.Private.{Private, private_of, own_entries}
+use Rattle.subsetter_cff.specs.Read.Entries.Matrices.{thousandth_matrix, unit_matrix, zero_box, font_dict_name, own_matrix}
 use Rattle.subsetter_cff.specs.Read.GlyphTrace.{library}
-use Rattle.subsetter_cff.specs.Read.Operators.{copyright_operator, notice_operator, font_name_operator, font_box_operator, font_matrix_operator}
-use Rattle.subsetter_cff.specs.Write.Layout.{Parts, FontDict, cff_table}
-use Rattle.subsetter_cff.specs.Write.Fits.{Fits}
+use Rattle.subsetter_cff.specs.Read.Entries.Operators.{copyright_operator, notice_operator, font_name_operator, font_box_operator, font_matrix_operator}
+use Rattle.subsetter_cff.specs.Write.Laying.Layout.{Parts, FontDict, cff_table}
+use Rattle.subsetter_cff.specs.Write.Laying.Fits.{Fits}
 use Rattle.subsetter_cff.specs.Write.Subset.{IsCffSubset}
-use Rattle.subsetter_cff.specs.Write.ReadsAs.{font_dict_in}
+use Rattle.subsetter_cff.specs.Write.Laying.ReadsAs.{font_dict_in}
 
 -- the matrix that is written for a font dict: its own, or 1 0 0 1 0 0; where the font has none, its own with the first four numbers
 -- a thousand times as great (section 9 "Top DICT Data" and section 18 "CID-keyed Fonts")

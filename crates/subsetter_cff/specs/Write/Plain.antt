@@ -7,21 +7,21 @@ use Rattle.subsetter_base.specs.Bytes.{◌>>=◌}
 use Rattle.subsetter_base.specs.Indexes.{index_of}
 use Rattle.subsetter_base.specs.declared.error.Error.{Error}
 use Rattle.subsetter_base.specs.declared.error.Error.TheVariants.{MalformedFont, SubsetError, OverflowError}
-use Rattle.subsetter_cffdata.specs.Numbers.{Number}
-use Rattle.subsetter_cffdata.specs.Dict.{Entry}
+use Rattle.subsetter_cffdata.specs.Numerals.Numbers.{Number}
+use Rattle.subsetter_cffdata.specs.Dicts.Dict.{Entry}
 use Rattle.subsetter_type2.specs.Flat.{flat_form}
-use Rattle.subsetter_cff.specs.Read.Lookup.{last_of}
+use Rattle.subsetter_cff.specs.Read.Entries.Lookup.{last_of}
 use Rattle.subsetter_cff.specs.Read.Strings.{FontString, string_at}
 use Rattle.subsetter_cff.specs.Read.Cff.{Cff, char_string, is_cid_keyed}
-use Rattle.subsetter_cff.specs.Read.FontDicts.{font_dicts, font_dict_number}
-use Rattle.subsetter_cff.specs.Read.Private.{Private, no_private, own_entries, private_at, private_of}
-use Rattle.subsetter_cff.specs.Read.Matrices.{thousandth_matrix, zero_box}
+use Rattle.subsetter_cff.specs.Read.FdArray.FontDicts.{font_dicts, font_dict_number}
+use Rattle.subsetter_cff.specs.Read.FdArray.Private.{Private, no_private, own_entries, private_at, private_of}
+use Rattle.subsetter_cff.specs.Read.Entries.Matrices.{thousandth_matrix, zero_box}
 use Rattle.subsetter_cff.specs.Read.GlyphTrace.{library}
-use Rattle.subsetter_cff.specs.Read.Operators.{copyright_operator, notice_operator, font_name_operator, font_box_operator, font_matrix_operator}
-use Rattle.subsetter_cff.specs.Write.Layout.{FontDict, Select, First, Numbers, Parts, char_strings_offset, cff_table}
+use Rattle.subsetter_cff.specs.Read.Entries.Operators.{copyright_operator, notice_operator, font_name_operator, font_box_operator, font_matrix_operator}
+use Rattle.subsetter_cff.specs.Write.Laying.Layout.{FontDict, Select, First, Numbers, Parts, char_strings_offset, cff_table}
 use Rattle.subsetter_cff.specs.Write.Made.{new_matrix}
 use Rattle.subsetter_cff.specs.Read.Opened.{check, opened}
-use Rattle.subsetter_cff.specs.Write.WrittenNumbers.{any_long, written_numbers}
+use Rattle.subsetter_cff.specs.Write.NewDicts.WrittenNumbers.{any_long, written_numbers}
 
 -- ---- the kept glyphs: their font dicts (section 19 "FDSelect") and their charstrings (Technical Note 5177)
 -- the number of a glyph's font dict in the source, and its flattened charstring

@@ -2,7 +2,7 @@
 use Rattle.std.specs.Prelude.{◌≡◌, ℕ, List, Ok}
 use Rattle.subsetter_cff.specs.Read.Cff.{Cff}
 use Rattle.subsetter_cff.specs.Write.Made.{IsMade}
-use Rattle.subsetter_cff.specs.Write.Layout.{Parts}
+use Rattle.subsetter_cff.specs.Write.Laying.Layout.{Parts}
 use Rattle.subsetter_cff.specs.Write.Plain.{parts_of}
 
 -- the parts that are answered are made of the source

@@ -1,16 +1,16 @@
 -- What a subset of a CFF table keeps (Technical Note 5176 and 5177): both tables as they are read.
 use Rattle.std.specs.Prelude.{◌≡◌, ℕ, ◌<◌, List, [], length, slice_index, unwrap_or, Option, Some, None}
 use Rattle.subsetter_type2.specs.Flat.{flat}
-use Rattle.subsetter_cff.specs.Read.Lookup.{last_of, first_of}
+use Rattle.subsetter_cff.specs.Read.Entries.Lookup.{last_of, first_of}
 use Rattle.subsetter_cff.specs.Read.Strings.{string_at}
 use Rattle.subsetter_cff.specs.Read.Cff.{Cff, char_string, char_strings}
 use Rattle.subsetter_cff.specs.Read.Charset.{cid_of}
-use Rattle.subsetter_cff.specs.Read.Keying.{keying}
-use Rattle.subsetter_cff.specs.Read.Private.{Private, private_of, private_entries}
-use Rattle.subsetter_cff.specs.Read.Matrices.{matrices, stated_matrices, font_dict_name, zero_box}
+use Rattle.subsetter_cff.specs.Read.FdArray.Keying.{keying}
+use Rattle.subsetter_cff.specs.Read.FdArray.Private.{Private, private_of, private_entries}
+use Rattle.subsetter_cff.specs.Read.Entries.Matrices.{matrices, stated_matrices, font_dict_name, zero_box}
 use Rattle.subsetter_cff.specs.Read.GlyphTrace.{glyph_trace}
-use Rattle.subsetter_cff.specs.Read.Operators.{copyright_operator, notice_operator, font_name_operator, font_box_operator, subroutines_operator}
-use Rattle.subsetter_cff.specs.Write.ReadsAs.{adobe_identity}
+use Rattle.subsetter_cff.specs.Read.Entries.Operators.{copyright_operator, notice_operator, font_name_operator, font_box_operator, subroutines_operator}
+use Rattle.subsetter_cff.specs.Write.Laying.ReadsAs.{adobe_identity}
 
 -- both are there, and equal
 pub record Keeps {A : Type 0} (source copy : Option A) : Type 0 where

@@ -10,7 +10,7 @@ ghost use Rattle.subsetter_cff.specs.Read.FrontView.{front_of, front_at, front_r
 
 use subsetter_base::error::Error;
 use subsetter_base::read::Reader;
-use subsetter_cffdata::index::{Index, parse_index};
+use subsetter_cffdata::indexes::index::{Index, parse_index};
 
 /// The parts that stand one behind the other.
 #[derive(Clone, Copy, Debug)]

@@ -3,26 +3,26 @@
 ghost use Rattle.std.specs.Prelude.{◌≡◌, drop, unwrap_or, IfOk, Some};
 ghost use Rattle.std.specs.Option.{option_map, option_and_then};
 ghost use Rattle.subsetter_base.specs.Gives.{Gives};
-ghost use Rattle.subsetter_cffdata.specs.IndexView.{items};
+ghost use Rattle.subsetter_cffdata.specs.Indexes.IndexView.{items};
 ghost use Rattle.subsetter_cff.specs.Read.Cff.{char_strings};
-ghost use Rattle.subsetter_cff.specs.Read.FontDicts.{select_at};
+ghost use Rattle.subsetter_cff.specs.Read.FdArray.FontDicts.{select_at};
 ghost use Rattle.subsetter_cff.specs.Read.FrontView.{front_of};
 ghost use Rattle.subsetter_cff.specs.Read.Opened.{opened, opened_cid};
-ghost use Rattle.subsetter_cff.specs.Read.Private.{no_private, private_at};
-ghost use Rattle.subsetter_cff.specs.Read.PrivateView.{private_view};
+ghost use Rattle.subsetter_cff.specs.Read.FdArray.Private.{no_private, private_at};
+ghost use Rattle.subsetter_cff.specs.Read.FdArray.PrivateView.{private_view};
 ghost use Rattle.subsetter_cff.specs.Read.Source.{cff_of, entries_at, opened_keyed, opened_top, IsCidParts, IsKeyed, IsSource};
-ghost use Rattle.subsetter_cff.specs.Read.TopDicts.{IsTopDict};
+ghost use Rattle.subsetter_cff.specs.Read.Entries.TopDicts.{IsTopDict};
 ghost use Rattle.subsetter_cff.specs.Read.Views.{select_view};
 
-use crate::read::fd_select::{FDSelect, parse_fd_select};
-use crate::read::font_dict::FontDict;
-use crate::read::font_dict_list::parse_font_dicts;
+use crate::read::fd_array::fd_select::{FDSelect, parse_fd_select};
+use crate::read::fd_array::font_dict::FontDict;
+use crate::read::fd_array::font_dict_list::parse_font_dicts;
 use crate::read::front::{Front, parse_front};
-use crate::read::private::{PrivateDict, index_at, parse_private};
-use crate::read::top_dict::{TopDictData, no_values, read_top_dict};
+use crate::read::fd_array::private::{PrivateDict, index_at, parse_private};
+use crate::read::entries::top_dict::{TopDictData, no_values, read_top_dict};
 use std::alloc::Global;
 use subsetter_base::error::Error;
-use subsetter_cffdata::index::Index;
+use subsetter_cffdata::indexes::index::Index;
 
 /// What a font without font dicts has: its private dict.
 pub type SIDMetadata<'a> = PrivateDict<'a>;
@@ -67,7 +67,7 @@ fn select_at_offset(glyphs: u32, bytes: &[u8], offset: Option<usize>) -> Option<
 }
 
 /// An empty private dict.
-#[tactic(auto, using(crate::proofs::ReadLaws::LeadingEntries::no_entries))]
+#[tactic(auto, using(crate::proofs::ReadLaws::FdArrayLaws::LeadingEntries::no_entries))]
 fn empty_private<'a>() -> PrivateDict<'a>
     ensures { private_view result ≡ no_private }
 {

@@ -4,13 +4,13 @@ ghost use Rattle.std.specs.Prelude.{◌≡◌};
 ghost use Rattle.std.specs.Option.{option_map, ok_or};
 ghost use Rattle.subsetter_base.specs.Gives.{Gives};
 ghost use Rattle.subsetter_base.specs.declared.error.Error.TheVariants.{SubsetError};
-ghost use Rattle.subsetter_cffdata.specs.IndexView.{items};
-ghost use Rattle.subsetter_cff.specs.Write.SidRemapping.{name_of, named};
+ghost use Rattle.subsetter_cffdata.specs.Indexes.IndexView.{items};
+ghost use Rattle.subsetter_cff.specs.Write.Strings.SidRemapping.{name_of, named};
 ghost use Rattle.subsetter_cff.specs.Read.Strings.{string_of};
 
 use subsetter_base::error::Error;
-use subsetter_cffdata::index::Index;
-use subsetter_cffdata::number::StringId;
+use subsetter_cffdata::indexes::index::Index;
+use subsetter_cffdata::numerals::number::StringId;
 
 /// A standard string by its number, or another by its bytes.
 #[derive(Clone, Copy, Debug)]

@@ -9,10 +9,10 @@ use Rattle.subsetter_base.proofs.Results.{done_is, bind_ok}
 use Rattle.subsetter_sfnt.specs.Fault.{HasOpeningFault}
 use Rattle.subsetter_sfnt.specs.Plain.{opened, flavored}
 use Rattle.subsetter_sfnt.specs.Read.{Font, table_in, stored}
-use Rattle.subsetter_sfnt.specs.Written.{fits, start_of}
+use Rattle.subsetter_sfnt.specs.Laying.Written.{fits, start_of}
 use Rattle.subsetter_instance.specs.Source.{Source, normalized_coordinates, source_in}
-use Rattle.subsetter_instance.specs.Drawn.{Drawn, drawn}
-use Rattle.subsetter_instance.specs.Lines.{Lines, lines_of}
+use Rattle.subsetter_instance.specs.Glyphs.Drawn.{Drawn, drawn}
+use Rattle.subsetter_instance.specs.Tables.Lines.{Lines, lines_of}
 use Rattle.subsetter_instance.specs.Plain.{drawn_all, by_flavor, instance_of}
 use Rattle.subsetter_instance.specs.Fault.{HasGlyphFault, HasInstanceFault, in_opening, no_glyf, in_place, in_versions, in_source, in_glyph, in_lines, large_file}
 use Rattle.subsetter_instance.specs.Answer.{IsAnswer}

@@ -13,8 +13,8 @@ use Rattle.subsetter_points.specs.declared.outline.Point.{Point}
 use Rattle.subsetter_points.specs.Simple.{parts_fit}
 use Rattle.subsetter_sfnt.specs.declared.fields.hmtx.LongHorMetric.{LongHorMetric}
 use Rattle.subsetter_instance.specs.Source.{Source, metric}
-use Rattle.subsetter_instance.specs.Unfolded.{Unfolded, unfolded}
-use Rattle.subsetter_instance.specs.Drawn.{Drawn, advance, bearing, points_or_fault, drawn_if_fit, rounded, levels, drawn}
+use Rattle.subsetter_instance.specs.Glyphs.Unfolded.{Unfolded, unfolded}
+use Rattle.subsetter_instance.specs.Glyphs.Drawn.{Drawn, advance, bearing, points_or_fault, drawn_if_fit, rounded, levels, drawn}
 use Rattle.subsetter_instance.specs.Plain.{drawn_if, drawn_all}
 use Rattle.subsetter_instance.proofs.FaultLaws.Tables.{hmtx_missing, hmtx_refused}
 use Rattle.subsetter_instance.specs.Fault.{HasGlyphFault, no_glyph, no_metric, in_walk, in_advance, far_point, large_outline}

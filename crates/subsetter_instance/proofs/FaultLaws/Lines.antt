@@ -10,12 +10,12 @@ use Rattle.subsetter_base.specs.declared.error.Error.TheVariants.{MalformedFont,
 use Rattle.subsetter_base.proofs.Options.{just_is, some_not_none}
 use Rattle.subsetter_base.proofs.Results.{bind_err, bind_ok, done, done_is, failed_is, named_err, named_ok, ok_not_err}
 use Rattle.subsetter_points.specs.Simple.{has_16_bits}
-use Rattle.subsetter_variation.specs.FontMetrics.{metric_delta}
-use Rattle.subsetter_variation.specs.ItemVariations.{whole_or_fault}
-use Rattle.subsetter_instance.specs.Drawn.{word_or_fault}
-use Rattle.subsetter_instance.specs.Lines.{Lines, lines_of, moved_hhea, moved_post, three_lines, varied, varied_hhea, varied_post, varied_post_if, varied_underline}
-use Rattle.subsetter_instance.specs.LinesFault.{HasMetricFault, HasLinesFault, IsLineOfHhea, IsLineOfPost, in_mvar, large_delta, wide_metric, in_hhea, in_post, ascender, descender, line_gap, caret_slope_rise, caret_slope_run, caret_offset, underline_position, underline_thickness}
-use Rattle.subsetter_instance.proofs.FaultLaws.Mvar.{mvar_refused, mvar_clean}
+use Rattle.subsetter_variation.specs.Items.FontMetrics.{metric_delta}
+use Rattle.subsetter_variation.specs.Items.ItemVariations.{whole_or_fault}
+use Rattle.subsetter_instance.specs.Glyphs.Drawn.{word_or_fault}
+use Rattle.subsetter_instance.specs.Tables.Lines.{Lines, lines_of, moved_hhea, moved_post, three_lines, varied, varied_hhea, varied_post, varied_post_if, varied_underline}
+use Rattle.subsetter_instance.specs.Faults.LinesFault.{HasMetricFault, HasLinesFault, IsLineOfHhea, IsLineOfPost, in_mvar, large_delta, wide_metric, in_hhea, in_post, ascender, descender, line_gap, caret_slope_rise, caret_slope_run, caret_offset, underline_position, underline_thickness}
+use Rattle.subsetter_instance.proofs.FaultLaws.ItemLaws.Mvar.{mvar_refused, mvar_clean}
 use Rattle.subsetter_instance.proofs.FaultLaws.Rounded.{large_refused, large_stops}
 use Rattle.subsetter_instance.proofs.FileLaws.Lines.{line_steps}
 

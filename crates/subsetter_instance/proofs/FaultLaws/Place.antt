@@ -15,12 +15,12 @@ use Rattle.subsetter_base.proofs.ByteLemmas.{number-short, range-fits, range-sho
 use Rattle.subsetter_base.proofs.Options.{bind_some, is_some_of, just, just_is, some_of}
 use Rattle.subsetter_base.proofs.Results.{failed_is, named_err, named_ok}
 use Rattle.subsetter_base.specs.Options.{◌>>=◌}
-use Rattle.subsetter_variation.specs.Axes.{axes, axes_at, axis_of}
-use Rattle.subsetter_variation.specs.Segments.{axis_value_maps, segment_map_at}
-use Rattle.subsetter_variation.specs.Coordinates.{coordinate, coordinates_at, coordinates_by, is_other, is_other_version, mapped_coordinates, normalized, normalized_or_fault}
-use Rattle.subsetter_variation.specs.declared.axes.Axis.{Axis}
+use Rattle.subsetter_variation.specs.Locations.Axes.{axes, axes_at, axis_of}
+use Rattle.subsetter_variation.specs.Locations.Segments.{axis_value_maps, segment_map_at}
+use Rattle.subsetter_variation.specs.Locations.Coordinates.{coordinate, coordinates_at, coordinates_by, is_other, is_other_version, mapped_coordinates, normalized, normalized_or_fault}
+use Rattle.subsetter_variation.specs.declared.locations.axes.Axis.{Axis}
 use Rattle.subsetter_instance.specs.Source.{normalized_coordinates, normalized_by}
-use Rattle.subsetter_instance.specs.CoordinatesFault.{HasOtherVersion, HasAxesFault, HasSegmentFault, HasAvarFault, HasCoordinatesFault, cut_fvar, short_axis, cut_axis, cut_count, cut_map, later_map, cut_avar, other_axis_count, in_segments, other_fvar, other_avar, in_axes, in_avar}
+use Rattle.subsetter_instance.specs.Faults.CoordinatesFault.{HasOtherVersion, HasAxesFault, HasSegmentFault, HasAvarFault, HasCoordinatesFault, cut_fvar, short_axis, cut_axis, cut_count, cut_map, later_map, cut_avar, other_axis_count, in_segments, other_fvar, other_avar, in_axes, in_avar}
 use Rattle.subsetter_instance.proofs.FaultLaws.Parts.{bind_none, if_none, if_some, not_long, some_is_not, unless_none, unless_some}
 
 -- ---- versions

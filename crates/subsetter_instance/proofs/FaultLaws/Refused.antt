@@ -11,11 +11,11 @@ use Rattle.subsetter_sfnt.specs.declared.flavor.FontFlavor.{FontFlavor}
 use Rattle.subsetter_sfnt.specs.declared.flavor.FontFlavor.TheVariants.{TrueType, Cff}
 use Rattle.subsetter_sfnt.specs.Plain.{opened, flavored, file_of}
 use Rattle.subsetter_sfnt.specs.Read.{Font, table_in, stored}
-use Rattle.subsetter_sfnt.specs.Written.{Table, fits, file, start_of, kind_word}
+use Rattle.subsetter_sfnt.specs.Laying.Written.{Table, fits, file, start_of, kind_word}
 use Rattle.subsetter_sfnt.proofs.Laws.Fault.{opened_refused}
 use Rattle.subsetter_instance.specs.Source.{Source, normalized_coordinates, source_in, source_or_fault}
-use Rattle.subsetter_instance.specs.Drawn.{Drawn}
-use Rattle.subsetter_instance.specs.Lines.{Lines, lines_of}
+use Rattle.subsetter_instance.specs.Glyphs.Drawn.{Drawn}
+use Rattle.subsetter_instance.specs.Tables.Lines.{Lines, lines_of}
 use Rattle.subsetter_instance.specs.Plain.{drawn_all, header, laid, instance_in, by_flavor, instance_of}
 use Rattle.subsetter_instance.specs.Fault.{HasInstanceFault, in_opening, no_glyf, in_place, in_versions, in_source, in_glyph, in_lines, large_file}
 use Rattle.subsetter_instance.specs.Answer.{HasNoAnswer}

@@ -9,11 +9,11 @@ use Rattle.subsetter_base.proofs.Results.{done, failed_is, bind_err}
 use Rattle.subsetter_points.specs.declared.outline.Point.{Point}
 use Rattle.subsetter_points.specs.Simple.{has_16_bits}
 use Rattle.subsetter_variation.specs.Nearest.{nearest}
-use Rattle.subsetter_variation.specs.ItemVariations.{advance_delta, in_whole_units, whole_or_fault}
-use Rattle.subsetter_variation.proofs.GvarFaults.{behind, behind_error}
-use Rattle.subsetter_instance.specs.Drawn.{advance, advance_or_fault, point_or_fault, points_or_fault, whole}
-use Rattle.subsetter_instance.proofs.FaultLaws.Hvar.{hvar_refused, hvar_clean}
-use Rattle.subsetter_instance.specs.RoundedFault.{HasAdvanceFault, HasFarPoint, IsWide, in_hvar, large_item, wide_by_item, wide, far_first, far_later}
+use Rattle.subsetter_variation.specs.Items.ItemVariations.{advance_delta, in_whole_units, whole_or_fault}
+use Rattle.subsetter_variation.proofs.GlyphsLaws.GvarFaults.{behind, behind_error}
+use Rattle.subsetter_instance.specs.Glyphs.Drawn.{advance, advance_or_fault, point_or_fault, points_or_fault, whole}
+use Rattle.subsetter_instance.proofs.FaultLaws.ItemLaws.Hvar.{hvar_refused, hvar_clean}
+use Rattle.subsetter_instance.specs.Faults.RoundedFault.{HasAdvanceFault, HasFarPoint, IsWide, in_hvar, large_item, wide_by_item, wide, far_first, far_later}
 
 -- ---- advances
 

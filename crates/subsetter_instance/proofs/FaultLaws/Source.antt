@@ -10,10 +10,10 @@ use Rattle.subsetter_base.specs.declared.error.Error.TheVariants.{Unimplemented}
 use Rattle.subsetter_base.proofs.ByteLemmas.{number-short, range-fits, range-short}
 use Rattle.subsetter_base.proofs.Options.{bind_some, just_is, some_not_none}
 use Rattle.subsetter_base.specs.Options.{◌>>=◌}
-use Rattle.subsetter_variation.specs.Coordinates.{is_other_version}
-use Rattle.subsetter_variation.specs.Tuples.{Gvar, gvar_table, parts, tuple_size}
+use Rattle.subsetter_variation.specs.Locations.Coordinates.{is_other_version}
+use Rattle.subsetter_variation.specs.Glyphs.Tuples.{Gvar, gvar_table, parts, tuple_size}
 use Rattle.subsetter_instance.specs.Source.{Source, has_other_version, source_in, variations_in}
-use Rattle.subsetter_instance.specs.SourceFault.{HasVersionFault, HasGvarFault, HasSourceFault, other_gvar, other_hvar, other_mvar, cut_gvar, other_axes, cut_shared, cut_offsets, far_variations, no_glyf, no_loca, no_head, no_maxp, no_hhea, no_hmtx, cut_head, cut_maxp, cut_hhea, in_gvar}
+use Rattle.subsetter_instance.specs.Faults.SourceFault.{HasVersionFault, HasGvarFault, HasSourceFault, other_gvar, other_hvar, other_mvar, cut_gvar, other_axes, cut_shared, cut_offsets, far_variations, no_glyf, no_loca, no_head, no_maxp, no_hhea, no_hmtx, cut_head, cut_maxp, cut_hhea, in_gvar}
 use Rattle.subsetter_instance.proofs.FaultLaws.Parts.{bind_none, if_none, if_some, not_long, not_short, some_is_not}
 use Rattle.subsetter_instance.proofs.FaultLaws.Place.{other_is, is_other_of}
 use Rattle.subsetter_instance.proofs.FileLaws.Steps.{SourceSteps, after_count, after_format, after_glyf, after_head, after_hhea, after_hmtx, after_loca, after_maxp, after_pairs, in_turn, made, source_glyf, source_steps}

@@ -11,9 +11,9 @@ use Rattle.subsetter_base.proofs.Options.{bind_some, just_is, map_none, map_some
 use Rattle.subsetter_sfnt.specs.declared.fields.hmtx.LongHorMetric.{LongHorMetric}
 use Rattle.subsetter_instance.specs.Source.{Source, description, metric, offset}
 use Rattle.subsetter_sfnt.specs.Fields.Hmtx.{metric_at}
-use Rattle.subsetter_instance.specs.Unfolded.{counted_description}
+use Rattle.subsetter_instance.specs.Glyphs.Unfolded.{counted_description}
 use Rattle.subsetter_base.specs.Options.{◌>>=◌}
-use Rattle.subsetter_instance.specs.GlyphFault.{HasDescriptionFault, HasHmtxFault, past_count, cut_loca, descending, past_glyf, no_pairs, cut_pair, cut_bearing}
+use Rattle.subsetter_instance.specs.Faults.GlyphFault.{HasDescriptionFault, HasHmtxFault, past_count, cut_loca, descending, past_glyf, no_pairs, cut_pair, cut_bearing}
 use Rattle.subsetter_instance.proofs.FaultLaws.Parts.{bind_none, if_none, if_some}
 
 module _ (s : Source) (g : ℕ) where

@@ -9,19 +9,19 @@ use Rattle.subsetter_base.specs.declared.error.Error.TheVariants.{MalformedFont,
 use Rattle.subsetter_base.proofs.Results.{done, failed_is, bind_ok, bind_err, named_ok, named_err}
 use Rattle.subsetter_points.specs.declared.outline.Point.{Point}
 use Rattle.subsetter_points.specs.Simple.{after, parts}
-use Rattle.subsetter_variation.specs.GvarFault.{HasVariationFault}
-use Rattle.subsetter_variation.specs.Movement.{Outline, spent}
-use Rattle.subsetter_variation.specs.Tuples.{Gvar}
-use Rattle.subsetter_variation.proofs.GvarFaults.{behind, behind_error, behind_named, behind_missing, moving_refused, moving_stops, spent_refused, too_few}
-use Rattle.subsetter_instance.specs.declared.components.Arguments.{Arguments}
-use Rattle.subsetter_instance.specs.declared.components.Arguments.TheVariants.{Offset, Points}
-use Rattle.subsetter_instance.specs.declared.components.Component.{Component}
+use Rattle.subsetter_variation.specs.Glyphs.GvarFault.{HasVariationFault}
+use Rattle.subsetter_variation.specs.Glyphs.Movement.{Outline, spent}
+use Rattle.subsetter_variation.specs.Glyphs.Tuples.{Gvar}
+use Rattle.subsetter_variation.proofs.GlyphsLaws.GvarFaults.{behind, behind_error, behind_named, behind_missing, moving_refused, moving_stops, spent_refused, too_few}
+use Rattle.subsetter_instance.specs.declared.glyphs.components.Arguments.{Arguments}
+use Rattle.subsetter_instance.specs.declared.glyphs.components.Arguments.TheVariants.{Offset, Points}
+use Rattle.subsetter_instance.specs.declared.glyphs.components.Component.{Component}
 use Rattle.subsetter_sfnt.specs.declared.fields.hmtx.LongHorMetric.{LongHorMetric}
-use Rattle.subsetter_instance.specs.Components.{component_at, components_at}
+use Rattle.subsetter_instance.specs.Glyphs.Components.{component_at, components_at}
 use Rattle.subsetter_instance.specs.Source.{Source, metric}
-use Rattle.subsetter_instance.specs.Unfolded.{Child, Composite, Unfolded, are_near, composite, counted_description, is_composite, is_scaled, joined, joined_or_fault, joined_parts, left_point, matched, moved, near_or_fault, no_points, placed, point_at, right_point, shift_by, shifted, simple_outline, transformed_xs, transformed_ys, unfolded, unfolded_composite, unfolded_simple, with_component, with_metrics, with_part}
+use Rattle.subsetter_instance.specs.Glyphs.Unfolded.{Child, Composite, Unfolded, are_near, composite, counted_description, is_composite, is_scaled, joined, joined_or_fault, joined_parts, left_point, matched, moved, near_or_fault, no_points, placed, point_at, right_point, shift_by, shifted, simple_outline, transformed_xs, transformed_ys, unfolded, unfolded_composite, unfolded_simple, with_component, with_metrics, with_part}
 use Rattle.subsetter_instance.proofs.FaultLaws.Tables.{description_missing, description_refused, hmtx_missing, hmtx_refused}
-use Rattle.subsetter_instance.specs.WalkFault.{HasComponentFault, HasCompositeFault, HasPlacingFault, HasSimpleFault, HasWalkFault, IsAtComponent, IsFar, default_offsets, default_points, cut_component, far_component, far_outline, few_steps_for_glyph, few_steps_for_points, in_component, in_components, in_composite, in_offset_variations, in_place, in_point_variations, in_simple, later_component, many_points, no_child, in_description, no_header, in_hmtx, no_outline, no_parent, no_step, scaled_offset, too_deep}
+use Rattle.subsetter_instance.specs.Faults.WalkFault.{HasComponentFault, HasCompositeFault, HasPlacingFault, HasSimpleFault, HasWalkFault, IsAtComponent, IsFar, default_offsets, default_points, cut_component, far_component, far_outline, few_steps_for_glyph, few_steps_for_points, in_component, in_components, in_composite, in_offset_variations, in_place, in_point_variations, in_simple, later_component, many_points, no_child, in_description, no_header, in_hmtx, no_outline, no_parent, no_step, scaled_offset, too_deep}
 
 -- ---- points that move, and are near
 

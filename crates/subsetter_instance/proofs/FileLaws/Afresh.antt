@@ -9,19 +9,19 @@ use Rattle.subsetter_base.proofs.Options.{just_is}
 use Rattle.subsetter_sfnt.specs.declared.flavor.FontFlavor.TheVariants.{TrueType}
 use Rattle.subsetter_sfnt.specs.Container.{IsSoundContainer}
 use Rattle.subsetter_sfnt.specs.Read.{Font, as_font, stored}
-use Rattle.subsetter_sfnt.specs.Rows.{FontTables, bytes_of, rows, present}
-use Rattle.subsetter_sfnt.specs.Written.{with_adjustment, file, kind_word}
+use Rattle.subsetter_sfnt.specs.Laying.Rows.{FontTables, bytes_of, rows, present}
+use Rattle.subsetter_sfnt.specs.Laying.Written.{with_adjustment, file, kind_word}
 use Rattle.subsetter_sfnt.proofs.Laws.Back.{word_of}
-use Rattle.subsetter_sfnt.proofs.Laws.Laid.{row_back, head_row_back, rows_sound}
-use Rattle.subsetter_sfnt.proofs.Laws.Rows.{HasRoom, lookup_row, some_table}
-use Rattle.subsetter_sfnt.proofs.Laws.TableBytes.{stored_bytes}
-use Rattle.subsetter_sfnt.proofs.Laws.Written.{fitting}
+use Rattle.subsetter_sfnt.proofs.Laws.LayingLaws.Laid.{row_back, head_row_back, rows_sound}
+use Rattle.subsetter_sfnt.proofs.Laws.LayingLaws.Rows.{HasRoom, lookup_row, some_table}
+use Rattle.subsetter_sfnt.proofs.Laws.LayingLaws.TableBytes.{stored_bytes}
+use Rattle.subsetter_sfnt.proofs.Laws.LayingLaws.Written.{fitting}
 use Rattle.subsetter_instance.specs.Source.{Source, source_in, description}
-use Rattle.subsetter_instance.specs.Drawn.{Drawn}
-use Rattle.subsetter_instance.specs.Extremes.{all_extents, box_bytes, extreme_bytes}
-use Rattle.subsetter_instance.specs.Lines.{with_lines}
+use Rattle.subsetter_instance.specs.Glyphs.Drawn.{Drawn}
+use Rattle.subsetter_instance.specs.Tables.Extremes.{all_extents, box_bytes, extreme_bytes}
+use Rattle.subsetter_instance.specs.Tables.Lines.{with_lines}
 use Rattle.subsetter_instance.specs.Instance.{tags_with, HasBytes, IsDrawn, KeepsBytes, KeepsTable, KeepsHeader}
-use Rattle.subsetter_instance.specs.Written.{by_glyph, outline_bytes, glyf_bytes, is_long, offsets_from, loca_bytes, hmtx_bytes, head_bytes, hhea_bytes, maxp_bytes, tables}
+use Rattle.subsetter_instance.specs.Tables.Written.{by_glyph, outline_bytes, glyf_bytes, is_long, offsets_from, loca_bytes, hmtx_bytes, head_bytes, hhea_bytes, maxp_bytes, tables}
 use Rattle.subsetter_instance.proofs.FileLaws.Among.{drawn_one, is_among, not_among, by_glyph_at, by_glyph_length}
 use Rattle.subsetter_instance.proofs.FileLaws.Fitting.{reads, drawn_fits}
 use Rattle.subsetter_instance.proofs.FileLaws.Head.{format_bytes, head_length, head_front, head_middle, head_box, head_style, head_end, head_format, format_back}

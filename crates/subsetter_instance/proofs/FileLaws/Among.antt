@@ -9,9 +9,9 @@ use Rattle.subsetter_base.specs.Indexes.{index_of}
 use Rattle.subsetter_base.specs.declared.error.Error.TheVariants.{MalformedFont}
 use Rattle.subsetter_base.proofs.Results.{done_is, bind_ok}
 use Rattle.subsetter_instance.specs.Source.{Source}
-use Rattle.subsetter_instance.specs.Drawn.{Drawn, drawn}
+use Rattle.subsetter_instance.specs.Glyphs.Drawn.{Drawn, drawn}
 use Rattle.subsetter_instance.specs.Plain.{drawn_if, drawn_all}
-use Rattle.subsetter_instance.specs.Written.{glyph_among, by_glyph}
+use Rattle.subsetter_instance.specs.Tables.Written.{glyph_among, by_glyph}
 
 -- ---- one glyph
 

@@ -12,11 +12,11 @@ use Rattle.subsetter_base.proofs.Results.{done_is, bind_ok}
 use Rattle.subsetter_points.specs.declared.outline.Point.{Point}
 use Rattle.subsetter_points.specs.Simple.{has_16_bits, deltas_fit, points_fit, parts_fit, are_ends, xs_of, ys_of, parts, parts_bytes}
 use Rattle.subsetter_points.proofs.Back.{parts_back}
-use Rattle.subsetter_variation.specs.ItemVariations.{advance_delta, whole_or_fault}
+use Rattle.subsetter_variation.specs.Items.ItemVariations.{advance_delta, whole_or_fault}
 use Rattle.subsetter_sfnt.specs.declared.fields.hmtx.LongHorMetric.{LongHorMetric}
 use Rattle.subsetter_instance.specs.Source.{Source, metric}
-use Rattle.subsetter_instance.specs.Unfolded.{Unfolded, unfolded}
-use Rattle.subsetter_instance.specs.Drawn.{Drawn, whole, advance_or_fault, advance, bearing, points_or_fault, drawn_if_fit, rounded, levels, drawn}
+use Rattle.subsetter_instance.specs.Glyphs.Unfolded.{Unfolded, unfolded}
+use Rattle.subsetter_instance.specs.Glyphs.Drawn.{Drawn, whole, advance_or_fault, advance, bearing, points_or_fault, drawn_if_fit, rounded, levels, drawn}
 
 -- an outline that can be written, and a metric whose numbers have 16 bits
 pub record CanBeWritten (d : Drawn) : Type 0 where

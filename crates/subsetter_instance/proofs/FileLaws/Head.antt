@@ -5,11 +5,11 @@ use Rattle.std.specs.Int.{w32, to_be_bytes}
 use Rattle.std.proofs.lemmas.List.{take_at, drop_at, length-append, length-take, length-drop}
 use Rattle.subsetter_base.specs.Bytes.{be, number}
 use Rattle.subsetter_base.proofs.ByteLemmas.{number_at}
-use Rattle.subsetter_sfnt.specs.Written.{with_adjustment}
-use Rattle.subsetter_instance.specs.declared.extremes.Extents.{Extents}
-use Rattle.subsetter_instance.specs.Drawn.{Drawn}
-use Rattle.subsetter_instance.specs.Extremes.{all_extents, box_bytes}
-use Rattle.subsetter_instance.specs.Written.{head_bytes}
+use Rattle.subsetter_sfnt.specs.Laying.Written.{with_adjustment}
+use Rattle.subsetter_instance.specs.declared.tables.extremes.Extents.{Extents}
+use Rattle.subsetter_instance.specs.Glyphs.Drawn.{Drawn}
+use Rattle.subsetter_instance.specs.Tables.Extremes.{all_extents, box_bytes}
+use Rattle.subsetter_instance.specs.Tables.Written.{head_bytes}
 
 -- indexToLocFormat
 abbrev pub format_bytes : Bool → List ℕ

@@ -8,14 +8,14 @@ use Rattle.subsetter_base.proofs.Options.{just_is}
 use Rattle.subsetter_base.proofs.Results.{done_is}
 use Rattle.subsetter_sfnt.specs.declared.flavor.FontFlavor.TheVariants.{TrueType}
 use Rattle.subsetter_sfnt.specs.Plain.{file_of}
-use Rattle.subsetter_sfnt.specs.Rows.{FontTables, rows, present}
-use Rattle.subsetter_sfnt.specs.Written.{Table, IsTable, with_adjustment, kind_word}
-use Rattle.subsetter_sfnt.proofs.Laws.Rows.{HasRoom, rows_tables}
+use Rattle.subsetter_sfnt.specs.Laying.Rows.{FontTables, rows, present}
+use Rattle.subsetter_sfnt.specs.Laying.Written.{Table, IsTable, with_adjustment, kind_word}
+use Rattle.subsetter_sfnt.proofs.Laws.LayingLaws.Rows.{HasRoom, rows_tables}
 use Rattle.subsetter_instance.specs.Source.{Source}
-use Rattle.subsetter_instance.specs.Drawn.{Drawn}
-use Rattle.subsetter_instance.specs.Lines.{Lines, with_lines}
+use Rattle.subsetter_instance.specs.Glyphs.Drawn.{Drawn}
+use Rattle.subsetter_instance.specs.Tables.Lines.{Lines, with_lines}
 use Rattle.subsetter_instance.specs.Plain.{laid}
-use Rattle.subsetter_instance.specs.Written.{by_glyph, glyf_bytes, head_bytes, is_long, tables}
+use Rattle.subsetter_instance.specs.Tables.Written.{by_glyph, glyf_bytes, head_bytes, is_long, tables}
 use Rattle.subsetter_instance.proofs.FileLaws.Head.{head_zeros, head_room}
 
 -- a table that was looked up under the name of an error

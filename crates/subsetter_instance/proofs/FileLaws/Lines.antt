@@ -6,7 +6,7 @@ use Rattle.std.proofs.lemmas.List.{length-append, length-drop, length-take, leng
 use Rattle.subsetter_base.specs.Bytes.{◌>>=◌}
 use Rattle.subsetter_base.specs.declared.error.Error.TheVariants.{MalformedFont}
 use Rattle.subsetter_base.proofs.Results.{done_is, bind_ok, named_ok}
-use Rattle.subsetter_instance.specs.Lines.{Lines, line_bytes, lines_of, moved_hhea, three_lines, varied_hhea, varied_post_if}
+use Rattle.subsetter_instance.specs.Tables.Lines.{Lines, line_bytes, lines_of, moved_hhea, three_lines, varied_hhea, varied_post_if}
 
 -- what was read and made
 pub record LineSteps (find : List ℕ → Option (List ℕ)) (at : List ℤ) (l : Lines) : Type 0 where

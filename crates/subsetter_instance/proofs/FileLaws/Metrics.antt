@@ -10,10 +10,10 @@ use Rattle.subsetter_base.proofs.ByteLemmas.{be-u16, number_at}
 use Rattle.subsetter_sfnt.specs.declared.fields.hmtx.LongHorMetric.{LongHorMetric}
 use Rattle.subsetter_instance.specs.Source.{Source, metric}
 use Rattle.subsetter_sfnt.specs.Fields.Hmtx.{metric_at}
-use Rattle.subsetter_instance.specs.declared.extremes.Extents.{Extents}
-use Rattle.subsetter_instance.specs.Drawn.{Drawn}
-use Rattle.subsetter_instance.specs.Extremes.{all_extents, widest, side_bytes, extreme_bytes}
-use Rattle.subsetter_instance.specs.Written.{metric_bytes, hmtx_bytes, hhea_bytes, most_points, most_contours, maxp_bytes}
+use Rattle.subsetter_instance.specs.declared.tables.extremes.Extents.{Extents}
+use Rattle.subsetter_instance.specs.Glyphs.Drawn.{Drawn}
+use Rattle.subsetter_instance.specs.Tables.Extremes.{all_extents, widest, side_bytes, extreme_bytes}
+use Rattle.subsetter_instance.specs.Tables.Written.{metric_bytes, hmtx_bytes, hhea_bytes, most_points, most_contours, maxp_bytes}
 use Rattle.subsetter_instance.proofs.FileLaws.Head.{slice_at}
 
 -- ---- hmtx

@@ -9,8 +9,8 @@ use Rattle.subsetter_base.specs.Bytes.{be, range, number, aligned, between_offse
 use Rattle.subsetter_base.proofs.ByteLemmas.{be-u16, be-u32, range-middle}
 use Rattle.subsetter_points.specs.Simple.{parts_bytes}
 use Rattle.subsetter_instance.specs.Source.{Source, offset, description}
-use Rattle.subsetter_instance.specs.Drawn.{Drawn}
-use Rattle.subsetter_instance.specs.Written.{outline_bytes, glyf_bytes, is_long, offset_bytes, offsets_from, loca_bytes}
+use Rattle.subsetter_instance.specs.Glyphs.Drawn.{Drawn}
+use Rattle.subsetter_instance.specs.Tables.Written.{outline_bytes, glyf_bytes, is_long, offset_bytes, offsets_from, loca_bytes}
 
 -- ---- lengths
 

@@ -12,15 +12,15 @@ use Rattle.subsetter_sfnt.specs.declared.flavor.FontFlavor.{FontFlavor}
 use Rattle.subsetter_sfnt.specs.declared.flavor.FontFlavor.TheVariants.{TrueType, Cff}
 use Rattle.subsetter_sfnt.specs.Plain.{opened, flavored, file_of}
 use Rattle.subsetter_sfnt.specs.Read.{Font, table_in, stored}
-use Rattle.subsetter_sfnt.specs.Rows.{rows, present}
-use Rattle.subsetter_sfnt.specs.Written.{Table, fits, file, start_of, kind_word}
+use Rattle.subsetter_sfnt.specs.Laying.Rows.{rows, present}
+use Rattle.subsetter_sfnt.specs.Laying.Written.{Table, fits, file, start_of, kind_word}
 use Rattle.subsetter_sfnt.proofs.Laws.Fault.{opened_records}
-use Rattle.subsetter_variation.specs.Tuples.{Gvar}
+use Rattle.subsetter_variation.specs.Glyphs.Tuples.{Gvar}
 use Rattle.subsetter_instance.specs.Source.{Source, has_other_version, normalized_coordinates, source_in, source_or_fault, variations_in}
-use Rattle.subsetter_instance.specs.Drawn.{Drawn}
+use Rattle.subsetter_instance.specs.Glyphs.Drawn.{Drawn}
 use Rattle.subsetter_instance.specs.Plain.{drawn_all, header, laid, instance_in, by_flavor, instance_of}
-use Rattle.subsetter_instance.specs.Lines.{Lines, lines_of, with_lines}
-use Rattle.subsetter_instance.specs.Written.{by_glyph, tables}
+use Rattle.subsetter_instance.specs.Tables.Lines.{Lines, lines_of, with_lines}
+use Rattle.subsetter_instance.specs.Tables.Written.{by_glyph, tables}
 
 -- ---- the source
 

@@ -8,12 +8,12 @@ use Rattle.subsetter_base.proofs.Options.{just_is}
 use Rattle.subsetter_base.proofs.Results.{done_is, bind_ok}
 use Rattle.subsetter_sfnt.specs.declared.flavor.FontFlavor.TheVariants.{TrueType}
 use Rattle.subsetter_sfnt.specs.Read.{Font, stored}
-use Rattle.subsetter_sfnt.specs.Written.{file, kind_word}
+use Rattle.subsetter_sfnt.specs.Laying.Written.{file, kind_word}
 use Rattle.subsetter_sfnt.specs.declared.fields.hmtx.LongHorMetric.{LongHorMetric}
 use Rattle.subsetter_instance.specs.Source.{Source, metric, source_in}
-use Rattle.subsetter_instance.specs.Unfolded.{Unfolded, unfolded}
-use Rattle.subsetter_instance.specs.Drawn.{Drawn, rounded, levels, drawn}
-use Rattle.subsetter_instance.specs.Lines.{Lines, lines_of}
+use Rattle.subsetter_instance.specs.Glyphs.Unfolded.{Unfolded, unfolded}
+use Rattle.subsetter_instance.specs.Glyphs.Drawn.{Drawn, rounded, levels, drawn}
+use Rattle.subsetter_instance.specs.Tables.Lines.{Lines, lines_of}
 use Rattle.subsetter_instance.specs.Plain.{drawn_if, drawn_all, instance_of}
 use Rattle.subsetter_instance.specs.Answer.{IsTheAnswer}
 use Rattle.subsetter_instance.proofs.FileLaws.Among.{drawn_one}

@@ -8,12 +8,12 @@ use Rattle.subsetter_base.specs.declared.error.Error.{Error}
 use Rattle.subsetter_base.specs.declared.error.Error.TheVariants.{MalformedFont, OverflowError}
 use Rattle.subsetter_base.proofs.Results.{done_is, bind_ok}
 use Rattle.subsetter_points.specs.Simple.{after}
-use Rattle.subsetter_variation.specs.Movement.{Outline, spent}
-use Rattle.subsetter_instance.specs.declared.components.Component.{Component}
+use Rattle.subsetter_variation.specs.Glyphs.Movement.{Outline, spent}
+use Rattle.subsetter_instance.specs.declared.glyphs.components.Component.{Component}
 use Rattle.subsetter_sfnt.specs.declared.fields.hmtx.LongHorMetric.{LongHorMetric}
-use Rattle.subsetter_instance.specs.Components.{component_at, components_at, offset_xs, offset_ys}
+use Rattle.subsetter_instance.specs.Glyphs.Components.{component_at, components_at, offset_xs, offset_ys}
 use Rattle.subsetter_instance.specs.Source.{Source}
-use Rattle.subsetter_instance.specs.Unfolded.{Child, Composite, Unfolded, composite, joined, joined_or_fault, joined_parts, left_point, moved, near_or_fault, no_points, placed, right_point, unfolded_composite, with_component, with_metrics, with_part, with_phantoms}
+use Rattle.subsetter_instance.specs.Glyphs.Unfolded.{Child, Composite, Unfolded, composite, joined, joined_or_fault, joined_parts, left_point, moved, near_or_fault, no_points, placed, right_point, unfolded_composite, with_component, with_metrics, with_part, with_phantoms}
 use Rattle.subsetter_instance.proofs.SameLaws.Simple.{MoveAlike, near_is, one_answer}
 
 -- the same of a glyph by two ways, whatever the steps

@@ -7,13 +7,13 @@ use Rattle.subsetter_base.specs.declared.error.Error.TheVariants.{MalformedFont,
 use Rattle.subsetter_base.proofs.Results.{bind_ok, done, done_is, named_ok}
 use Rattle.subsetter_points.specs.declared.outline.Point.{Point}
 use Rattle.subsetter_points.specs.Simple.{parts, xs_of, ys_of}
-use Rattle.subsetter_variation.specs.Tuples.{Gvar}
-use Rattle.subsetter_variation.specs.Movement.{Outline, spent}
-use Rattle.subsetter_variation.specs.Varied.{in_units}
-use Rattle.subsetter_variation.proofs.StepCosts.{Costs, bind_with, costs_behind, costs_then, moved_points_cost, no_cost, spent_costs}
+use Rattle.subsetter_variation.specs.Glyphs.Tuples.{Gvar}
+use Rattle.subsetter_variation.specs.Glyphs.Movement.{Outline, spent}
+use Rattle.subsetter_variation.specs.Glyphs.Varied.{in_units}
+use Rattle.subsetter_variation.proofs.GlyphsLaws.StepCosts.{Costs, bind_with, costs_behind, costs_then, moved_points_cost, no_cost, spent_costs}
 use Rattle.subsetter_sfnt.specs.declared.fields.hmtx.LongHorMetric.{LongHorMetric}
 use Rattle.subsetter_instance.specs.Source.{Source, metric}
-use Rattle.subsetter_instance.specs.Unfolded.{Unfolded, moved, with_phantoms, are_near, near_or_fault, simple_outline, unfolded_simple, unfolded_composite, is_composite, counted_description, unfolded}
+use Rattle.subsetter_instance.specs.Glyphs.Unfolded.{Unfolded, moved, with_phantoms, are_near, near_or_fault, simple_outline, unfolded_simple, unfolded_composite, is_composite, counted_description, unfolded}
 
 abbrev moved_to : List ℤ × List ℤ × ℕ → ℕ → List ℤ × List ℤ × ℕ
 moved_to a n = (a.0, a.1, n)

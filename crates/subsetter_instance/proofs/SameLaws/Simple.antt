@@ -8,13 +8,13 @@ use Rattle.subsetter_base.specs.declared.error.Error.TheVariants.{MalformedFont,
 use Rattle.subsetter_base.proofs.Results.{done_is, bind_ok}
 use Rattle.subsetter_points.specs.declared.outline.Point.{Point}
 use Rattle.subsetter_points.specs.Simple.{parts, xs_of, ys_of}
-use Rattle.subsetter_variation.specs.Tuples.{Gvar}
-use Rattle.subsetter_variation.specs.Movement.{Outline, spent}
-use Rattle.subsetter_variation.specs.Varied.{in_units}
-use Rattle.subsetter_variation.proofs.StepLaws.{is_same_at_any_steps}
+use Rattle.subsetter_variation.specs.Glyphs.Tuples.{Gvar}
+use Rattle.subsetter_variation.specs.Glyphs.Movement.{Outline, spent}
+use Rattle.subsetter_variation.specs.Glyphs.Varied.{in_units}
+use Rattle.subsetter_variation.proofs.GlyphsLaws.StepLaws.{is_same_at_any_steps}
 use Rattle.subsetter_sfnt.specs.declared.fields.hmtx.LongHorMetric.{LongHorMetric}
 use Rattle.subsetter_instance.specs.Source.{Source}
-use Rattle.subsetter_instance.specs.Unfolded.{Unfolded, moved, with_phantoms, are_near, near_or_fault, simple_outline, unfolded_simple}
+use Rattle.subsetter_instance.specs.Glyphs.Unfolded.{Unfolded, moved, with_phantoms, are_near, near_or_fault, simple_outline, unfolded_simple}
 
 -- the same answer twice
 pub one_answer : {A : Type 0} (r : Result A Error) (x y : A) → r ≡ Ok x → r ≡ Ok y → x ≡ y

@@ -6,7 +6,7 @@ use Rattle.subsetter_base.specs.declared.error.Error.TheVariants.{MalformedFont}
 use Rattle.subsetter_base.proofs.Results.{bind_ok}
 use Rattle.subsetter_sfnt.specs.declared.fields.hmtx.LongHorMetric.{LongHorMetric}
 use Rattle.subsetter_instance.specs.Source.{Source, metric}
-use Rattle.subsetter_instance.specs.Unfolded.{Unfolded, unfolded_simple, unfolded_composite, is_composite, counted_description, unfolded}
+use Rattle.subsetter_instance.specs.Glyphs.Unfolded.{Unfolded, unfolded_simple, unfolded_composite, is_composite, counted_description, unfolded}
 use Rattle.subsetter_instance.proofs.SameLaws.Simple.{MoveAlike, one_answer, simple_alike}
 use Rattle.subsetter_instance.proofs.SameLaws.Composite.{IsAlike, composite_alike}
 

@@ -11,10 +11,10 @@ use Rattle.subsetter_base.proofs.ByteLemmas.{range-middle, be-u16, be-u32, numbe
 use Rattle.subsetter_sfnt.specs.declared.face.TableRecord.{TableRecord}
 use Rattle.subsetter_sfnt.specs.declared.face.FontKind.TheVariants.{Single}
 use Rattle.subsetter_sfnt.specs.Read.{as_font, kind_of, kind_at, header_by_kind, header_offset, records_at, records, directory, table, table_in, record_of, directory_records, find_record}
-use Rattle.subsetter_sfnt.specs.Checksum.{checksum}
-use Rattle.subsetter_sfnt.specs.Written.{Table, selector, header_bytes, record_bytes, directory_bytes, body, front, adjusted, adjustment, with_adjustment, file, fits, start_of, IsTable}
-use Rattle.subsetter_sfnt.proofs.Laws.Checksum.{checksum_fits}
-use Rattle.subsetter_sfnt.proofs.Laws.Written.{length-record, length-directory, length-header, length-front, length-adjusted, aligned_len, fitting}
+use Rattle.subsetter_sfnt.specs.Laying.Checksum.{checksum}
+use Rattle.subsetter_sfnt.specs.Laying.Written.{Table, selector, header_bytes, record_bytes, directory_bytes, body, front, adjusted, adjustment, with_adjustment, file, fits, start_of, IsTable}
+use Rattle.subsetter_sfnt.proofs.Laws.LayingLaws.Checksum.{checksum_fits}
+use Rattle.subsetter_sfnt.proofs.Laws.LayingLaws.Written.{length-record, length-directory, length-header, length-front, length-adjusted, aligned_len, fitting}
 
 -- ---- numbers and ranges
 

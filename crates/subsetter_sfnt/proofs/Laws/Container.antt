@@ -12,12 +12,12 @@ use Rattle.subsetter_base.proofs.ByteLemmas.{range-middle, be-u16, be-u32, numbe
 use Rattle.subsetter_base.proofs.Lists.{bytes_eq_is}
 use Rattle.subsetter_sfnt.specs.declared.face.TableRecord.{TableRecord}
 use Rattle.subsetter_sfnt.specs.Read.{as_font, table}
-use Rattle.subsetter_sfnt.specs.Checksum.{checksum}
+use Rattle.subsetter_sfnt.specs.Laying.Checksum.{checksum}
 use Rattle.subsetter_sfnt.specs.Container.{summed, padded_size, NameTablesFrom, AscendFrom, IsSoundContainer}
-use Rattle.subsetter_sfnt.specs.Written.{Table, selector, body, front, with_adjustment, adjusted, file, fits, start_of, IsTable}
-use Rattle.subsetter_sfnt.specs.Rows.{lookup, tags}
-use Rattle.subsetter_sfnt.proofs.Laws.Checksum.{checksum-append, checksum-body, checksum_fits}
-use Rattle.subsetter_sfnt.proofs.Laws.Written.{length-front, length-adjusted, aligned_len, adjusted_head, adjusted_other}
+use Rattle.subsetter_sfnt.specs.Laying.Written.{Table, selector, body, front, with_adjustment, adjusted, file, fits, start_of, IsTable}
+use Rattle.subsetter_sfnt.specs.Laying.Rows.{lookup, tags}
+use Rattle.subsetter_sfnt.proofs.Laws.LayingLaws.Checksum.{checksum-append, checksum-body, checksum_fits}
+use Rattle.subsetter_sfnt.proofs.Laws.LayingLaws.Written.{length-front, length-adjusted, aligned_len, adjusted_head, adjusted_other}
 use Rattle.subsetter_sfnt.proofs.Laws.Lookups.{apart_by}
 use Rattle.subsetter_sfnt.proofs.Laws.Back.{IsKind, record_at, records_from, find_table, same_tag, parts, kind_back, count_back, directory_back, word_of, table_back}
 

@@ -7,8 +7,8 @@ use Rattle.std.proofs.lemmas.Bool.{false≢true}
 use Rattle.subsetter_base.specs.Bytes.{be}
 use Rattle.subsetter_base.proofs.Lists.{bytes_eq_is, bytes_eq_self}
 use Rattle.subsetter_sfnt.specs.Container.{AscendFrom}
-use Rattle.subsetter_sfnt.specs.Written.{Table, IsTable}
-use Rattle.subsetter_sfnt.specs.Rows.{opt, lookup, tags}
+use Rattle.subsetter_sfnt.specs.Laying.Written.{Table, IsTable}
+use Rattle.subsetter_sfnt.specs.Laying.Rows.{opt, lookup, tags}
 
 -- tags of different numbers are different
 pub apart_by : (a b : List ℕ) → be a < be b → bytes_eq b a ≡ false

@@ -1,8 +1,8 @@
 use Rattle.std.proofs.Common.{◌≡◌, Some, length, map, sym, ◌∙◌, ap}
-use Rattle.subsetter_cffdata.specs.Operands.{operands_at}
-use Rattle.subsetter_cffdata.specs.ParserView.{left}
+use Rattle.subsetter_cffdata.specs.Dicts.Operands.{operands_at}
+use Rattle.subsetter_cffdata.specs.Dicts.ParserView.{left}
 use Rattle.subsetter_cffdata.specs.Views.{number_of, operator_of}
-use Rattle.subsetter_cff.proofs.WriteLaws.Rewriting.{shorter}
+use Rattle.subsetter_cff.proofs.WriteLaws.NewDictsLaws.Rewriting.{shorter}
 use Rattle.pdf_cff.proofs.StemSteps.{said_here, said_later, stem_end, stem_next}
 use Rattle.pdf_cff.proofs.stems.stem_in.Goals as goal
 

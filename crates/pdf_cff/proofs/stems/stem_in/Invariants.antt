@@ -1,6 +1,6 @@
 use Rattle.std.proofs.Common.{◌≡◌, length}
-use Rattle.subsetter_cffdata.specs.Dict.{entries}
-use Rattle.subsetter_cffdata.specs.ParserView.{left}
+use Rattle.subsetter_cffdata.specs.Dicts.Dict.{entries}
+use Rattle.subsetter_cffdata.specs.Dicts.ParserView.{left}
 use Rattle.pdf_cff.specs.Stems.{stem_in}
 use Rattle.pdf_cff.proofs.stems.stem_in.Given as goal
 

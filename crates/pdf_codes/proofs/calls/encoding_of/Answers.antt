@@ -1,8 +1,8 @@
 use Rattle.std.proofs.Common.{◌≡◌, true, List, sym, ap, ◌∙◌}
-use Rattle.pdf_text.specs.Encoding.{Pair}
+use Rattle.pdf_text.specs.Cmaps.Encoding.{Pair}
 use Rattle.pdf_text.specs.View.{pairs_view}
-use Rattle.pdf_codes.specs.Leading.{are_cids, cid_of, pairs_with}
-use Rattle.pdf_codes.proofs.LedLaws.{led_alone, led_by_cmap}
+use Rattle.pdf_codes.specs.Cmaps.Leading.{are_cids, cid_of, pairs_with}
+use Rattle.pdf_codes.proofs.CmapsLaws.LedLaws.{led_alone, led_by_cmap}
 use Rattle.pdf_codes.proofs.calls.encoding_of.Goals as goal
 
 pub returns-then-are_cids-clause-leads : goal.returns-then-are_cids-clause-leads

@@ -1,5 +1,5 @@
 use Rattle.std.proofs.Common.{arith}
-use Rattle.pdf_text.specs.Columns.{no_column}
+use Rattle.pdf_text.specs.Metrics.Columns.{no_column}
 use Rattle.pdf_glyphs.proofs.CountSteps.{count_few, count_more}
 use Rattle.pdf_glyphs.proofs.frequent.counts_of.Goals as goal
 

@@ -1,6 +1,6 @@
 use Rattle.std.proofs.Common.{get_or}
-use Rattle.pdf_text.specs.Columns.{no_column}
-use Rattle.pdf_text.specs.declared.columns.Column.{Column}
+use Rattle.pdf_text.specs.Metrics.Columns.{no_column}
+use Rattle.pdf_text.specs.declared.metrics.columns.Column.{Column}
 use Rattle.pdf_glyphs.specs.Keys.{key_of}
 use Rattle.pdf_glyphs.proofs.CountSteps.{best_more}
 use Rattle.pdf_glyphs.proofs.frequent.most_frequent.Goals as goal

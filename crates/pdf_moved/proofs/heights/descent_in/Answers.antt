@@ -1,7 +1,7 @@
 use Rattle.std.proofs.Common.{ℕ, ℤ, ap, ◌∙◌, rules, w32}
 use mir.Val.{SFits}
 use Rattle.std.proofs.lemmas.Int.{to_z-of_z}
-use Rattle.pdf_values.specs.Heights.{descent_of}
+use Rattle.pdf_values.specs.Looks.Heights.{descent_of}
 use Rattle.pdf_values.specs.Rounding.{thousandths}
 use Rattle.pdf_moved.specs.Lines.{line_view}
 use Rattle.pdf_moved.proofs.heights.descent_in.Goals as goal

@@ -1,5 +1,5 @@
 use Rattle.std.proofs.Common.{◌≡◌, ◌++◌, drop}
-use Rattle.pdf_text.specs.Cmap.{words}
+use Rattle.pdf_text.specs.Cmaps.Cmap.{words}
 use Rattle.pdf_sheet.specs.Units.{units_of}
 use Rattle.pdf_sheet.proofs.hex.write_characters.Given as goal
 

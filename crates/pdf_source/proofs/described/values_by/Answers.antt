@@ -2,7 +2,7 @@ use Rattle.std.proofs.Common.{ℕ, List, Option, sym, ap, ◌∙◌}
 use Rattle.std.specs.Option.{option_map}
 use Rattle.subsetter_sfnt.specs.Read.{table_in}
 use Rattle.pdf_values.specs.Descriptor.{SourceTables, values_of}
-use Rattle.pdf_values.specs.declared.bounds.Bounds.{Bounds}
+use Rattle.pdf_values.specs.declared.looks.bounds.Bounds.{Bounds}
 use Rattle.pdf_values.specs.declared.descriptor.Known.{Known}
 use Rattle.pdf_source.specs.Moved.{Location, location_seen, values_by}
 use Rattle.pdf_source.specs.Source.{bounds_by, known_of, tables_of}

@@ -1,4 +1,4 @@
-use Rattle.subset_font.proofs.Failing.{no_usage}
+use Rattle.subset_font.proofs.RefusalsLaws.Failing.{no_usage}
 use Rattle.subset_font.proofs.run.carry_buffered.Goals as goal
 
 pub returns : goal.returns

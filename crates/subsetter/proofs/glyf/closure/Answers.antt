@@ -4,15 +4,15 @@ use Rattle.std.specs.Option.{option_copied}
 use Rattle.std.proofs.lemmas.Result.{err_from_is_err_and}
 use Rattle.std.proofs.lemmas.List.{append-nil, length-take-le}
 use Rattle.std.proofs.Math.Seq.{take-length}
-use Rattle.subsetter.specs.Glyf.Closure.{first_byte_in, EndsWith, components_in, others_in, LacksParts}
+use Rattle.subsetter.specs.Glyf.Reaching.Closure.{first_byte_in, EndsWith, components_in, others_in, LacksParts}
 use Rattle.subsetter_base.specs.declared.error.Error.TheVariants.{OutOfMemory, MalformedFont}
 use Rattle.subsetter.specs.Glyf.Read.{outline_in}
-use Rattle.subsetter.specs.Glyf.Size.{requested_size}
+use Rattle.subsetter.specs.Glyf.BareOutlines.Size.{requested_size}
 use Rattle.subsetter.specs.Glyf.View.{seen}
-use Rattle.subsetter.proofs.GlyfLaws.Closure.{Follows, start, followed, visited_next, finished, given_reached, waits_reached, stops_memory, stops_given, stops_visit}
-use Rattle.subsetter.proofs.GlyfLaws.Found.{FoundFrom, found_start, found_followed, found_visited, found_last}
-use Rattle.subsetter.proofs.GlyfLaws.Sizes.{count_start, count_given, count_further, stops_long}
-use Rattle.subsetter.proofs.GlyfLaws.Taken.{heads_in, outlines_left, heads_left, first_byte_taken, found_at, one_taken}
+use Rattle.subsetter.proofs.GlyfLaws.ReachingLaws.Closure.{Follows, start, followed, visited_next, finished, given_reached, waits_reached, stops_memory, stops_given, stops_visit}
+use Rattle.subsetter.proofs.GlyfLaws.ReachingLaws.Found.{FoundFrom, found_start, found_followed, found_visited, found_last}
+use Rattle.subsetter.proofs.GlyfLaws.BareOutlinesLaws.Sizes.{count_start, count_given, count_further, stops_long}
+use Rattle.subsetter.proofs.GlyfLaws.ReachingLaws.Taken.{heads_in, outlines_left, heads_left, first_byte_taken, found_at, one_taken}
 use Rattle.subsetter.proofs.glyf.closure.Goals as goal
 
 pub returns-in_err-order-clause-err : goal.returns-in_err-order-clause-err

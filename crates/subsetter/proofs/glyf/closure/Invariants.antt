@@ -1,10 +1,10 @@
 use Rattle.std.proofs.Common.{◌≡◌, ◌≤◌, ◌+◌, ◌-◌, ◌*◌, ◌^◌, [], length, take}
-use Rattle.subsetter.specs.Glyf.Closure.{AreFound, EndsWith}
+use Rattle.subsetter.specs.Glyf.Reaching.Closure.{AreFound, EndsWith}
 use Rattle.subsetter.specs.Glyf.View.{seen}
-use Rattle.subsetter.proofs.GlyfLaws.Closure.{Follows}
-use Rattle.subsetter.proofs.GlyfLaws.Found.{FoundFrom}
-use Rattle.subsetter.proofs.GlyfLaws.Sizes.{IsCounted}
-use Rattle.subsetter.proofs.GlyfLaws.Taken.{heads_in}
+use Rattle.subsetter.proofs.GlyfLaws.ReachingLaws.Closure.{Follows}
+use Rattle.subsetter.proofs.GlyfLaws.ReachingLaws.Found.{FoundFrom}
+use Rattle.subsetter.proofs.GlyfLaws.BareOutlinesLaws.Sizes.{IsCounted}
+use Rattle.subsetter.proofs.GlyfLaws.ReachingLaws.Taken.{heads_in}
 use Rattle.subsetter.proofs.glyf.closure.Given as goal
 
 abbrev pub invariant-loop-left : goal.invariant-loop-left

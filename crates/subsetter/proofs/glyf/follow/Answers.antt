@@ -1,10 +1,10 @@
 use Rattle.std.proofs.Common.{sym, ap, arith}
 use Rattle.std.proofs.lemmas.Bool.{leb-true}
-use Rattle.subsetter.specs.Glyf.Closure.{first_byte_in}
-use Rattle.subsetter.specs.Glyf.Size.{requested_size}
-use Rattle.subsetter.proofs.GlyfLaws.Counts.{size_at_most, cut_lacks}
+use Rattle.subsetter.specs.Glyf.Reaching.Closure.{first_byte_in}
+use Rattle.subsetter.specs.Glyf.BareOutlines.Size.{requested_size}
+use Rattle.subsetter.proofs.GlyfLaws.BareOutlinesLaws.Counts.{size_at_most, cut_lacks}
 use Rattle.std.specs.Option.{option_copied}
-use Rattle.subsetter.proofs.GlyfLaws.Closure.{none_wait}
+use Rattle.subsetter.proofs.GlyfLaws.ReachingLaws.Closure.{none_wait}
 use Rattle.subsetter.proofs.glyf.follow.Goals as goal
 
 pub returns-else-is_composite-clause-ok : goal.returns-else-is_composite-clause-ok

@@ -1,7 +1,7 @@
 use Rattle.std.proofs.Common.{◌≡◌, drop}
 use Rattle.std.specs.Option.{option_copied}
 use Rattle.std.specs.Prelude.{map}
-use Rattle.subsetter.specs.Glyf.Closure.{first_byte_in}
+use Rattle.subsetter.specs.Glyf.Reaching.Closure.{first_byte_in}
 use Rattle.subsetter.specs.Glyf.Plain.{kept_outlines, with_outlines}
 use Rattle.subsetter.proofs.glyf.keep_block.Given as goal
 

@@ -2,8 +2,8 @@ use Rattle.std.proofs.Common.{◌≡◌, ◌<◌, length, drop, ap, ◌∙◌, a
 use Rattle.std.specs.Option.{option_copied}
 use Rattle.std.specs.Prelude.{map}
 use Rattle.std.proofs.lemmas.List.{take_rest}
-use Rattle.subsetter.specs.Glyf.Closure.{first_byte_in}
-use Rattle.subsetter.proofs.GlyfLaws.Taken.{taken_read, taken_new, block_read, some_read}
+use Rattle.subsetter.specs.Glyf.Reaching.Closure.{first_byte_in}
+use Rattle.subsetter.proofs.GlyfLaws.ReachingLaws.Taken.{taken_read, taken_new, block_read, some_read}
 use Rattle.subsetter.proofs.glyf.pop_first_byte.Goals as goal
 
 pub returns-in-Some-clause-ok : goal.returns-in-Some-clause-ok

@@ -1,10 +1,10 @@
 use Rattle.std.proofs.Common.{◌+◌, ◌<◌, ◌≤◌, ◌^◌, List, ℕ, rules, length, sym, subst, ◌∙◌, arith}
 use Rattle.subsetter_base.proofs.Options.{none_of}
-use Rattle.subsetter.specs.Glyf.Closure.{LacksParts}
-use Rattle.subsetter.specs.Glyf.Size.{requested_size}
+use Rattle.subsetter.specs.Glyf.Reaching.Closure.{LacksParts}
+use Rattle.subsetter.specs.Glyf.BareOutlines.Size.{requested_size}
 use Rattle.subsetter.specs.Glyf.View.{seen}
-use Rattle.subsetter.proofs.GlyfLaws.Closure.{few_found, room_left, gone_last}
-use Rattle.subsetter.proofs.GlyfLaws.Sizes.{further_size}
+use Rattle.subsetter.proofs.GlyfLaws.ReachingLaws.Closure.{few_found, room_left, gone_last}
+use Rattle.subsetter.proofs.GlyfLaws.BareOutlinesLaws.Sizes.{further_size}
 use Rattle.subsetter.proofs.glyf.visit.Goals as goal
 
 pub returns-clause-ok : goal.returns-clause-ok

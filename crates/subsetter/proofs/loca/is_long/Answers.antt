@@ -1,4 +1,4 @@
-use Rattle.subsetter.proofs.GlyfLaws.Counted.{long_by_count}
+use Rattle.subsetter.proofs.GlyfLaws.BareOutlinesLaws.Counted.{long_by_count}
 use Rattle.subsetter.proofs.loca.is_long.Goals as goal
 
 pub returns : goal.returns

@@ -6,12 +6,12 @@ use Rattle.subsetter_base.specs.Within.{GivesWithin, is_past}
 use Rattle.subsetter_base.specs.declared.error.Error.TheVariants.{MalformedFont}
 use Rattle.subsetter_base.proofs.Results.{named_ok}
 use Rattle.subsetter_sfnt.specs.Plain.{file_of}
-use Rattle.subsetter_sfnt.specs.Written.{kind_word}
+use Rattle.subsetter_sfnt.specs.Laying.Written.{kind_word}
 use Rattle.subsetter_sfnt.specs.declared.flavor.FontFlavor.TheVariants.{Cff}
 use Rattle.subsetter.proofs.CffLaws.Bound.{made_fails, file_given}
 use Rattle.subsetter_sfnt.specs.Extras.{requested}
 use Rattle.subsetter_sfnt.specs.Read.{table_in}
-use Rattle.subsetter_sfnt.specs.Rows.{FontTables, rows, present}
+use Rattle.subsetter_sfnt.specs.Laying.Rows.{FontTables, rows, present}
 use Rattle.subsetter.specs.TableView.{views}
 use Rattle.subsetter.specs.Cff.View.{made_seen}
 use Rattle.subsetter.proofs.CffLaws.Steps.{few_tables, all_tables}

@@ -3,13 +3,13 @@ use Rattle.std.proofs.lemmas.Result.{err_from_is_err_and}
 use Rattle.subsetter.specs.Truetype.Answered.{IsAnswered, IsRefused, no_memory, unread}
 use Rattle.subsetter_sfnt.specs.Extras.{requested}
 use Rattle.subsetter_sfnt.specs.Read.{table_in}
-use Rattle.subsetter.specs.Glyf.Closure.{StopsClosure}
+use Rattle.subsetter.specs.Glyf.Reaching.Closure.{StopsClosure}
 use Rattle.subsetter.specs.Glyf.View.{seen}
 use Rattle.subsetter_sfnt.specs.Plain.{file_of}
 use Rattle.subsetter.specs.Truetype.View.{made_seen}
 use Rattle.subsetter.specs.TableView.{views}
-use Rattle.subsetter_sfnt.specs.Rows.{FontTables, rows, present}
-use Rattle.subsetter_sfnt.specs.Written.{kind_word}
+use Rattle.subsetter_sfnt.specs.Laying.Rows.{FontTables, rows, present}
+use Rattle.subsetter_sfnt.specs.Laying.Written.{kind_word}
 use Rattle.subsetter_sfnt.specs.declared.flavor.FontFlavor.TheVariants.{TrueType}
 use Rattle.subsetter.proofs.TruetypeLaws.PlainAnswers.{gave_ok_within, gave_err_within, refused_closure, refused_made, few_tables, all_tables, answered, refused_file, refused_long}
 use Rattle.subsetter.proofs.subsetting.subset_truetype.Goals as goal

@@ -11,7 +11,7 @@ use Rattle.subsetter_sfnt.specs.Extras.{requested}
 use Rattle.subsetter_sfnt.specs.Read.{Font, as_font, table_in}
 use Rattle.subsetter_sfnt.specs.Plain.{flavored}
 use Rattle.subsetter.specs.Fault.{HasFault}
-use Rattle.subsetter.specs.Glyf.Instructions.{HasNoInstructions}
+use Rattle.subsetter.specs.Glyf.BareOutlines.Instructions.{HasNoInstructions}
 use Rattle.subsetter.specs.Subset.{IsSubset}
 use Rattle.subsetter.specs.Answer.{IsAnswer, IsTheAnswer}
 use Rattle.subsetter.specs.Bound.{IsWithin, HasNoAnswerWithin}

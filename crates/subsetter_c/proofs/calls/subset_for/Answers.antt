@@ -1,6 +1,6 @@
 use Rattle.std.proofs.lemmas.Result.{err_from_is_err_and}
 use Rattle.subsetter_sfnt.specs.Read.{Font}
-use Rattle.subsetter_c.proofs.Bytes.{mapper_refused, subset_refused, subset_sound}
+use Rattle.subsetter_c.proofs.AnswersLaws.Bytes.{mapper_refused, subset_refused, subset_sound}
 use Rattle.subsetter_c.proofs.calls.subset_for.Goals as goal
 
 pub returns-in_err-mapper-clause-err : goal.returns-in_err-mapper-clause-err

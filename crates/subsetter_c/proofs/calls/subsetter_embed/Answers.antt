@@ -1,8 +1,8 @@
 use Rattle.subsetter_sfnt.specs.Extras.{all_extras}
 use Rattle.subsetter.specs.Limits.{token_limit, depth_limit}
 use Rattle.subsetter_sfnt.specs.Read.{Font}
-use Rattle.subsetter_c.specs.Embedding.{Buffers, IsSoundEmbedding, IsEmbeddingRefusal}
-use Rattle.subsetter_c.proofs.Lists.{answer_handed, embedding_sound, embedding_refused, unbounded, unbounded_fault, unbounded_none}
+use Rattle.subsetter_c.specs.Answers.Embedding.{Buffers, IsSoundEmbedding, IsEmbeddingRefusal}
+use Rattle.subsetter_c.proofs.AnswersLaws.Lists.{answer_handed, embedding_sound, embedding_refused, unbounded, unbounded_fault, unbounded_none}
 use Rattle.std.proofs.Common.{None}
 use Rattle.subsetter_c.proofs.calls.subsetter_embed.Goals as goal
 

@@ -1,8 +1,8 @@
 use Rattle.std.proofs.Common.{inl, inr, refl}
 use Rattle.subsetter_sfnt.specs.declared.extras.Extras.{Extras}
 use Rattle.subsetter_sfnt.specs.Read.{Font}
-use Rattle.subsetter_c.specs.Embedding.{Buffers, IsSoundEmbedding, IsEmbeddingRefusal, IsEmbeddingHanded}
-use Rattle.subsetter_c.proofs.Lists.{answer_handed, embedding_sound, embedding_refused}
+use Rattle.subsetter_c.specs.Answers.Embedding.{Buffers, IsSoundEmbedding, IsEmbeddingRefusal, IsEmbeddingHanded}
+use Rattle.subsetter_c.proofs.AnswersLaws.Lists.{answer_handed, embedding_sound, embedding_refused}
 use Rattle.subsetter_c.proofs.Asked.{at_asked}
 use Rattle.subsetter_c.proofs.calls.subsetter_embed_by_words.Goals as goal
 

@@ -1,6 +1,6 @@
 use Rattle.std.proofs.Common.{◌≡◌, ◌∙◌}
-use Rattle.subsetter_c.specs.Status.{status_text}
-use Rattle.subsetter_c.proofs.Bytes.{bytes_handed, said_as}
+use Rattle.subsetter_c.specs.Answers.Status.{status_text}
+use Rattle.subsetter_c.proofs.AnswersLaws.Bytes.{bytes_handed, said_as}
 use Rattle.subsetter_c.proofs.calls.subsetter_error_text.Goals as goal
 
 pub returns : goal.returns

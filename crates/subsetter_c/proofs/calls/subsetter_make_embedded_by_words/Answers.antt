@@ -1,10 +1,10 @@
 use Rattle.std.proofs.Common.{inl, inr, refl}
 use Rattle.subsetter_sfnt.specs.declared.extras.Extras.{Extras}
 use Rattle.subsetter_sfnt.specs.Read.{Font}
-use Rattle.subsetter_c.specs.Embedding.{IsSoundEmbedding, IsEmbeddingRefusal}
-use Rattle.subsetter_c.specs.Made.{IsEmbeddingMade, lists_in}
-use Rattle.subsetter_c.proofs.Lists.{embedding_sound, embedding_refused}
-use Rattle.subsetter_c.proofs.Made.{embedding_made}
+use Rattle.subsetter_c.specs.Answers.Embedding.{IsSoundEmbedding, IsEmbeddingRefusal}
+use Rattle.subsetter_c.specs.Answers.Made.{IsEmbeddingMade, lists_in}
+use Rattle.subsetter_c.proofs.AnswersLaws.Lists.{embedding_sound, embedding_refused}
+use Rattle.subsetter_c.proofs.AnswersLaws.Made.{embedding_made}
 use Rattle.subsetter_c.proofs.Asked.{at_asked}
 use Rattle.subsetter_c.proofs.calls.subsetter_make_embedded_by_words.Goals as goal
 

@@ -1,9 +1,9 @@
 use Rattle.std.proofs.Common.{inl, inr, refl}
 use Rattle.subsetter_sfnt.specs.declared.extras.Extras.{Extras}
 use Rattle.subsetter_sfnt.specs.Read.{Font}
-use Rattle.subsetter_c.specs.Handed.{IsSoundSubset, IsRefusal}
-use Rattle.subsetter_c.specs.Made.{IsSubsetMade, lists_in}
-use Rattle.subsetter_c.proofs.Made.{font_made}
+use Rattle.subsetter_c.specs.Answers.Handed.{IsSoundSubset, IsRefusal}
+use Rattle.subsetter_c.specs.Answers.Made.{IsSubsetMade, lists_in}
+use Rattle.subsetter_c.proofs.AnswersLaws.Made.{font_made}
 use Rattle.subsetter_c.proofs.Asked.{at_asked}
 use Rattle.subsetter_c.proofs.calls.subsetter_make_subset_by_words.Goals as goal
 

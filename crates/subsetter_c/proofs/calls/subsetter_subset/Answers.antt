@@ -3,8 +3,8 @@ use Rattle.std.specs.Prelude.{IfOk, IfErr}
 use Rattle.subsetter_sfnt.specs.Extras.{all_extras}
 use Rattle.subsetter.specs.Limits.{token_limit, depth_limit}
 use Rattle.subsetter_sfnt.specs.Read.{Font}
-use Rattle.subsetter_c.specs.Handed.{IsSoundSubset, IsRefusal}
-use Rattle.subsetter_c.proofs.Bytes.{answer_handed, at_limits}
+use Rattle.subsetter_c.specs.Answers.Handed.{IsSoundSubset, IsRefusal}
+use Rattle.subsetter_c.proofs.AnswersLaws.Bytes.{answer_handed, at_limits}
 use Rattle.subsetter_c.proofs.calls.subsetter_subset.Goals as goal
 
 pub returns : goal.returns

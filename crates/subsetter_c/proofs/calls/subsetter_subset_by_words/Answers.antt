@@ -1,8 +1,8 @@
 use Rattle.std.proofs.Common.{inl, inr, refl}
 use Rattle.subsetter_sfnt.specs.declared.extras.Extras.{Extras}
 use Rattle.subsetter_sfnt.specs.Read.{Font}
-use Rattle.subsetter_c.specs.Handed.{IsSoundSubset, IsRefusal, IsSubsetHanded}
-use Rattle.subsetter_c.proofs.Bytes.{answer_handed}
+use Rattle.subsetter_c.specs.Answers.Handed.{IsSoundSubset, IsRefusal, IsSubsetHanded}
+use Rattle.subsetter_c.proofs.AnswersLaws.Bytes.{answer_handed}
 use Rattle.subsetter_c.proofs.Asked.{at_asked}
 use Rattle.subsetter_c.proofs.calls.subsetter_subset_by_words.Goals as goal
 

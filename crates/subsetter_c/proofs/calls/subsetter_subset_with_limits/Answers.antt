@@ -2,8 +2,8 @@ use Rattle.std.proofs.Common.{arith, inr, None}
 use Rattle.std.specs.Prelude.{IfOk, IfErr}
 use Rattle.subsetter_sfnt.specs.Extras.{all_extras}
 use Rattle.subsetter_sfnt.specs.Read.{Font}
-use Rattle.subsetter_c.specs.Handed.{IsSoundSubset, IsRefusal}
-use Rattle.subsetter_c.proofs.Bytes.{answer_handed, at_limits}
+use Rattle.subsetter_c.specs.Answers.Handed.{IsSoundSubset, IsRefusal}
+use Rattle.subsetter_c.proofs.AnswersLaws.Bytes.{answer_handed, at_limits}
 use Rattle.subsetter_c.proofs.calls.subsetter_subset_with_limits.Goals as goal
 
 pub returns-in-Some : goal.returns-in-Some

@@ -2,7 +2,7 @@ use Rattle.subsetter_sfnt.specs.Extras.{all_extras}
 use Rattle.subsetter_sfnt.specs.FontAt.{font_at}
 use Rattle.subsetter_sfnt.specs.Read.{Font}
 use Rattle.cmap.specs.View.{mapping_view}
-use Rattle.subsetter_c.proofs.PdfGlyphs.{answered, wanting}
+use Rattle.subsetter_c.proofs.DocumentsLaws.PdfGlyphs.{answered, wanting}
 use Rattle.subsetter_c.proofs.characters.glyphs_for.Goals as goal
 
 pub returns-clause-ok : goal.returns-clause-ok

@@ -2,7 +2,7 @@ use Rattle.std.proofs.Common.{inr, Some, None}
 use Rattle.subsetter_sfnt.specs.Extras.{all_extras}
 use Rattle.subsetter_sfnt.specs.FontAt.{font_at}
 use Rattle.subsetter_sfnt.specs.Read.{Font}
-use Rattle.subsetter_c.proofs.PdfGlyphs.{found, none}
+use Rattle.subsetter_c.proofs.DocumentsLaws.PdfGlyphs.{found, none}
 use Rattle.subsetter_c.proofs.characters.mapping_for.Goals as goal
 
 pub returns-in-Some-clause-ok : goal.returns-in-Some-clause-ok

@@ -1,7 +1,7 @@
 use Rattle.subsetter_sfnt.specs.Extras.{all_extras}
 use Rattle.subsetter_sfnt.specs.FontAt.{font_at}
 use Rattle.subsetter_sfnt.specs.Read.{Font}
-use Rattle.subsetter_c.proofs.PdfGlyphs.{opened_ok, opened_err}
+use Rattle.subsetter_c.proofs.DocumentsLaws.PdfGlyphs.{opened_ok, opened_err}
 use Rattle.subsetter_c.proofs.characters.opened_face.Goals as goal
 
 pub returns-clause-ok : goal.returns-clause-ok

@@ -1,9 +1,9 @@
 use Rattle.std.proofs.Common.{inl, inr, refl}
 use Rattle.subsetter_sfnt.specs.declared.extras.Extras.{Extras}
 use Rattle.subsetter_sfnt.specs.Read.{Font}
-use Rattle.subsetter_c.specs.Embedding.{Buffers}
+use Rattle.subsetter_c.specs.Answers.Embedding.{Buffers}
 use Rattle.subsetter_c.specs.Settings.{settings_of, IsSoundEmbeddingAt, IsEmbeddingRefusalAt, IsEmbeddingHandedAt}
-use Rattle.subsetter_c.proofs.Lists.{answer_handed}
+use Rattle.subsetter_c.proofs.AnswersLaws.Lists.{answer_handed}
 use Rattle.subsetter_c.proofs.Asked.{at_asked}
 use Rattle.subsetter_c.proofs.variations.subsetter_embed_at_by_words.Goals as goal
 

@@ -1,9 +1,9 @@
 use Rattle.std.proofs.Common.{inl, inr, refl}
 use Rattle.subsetter_sfnt.specs.declared.extras.Extras.{Extras}
 use Rattle.subsetter_sfnt.specs.Read.{Font}
-use Rattle.subsetter_c.specs.Made.{lists_in}
+use Rattle.subsetter_c.specs.Answers.Made.{lists_in}
 use Rattle.subsetter_c.specs.Settings.{settings_of, IsSoundSubsetAt, IsRefusalAt, IsSubsetMadeAt}
-use Rattle.subsetter_c.proofs.Made.{font_made}
+use Rattle.subsetter_c.proofs.AnswersLaws.Made.{font_made}
 use Rattle.subsetter_c.proofs.Asked.{at_asked}
 use Rattle.subsetter_c.proofs.variations.subsetter_make_subset_at_by_words.Goals as goal
 

@@ -2,7 +2,7 @@ use Rattle.std.proofs.Common.{inl, inr, refl}
 use Rattle.subsetter_sfnt.specs.declared.extras.Extras.{Extras}
 use Rattle.subsetter_sfnt.specs.Read.{Font}
 use Rattle.subsetter_c.specs.Settings.{settings_of, IsSoundSubsetAt, IsRefusalAt, IsSubsetHandedAt}
-use Rattle.subsetter_c.proofs.Bytes.{answer_handed}
+use Rattle.subsetter_c.proofs.AnswersLaws.Bytes.{answer_handed}
 use Rattle.subsetter_c.proofs.Asked.{at_asked}
 use Rattle.subsetter_c.proofs.variations.subsetter_subset_at_by_words.Goals as goal
 

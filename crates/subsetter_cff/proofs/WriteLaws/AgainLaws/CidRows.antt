@@ -3,21 +3,21 @@ use Rattle.std.proofs.Common.{◌≡◌, ℕ, List, [], ◌∷◌, length, refl}
 use Rattle.std.specs.Prelude.{Result, Ok, Err}
 use Rattle.subsetter_cffdata.specs.Bytes.{card, part}
 use Rattle.subsetter_base.specs.Bytes.{byte, ◌>>=◌}
-use Rattle.subsetter_cffdata.specs.Decimals.{decimal_digits, real_text, real_at, text_at, real_of, unsigned_real}
-use Rattle.subsetter_cffdata.specs.Numbers.{integer, as_i32, as_u32, in_i32, integer_from, short_integer, dict_number_from, signed16, signed32}
-use Rattle.subsetter_cffdata.specs.Index.{index, header, index_data, index_body, index_of}
-use Rattle.subsetter_cffdata.specs.Dict.{entry_in, entry_at, entries_in, entries}
-use Rattle.subsetter_cffdata.specs.Operands.{offset_operand, range_operands, string_operand}
-use Rattle.subsetter_cffdata.specs.Values.{thousand, by_1000}
-use Rattle.subsetter_cffdata.specs.CharStringNumber.{number_at, whole_of, written}
+use Rattle.subsetter_cffdata.specs.Reals.Decimals.{decimal_digits, real_text, real_at, text_at, real_of, unsigned_real}
+use Rattle.subsetter_cffdata.specs.Numerals.Numbers.{integer, as_i32, as_u32, in_i32, integer_from, short_integer, dict_number_from, signed16, signed32}
+use Rattle.subsetter_cffdata.specs.Indexes.Index.{index, header, index_data, index_body, index_of}
+use Rattle.subsetter_cffdata.specs.Dicts.Dict.{entry_in, entry_at, entries_in, entries}
+use Rattle.subsetter_cffdata.specs.Dicts.Operands.{offset_operand, range_operands, string_operand}
+use Rattle.subsetter_cffdata.specs.Numerals.Values.{thousand, by_1000}
+use Rattle.subsetter_cffdata.specs.Numerals.CharStringNumber.{number_at, whole_of, written}
 use Rattle.subsetter_type2.specs.Subroutines.{biased_entry}
 use Rattle.subsetter_type2.specs.Token.{token_of, effect_of}
-use Rattle.subsetter_type2.specs.Machine.{subroutine, act_at, run, outcome}
+use Rattle.subsetter_type2.specs.Runs.Machine.{subroutine, act_at, run, outcome}
 use Rattle.subsetter_cff.specs.Read.Strings.{string_of}
 use Rattle.subsetter_cff.specs.Read.Cff.{behind_header, name_index, top_index, string_index, subroutine_index, top_dict, name_bytes, cff_parts, at_offset, char_strings}
-use Rattle.subsetter_cff.specs.Read.FontDicts.{in_ranges, selected, select_at, font_dicts, font_dict_select, font_dict_number, font_dict_of}
-use Rattle.subsetter_cff.specs.Read.Private.{local_subroutines, private_in, private_at, private_of}
-use Rattle.subsetter_cff.specs.Write.Layout.{strings, charset_bytes, select_bytes, private_bytes, entries_of_font_dict_by, top_entries_by, front, font_dicts_of, cff_table}
+use Rattle.subsetter_cff.specs.Read.FdArray.FontDicts.{in_ranges, selected, select_at, font_dicts, font_dict_select, font_dict_number, font_dict_of}
+use Rattle.subsetter_cff.specs.Read.FdArray.Private.{local_subroutines, private_in, private_at, private_of}
+use Rattle.subsetter_cff.specs.Write.Laying.Layout.{strings, charset_bytes, select_bytes, private_bytes, entries_of_font_dict_by, top_entries_by, front, font_dicts_of, cff_table}
 use Rattle.subsetter_cff.specs.Read.Opened.{opened, opened_parts, opened_cid}
 use Rattle.subsetter_cff.specs.Write.Plain.{kept_glyph, new_font_dict, parts_for, counted_parts, limited, parts_of, cff_subset}
 

@@ -5,16 +5,16 @@ use Rattle.std.specs.List.{AllByRecursion}
 use Rattle.std.proofs.lemmas.Option.{none-some, same_Some, slice_get_within}
 use Rattle.std.proofs.lemmas.List.{length-map}
 use Rattle.subsetter_base.specs.Options.{◌>>=◌}
-use Rattle.subsetter_cffdata.specs.Decimals.{Decimal}
-use Rattle.subsetter_cffdata.specs.Numbers.{Number}
-use Rattle.subsetter_cffdata.specs.Values.{value}
+use Rattle.subsetter_cffdata.specs.Reals.Decimals.{Decimal}
+use Rattle.subsetter_cffdata.specs.Numerals.Numbers.{Number}
+use Rattle.subsetter_cffdata.specs.Numerals.Values.{value}
 use Rattle.subsetter_type2.specs.Flat.{flat}
-use Rattle.subsetter_type2.specs.Machine.{Trace}
+use Rattle.subsetter_type2.specs.Runs.Machine.{Trace}
 use Rattle.subsetter_type2.specs.Subroutines.{entry_at}
-use Rattle.subsetter_cff.specs.Read.Lookup.{last_of}
-use Rattle.subsetter_cff.specs.Read.Operators.{font_matrix_operator}
+use Rattle.subsetter_cff.specs.Read.Entries.Lookup.{last_of}
+use Rattle.subsetter_cff.specs.Read.Entries.Operators.{font_matrix_operator}
 use Rattle.subsetter_cff.specs.Read.Cff.{Cff, char_string, char_strings}
-use Rattle.subsetter_cff.specs.Read.Matrices.{matrix_pair, own_matrix, matrices, stated_matrices, zero_box}
+use Rattle.subsetter_cff.specs.Read.Entries.Matrices.{matrix_pair, own_matrix, matrices, stated_matrices, zero_box}
 use Rattle.subsetter_cff.specs.Read.GlyphTrace.{glyph_trace}
 use Rattle.subsetter_cff.specs.Write.Subset.{Keeps, KeepsGlyph, IsCffSubset}
 use Rattle.subsetter_cff.specs.Write.Again.{composed, AreGlyphs, IsComposed, KeepsAllCharStrings}

@@ -5,17 +5,17 @@ use Rattle.std.specs.List.{AllByRecursion}
 use Rattle.std.specs.Str.{bytes_eq}
 use Rattle.std.proofs.lemmas.Option.{slice_get_within}
 use Rattle.subsetter_base.specs.Remap.{index_by}
-use Rattle.subsetter_cffdata.specs.Numbers.{Number}
-use Rattle.subsetter_cffdata.specs.Dict.{NewEntry, meaning}
+use Rattle.subsetter_cffdata.specs.Numerals.Numbers.{Number}
+use Rattle.subsetter_cffdata.specs.Dicts.Dict.{NewEntry, meaning}
 use Rattle.subsetter_cff.specs.Read.Strings.{FontString, Standard, Custom, standard_strings}
-use Rattle.subsetter_cff.specs.Read.Operators.{font_name_operator, copyright_operator, notice_operator, font_matrix_operator, font_box_operator}
-use Rattle.subsetter_cff.specs.Write.Layout.{FontDict, Parts, Offsets, strings, number_of, integer, plain_entry, string_entries, table_offsets, placed_entries, top_entries_by}
-use Rattle.subsetter_cff.specs.Write.Fits.{Fits, FitsString}
+use Rattle.subsetter_cff.specs.Read.Entries.Operators.{font_name_operator, copyright_operator, notice_operator, font_matrix_operator, font_box_operator}
+use Rattle.subsetter_cff.specs.Write.Laying.Layout.{FontDict, Parts, Offsets, strings, number_of, integer, plain_entry, string_entries, table_offsets, placed_entries, top_entries_by}
+use Rattle.subsetter_cff.specs.Write.Laying.Fits.{Fits, FitsString}
 use Rattle.subsetter_cff.specs.Read.Opened.{meets, all_meet}
-use Rattle.subsetter_cff.specs.Read.OperandDemands.{Demand, top_demands}
-use Rattle.subsetter_cff.proofs.WriteLaws.Strings.{place_found, string_operand_is}
-use Rattle.subsetter_cff.proofs.WriteLaws.Tops.{tops, plain_values}
-use Rattle.subsetter_cff.proofs.WriteLaws.FontDicts.{offset_operand_is}
+use Rattle.subsetter_cff.specs.Read.Entries.OperandDemands.{Demand, top_demands}
+use Rattle.subsetter_cff.proofs.WriteLaws.StringsLaws.Strings.{place_found, string_operand_is}
+use Rattle.subsetter_cff.proofs.WriteLaws.NewDictsLaws.Tops.{tops, plain_values}
+use Rattle.subsetter_cff.proofs.WriteLaws.NewDictsLaws.FontDicts.{offset_operand_is}
 
 -- matrices have six numbers, and the box four
 pub record Shaped (p : Parts) : Type 0 where

@@ -1,7 +1,7 @@
 -- No fault stands in a subset of a CID-keyed font; and a glyph that it hasn't is one.
 use Rattle.std.proofs.Common.{◌≡◌, ℕ, zero, suc, ◌≤◌, List, [], ◌∷◌, length, Option, None, refl, arith}
 use Rattle.subsetter_cff.specs.Write.Again.{HasNoFaultAgain, UnknownIsFault}
-use Rattle.subsetter_cff.proofs.WriteLaws.Excluded.{answered_excludes}
+use Rattle.subsetter_cff.proofs.WriteLaws.RefusalsLaws.Excluded.{answered_excludes}
 use Rattle.subsetter_cff.proofs.WriteLaws.AgainLaws.Tables.{is_given_back}
 use Rattle.subsetter_type2.specs.Subroutines.{entry_at}
 use Rattle.subsetter_cff.specs.Read.Fault.{no_char_string}

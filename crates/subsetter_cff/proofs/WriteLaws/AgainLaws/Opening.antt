@@ -4,22 +4,22 @@ use Rattle.std.specs.Prelude.{slice_get, is_some, Ok}
 use Rattle.std.proofs.lemmas.Bool.{lt-ltb}
 use Rattle.std.proofs.lemmas.List.{length-map, append-nil}
 use Rattle.std.proofs.lemmas.Option.{same_Some}
-use Rattle.subsetter_cffdata.specs.Numbers.{Number}
-use Rattle.subsetter_cffdata.specs.Dict.{Entry, NewEntry, meaning, entries}
+use Rattle.subsetter_cffdata.specs.Numerals.Numbers.{Number}
+use Rattle.subsetter_cffdata.specs.Dicts.Dict.{Entry, NewEntry, meaning, entries}
 use Rattle.subsetter_cff.specs.Read.Strings.{FontString, standard_strings}
-use Rattle.subsetter_cff.specs.Read.Private.{Private, private_by, private_at}
-use Rattle.subsetter_cff.specs.Read.Operators.{font_name_operator, font_matrix_operator}
-use Rattle.subsetter_cff.specs.Write.Layout.{FontDict, Parts, strings, integer, plain_entry, private_entry, string_entries, private_bytes, entries_of_font_dict_by, font_dicts_from, privates_offset, cff_table}
-use Rattle.subsetter_cff.specs.Write.Fits.{Fits, FitsString}
+use Rattle.subsetter_cff.specs.Read.FdArray.Private.{Private, private_by, private_at}
+use Rattle.subsetter_cff.specs.Read.Entries.Operators.{font_name_operator, font_matrix_operator}
+use Rattle.subsetter_cff.specs.Write.Laying.Layout.{FontDict, Parts, strings, integer, plain_entry, private_entry, string_entries, private_bytes, entries_of_font_dict_by, font_dicts_from, privates_offset, cff_table}
+use Rattle.subsetter_cff.specs.Write.Laying.Fits.{Fits, FitsString}
 use Rattle.subsetter_cff.specs.Read.Opened.{meets, all_meet, all_lead, sound_font_dicts, opened_cid, opened_parts, opened}
-use Rattle.subsetter_cff.specs.Read.OperandDemands.{font_dict_demands}
-use Rattle.subsetter_cff.proofs.WriteLaws.Strings.{string_operand_is, get_at}
-use Rattle.subsetter_cff.proofs.WriteLaws.Tops.{plain_values}
-use Rattle.subsetter_cff.proofs.WriteLaws.Sizes.{length-font_dicts_from}
-use Rattle.subsetter_cff.proofs.WriteLaws.Fronts.{laid_out, major_read, parts_read}
-use Rattle.subsetter_cff.proofs.WriteLaws.FontDicts.{font_dict_entries, range_operands_is, own_private, all_at}
-use Rattle.subsetter_cff.proofs.WriteLaws.Whole.{chars_read, dicts_read, select_read}
-use Rattle.subsetter_cff.proofs.WriteLaws.AgainLaws.FontDicts.{keyed_again, own, own_fits, read_at, private_there, private_length}
+use Rattle.subsetter_cff.specs.Read.Entries.OperandDemands.{font_dict_demands}
+use Rattle.subsetter_cff.proofs.WriteLaws.StringsLaws.Strings.{string_operand_is, get_at}
+use Rattle.subsetter_cff.proofs.WriteLaws.NewDictsLaws.Tops.{plain_values}
+use Rattle.subsetter_cff.proofs.WriteLaws.LayingLaws.Sizes.{length-font_dicts_from}
+use Rattle.subsetter_cff.proofs.WriteLaws.LayingLaws.Fronts.{laid_out, major_read, parts_read}
+use Rattle.subsetter_cff.proofs.WriteLaws.NewDictsLaws.FontDicts.{font_dict_entries, range_operands_is, own_private, all_at}
+use Rattle.subsetter_cff.proofs.WriteLaws.LayingLaws.Whole.{chars_read, dicts_read, select_read}
+use Rattle.subsetter_cff.proofs.WriteLaws.AgainLaws.NumberLaws.FontDicts.{keyed_again, own, own_fits, read_at, private_there, private_length}
 use Rattle.subsetter_cff.proofs.WriteLaws.AgainLaws.Demands.{Shaped, strings_meet, top_meets}
 
 -- ---- a font dict

@@ -10,19 +10,19 @@ use Rattle.subsetter_base.specs.declared.error.Error.{Error}
 use Rattle.subsetter_cff.specs.Read.Cff.{Cff, is_cid_keyed}
 use Rattle.subsetter_cff.specs.Read.GlyphTrace.{library}
 use Rattle.subsetter_cff.specs.Read.Strings.{FontString}
-use Rattle.subsetter_cff.specs.Write.Layout.{FontDict, Parts}
-use Rattle.subsetter_cff.specs.Write.Fits.{Fits}
+use Rattle.subsetter_cff.specs.Write.Laying.Layout.{FontDict, Parts}
+use Rattle.subsetter_cff.specs.Write.Laying.Fits.{Fits}
 use Rattle.subsetter_cff.specs.Write.Plain.{KeptGlyph, kept_glyph, kept_glyphs, used_numbers, new_font_dict, new_font_dicts, new_select, new_parts}
 use Rattle.subsetter_cff.specs.Write.Again.{composed, AreGlyphs}
 use Rattle.subsetter_cff.proofs.ReadLaws.Results.{In, number_there}
-use Rattle.subsetter_cff.proofs.WriteLaws.KeptSteps.{length-kept, kept_at, in_used, glyph_steps}
-use Rattle.subsetter_cff.proofs.WriteLaws.FontDictSteps.{dict_at}
-use Rattle.subsetter_cff.proofs.WriteLaws.MadeOf.{selects, bytes_of}
-use Rattle.subsetter_cff.proofs.WriteLaws.Fronts.{laid_out}
-use Rattle.subsetter_cff.proofs.WriteLaws.AgainLaws.FontDicts.{dict_again_made}
-use Rattle.subsetter_cff.proofs.WriteLaws.AgainLaws.KeptGlyphs.{is_flat, kept_again, kept_each, kept_these}
-use Rattle.subsetter_cff.proofs.WriteLaws.AgainLaws.Renumbered.{used_ascends, new_number, KeepsOrder, keeps_order}
-use Rattle.subsetter_cff.proofs.WriteLaws.AgainLaws.RenumberedUse.{renumbered, place_again}
+use Rattle.subsetter_cff.proofs.WriteLaws.GlyphsLaws.KeptSteps.{length-kept, kept_at, in_used, glyph_steps}
+use Rattle.subsetter_cff.proofs.WriteLaws.NewDictsLaws.FontDictSteps.{dict_at}
+use Rattle.subsetter_cff.proofs.WriteLaws.LayingLaws.MadeOf.{selects, bytes_of}
+use Rattle.subsetter_cff.proofs.WriteLaws.LayingLaws.Fronts.{laid_out}
+use Rattle.subsetter_cff.proofs.WriteLaws.AgainLaws.NumberLaws.FontDicts.{dict_again_made}
+use Rattle.subsetter_cff.proofs.WriteLaws.AgainLaws.NumberLaws.KeptGlyphs.{is_flat, kept_again, kept_each, kept_these}
+use Rattle.subsetter_cff.proofs.WriteLaws.AgainLaws.NumberLaws.Renumbered.{used_ascends, new_number, KeepsOrder, keeps_order}
+use Rattle.subsetter_cff.proofs.WriteLaws.AgainLaws.NumberLaws.RenumberedUse.{renumbered, place_again}
 
 pub same_bind : {A B : Type 0} (r s : Result A Error) (f g : A → Result B Error) → r ≡ s → ((x : A) → f x ≡ g x) → r >>= f ≡ s >>= g
 same_bind (Ok x) s f g e h = rw (← e) (h x)

@@ -6,20 +6,20 @@ use Rattle.std.proofs.lemmas.List.{length-map}
 use Rattle.subsetter_base.specs.Indexes.{index_of}
 use Rattle.subsetter_cff.specs.Read.Cff.{Cff, is_cid_keyed}
 use Rattle.subsetter_cff.specs.Read.Strings.{FontString, string_at}
-use Rattle.subsetter_cff.specs.Read.Operators.{copyright_operator, notice_operator, font_name_operator, font_matrix_operator, font_box_operator}
-use Rattle.subsetter_cff.specs.Read.Lookup.{last_of}
-use Rattle.subsetter_cff.specs.Read.Matrices.{thousandth_matrix, zero_box}
-use Rattle.subsetter_cff.specs.Write.Layout.{FontDict, Parts, Select, Numbers, table_offsets}
-use Rattle.subsetter_cff.specs.Write.Fits.{Fits}
+use Rattle.subsetter_cff.specs.Read.Entries.Operators.{copyright_operator, notice_operator, font_name_operator, font_matrix_operator, font_box_operator}
+use Rattle.subsetter_cff.specs.Read.Entries.Lookup.{last_of}
+use Rattle.subsetter_cff.specs.Read.Entries.Matrices.{thousandth_matrix, zero_box}
+use Rattle.subsetter_cff.specs.Write.Laying.Layout.{FontDict, Parts, Select, Numbers, table_offsets}
+use Rattle.subsetter_cff.specs.Write.Laying.Fits.{Fits}
 use Rattle.subsetter_cff.specs.Write.Plain.{KeptGlyph, kept_glyphs, used_numbers, new_font_dicts, new_select, new_parts, parts_for, counted_parts, parts_of}
 use Rattle.subsetter_cff.specs.Write.Again.{composed, AreGlyphs}
 use Rattle.subsetter_cff.proofs.ReadLaws.Results.{In}
-use Rattle.subsetter_cff.proofs.WriteLaws.MadeOf.{answer_steps, parts_steps}
-use Rattle.subsetter_cff.proofs.WriteLaws.Fronts.{laid_out}
-use Rattle.subsetter_cff.proofs.WriteLaws.Tops.{matrix_is, box_is}
-use Rattle.subsetter_cff.proofs.WriteLaws.Whole.{reads_as}
-use Rattle.subsetter_cff.proofs.WriteLaws.AgainLaws.FontDicts.{keyed_again}
-use Rattle.subsetter_cff.proofs.WriteLaws.AgainLaws.RenumberedUse.{renumbered, used_all, used_again}
+use Rattle.subsetter_cff.proofs.WriteLaws.LayingLaws.MadeOf.{answer_steps, parts_steps}
+use Rattle.subsetter_cff.proofs.WriteLaws.LayingLaws.Fronts.{laid_out}
+use Rattle.subsetter_cff.proofs.WriteLaws.NewDictsLaws.Tops.{matrix_is, box_is}
+use Rattle.subsetter_cff.proofs.WriteLaws.LayingLaws.Whole.{reads_as}
+use Rattle.subsetter_cff.proofs.WriteLaws.AgainLaws.NumberLaws.FontDicts.{keyed_again}
+use Rattle.subsetter_cff.proofs.WriteLaws.AgainLaws.NumberLaws.RenumberedUse.{renumbered, used_all, used_again}
 use Rattle.subsetter_cff.proofs.WriteLaws.AgainLaws.Parts.{same_bind, all_for, same_bytes, same_places, dicts_again, parts, pick, number, order, new_dict, old_kept, new_kept, all_used}
 
 parts_for_same : (cff out : Cff) (ks ks' : List KeptGlyph) (a b c : Option FontString)

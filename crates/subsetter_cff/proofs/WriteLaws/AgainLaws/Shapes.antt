@@ -6,25 +6,25 @@ use Rattle.std.specs.Option.{option_and_then}
 use Rattle.std.specs.Str.{bytes_eq}
 use Rattle.std.proofs.lemmas.Bool.{cases_Bool, eqb-true}
 use Rattle.std.proofs.lemmas.Option.{none-some, same_Some}
-use Rattle.subsetter_cffdata.specs.Numbers.{Number}
-use Rattle.subsetter_cffdata.specs.Dict.{Entry}
-use Rattle.subsetter_cffdata.specs.Values.{thousand, by_1000}
-use Rattle.subsetter_cff.specs.Read.Lookup.{last_after, last_of}
+use Rattle.subsetter_cffdata.specs.Numerals.Numbers.{Number}
+use Rattle.subsetter_cffdata.specs.Dicts.Dict.{Entry}
+use Rattle.subsetter_cffdata.specs.Numerals.Values.{thousand, by_1000}
+use Rattle.subsetter_cff.specs.Read.Entries.Lookup.{last_after, last_of}
 use Rattle.subsetter_cff.specs.Read.Cff.{Cff, is_cid_keyed}
-use Rattle.subsetter_cff.specs.Read.FontDicts.{font_dicts}
-use Rattle.subsetter_cff.specs.Read.Private.{private_at}
-use Rattle.subsetter_cff.specs.Read.Matrices.{thousandth_matrix, zero_box}
-use Rattle.subsetter_cff.specs.Read.Operators.{font_matrix_operator, font_box_operator}
-use Rattle.subsetter_cff.specs.Write.Layout.{FontDict, Parts}
+use Rattle.subsetter_cff.specs.Read.FdArray.FontDicts.{font_dicts}
+use Rattle.subsetter_cff.specs.Read.FdArray.Private.{private_at}
+use Rattle.subsetter_cff.specs.Read.Entries.Matrices.{thousandth_matrix, zero_box}
+use Rattle.subsetter_cff.specs.Read.Entries.Operators.{font_matrix_operator, font_box_operator}
+use Rattle.subsetter_cff.specs.Write.Laying.Layout.{FontDict, Parts}
 use Rattle.subsetter_cff.specs.Write.Made.{new_matrix}
 use Rattle.subsetter_cff.specs.Read.Opened.{meets, all_meet, sound_font_dicts}
-use Rattle.subsetter_cff.specs.Read.OperandDemands.{Demand, top_demands, font_dict_demands}
+use Rattle.subsetter_cff.specs.Read.Entries.OperandDemands.{Demand, top_demands, font_dict_demands}
 use Rattle.subsetter_cff.specs.Write.Plain.{SourceDict, as_source_dict, source_dict, new_font_dicts, parts_of}
 use Rattle.subsetter_cffdata.proofs.Options.{step}
-use Rattle.subsetter_cff.proofs.WriteLaws.FontDictSteps.{dict_made, dict_steps}
-use Rattle.subsetter_cff.proofs.WriteLaws.MadeOf.{answer_steps, parts_steps}
+use Rattle.subsetter_cff.proofs.WriteLaws.NewDictsLaws.FontDictSteps.{dict_made, dict_steps}
+use Rattle.subsetter_cff.proofs.WriteLaws.LayingLaws.MadeOf.{answer_steps, parts_steps}
 use Rattle.subsetter_cff.proofs.ReadLaws.Soundness.{TopIsSound}
-use Rattle.subsetter_cff.proofs.ReadLaws.Holding.{both}
+use Rattle.subsetter_cff.proofs.ReadLaws.EntriesLaws.Holding.{both}
 use Rattle.subsetter_cff.proofs.WriteLaws.AgainLaws.Demands.{Shaped}
 
 -- ---- what all entries meet, the last one of an operator meets

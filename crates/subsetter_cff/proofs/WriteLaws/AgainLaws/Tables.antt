@@ -6,8 +6,8 @@ use Rattle.std.proofs.lemmas.Option.{same_Some, slice_get-get_or}
 use Rattle.std.proofs.lemmas.List.{length-map}
 use Rattle.subsetter_base.specs.Bytes.{◌>>=◌}
 use Rattle.subsetter_cff.specs.Read.Cff.{Cff, cff_parts, is_cid_keyed}
-use Rattle.subsetter_cff.specs.Write.Layout.{Parts, cff_table}
-use Rattle.subsetter_cff.specs.Write.Fits.{Fits}
+use Rattle.subsetter_cff.specs.Write.Laying.Layout.{Parts, cff_table}
+use Rattle.subsetter_cff.specs.Write.Laying.Fits.{Fits}
 use Rattle.subsetter_cff.specs.Read.Opened.{opened}
 use Rattle.subsetter_cff.specs.Write.Plain.{parts_of, cff_subset}
 use Rattle.subsetter_cff.specs.Write.Again.{composed, AreGlyphs, AreAll, IsRequested, IsSameTable, IsGivenBack, StaysFromThenOn}
@@ -15,8 +15,8 @@ use Rattle.subsetter_cff.proofs.ReadLaws.Results.{bind_ok, same_Ok}
 use Rattle.subsetter_cff.proofs.ReadLaws.SourceBytes.{source_of}
 use Rattle.subsetter_cff.proofs.WriteLaws.Headline.{opened_is, answer_fits}
 use Rattle.subsetter_cff.proofs.ReadLaws.Soundness.{TopIsSound, was_opened}
-use Rattle.subsetter_cff.proofs.WriteLaws.Fronts.{laid_out, parts_read}
-use Rattle.subsetter_cff.proofs.WriteLaws.AgainLaws.FontDicts.{keyed_again}
+use Rattle.subsetter_cff.proofs.WriteLaws.LayingLaws.Fronts.{laid_out, parts_read}
+use Rattle.subsetter_cff.proofs.WriteLaws.AgainLaws.NumberLaws.FontDicts.{keyed_again}
 use Rattle.subsetter_cff.proofs.WriteLaws.AgainLaws.Composition.{same_lists, index-map}
 use Rattle.subsetter_cff.proofs.WriteLaws.AgainLaws.SameParts.{parts_again}
 use Rattle.subsetter_cff.proofs.WriteLaws.AgainLaws.Demands.{Shaped}

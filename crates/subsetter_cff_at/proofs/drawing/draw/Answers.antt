@@ -2,7 +2,7 @@ use Rattle.std.proofs.Common.{◌∙◌, ℕ, List, map, ap, sym, refl}
 use Rattle.std.proofs.lemmas.Result.{err_from_is_err_and}
 use Rattle.subsetter_cff2.specs.Made2.{new_dicts}
 use Rattle.subsetter_cff2.specs.Made2View.{dict_view}
-use Rattle.subsetter_cff2.specs.UsedDicts.{index_in}
+use Rattle.subsetter_cff2.specs.Selection.UsedDicts.{index_in}
 use Rattle.subsetter_cff_at.specs.Plain.{dict_bound, present, texts_size, drawn}
 use Rattle.subsetter_cff_at.specs.View.{opened_of}
 use Rattle.subsetter_cff_at.proofs.Calls.{used_is, few_dicts, few_places, places_many, ends_many, drawn_is, drawn_keeps, texts_same, texts_fail}

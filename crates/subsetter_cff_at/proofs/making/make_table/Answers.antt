@@ -1,4 +1,4 @@
-use Rattle.subsetter_cff.specs.Write.TableBy.{table_bytes}
+use Rattle.subsetter_cff.specs.Write.Laying.TableBy.{table_bytes}
 use Rattle.subsetter_cff_at.specs.View.{request_of}
 use Rattle.subsetter_cff_at.proofs.Promises.{answered, clean, refused}
 use Rattle.subsetter_cff_at.proofs.making.make_table.Goals as goal

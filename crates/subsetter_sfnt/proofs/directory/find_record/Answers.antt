@@ -2,7 +2,7 @@ use Rattle.std.proofs.Common.{ℕ, List, Some, ap, sym, ◌∙◌}
 use Rattle.std.specs.Option.{option_and_then}
 use Rattle.subsetter_base.specs.Bytes.{range}
 use Rattle.subsetter_sfnt.specs.Read.{record_of}
-use Rattle.subsetter_sfnt.proofs.Laws.Records.{reads, found_here, found_later}
+use Rattle.subsetter_sfnt.proofs.Laws.LayingLaws.Records.{reads, found_here, found_later}
 use Rattle.subsetter_sfnt.proofs.directory.find_record.Goals as goal
 
 pub returns-then-eq : goal.returns-then-eq

@@ -1,5 +1,5 @@
 use Rattle.std.proofs.Common.{◌≡◌, ◌≤◌, length}
-use Rattle.subsetter_type2.specs.Machine.{unended}
+use Rattle.subsetter_type2.specs.Runs.Machine.{unended}
 use Rattle.subsetter_type2.specs.View.{rests_of}
 use Rattle.subsetter_type2.proofs.rests.next_rest.Given as goal
 

@@ -1,4 +1,4 @@
-use Rattle.subsetter_variation.proofs.Ascending.{are_ascending}
+use Rattle.subsetter_variation.proofs.PackingLaws.Ascending.{are_ascending}
 use Rattle.subsetter_variation.proofs.laws.are_ascending.Goals as goal
 
 pub returns : goal.returns

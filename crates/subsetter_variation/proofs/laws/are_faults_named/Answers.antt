@@ -1,5 +1,5 @@
 -- Both ways.
-use Rattle.subsetter_variation.proofs.GvarFaults.{moving_refused, moving_stops}
+use Rattle.subsetter_variation.proofs.GlyphsLaws.GvarFaults.{moving_refused, moving_stops}
 use Rattle.subsetter_variation.proofs.laws.are_faults_named.Goals as goal
 
 pub returns : goal.returns

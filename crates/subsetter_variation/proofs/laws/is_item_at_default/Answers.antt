@@ -1,4 +1,4 @@
-use Rattle.subsetter_variation.proofs.Items.{is_item_at_default}
+use Rattle.subsetter_variation.proofs.ItemsLaws.Items.{is_item_at_default}
 use Rattle.subsetter_variation.proofs.laws.is_item_at_default.Goals as goal
 
 pub returns : goal.returns

@@ -1,4 +1,4 @@
-use Rattle.subsetter_variation.proofs.StepLaws.{is_passed_over}
+use Rattle.subsetter_variation.proofs.GlyphsLaws.StepLaws.{is_passed_over}
 use Rattle.subsetter_variation.proofs.laws.is_passed_over.Goals as goal
 
 pub returns : goal.returns

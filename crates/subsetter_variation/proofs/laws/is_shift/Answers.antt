@@ -1,4 +1,4 @@
-use Rattle.subsetter_variation.proofs.Turning.{is_shift}
+use Rattle.subsetter_variation.proofs.GlyphsLaws.Turning.{is_shift}
 use Rattle.subsetter_variation.proofs.laws.is_shift.Goals as goal
 
 pub returns : goal.returns

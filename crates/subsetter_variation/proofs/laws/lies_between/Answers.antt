@@ -1,4 +1,4 @@
-use Rattle.subsetter_variation.proofs.Lying.{lies_between}
+use Rattle.subsetter_variation.proofs.GlyphsLaws.Lying.{lies_between}
 use Rattle.subsetter_variation.proofs.laws.lies_between.Goals as goal
 
 pub returns : goal.returns

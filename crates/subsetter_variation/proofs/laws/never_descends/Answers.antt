@@ -1,4 +1,4 @@
-use Rattle.subsetter_variation.proofs.Ascent.{never_descends}
+use Rattle.subsetter_variation.proofs.LocationsLaws.Ascent.{never_descends}
 use Rattle.subsetter_variation.proofs.laws.never_descends.Goals as goal
 
 pub returns : goal.returns

@@ -1,4 +1,4 @@
-use Rattle.subsetter_variation.proofs.Bent.{never_descends_bent}
+use Rattle.subsetter_variation.proofs.LocationsLaws.Bent.{never_descends_bent}
 use Rattle.subsetter_variation.proofs.laws.never_descends_bent.Goals as goal
 
 pub returns : goal.returns

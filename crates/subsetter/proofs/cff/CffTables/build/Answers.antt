@@ -1,6 +1,6 @@
 use Rattle.std.proofs.Common.{List, ℕ, Option}
 use Rattle.std.proofs.lemmas.Result.{err_from_is_err_and}
-use Rattle.subsetter_cff.specs.Write.TableBy.{table_bytes}
+use Rattle.subsetter_cff.specs.Write.Laying.TableBy.{table_bytes}
 use Rattle.subsetter_sfnt.specs.Extras.{requested}
 use Rattle.subsetter_sfnt.specs.Read.{table_in}
 use Rattle.subsetter.proofs.CffLaws.Bound.{table_fails, shared_fails}

@@ -1,5 +1,5 @@
 use Rattle.std.proofs.Common.{◌≡◌, ◌≤◌, ◌-◌, ◌++◌, length, drop}
-use Rattle.subsetter.specs.Glyf.Closure.{others_in}
+use Rattle.subsetter.specs.Glyf.Reaching.Closure.{others_in}
 use Rattle.subsetter.specs.Glyf.Parts.{numbers_at, component_numbers}
 use Rattle.subsetter.proofs.GlyfLaws.Walk.{text_size}
 use Rattle.subsetter.proofs.glyf.component.push_components.Given as goal

@@ -1,7 +1,7 @@
 use Rattle.std.proofs.Common.{◌≡◌, ◌+◌, ◌++◌, ◌≤◌, length, drop}
 use Rattle.std.specs.Prelude.{vec_capacity}
 use Rattle.subsetter.specs.Glyf.Written.{glyf_bytes}
-use Rattle.subsetter_sfnt.specs.Weights.{IsSummed}
+use Rattle.subsetter_sfnt.specs.Laying.Weights.{IsSummed}
 use Rattle.subsetter.proofs.glyf.outlines.write_outlines.Given as goal
 
 abbrev pub invariant-loop-outline : goal.invariant-loop-outline

@@ -1,7 +1,7 @@
 use Rattle.std.proofs.Common.{◌<◌, ◌≤◌, length, arith, sym, ◌∙◌}
 use Rattle.std.proofs.lemmas.Result.{err_from_is_err_and}
 use Rattle.std.proofs.lemmas.Bool.{lt-ltb, le-ltb}
-use Rattle.subsetter_cffdata.specs.IndexView.{items}
+use Rattle.subsetter_cffdata.specs.Indexes.IndexView.{items}
 use Rattle.subsetter_cff.specs.Read.FrontView.{front_of}
 use Rattle.subsetter_cff.proofs.ReadLaws.Opening.{char_strings_at, demands_met, top_is_wrong, top_without_char_strings, top_without_glyphs, top_opens}
 use Rattle.subsetter_cff.proofs.read.source.open_top.Goals as goal

@@ -1,8 +1,8 @@
 use Rattle.std.proofs.Common.{Some, None, map, sym}
 use Rattle.std.proofs.lemmas.Result.{err_from_is_err_and}
-use Rattle.subsetter_cffdata.specs.Dict.{entries}
-use Rattle.subsetter_cffdata.specs.Index.{readable}
-use Rattle.subsetter_cffdata.specs.IndexView.{items}
+use Rattle.subsetter_cffdata.specs.Dicts.Dict.{entries}
+use Rattle.subsetter_cffdata.specs.Indexes.Index.{readable}
+use Rattle.subsetter_cffdata.specs.Indexes.IndexView.{items}
 use Rattle.subsetter_cff.specs.Read.FrontView.{front_of}
 use Rattle.subsetter_cff.specs.Read.Views.{select_view}
 use Rattle.subsetter_cff.proofs.ReadLaws.Opening.{font_dicts_are, no_font_dicts, select_is, all_sound, cid_opens, cid_without_dicts, cid_without_select, cid_refused}

@@ -1,7 +1,7 @@
 use Rattle.std.proofs.Common.{◌∙◌, Some, None}
-use Rattle.subsetter_cffdata.specs.Dict.{entries}
-use Rattle.subsetter_cff.specs.Read.PrivateView.{private_view}
-use Rattle.subsetter_cff.proofs.ReadLaws.OwnPrivates.{own_without, own_with, range_ordered}
+use Rattle.subsetter_cffdata.specs.Dicts.Dict.{entries}
+use Rattle.subsetter_cff.specs.Read.FdArray.PrivateView.{private_view}
+use Rattle.subsetter_cff.proofs.ReadLaws.FdArrayLaws.OwnPrivates.{own_without, own_with, range_ordered}
 use Rattle.subsetter_cff.proofs.read.source.parse_sid_metadata.Goals as goal
 
 pub returns-in_default : goal.returns-in_default

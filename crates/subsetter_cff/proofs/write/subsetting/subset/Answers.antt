@@ -1,5 +1,5 @@
 use Rattle.std.proofs.Common.{arith}
-use Rattle.subsetter_cff.specs.Write.TableBy.{table_bytes}
+use Rattle.subsetter_cff.specs.Write.Laying.TableBy.{table_bytes}
 use Rattle.subsetter_cff.proofs.WriteLaws.Promises.{answered, clean, refused}
 use Rattle.subsetter_cff.proofs.write.subsetting.subset.Goals as goal
 

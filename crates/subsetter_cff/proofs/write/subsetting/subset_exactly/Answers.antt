@@ -3,7 +3,7 @@ use Rattle.std.proofs.lemmas.Result.{err_from_is_err_and}
 use Rattle.subsetter_base.specs.Gives.{Fails}
 use Rattle.subsetter_cff.specs.Read.Opened.{opened}
 use Rattle.subsetter_cff.specs.Read.Source.{cff_of}
-use Rattle.subsetter_cff.specs.Write.TableBy.{table_bytes}
+use Rattle.subsetter_cff.specs.Write.Laying.TableBy.{table_bytes}
 use Rattle.subsetter_cff.proofs.WriteLaws.StepsAgree.{opening_fails, keeping_fails_within, given_within, privates_fail_within, steps_are, parts_fail, few_in_table, made_is, written_is, count_is}
 use Rattle.subsetter_cff.proofs.write.subsetting.subset_exactly.Goals as goal
 

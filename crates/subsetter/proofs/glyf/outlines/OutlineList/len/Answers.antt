@@ -1,7 +1,7 @@
 use Rattle.std.proofs.Common.{length, ap, sym, ◌∙◌}
 use Rattle.std.proofs.lemmas.List.{length-map}
 use Rattle.subsetter.specs.Glyf.Woven.{Listed}
-use Rattle.subsetter.specs.Name.View.{nows}
+use Rattle.subsetter.specs.Common.Name.View.{nows}
 use Rattle.subsetter.proofs.GlyfLaws.Woven.{length-woven}
 use Rattle.subsetter.proofs.glyf.outlines.OutlineList.len.Goals as goal
 

@@ -1,9 +1,9 @@
 use Rattle.std.proofs.Common.{◌≡◌, ℕ, Bool, List, true, false, [], ◌∷◌, ◌++◌, length, Ok, refl, sym, ap, ◌∙◌, arith}
 use Rattle.std.proofs.lemmas.Slice.{pushed}
 use Rattle.subsetter.specs.Glyf.Plain.{rewritten_composite, with_last}
-use Rattle.subsetter.specs.Glyf.Unfold.{padded}
+use Rattle.subsetter.specs.Glyf.Reaching.Unfold.{padded}
 use Rattle.subsetter.specs.Glyf.Woven.{Listed}
-use Rattle.subsetter.proofs.GlyfLaws.Counted.{counted_more}
+use Rattle.subsetter.proofs.GlyfLaws.BareOutlinesLaws.Counted.{counted_more}
 use Rattle.subsetter.proofs.GlyfLaws.KeptList.{behind_ok, written_is}
 use Rattle.subsetter.proofs.GlyfLaws.Woven.{made_last}
 use Rattle.subsetter.proofs.glyf.outlines.OutlineList.push_composite.Goals as goal

@@ -2,7 +2,7 @@ use Rattle.std.proofs.Common.{true, false, [], ◌∷◌, ◌++◌, refl, sym, a
 use Rattle.std.proofs.lemmas.List.{append-nil}
 use Rattle.std.proofs.lemmas.Slice.{pushed}
 use Rattle.subsetter.specs.Glyf.Woven.{Listed}
-use Rattle.subsetter.proofs.GlyfLaws.Counted.{counted_empty}
+use Rattle.subsetter.proofs.GlyfLaws.BareOutlinesLaws.Counted.{counted_empty}
 use Rattle.subsetter.proofs.GlyfLaws.Woven.{made_last}
 use Rattle.subsetter.proofs.glyf.outlines.OutlineList.push_empty.Goals as goal
 

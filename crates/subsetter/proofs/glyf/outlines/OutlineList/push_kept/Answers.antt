@@ -1,8 +1,8 @@
 use Rattle.std.proofs.Common.{true, false, [], ◌∷◌, ◌++◌, length, ap, ◌∙◌, List, ℕ}
-use Rattle.subsetter.specs.Glyf.Bare.{requested_simple}
-use Rattle.subsetter.specs.Glyf.Unfold.{padded}
+use Rattle.subsetter.specs.Glyf.BareOutlines.Bare.{requested_simple}
+use Rattle.subsetter.specs.Glyf.Reaching.Unfold.{padded}
 use Rattle.subsetter.specs.Glyf.Woven.{Listed}
-use Rattle.subsetter.proofs.GlyfLaws.Counted.{counted_more}
+use Rattle.subsetter.proofs.GlyfLaws.BareOutlinesLaws.Counted.{counted_more}
 use Rattle.subsetter.proofs.GlyfLaws.Woven.{kept_last, filled}
 use Rattle.subsetter.proofs.glyf.outlines.OutlineList.push_kept.Goals as goal
 

@@ -1,0 +1,3 @@
+-- Widths and vertical metrics of CIDs (ISO 32000-1, 9.7.4.3).
+pub mod ColumnLaws
+pub mod WidthLaws

@@ -1,0 +1,5 @@
+-- What an argument or a file lists: characters and glyphs.
+pub mod Characters
+pub mod Files
+pub mod ListView
+pub mod Lists

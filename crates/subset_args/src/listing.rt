@@ -1,0 +1,5 @@
+//! What an argument or a file lists: characters and glyphs.
+
+pub(crate) mod characters;
+pub(crate) mod files;
+pub(crate) mod lists;

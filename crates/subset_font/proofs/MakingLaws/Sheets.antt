@@ -1,0 +1,40 @@
+-- The PDF that is made beside the font.
+use Rattle.std.proofs.Common.{◌≡◌, ◌⊎◌, inl, inr, ℕ, List, [], ◌++◌, append-nil, refl, sym, ap, subst}
+use Rattle.subsetter_base.specs.declared.error.Error.TheVariants.{OutOfMemory}
+use Rattle.subset_args.specs.declared.options.PdfChoice.{PdfChoice}
+use Rattle.subset_pdf.specs.Sheet.{HasSheetFault, IsSheetFor}
+use Rattle.subset_pdf.specs.declared.options.PdfRequest.{PdfRequest}
+use Rattle.subset_pdf.specs.declared.sheet.Sheet.{Sheet}
+use Rattle.subset_pdf.specs.declared.sheet.SheetError.{SheetError}
+use Rattle.subset_pdf.specs.declared.sheet.SheetError.TheVariants.{Font}
+use Rattle.subset_font.specs.Making.Sheet.{failure_of, IsRequestOf, IsShown, IsUnshown}
+use Rattle.subset_font.specs.declared.refusals.failure.Failure.{Failure}
+use Rattle.subset_font.specs.declared.refusals.failure.Failure.TheVariants.{Error}
+use Rattle.subset_font.specs.declared.making.subset.Made.{Made}
+use Rattle.subset_font.specs.declared.task.Task.{Task}
+
+module _ (choice : PdfChoice) (task : Task) (bytes : List ℕ) (made : Made) (request : PdfRequest) where
+  pub shown_of : (characters glyphs : List ℕ) (sheet : Sheet) → IsRequestOf task choice request → characters ≡ made.picked.characters.items → glyphs ≡ made.picked.glyphs.items → IsSheetFor bytes request characters glyphs sheet → IsShown choice task bytes made sheet
+  shown_of characters glyphs sheet is c g h = record {
+    request = request;
+    is_requested = is;
+    is_sheet = subst (λ (l : List ℕ). IsSheetFor bytes request made.picked.characters.items l sheet) g (subst (λ (l : List ℕ). IsSheetFor bytes request l glyphs sheet) c h);
+  }
+
+  fault_of : (characters glyphs : List ℕ) (why : SheetError) → IsRequestOf task choice request → characters ≡ made.picked.characters.items → glyphs ≡ made.picked.glyphs.items → HasSheetFault bytes request characters glyphs why → IsUnshown choice task bytes made (failure_of why)
+  fault_of characters glyphs why is c g h = record {
+    request = request;
+    is_requested = is;
+    why = why;
+    failure_is = refl;
+    fault = subst (λ (l : List ℕ). HasSheetFault bytes request made.picked.characters.items l why) g (subst (λ (l : List ℕ). HasSheetFault bytes request l glyphs why) c h);
+  }
+
+  -- a refusal under its name
+  pub unshown_by : (characters glyphs : List ℕ) (why : SheetError) → IsRequestOf task choice request → characters ≡ made.picked.characters.items → glyphs ≡ made.picked.glyphs.items → (why ≡ Font OutOfMemory) ⊎ HasSheetFault bytes request characters glyphs why → (failure_of why ≡ Error OutOfMemory) ⊎ IsUnshown choice task bytes made (failure_of why)
+  unshown_by characters glyphs why is c g (inl memory) = inl (ap failure_of memory)
+  unshown_by characters glyphs why is c g (inr fault) = inr (fault_of characters glyphs why is c g fault)
+
+-- where nothing comes behind
+pub nothing_more : (text : List ℕ) → text ≡ text ++ []
+nothing_more text = sym (append-nil text)

@@ -1,0 +1,132 @@
+-- Which failures there are where nothing is made.
+use Rattle.std.proofs.Common.{◌≡◌, ◌≢◌, ◌⊎◌, inl, inr, ℕ, List, Option, Some, None, Result, Ok, Err, sym, subst}
+use Rattle.std.specs.Prelude.{IfOk, IfErr, IfSome, OnOk}
+use Rattle.subsetter_sfnt.specs.Read.{Font}
+use Rattle.subset_font.specs.Making.Requested.{IsUnasked}
+use Rattle.subsetter_base.specs.declared.error.Error.TheVariants.{UnknownKind, MalformedFont}
+use Rattle.subset_font.specs.Making.Made.{face_of, IsUnmade}
+use Rattle.subset_font.specs.Making.Outcome.{IsOutcome, IsNoOutcome}
+use Rattle.subset_font.specs.Making.Carried.{IsOfMaking, IsFailureOf, IsBeforeWriting}
+use Rattle.subset_font.specs.declared.task.Task.{Task}
+use Rattle.subset_font.specs.declared.task.RequestedGlyphs.{RequestedGlyphs}
+use Rattle.subset_font.specs.declared.task.RequestedGlyphs.TheVariants.{These, Every, ByText, ByCharacters}
+use Rattle.subset_args.specs.declared.options.PdfChoice.{PdfChoice}
+use Rattle.subset_pdf.specs.declared.sheet.SheetError.{SheetError}
+use Rattle.subset_pdf.specs.declared.sheet.SheetError.TheVariants.{Font as RefusedFont, NotPermitted as Forbidden}
+use Rattle.subset_font.specs.Making.Sheet.{failure_of, IsUnshownIf}
+use Rattle.subset_font.specs.declared.making.subset.Made.{Made}
+use Rattle.subset_font.specs.declared.making.outcome.Outcome.{Outcome}
+use Rattle.subset_font.specs.declared.task.Plan.{Plan}
+use Rattle.subset_font.specs.declared.refusals.failure.Failure.{Failure}
+use Rattle.subset_font.specs.declared.refusals.failure.Failure.TheVariants.{Error, NoMapping, NoInstance, NotPermitted, Usage, List as WrongList, Read, ReadList, Write, WritePdf, Output}
+
+unasked_kind : (font : Font) (asked : RequestedGlyphs) (failure : Failure) → IsUnasked font asked failure → IsOfMaking failure
+unasked_kind font (These given) failure u = elim u [ ]
+unasked_kind font Every failure u = subst IsOfMaking (sym u.0) tt
+unasked_kind font (ByText text) failure u = subst IsOfMaking (sym u.0) tt
+unasked_kind font (ByCharacters given) failure u = subst IsOfMaking (sym u.0) tt
+
+unmade_kind : (task : Task) (bytes : List ℕ) (failure : Failure) → IsUnmade task bytes failure → IsOfMaking failure
+unmade_kind task bytes failure (inl memory) = subst IsOfMaking (sym memory) tt
+unmade_kind task bytes failure (inr (inl unasked)) = unasked_kind (face_of task bytes) task.requested failure unasked
+unmade_kind task bytes failure (inr (inr refused)) = subst IsOfMaking (sym refused.failure_is) tt
+
+unplaced_kind : (failure : Failure) → (failure ≡ Error UnknownKind) ⊎ ((failure ≡ Error MalformedFont) ⊎ (failure ≡ NoInstance)) → IsOfMaking failure
+unplaced_kind failure (inl e) = subst IsOfMaking (sym e) tt
+unplaced_kind failure (inr (inl e)) = subst IsOfMaking (sym e) tt
+unplaced_kind failure (inr (inr e)) = subst IsOfMaking (sym e) tt
+
+sheet_error_kind : (why : SheetError) → IsOfMaking (failure_of why)
+sheet_error_kind (RefusedFont e) = tt
+sheet_error_kind (Forbidden permission) = tt
+
+unshown_if_kind : (choice : Option PdfChoice) (task : Task) (bytes : List ℕ) (made : Made) (failure : Failure) → IsUnshownIf choice task bytes made failure → IsOfMaking failure
+unshown_if_kind None task bytes made failure u = elim u [ ]
+unshown_if_kind (Some choice) task bytes made failure u = subst IsOfMaking (sym u.failure_is) (sheet_error_kind u.why)
+
+no_outcome_kind : (plan : Plan) (bytes : List ℕ) (failure : Failure) → IsNoOutcome plan bytes failure → IsOfMaking failure
+no_outcome_kind plan bytes failure (inl memory) = subst IsOfMaking (sym memory) tt
+no_outcome_kind plan bytes failure (inr (inl unplaced)) = unplaced_kind failure unplaced.failure_is
+no_outcome_kind plan bytes failure (inr (inr (inl unmade))) = unmade_kind unmade.task bytes failure unmade.is_unmade
+no_outcome_kind plan bytes failure (inr (inr (inr unshown))) = unshown_if_kind plan.pdf unshown.task bytes unshown.made failure unshown.is_unshown
+
+known_of : (known : Option (List ℕ)) (items bytes : List ℕ) (P : List ℕ → Type 0) → IfSome known (λ all. items ≡ all) → bytes ≡ items → P bytes → IfSome known P
+known_of None items bytes P h b p = tt
+known_of (Some all) items bytes P h b p = subst P h (subst P b p)
+
+-- what is made of the bytes that were read is made of those that the reader had, where these are known
+pub made_of_read : (plan : Plan) (known : Option (List ℕ)) (items bytes : List ℕ) (result : Result Outcome Failure) → IfSome known (λ all. items ≡ all) → bytes ≡ items → IfOk result (IsOutcome plan bytes) → IfOk result (λ outcome. IfSome known (λ all. IsOutcome plan all outcome))
+made_of_read plan known items bytes (Ok outcome) h b m = known_of known items bytes (λ all. IsOutcome plan all outcome) h b m
+made_of_read plan known items bytes (Err e) h b m = tt
+
+pub unmade_of_read : (plan : Plan) (known : Option (List ℕ)) (items bytes : List ℕ) (result : Result Outcome Failure) → IfSome known (λ all. items ≡ all) → bytes ≡ items → IfErr result (IsNoOutcome plan bytes) → IfErr result (IsFailureOf plan known)
+unmade_of_read plan known items bytes (Ok outcome) h b m = tt
+unmade_of_read plan known items bytes (Err e) h b m = inr (no_outcome_kind plan bytes e m, known_of known items bytes (λ all. IsNoOutcome plan all e) h b m)
+
+making_before : (failure : Failure) → IsOfMaking failure → IsBeforeWriting failure
+making_before (Error e) h = tt
+making_before NoMapping h = tt
+making_before NoInstance h = tt
+making_before (NotPermitted permission) h = tt
+making_before Usage h = elim h [ ]
+making_before WrongList h = elim h [ ]
+making_before Read h = elim h [ ]
+making_before ReadList h = elim h [ ]
+making_before Write h = elim h [ ]
+making_before WritePdf h = elim h [ ]
+making_before Output h = elim h [ ]
+
+before : (plan : Plan) (known : Option (List ℕ)) (failure : Failure) → IsFailureOf plan known failure → IsBeforeWriting failure
+before plan known failure (inl read) = subst IsBeforeWriting (sym read) tt
+before plan known failure (inr making) = making_before failure making.0
+
+-- a run that ended so
+abbrev pub ended_by : Failure → Result (Unit {0}) Failure
+ended_by failure = Err failure
+
+-- nothing is made, and so the lines aren't what failed
+pub not_output : (plan : Plan) (known : Option (List ℕ)) (failure : Failure) → IsFailureOf plan known failure → ended_by failure ≡ ended_by Output → ⊥
+not_output plan known failure f e = subst (λ (r : Result (Unit {0}) Failure). IfErr r IsBeforeWriting) e (before plan known failure f)
+
+-- every failure but that of wrong words
+abbrev IsElse : Failure → Type 0
+IsElse (Error e) = Unit {0}
+IsElse NoMapping = Unit {0}
+IsElse NoInstance = Unit {0}
+IsElse (NotPermitted permission) = Unit {0}
+IsElse Usage = ⊥
+IsElse WrongList = Unit {0}
+IsElse Read = Unit {0}
+IsElse ReadList = Unit {0}
+IsElse Write = Unit {0}
+IsElse WritePdf = Unit {0}
+IsElse Output = Unit {0}
+
+making_else : (failure : Failure) → IsOfMaking failure → IsElse failure
+making_else (Error e) h = tt
+making_else NoMapping h = tt
+making_else NoInstance h = tt
+making_else (NotPermitted permission) h = tt
+making_else Usage h = elim h [ ]
+making_else WrongList h = tt
+making_else Read h = tt
+making_else ReadList h = tt
+making_else Write h = tt
+making_else WritePdf h = tt
+making_else Output h = tt
+
+carried_else : (plan : Plan) (known : Option (List ℕ)) (failure : Failure) → IsFailureOf plan known failure ⊎ ((failure ≡ WritePdf) ⊎ ((failure ≡ Write) ⊎ (failure ≡ Output))) → IsElse failure
+carried_else plan known failure (inl (inl read)) = subst IsElse (sym read) tt
+carried_else plan known failure (inl (inr making)) = making_else failure making.0
+carried_else plan known failure (inr (inl page)) = subst IsElse (sym page) tt
+carried_else plan known failure (inr (inr (inl write))) = subst IsElse (sym write) tt
+carried_else plan known failure (inr (inr (inr output))) = subst IsElse (sym output) tt
+
+pub no_usage : (plan : Plan) (known : Option (List ℕ)) (result : Result (Unit {0}) Failure) → IfErr result (λ e. IsFailureOf plan known e ⊎ ((e ≡ WritePdf) ⊎ ((e ≡ Write) ⊎ (e ≡ Output)))) → IfErr result (λ e. e ≢ Usage)
+no_usage plan known (Ok done) h = tt
+no_usage plan known (Err e) h = λ u. subst IsElse u (carried_else plan known e h)
+
+-- what follows from three facts on success
+pub all_ok : (result : Result (Unit {0}) Failure) (A B C D : Type 0) → (A → B → C → D) → OnOk result A → OnOk result B → OnOk result C → OnOk result D
+all_ok (Ok done) A B C D f a b c = f a b c
+all_ok (Err e) A B C D f a b c = tt

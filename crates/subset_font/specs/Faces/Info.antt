@@ -1,0 +1,28 @@
+-- What a face is.
+use Rattle.std.specs.Prelude.{ℕ, List, Option, Some, None, codes}
+use Rattle.std.specs.Option.{option_and_then}
+use Rattle.subsetter_base.specs.Bytes.{number}
+use Rattle.subsetter_sfnt.specs.Read.{Font, stored}
+use Rattle.subset_lines.specs.declared.faces.info.Outlines.{Outlines}
+use Rattle.subset_lines.specs.declared.faces.info.Outlines.TheVariants.{TrueType, Cff, Cff2, Missing}
+
+-- by the tables `CFF ` and `CFF2`
+abbrev pub other_by : Option (List ℕ) → Option (List ℕ) → Outlines
+other_by (Some cff) cff2 = Cff
+other_by None (Some cff2) = Cff2
+other_by None None = Missing
+
+abbrev pub other_outlines : Font → Outlines
+other_outlines font = other_by (stored font (codes "CFF ")) (stored font (codes "CFF2"))
+
+-- and before them by `glyf`
+abbrev pub outlines_by : Option (List ℕ) → Outlines → Outlines
+outlines_by (Some glyf) other = TrueType
+outlines_by None other = other
+
+abbrev pub outlines_of : Font → Outlines
+outlines_of font = outlines_by (stored font (codes "glyf")) (other_outlines font)
+
+-- fsType, at byte 8 (OpenType, "OS/2")
+abbrev pub permission_of : Font → Option ℕ
+permission_of font = option_and_then (λ table. number table 8 2) (stored font (codes "OS/2"))

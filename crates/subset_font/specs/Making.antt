@@ -1,0 +1,6 @@
+-- What is made of the font that is read.
+pub mod Carried
+pub mod Made
+pub mod Outcome
+pub mod Requested
+pub mod Sheet

@@ -1,0 +1,102 @@
+-- What a plan makes of a font that is read, and why it doesn't.
+use Rattle.std.specs.Prelude.{◌≡◌, ◌⊎◌, ℕ, ℤ, Bool, if◌then◌else◌, List, [], ◌++◌, map, length, Option, Some, None, codes}
+use Rattle.std.specs.Borrow.{Bor}
+use Rattle.std.specs.Option.{option_copied}
+use Rattle.subsetter_base.specs.declared.error.Error.TheVariants.{OutOfMemory, UnknownKind, MalformedFont}
+use Rattle.subsetter_base.specs.declared.tag.Tag.{Tag}
+use Rattle.subsetter_sfnt.specs.Read.{Font, as_font, records, stored}
+use Rattle.glyph_names.specs.Names.{glyph_name}
+use Rattle.subset_lines.specs.Objects.Members.{members}
+use Rattle.subset_lines.specs.Faces.Sizes.{sizes_text}
+use Rattle.subset_lines.specs.declared.faces.sizes.TableSize.{TableSize}
+use Rattle.subset_font.specs.Faces.Axes.{axes_known}
+use Rattle.subset_font.specs.Making.Made.{face_of, IsMade, IsUnmade}
+use Rattle.subset_font.specs.Faces.Missing.{missing}
+use Rattle.subset_font.specs.Faces.Named.{face_settings}
+use Rattle.subset_font.specs.Notes.{notes_for}
+use Rattle.subset_font.specs.Making.Sheet.{pdf_text, IsSheetIf, IsUnshownIf}
+use Rattle.subset_pdf.specs.declared.sheet.Sheet.{Sheet}
+use Rattle.subset_font.specs.Faces.Tables.{bytes_or_none, records_in, table_sizes}
+use Rattle.subset_font.specs.declared.task.Task.{Task}
+use Rattle.subset_font.specs.declared.task.Plan.{Plan}
+use Rattle.subset_font.specs.declared.task.Form.{Form}
+use Rattle.subset_font.specs.declared.task.Form.TheVariants.{Lines, Json, Silence}
+use Rattle.subset_font.specs.declared.making.subset.Made.{Made}
+use Rattle.subset_font.specs.declared.making.outcome.Outcome.{Outcome}
+use Rattle.subset_font.specs.declared.refusals.failure.Failure.{Failure}
+use Rattle.subset_font.specs.declared.refusals.failure.Failure.TheVariants.{Error, NoInstance}
+
+-- ---- what is printed behind the numbers
+
+-- the tables of the font that is read and of the new one
+abbrev pub sizes_of : Font → List ℕ → List TableSize
+sizes_of font new = table_sizes (records_in (bytes_or_none (records font))) (records_in (bytes_or_none (records (as_font new))))
+
+abbrev pub sizes_if : Bool → Font → List ℕ → Option (List TableSize)
+sizes_if verbose font new = if verbose then Some (sizes_of font new) else None
+
+-- the members of a JSON object: sizes, tables with `--verbose`, and notes on the coordinates and on characters without a glyph
+abbrev pub members_of : Bool → Option (List (Tag × ℤ)) → Font → Made → List ℕ
+members_of verbose at font made = members (length font.bytes) (length made.font.items) (sizes_if verbose font made.font.items) (axes_known font) (notes_for (axes_known font) at) (missing made.picked.characters.items made.picked.glyphs.items)
+
+abbrev pub more_by : Form → Bool → Option (List (Tag × ℤ)) → Font → Made → Option Sheet → List ℕ
+more_by Lines verbose at font made sheet = if verbose then sizes_text (sizes_of font made.font.items) (length font.bytes) (length made.font.items) else []
+more_by Json verbose at font made sheet = members_of verbose at font made ++ pdf_text sheet
+more_by Silence verbose at font made sheet = []
+
+abbrev pub more_text : Plan → List ℕ → Made → Option Sheet → List ℕ
+more_text plan bytes made sheet = more_by plan.task.form plan.verbose (option_copied plan.task.at) (face_of plan.task bytes) made sheet
+
+-- ---- the names of the glyphs, which a JSON object has
+
+-- by the tables `post` and `CFF ` of a face
+abbrev pub names_of : Font → List ℕ → List (List ℕ)
+names_of font glyphs = map (glyph_name (bytes_or_none (stored font (codes "post"))) (bytes_or_none (stored font (codes "CFF ")))) glyphs
+
+abbrev pub names_by : Form → Font → List ℕ → List (List ℕ)
+names_by Lines font glyphs = []
+names_by Json font glyphs = names_of font glyphs
+names_by Silence font glyphs = []
+
+abbrev pub names_for : Plan → List ℕ → List ℕ → List (List ℕ)
+names_for plan bytes glyphs = names_by plan.task.form (face_of plan.task bytes) glyphs
+
+-- ---- what is made
+
+-- the task of a plan: as it is given, or at the coordinates of the named instance
+pub data IsPlaced (plan : Plan) (bytes : List ℕ) : Task → Type 0 where
+  as_given : option_copied plan.instance ≡ None → IsPlaced plan bytes plan.task
+  at_instance : (name : List ℕ) (at : Bor (List (Tag × ℤ))) → option_copied plan.instance ≡ Some name → face_settings (face_of plan.task bytes) name ≡ Some at.now → IsPlaced plan bytes (record plan.task { at = Some at })
+
+pub record IsOutcome (plan : Plan) (bytes : List ℕ) (outcome : Outcome) : Type 0 where
+  pub task : Task
+  pub is_placed : IsPlaced plan bytes task
+  pub is_made : IsMade task bytes outcome.made
+  -- with the PDF, if one is requested
+  pub sheet_is : IsSheetIf plan.pdf task bytes outcome.made outcome.sheet
+  pub more_is : outcome.more.items ≡ more_text plan bytes outcome.made outcome.sheet
+  pub names_are : map (λ name. name.items) outcome.names.items ≡ names_for plan bytes outcome.made.picked.glyphs.items
+
+-- the font has no such instance, or its `fvar` can't be read
+pub record IsUnplaced (plan : Plan) (bytes : List ℕ) (failure : Failure) : Type 0 where
+  pub name : List ℕ
+  pub is_name : option_copied plan.instance ≡ Some name
+  pub is_missing : face_settings (face_of plan.task bytes) name ≡ None
+  pub failure_is : (failure ≡ Error UnknownKind) ⊎ ((failure ≡ Error MalformedFont) ⊎ (failure ≡ NoInstance))
+
+-- or the task is refused
+pub record IsUnmadePlan (plan : Plan) (bytes : List ℕ) (failure : Failure) : Type 0 where
+  pub task : Task
+  pub is_placed : IsPlaced plan bytes task
+  pub is_unmade : IsUnmade task bytes failure
+
+-- or the PDF of what the task makes
+pub record IsUnshownPlan (plan : Plan) (bytes : List ℕ) (failure : Failure) : Type 0 where
+  pub task : Task
+  pub is_placed : IsPlaced plan bytes task
+  pub made : Made
+  pub is_made : IsMade task bytes made
+  pub is_unshown : IsUnshownIf plan.pdf task bytes made failure
+
+abbrev pub IsNoOutcome : Plan → List ℕ → Failure → Type 0
+IsNoOutcome plan bytes failure = (failure ≡ Error OutOfMemory) ⊎ (IsUnplaced plan bytes failure ⊎ (IsUnmadePlan plan bytes failure ⊎ IsUnshownPlan plan bytes failure))

@@ -1,0 +1,79 @@
+-- The PDF that is made beside the font, and why there is none.
+use Rattle.std.specs.Prelude.{◌≡◌, ℕ, ℤ, List, [], length, Option, Some, None, unwrap_or, IsSome, IfSome}
+use Rattle.std.specs.Option.{option_copied}
+use Rattle.subsetter_base.specs.declared.tag.Tag.{Tag}
+use Rattle.subset_args.specs.declared.options.PdfChoice.{PdfChoice}
+use Rattle.subset_lines.specs.Objects.Pdf.{pdf_member}
+use Rattle.pdf_sheet.specs.declared.frame.Layout.{Layout}
+use Rattle.pdf_sheet.specs.declared.frame.Layout.TheVariants.{Line, Grid}
+use Rattle.subset_pdf.specs.Sheet.{HasSheetFault, IsSheetFor}
+use Rattle.subset_pdf.specs.declared.options.PdfRequest.{PdfRequest}
+use Rattle.subset_pdf.specs.declared.sheet.Sheet.{Sheet}
+use Rattle.subset_pdf.specs.declared.sheet.SheetError.{SheetError}
+use Rattle.subset_pdf.specs.declared.sheet.SheetError.TheVariants.{Font, NotPermitted as Forbidden}
+use Rattle.subset_font.specs.declared.refusals.failure.Failure.{Failure}
+use Rattle.subset_font.specs.declared.refusals.failure.Failure.TheVariants.{Error, NotPermitted}
+use Rattle.subset_font.specs.declared.making.subset.Made.{Made}
+use Rattle.subset_font.specs.declared.task.RequestedGlyphs.{RequestedGlyphs}
+use Rattle.subset_font.specs.declared.task.RequestedGlyphs.TheVariants.{These, Every, ByText, ByCharacters}
+use Rattle.subset_font.specs.declared.task.Task.{Task}
+
+-- the glyphs of a text are shown in a line, others in a grid
+abbrev pub layout_of : RequestedGlyphs → Layout
+layout_of (These given) = Grid
+layout_of Every = Grid
+layout_of (ByText text) = Line
+layout_of (ByCharacters given) = Grid
+
+abbrev pub settings_of : Option (List (Tag × ℤ)) → List (Tag × ℤ)
+settings_of at = unwrap_or at []
+
+-- the PDF that a task requests
+pub record IsRequestOf (task : Task) (choice : PdfChoice) (request : PdfRequest) : Type 0 where
+  pub index : request.index ≡ task.index
+  pub at : request.at.now ≡ settings_of (option_copied task.at)
+  pub limits : request.limits ≡ task.options.limits
+  pub hinting : request.hinting ≡ task.options.extras.hinting
+  pub choice_is : request.choice ≡ choice
+  pub layout : request.layout ≡ layout_of task.requested
+
+-- a sheet of the font and the glyphs of what a task made
+pub record IsShown (choice : PdfChoice) (task : Task) (bytes : List ℕ) (made : Made) (sheet : Sheet) : Type 0 where
+  pub request : PdfRequest
+  pub is_requested : IsRequestOf task choice request
+  pub is_sheet : IsSheetFor bytes request made.picked.characters.items made.picked.glyphs.items sheet
+
+abbrev pub IsSheetIf : Option PdfChoice → Task → List ℕ → Made → Option Sheet → Type 0
+IsSheetIf None task bytes made sheet = sheet ≡ None
+IsSheetIf (Some choice) task bytes made sheet = IsSome sheet × IfSome sheet (IsShown choice task bytes made)
+
+-- ---- why there is none
+
+abbrev pub failure_of : SheetError → Failure
+failure_of (Font e) = Error e
+failure_of (Forbidden permission) = NotPermitted permission
+
+pub record IsUnshown (choice : PdfChoice) (task : Task) (bytes : List ℕ) (made : Made) (failure : Failure) : Type 0 where
+  pub request : PdfRequest
+  pub is_requested : IsRequestOf task choice request
+  pub why : SheetError
+  pub failure_is : failure ≡ failure_of why
+  pub fault : HasSheetFault bytes request made.picked.characters.items made.picked.glyphs.items why
+
+abbrev pub IsUnshownIf : Option PdfChoice → Task → List ℕ → Made → Failure → Type 0
+IsUnshownIf None task bytes made failure = ⊥
+IsUnshownIf (Some choice) task bytes made failure = IsUnshown choice task bytes made failure
+
+-- ---- what is written and printed of it
+
+abbrev pub page_of : Option Sheet → List ℕ
+page_of None = []
+page_of (Some sheet) = sheet.file.items
+
+-- the member of a JSON object
+abbrev pub pdf_text_of : Sheet → List ℕ
+pdf_text_of sheet = pdf_member (length sheet.file.items) sheet.font.descriptor.font_name.items sheet.font.codes.items
+
+abbrev pub pdf_text : Option Sheet → List ℕ
+pdf_text None = []
+pdf_text (Some sheet) = pdf_text_of sheet

@@ -1,0 +1,4 @@
+-- Why a run of the program ends without a subset.
+pub mod Failure
+pub mod Hint
+pub mod LimitHint

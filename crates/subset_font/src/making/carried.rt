@@ -1,0 +1,83 @@
+//! A plan from the font that is read to the PDF, the font and the numbers that are written.
+
+ghost use Rattle.std.specs.Prelude.{◌≡◌, ◌⊎◌, IfOk, IfErr, IfSome, OnOk, IsErrOf};
+ghost use Rattle.std.specs.Io.KnownBytes.{IsAtEnd};
+ghost use Rattle.subset_font.specs.Making.Outcome.{IsOutcome, IsNoOutcome};
+ghost use Rattle.subset_font.specs.Making.Carried.{IsBeforeWriting, IsFailureOf, WritesFont, WritesAll};
+ghost use Rattle.subset_font.specs.declared.refusals.failure.Failure.TheVariants.{Read as CannotRead, Write as CannotWrite, WritePdf as CannotWritePdf, Output};
+
+use crate::refusals::failure::Failure;
+use crate::making::outcome::{Outcome, make_planned};
+use crate::output::emit;
+use crate::task::Plan;
+use std::alloc::Global;
+use std::io::{Read, Write};
+
+/// The bytes that a reader has left, with room for so many taken at once.
+pub fn read_whole<R: Read>(alloc: Global, reader: &mut R, room: usize) -> Result<Vec<u8>, Failure>
+    ensures bytes { IfOk result (λ font. IfSome (R.remaining reader.old) (λ bytes. font.items ≡ bytes)) }
+    ensures end { OnOk result (IsAtEnd (R.remaining reader.new)) }
+    ensures err { IfErr result (λ e. e ≡ CannotRead) }
+{
+    let mut font = match Vec::with_capacity(alloc, room) {
+        Ok(font) => font,
+        Err(_) => return Err(Failure::Read),
+    };
+    if reader.read_to_end(&mut font).is_err() {
+        return Err(Failure::Read);
+    }
+    Ok(font)
+}
+
+/// What a plan makes of the font from a reader, whose bytes are kept. Room for so many bytes of the font is taken at once.
+fn make_from<R: Read>(
+    alloc: Global,
+    plan: &Plan<'_>,
+    reader: &mut R,
+    room: usize,
+    source: &mut Vec<u8>,
+) -> Result<Outcome, Failure>
+    ensures ok { IfOk result (λ outcome. IfSome (R.remaining reader.old) (λ bytes. IsOutcome plan.now bytes outcome)) }
+    ensures err { IfErr result (IsFailureOf plan.now (R.remaining reader.old)) }
+{
+    let font = read_whole(alloc, reader, room)?;
+    let outcome = make_planned(alloc, &font, plan);
+    *source = font;
+    outcome
+}
+
+/// Reads the font from the reader, writes the PDF of its glyphs to one writer, if one is requested, its subset to another, and
+/// the new numbers to the third. The bytes that were read are kept. Room for so many of them is taken at once.
+///
+/// `Read` where the reader fails; `Error`, `NoMapping` or `NoInstance` where the glyphs or the font are refused, or the font
+/// has no widths that are requested; `NotPermitted` where it may not be embedded into the PDF; `WritePdf`, `Write` and `Output`
+/// where a writer fails. A writer is first used when all is made.
+pub fn carry_out<R: Read, P: Write, W: Write, L: Write>(
+    alloc: Global,
+    plan: &Plan<'_>,
+    reader: &mut R,
+    room: usize,
+    source: &mut Vec<u8>,
+    page: &mut P,
+    output: &mut W,
+    lines: &mut L,
+) -> Result<(), Failure>
+    ensures ok { OnOk result (WritesAll plan.now (R.remaining reader.old) (P.contents page.old) (P.contents page.new) (W.contents output.old) (W.contents output.new) (L.contents lines.old) (L.contents lines.new)) }
+    // All writers are as they were where the font can't be read or is refused.
+    ensures page_kept { IfErr result (λ e. IsBeforeWriting e → page.new ≡ page.old) }
+    ensures output_kept { IfErr result (λ e. IsBeforeWriting e → output.new ≡ output.old) }
+    ensures lines_kept { IfErr result (λ e. IsBeforeWriting e → lines.new ≡ lines.old) }
+    // Nothing else is written before the whole PDF.
+    ensures no_font { IsErrOf result Failure.WritePdf → output.new ≡ output.old }
+    ensures no_line { IsErrOf result Failure.WritePdf → lines.new ≡ lines.old }
+    // No line is written before the whole font.
+    ensures unwritten { IsErrOf result Failure.Write → lines.new ≡ lines.old }
+    ensures written { IsErrOf result Failure.Output → WritesFont plan.now (R.remaining reader.old) (W.contents output.old) (W.contents output.new) }
+    // Why nothing is written.
+    ensures err { IfErr result (λ e. IsFailureOf plan.now (R.remaining reader.old) e ⊎ ((e ≡ CannotWritePdf) ⊎ ((e ≡ CannotWrite) ⊎ (e ≡ Output)))) }
+{
+    match make_from(alloc, plan, reader, room, source) {
+        Ok(outcome) => emit(&outcome, plan.task.form, page, output, lines),
+        Err(failure) => Err(failure),
+    }
+}

@@ -1,8 +1,0 @@
-use Rattle.std.proofs.Common.{drop, map}
-use Rattle.subset_lines.specs.Axes.{shown}
-use Rattle.subset_lines.specs.Quoted.{escaped}
-use Rattle.subset_lines.proofs.Written.{Reaches}
-use Rattle.subset_lines.proofs.quoted.write_shown_bytes.Given as goal
-
-abbrev pub invariant-loop-byte : goal.invariant-loop-byte
-invariant-loop-byte g l = Reaches (g.W.Write.contents l.fn.out) (g.W.Write.contents l.out) (escaped (map shown (drop l.byte-index l.text))) (escaped (map shown l.text))

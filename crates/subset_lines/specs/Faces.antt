@@ -1,0 +1,5 @@
+-- What a face is: its axes, its names, its tables.
+pub mod Axes
+pub mod Info
+pub mod Names
+pub mod Sizes

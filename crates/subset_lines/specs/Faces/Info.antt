@@ -1,0 +1,129 @@
+-- What a face is, as lines and as one JSON object (RFC 8259).
+use Rattle.std.specs.Prelude.{ℕ, ◌/◌, ◌%◌, ◌==◌, not, Bool, true, false, if◌then◌else◌, List, [], ◌∷◌, ◌++◌, map, Option, Some, None, codes, decimal}
+use Rattle.std.specs.Option.{option_copied}
+use Rattle.subsetter_base.specs.declared.tag.Tag.{Tag}
+use Rattle.subset_lines.specs.Faces.Axes.{shown}
+use Rattle.subset_lines.specs.Objects.Json.{number_or_null}
+use Rattle.subset_lines.specs.Objects.Quoted.{quoted}
+use Rattle.subset_lines.specs.declared.faces.info.Outlines.{Outlines}
+use Rattle.subset_lines.specs.declared.faces.info.Outlines.TheVariants.{TrueType, Cff, Cff2, Missing}
+use Rattle.subset_lines.specs.declared.faces.info.Info.{Info}
+
+-- ---- what its maker permits (OpenType, "OS/2", "fsType")
+
+-- a bit, by its mask
+abbrev pub has_bit : ℕ → ℕ → Bool
+has_bit bits mask = not (bits / mask % 2 == 0)
+
+abbrev pub word_if : Bool → List ℕ → List (List ℕ)
+word_if true word = word ∷ []
+word_if false word = []
+
+-- none of the bits 1 to 3 is installable embedding
+abbrev pub words_of_bits : ℕ → List (List ℕ)
+words_of_bits bits =
+    ((((word_if (bits % 16 / 2 == 0) (codes "installable embedding")
+    ++ word_if (has_bit bits 2) (codes "restricted license embedding"))
+    ++ word_if (has_bit bits 4) (codes "preview and print embedding"))
+    ++ word_if (has_bit bits 8) (codes "editable embedding"))
+    ++ word_if (has_bit bits 256) (codes "no subsetting"))
+    ++ word_if (has_bit bits 512) (codes "bitmap embedding only")
+
+abbrev pub permission_words : Option ℕ → List (List ℕ)
+permission_words None = []
+permission_words (Some bits) = words_of_bits bits
+
+abbrev pub outlines_name : Outlines → List ℕ
+outlines_name TrueType = codes "TrueType"
+outlines_name Cff = codes "CFF"
+outlines_name Cff2 = codes "CFF2"
+outlines_name Missing = codes "none"
+
+-- ---- lines
+
+abbrev pub line_behind : List ℕ → List ℕ → List ℕ
+line_behind front word = front ++ word ++ codes "\n"
+
+-- a line for each of the words, behind a text
+abbrev pub lines_behind : List ℕ → List (List ℕ) → List ℕ
+lines_behind front [] = []
+lines_behind front (word ∷ words) = line_behind front word ++ lines_behind front words
+
+abbrev pub permission_lines : List (List ℕ) → List ℕ
+permission_lines words = lines_behind (codes "permission ") words
+
+abbrev pub outlines_end : Bool → List ℕ
+outlines_end is_variable = if is_variable then codes ", variable\n" else codes "\n"
+
+abbrev pub outlines_line : Info → List ℕ
+outlines_line info = codes "outlines " ++ outlines_name info.outlines ++ outlines_end info.is_variable
+
+abbrev pub glyphs_line : Option ℕ → List ℕ
+glyphs_line None = codes "glyphs not given\n"
+glyphs_line (Some count) = codes "glyphs " ++ decimal count ++ codes "\n"
+
+abbrev pub counts_lines : ℕ → ℕ → List ℕ
+counts_lines faces bytes = codes "faces " ++ decimal faces ++ codes "\nbytes " ++ decimal bytes ++ codes "\n"
+
+-- a text as a line behind another, if there is one
+abbrev pub if_any : List ℕ → Option (List ℕ) → List ℕ
+if_any front None = []
+if_any front (Some text) = front ++ text ++ codes "\n"
+
+-- what `subset` answers for every glyph
+abbrev pub refusal_lines : Option (List ℕ) → Option (List ℕ) → List ℕ
+refusal_lines None reason = codes "subset accepts every glyph\n"
+refusal_lines (Some refusal) reason = if_any (codes "subset refuses: ") (Some refusal) ++ if_any (codes "reason: ") reason
+
+-- `table glyf 46248`
+abbrev pub table_line : Tag → ℕ → List ℕ
+table_line tag size = codes "table " ++ map shown tag.0 ++ codes " " ++ decimal size ++ codes "\n"
+
+abbrev pub table_lines : List (Tag × ℕ) → List ℕ
+table_lines [] = []
+table_lines (t ∷ tables) = table_line t.0 t.1 ++ table_lines tables
+
+abbrev pub head_lines : Info → List (List ℕ) → List ℕ
+head_lines info words = outlines_line info ++ counts_lines info.faces info.bytes ++ glyphs_line info.glyphs ++ permission_lines words ++ refusal_lines (option_copied info.refusal) (option_copied info.reason)
+
+abbrev pub info_lines : Info → List ℕ
+info_lines info = head_lines info (permission_words info.permission) ++ table_lines info.tables.now
+
+-- ---- JSON
+
+-- strings, with a text in front of the first and a comma between each two
+abbrev pub strings : List ℕ → List (List ℕ) → List ℕ
+strings before [] = []
+strings before (word ∷ words) = (before ++ quoted word) ++ strings (codes ",") words
+
+abbrev pub string_or_null : Option (List ℕ) → List ℕ
+string_or_null None = codes "null"
+string_or_null (Some text) = quoted text
+
+abbrev pub table_object : Tag → ℕ → List ℕ
+table_object tag size = codes "{\"tag\":" ++ quoted (map shown tag.0) ++ codes ",\"bytes\":" ++ decimal size ++ codes "}"
+
+abbrev pub table_objects : List ℕ → List (Tag × ℕ) → List ℕ
+table_objects before [] = []
+table_objects before (t ∷ tables) = (before ++ table_object t.0 t.1) ++ table_objects (codes ",") tables
+
+abbrev pub variable_member : Bool → List ℕ
+variable_member is_variable = if is_variable then codes ",\"variable\":true" else codes ",\"variable\":false"
+
+abbrev pub outlines_members : Info → List ℕ
+outlines_members info = codes "{\"outlines\":" ++ quoted (outlines_name info.outlines) ++ variable_member info.is_variable
+
+abbrev pub counts_members : Info → List ℕ
+counts_members info = codes ",\"faces\":" ++ decimal info.faces ++ codes ",\"bytes\":" ++ decimal info.bytes ++ codes ",\"glyphs\":" ++ number_or_null info.glyphs
+
+abbrev pub refusal_members : Info → List (List ℕ) → List ℕ
+refusal_members info words = codes ",\"permission\":[" ++ strings [] words ++ codes "],\"refusal\":" ++ string_or_null (option_copied info.refusal) ++ codes ",\"reason\":" ++ string_or_null (option_copied info.reason)
+
+abbrev pub tables_member : List (Tag × ℕ) → List ℕ
+tables_member tables = codes ",\"tables\":[" ++ table_objects [] tables ++ codes "]}\n"
+
+abbrev pub info_members : Info → List (List ℕ) → List ℕ
+info_members info words = outlines_members info ++ counts_members info ++ refusal_members info words ++ tables_member info.tables.now
+
+abbrev pub info_json : Info → List ℕ
+info_json info = info_members info (permission_words info.permission)

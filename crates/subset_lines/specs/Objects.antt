@@ -1,0 +1,6 @@
+-- JSON objects (RFC 8259).
+pub mod AxesJson
+pub mod Json
+pub mod Members
+pub mod Pdf
+pub mod Quoted

@@ -1,0 +1,6 @@
+//! What a face is: its axes, its names, its tables.
+
+pub(crate) mod axes;
+pub(crate) mod info;
+pub(crate) mod names;
+pub(crate) mod sizes;

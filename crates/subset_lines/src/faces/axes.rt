@@ -1,0 +1,268 @@
+//! The axes of a variable font and its named instances (OpenType, "fvar"), as lines.
+
+ghost use Rattle.std.specs.Prelude.{◌≡◌, ◌⊎◌, ◌++◌, [], codes, map, OnOk, IfOk, IfErr, Some, None};
+ghost use Rattle.std.specs.Io.KnownBytes.{Appends};
+ghost use Rattle.std.specs.Option.{ok_or, option_copied};
+ghost use Rattle.subset_lines.specs.Faces.Names.{name_of};
+ghost use Rattle.subsetter_base.specs.Gives.{Gives};
+ghost use Rattle.subsetter_base.specs.declared.error.Error.TheVariants.{MalformedFont, OutOfMemory};
+ghost use Rattle.subsetter_variation.specs.Locations.Axes.{axes};
+ghost use Rattle.subset_lines.specs.Faces.Axes.{shown, behind_blank, numbers_text, axis_line, axis_lines, records_at, instances_of, instances, coordinate_text, settings_text, instance_line, instance_lines, text_of};
+ghost use Rattle.subset_lines.specs.Fixed.{fixed_text};
+ghost use Rattle.subsetter_base.specs.Bytes.{number};
+
+use crate::entry::Unwritten;
+use crate::fixed::write_fixed;
+use crate::faces::names::{string_for, write_behind};
+use crate::plain::flush;
+use crate::text::write_text;
+use std::alloc::Global;
+use std::io::Write;
+use subsetter_base::read::{Reader, after_four};
+use subsetter_base::{Error, Tag};
+use subsetter_variation::locations::axes::{Axis, axes};
+use subsetter_variation::fvar::{
+    axes_array_offset, axis_count, axis_size, instance_count, instance_size,
+};
+
+// ---- reading
+
+/// So many records of one size each.
+#[tactic(auto, using(crate::proofs::Listed::slices_step, crate::proofs::Listed::records_cut))]
+fn records_at(
+    alloc: Global,
+    count: u16,
+    size: usize,
+    fvar: &[u8],
+    at: usize,
+) -> Result<Vec<&[u8]>, Error>
+    ensures { Gives (λ v. map (λ bytes. bytes.now) v.items) result (ok_or (records_at count size fvar.now at) MalformedFont) }
+{
+    let mut r = Reader::new_at(fvar, at);
+    let mut records = Vec::new(alloc);
+    for i in 0..count {
+        let bytes = r.read_bytes(size).ok_or(Error::MalformedFont)?;
+        records.push(bytes)?;
+    }
+    Ok(records)
+}
+
+/// The records of named instances behind so many axes.
+fn instances_of(
+    alloc: Global,
+    at: u16,
+    axes: u16,
+    axis_size: u16,
+    count: u16,
+    size: u16,
+    fvar: &[u8],
+) -> Result<Vec<&[u8]>, Error>
+    ensures { Gives (λ v. map (λ bytes. bytes.now) v.items) result (ok_or (instances_of at axes axis_size count size fvar.now) MalformedFont) }
+{
+    if count == 0 {
+        return Ok(Vec::new(alloc));
+    }
+    let (at, axes, axis_size, size) = (
+        at as usize,
+        axes as usize,
+        axis_size as usize,
+        size as usize,
+    );
+    if size < 4 + 4 * axes {
+        return Err(Error::MalformedFont);
+    }
+    records_at(alloc, count, size, fvar, at + axes * axis_size)
+}
+
+/// The records of the named instances.
+#[tactic(auto, unfolding(crate::specs::Faces::Axes::instances))]
+fn instances(alloc: Global, fvar: &[u8]) -> Result<Vec<&[u8]>, Error>
+    ensures { Gives (λ v. map (λ bytes. bytes.now) v.items) result (ok_or (instances fvar.now) MalformedFont) }
+{
+    let at = axes_array_offset(fvar).ok_or(Error::MalformedFont)?;
+    let axes = axis_count(fvar).ok_or(Error::MalformedFont)?;
+    let axis_size = axis_size(fvar).ok_or(Error::MalformedFont)?;
+    let count = instance_count(fvar).ok_or(Error::MalformedFont)?;
+    let size = instance_size(fvar).ok_or(Error::MalformedFont)?;
+    instances_of(alloc, at, axes, axis_size, count, size, fvar)
+}
+
+/// The axes of a variable font, the records of its named instances, and its table `name`.
+#[derive(Drop)]
+pub struct FontAxes<'a> {
+    pub axes: Vec<Axis>,
+    pub instances: Vec<&'a [u8]>,
+    pub names: &'a [u8],
+}
+
+/// The axes and the named instances that `fvar` lists, whose names are in another table. A cut `fvar` is `MalformedFont`.
+pub fn read_axes<'a>(alloc: Global, fvar: &'a [u8], names: &'a [u8]) -> Result<FontAxes<'a>, Error>
+    ensures axes { IfOk result (λ a. axes fvar.now ≡ Some a.axes.items) }
+    ensures instances { IfOk result (λ a. instances fvar.now ≡ Some (map (λ bytes. bytes.now) a.instances.items)) }
+    ensures names { IfOk result (λ a. a.names.now ≡ names.now) }
+    ensures err { IfErr result (λ e. (e ≡ OutOfMemory) ⊎ ((e ≡ MalformedFont) × ((axes fvar.now ≡ None) ⊎ (instances fvar.now ≡ None)))) }
+{
+    let axes = axes(alloc, fvar)?;
+    let instances = instances(alloc, fvar)?;
+    Ok(FontAxes {
+        axes,
+        instances,
+        names,
+    })
+}
+
+// ---- writing
+
+/// A byte as it is shown: a printable one of ASCII, and `?` for another.
+pub fn shown(byte: u8) -> u8
+    ensures { result ≡ shown byte }
+{
+    if byte >= 32 && byte < 127 { byte } else { b'?' }
+}
+
+/// The bytes of a tag, each as it is shown.
+pub fn tag_bytes(tag: Tag) -> [u8; 4]
+    ensures { result ≡ map shown tag.0 }
+{
+    let [a, b, c, d] = *tag.get();
+    [shown(a), shown(b), shown(c), shown(d)]
+}
+
+/// Writes a tag.
+pub fn write_tag<W: Write>(tag: Tag, out: &mut W) -> Result<(), Unwritten>
+    ensures { OnOk result (Appends (W.contents out.old) (W.contents out.new) (map shown tag.0)) }
+{
+    write_text(&tag_bytes(tag), out)
+}
+
+/// Writes a coordinate behind a blank.
+#[tactic(auto, using(crate::proofs::Written::both), unfolding(crate::specs::Faces::Axes::behind_blank))]
+fn write_behind_blank<W: Write>(value: i32, out: &mut W) -> Result<(), Unwritten>
+    ensures { OnOk result (Appends (W.contents out.old) (W.contents out.new) (behind_blank value)) }
+{
+    write_text(b" ", out)?;
+    write_fixed(value, out)
+}
+
+/// Writes the least coordinate of an axis, its default and its greatest coordinate.
+#[tactic(auto, using(crate::proofs::Written::both), unfolding(crate::specs::Faces::Axes::numbers_text))]
+fn write_numbers<W: Write>(axis: &Axis, out: &mut W) -> Result<(), Unwritten>
+    ensures { OnOk result (Appends (W.contents out.old) (W.contents out.new) (numbers_text axis.now)) }
+{
+    write_behind_blank(axis.minimum, out)?;
+    write_behind_blank(axis.default, out)?;
+    write_behind_blank(axis.maximum, out)
+}
+
+/// Writes the line of an axis.
+#[tactic(auto, using(crate::proofs::Written::both), unfolding(crate::specs::Faces::Axes::axis_line))]
+fn write_axis<W: Write>(axis: &Axis, out: &mut W) -> Result<(), Unwritten>
+    ensures { OnOk result (Appends (W.contents out.old) (W.contents out.new) (axis_line axis.now)) }
+{
+    write_text(b"axis ", out)?;
+    write_tag(axis.tag, out)?;
+    write_numbers(axis, out)?;
+    write_text(b"\n", out)
+}
+
+/// Writes a line for each axis.
+#[tactic(auto, using(crate::proofs::Written::at_first, crate::proofs::Written::after_part, crate::proofs::Written::at_last))]
+fn write_axis_lines<W: Write>(axes: &[Axis], out: &mut W) -> Result<(), Unwritten>
+    ensures { OnOk result (Appends (W.contents out.old) (W.contents out.new) (axis_lines axes.now)) }
+{
+    for axis in axes {
+        write_axis(axis, out)?;
+    }
+    Ok(())
+}
+
+/// Writes the coordinate that four bytes say.
+pub fn write_coordinate<W: Write>(bytes: &[u8], out: &mut W) -> Result<(), Unwritten>
+    ensures { OnOk result (Appends (W.contents out.old) (W.contents out.new) (coordinate_text (number bytes.now 0 4))) }
+{
+    match Reader::new(bytes).read::<u32>() {
+        Some(bits) => write_fixed(bits.cast_signed(), out),
+        None => Ok(()),
+    }
+}
+
+/// Writes an axis with the coordinate that four bytes say, behind a text.
+#[tactic(auto, using(crate::proofs::Written::both))]
+fn write_setting<W: Write>(
+    before: &[u8],
+    tag: Tag,
+    bytes: &[u8],
+    out: &mut W,
+) -> Result<(), Unwritten>
+    ensures { OnOk result (Appends (W.contents out.old) (W.contents out.new) (before.now ++ map shown tag.0 ++ codes "=" ++ coordinate_text (number bytes.now 0 4))) }
+{
+    write_text(before, out)?;
+    write_tag(tag, out)?;
+    write_text(b"=", out)?;
+    write_coordinate(bytes, out)
+}
+
+/// Writes each axis with its coordinate, as `--at` takes them.
+#[tactic(auto, using(crate::proofs::Written::at_first, crate::proofs::Written::after_part, crate::proofs::Written::at_last))]
+fn write_settings<W: Write>(axes: &[Axis], bytes: &[u8], out: &mut W) -> Result<(), Unwritten>
+    ensures { OnOk result (Appends (W.contents out.old) (W.contents out.new) (settings_text [] axes.now bytes.now)) }
+{
+    let mut before = b"".as_slice();
+    let mut rest = bytes;
+    for axis in axes {
+        write_setting(before, axis.tag, rest, out)?;
+        before = b",".as_slice();
+        rest = after_four(rest);
+    }
+    Ok(())
+}
+
+/// The name of a named instance, if there is one.
+pub fn name_of<'a>(names: &'a [u8], bytes: &[u8]) -> Option<&'a [u8]>
+    ensures { option_copied result ≡ name_of names.now (number bytes.now 0 2) }
+{
+    string_for(names, Reader::new(bytes).read::<u16>()?)
+}
+
+/// Writes the line of a named instance.
+#[tactic(auto, using(crate::proofs::Written::both))]
+fn write_instance<W: Write>(
+    axes: &[Axis],
+    names: &[u8],
+    bytes: &[u8],
+    out: &mut W,
+) -> Result<(), Unwritten>
+    ensures { OnOk result (Appends (W.contents out.old) (W.contents out.new) (instance_line axes.now names.now bytes.now)) }
+{
+    write_text(b"instance ", out)?;
+    write_settings(axes, after_four(bytes), out)?;
+    write_behind(name_of(names, bytes), out)?;
+    write_text(b"\n", out)
+}
+
+/// Writes a line for each named instance.
+#[tactic(auto, using(crate::proofs::Written::at_first, crate::proofs::Written::after_part, crate::proofs::Written::at_last))]
+fn write_instance_lines<W: Write>(
+    axes: &[Axis],
+    names: &[u8],
+    records: &[&[u8]],
+    out: &mut W,
+) -> Result<(), Unwritten>
+    ensures { OnOk result (Appends (W.contents out.old) (W.contents out.new) (instance_lines axes.now names.now (map (λ bytes. bytes.now) records.now))) }
+{
+    for bytes in records {
+        write_instance(axes, names, bytes, out)?;
+    }
+    Ok(())
+}
+
+/// Writes a line for each axis, as `axis wght 100 400 900` (the tag, the least coordinate, the default and the greatest one),
+/// and one for each named instance, as `instance wght=650,wdth=87.5 Semi Bold`. Then it passes on what the writer keeps back.
+#[tactic(auto, using(crate::proofs::Written::both, crate::proofs::Written::flushed))]
+pub fn write_axes<W: Write>(all: &FontAxes<'_>, out: &mut W) -> Result<(), Unwritten>
+    ensures { OnOk result (Appends (W.contents out.old) (W.contents out.new) (text_of all.now.axes.items all.now.names.now (map (λ bytes. bytes.now) all.now.instances.items))) }
+{
+    write_axis_lines(&all.axes, out)?;
+    write_instance_lines(&all.axes, all.names, &all.instances, out)?;
+    flush(out)
+}

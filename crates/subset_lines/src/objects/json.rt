@@ -1,0 +1,214 @@
+//! The new numbers as JSON.
+
+ghost use Rattle.std.specs.Prelude.{◌≡◌, ◌++◌, [], map, OnOk, IfOk, codes, decimal};
+ghost use Rattle.std.specs.Io.KnownBytes.{Appends};
+ghost use Rattle.subset_lines.specs.Objects.Json.{character_member, number_or_null, name_member, object_of, objects, widths_member, glyphs_member, json_of, numbers_from, array_of};
+ghost use Rattle.subset_lines.specs.View.{numbers_view};
+
+use crate::entry::{Numbering, Unwritten, take_first, take_name};
+use crate::plain::flush;
+use crate::objects::quoted::write_shown;
+use crate::text::write_text;
+use std::alloc::Global;
+use std::io::Write;
+
+/// Writes the member that has a character's number, if there is a character.
+fn write_character<W: Write>(character: Option<char>, out: &mut W) -> Result<(), Unwritten>
+    ensures { OnOk result (Appends (W.contents out.old) (W.contents out.new) (character_member character)) }
+{
+    let Some(character) = character else {
+        return Ok(());
+    };
+    let code = u32::from(character);
+    if write!(out, "\"character\":{code},").is_err() {
+        return Err(Unwritten);
+    }
+    Ok(())
+}
+
+/// Writes a new number, if there is one.
+fn write_new<W: Write>(new: Option<u16>, out: &mut W) -> Result<(), Unwritten>
+    ensures { OnOk result (Appends (W.contents out.old) (W.contents out.new) (number_or_null new)) }
+{
+    let Some(new) = new else {
+        return write_text(b"null", out);
+    };
+    if write!(out, "{new}").is_err() {
+        return Err(Unwritten);
+    }
+    Ok(())
+}
+
+/// Writes the two members that have a glyph's numbers.
+#[tactic(auto, using(crate::proofs::Written::both))]
+fn write_old<W: Write>(old: u16, new: Option<u16>, out: &mut W) -> Result<(), Unwritten>
+    ensures { OnOk result (Appends (W.contents out.old) (W.contents out.new) (codes "\"old\":" ++ decimal old ++ codes ",\"new\":" ++ number_or_null new)) }
+{
+    if write!(out, "\"old\":{old},\"new\":").is_err() {
+        return Err(Unwritten);
+    }
+    write_new(new, out)
+}
+
+/// Writes the member that has a glyph's name, unless it is empty.
+#[tactic(auto, using(crate::proofs::Written::both))]
+fn write_name<W: Write>(name: &[u8], out: &mut W) -> Result<(), Unwritten>
+    ensures { OnOk result (Appends (W.contents out.old) (W.contents out.new) (name_member name.now)) }
+{
+    if name.is_empty() {
+        return Ok(());
+    }
+    write_text(b",\"name\":", out)?;
+    write_shown(name, out)
+}
+
+/// Writes the object of a glyph, behind a text.
+#[tactic(auto, using(crate::proofs::Written::both))]
+fn write_object<W: Write>(
+    before: &[u8],
+    character: Option<char>,
+    name: &[u8],
+    old: u16,
+    new: Option<u16>,
+    out: &mut W,
+) -> Result<(), Unwritten>
+    ensures { OnOk result (Appends (W.contents out.old) (W.contents out.new) (before.now ++ object_of character name.now old new)) }
+{
+    write_text(before, out)?;
+    write_text(b"{", out)?;
+    write_character(character, out)?;
+    write_old(old, new, out)?;
+    write_name(name, out)?;
+    write_text(b"}", out)
+}
+
+/// Writes the objects of the glyphs.
+#[tactic(auto, using(crate::proofs::Written::at_first, crate::proofs::Written::after_part, crate::proofs::Written::at_last))]
+fn write_entries<W: Write>(numbering: &Numbering<'_>, out: &mut W) -> Result<(), Unwritten>
+    ensures { OnOk result (Appends (W.contents out.old) (W.contents out.new) (objects [] numbering.now.mapper.now numbering.now.characters.now (map (λ name. name.items) numbering.now.names.now) numbering.now.glyphs.now)) }
+{
+    let mapper = numbering.mapper;
+    let mut characters = numbering.characters;
+    let mut names = numbering.names;
+    let mut before = b"".as_slice();
+    for glyph in numbering.glyphs {
+        let (character, others) = take_first(characters);
+        let (name, more) = take_name(names);
+        write_object(before, character, name, *glyph, mapper.get(*glyph), out)?;
+        characters = others;
+        names = more;
+        before = b",".as_slice();
+    }
+    Ok(())
+}
+
+/// Writes the member that has the widths, unless their text is empty.
+#[tactic(auto, using(crate::proofs::Written::both))]
+fn write_widths<W: Write>(text: &[u8], out: &mut W) -> Result<(), Unwritten>
+    ensures { OnOk result (Appends (W.contents out.old) (W.contents out.new) (widths_member text.now)) }
+{
+    if text.is_empty() {
+        return Ok(());
+    }
+    write_text(b",\"widths\":", out)?;
+    write_text(text, out)
+}
+
+/// Writes the objects of the glyphs between two texts.
+#[tactic(auto, using(crate::proofs::Written::both))]
+fn write_between<W: Write>(
+    front: &[u8],
+    numbering: &Numbering<'_>,
+    behind: &[u8],
+    out: &mut W,
+) -> Result<(), Unwritten>
+    ensures { OnOk result (Appends (W.contents out.old) (W.contents out.new) (front.now ++ objects [] numbering.now.mapper.now numbering.now.characters.now (map (λ name. name.items) numbering.now.names.now) numbering.now.glyphs.now ++ behind.now)) }
+{
+    write_text(front, out)?;
+    write_entries(numbering, out)?;
+    write_text(behind, out)
+}
+
+/// Writes the member that has the glyphs, and what opens the object.
+fn write_glyphs<W: Write>(numbering: &Numbering<'_>, out: &mut W) -> Result<(), Unwritten>
+    ensures { OnOk result (Appends (W.contents out.old) (W.contents out.new) (glyphs_member (numbers_view numbering.now))) }
+{
+    write_between(b"{\"glyphs\":[", numbering, b"]", out)
+}
+
+/// Writes the object.
+#[tactic(auto, using(crate::proofs::Written::both))]
+fn write_members<W: Write>(
+    numbering: &Numbering<'_>,
+    text: &[u8],
+    members: &[u8],
+    out: &mut W,
+) -> Result<(), Unwritten>
+    ensures { OnOk result (Appends (W.contents out.old) (W.contents out.new) (json_of (numbers_view numbering.now) text.now members.now)) }
+{
+    write_glyphs(numbering, out)?;
+    write_widths(text, out)?;
+    write_text(members, out)?;
+    write_text(b"}\n", out)
+}
+
+/// Writes the new numbers of the glyphs as one JSON object, with the text of an array of widths, unless it is empty, and the
+/// text of further members. Then it passes on what the writer keeps back.
+#[tactic(auto, using(crate::proofs::Written::flushed))]
+pub fn write_json<W: Write>(
+    numbering: &Numbering<'_>,
+    text: &[u8],
+    members: &[u8],
+    out: &mut W,
+) -> Result<(), Unwritten>
+    ensures { OnOk result (Appends (W.contents out.old) (W.contents out.new) (json_of (numbers_view numbering.now) text.now members.now)) }
+{
+    write_members(numbering, text, members, out)?;
+    flush(out)
+}
+
+/// Writes a number behind a text.
+#[tactic(auto, using(crate::proofs::Written::both))]
+fn write_number<W: Write>(before: &[u8], number: u32, out: &mut W) -> Result<(), Unwritten>
+    ensures { OnOk result (Appends (W.contents out.old) (W.contents out.new) (before.now ++ decimal number)) }
+{
+    write_text(before, out)?;
+    if write!(out, "{number}").is_err() {
+        return Err(Unwritten);
+    }
+    Ok(())
+}
+
+/// Writes numbers with a comma between each two.
+#[tactic(auto, using(crate::proofs::Written::at_first, crate::proofs::Written::after_part, crate::proofs::Written::at_last))]
+fn write_numbers<W: Write>(numbers: &[u32], out: &mut W) -> Result<(), Unwritten>
+    ensures { OnOk result (Appends (W.contents out.old) (W.contents out.new) (numbers_from [] numbers.now)) }
+{
+    let mut before = b"".as_slice();
+    for number in numbers {
+        write_number(before, *number, out)?;
+        before = b",".as_slice();
+    }
+    Ok(())
+}
+
+/// Writes an array of numbers.
+#[tactic(auto, using(crate::proofs::Written::both))]
+fn write_array<W: Write>(numbers: &[u32], out: &mut W) -> Result<(), Unwritten>
+    ensures { OnOk result (Appends (W.contents out.old) (W.contents out.new) (array_of numbers.now)) }
+{
+    write_text(b"[", out)?;
+    write_numbers(numbers, out)?;
+    write_text(b"]", out)
+}
+
+/// The text of an array of numbers.
+///
+/// `Unwritten` where a request for memory was refused.
+pub fn json_numbers(alloc: Global, numbers: &[u32]) -> Result<Vec<u8>, Unwritten>
+    ensures { IfOk result (λ text. text.items ≡ array_of numbers.now) }
+{
+    let mut text = Vec::new(alloc);
+    write_array(numbers, &mut text)?;
+    Ok(text)
+}

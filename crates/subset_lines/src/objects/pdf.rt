@@ -1,0 +1,86 @@
+//! What a JSON object says of a PDF.
+
+ghost use Rattle.std.specs.Prelude.{◌≡◌, ◌++◌, [], OnOk, IfOk, codes, decimal};
+ghost use Rattle.std.specs.Io.KnownBytes.{Appends};
+ghost use Rattle.subset_lines.specs.Objects.Json.{array_of, numbers_from};
+ghost use Rattle.subset_lines.specs.Objects.Pdf.{name_member, pdf_member, pdf_open};
+
+use crate::entry::Unwritten;
+use crate::objects::quoted::write_quoted;
+use crate::text::{write_count, write_text};
+use std::alloc::Global;
+use std::io::Write;
+
+/// Writes codes with a comma between each two.
+#[tactic(auto, using(crate::proofs::Written::at_first, crate::proofs::Written::after_part, crate::proofs::Written::at_last))]
+fn write_codes<W: Write>(numbers: &[u16], out: &mut W) -> Result<(), Unwritten>
+    ensures { OnOk result (Appends (W.contents out.old) (W.contents out.new) (numbers_from [] numbers.now)) }
+{
+    let mut before = b"".as_slice();
+    for number in numbers {
+        write_count(before, u64::from(*number), out)?;
+        before = b",".as_slice();
+    }
+    Ok(())
+}
+
+/// Writes an array of codes.
+#[tactic(auto, using(crate::proofs::Written::both))]
+fn write_array<W: Write>(numbers: &[u16], out: &mut W) -> Result<(), Unwritten>
+    ensures { OnOk result (Appends (W.contents out.old) (W.contents out.new) (array_of numbers.now)) }
+{
+    write_text(b"[", out)?;
+    write_codes(numbers, out)?;
+    write_text(b"]", out)
+}
+
+/// Writes the name of the font.
+#[tactic(auto, using(crate::proofs::Written::both))]
+fn write_name<W: Write>(name: &[u8], out: &mut W) -> Result<(), Unwritten>
+    ensures { OnOk result (Appends (W.contents out.old) (W.contents out.new) (name_member name.now)) }
+{
+    write_text(b",\"font\":", out)?;
+    write_quoted(name, out)
+}
+
+/// Writes what opens the member: the bytes of the PDF, and the name of its font.
+#[tactic(auto, using(crate::proofs::Written::both))]
+fn write_open<W: Write>(size: u64, name: &[u8], out: &mut W) -> Result<(), Unwritten>
+    ensures { OnOk result (Appends (W.contents out.old) (W.contents out.new) (pdf_open size name.now)) }
+{
+    write_count(b",\"pdf\":{\"size\":", size, out)?;
+    write_name(name, out)
+}
+
+/// Writes the member.
+#[tactic(auto, using(crate::proofs::Written::both))]
+fn write_member<W: Write>(
+    size: u64,
+    name: &[u8],
+    numbers: &[u16],
+    out: &mut W,
+) -> Result<(), Unwritten>
+    ensures { OnOk result (Appends (W.contents out.old) (W.contents out.new) (pdf_member size name.now numbers.now)) }
+{
+    write_open(size, name, out)?;
+    write_text(b",\"codes\":", out)?;
+    write_array(numbers, out)?;
+    write_text(b"}", out)
+}
+
+/// The text of the member `"pdf"` of a JSON object, with a comma in front of it: the bytes of the PDF, the name of its font, and
+/// the code of each glyph.
+///
+/// `Unwritten` where a request for memory was refused.
+pub fn json_pdf(
+    alloc: Global,
+    size: u64,
+    name: &[u8],
+    numbers: &[u16],
+) -> Result<Vec<u8>, Unwritten>
+    ensures { IfOk result (λ text. text.items ≡ pdf_member size name.now numbers.now) }
+{
+    let mut text = Vec::new(alloc);
+    write_member(size, name, numbers, &mut text)?;
+    Ok(text)
+}

@@ -1,0 +1,7 @@
+-- Outlines without their instructions.
+pub mod Bare
+mod BareRows
+pub mod Counted
+pub mod Counts
+pub mod NoInstructions
+pub mod Sizes

@@ -1,7 +1,0 @@
-use Rattle.std.proofs.Common.{length, ap, arith}
-use Rattle.subsetter.specs.Hmtx.Written.{MetricBytes}
-use Rattle.subsetter.proofs.HmtxLaws.Written.{length-hmtx}
-use Rattle.subsetter.proofs.hmtx.NewMetrics.hmtx_len.Goals as goal
-
-pub returns : goal.returns
-returns c = omega (arith, length-hmtx c.self.inside.number_of_h_metrics c.self.inside.metrics.items c.self.invariant.within, ap (λ (m : MetricBytes). length m.hmtx) c.self.view_is, c.len.ensures, c.from.ensures)

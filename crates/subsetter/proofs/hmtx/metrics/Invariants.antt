@@ -1,9 +1,0 @@
-use Rattle.std.proofs.Common.{◌≡◌, ◌+◌, length}
-use Rattle.subsetter_base.proofs.Results.{with_front}
-use Rattle.subsetter.specs.Hmtx.Written.{metrics_all}
-use Rattle.subsetter.proofs.hmtx.metrics.Given as goal
-
-abbrev pub invariant-loop-glyph : goal.invariant-loop-glyph
-invariant-loop-glyph l =
-    (with_front l.metrics.items (metrics_all l.hmtx l.count l.glyph-iterator) ≡ metrics_all l.hmtx l.count l.mapper)
-    × (length l.metrics.items + length l.glyph-iterator ≡ length l.mapper)

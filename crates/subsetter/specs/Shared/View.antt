@@ -1,9 +1,0 @@
--- What the code's shared tables stand for.
-use Rattle.std.specs.Option.{option_map}
-use Rattle.std.specs.Cow.{cow_slice_items}
-use Rattle.subsetter.specs.declared.shared.SharedTables.{SharedTables as Made}
-use Rattle.subsetter.specs.Name.View.{name_seen}
-use Rattle.subsetter.specs.Shared.Plain.{SharedTables}
-
-abbrev pub shared_seen : Made → SharedTables
-shared_seen m = record { head = m.head; metrics = m.metrics; maxp = m.maxp; name = option_map name_seen m.name; post = option_map cow_slice_items m.post }

@@ -1,0 +1,6 @@
+-- The run of a CFF2 charstring.
+pub mod Acts
+pub mod BlendLaws
+pub mod Blends
+pub mod Runs
+pub mod Stacks

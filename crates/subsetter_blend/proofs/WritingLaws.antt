@@ -1,0 +1,6 @@
+-- The charstring that is written.
+pub mod Fits
+pub mod FittingLaws
+pub mod Places
+pub mod SplitLaws
+pub mod Splits

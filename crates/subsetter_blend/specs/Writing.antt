@@ -1,0 +1,8 @@
+-- The charstring that is written.
+pub mod Flex
+pub mod Placed
+pub mod Says
+pub mod Split
+pub mod Stems
+pub mod Taking
+pub mod Written

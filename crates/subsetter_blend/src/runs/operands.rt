@@ -1,0 +1,123 @@
+//! The operands on the stack.
+
+ghost use Rattle.std.specs.Prelude.{◌≡◌, ◌≤◌, ◌<◌, ◌^◌, ◌++◌, ◌∷◌, [], Some, All, IfSome, OnOk, IfErr, length, unsigned_abs};
+ghost use Rattle.subsetter_blend.specs.Runs.Blend.{blended, scalars_in};
+ghost use Rattle.subsetter_blend.specs.Runs.Machine.{last_operand, but_last};
+ghost use Rattle.subsetter_blend.specs.Runs.Number.{IsWithin};
+ghost use Rattle.subsetter_blend.specs.Runs.Operands.{IsBlendFault};
+
+use crate::runs::regions::Regions;
+use crate::runs::sharing::vary_front;
+use std::marker::Model;
+use subsetter_base::error::Error;
+
+/// How many operands the stack holds (OpenType, "CFF2 CharString Format").
+pub const MAX_OPERANDS: usize = 513;
+
+/// The numbers that no operator has taken yet, in parts.
+#[derive(Drop)]
+pub struct Operands {
+    items: [i64; 513],
+    len: usize,
+}
+
+impl Model for Operands {
+    ghost use Rattle.std.specs.Prelude.{ℤ, List, take};
+    ghost use Rattle.subsetter_blend.specs.Runs.Operands.{AreHeld};
+
+    ghost Value = { List ℤ };
+
+    ghost view = { λ s. take s.len s.items };
+
+    ghost invariant = { λ s. AreHeld s.items s.len };
+}
+
+impl Operands {
+    /// No operands.
+    pub fn new() -> Self
+        ensures { result ≡ [] }
+    {
+        Operands {
+            items: [0; 513],
+            len: 0,
+        }
+    }
+
+    /// How many operands there are.
+    pub fn len(&self) -> usize
+        ensures len { result ≡ length self.now }
+        ensures room { length self.now ≤ 513 }
+    {
+        self.len
+    }
+
+    /// The operands, the last one pushed last.
+    pub fn as_slice(&self) -> &[i64]
+        ensures same { result.now ≡ self.now }
+        ensures few { length self.now ≤ 513 }
+        ensures within { All IsWithin self.now }
+    {
+        &self.items[..self.len]
+    }
+
+    /// Puts an operand on the top.
+    pub fn push(&mut self, operand: i64)
+        requires room { length self.old < 513 }
+        requires within { unsigned_abs operand ≤ 2 ^ 45 }
+        ensures { self.new ≡ self.old ++ operand ∷ [] }
+    {
+        self.items[self.len] = operand;
+        self.len += 1;
+    }
+
+    /// Takes the operand at the top.
+    pub fn pop(&mut self) -> Option<i64>
+        ensures value { result ≡ last_operand self.old }
+        ensures rest { self.new ≡ but_last self.old }
+        ensures within { IfSome result (λ z. unsigned_abs z ≤ 2 ^ 45) }
+    {
+        if self.len == 0 {
+            return None;
+        }
+        self.len -= 1;
+        Some(self.items[self.len])
+    }
+
+    /// Takes all operands away.
+    pub fn clear(&mut self)
+        ensures { self.new ≡ [] }
+    {
+        self.len = 0;
+    }
+
+    /// The last operands, so many defaults and their deltas, give way to as many results.
+    #[tactic(auto, unfolding(crate::specs::Runs::Blend::blended))]
+    pub fn blend<R: Regions>(
+        &mut self,
+        n: u16,
+        regions: &R,
+        data_index: u16,
+        count: usize,
+    ) -> Result<(), Error>
+        requires regions { count ≡ length (scalars_in (R.scalars regions.now data_index)) }
+        requires few { count ≤ 65535 }
+        ensures ok { OnOk result (blended (scalars_in (R.scalars regions.now data_index)) n self.old ≡ Some self.new) }
+        ensures within { OnOk result (All IsWithin self.new) }
+        ensures err { IfErr result (IsBlendFault (blended (scalars_in (R.scalars regions.now data_index)) n self.old)) }
+    {
+        let n = n as usize;
+        if n * (count + 1) > self.len {
+            return Err(Error::CFFError);
+        }
+        let base = self.len - n * (count + 1);
+        vary_front(
+            &mut self.items[base..self.len],
+            n,
+            regions,
+            data_index,
+            count,
+        )?;
+        self.len = base + n;
+        Ok(())
+    }
+}

@@ -1,0 +1,68 @@
+//! The run of a charstring with a stack of its callers' rests.
+
+ghost use Rattle.std.specs.Prelude.{◌≡◌, ◌∷◌, ◌<◌, ◌≤◌, length, OnOk, IfOk, IfErr};
+ghost use Rattle.subsetter_type2.specs.Runs.Machine.{rests_after};
+ghost use Rattle.subsetter_type2.specs.View.{rests_of};
+ghost use Rattle.subsetter_blend.specs.Runs.Machine.{run_all};
+ghost use Rattle.subsetter_blend.specs.Runs.MachineView.{setting_of, lead_of};
+ghost use Rattle.subsetter_blend.specs.Writing.Taking.{Did};
+
+use crate::runs::machine::{Flow, Machine, Subroutines};
+use crate::runs::regions::Regions;
+use crate::writing::taking::Takes;
+use subsetter_base::error::Error;
+use subsetter_type2::runs::fixed_stack::FixedStack;
+use subsetter_type2::limits::Limits;
+use subsetter_type2::rests::innermost;
+
+/// The rests of the callers, at most 255.
+type Rests<'a> = FixedStack<&'a [u8], 255>;
+
+/// What runs after a token that leads there.
+fn follow<'a>(rests: &mut Rests<'a>, flow: Flow<'a>, depth: u8) -> Result<&'a [u8], Error>
+    requires fits { length rests.old < depth }
+    ensures ok { IfOk result (λ running. running.now ∷ rests_of rests.new ≡ rests_after (lead_of flow.entry) (rests_of rests.old)) }
+    ensures deep { OnOk result (length (rests_after (lead_of flow.entry) (rests_of rests.old)) ≤ depth) }
+    ensures room { OnOk result (length rests.new < depth) }
+    ensures err { IfErr result (λ e. (e ≡ Error.CFFError) × (depth < length (rests_after (lead_of flow.entry) (rests_of rests.old)))) }
+{
+    match flow {
+        Flow::GoesOn(rest) => Ok(rest),
+        Flow::Calls(body, rest) => {
+            if rests.len() + 1 >= depth as usize {
+                return Err(Error::CFFError);
+            }
+            rests.push(rest);
+            Ok(body)
+        }
+    }
+}
+
+/// Runs a glyph's own charstring, where these item variation data count.
+pub fn run<'a, S: Takes, R: Regions>(
+    sink: &mut S,
+    subroutines: &Subroutines<'a>,
+    regions: &R,
+    limits: &Limits,
+    data_index: u16,
+    charstring: &'a [u8],
+) -> Result<(), Error>
+    ensures { Did (run_all S.taken (setting_of subroutines.now (R.scalars regions.now)) limits.now.tokens limits.now.depth data_index charstring.now) sink.old sink.new result }
+{
+    let mut machine = Machine::new(data_index);
+    let mut rests: Rests<'a> = FixedStack::new(charstring);
+    let mut running = charstring;
+    let mut tokens = limits.tokens();
+    while let Some(current) = innermost(running, &mut rests) {
+        if tokens == 0 {
+            return Err(Error::CFFError);
+        }
+        tokens -= 1;
+        let flow = machine.act_at(sink, subroutines, regions, current)?;
+        running = follow(&mut rests, flow, limits.depth())?;
+    }
+    if machine.operands.len() != 0 {
+        return Err(Error::CFFError);
+    }
+    Ok(())
+}

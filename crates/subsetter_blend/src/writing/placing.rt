@@ -1,0 +1,127 @@
+//! Exact operands as whole ones.
+
+ghost use Rattle.std.specs.Prelude.{◌≡◌, ◌≤◌, ◌+◌, ◌^◌, All, None, Some, IfSome, MatchOption, length, unsigned_abs};
+ghost use Rattle.subsetter_blend.specs.Writing.Placed.{IsPosition, gone, number_of, is_short, step, still, placed, short};
+
+use crate::axes::{Along, moves_along};
+use crate::runs::parts::{is_within, whole};
+use subsetter_cffdata::numerals::charstring_number::CharStringNumber;
+use subsetter_cffdata::dicts::operator::Operator;
+use subsetter_type2::runs::fixed_stack::FixedStack;
+use subsetter_variation::rounding::minus;
+
+/// An exact place, in parts.
+#[derive(Clone, Copy, Debug)]
+pub struct Position {
+    pub x: i64,
+    pub y: i64,
+}
+
+/// The whole operands of an operator, its width among them.
+pub type Numbers = FixedStack<CharStringNumber, 48>;
+
+/// A number of 16 bits.
+fn is_short(value: i64) -> bool
+    ensures { result ≡ is_short value }
+{
+    -32768 <= value && value <= 32767
+}
+
+/// A whole number, if it fits.
+fn short(value: i64) -> Option<CharStringNumber>
+    ensures { result ≡ short value }
+{
+    if !is_short(value) {
+        return None;
+    }
+    Some(CharStringNumber::Integer(value as i16))
+}
+
+/// From a coordinate to the next one.
+#[tactic(auto, unfolding(crate::specs::Writing::Placed::step))]
+fn step(old: i64, new: i64) -> Option<CharStringNumber>
+    requires old { unsigned_abs old ≤ 2 ^ 45 }
+    requires new { unsigned_abs new ≤ 2 ^ 60 }
+    ensures value { result ≡ step old new }
+    ensures within { IfSome result (λ _. unsigned_abs new ≤ 2 ^ 45) }
+{
+    if !is_within(new) {
+        return None;
+    }
+    let end = whole(new);
+    if !is_short(end) {
+        return None;
+    }
+    short(minus(end, whole(old)))
+}
+
+/// What is no move.
+#[tactic(auto, unfolding(crate::specs::Writing::Placed::still))]
+fn still(value: i64) -> Option<CharStringNumber>
+    requires { unsigned_abs value ≤ 2 ^ 60 }
+    ensures { result ≡ still value }
+{
+    if !is_within(value) {
+        return None;
+    }
+    short(whole(value))
+}
+
+/// Where a move goes.
+fn goes(along: Along, by: i64, at: Position) -> Position
+    requires at { IsPosition at }
+    requires by { unsigned_abs by ≤ 2 ^ 59 }
+    ensures value { result ≡ gone along by at }
+    ensures x { unsigned_abs result.x ≤ 2 ^ 60 }
+    ensures y { unsigned_abs result.y ≤ 2 ^ 60 }
+{
+    match along {
+        Along::X => Position {
+            x: at.x + by,
+            y: at.y,
+        },
+        Along::Y => Position {
+            x: at.x,
+            y: at.y + by,
+        },
+        Along::Still => at,
+    }
+}
+
+/// The whole operand of a move.
+fn number_of(along: Along, by: i64, at: Position, to: Position) -> Option<CharStringNumber>
+    requires at { IsPosition at }
+    requires by { unsigned_abs by ≤ 2 ^ 59 }
+    requires to { to ≡ gone along by at }
+    ensures value { result ≡ number_of along by at }
+    ensures within { IfSome result (λ _. IsPosition to) }
+{
+    match along {
+        Along::X => step(at.x, to.x),
+        Along::Y => step(at.y, to.y),
+        Along::Still => still(by),
+    }
+}
+
+/// All moves of an operator: where they go, if all numbers fit. The whole operands stand behind those that there are.
+pub fn place_all(
+    operator: Operator,
+    operands: &[i64],
+    start: Position,
+    numbers: &mut Numbers,
+) -> Option<Position>
+    requires room { length numbers.old + length operands.now ≤ 48 }
+    requires start { IsPosition start }
+    requires small { All (λ v. unsigned_abs v ≤ 2 ^ 59) operands.now }
+    ensures value { MatchOption result (placed operator (length operands.now) 0 operands.now (record { at = start; numbers = numbers.old }) ≡ None) (λ at. placed operator (length operands.now) 0 operands.now (record { at = start; numbers = numbers.old }) ≡ Some (record { at = at; numbers = numbers.new })) }
+    ensures within { IfSome result IsPosition }
+{
+    let mut at = start;
+    for i in 0..operands.len() {
+        let along = moves_along(operator, operands.len(), i);
+        let to = goes(along, operands[i], at);
+        numbers.push(number_of(along, operands[i], at, to)?);
+        at = to;
+    }
+    Some(at)
+}

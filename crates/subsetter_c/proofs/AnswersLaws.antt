@@ -1,0 +1,4 @@
+-- How answers are handed to C.
+mod Bytes
+mod Lists
+mod Made

@@ -1,0 +1,5 @@
+-- Fonts and files for PDF, handed to C.
+mod PdfFonts
+mod PdfGlyphs
+mod PdfLaws
+mod PdfObjects

@@ -1,0 +1,253 @@
+-- What is said of a font that was laid out for C is what `pdf_objects` says of the font itself.
+use Rattle.std.proofs.Common.{◌≡◌, ◌<◌, ℕ, zero, suc, ◌+◌, Bool, true, false, List, [], ◌∷◌, ◌++◌, length, get_or, map, take, refl, ap, ◌∙◌, arith, ℤ, Option, Some, None, Vec, Global}
+use Rattle.std.specs.Prelude.{◌==◌, if◌then◌else◌, min, is_some, pos, unsigned_abs}
+use Rattle.std.specs.Option.{option_map}
+use Rattle.std.proofs.lemmas.List.{length-append, length-map}
+use Rattle.subsetter_base.specs.declared.tag.Tag.{Tag}
+use Rattle.subsetter_base.proofs.Options.{just_is}
+use Rattle.subsetter_sfnt.specs.Read.{Font, as_font, stored}
+use Rattle.cid_embed.specs.Width.{width}
+use Rattle.pdf_codes.specs.Codes.{Used}
+use Rattle.pdf_codes.specs.Cmaps.Leading.{are_cids, own_cmap, pairs_of_codes, pairs_with, text_of}
+use Rattle.pdf_codes.specs.declared.shown.Shown.{Shown}
+use Rattle.pdf_font.specs.PdfFont.{IsCidSetIf, IsPdfFont}
+use Rattle.pdf_font.specs.declared.font.PdfFont.{PdfFont}
+use Rattle.pdf_glyphs.specs.declared.columns.Columns.{Columns}
+use Rattle.pdf_moved.specs.Values.{weight_at}
+use Rattle.pdf_objects.specs.Glyphs.{AreGlyphsOf as AreGlyphsOfFont, advance_by as font_advance_by, advance_of as font_advance_of, size_of as font_size_of}
+use Rattle.pdf_objects.specs.Values.{AreValuesOf as AreValuesOfFont, IsDescriptorOf as IsDescriptorOfFont, default_column as font_default, w2_text as font_w2}
+use Rattle.pdf_sheet.specs.declared.glyphs.SheetGlyph.{SheetGlyph}
+use Rattle.pdf_source.specs.Chosen.{is_vertical}
+use Rattle.pdf_source.specs.Cff.{cff_values_by}
+use Rattle.pdf_source.specs.Moved.{Location, location_in, movement_of, values_by}
+use Rattle.pdf_source.specs.Source.{tables_of}
+use Rattle.pdf_source.specs.declared.choice.FontOptions.{FontOptions}
+use Rattle.pdf_text.specs.Metrics.Arrays.{array_text, entries}
+use Rattle.pdf_text.specs.Cmaps.CmapName.{code_lines, name_back, name_front, name_of_codes}
+use Rattle.pdf_text.specs.Metrics.Columns.{columns_text, no_column as no_text_column, spans}
+use Rattle.pdf_text.specs.Cmaps.Encoding.{Pair}
+use Rattle.pdf_text.specs.declared.metrics.columns.Column.{Column}
+use Rattle.pdf_text.specs.declared.cmaps.named.NamedCmap.{NamedCmap}
+use Rattle.pdf_text.specs.declared.values.Descriptor.{Descriptor}
+use Rattle.pdf_text.specs.declared.values.FontValues.{FontValues}
+use Rattle.pdf_text.specs.declared.values.ProgramKind.{ProgramKind}
+use Rattle.pdf_text.specs.declared.values.ProgramKind.TheVariants.{TrueType, BareCff, OpenType}
+use Rattle.pdf_values.specs.Looks.Weight.{font_weight, weight_of as weight_said}
+use Rattle.pdf_values.specs.declared.looks.bounds.Bounds.{Bounds}
+use Rattle.pdf_codes.specs.Shown.{texts_of}
+use Rattle.subsetter_pdf_c.specs.Made.{AreValuesOf, IsDescriptorOf, column_of, columns_text_of, default_column as default_by, is_yes, kind_of, no_column, unless_empty, weight_of}
+use Rattle.subsetter_pdf_c.specs.Written.{AreGlyphsOf, advance_by, advance_of, size_of}
+use Rattle.subsetter_pdf_c.specs.declared.made.PdfColumn.{PdfColumn}
+use Rattle.subsetter_pdf_c.specs.declared.made.PdfMade.{PdfMade}
+use Rattle.subsetter_pdf_c.proofs.Steps.{length_texts}
+use Rattle.subsetter_c.specs.Documents.PdfFonts.{IsLaidOut, bytes_of, c_column, cmap_name, cmap_text, columns_of, default_column as c_default, is_there, kind_number, or_zero, vertical_number}
+
+-- ---- numbers
+
+kind_back : (k : ProgramKind) → kind_of (kind_number k) ≡ k
+kind_back TrueType = refl
+kind_back BareCff = refl
+kind_back OpenType = refl
+
+vertical_back : (cs : Option Columns) → is_yes (vertical_number cs) ≡ is_some cs
+vertical_back None = refl
+vertical_back (Some c) = refl
+
+abbrev height_by : ℕ → ℤ → Option ℤ
+height_by there x = if there == 0 then None else Some x
+
+height_back : (h : Option ℤ) → height_by (is_there h) (or_zero h) ≡ h
+height_back None = refl
+height_back (Some x) = refl
+
+weight_fits : (w : ℕ) → min (font_weight w) 1000 ≡ font_weight w
+weight_fits w = omega arith
+
+-- FontWeight is at most 1000
+weight_back : (p : Option Location) (stem : Option ℕ) (find new : List ℕ → Option (List ℕ)) (count : ℕ) (choice : Bounds) (settings : List (Tag × ℤ)) → weight_of (values_by p stem find new count choice settings).font_weight ≡ (values_by p stem find new count choice settings).font_weight
+weight_back None stem find new count choice settings = weight_fits (weight_said (tables_of find).os2 (tables_of find).head)
+weight_back (Some p) stem find new count choice settings = weight_fits (weight_at (movement_of find settings p) (tables_of find).os2 (tables_of find).head)
+
+-- ---- columns
+
+columns_back : (cs : List Column) → map column_of (map c_column cs) ≡ cs
+columns_back [] = refl
+columns_back (c ∷ cs) = ap (λ (l : List Column). c ∷ l) (columns_back cs)
+
+abbrev w2_by : ℕ → List ℤ → List PdfColumn → List ℕ
+w2_by vertical default columns = columns_text_of vertical (record { y = get_or default 0 (pos 0); advance = get_or default 1 (pos 0) }) columns
+
+w2_back : (cs : Option Columns) → w2_by (vertical_number cs) (c_default cs) (columns_of cs) ≡ font_w2 cs
+w2_back None = refl
+w2_back (Some c) = ap (λ (l : List Column). columns_text (spans c.default l)) (columns_back c.each.items)
+
+abbrev dw2_by : ℕ → List ℤ → Option (List ℤ)
+dw2_by vertical default = default_by vertical (get_or default 0 (pos 0)) (get_or default 1 (pos 0))
+
+dw2_back : (cs : Option Columns) → dw2_by (vertical_number cs) (c_default cs) ≡ font_default cs
+dw2_back None = refl
+dw2_back (Some c) = refl
+
+-- ---- lists that aren't empty
+
+not_zero : (n : ℕ) → 0 < n → (n == 0) ≡ false
+not_zero n lt = grind arith
+
+kept : {A : Type 0} (bytes : List ℕ) (value : A) → 0 < length bytes → unless_empty bytes value ≡ Some value
+kept {A} bytes value lt = ap (λ (b : Bool). if b then None else Some value) (not_zero (length bytes) lt)
+
+front_size : length name_front ≡ 150
+unfolding name_front
+front_size = refl
+
+-- a CMap isn't empty
+cmap_there : (t more : List ℕ) (b : Bool) → Some t ≡ (if b then None else Some (name_front ++ more)) → 0 < length t
+cmap_there t more true h = absurd cc
+cmap_there t more false h =
+    let e : length t ≡ length name_front + length more = ap length (just_is t (name_front ++ more) h) ∙ length-append name_front more in
+    let n : length name_front ≡ 150 = front_size in
+    omega arith
+
+own_there : (c : NamedCmap) (vertical : Bool) (ps : List Pair) → text_of (Some c) ≡ own_cmap vertical ps → 0 < length c.text.items
+own_there c vertical ps h = cmap_there c.text.items (name_of_codes vertical (pairs_of_codes ps) ++ (name_back vertical ++ code_lines (pairs_of_codes ps))) (are_cids ps) h
+
+name_there : (c : Option NamedCmap) (vertical : Bool) (ps : List Pair) → text_of c ≡ own_cmap vertical ps → unless_empty (cmap_text c) (cmap_name c) ≡ option_map (λ (c : NamedCmap). c.name.items) c
+name_there None vertical ps h = refl
+name_there (Some c) vertical ps h = kept c.text.items c.name.items (own_there c vertical ps h)
+
+text_there : (c : Option NamedCmap) (vertical : Bool) (ps : List Pair) → text_of c ≡ own_cmap vertical ps → unless_empty (cmap_text c) (cmap_text c) ≡ option_map (λ (c : NamedCmap). c.text.items) c
+text_there None vertical ps h = refl
+text_there (Some c) vertical ps h = kept c.text.items c.text.items (own_there c vertical ps h)
+
+-- nor is a CIDSet of a CID
+set_size : (requested : Bool) (count : ℕ) (bytes : List ℕ) → IsCidSetIf requested count (Some bytes) → 0 < count → 0 < length bytes
+set_size false count bytes h lt = absurd cc
+set_size true count bytes h lt =
+    let size = h.1.size in
+    omega arith
+
+set_there : (requested : Bool) (count : ℕ) (s : Option (Vec ℕ Global)) → IsCidSetIf requested count (option_map (λ v. v.items) s) → 0 < count → unless_empty (bytes_of s) (bytes_of s) ≡ option_map (λ s. s.items) s
+set_there requested count None h lt = refl
+set_there requested count (Some s) h lt = kept s.items s.items (set_size requested count s.items h lt)
+
+-- ---- the values
+
+module _ (f : PdfFont) (made : PdfMade) (laid : IsLaidOut f made) where
+  descriptor_back : (d : Descriptor) → weight_of f.descriptor.values.font_weight ≡ f.descriptor.values.font_weight → IsDescriptorOf made d → IsDescriptorOfFont f d
+  descriptor_back d fits h = record {
+    font_name = h.font_name ∙ laid.font_name;
+    flags = h.flags ∙ laid.numbers.flags;
+    bounds = h.bounds ∙ laid.numbers.bounds;
+    italic_angle = h.italic_angle ∙ laid.numbers.italic_angle;
+    ascent = h.ascent ∙ laid.numbers.ascent;
+    descent = h.descent ∙ laid.numbers.descent;
+    cap_height = h.cap_height ∙ laid.numbers.cap_height;
+    x_height = h.x_height ∙ ap (λ (n : ℕ). height_by n made.numbers.x_height) laid.numbers.has_x_height ∙ ap (height_by (is_there f.descriptor.values.heights.x_height)) laid.numbers.x_height ∙ height_back f.descriptor.values.heights.x_height;
+    stem_v = h.stem_v ∙ laid.numbers.stem_v;
+    font_weight = h.font_weight ∙ ap weight_of laid.numbers.font_weight ∙ fits;
+  }
+
+  default_back : dw2_by made.numbers.is_vertical made.numbers.default_column ≡ font_default f.columns
+  default_back =
+      ap (λ (n : ℕ). dw2_by n made.numbers.default_column) laid.numbers.is_vertical
+      ∙ ap (dw2_by (vertical_number f.columns)) laid.numbers.default_column_is ∙ dw2_back f.columns
+
+  w2_is : w2_by made.numbers.is_vertical made.numbers.default_column made.columns.now ≡ font_w2 f.columns
+  w2_is =
+      ap (λ (n : ℕ). w2_by n made.numbers.default_column made.columns.now) laid.numbers.is_vertical
+      ∙ ap (λ (d : List ℤ). w2_by (vertical_number f.columns) d made.columns.now) laid.numbers.default_column_is
+      ∙ ap (w2_by (vertical_number f.columns) (c_default f.columns)) laid.columns ∙ w2_back f.columns
+
+  w_is : array_text (entries made.widths.now made.numbers.default_width) ≡ array_text (entries f.widths.items f.default_width)
+  w_is =
+      ap (λ (ws : List ℕ). array_text (entries ws made.numbers.default_width)) laid.widths
+      ∙ ap (λ (n : ℕ). array_text (entries f.widths.items n)) laid.numbers.default_width
+
+  name_is : (vertical : Bool) (ps : List Pair) → text_of f.encoding ≡ own_cmap vertical ps → unless_empty made.encoding.now made.encoding_name.now ≡ option_map (λ (c : NamedCmap). c.name.items) f.encoding
+  name_is vertical ps h =
+      ap (λ (t : List ℕ). unless_empty t made.encoding_name.now) laid.encoding
+      ∙ ap (unless_empty (cmap_text f.encoding)) laid.encoding_name ∙ name_there f.encoding vertical ps h
+
+  text_is : (vertical : Bool) (ps : List Pair) → text_of f.encoding ≡ own_cmap vertical ps → unless_empty made.encoding.now made.encoding.now ≡ option_map (λ (c : NamedCmap). c.text.items) f.encoding
+  text_is vertical ps h = ap (λ (t : List ℕ). unless_empty t t) laid.encoding ∙ text_there f.encoding vertical ps h
+
+  set_is : (requested : Bool) → IsCidSetIf requested f.glyph_count (option_map (λ v. v.items) f.cid_set) → 0 < f.glyph_count → unless_empty made.cid_set.now made.cid_set.now ≡ option_map (λ s. s.items) f.cid_set
+  set_is requested h lt = ap (λ (t : List ℕ). unless_empty t t) laid.cid_set ∙ set_there requested f.glyph_count f.cid_set h lt
+
+-- the program has a CID
+some_cid : (font : Font) (settings : List (Tag × ℤ)) (options : FontOptions) (us : List Used) (f : PdfFont) → IsPdfFont font settings options us f → 0 < f.glyph_count
+some_cid font settings options us f p =
+    let order = p.made.embedded.answer.embedded.subset.keeps.order in
+    let same : length (map Some f.widths.items) ≡ length (map (width p.made.embedded.static) order) = ap length p.made.widths in
+    let left : length (map Some f.widths.items) ≡ length f.widths.items = length-map f.widths.items Some in
+    let right : length (map (width p.made.embedded.static) order) ≡ length order = length-map order (width p.made.embedded.static) in
+    let counted : f.glyph_count ≡ length order = p.made.counted in
+    let within : p.made.filled.default_width.index < length f.widths.items = p.made.filled.default_width.within in
+    omega arith
+
+weight_is : (font : Font) (settings : List (Tag × ℤ)) (options : FontOptions) (us : List Used) (f : PdfFont) → IsPdfFont font settings options us f → weight_of f.descriptor.values.font_weight ≡ f.descriptor.values.font_weight
+weight_is font settings options us f p = rw p.made.values (weight_back (location_in (stored font) settings) (cff_values_by (stored font)).stem (stored font) (stored (as_font p.made.new.font.items)) f.glyph_count options.bounds settings)
+
+pub values_are_of_the_font : (font : Font) (settings : List (Tag × ℤ)) (options : FontOptions) (us : List Used) (f : PdfFont) (made : PdfMade) → IsPdfFont font settings options us f → IsLaidOut f made → (v : FontValues) → AreValuesOf made v → AreValuesOfFont f v
+values_are_of_the_font font settings options us f made p laid v h =
+    let ps = pairs_with f.codes.items f.cids.items in
+    record {
+      kind = h.kind ∙ ap kind_of laid.numbers.kind ∙ kind_back f.kind;
+      descriptor = descriptor_back f made laid v.descriptor (weight_is font settings options us f p) h.descriptor;
+      vertical = h.vertical ∙ ap is_yes laid.numbers.is_vertical ∙ vertical_back f.columns;
+      default_width = h.default_width ∙ laid.numbers.default_width;
+      widths = h.widths ∙ w_is f made laid;
+      default_column = h.default_column ∙ default_back f made laid;
+      columns = h.columns ∙ w2_is f made laid;
+      program = h.program ∙ laid.program;
+      to_unicode = h.to_unicode ∙ laid.to_unicode;
+      cmap_name = h.cmap_name ∙ name_is f made laid (is_vertical options.direction) ps p.made.filled.coded.encoding;
+      cmap_text = h.cmap_text ∙ text_is f made laid (is_vertical options.direction) ps p.made.filled.coded.encoding;
+      cid_set = h.cid_set ∙ set_is f made laid options.cid_set p.made.filled.cid_set (some_cid font settings options us f p);
+    }
+
+-- ---- the glyphs
+
+map_same : {X Y : Type 0} (g h : X → Y) → ((x : X) → g x ≡ h x) → (xs : List X) → map g xs ≡ map h xs
+map_same g h same [] = refl
+map_same {X} {Y} g h same (x ∷ xs) = ap (λ (l : List Y). g x ∷ l) (map_same g h same xs) ∙ ap (λ (y : Y). y ∷ map h xs) (same x)
+
+column_found : (cs : List Column) (k : ℕ) → (get_or (map c_column cs) k no_column).advance ≡ (get_or cs k no_text_column).advance
+column_found [] k = refl
+column_found (c ∷ cs) zero = refl
+column_found (c ∷ cs) (suc k) = column_found cs k
+
+advance_found : (cs : Option Columns) (widths : List ℕ) (cid : ℕ) → advance_by (vertical_number cs) (columns_of cs) widths cid ≡ font_advance_by cs widths cid
+advance_found None widths cid = refl
+advance_found (Some c) widths cid = ap unsigned_abs (column_found c.each.items cid)
+
+abbrev least : ℕ → ℕ → ℕ → ℕ → ℕ
+least a b c d = min (min a b) (min c d)
+
+module _ (f : PdfFont) (made : PdfMade) (laid : IsLaidOut f made) where
+  advance_is : (cid : ℕ) → advance_of made cid ≡ font_advance_of f cid
+  advance_is cid =
+      ap (λ (n : ℕ). advance_by n made.columns.now made.widths.now cid) laid.numbers.is_vertical
+      ∙ ap (λ (cs : List PdfColumn). advance_by (vertical_number f.columns) cs made.widths.now cid) laid.columns
+      ∙ ap (λ (ws : List ℕ). advance_by (vertical_number f.columns) (columns_of f.columns) ws cid) laid.widths
+      ∙ advance_found f.columns f.widths.items cid
+
+  size_is : (shown : List Shown) → size_of made (texts_of shown) ≡ font_size_of f shown
+  size_is shown =
+      ap (λ (l : List ℕ). least (length l) (length made.cids.now) (length made.is_said.now) (length (texts_of shown))) laid.codes
+      ∙ ap (λ (l : List ℕ). least (length f.codes.items) (length l) (length made.is_said.now) (length (texts_of shown))) laid.cids
+      ∙ ap (λ (l : List Bool). least (length f.codes.items) (length f.cids.items) (length l) (length (texts_of shown))) laid.is_said
+      ∙ ap (least (length f.codes.items) (length f.cids.items) (length f.is_said.items)) (length_texts shown)
+
+  pub glyphs_are : (shown : List Shown) (gs : List SheetGlyph) → AreGlyphsOf made (texts_of shown) gs → AreGlyphsOfFont f shown gs
+  glyphs_are shown gs h =
+      let size = size_is shown in
+      record {
+        codes = h.codes ∙ ap (λ (n : ℕ). take n made.codes.now) size ∙ ap (take (font_size_of f shown)) laid.codes;
+        is_said = h.is_said ∙ ap (λ (n : ℕ). take n made.is_said.now) size ∙ ap (take (font_size_of f shown)) laid.is_said;
+        texts = h.texts_are ∙ ap (λ (n : ℕ). take n (texts_of shown)) size;
+        advances = h.advances ∙ ap (λ (n : ℕ). map (advance_of made) (take n made.cids.now)) size ∙ ap (λ (l : List ℕ). map (advance_of made) (take (font_size_of f shown) l)) laid.cids ∙ map_same (advance_of made) (font_advance_of f) advance_is (take (font_size_of f shown) f.cids.items);
+      }
+
+pub glyphs_are_of_the_font : (f : PdfFont) (made : PdfMade) → IsLaidOut f made → (shown : List Shown) (gs : List SheetGlyph) → AreGlyphsOf made (texts_of shown) gs → AreGlyphsOfFont f shown gs
+glyphs_are_of_the_font f made laid shown gs h = glyphs_are f made laid shown gs h

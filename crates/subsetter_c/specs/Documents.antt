@@ -1,0 +1,6 @@
+-- Fonts and files for PDF, handed to C.
+pub mod PdfFonts
+pub mod PdfGlyphs
+pub mod PdfLaws
+pub mod PdfObjects
+pub mod PdfOptions

@@ -1,0 +1,6 @@
+//! Fonts and files for PDF, handed to C.
+
+pub(crate) mod pdf_calls;
+pub(crate) mod pdf_files;
+pub(crate) mod pdf_fonts;
+pub(crate) mod pdf_options;

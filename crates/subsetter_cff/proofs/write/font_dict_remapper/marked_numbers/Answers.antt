@@ -1,6 +1,0 @@
-use Rattle.std.proofs.Common.{false, arith, slice_index_or}
-use Rattle.subsetter_cff.proofs.WriteLaws.UsedNumbers.{collected}
-use Rattle.subsetter_cff.proofs.write.font_dict_remapper.marked_numbers.Goals as goal
-
-pub loop-i-preserved : goal.loop-i-preserved
-loop-i-preserved c = collected (λ n. slice_index_or c.args.used.now n false) c.loop-i.places.items _ _ c.loop-i.i _ (omega arith) c.in_ok-put_marked.ensures c.loop-i.invariant

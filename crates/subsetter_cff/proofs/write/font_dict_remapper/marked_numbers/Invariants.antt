@@ -1,7 +1,0 @@
-use Rattle.std.proofs.Common.{◌≡◌, ◌++◌, ◌-◌, false, slice_index_or}
-use Rattle.std.specs.List.{filter, range_with_len}
-use Rattle.subsetter_cff.proofs.write.font_dict_remapper.marked_numbers.Given as goal
-
-abbrev pub invariant-loop-i : goal.invariant-loop-i
-invariant-loop-i l =
-    l.places.items ++ filter (λ n. slice_index_or l.used n false) (range_with_len l.i (l.end - l.i)) ≡ filter (λ n. slice_index_or l.used n false) (range_with_len 0 l.end)

@@ -1,0 +1,20 @@
+use Rattle.std.proofs.Common.{arith, ◌∙◌, ap, ℕ, List}
+use Rattle.subsetter_base.specs.Indexes.{index_of}
+use Rattle.subsetter_cff.proofs.WriteLaws.NewDictsLaws.UsedNumbers.{used_are, counted, too_many}
+use Rattle.subsetter_cff.proofs.write.new_dicts.font_dict_remapper.FontDictRemapper.of_used.Goals as goal
+
+pub returns-then-len-gt255 : goal.returns-then-len-gt255
+returns-then-len-gt255 c =
+    let used = used_are c.args.numbers.now c.in_ok-numbers.numbers.items c.mark_used-used.result c.end_of.result c.end_of.ensures.within c.mark_used-used.ensures.marked c.end_of.ensures.none c.in_ok-numbers.ensures.ok in
+    too_many c.args.numbers.now c.in_ok-numbers.numbers.items used (omega (arith, c.len.ensures, c.if-len-gt255.true))
+
+pub returns : goal.returns
+returns c =
+    let used = used_are c.args.numbers.now c.in_ok-numbers.numbers.items c.mark_used-used.result c.end_of.result c.end_of.ensures.within c.mark_used-used.ensures.marked c.end_of.ensures.none c.in_ok-numbers.ensures.ok in
+    counted c.args.numbers.now c.in_ok-numbers.numbers.items used (omega (arith, c.len.ensures, c.if-len-gt255.false))
+
+pub invariant_of-result : goal.invariant_of-result
+invariant_of-result c = record {
+  few = omega (arith, c.len.ensures, c.if-len-gt255.false);
+  stands = λ n lt. c.indexes_of-places.ensures n lt ∙ ap (λ (l : List ℕ). index_of l n) c.deref.ensures.value;
+}

@@ -1,0 +1,3 @@
+-- The glyphs that are kept, written.
+pub mod FlatIndex
+pub mod KeptView

@@ -1,0 +1,3 @@
+-- Why there is no new table.
+pub mod CffFault
+pub mod LimitFault

@@ -1,0 +1,2 @@
+-- The strings of a new table.
+pub mod SidRemapping

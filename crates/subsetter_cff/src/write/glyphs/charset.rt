@@ -1,0 +1,29 @@
+//! The charset (Technical Note 5176, section 13 "Charsets").
+
+ghost use Rattle.std.specs.Prelude.{◌≡◌, ◌++◌, length, OnOk, IfErr};
+ghost use Rattle.subsetter_base.specs.declared.error.Error.TheVariants.{OutOfMemory};
+ghost use Rattle.subsetter_cff.specs.Write.Laying.Layout.{charset_bytes};
+
+use subsetter_base::error::Error;
+use subsetter_base::write::Writer;
+
+/// Writes the charset of so many glyphs: each but glyph 0 has its own number as CID.
+#[tactic(auto, unfolding(crate::specs::Write::Laying::Layout::charset_bytes))]
+pub fn rewrite_charset(count: u16, w: &mut Writer) -> Result<(), Error>
+    ensures ok { OnOk result (w.new ≡ w.old ++ charset_bytes count) }
+    ensures err { IfErr result (λ e. e ≡ OutOfMemory) }
+{
+    if count < 2 {
+        return w.extend(&[0]);
+    }
+    let left = (count - 2).to_be_bytes();
+    w.extend(&[2, 0, 1, left[0], left[1]])
+}
+
+/// How many bytes the charset of so many glyphs has.
+#[tactic(auto, unfolding(crate::specs::Write::Laying::Layout::charset_bytes))]
+pub fn charset_size(count: u16) -> usize
+    ensures { result ≡ length (charset_bytes count) }
+{
+    if count < 2 { 1 } else { 5 }
+}

@@ -1,0 +1,5 @@
+-- DICTs (Technical Note 5176, section 4).
+pub mod Dicts
+pub mod Entries
+pub mod OperandSteps
+pub mod Shorter

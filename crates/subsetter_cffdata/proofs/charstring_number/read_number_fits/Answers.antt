@@ -1,5 +1,0 @@
-use Rattle.subsetter_cffdata.proofs.CharStringNumbers.{number_fits}
-use Rattle.subsetter_cffdata.proofs.charstring_number.read_number_fits.Goals as goal
-
-pub returns : goal.returns
-returns c = number_fits

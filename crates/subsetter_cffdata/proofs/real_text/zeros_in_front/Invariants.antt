@@ -1,7 +1,0 @@
-use Rattle.std.proofs.Common.{◌≡◌, drop}
-use Rattle.subsetter_cffdata.specs.Decimals.{stripped}
-use Rattle.subsetter_cffdata.proofs.real_text.zeros_in_front.Given as goal
-
--- only zeros stand before this place
-abbrev pub invariant-loop-i : goal.invariant-loop-i
-invariant-loop-i l = stripped (drop l.i l.ds) ≡ stripped l.ds

@@ -1,0 +1,6 @@
+//! DICTs (Technical Note 5176, section 4).
+
+pub mod dict;
+pub mod operands;
+pub mod operator;
+pub(crate) mod tokens;

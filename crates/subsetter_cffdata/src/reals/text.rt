@@ -1,0 +1,84 @@
+//! The text of a real.
+
+ghost use Rattle.std.specs.Prelude.{◌≡◌, ◌+◌, ◌<◌, ◌≤◌, ◌++◌, ◌∷◌, [], length, drop, OnSome, IfNone};
+ghost use Rattle.std.specs.Option.{option_map};
+
+/// At most 64 characters.
+#[derive(Clone, Copy)]
+pub struct Text {
+    pub characters: [u8; 64],
+    pub len: usize,
+    ghost within: { len ≤ 64 },
+}
+
+impl Text {
+    ghost use Rattle.subsetter_cffdata.specs.Reals.TextSteps.{shown, extended, byte_step};
+
+    /// No characters.
+    pub fn empty() -> Text
+        ensures value { shown result ≡ [] }
+        ensures len { result.len ≡ 0 }
+    {
+        Text {
+            characters: [0; 64],
+            len: 0,
+        }
+    }
+
+    /// One character more.
+    pub fn put(&mut self, c: u8)
+        requires { self.old.len < 64 }
+        ensures after { shown self.new ≡ shown self.old ++ c ∷ [] }
+        ensures len { self.new.len ≡ self.old.len + 1 }
+    {
+        self.characters[self.len] = c;
+        self.len += 1;
+    }
+
+    /// One character more; None where there are 64.
+    fn push(&mut self, c: u8) -> Option<()>
+        ensures some { OnSome result (shown self.new ≡ shown self.old ++ c ∷ []) }
+        ensures none { IfNone result (length (shown self.old) ≡ 64) }
+        ensures same { IfNone result (shown self.new ≡ shown self.old) }
+    {
+        if self.len == 64 {
+            return None;
+        }
+        self.characters[self.len] = c;
+        self.len += 1;
+        Some(())
+    }
+
+    /// The characters of a nibble.
+    #[tactic(auto, unfolding(crate::specs::Reals::TextSteps::extended))]
+    pub fn push_nibble(&mut self, nibble: u8) -> Option<()>
+        ensures { option_map (λ x. shown self.new) result ≡ extended (shown self.old) nibble }
+    {
+        match nibble {
+            13 => None,
+            12 => {
+                self.push(11)?;
+                self.push(14)
+            }
+            _ => self.push(nibble),
+        }
+    }
+
+    /// The characters of a byte, and whether the end stands there.
+    #[tactic(auto, unfolding(crate::specs::Reals::TextSteps::byte_step))]
+    pub fn push_byte(&mut self, b: u8) -> Option<bool>
+        ensures { option_map (λ x. (x, shown self.new)) result ≡ byte_step (shown self.old) b }
+    {
+        let high = b / 16;
+        if high == 15 {
+            return Some(true);
+        }
+        self.push_nibble(high)?;
+        let low = b % 16;
+        if low == 15 {
+            return Some(true);
+        }
+        self.push_nibble(low)?;
+        Some(false)
+    }
+}

@@ -1,9 +1,0 @@
-use Rattle.std.proofs.Common.{◌≡◌, take}
-use Rattle.subsetter_instance.specs.Components.{offset_xs, offset_ys}
-use Rattle.subsetter_instance.proofs.components.offsets_with_phantoms.Given as goal
-
-abbrev pub invariant-loop-component : goal.invariant-loop-component
-invariant-loop-component l = record {
-  xs : l.xs.items ≡ offset_xs (take l.component-index l.components);
-  ys : l.ys.items ≡ offset_ys (take l.component-index l.components);
-}

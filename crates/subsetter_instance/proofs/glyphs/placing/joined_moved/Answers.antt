@@ -1,0 +1,12 @@
+use Rattle.std.proofs.Common.{FitsSigned, w64, rules}
+use Rattle.std.proofs.lemmas.Int.{to_z-of_z}
+use Rattle.subsetter_instance.proofs.GlyphsLaws.Reach.{joined_reach, moved_reach}
+use Rattle.subsetter_instance.proofs.glyphs.placing.joined_moved.Goals as goal
+
+pub returns-clause-bound : goal.returns-clause-bound
+returns-clause-bound c =
+    let f : FitsSigned w64 c.args.across = c.ranges.across in
+    let g : FitsSigned w64 c.args.up = c.ranges.up in
+    let across = to_z-of_z w64 c.args.across f in
+    let up = to_z-of_z w64 c.args.up g in
+    rw (c.in_ok-joined_parts.ensures.value, across, up) (joined_reach _ _ c.requires.before (moved_reach c.args.part.now c.args.across c.args.up c.args.xs.now c.args.ys.now c.requires.part c.requires.many_xs c.requires.many_ys (search rules) (search rules)))

@@ -1,8 +1,0 @@
-use Rattle.std.proofs.Common.{◌≡◌, length, drop, map, max}
-use Rattle.std.specs.List.{fold}
-use Rattle.subsetter_instance.specs.Drawn.{Drawn}
-use Rattle.subsetter_instance.specs.Written.{most_contours}
-use Rattle.subsetter_instance.proofs.headers.most_contours.Given as goal
-
-abbrev pub invariant-loop-glyph : goal.invariant-loop-glyph
-invariant-loop-glyph l = most_contours l.drawn ≡ fold max l.most (map (λ (d : Drawn). length d.ends) (drop l.glyph-index l.drawn))

@@ -1,7 +1,0 @@
-use Rattle.std.proofs.Common.{◌≡◌, drop}
-use Rattle.std.specs.Prelude.{◌&&◌}
-use Rattle.subsetter_instance.specs.Unfolded.{are_near, shifted}
-use Rattle.subsetter_instance.proofs.placing.are_near_moved.Given as goal
-
-abbrev pub invariant-loop-v : goal.invariant-loop-v
-invariant-loop-v l = are_near (shifted l.by l.vs) ≡ l.near && are_near (shifted l.by (drop l.v-index l.vs))

@@ -1,9 +1,0 @@
-use Rattle.std.proofs.Common.{arith}
-use Rattle.subsetter_instance.proofs.Ends.{enough}
-use Rattle.subsetter_instance.proofs.simple.unfold_columns.Goals as goal
-
-pub moved_simple-requires-clause-few : goal.moved_simple-requires-clause-few
-moved_simple-requires-clause-few c = omega (arith, enough _ _ _ c.in_ok-steps.ensures)
-
-pub simple_outline-requires-clause-few : goal.simple_outline-requires-clause-few
-simple_outline-requires-clause-few c = omega (arith, enough _ _ _ c.in_ok-steps.ensures)

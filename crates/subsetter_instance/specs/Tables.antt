@@ -1,0 +1,4 @@
+-- The tables and the file of an instance.
+pub mod Extremes
+pub mod Lines
+pub mod Written

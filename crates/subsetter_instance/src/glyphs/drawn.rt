@@ -1,0 +1,273 @@
+//! What a glyph is at a place.
+
+ghost use Rattle.std.specs.Prelude.{◌≡◌, ◌≤◌, ◌^◌, ◌-ℤ◌, All, IfOk, length, unsigned_abs};
+ghost use Rattle.std.specs.Option.{option_copied};
+ghost use Rattle.subsetter_base.specs.Gives.{Gives};
+ghost use Rattle.subsetter_instance.specs.Glyphs.Kept.{AreKept};
+ghost use Rattle.subsetter_instance.specs.Source.{HasAxes};
+ghost use Rattle.subsetter_instance.specs.Glyphs.Drawn.{whole, word_or_fault, point_or_fault, points_or_fault, advance_or_fault, advance, bearing, drawn_if_fit, rounded, drawn};
+ghost use Rattle.subsetter_instance.specs.Plain.{drawn_if, drawn_all};
+ghost use Rattle.subsetter_instance.specs.Glyphs.Unfolded.{IsInReach};
+
+use crate::glyphs::kept::Kept;
+use crate::source::Source;
+use crate::glyphs::unfolding::{Unfolded, unfold};
+use std::alloc::Global;
+use std::marker::Model;
+use subsetter_base::{Error, GlyphRemapper};
+use subsetter_points::{Outline, Point, fits, least_x};
+use subsetter_sfnt::fields::hmtx::LongHorMetric;
+use subsetter_variation::items::item_variations::advance_delta;
+
+/// The unit of unfolded coordinates.
+const UNIT: u64 = 1 << 30;
+/// Half of it.
+const HALF: i64 = 1 << 29;
+/// So many of it that a sum with any coordinate is above 0.
+const ABOVE_UNITS: i64 = 1 << 31;
+/// The same in parts.
+const ABOVE: i64 = 1 << 61;
+
+/// What is drawn of a glyph: its outline, and its horizontal metric.
+#[derive(Drop)]
+pub struct Drawn {
+    /// The points and the contours.
+    pub outline: Outline,
+    /// The advance width.
+    pub advance: u16,
+    /// The left side bearing.
+    pub bearing: i16,
+}
+
+impl Model for Drawn {
+    ghost use Rattle.std.specs.Prelude.{IsTrue};
+    ghost use Rattle.subsetter_points.specs.Simple.{parts_fit};
+    ghost use Rattle.subsetter_instance.specs.Glyphs.Drawn.{Drawn};
+
+    ghost Value = { Drawn };
+
+    ghost view = { λ d. record { ends = d.outline.ends.items; points = d.outline.points.items; advance = d.advance; bearing = d.bearing } };
+
+    // The outline can be written.
+    ghost invariant = { λ d. IsTrue (parts_fit d.outline.ends.items d.outline.points.items) };
+}
+
+/// Parts of 2^30 as a whole number, halves up. What is divided is above 0, so that no sign has to be looked at.
+#[tactic(auto, using(crate::proofs::GlyphsLaws::Wholes::whole_is))]
+fn whole(value: i64) -> i64
+    requires { unsigned_abs value ≤ 2 ^ 60 }
+    ensures { result ≡ whole value }
+{
+    let above = (value + ABOVE + HALF).unsigned_abs();
+    (above / UNIT) as i64 - ABOVE_UNITS
+}
+
+/// A number of 16 bits, `OverflowError` where it has more.
+pub fn word_or_fault(value: i128) -> Result<i16, Error>
+    ensures { result ≡ word_or_fault value }
+{
+    if value >= -32768 && value < 32768 {
+        Ok(value as i16)
+    } else {
+        Err(Error::OverflowError)
+    }
+}
+
+/// How far a coordinate is from another.
+fn distance(from: i64, to: i64) -> i64
+    requires from { unsigned_abs from ≤ 2 ^ 58 }
+    requires to { unsigned_abs to ≤ 2 ^ 58 }
+    ensures value { result ≡ to -ℤ from }
+    ensures bound { unsigned_abs result ≤ 2 ^ 59 }
+{
+    to - from
+}
+
+/// A point, of which x begins at the left phantom point. `OverflowError` where a coordinate has no 16 bits.
+fn point_or_fault(left: i64, on_curve: bool, x: i64, y: i64) -> Result<Point, Error>
+    requires left { unsigned_abs left ≤ 2 ^ 58 }
+    requires x { unsigned_abs x ≤ 2 ^ 58 }
+    requires y { unsigned_abs y ≤ 2 ^ 58 }
+    ensures { result ≡ point_or_fault left on_curve x y }
+{
+    let across = word_or_fault(i128::from(whole(distance(left, x))))?;
+    let up = word_or_fault(i128::from(whole(y)))?;
+    Ok(Point {
+        x: across,
+        y: up,
+        on_curve,
+    })
+}
+
+/// The points of an unfolded glyph.
+#[tactic(auto, using(crate::proofs::GlyphsLaws::Points::no_front, crate::proofs::GlyphsLaws::Points::points_step, crate::proofs::GlyphsLaws::Points::points_cut, crate::proofs::GlyphsLaws::Points::points_end))]
+fn points_or_fault(
+    alloc: Global,
+    left: i64,
+    on: &[bool],
+    xs: &[i64],
+    ys: &[i64],
+) -> Result<Vec<Point>, Error>
+    requires left { unsigned_abs left ≤ 2 ^ 58 }
+    requires many_xs { length xs.now ≡ length on.now }
+    requires many_ys { length ys.now ≡ length on.now }
+    requires xs { All (λ z. unsigned_abs z ≤ 2 ^ 45) xs.now }
+    requires ys { All (λ z. unsigned_abs z ≤ 2 ^ 45) ys.now }
+    ensures { Gives (λ v. v.items) result (points_or_fault left on.now xs.now ys.now) }
+{
+    let mut points = Vec::with_capacity(alloc, on.len())?;
+    for i in 0..on.len() {
+        points.push_reserved(point_or_fault(left, on[i], xs[i], ys[i])?);
+    }
+    Ok(points)
+}
+
+/// The advance of a width: 0 where it is under 0, and `OverflowError` where it has no 16 bits.
+fn advance_or_fault(width: i128) -> Result<u16, Error>
+    ensures { result ≡ advance_or_fault width }
+{
+    if width <= 0 {
+        Ok(0)
+    } else if width < 65536 {
+        Ok(width as u16)
+    } else {
+        Err(Error::OverflowError)
+    }
+}
+
+/// The advance by `HVAR`, or by the width between the phantom points where there is none.
+fn advance(
+    hvar: Option<&[u8]>,
+    at: &[i32],
+    glyph: u16,
+    before: u16,
+    width: i64,
+) -> Result<u16, Error>
+    requires { unsigned_abs width ≤ 2 ^ 59 }
+    ensures { result ≡ advance (option_copied hvar.entry) at.now glyph before width }
+{
+    match hvar {
+        None => advance_or_fault(i128::from(whole(width))),
+        Some(hvar) => {
+            advance_or_fault(i128::from(before) + i128::from(advance_delta(hvar, at, glyph)?))
+        }
+    }
+}
+
+/// The left side bearing: the least x, 0 without points.
+fn bearing(points: &[Point]) -> i16
+    ensures { result ≡ bearing points.now }
+{
+    match points {
+        [first, rest @ ..] => least_x(first.x, rest),
+        [] => 0,
+    }
+}
+
+/// What is drawn, unless the outline can't be written, which is `OverflowError`.
+fn drawn_if_fit(outline: Outline, advance: u16) -> Result<Drawn, Error>
+    ensures { result ≡ drawn_if_fit outline.ends.items outline.points.items advance }
+{
+    if !fits(&outline) {
+        return Err(Error::OverflowError);
+    }
+    let bearing = bearing(&outline.points);
+    Ok(Drawn {
+        outline,
+        advance,
+        bearing,
+    })
+}
+
+/// What is drawn of an unfolded glyph: rounded, with its advance and its bearing.
+#[tactic(auto, unfolding(crate::specs::Glyphs::Drawn::rounded))]
+fn rounded(
+    alloc: Global,
+    source: &Source<'_>,
+    at: &[i32],
+    glyph: u16,
+    metric: LongHorMetric,
+    unfolded: Unfolded,
+) -> Result<Drawn, Error>
+    requires { IsInReach unfolded }
+    ensures { Gives (λ d. d) result (rounded source.now at.now glyph metric unfolded) }
+{
+    let width = distance(unfolded.left, unfolded.right);
+    let advance = advance(source.hvar(), at, glyph, metric.advance, width)?;
+    let points = points_or_fault(
+        alloc,
+        unfolded.left,
+        &unfolded.on,
+        &unfolded.xs,
+        &unfolded.ys,
+    )?;
+    let outline = Outline {
+        points,
+        ends: unfolded.ends,
+    };
+    drawn_if_fit(outline, advance)
+}
+
+/// What is drawn of a glyph at a place, in so many steps, and the glyphs that are kept.
+#[tactic(auto, unfolding(crate::specs::Glyphs::Drawn::drawn))]
+pub fn draw(
+    alloc: Global,
+    source: &Source<'_>,
+    at: &[i32],
+    steps: u32,
+    glyph: u16,
+    kept: Kept,
+) -> Result<(Drawn, Kept), Error>
+    requires axes { HasAxes source.now.gvar (length at.now) }
+    requires kept { AreKept source.now at.now kept }
+    ensures value { Gives (λ r. r.0) result (drawn source.now at.now steps glyph) }
+    ensures kept { IfOk result (λ r. AreKept source.now at.now r.1) }
+{
+    let metric = source.metric(glyph).ok_or(Error::MalformedFont)?;
+    let (unfolded, _, kept) = unfold(alloc, source, at, steps, glyph, kept)?;
+    let drawn = rounded(alloc, source, at, glyph, metric, unfolded)?;
+    Ok((drawn, kept))
+}
+
+/// What is drawn of a glyph that is asked for, and the glyphs that are kept. `MalformedFont` where it is none of the font's.
+fn drawn_if(
+    alloc: Global,
+    source: &Source<'_>,
+    at: &[i32],
+    steps: u32,
+    glyph: u16,
+    kept: Kept,
+) -> Result<(Drawn, Kept), Error>
+    requires axes { HasAxes source.now.gvar (length at.now) }
+    requires kept { AreKept source.now at.now kept }
+    ensures value { Gives (λ r. r.0) result (drawn_if source.now at.now steps glyph) }
+    ensures kept { IfOk result (λ r. AreKept source.now at.now r.1) }
+{
+    if glyph < source.count() {
+        draw(alloc, source, at, steps, glyph, kept)
+    } else {
+        Err(Error::MalformedFont)
+    }
+}
+
+/// What is drawn of the glyphs that are asked for, each in as many steps as each other.
+#[tactic(auto, using(crate::proofs::GlyphsLaws::Glyphs::glyphs_start, crate::proofs::GlyphsLaws::Glyphs::glyphs_step, crate::proofs::GlyphsLaws::Glyphs::glyphs_end))]
+pub fn draw_all(
+    alloc: Global,
+    source: &Source<'_>,
+    at: &[i32],
+    steps: u32,
+    mapper: &GlyphRemapper,
+) -> Result<Vec<Drawn>, Error>
+    requires { HasAxes source.now.gvar (length at.now) }
+    ensures { Gives (λ v. v.items) result (drawn_all source.now at.now steps mapper.now) }
+{
+    let mut all = Vec::with_capacity(alloc, usize::from(mapper.num_gids()))?;
+    let mut kept = Kept::new(alloc);
+    for glyph in mapper.remapped_gids() {
+        let (drawn, others) = drawn_if(alloc, source, at, steps, glyph, kept)?;
+        all.push(drawn)?;
+        kept = others;
+    }
+    Ok(all)
+}

@@ -1,0 +1,58 @@
+//! What a glyph that is drawn comes to in the new tables.
+
+ghost use Rattle.std.specs.Prelude.{◌≡◌, ◌++◌, length, IfErr, Some, OnOk};
+ghost use Rattle.subsetter_base.specs.declared.error.Error.TheVariants.{OutOfMemory};
+ghost use Rattle.subsetter_instance.specs.Tables.Extremes.{glyph_extents};
+ghost use Rattle.subsetter_instance.specs.Tables.Written.{outline_bytes, metric_bytes};
+
+use crate::glyphs::drawn::Drawn;
+use crate::tables::extremes::{Extents, glyph_extents};
+use subsetter_base::Error;
+use subsetter_points::write_simple;
+
+impl Drawn {
+    /// How many points it has.
+    pub fn point_count(&self) -> usize
+        ensures { result ≡ length self.now.points }
+    {
+        self.outline.points.len()
+    }
+
+    /// How many contours it has.
+    pub fn contour_count(&self) -> usize
+        ensures { result ≡ length self.now.ends }
+    {
+        self.outline.ends.len()
+    }
+
+    /// Its extents, if it has contours.
+    pub fn extents(&self) -> Option<Extents>
+        ensures { result ≡ glyph_extents self.now.advance self.now.points }
+    {
+        glyph_extents(self.advance, &self.outline.points)
+    }
+
+    /// Appends its description, of even length, to `glyf`.
+    pub fn write_outline(&self, glyf: &mut Vec<u8>) -> Result<(), Error>
+        ensures ok { OnOk result (glyf.new.items ≡ glyf.old.items ++ outline_bytes (Some self.now)) }
+        ensures err { IfErr result (λ e. e ≡ OutOfMemory) }
+    {
+        let start = glyf.len();
+        write_simple(glyf, &self.outline)?;
+        if (glyf.len() - start) % 2 == 1 {
+            glyf.push(0)?;
+        }
+        Ok(())
+    }
+
+    /// Appends its advance and its left side bearing to `hmtx`.
+    pub fn write_metric(&self, hmtx: &mut Vec<u8>) -> Result<(), Error>
+        ensures ok { OnOk result (hmtx.new.items ≡ hmtx.old.items ++ metric_bytes (Some self.now)) }
+        ensures err { IfErr result (λ e. e ≡ OutOfMemory) }
+    {
+        let [a, b] = self.advance.to_be_bytes();
+        let [c, d] = self.bearing.to_be_bytes();
+        hmtx.extend_from_slice(&[a, b, c, d])?;
+        Ok(())
+    }
+}

@@ -1,0 +1,176 @@
+//! The extremes of the glyphs that are drawn (OpenType, "head" and "hhea").
+
+ghost use Rattle.std.specs.Prelude.{◌≡◌, ◌++◌, ◌-ℤ◌, OnOk, pos};
+ghost use Rattle.subsetter_instance.specs.Tables.Extremes.{with_point, box_around, extents_of, glyph_extents, both, joined, all_extents, widest, box_bytes, saturated, side_bytes, extreme_bytes};
+
+use crate::glyphs::drawn::Drawn;
+use std::alloc::AllocError;
+use subsetter_base::compare::{larger, smaller};
+use subsetter_points::Point;
+
+/// A box around points.
+#[derive(Clone, Copy)]
+pub struct Bounds {
+    /// The left side.
+    pub x_min: i16,
+    /// The lower side.
+    pub y_min: i16,
+    /// The right side.
+    pub x_max: i16,
+    /// The upper side.
+    pub y_max: i16,
+}
+
+/// The extents of a glyph with contours, or of several.
+#[derive(Clone, Copy)]
+pub struct Extents {
+    /// The least box around all points.
+    pub bounds: Bounds,
+    /// The least right side bearing, at most 32767.
+    pub right: i16,
+}
+
+/// The least box around a box and a point.
+fn with_point(bounds: Bounds, point: Point) -> Bounds
+    ensures { result ≡ with_point bounds point }
+{
+    Bounds {
+        x_min: smaller(bounds.x_min, point.x),
+        y_min: smaller(bounds.y_min, point.y),
+        x_max: larger(bounds.x_max, point.x),
+        y_max: larger(bounds.y_max, point.y),
+    }
+}
+
+/// The least box around a point and others.
+fn box_around(first: Point, rest: &[Point]) -> Bounds
+    ensures { result ≡ box_around first rest.now }
+{
+    let mut bounds = Bounds {
+        x_min: first.x,
+        y_min: first.y,
+        x_max: first.x,
+        y_max: first.y,
+    };
+    for point in rest {
+        bounds = with_point(bounds, *point);
+    }
+    bounds
+}
+
+/// The right side bearing of a glyph, by its advance and its greatest x: 32767 where it is greater.
+fn right_bearing(advance: u16, x_max: i16) -> i16
+    ensures { result ≡ saturated (pos advance -ℤ x_max) }
+{
+    let right = i32::from(advance) - i32::from(x_max);
+    if right < 32767 { right as i16 } else { 32767 }
+}
+
+/// The extents of a glyph of such an advance, whose points are in a box.
+fn extents_of(advance: u16, bounds: Bounds) -> Extents
+    ensures { result ≡ extents_of advance bounds }
+{
+    Extents {
+        bounds,
+        right: right_bearing(advance, bounds.x_max),
+    }
+}
+
+/// The extents of a glyph, if it has points.
+pub fn glyph_extents(advance: u16, points: &[Point]) -> Option<Extents>
+    ensures { result ≡ glyph_extents advance points.now }
+{
+    match points {
+        [first, rest @ ..] => Some(extents_of(advance, box_around(*first, rest))),
+        [] => None,
+    }
+}
+
+/// The extents of two.
+fn both(a: Extents, b: Extents) -> Extents
+    ensures { result ≡ both a b }
+{
+    Extents {
+        bounds: Bounds {
+            x_min: smaller(a.bounds.x_min, b.bounds.x_min),
+            y_min: smaller(a.bounds.y_min, b.bounds.y_min),
+            x_max: larger(a.bounds.x_max, b.bounds.x_max),
+            y_max: larger(a.bounds.y_max, b.bounds.y_max),
+        },
+        right: smaller(a.right, b.right),
+    }
+}
+
+/// The extents of glyphs, and of one more.
+fn joined(before: Option<Extents>, glyph: Option<Extents>) -> Option<Extents>
+    ensures { result ≡ joined before glyph }
+{
+    match before {
+        None => glyph,
+        Some(a) => match glyph {
+            None => Some(a),
+            Some(b) => Some(both(a, b)),
+        },
+    }
+}
+
+/// The extents of all glyphs, none where none has contours.
+pub fn all_extents(drawn: &[Drawn]) -> Option<Extents>
+    ensures { result ≡ all_extents drawn.now }
+{
+    let mut all = None;
+    for glyph in drawn {
+        all = joined(all, glyph.extents());
+    }
+    all
+}
+
+/// The greatest advance.
+fn widest(drawn: &[Drawn]) -> u16
+    ensures { result ≡ widest drawn.now }
+{
+    let mut most = 0;
+    for glyph in drawn {
+        most = most.max(glyph.advance);
+    }
+    most
+}
+
+/// Appends the box of `head`: 0 where no glyph has contours.
+pub fn write_box(out: &mut Vec<u8>, extents: Option<Extents>) -> Result<(), AllocError>
+    ensures { OnOk result (out.new.items ≡ out.old.items ++ box_bytes extents) }
+{
+    match extents {
+        None => out.extend_from_slice(&[0; 8]),
+        Some(e) => {
+            let [a, b] = e.bounds.x_min.to_be_bytes();
+            let [c, d] = e.bounds.y_min.to_be_bytes();
+            let [f, g] = e.bounds.x_max.to_be_bytes();
+            let [h, i] = e.bounds.y_max.to_be_bytes();
+            out.extend_from_slice(&[a, b, c, d, f, g, h, i])
+        }
+    }
+}
+
+/// Appends the least left and the least right side bearing and the greatest extent of `hhea`: 0 where no glyph has contours.
+fn write_sides(out: &mut Vec<u8>, extents: Option<Extents>) -> Result<(), AllocError>
+    ensures { OnOk result (out.new.items ≡ out.old.items ++ side_bytes extents) }
+{
+    match extents {
+        None => out.extend_from_slice(&[0; 6]),
+        Some(e) => {
+            let [a, b] = e.bounds.x_min.to_be_bytes();
+            let [c, d] = e.right.to_be_bytes();
+            let [f, g] = e.bounds.x_max.to_be_bytes();
+            out.extend_from_slice(&[a, b, c, d, f, g])
+        }
+    }
+}
+
+/// Appends the greatest advance, and what stands behind it in `hhea`.
+pub fn write_extremes(out: &mut Vec<u8>, drawn: &[Drawn]) -> Result<(), AllocError>
+    ensures { OnOk result (out.new.items ≡ out.old.items ++ extreme_bytes drawn.now) }
+{
+    out.extend_from_slice(&widest(drawn).to_be_bytes())?;
+    write_sides(out, all_extents(drawn))
+}

@@ -1,0 +1,271 @@
+//! Laying out a font file.
+//!
+//! The checksum adjustment is a patch of four bytes, the last step. That the tables' places fit 32 bits is checked by
+//! `measured`, which takes no memory and whose clause names its one error.
+
+ghost use Rattle.std.specs.Prelude.{◌≡◌, ◌+◌, ◌-◌, ◌*◌, ◌<◌, ◌≤◌, ◌^◌, ◌++◌, ◌%◌, [], length, map, take, drop, true, false, vec_capacity, OnOk, IfOk, IfErr};
+ghost use Rattle.std.specs.Int.{w16, w32, to_be_bytes};
+ghost use Rattle.std.specs.List.{AllByRecursion};
+ghost use Rattle.subsetter_base.specs.Bytes.{aligned};
+ghost use Rattle.subsetter_base.specs.Within.{GivesWithin, is_past};
+ghost use Rattle.subsetter_base.specs.declared.error.Error.TheVariants.{OverflowError};
+ghost use Rattle.subsetter_sfnt.specs.Laying.Written.{selector, header_bytes, directory_bytes, record_bytes, body, adjusted, fits, file, start_of, kind_word, IsTable};
+ghost use Rattle.subsetter_sfnt.specs.Laying.Checksum.{checksum};
+ghost use Rattle.subsetter_sfnt.specs.Plain.{file_of};
+ghost use Rattle.subsetter_sfnt.specs.View.{view, views};
+
+use crate::laying::checksum::checksum;
+use crate::flavor::FontFlavor;
+use crate::laying::room::{align, aligned_len, patch, put};
+use crate::laying::tables::{NewTable, TableBytes};
+use std::alloc::Global;
+use subsetter_base::{Error, Tag};
+
+/// How many bytes the file has. `OverflowError` where a place or a length is 2^32 or more. No memory is taken.
+fn measured<T: TableBytes>(tables: &[NewTable<T>]) -> Result<usize, Error>
+    requires { length tables.now < 16 }
+    ensures ok { IfOk result (λ n. (fits (start_of (views T.bytes_of tables.now)) (views T.bytes_of tables.now) ≡ true) × (n ≡ start_of (views T.bytes_of tables.now) + length (body (views T.bytes_of tables.now)))) }
+    ensures err { IfErr result (λ e. (e ≡ OverflowError) × (fits (start_of (views T.bytes_of tables.now)) (views T.bytes_of tables.now) ≡ false)) }
+{
+    let mut at = 12 + 16 * tables.len();
+    for table in tables {
+        if at > 0xffff_ffff {
+            return Err(Error::OverflowError);
+        }
+        let len = table.data.len();
+        if len > 0xffff_ffff {
+            return Err(Error::OverflowError);
+        }
+        at = at.saturating_add(aligned_len(len));
+    }
+    Ok(at)
+}
+
+/// The greatest e with 2^e at most the number of tables.
+fn entry_selector(count: u16) -> u16
+    requires { count < 16 }
+    ensures { result ≡ selector count }
+{
+    match count {
+        0..2 => 0,
+        2..4 => 1,
+        4..8 => 2,
+        _ => 3,
+    }
+}
+
+/// 16 times that power of two.
+fn search_range(count: u16) -> u16
+    requires { count < 16 }
+    ensures { result ≡ 16 * 2 ^ selector count }
+{
+    match count {
+        0..2 => 16,
+        2..4 => 32,
+        4..8 => 64,
+        _ => 128,
+    }
+}
+
+/// Writes kind, number of tables and the numbers for a search.
+#[tactic(auto, unfolding(crate::specs::Laying::Written::header_bytes))]
+fn write_header(out: &mut Vec<u8>, kind: u32, count: u16)
+    requires count { count < 16 }
+    requires room { length out.old.items + 12 ≤ vec_capacity out.old }
+    ensures items { out.new.items ≡ out.old.items ++ header_bytes kind count }
+    ensures capacity { vec_capacity out.old ≤ vec_capacity out.new }
+{
+    let range = search_range(count);
+    let [a, b, c, d] = kind.to_be_bytes();
+    let [e, f] = count.to_be_bytes();
+    let [g, h] = range.to_be_bytes();
+    let [i, j] = entry_selector(count).to_be_bytes();
+    let [k, l] = (16 * count).saturating_sub(range).to_be_bytes();
+    put(out, &[a, b, c, d, e, f, g, h, i, j, k, l]);
+}
+
+/// Writes three words.
+fn write_words(out: &mut Vec<u8>, sum: u32, at: u32, len: u32)
+    requires room { length out.old.items + 12 ≤ vec_capacity out.old }
+    ensures items { out.new.items ≡ out.old.items ++ (to_be_bytes w32 sum ++ to_be_bytes w32 at ++ to_be_bytes w32 len) }
+    ensures capacity { vec_capacity out.old ≤ vec_capacity out.new }
+{
+    let [a, b, c, d] = sum.to_be_bytes();
+    let [e, f, g, h] = at.to_be_bytes();
+    let [i, j, k, l] = len.to_be_bytes();
+    put(out, &[a, b, c, d, e, f, g, h, i, j, k, l]);
+}
+
+/// Writes the record of a table that stands at a place.
+fn write_record<T: TableBytes>(
+    out: &mut Vec<u8>,
+    at: usize,
+    len: usize,
+    sum: u32,
+    table: &NewTable<T>,
+)
+    requires at { at < 2 ^ 32 }
+    requires len { (len ≡ length (view T.bytes_of table.now).bytes) × (len < 2 ^ 32) }
+    requires sum { sum ≡ checksum (view T.bytes_of table.now).bytes }
+    requires room { length out.old.items + 16 ≤ vec_capacity out.old }
+    ensures items { out.new.items ≡ out.old.items ++ record_bytes at (view T.bytes_of table.now) }
+    ensures capacity { vec_capacity out.old ≤ vec_capacity out.new }
+{
+    put(out, table.tag.get());
+    write_words(out, sum, at as u32, len as u32);
+}
+
+/// Writes a table, with zeros up to a multiple of four, and its record, and answers its checksum.
+fn write_table<T: TableBytes>(
+    out: &mut Vec<u8>,
+    front: &mut Vec<u8>,
+    at: usize,
+    table: &NewTable<T>,
+) -> u32
+    requires at { (at < 2 ^ 32) × (length (view T.bytes_of table.now).bytes < 2 ^ 32) }
+    requires multiple { length out.old.items % 4 ≡ 0 }
+    requires room { length out.old.items + length (aligned 4 (view T.bytes_of table.now).bytes) ≤ vec_capacity out.old }
+    requires front_room { length front.old.items + 16 ≤ vec_capacity front.old }
+    ensures items { out.new.items ≡ out.old.items ++ aligned 4 (view T.bytes_of table.now).bytes }
+    ensures capacity { vec_capacity out.old ≤ vec_capacity out.new }
+    ensures front_items { front.new.items ≡ front.old.items ++ record_bytes at (view T.bytes_of table.now) }
+    ensures front_capacity { vec_capacity front.old ≤ vec_capacity front.new }
+    ensures sum { result ≡ checksum (view T.bytes_of table.now).bytes }
+{
+    let sum = table.data.write_summed(out);
+    align(out);
+    write_record(front, at, table.data.len(), sum, table);
+    sum
+}
+
+/// Writes tables, each with zeros up to a multiple of four, and the records of tables that stand from a place on.
+/// Answers the checksum of all the tables.
+fn write_tables<T: TableBytes>(
+    out: &mut Vec<u8>,
+    front: &mut Vec<u8>,
+    start: usize,
+    tables: &[NewTable<T>],
+) -> u32
+    requires tables { AllByRecursion IsTable (views T.bytes_of tables.now) }
+    requires fit { fits start (views T.bytes_of tables.now) ≡ true }
+    requires multiple { length out.old.items % 4 ≡ 0 }
+    requires room { length out.old.items + length (body (views T.bytes_of tables.now)) ≤ vec_capacity out.old }
+    requires front_room { length front.old.items + 16 * length tables.now ≤ vec_capacity front.old }
+    ensures items { out.new.items ≡ out.old.items ++ body (views T.bytes_of tables.now) }
+    ensures front_items { front.new.items ≡ front.old.items ++ directory_bytes start (views T.bytes_of tables.now) }
+    ensures sum { result ≡ checksum (body (views T.bytes_of tables.now)) }
+{
+    let mut at = start;
+    let mut sum: u32 = 0;
+    for table in tables {
+        sum = sum.wrapping_add(write_table(out, front, at, table));
+        at += aligned_len(table.data.len());
+    }
+    sum
+}
+
+/// Puts the adjustment into a table that stands at a place, if it is `head`.
+fn adjust_table<T: TableBytes>(out: &mut Vec<u8>, at: usize, word: u32, table: &NewTable<T>)
+    requires is_table { IsTable (view T.bytes_of table.now) }
+    requires within { at + length (view T.bytes_of table.now).bytes ≤ length out.old.items }
+    requires there { take (length (view T.bytes_of table.now).bytes) (drop at out.old.items) ≡ (view T.bytes_of table.now).bytes }
+    ensures { out.new.items ≡ take at out.old.items ++ (adjusted word (view T.bytes_of table.now)).bytes ++ drop (at + length (view T.bytes_of table.now).bytes) out.old.items }
+{
+    if table.tag == Tag::HEAD {
+        patch(out, at + 8, word);
+    }
+}
+
+/// Puts the adjustment into `head` among the tables that stand from a place on.
+fn adjust<T: TableBytes>(out: &mut Vec<u8>, start: usize, word: u32, tables: &[NewTable<T>])
+    requires tables { AllByRecursion IsTable (views T.bytes_of tables.now) }
+    requires fit { fits start (views T.bytes_of tables.now) ≡ true }
+    requires start { start ≤ length out.old.items }
+    requires body { drop start out.old.items ≡ body (views T.bytes_of tables.now) }
+    ensures { out.new.items ≡ take start out.old.items ++ body (map (adjusted word) (views T.bytes_of tables.now)) }
+{
+    let mut at = start;
+    for table in tables {
+        adjust_table(out, at, word, table);
+        at += aligned_len(table.data.len());
+    }
+}
+
+/// Keeps room for what stands before the tables.
+fn skip_front(out: &mut Vec<u8>, count: usize)
+    requires few { count ≤ 252 }
+    requires room { length out.old.items + count ≤ vec_capacity out.old }
+    ensures count { length out.new.items ≡ length out.old.items + count }
+    ensures capacity { vec_capacity out.old ≤ vec_capacity out.new }
+{
+    put(out, &[0; 252][..count]);
+}
+
+/// Puts bytes in the place of as many from a place on.
+fn patch_bytes(out: &mut Vec<u8>, at: usize, bytes: &[u8])
+    requires { at + length bytes.now ≤ length out.old.items }
+    ensures { out.new.items ≡ take at out.old.items ++ bytes.now ++ drop (at + length bytes.now) out.old.items }
+{
+    out[at..at + bytes.len()].copy_from_slice(bytes);
+}
+
+/// Lays out a file in room that its caller reserved, also for what stands before the tables. No memory is taken.
+/// Each table is summed as it is written.
+pub fn construct<T: TableBytes>(
+    out: Vec<u8>,
+    front: Vec<u8>,
+    flavor: FontFlavor,
+    tables: &[NewTable<T>],
+) -> Vec<u8>
+    requires few { length tables.now < 16 }
+    requires tables { AllByRecursion IsTable (views T.bytes_of tables.now) }
+    requires fit { fits (start_of (views T.bytes_of tables.now)) (views T.bytes_of tables.now) ≡ true }
+    requires empty { (out.items ≡ []) × (front.items ≡ []) }
+    requires room { length (file (kind_word flavor) (views T.bytes_of tables.now)) ≤ vec_capacity out }
+    requires front_room { start_of (views T.bytes_of tables.now) ≤ vec_capacity front }
+    ensures { result.items ≡ file (kind_word flavor) (views T.bytes_of tables.now) }
+{
+    let mut out = out;
+    let mut front = front;
+    let start = 12 + 16 * tables.len();
+    skip_front(&mut out, start);
+    write_header(&mut front, flavor.kind(), tables.len() as u16);
+    let tables_sum = write_tables(&mut out, &mut front, start, tables);
+    patch_bytes(&mut out, 0, &front);
+    // Each table begins at a multiple of four, so the sum of the file is that of its parts.
+    let sum = checksum(&front).wrapping_add(tables_sum);
+    adjust(&mut out, start, 0xB1B0AFBAu32.wrapping_sub(sum), tables);
+    out
+}
+
+/// `OverflowError` where so many bytes pass a bound. No memory is taken.
+fn check_bound(size: usize, bytes: Option<u32>) -> Result<(), Error>
+    ensures ok { OnOk result (is_past bytes size ≡ false) }
+    ensures err { IfErr result (λ e. (e ≡ OverflowError) × (is_past bytes size ≡ true)) }
+{
+    match bytes {
+        Some(most) if size > most as usize => Err(Error::OverflowError),
+        _ => Ok(()),
+    }
+}
+
+/// Lays out a file. Its size is taken first: `OverflowError` where a place or a length is 2^32 or more, or where it has more
+/// bytes than it may, if these have a bound. Room is reserved once.
+#[tactic(auto, unfolding(crate::specs::Plain::file_of))]
+pub fn finish<T: TableBytes>(
+    alloc: Global,
+    flavor: FontFlavor,
+    tables: &[NewTable<T>],
+    bytes: Option<u32>,
+) -> Result<Vec<u8>, Error>
+    requires few { length tables.now < 16 }
+    requires tables { AllByRecursion IsTable (views T.bytes_of tables.now) }
+    ensures gives { GivesWithin (λ v. v.items) bytes length result (file_of (kind_word flavor) (views T.bytes_of tables.now)) }
+    ensures within { IfOk result (λ v. is_past bytes (length v.items) ≡ false) }
+{
+    let size = measured(tables)?;
+    check_bound(size, bytes)?;
+    let front = Vec::with_capacity(alloc, 12 + 16 * tables.len())?;
+    let out = Vec::with_capacity(alloc, size)?;
+    Ok(construct(out, front, flavor, tables))
+}

@@ -1,0 +1,7 @@
+-- The run of a charstring.
+pub mod Acts
+pub mod BehindRuns
+pub mod Operating
+pub mod OutputLemmas
+pub mod RecursionLemmas
+pub mod Runs

@@ -1,0 +1,9 @@
+-- The run of a charstring.
+pub mod Behind
+pub mod Machine
+pub mod MachineView
+pub mod Output
+pub mod OutputView
+pub mod Reached
+pub mod Recursion
+pub mod Setting

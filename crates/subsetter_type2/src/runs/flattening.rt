@@ -1,0 +1,100 @@
+//! The run of a charstring with a stack of its callers' rests, which writes bytes.
+
+ghost use Rattle.std.specs.Prelude.{◌≡◌, ◌∷◌, ◌<◌, ◌≤◌, [], length, OnOk, IfOk, IfErr};
+ghost use Rattle.subsetter_type2.specs.Runs.Machine.{unended, rests_after};
+ghost use Rattle.subsetter_type2.specs.View.{rests_of};
+ghost use Rattle.subsetter_type2.specs.Runs.MachineView.{library_of, lead_of};
+ghost use Rattle.subsetter_base.specs.Gives.{behind};
+ghost use Rattle.subsetter_type2.specs.Flat.{flat_form};
+ghost use Rattle.subsetter_base.specs.Within.{GivesWithin};
+ghost use Rattle.subsetter_base.specs.declared.error.Error.TheVariants.{CFFError};
+
+use crate::runs::fixed_stack::FixedStack;
+use crate::limits::Limits;
+use crate::runs::machine::{Flow, Machine, Subroutines};
+use crate::runs::output::Output;
+use crate::rests::innermost;
+use subsetter_base::error::Error;
+
+/// What runs after a token that leads there; nothing, where a charstring is at its end.
+#[inline(always)]
+fn follow<'a, const N: usize>(
+    rests: &mut FixedStack<&'a [u8], N>,
+    flow: Flow<'a>,
+    depth: u8,
+) -> Result<&'a [u8], Error>
+    requires room { depth ≤ N }
+    requires fits { length rests.old < depth }
+    ensures ok { IfOk result (λ running. unended (running.now ∷ rests_of rests.new) ≡ unended (rests_after (lead_of flow.entry) (rests_of rests.old))) }
+    ensures deep { OnOk result (length (rests_after (lead_of flow.entry) (rests_of rests.old)) ≤ depth) }
+    ensures room { OnOk result (length rests.new < depth) }
+    ensures err { IfErr result (λ e. (e ≡ CFFError) × (depth < length (rests_after (lead_of flow.entry) (rests_of rests.old)))) }
+{
+    match flow {
+        Flow::GoesOn(rest) => Ok(rest),
+        Flow::Calls(body, rest) => {
+            if rests.len() + 1 >= depth as usize {
+                return Err(Error::CFFError);
+            }
+            rests.push(rest);
+            Ok(body)
+        }
+        Flow::Returns => Ok(&[]),
+        Flow::Ends => {
+            rests.clear();
+            Ok(&[])
+        }
+    }
+}
+
+/// The flat form of a charstring behind these bytes, with room for so many rests. `OverflowError` where all of these pass
+/// the bound.
+fn flatten_within<'a, const N: usize>(
+    bytes: Vec<u8>,
+    subroutines: &Subroutines<'a>,
+    limits: &Limits,
+    charstring: &'a [u8],
+) -> Result<Vec<u8>, Error>
+    requires few { N ≤ 255 }
+    requires room { limits.now.depth ≤ N }
+    ensures { GivesWithin (λ all. all.items) limits.now.bytes length result (behind bytes.items (flat_form (library_of subroutines.now) limits.now.tokens limits.now.depth charstring.now)) }
+{
+    let mut machine = Machine::new(Output::behind(bytes));
+    let mut rests: FixedStack<&'a [u8], N> = FixedStack::new(charstring);
+    let mut running = charstring;
+    let mut tokens = limits.tokens;
+    while let Some(current) = innermost(running, &mut rests) {
+        let stretch = machine
+            .output
+            .take_stretch(current, tokens, machine.mask_len)?;
+        tokens -= stretch.tokens as u32;
+        running = &current[stretch.len..];
+        if limits.is_past(machine.output.settled_len()) {
+            return Err(Error::OverflowError);
+        }
+        if !running.is_empty() {
+            if tokens == 0 {
+                return Err(Error::CFFError);
+            }
+            tokens -= 1;
+            let flow = machine.act_at(subroutines, running)?;
+            running = follow(&mut rests, flow, limits.depth)?;
+        }
+    }
+    Ok(machine.output.finish())
+}
+
+/// The flat form of a charstring behind these bytes. `OverflowError` where all of these pass the bound.
+pub fn flatten_behind<'a>(
+    bytes: Vec<u8>,
+    subroutines: &Subroutines<'a>,
+    limits: &Limits,
+    charstring: &'a [u8],
+) -> Result<Vec<u8>, Error>
+    ensures { GivesWithin (λ all. all.items) limits.now.bytes length result (behind bytes.items (flat_form (library_of subroutines.now) limits.now.tokens limits.now.depth charstring.now)) }
+{
+    if limits.depth() <= 64 {
+        return flatten_within::<64>(bytes, subroutines, limits, charstring);
+    }
+    flatten_within::<255>(bytes, subroutines, limits, charstring)
+}

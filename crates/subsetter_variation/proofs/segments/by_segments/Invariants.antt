@@ -1,6 +1,0 @@
-use Rattle.std.proofs.Common.{◌≡◌}
-use Rattle.subsetter_variation.specs.Segments.{by_segments, mapped_from, axis_value_maps}
-use Rattle.subsetter_variation.proofs.segments.by_segments.Given as goal
-
-abbrev pub invariant-loop-q : goal.invariant-loop-q
-invariant-loop-q l = mapped_from l.p (axis_value_maps l.q-iterator) l.n ≡ by_segments (axis_value_maps l.fn.ends) l.n

@@ -1,0 +1,7 @@
+-- The variations of a glyph (OpenType, "gvar").
+pub mod GvarFault
+pub mod Inferred
+pub mod Movement
+pub mod Moves
+pub mod Tuples
+pub mod Varied

@@ -1,0 +1,4 @@
+-- Item variation stores, and what varies by them (OpenType, "Item Variation Store", "HVAR" and "MVAR").
+pub mod FontMetrics
+pub mod ItemLaws
+pub mod ItemVariations

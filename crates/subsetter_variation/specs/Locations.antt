@@ -1,0 +1,5 @@
+-- Where the coordinates of a user lie on the axes of a font (OpenType, "fvar" and "avar").
+pub mod Axes
+pub mod Coordinates
+pub mod LocationLaws
+pub mod Segments

@@ -1,0 +1,75 @@
+-- The segments that bend an axis (OpenType, "avar").
+use Rattle.std.specs.Prelude.{ℕ, ◌+◌, ◌*◌, Bool, true, false, ◌&&◌, ◌||◌, List, [], ◌∷◌, take, drop, Option, Some, int_lt, int_le, if◌then◌else◌, ℤ, pos, neg_ℤ, ◌+ℤ◌, ◌-ℤ◌, ◌*ℤ◌, unsigned_abs}
+use Rattle.std.specs.Int.{w16, cast_signed}
+use Rattle.std.specs.Ordering.{int_eq}
+use Rattle.subsetter_base.specs.Bytes.{be, range, number}
+use Rattle.subsetter_base.specs.Items.{Items, values}
+use Rattle.subsetter_base.specs.Options.{◌>>=◌}
+use Rattle.subsetter_variation.specs.Nearest.{part}
+use Rattle.subsetter_variation.specs.declared.locations.segments.AxisValueMap.{AxisValueMap}
+
+-- the end of a segment: two numbers in 16384ths
+abbrev pub axis_value_map_of : List ℕ → AxisValueMap
+axis_value_map_of bytes = record { from = cast_signed w16 (be (take 2 bytes)); to = cast_signed w16 (be (take 2 (drop 2 bytes))) }
+
+-- the ends of the segments of an axis: a count, and four bytes for each
+abbrev pub segment_map_at : List ℕ → ℕ → Option Items
+segment_map_at avar at = do
+  count ← number avar at 2
+  bytes ← range avar (at + 2) (count * 4)
+  Some (record { bytes = bytes; count = count })
+
+abbrev pub axis_value_maps : Items → List AxisValueMap
+axis_value_maps items = values 4 (λ bytes. Some (axis_value_map_of bytes)) items
+
+-- 16384ths as 65536ths
+abbrev pub fine : ℤ → ℤ
+fine z = pos 4 *ℤ z
+
+-- of a whole as great a part as a number has passed of the way from one end to another
+unfoldable pub passed : ℤ → ℤ → ℤ → ℤ → ℤ
+passed from to n whole = part (n -ℤ from) (unsigned_abs (to -ℤ from)) whole
+
+-- a number that lies between two ends, at the same part of the way between their new numbers
+unfoldable pub on_segment : AxisValueMap → AxisValueMap → ℤ → ℤ
+on_segment p q n = fine p.to +ℤ passed (fine p.from) (fine q.from) n (fine q.to -ℤ fine p.to)
+
+-- the number lies between two ends, and not on the second
+abbrev pub is_on : AxisValueMap → AxisValueMap → ℤ → Bool
+is_on p q n = int_le (fine p.from) n && int_lt n (fine q.from)
+
+-- by the first segment in which the number lies; one that lies in none stays
+abbrev pub mapped_from : AxisValueMap → List AxisValueMap → ℤ → ℤ
+mapped_from p [] n = n
+mapped_from p (q ∷ ends) n = if is_on p q n then on_segment p q n else mapped_from q ends n
+
+abbrev pub by_segments : List AxisValueMap → ℤ → ℤ
+by_segments [] n = n
+by_segments (p ∷ ends) n = mapped_from p ends n
+
+-- ---- what a map of segments has to be
+
+-- a number has itself as its new number
+abbrev pub keeps : ℤ → List AxisValueMap → Bool
+keeps z [] = false
+keeps z (p ∷ ends) = (int_eq p.from z && int_eq p.to z) || keeps z ends
+
+-- an end comes after another: its number is greater, and its new number isn't less
+abbrev pub follows : AxisValueMap → AxisValueMap → Bool
+follows p q = int_lt p.from q.from && int_le p.to q.to
+
+abbrev pub ascends_from : AxisValueMap → List AxisValueMap → Bool
+ascends_from p [] = true
+ascends_from p (q ∷ ends) = follows p q && ascends_from q ends
+
+abbrev pub ascends : List AxisValueMap → Bool
+ascends [] = true
+ascends (p ∷ ends) = ascends_from p ends
+
+-- it keeps -1, 0 and 1, and ascends
+abbrev pub is_segment_map : List AxisValueMap → Bool
+is_segment_map ends = keeps (neg_ℤ (pos 16384)) ends && (keeps (pos 0) ends && (keeps (pos 16384) ends && ascends ends))
+
+-- any other one maps nothing
+abbrev pub mapped : List AxisValueMap → ℤ → ℤ
+mapped ends n = if is_segment_map ends then by_segments ends n else n

@@ -1,0 +1,2 @@
+-- Packed point numbers and packed deltas (OpenType, "Tuple Variation Store").
+pub mod Packed

@@ -1,0 +1,347 @@
+//! The variations of a glyph (OpenType, "gvar" and "Tuple Variation Store"), read one tuple at a time.
+//!
+//! One tuple is decoded at a time, and the shared point numbers are read once and lent to each, so the largest memory
+//! is that of one glyph's points. Bytes left over after a tuple's deltas are passed over, and so are the deltas of a
+//! tuple whose scalar is 0: no library reads them, so a fault in them is none. The version of `gvar` isn't looked at.
+
+ghost use Rattle.std.specs.Prelude.{◌<◌, ◌≡◌, ◌≤◌, ◌^◌, ◌≤ℤ◌, pos, Some, None, MatchOption, IfSome, IfOk, length};
+ghost use Rattle.std.specs.Option.{ok_or, option_copied, option_map};
+ghost use Rattle.subsetter_base.specs.Gives.{Gives};
+ghost use Rattle.subsetter_base.specs.declared.error.Error.TheVariants.{MalformedFont};
+ghost use Rattle.subsetter_variation.specs.Region.{scalar};
+ghost use Rattle.subsetter_variation.specs.Glyphs.Tuples.{split, parts, gvar_table, offset, variations_of, tuple_headers, peaks_in, ends_in, region_in, next_header, both_deltas, numbers_and_deltas, tuple_size, count_of, shared_numbers};
+
+use crate::packing::packed::{deltas, point_numbers, word_in};
+use crate::glyphs::tuple_region::{TupleRegion, tuple_region};
+use std::alloc::Global;
+use std::marker::Model;
+use subsetter_base::Error;
+use subsetter_base::read::{Reader, between_offsets, from_offset};
+
+/// The table `gvar`.
+#[derive(Drop)]
+pub struct Gvar<'a> {
+    axis_count: u16,
+    glyph_count: u16,
+    long: bool,
+    shared: &'a [u8],
+    offsets: &'a [u8],
+    variations: &'a [u8],
+}
+
+impl<'a> Model for Gvar<'a> {
+    ghost use Rattle.subsetter_variation.specs.Glyphs.Tuples.{Gvar};
+
+    ghost Value = { Gvar };
+
+    ghost view = { λ t. record { axis_count = t.axis_count; glyph_count = t.glyph_count; long = t.long; shared = t.shared.now; offsets = t.offsets.now; variations = t.variations.now } };
+}
+
+/// The tuples that are left of a glyph.
+#[derive(Drop)]
+pub struct TupleHeaders<'a> {
+    left: u16,
+    headers: &'a [u8],
+    serialized: &'a [u8],
+}
+
+impl<'a> Model for TupleHeaders<'a> {
+    ghost use Rattle.subsetter_variation.specs.Glyphs.Tuples.{TupleHeaders};
+
+    ghost Value = { TupleHeaders };
+
+    ghost view = { λ r. record { left = r.left; headers = r.headers.now; serialized = r.serialized.now } };
+}
+
+/// The first bytes and those behind them, if there are as many.
+fn split(n: usize, bytes: &[u8]) -> Option<(&[u8], &[u8])>
+    ensures value { MatchOption result (split n bytes.now ≡ None) (λ r. split n bytes.now ≡ Some (r.0.now, r.1.now)) }
+    ensures len { IfSome result (λ r. length r.0.now ≡ n) }
+{
+    if n <= bytes.len() {
+        Some((&bytes[..n], &bytes[n..]))
+    } else {
+        None
+    }
+}
+
+/// The parts of the table, for these numbers of its header.
+fn parts(gvar: &[u8], axis_count: u16, glyph_count: u16, long: bool) -> Option<Gvar<'_>>
+    ensures { result ≡ parts gvar.now axis_count glyph_count long }
+{
+    let shared_count = Reader::new_at(gvar, 6).read::<u16>()?;
+    let shared_at = Reader::new_at(gvar, 8).read::<u32>()?;
+    let from = Reader::new_at(gvar, 16).read::<u32>()?;
+    let size = (shared_count as usize).saturating_mul(axis_count as usize * 2);
+    let shared = Reader::new_at(gvar, shared_at as usize).read_bytes(size)?;
+    let entry = if long { 4 } else { 2 };
+    let offsets = Reader::new_at(gvar, 20).read_bytes((glyph_count as usize + 1) * entry)?;
+    let variations = from_offset(gvar, from as usize)?;
+    Some(Gvar {
+        axis_count,
+        glyph_count,
+        long,
+        shared,
+        offsets,
+        variations,
+    })
+}
+
+/// The table, unless it is cut.
+#[tactic(auto, unfolding(crate::specs::Glyphs::Tuples::gvar_table))]
+pub fn gvar_table(gvar: &[u8]) -> Option<Gvar<'_>>
+    ensures { result ≡ gvar_table gvar.now }
+{
+    let axis_count = Reader::new_at(gvar, 4).read::<u16>()?;
+    let glyph_count = Reader::new_at(gvar, 12).read::<u16>()?;
+    let flags = Reader::new_at(gvar, 14).read::<u16>()?;
+    parts(gvar, axis_count, glyph_count, flags % 2 == 1)
+}
+
+impl<'a> Gvar<'a> {
+    /// How many axes there are.
+    pub fn axis_count(&self) -> u16
+        ensures { result ≡ self.now.axis_count }
+    {
+        self.axis_count
+    }
+
+    /// An offset.
+    fn offset(&self, glyph: usize) -> Option<usize>
+        requires { glyph ≤ 65536 }
+        ensures { result ≡ offset self.now glyph }
+    {
+        if self.long {
+            Some(Reader::new_at(self.offsets, glyph * 4).read::<u32>()? as usize)
+        } else {
+            Some(2 * Reader::new_at(self.offsets, glyph * 2).read::<u16>()? as usize)
+        }
+    }
+
+    /// The variations of a glyph, unless they aren't there; no bytes where it has none.
+    #[tactic(auto, unfolding(crate::specs::Glyphs::Tuples::variations_of))]
+    pub fn variations_of(&self, glyph: u16) -> Option<&'a [u8]>
+        ensures { option_copied result ≡ variations_of self.now glyph }
+    {
+        if glyph >= self.glyph_count {
+            return None;
+        }
+        let from = self.offset(glyph as usize)?;
+        let to = self.offset(glyph as usize + 1)?;
+        between_offsets(self.variations, from, to)
+    }
+}
+
+/// Whether point numbers are shared, and the tuples of a glyph, by the bytes of its variations.
+#[tactic(auto, unfolding(crate::specs::Glyphs::Tuples::tuple_headers))]
+pub fn tuple_headers(bytes: &[u8]) -> Option<(bool, TupleHeaders<'_>)>
+    ensures value { result ≡ tuple_headers bytes.now }
+    ensures few { IfSome result (λ r. r.1.left < 4096) }
+{
+    let count = Reader::new(bytes).read::<u16>()?;
+    let at = Reader::new_at(bytes, 2).read::<u16>()?;
+    let serialized = from_offset(bytes, at as usize)?;
+    Some((
+        count >= 32768,
+        TupleHeaders {
+            left: count % 4096,
+            headers: &bytes[4..],
+            serialized,
+        },
+    ))
+}
+
+/// The peaks of a region, and the bytes of the header behind them.
+fn peaks_in<'a>(t: &Gvar<'a>, flags: u16, bytes: &'a [u8]) -> Option<(&'a [u8], &'a [u8])>
+    ensures value { MatchOption result (peaks_in t.now flags bytes.now ≡ None) (λ r. peaks_in t.now flags bytes.now ≡ Some (r.0.now, r.1.now)) }
+    ensures len { IfSome result (λ r. length r.0.now ≡ tuple_size t.now.axis_count) }
+{
+    let size = t.axis_count as usize * 2;
+    if flags >= 32768 {
+        split(size, bytes)
+    } else {
+        let at = (flags % 4096) as usize * size;
+        let peaks = Reader::new_at(t.shared, at).read_bytes(size)?;
+        Some((peaks, bytes))
+    }
+}
+
+/// The region with these peaks, and the bytes of the header behind it.
+fn ends_in<'a>(
+    axis_count: u16,
+    flags: u16,
+    peaks: &'a [u8],
+    bytes: &'a [u8],
+) -> Option<(TupleRegion<'a>, &'a [u8])>
+    requires { length peaks.now ≡ tuple_size axis_count }
+    ensures axes { IfSome result (λ r. length r.0 ≡ axis_count) }
+    ensures value { MatchOption result (ends_in axis_count flags peaks.now bytes.now ≡ None) (λ r. ends_in axis_count flags peaks.now bytes.now ≡ Some (r.0, r.1.now)) }
+{
+    let size = axis_count as usize * 2;
+    if flags % 32768 >= 16384 {
+        let (starts, rest) = split(size, bytes)?;
+        let (ends, rest) = split(size, rest)?;
+        Some((tuple_region(true, axis_count, peaks, starts, ends), rest))
+    } else {
+        Some((tuple_region(false, axis_count, peaks, peaks, peaks), bytes))
+    }
+}
+
+/// The region of a tuple, and the bytes of the header behind it.
+#[tactic(auto, unfolding(crate::specs::Glyphs::Tuples::region_in))]
+fn region_in<'a>(t: &Gvar<'a>, flags: u16, bytes: &'a [u8]) -> Option<(TupleRegion<'a>, &'a [u8])>
+    ensures axes { IfSome result (λ r. length r.0 ≡ t.now.axis_count) }
+    ensures value { MatchOption result (region_in t.now flags bytes.now ≡ None) (λ r. region_in t.now flags bytes.now ≡ Some (r.0, r.1.now)) }
+{
+    let (peaks, rest) = peaks_in(t, flags, bytes)?;
+    ends_in(t.axis_count, flags, peaks, rest)
+}
+
+/// A tuple before its deltas are read.
+#[derive(Drop)]
+pub struct TupleHeader<'a> {
+    region: TupleRegion<'a>,
+    private_numbers: bool,
+    packed: &'a [u8],
+}
+
+impl<'a> Model for TupleHeader<'a> {
+    ghost use Rattle.subsetter_variation.specs.Glyphs.Tuples.{TupleHeader};
+
+    ghost Value = { TupleHeader };
+
+    ghost view = { λ h. record { region = h.region; private_numbers = h.private_numbers; packed = h.packed.now } };
+}
+
+impl<'a> TupleHeader<'a> {
+    /// How far it counts at a place, in parts of 2^30.
+    pub fn scalar(&self, at: &[i32]) -> i64
+        requires { length self.now.region ≡ length at.now }
+        ensures value { result ≡ scalar self.now.region at.now }
+        ensures low { pos 0 ≤ℤ result }
+        ensures high { result ≤ℤ pos (2 ^ 30) }
+    {
+        self.region.scalar(at)
+    }
+
+    /// It has point numbers of its own.
+    pub fn has_private_numbers(&self) -> bool
+        ensures { result ≡ self.now.private_numbers }
+    {
+        self.private_numbers
+    }
+
+    /// The bytes of its point numbers and deltas.
+    pub fn packed(&self) -> &'a [u8]
+        ensures { result.now ≡ self.now.packed }
+    {
+        self.packed
+    }
+}
+
+impl<'a> TupleHeaders<'a> {
+    /// How many tuples are left.
+    pub fn left(&self) -> u16
+        ensures { result ≡ self.now.left }
+    {
+        self.left
+    }
+
+    /// The bytes of the shared point numbers, where they are shared, and then those of the tuples.
+    pub fn serialized(&self) -> &'a [u8]
+        ensures { result.now ≡ self.now.serialized }
+    {
+        self.serialized
+    }
+
+    /// The same tuples, whose data are these bytes.
+    pub fn with_serialized(self, serialized: &'a [u8]) -> Self
+        ensures { result ≡ record self.entry { serialized = serialized.now } }
+    {
+        TupleHeaders { serialized, ..self }
+    }
+}
+
+/// The next tuple, without its deltas, and those behind it, unless it is cut.
+#[tactic(auto, unfolding(crate::specs::Glyphs::Tuples::next_header))]
+pub fn next_header<'a>(
+    t: &Gvar<'a>,
+    r: TupleHeaders<'a>,
+) -> Option<(TupleHeader<'a>, TupleHeaders<'a>)>
+    ensures value { result ≡ next_header t.now r.entry }
+    ensures axes { IfSome result (λ x. length x.0.region ≡ t.now.axis_count) }
+{
+    let (size, rest) = word_in(r.headers)?;
+    let (flags, rest) = word_in(rest)?;
+    let (region, headers) = region_in(t, flags, rest)?;
+    let (packed, serialized) = split(size as usize, r.serialized)?;
+    let private_numbers = flags % 16384 >= 8192;
+    let left = r.left.saturating_sub(1);
+    Some((
+        TupleHeader {
+            region,
+            private_numbers,
+            packed,
+        },
+        TupleHeaders {
+            left,
+            headers,
+            serialized,
+        },
+    ))
+}
+
+/// The deltas of x and those of y, one for each of so many points.
+#[tactic(auto, unfolding(crate::specs::Glyphs::Tuples::both_deltas))]
+pub fn both_deltas(alloc: Global, n: usize, bytes: &[u8]) -> Result<(Vec<i16>, Vec<i16>), Error>
+    ensures exact { Gives (λ r. (r.0.items, r.1.items)) result (ok_or (both_deltas n bytes.now) MalformedFont) }
+    ensures x_count { IfOk result (λ r. length r.0.items ≡ n) }
+    ensures y_count { IfOk result (λ r. length r.1.items ≡ n) }
+{
+    let (x, rest) = deltas(alloc, n, bytes)?;
+    let (y, _) = deltas(alloc, n, rest)?;
+    Ok((x, y))
+}
+
+/// How many points have deltas: all below the limit, or those that are listed.
+pub(crate) fn count_of(limit: u32, numbers: &Option<Vec<u32>>) -> usize
+    ensures { result ≡ count_of limit (option_map (λ v. v.items) numbers.now) }
+{
+    match numbers {
+        None => limit as usize,
+        Some(list) => list.len(),
+    }
+}
+
+/// The point numbers of a tuple's own, none for all, and its deltas of x and of y.
+#[tactic(auto, unfolding(crate::specs::Glyphs::Tuples::numbers_and_deltas))]
+pub fn numbers_and_deltas(
+    alloc: Global,
+    limit: u32,
+    bytes: &[u8],
+) -> Result<(Option<Vec<u32>>, Vec<i16>, Vec<i16>), Error>
+    ensures { Gives (λ r. (option_map (λ v. v.items) r.0, r.1.items, r.2.items)) result (ok_or (numbers_and_deltas limit bytes.now) MalformedFont) }
+{
+    let (numbers, rest) = point_numbers(alloc, limit, bytes)?;
+    let (x, y) = both_deltas(alloc, count_of(limit, &numbers), rest)?;
+    Ok((numbers, x, y))
+}
+
+/// The point numbers that the tuples share, none for all, and the tuples.
+#[tactic(auto, unfolding(crate::specs::Glyphs::Tuples::shared_numbers))]
+pub fn shared_numbers<'a>(
+    alloc: Global,
+    limit: u32,
+    is_shared: bool,
+    r: TupleHeaders<'a>,
+) -> Result<(Option<Vec<u32>>, TupleHeaders<'a>), Error>
+    ensures value { Gives (λ x. (option_map (λ v. v.items) x.0, x.1)) result (ok_or (shared_numbers limit is_shared r.entry) MalformedFont) }
+    ensures left { IfOk result (λ x. x.1.left ≡ r.entry.left) }
+{
+    if is_shared {
+        let (numbers, rest) = point_numbers(alloc, limit, r.serialized())?;
+        Ok((numbers, r.with_serialized(rest)))
+    } else {
+        Ok((None, r))
+    }
+}

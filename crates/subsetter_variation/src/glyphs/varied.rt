@@ -1,0 +1,164 @@
+//! Where the points of a glyph go along one axis, by one tuple.
+
+ghost use Rattle.std.specs.Prelude.{None, Some, ◌≡◌, ◌+◌, ◌+ℤ◌, ◌*ℤ◌, ◌≤◌, ◌^◌, ℕ, pos, length, map, unsigned_abs, slice_get, slice_index_or, slice_set, ◌<◌, All, EachIndex, IfOk, IfSome, MatchOption, Ok};
+ghost use Rattle.std.specs.Option.{option_map};
+ghost use Rattle.subsetter_base.specs.Gives.{Gives};
+ghost use Rattle.subsetter_variation.specs.Glyphs.Varied.{AreEnds, added, added_to_each, deltas_by_point, in_units, points};
+
+use crate::glyphs::glyph::add_tuple;
+use crate::glyphs::inference::Point;
+use crate::packing::packed_sums::add_deltas;
+use crate::rounding::given;
+use std::alloc::{AllocError, Global};
+use subsetter_base::Error;
+
+/// The unit of a scalar, and of a sum: 2^30.
+pub const UNIT: i64 = 1 << 30;
+
+/// The deltas with that of one point, if there is such a point.
+fn with_delta(list: Vec<Option<i16>>, number: usize, delta: i16) -> Vec<Option<i16>>
+    ensures inside { number < length list.items → result.items ≡ slice_set list.items number (Some delta) }
+    ensures outside { length list.items ≤ number → result.items ≡ list.items }
+{
+    let mut list = list;
+    if number < list.len() {
+        list[number] = Some(delta);
+    }
+    list
+}
+
+/// Of each of so many points the delta that is listed for it, if any.
+fn listed_by_point(
+    alloc: Global,
+    n: usize,
+    numbers: &[u32],
+    deltas: &[i16],
+) -> Result<Vec<Option<i16>>, AllocError>
+    ensures { IfOk result (λ v. v.items ≡ deltas_by_point n (Some numbers.now) deltas.now) }
+{
+    let mut list = vec![in alloc; None; n]?;
+    let count = numbers.len().min(deltas.len());
+    for i in 0..count {
+        list = with_delta(list, numbers[i] as usize, deltas[i]);
+    }
+    Ok(list)
+}
+
+/// The delta of a point, if there are as many.
+fn own_delta(deltas: &[i16], k: usize) -> Option<i16>
+    ensures { result ≡ slice_get deltas.now k }
+{
+    deltas.get(k).copied()
+}
+
+/// Of each of so many points its own delta, if there are as many.
+fn all_by_point(alloc: Global, n: usize, deltas: &[i16]) -> Result<Vec<Option<i16>>, AllocError>
+    ensures { IfOk result (λ v. v.items ≡ deltas_by_point n None deltas.now) }
+{
+    let mut list = Vec::with_capacity(alloc, n)?;
+    for k in 0..n {
+        list.push(own_delta(deltas, k))?;
+    }
+    Ok(list)
+}
+
+/// Of each of so many points the delta that a tuple gives it, if any: the one that is listed for its number, or without numbers its own.
+pub fn deltas_by_point(
+    alloc: Global,
+    n: usize,
+    numbers: &Option<Vec<u32>>,
+    deltas: &[i16],
+) -> Result<Vec<Option<i16>>, AllocError>
+    ensures { IfOk result (λ v. v.items ≡ deltas_by_point n (option_map (λ x. x.items) numbers.now) deltas.now) }
+{
+    match numbers {
+        None => all_by_point(alloc, n, deltas),
+        Some(numbers) => listed_by_point(alloc, n, numbers, deltas),
+    }
+}
+
+/// The points of a glyph with the deltas that a tuple gives.
+fn points(
+    alloc: Global,
+    coordinates: &[i16],
+    deltas: &[Option<i16>],
+) -> Result<Vec<Point>, AllocError>
+    ensures { IfOk result (λ v. v.items ≡ points coordinates.now deltas.now) }
+{
+    coordinates
+        .iter()
+        .zip(deltas)
+        .map(|(at, delta)| Point {
+            at: *at,
+            delta: *delta,
+        })
+        .collect(alloc)
+}
+
+/// Writes coordinates in parts of 2^30.
+fn write_units(sums: &mut [i64], coordinates: &[i16])
+    requires same { length sums.old ≡ length coordinates.now }
+    ensures value { EachIndex coordinates.now (λ k. slice_index_or sums.new k (pos 0) ≡ pos (2 ^ 30) *ℤ slice_index_or coordinates.now k (pos 0)) }
+    ensures bound { EachIndex coordinates.now (λ k. unsigned_abs (slice_index_or sums.new k (pos 0)) ≤ 2 ^ 45) }
+{
+    for (k, x) in coordinates.iter().enumerate() {
+        sums[k] = given(UNIT, *x);
+    }
+}
+
+/// Coordinates in parts of 2^30.
+pub fn in_units(alloc: Global, coordinates: &[i16]) -> Result<Vec<i64>, AllocError>
+    ensures value { IfOk result (λ v. v.items ≡ in_units coordinates.now) }
+    ensures bound { IfOk result (λ v. All (λ x. unsigned_abs x ≤ 2 ^ 45) v.items) }
+{
+    let mut sums = vec![in alloc; 0; coordinates.len()]?;
+    write_units(&mut sums, coordinates);
+    Ok(sums)
+}
+
+/// The sums of the points, and what a tuple moves each by on top, along one axis, contour by contour.
+pub fn added(
+    alloc: Global,
+    coordinates: &[i16],
+    ends: &[usize],
+    numbers: &Option<Vec<u32>>,
+    deltas: &[i16],
+    scalar: i64,
+    sums: Vec<i64>,
+) -> Result<Vec<i64>, AllocError>
+    requires ends { AreEnds 0 ends.now (length coordinates.now) }
+    requires scalar { unsigned_abs scalar ≤ 2 ^ 30 }
+    requires same { length sums.items ≡ length coordinates.now }
+    requires room { All (λ z. unsigned_abs z ≤ 2 ^ 62) sums.items }
+    ensures value { IfOk result (λ v. v.items ≡ added coordinates.now ends.now (deltas_by_point (length coordinates.now) (option_map (λ x. x.items) numbers.now) deltas.now) scalar sums.items) }
+    ensures count { IfOk result (λ v. length v.items ≡ length sums.items) }
+    ensures bound { (b : ℕ) → All (λ z. unsigned_abs z ≤ b) sums.items → IfOk result (λ v. All (λ z. unsigned_abs z ≤ b + 2 ^ 45) v.items) }
+{
+    let by_point = deltas_by_point(alloc, coordinates.len(), numbers, deltas)?;
+    let points = points(alloc, coordinates, &by_point)?;
+    let mut sums = sums;
+    add_tuple(&mut sums, &points, ends, scalar);
+    Ok(sums)
+}
+
+/// The sums of the points, and what a tuple that gives each a delta moves it by on top, along one axis, and the bytes behind these
+/// deltas, unless they are cut.
+pub fn added_to_each<'a>(
+    coordinates: &[i16],
+    ends: &[usize],
+    bytes: &'a [u8],
+    scalar: i64,
+    sums: Vec<i64>,
+) -> Option<(Vec<i64>, &'a [u8])>
+    requires ends { AreEnds 0 ends.now (length coordinates.now) }
+    requires scalar { unsigned_abs scalar ≤ 2 ^ 30 }
+    requires same { length sums.items ≡ length coordinates.now }
+    requires room { All (λ z. unsigned_abs z ≤ 2 ^ 62) sums.items }
+    ensures value { MatchOption result (added_to_each coordinates.now ends.now bytes.now scalar sums.items ≡ None) (λ r. added_to_each coordinates.now ends.now bytes.now scalar sums.items ≡ Some (r.0.items, r.1.now)) }
+    ensures count { IfSome result (λ r. length r.0.items ≡ length sums.items) }
+    ensures bound { (b : ℕ) → All (λ z. unsigned_abs z ≤ b) sums.items → IfSome result (λ r. All (λ z. unsigned_abs z ≤ b + 2 ^ 45) r.0.items) }
+{
+    let mut sums = sums;
+    let rest = add_deltas(&mut sums, bytes, scalar)?;
+    Some((sums, rest))
+}

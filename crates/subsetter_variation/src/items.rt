@@ -1,0 +1,4 @@
+//! Item variation stores, and what varies by them (OpenType, "Item Variation Store", "HVAR" and "MVAR").
+
+pub mod font_metrics;
+pub mod item_variations;

@@ -1,0 +1,438 @@
+//! Item variation stores, and the advances of `HVAR` (OpenType, "Item Variation Store" and "HVAR").
+//!
+//! An item, a region or item variation data that aren't there have no reading, nor has a map of indexes without entries
+//! (FreeType and HarfBuzz take 0 there). The indexes 0xFFFF, 0xFFFF are 0, as OpenType says; an offset of 0 is no
+//! table. The sum of an item's deltas is taken in 128 bits, as 65,535 long words don't fit 64; where an advance changes
+//! by 2^32 units or more the answer is `OverflowError`. The version of the store has to be 1, that of `HVAR` isn't
+//! looked at.
+
+ghost use Rattle.std.specs.Prelude.{[], ◌∷◌, MatchOption, ◌≡◌, ◌+◌, ◌*◌, ◌<◌, ◌≤◌, ◌^◌, Some, IfSome, length, pos, ◌*ℤ◌, ◌≤ℤ◌, unsigned_abs};
+ghost use Rattle.std.specs.Option.{ok_or, option_copied};
+ghost use Rattle.subsetter_base.specs.Bytes.{signed_at};
+ghost use Rattle.subsetter_base.specs.declared.error.Error.TheVariants.{MalformedFont};
+ghost use Rattle.subsetter_variation.specs.Region.{scalar};
+ghost use Rattle.subsetter_variation.specs.Items.ItemVariations.{offset_at, item_store, region_axis_in, region_items, region_of, data_offset, data_regions, row_size, row_at, row_in, item_row, word_delta, byte_delta, delta, term, terms, item_delta, map_head, split_index, mapped_index, advance_index, store_of, advance_delta, in_whole_units, whole_or_fault, entry_index};
+
+use crate::region::{RegionAxis, counted};
+use crate::rounding::{nearest, scaled, wide_plus};
+use std::marker::Model;
+use subsetter_base::Error;
+use subsetter_base::numbers::number_of;
+use subsetter_base::read::{LazyArray16, Readable, Reader, from_offset, signed_at};
+
+/// An offset of 32 bits, unless it is 0, which stands for no table.
+fn offset_at(bytes: &[u8], at: usize) -> Option<u32>
+    ensures { result ≡ offset_at bytes.now at }
+{
+    let offset = Reader::new_at(bytes, at).read::<u32>()?;
+    if offset == 0 { None } else { Some(offset) }
+}
+
+/// An item variation store.
+#[derive(Drop)]
+pub struct Store<'a> {
+    axis_count: u16,
+    region_count: u16,
+    regions: &'a [u8],
+    bytes: &'a [u8],
+}
+
+impl<'a> Model for Store<'a> {
+    ghost use Rattle.subsetter_variation.specs.Items.ItemVariations.{Store};
+
+    ghost Value = { Store };
+
+    ghost view = { λ s. record { axis_count = s.axis_count; region_count = s.region_count; regions = s.regions.now; bytes = s.bytes.now } };
+}
+
+impl<'a> Store<'a> {
+    /// How many axes a region has.
+    pub fn axis_count(&self) -> u16
+        ensures { result ≡ self.now.axis_count }
+    {
+        self.axis_count
+    }
+
+    /// How many regions there are.
+    pub fn region_count(&self) -> u16
+        ensures { result ≡ self.now.region_count }
+    {
+        self.region_count
+    }
+}
+
+/// A row of deltas in a store.
+#[derive(Drop)]
+struct Row<'a> {
+    count: u16,
+    words: u16,
+    long: bool,
+    indexes: &'a [u8],
+    deltas: &'a [u8],
+}
+
+impl<'a> Model for Row<'a> {
+    ghost use Rattle.subsetter_variation.specs.Items.ItemVariations.{Row};
+
+    ghost Value = { Row };
+
+    ghost view = { λ r. record { count = r.count; words = r.words; long = r.long; indexes = r.indexes.now; deltas = r.deltas.now } };
+}
+
+/// A region on one axis.
+fn region_axis_in(bytes: &[u8]) -> RegionAxis
+    requires { 6 ≤ length bytes.now }
+    ensures { result ≡ region_axis_in bytes.now }
+{
+    RegionAxis {
+        start: signed_at(bytes, 0),
+        peak: signed_at(bytes, 2),
+        end: signed_at(bytes, 4),
+    }
+}
+
+impl Readable<'_> for RegionAxis {
+    const SIZE: usize = 6;
+
+    ghost SIZE = { 6 };
+
+    ghost value_of = { λ bytes. Some (region_axis_in bytes) };
+
+    fn read(r: &mut Reader<'_>) -> Option<Self> {
+        Some(region_axis_in(r.read_bytes(6)?))
+    }
+}
+
+/// The store that these bytes begin, unless it is cut.
+#[tactic(auto, unfolding(crate::specs::Items::ItemVariations::item_store))]
+pub fn item_store(bytes: &[u8]) -> Option<Store<'_>>
+    ensures { result ≡ item_store bytes.now }
+{
+    let format = Reader::new(bytes).read::<u16>()?;
+    let at = offset_at(bytes, 2)? as usize;
+    let axis_count = Reader::new_at(bytes, at).read::<u16>()?;
+    let region_count = Reader::new_at(bytes, at + 2).read::<u16>()?;
+    let size = (region_count as usize).saturating_mul(axis_count as usize * 6);
+    let regions = Reader::new_at(bytes, at + 4).read_bytes(size)?;
+    if format == 1 {
+        Some(Store {
+            axis_count,
+            region_count,
+            regions,
+            bytes,
+        })
+    } else {
+        None
+    }
+}
+
+/// A region of the list.
+pub fn region_items<'a>(s: &Store<'a>, index: u16) -> Option<LazyArray16<'a, RegionAxis>>
+    ensures value { result ≡ region_items s.now index }
+    ensures count { IfSome result (λ x. x.count ≡ s.now.axis_count) }
+{
+    if index >= s.region_count {
+        return None;
+    }
+    let size = s.axis_count as usize * 6;
+    Reader::new_at(s.regions, index as usize * size).read_array16(s.axis_count)
+}
+
+/// The coordinate on the first axis, and those on the others.
+fn coordinate_in(at: &[i32]) -> Option<(i32, &[i32])>
+    ensures { MatchOption result (at.now ≡ []) (λ r. at.now ≡ r.0 ∷ r.1.now) }
+{
+    match at {
+        [first, others @ ..] => Some((*first, others)),
+        [] => None,
+    }
+}
+
+/// The scalar of a region at a place, in parts of 2^30. The axes behind one that makes it 0 aren't read.
+#[tactic(auto, using(crate::proofs::Masters::scalar_of_none))]
+pub fn region_scalar(region: LazyArray16<'_, RegionAxis>, at: &[i32]) -> i64
+    ensures value { result ≡ scalar (region_of region.entry) at.now }
+    ensures low { pos 0 ≤ℤ result }
+    ensures high { result ≤ℤ pos (2 ^ 30) }
+{
+    let mut whole = 1073741824;
+    let mut rest = at;
+    for axis in region.iter() {
+        let Some((first, others)) = coordinate_in(rest) else {
+            return whole;
+        };
+        whole = counted(axis, first, whole);
+        if whole == 0 {
+            return 0;
+        }
+        rest = others;
+    }
+    whole
+}
+
+/// The row of an item, for the counts of its data's header.
+fn row_at(
+    bytes: &[u8],
+    at: usize,
+    inner: u32,
+    count: u16,
+    words: u16,
+    long: bool,
+) -> Option<Row<'_>>
+    requires offset { at < 2 ^ 32 }
+    requires few { words ≤ count }
+    ensures { result ≡ row_at bytes.now at inner count words long }
+{
+    let size = (count as usize + words as usize) * (if long { 2 } else { 1 });
+    let indexes = Reader::new_at(bytes, at + 6).read_bytes(count as usize * 2)?;
+    let from = (at + 6 + count as usize * 2).saturating_add((inner as usize).saturating_mul(size));
+    let deltas = Reader::new_at(bytes, from).read_bytes(size)?;
+    Some(Row {
+        count,
+        words,
+        long,
+        indexes,
+        deltas,
+    })
+}
+
+/// The row of an item, by the place of its data.
+#[tactic(auto, unfolding(crate::specs::Items::ItemVariations::row_in))]
+fn row_in(bytes: &[u8], at: usize, inner: u32) -> Option<Row<'_>>
+    requires { at < 2 ^ 32 }
+    ensures { result ≡ row_in bytes.now at inner }
+{
+    let items = Reader::new_at(bytes, at).read::<u16>()?;
+    let words = Reader::new_at(bytes, at + 2).read::<u16>()?;
+    let count = Reader::new_at(bytes, at + 4).read::<u16>()?;
+    if inner < u32::from(items) && words % 32768 <= count {
+        row_at(bytes, at, inner, count, words % 32768, words >= 32768)
+    } else {
+        None
+    }
+}
+
+/// The row of an item.
+#[tactic(auto, unfolding(crate::specs::Items::ItemVariations::item_row))]
+fn item_row<'a>(s: &Store<'a>, outer: u32, inner: u32) -> Option<Row<'a>>
+    ensures { result ≡ item_row s.now outer inner }
+{
+    let data_count = Reader::new_at(s.bytes, 6).read::<u16>()?;
+    if outer >= u32::from(data_count) {
+        return None;
+    }
+    let at = offset_at(s.bytes, 8 + outer as usize * 4)?;
+    row_in(s.bytes, at as usize, inner)
+}
+
+/// Where item variation data stand in the store.
+fn data_offset(s: &Store<'_>, outer: u32) -> Option<u32>
+    ensures value { result ≡ data_offset s.now outer }
+    ensures few { IfSome result (λ _. outer < 65536) }
+{
+    let data_count = Reader::new_at(s.bytes, 6).read::<u16>()?;
+    if outer >= u32::from(data_count) {
+        return None;
+    }
+    offset_at(s.bytes, 8 + outer as usize * 4)
+}
+
+/// The bytes that spell the indexes of the regions of item variation data, two for each.
+#[tactic(auto, unfolding(crate::specs::Items::ItemVariations::data_regions))]
+pub fn data_regions<'a>(s: &Store<'a>, outer: u32) -> Option<&'a [u8]>
+    ensures value { option_copied result ≡ data_regions s.now outer }
+    ensures few { IfSome result (λ bytes. length bytes.now ≤ 131070) }
+    ensures data_count { IfSome result (λ _. outer < 65536) }
+{
+    let at = data_offset(s, outer)? as usize;
+    let count = Reader::new_at(s.bytes, at + 4).read::<u16>()?;
+    Reader::new_at(s.bytes, at + 6).read_bytes(count as usize * 2)
+}
+
+/// A delta that is a word.
+fn word_delta(r: &Row<'_>, k: u16) -> Option<i32>
+    ensures { result ≡ word_delta r.now k }
+{
+    if r.long {
+        let word = Reader::new_at(r.deltas, k as usize * 4).read::<u32>()?;
+        Some(word.cast_signed())
+    } else {
+        let word = Reader::new_at(r.deltas, k as usize * 2).read::<u16>()?;
+        Some(i32::from(word.cast_signed()))
+    }
+}
+
+/// A delta behind the words.
+fn byte_delta(r: &Row<'_>, k: u16) -> Option<i32>
+    ensures { result ≡ byte_delta r.now k }
+{
+    let place = r.words as usize + k as usize;
+    if r.long {
+        let word = Reader::new_at(r.deltas, place * 2).read::<u16>()?;
+        Some(i32::from(word.cast_signed()))
+    } else {
+        let byte = Reader::new_at(r.deltas, place).read::<u8>()?;
+        Some(i32::from(byte.cast_signed()))
+    }
+}
+
+/// The delta for one of a row's regions.
+fn delta(r: &Row<'_>, k: u16) -> Option<i32>
+    ensures { result ≡ delta r.now k }
+{
+    if k < r.words {
+        word_delta(r, k)
+    } else {
+        byte_delta(r, k)
+    }
+}
+
+/// The scalar of one of a row's regions, times its delta.
+#[tactic(auto, unfolding(crate::specs::Items::ItemVariations::term))]
+fn term(s: &Store<'_>, at: &[i32], r: &Row<'_>, k: u16) -> Option<i64>
+    ensures value { result ≡ term s.now at.now r.now k }
+    ensures bound { IfSome result (λ x. unsigned_abs x ≤ 2 ^ 62) }
+{
+    let index = Reader::new_at(r.indexes, k as usize * 2).read::<u16>()?;
+    let region = region_items(s, index)?;
+    let d = delta(r, k)?;
+    Some(scaled(region_scalar(region, at), i64::from(d)))
+}
+
+impl<'a> Row<'a> {
+    /// How many regions it is for.
+    fn count(&self) -> u16
+        ensures { result ≡ self.now.count }
+    {
+        self.count
+    }
+}
+
+/// The sum of a row's terms.
+#[tactic(auto, using(crate::proofs::ItemsLaws::Terms::terms_step, crate::proofs::ItemsLaws::Terms::terms_cut, crate::proofs::ItemsLaws::Terms::terms_end))]
+fn terms(s: &Store<'_>, at: &[i32], r: &Row<'_>) -> Option<i128>
+    ensures { result ≡ terms s.now at.now r.now r.now.count 0 }
+{
+    let mut sum: i128 = 0;
+    let count = r.count();
+    for k in 0..count {
+        let more = term(s, at, r, k)?;
+        sum = wide_plus(sum, more);
+    }
+    Some(sum)
+}
+
+/// What an item varies by at a place, in parts of 2^30.
+#[tactic(auto, unfolding(crate::specs::Items::ItemVariations::item_delta))]
+pub fn item_delta(s: &Store<'_>, at: &[i32], outer: u32, inner: u32) -> Option<i128>
+    ensures { result ≡ item_delta s.now at.now outer inner }
+{
+    if outer == 65535 && inner == 65535 {
+        return Some(0);
+    }
+    terms(s, at, &item_row(s, outer, inner)?)
+}
+
+/// How many entries a map of indexes has, and where they stand.
+fn map_head(map: &[u8]) -> Option<(u32, usize)>
+    ensures value { result ≡ map_head map.now }
+    ensures offset { IfSome result (λ h. h.1 ≤ 6) }
+{
+    match Reader::new(map).read::<u8>()? {
+        0 => Some((u32::from(Reader::new_at(map, 2).read::<u16>()?), 4)),
+        1 => Some((Reader::new_at(map, 2).read::<u32>()?, 6)),
+        _ => None,
+    }
+}
+
+/// An entry's outer and inner index.
+fn split_index(bits: u8, entry: u32) -> (u32, u32)
+    requires { bits ≤ 16 }
+    ensures { result ≡ split_index bits entry }
+{
+    (entry >> bits, entry % (1 << bits))
+}
+
+/// The entry of a glyph, past the end the last one.
+fn entry_index(count: u32, glyph: u16) -> u32
+    requires { 0 < count }
+    ensures value { result ≡ entry_index count glyph }
+    ensures bound { result < 65536 }
+{
+    if u32::from(glyph) < count {
+        u32::from(glyph)
+    } else {
+        count - 1
+    }
+}
+
+/// The indexes of a glyph by a map, past the end the last ones.
+#[tactic(auto, unfolding(crate::specs::Items::ItemVariations::mapped_index))]
+fn mapped_index(map: &[u8], glyph: u16) -> Option<(u32, u32)>
+    ensures { result ≡ mapped_index map.now glyph }
+{
+    let (count, from) = map_head(map)?;
+    let form = Reader::new_at(map, 1).read::<u8>()?;
+    if count == 0 {
+        return None;
+    }
+    let size = (form / 16 % 4 + 1) as usize;
+    let place = entry_index(count, glyph);
+    let bytes = Reader::new_at(map, from + place as usize * size).read_bytes(size)?;
+    Some(split_index(form % 16 + 1, number_of(bytes)))
+}
+
+/// The indexes of a glyph's advance.
+#[tactic(auto, unfolding(crate::specs::Items::ItemVariations::advance_index))]
+fn advance_index(hvar: &[u8], glyph: u16) -> Option<(u32, u32)>
+    ensures { result ≡ advance_index hvar.now glyph }
+{
+    let at = Reader::new_at(hvar, 8).read::<u32>()?;
+    if at == 0 {
+        return Some((0, u32::from(glyph)));
+    }
+    mapped_index(from_offset(hvar, at as usize)?, glyph)
+}
+
+/// The store of `HVAR`, if its regions have as many axes as the font.
+#[tactic(auto, unfolding(crate::specs::Items::ItemVariations::store_of))]
+fn store_of(hvar: &[u8], axis_count: usize) -> Option<Store<'_>>
+    ensures { result ≡ store_of hvar.now axis_count }
+{
+    let at = offset_at(hvar, 4)?;
+    let s = item_store(from_offset(hvar, at as usize)?)?;
+    if s.axis_count as usize == axis_count {
+        Some(s)
+    } else {
+        None
+    }
+}
+
+/// What the advance of a glyph varies by at a place, in parts of 2^30.
+#[tactic(auto, unfolding(crate::specs::Items::ItemVariations::advance_delta))]
+fn varied_advance(hvar: &[u8], at: &[i32], glyph: u16) -> Option<i128>
+    ensures { result ≡ advance_delta hvar.now at.now glyph }
+{
+    let s = store_of(hvar, at.len())?;
+    let (outer, inner) = advance_index(hvar, glyph)?;
+    item_delta(&s, at, outer, inner)
+}
+
+/// Parts of 2^30 as whole units, unless there are too many.
+pub(crate) fn in_whole_units(d: i128) -> Result<i64, Error>
+    ensures { result ≡ in_whole_units d }
+{
+    if d.unsigned_abs() < 1 << 62 {
+        Ok(nearest(d as i64, 1 << 30))
+    } else {
+        Err(Error::OverflowError)
+    }
+}
+
+/// What the advance of a glyph varies by at a place, in whole units. A table that is cut, or has no item for the glyph, is
+/// `MalformedFont`, 2^32 units or more `OverflowError`.
+pub fn advance_delta(hvar: &[u8], at: &[i32], glyph: u16) -> Result<i64, Error>
+    ensures { result ≡ whole_or_fault (advance_delta hvar.now at.now glyph) }
+{
+    in_whole_units(varied_advance(hvar, at, glyph).ok_or(Error::MalformedFont)?)
+}

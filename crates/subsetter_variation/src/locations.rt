@@ -1,0 +1,5 @@
+//! Where the coordinates of a user lie on the axes of a font (OpenType, "fvar" and "avar").
+
+pub mod axes;
+pub mod coordinates;
+pub mod segments;

@@ -1,0 +1,165 @@
+//! The segments that bend an axis (OpenType, "avar").
+//!
+//! OpenType asks for the pairs of -1, 0 and 1, past which no number lies, for numbers that ascend, and for new numbers that
+//! don't descend. Where an axis has anything else, its coordinate isn't modified. The major version has to be 1.
+
+ghost use Rattle.std.specs.Prelude.{◌≡◌, ◌+◌, ◌*◌, ◌<◌, ◌≤◌, ◌^◌, Some, true, ◌-ℤ◌, ◌≤ℤ◌, ◌<ℤ◌, IfSome, true, unsigned_abs};
+ghost use Rattle.subsetter_variation.specs.Locations.Segments.{axis_value_map_of, segment_map_at, axis_value_maps, fine, passed, on_segment, is_on, by_segments, keeps, follows, ascends, is_segment_map, mapped};
+
+use crate::rounding::{minus, part, plus};
+use subsetter_base::read::{LazyArray16, Readable, Reader, signed_at};
+
+/// The end of a segment: a number and its new one, in 16384ths.
+#[derive(Clone, Copy, PartialEq, Eq)]
+pub struct AxisValueMap {
+    pub from: i16,
+    pub to: i16,
+}
+
+impl Readable<'_> for AxisValueMap {
+    const SIZE: usize = 4;
+
+    ghost SIZE = { 4 };
+
+    ghost value_of = { λ bytes. Some (axis_value_map_of bytes) };
+
+    fn read(r: &mut Reader<'_>) -> Option<Self> {
+        let b = r.read_bytes(4)?;
+        Some(AxisValueMap {
+            from: signed_at(b, 0),
+            to: signed_at(b, 2),
+        })
+    }
+}
+
+/// 16384ths as 65536ths.
+fn fine(z: i16) -> i64
+    ensures value { result ≡ fine z }
+    ensures bound { unsigned_abs result ≤ 2 ^ 17 }
+{
+    4 * i64::from(z)
+}
+
+/// Of a whole as great a part as a number has passed of the way from one end to another.
+fn passed(from: i64, to: i64, n: i64, whole: i64) -> i64
+    requires behind { from ≤ℤ n }
+    requires before { n <ℤ to }
+    requires start { unsigned_abs from ≤ 2 ^ 20 }
+    requires end { unsigned_abs to ≤ 2 ^ 20 }
+    requires small { unsigned_abs whole ≤ 2 ^ 20 }
+    ensures value { result ≡ passed from to n whole }
+    ensures bound { unsigned_abs result ≤ unsigned_abs whole }
+{
+    let way = (to - from).unsigned_abs();
+    part(n - from, way, whole)
+}
+
+/// A number that lies between two ends, at the same part of the way between their new numbers.
+#[tactic(auto, unfolding(crate::specs::Locations::Segments::on_segment))]
+fn on_segment(p: AxisValueMap, q: AxisValueMap, n: i64) -> i64
+    requires behind { fine p.from ≤ℤ n }
+    requires before { n <ℤ fine q.from }
+    ensures value { result ≡ on_segment p q n }
+    ensures bound { unsigned_abs result ≤ 2 ^ 19 }
+{
+    let to = fine(p.to);
+    let whole = minus(fine(q.to), to);
+    let more = passed(fine(p.from), fine(q.from), n, whole);
+    plus(to, more)
+}
+
+/// The number lies between two ends, and not on the second.
+fn is_on(p: AxisValueMap, q: AxisValueMap, n: i64) -> bool
+    ensures value { result ≡ is_on p q n }
+    ensures behind { result ≡ true → fine p.from ≤ℤ n }
+    ensures before { result ≡ true → n <ℤ fine q.from }
+{
+    fine(p.from) <= n && n < fine(q.from)
+}
+
+/// The ends of the segments of the next axis.
+pub fn next_segment_map<'a>(r: &mut Reader<'a>) -> Option<LazyArray16<'a, AxisValueMap>>
+    ensures value { result ≡ segment_map_at r.old.bytes r.old.offset }
+    ensures bytes { r.new.bytes ≡ r.old.bytes }
+    ensures offset { IfSome result (λ x. r.new.offset ≡ r.old.offset + 2 + x.count * 4) }
+{
+    let count = r.read::<u16>()?;
+    r.read_array16(count)
+}
+
+/// Whether a number has itself as its new number.
+fn keeps(ends: &LazyArray16<'_, AxisValueMap>, number: i16) -> bool
+    ensures { result ≡ keeps number (axis_value_maps ends.now) }
+{
+    for end in ends.iter() {
+        if end.from == number && end.to == number {
+            return true;
+        }
+    }
+    false
+}
+
+/// Whether an end comes after another.
+fn follows(p: AxisValueMap, q: AxisValueMap) -> bool
+    ensures { result ≡ follows p q }
+{
+    p.from < q.from && p.to <= q.to
+}
+
+/// Whether each end comes after the one before it.
+fn ascends(ends: &LazyArray16<'_, AxisValueMap>) -> bool
+    ensures { result ≡ ascends (axis_value_maps ends.now) }
+{
+    let mut rest = ends.iter();
+    let Some(first) = rest.next() else {
+        return true;
+    };
+    let mut p = first;
+    for q in rest {
+        if !follows(p, q) {
+            return false;
+        }
+        p = q;
+    }
+    true
+}
+
+/// Whether these are the ends of segments: -1, 0 and 1 are kept, and the ends ascend.
+fn is_segment_map(ends: &LazyArray16<'_, AxisValueMap>) -> bool
+    ensures { result ≡ is_segment_map (axis_value_maps ends.now) }
+{
+    keeps(ends, -16384) && keeps(ends, 0) && keeps(ends, 16384) && ascends(ends)
+}
+
+/// A number by the segments of an axis; one that lies in none stays, and so does each where the ends aren't those of segments.
+pub fn mapped(ends: LazyArray16<'_, AxisValueMap>, n: i64) -> i64
+    requires { unsigned_abs n ≤ 2 ^ 19 }
+    ensures value { result ≡ mapped (axis_value_maps ends.entry) n }
+    ensures bound { unsigned_abs result ≤ 2 ^ 19 }
+{
+    if is_segment_map(&ends) {
+        by_segments(ends, n)
+    } else {
+        n
+    }
+}
+
+/// A number by the first segment in which it lies; one that lies in none stays.
+fn by_segments(ends: LazyArray16<'_, AxisValueMap>, n: i64) -> i64
+    requires { unsigned_abs n ≤ 2 ^ 19 }
+    ensures value { result ≡ by_segments (axis_value_maps ends.entry) n }
+    ensures bound { unsigned_abs result ≤ 2 ^ 19 }
+{
+    let mut rest = ends.iter();
+    let Some(first) = rest.next() else {
+        return n;
+    };
+    let mut p = first;
+    for q in rest {
+        if is_on(p, q, n) {
+            return on_segment(p, q, n);
+        }
+        p = q;
+    }
+    n
+}

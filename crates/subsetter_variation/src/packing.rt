@@ -1,0 +1,4 @@
+//! Packed point numbers and packed deltas (OpenType, "Tuple Variation Store").
+
+pub mod packed;
+pub mod packed_sums;
