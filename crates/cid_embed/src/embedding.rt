@@ -18,12 +18,12 @@ use subsetter::{
     Error, Extras, GlyphRemapper, Limits, Options, check_opening, subset_with_options,
 };
 
-/// What a PDF writer needs of a font for the glyphs that it asks for.
+/// What a PDF writer needs of a font for the glyphs that it requests.
 #[derive(Debug, Drop)]
 pub struct Embedded {
     /// The font program: the subset of the font.
     pub font: Vec<u8>,
-    /// The CID of each asked glyph, in the order asked for.
+    /// The CID of each requested glyph, in the order requested.
     pub cids: Vec<u16>,
     /// The width of each CID, from 0 on, in thousandths of the em.
     pub widths: Vec<u32>,
@@ -71,15 +71,15 @@ pub fn mapper_for(
     }
 }
 
-/// The subset of a font for the asked glyphs, with the CID of each of them and the width of each CID.
+/// The subset of a font for the requested glyphs, with the CID of each of them and the width of each CID.
 ///
-/// The font has glyph 0, then the asked glyphs in order, each once, and then each further glyph that these reach through
-/// components, once; the CID of a glyph is its number there. The widths are those of glyph 0 and the asked glyphs.
+/// The font has glyph 0, then the requested glyphs in order, each once, and then each further glyph that these reach through
+/// components, once; the CID of a glyph is its number there. The widths are those of glyph 0 and the requested glyphs.
 /// `data` and `index` are as for `subset`.
 ///
 /// # Errors
 ///
-/// - `OverflowError`: all glyphs above 0 are asked for, which leaves no number for glyph 0.
+/// - `OverflowError`: all glyphs above 0 are requested, which leaves no number for glyph 0.
 /// - Those of `subset`.
 /// - `MalformedFont`: there is no `hmtx` or no `head`, or unitsPerEm is 0.
 /// - `OutOfMemory`: a request for memory was refused; never for a font that `check_opening` refuses.
@@ -139,12 +139,12 @@ pub fn embed_with_limits(
     embed_with_options(alloc, data, index, glyphs, &options)
 }
 
-/// As `embed_with_limits`, where the new font has only those of its extras that are asked for. The CIDs and the widths
+/// As `embed_with_limits`, where the new font has only those of its extras that are requested. The CIDs and the widths
 /// are the same for all of these.
 ///
 /// # Errors
 ///
-/// Those of `embed_with_limits`, but for what is said of a table that isn't asked for.
+/// Those of `embed_with_limits`, but for what is stated of a table that isn't requested.
 pub fn embed_with_options(
     alloc: Global,
     data: &[u8],

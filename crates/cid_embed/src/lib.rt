@@ -1,4 +1,4 @@
-//! What a PDF writer needs of a font: its subset, the CIDs of the asked glyphs, and the width of each CID.
+//! What a PDF writer needs of a font: its subset, the CIDs of the requested glyphs, and the width of each CID.
 //!
 //! [`embed`] makes all three; `write_widths` writes the widths as a PDF has them; [`shrink`] makes a subset of what
 //! `embed` answered.

@@ -19,10 +19,10 @@ use std::alloc::Global;
 use subsetter::{Error, Limits, Options, Tag};
 use subsetter_variable::static_font;
 
-/// The subset of a font for the asked glyphs as they are at user coordinates, with the CID of each of them and the width that
+/// The subset of a font for the requested glyphs as they are at user coordinates, with the CID of each of them and the width that
 /// each CID has there.
 ///
-/// A font that stands at its default there is embedded as it is, as by `embed`, and else its instance is. The coordinates are
+/// A font that is at its default there is embedded as it is, as by `embed`, and else its instance is. The coordinates are
 /// as for `subset_with_variations`.
 ///
 /// # Errors
@@ -60,8 +60,8 @@ pub fn embed_with_variations(
 ///
 /// # Errors
 ///
-/// Those of `embed_with_variations`, with the chosen limits in place of the default ones, but for what is said of a table that
-/// isn't asked for.
+/// Those of `embed_with_variations`, with the chosen limits in place of the default ones, but for what is stated of a table that
+/// isn't requested.
 pub fn embed_with_variations_and_options(
     alloc: Global,
     data: &[u8],

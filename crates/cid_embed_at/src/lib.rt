@@ -1,4 +1,4 @@
-//! What a PDF writer needs of a variable font at user coordinates: its subset, the CIDs of the asked glyphs, and the width of
+//! What a PDF writer needs of a variable font at user coordinates: its subset, the CIDs of the requested glyphs, and the width of
 //! each CID.
 //!
 //! ```text

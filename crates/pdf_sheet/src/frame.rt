@@ -1,4 +1,4 @@
-//! The page of a sheet, and where its glyphs stand on it.
+//! The page of a sheet, and where its glyphs are on it.
 
 ghost use Rattle.std.specs.Prelude.{◌≡◌, ◌≤◌, ◌<◌, ◌+◌, ◌-◌, ◌*◌, ◌/◌, ◌++◌, IfErr, OnOk, min};
 ghost use Rattle.subsetter_base.specs.declared.error.Error.TheVariants.{OutOfMemory};

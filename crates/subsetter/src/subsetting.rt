@@ -79,10 +79,10 @@ fn subset_cff(
 ///
 /// # Errors
 ///
-/// Each names what stands in the source (`HasFault`); a font in which nothing stands is refused only when out of memory.
+/// Each names what is in the source (`HasFault`); a font in which nothing stands is refused only when out of memory.
 /// Where several faults stand, any of their names may come. The *reached* glyphs are the mapper's and those that they
-/// lead to through components; a charstring leads to no other glyph. What is said of `CFF ` counts where there is no
-/// `glyf`, and what is said of `loca` where there is one.
+/// lead to through components; a charstring leads to no other glyph. What is stated of `CFF ` counts where there is no
+/// `glyf`, and what is stated of `loca` where there is one.
 ///
 /// - `UnknownKind`: the file doesn't begin with a known kind of font, or has none of `glyf`, `CFF ` and `CFF2`.
 /// - `MalformedFont`:
@@ -191,7 +191,7 @@ pub fn subset_with_limits(
     subset_with_options(alloc, data, index, mapper, &options)
 }
 
-/// As `subset_with_limits`, where the new font has only those of its extras that are asked for.
+/// As `subset_with_limits`, where the new font has only those of its extras that are requested.
 ///
 /// - Without `hinting` it has no `cvt `, `fpgm` and `prep`, and no outline in `glyf` has instructions. An outline whose
 ///   instructions are cut stays as it is. `maxp` bounds no instructions, and the hints of charstrings stay. A font whose
@@ -201,8 +201,8 @@ pub fn subset_with_limits(
 ///
 /// # Errors
 ///
-/// Those of `subset_with_limits`, but for what is said of a table that isn't asked for: of `name` without `names`, and of
-/// what stands behind the header of 32 bytes in `post` without `glyph_names`.
+/// Those of `subset_with_limits`, but for what is stated of a table that isn't requested: of `name` without `names`, and of
+/// what is behind the header of 32 bytes in `post` without `glyph_names`.
 pub fn subset_with_options(
     alloc: Global,
     data: &[u8],

@@ -29,7 +29,7 @@ pub enum TableData<'b, 'a> {
         outlines: &'b OutlineList<'a>,
         long: bool,
     },
-    /// `CFF ` in two pieces: what stands before the charstrings' data, and that data.
+    /// `CFF ` in two pieces: what is before the charstrings' data, and that data.
     Pieces(&'b CffPieces),
     /// `head`.
     Head(&'b NewHead<'a>),

@@ -1,4 +1,4 @@
-//! Arrays whose items are read from their bytes only when they are asked for.
+//! Arrays whose items are read from their bytes only when they are requested.
 //!
 //! `LazyArray16` keeps its bytes and its count. It isn't `Copy`; `iter` stands beside `into_iter`.
 

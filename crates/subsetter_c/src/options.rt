@@ -31,7 +31,7 @@ fn bounded(limits: Limits, bytes: u32) -> Limits
     limits.with_bytes(bytes)
 }
 
-/// The options that are asked for; none where the library doesn't know them.
+/// The options that are requested; none where the library doesn't know them.
 pub fn options_of(words: &[u32]) -> Option<Options>
     ensures { MatchOption result (¬ (AreKnown words.now)) (λ options. AreKnown words.now × AreRequested words.now options) }
 {

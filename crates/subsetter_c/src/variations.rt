@@ -54,7 +54,7 @@ fn embedded_for(
 
 /// As `subsetter_subset_by_words`, with the glyphs as they are at coordinates.
 ///
-/// A font that stands at its default there, as one without axes does, is subset as it is, with its hints; else its instance
+/// A font that is at its default there, as one without axes does, is subset as it is, with its hints; else its instance
 /// is.
 #[unsafe(no_mangle)]
 pub extern "C" fn subsetter_subset_at_by_words(
@@ -111,7 +111,7 @@ pub extern "C" fn subsetter_make_subset_at_by_words(
 
 /// As `subsetter_embed_by_words`, with the glyphs and the widths as they are at coordinates.
 ///
-/// A font that stands at its default there is embedded as it is; else its instance is.
+/// A font that is at its default there is embedded as it is; else its instance is.
 #[unsafe(no_mangle)]
 pub extern "C" fn subsetter_embed_at_by_words(
     alloc: Global,

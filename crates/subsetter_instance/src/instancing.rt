@@ -72,7 +72,7 @@ fn make(
 ///
 /// # Errors
 ///
-/// Each names what stands in the source (`HasInstanceFault`); a font in which nothing stands is refused only when out of
+/// Each names what is in the source (`HasInstanceFault`); a font in which nothing stands is refused only when out of
 /// memory.
 ///
 /// - `UnknownKind`: the file doesn't begin with a known kind of font, or has none of `glyf`, `CFF ` and `CFF2`.

@@ -28,7 +28,7 @@ pub fn are_faults_named()
     ensures { AreFaultsNamed }
 {}
 
-/// At the default a glyph, its components unrolled, is as it stands in the source.
+/// At the default a glyph, its components unrolled, is as it is in the source.
 pub fn is_drawn_as_in_source()
     ensures { IsDrawnAsInSource }
 {}
@@ -63,7 +63,7 @@ pub fn is_metric_at_default()
     ensures { IsMetricAtDefault }
 {}
 
-/// So at the default `hhea` and `post` are as they stand in the source.
+/// So at the default `hhea` and `post` are as they are in the source.
 pub fn are_lines_at_default()
     ensures { AreLinesAtDefault }
 {}

@@ -1,5 +1,5 @@
-//! A static font of a variable TrueType font: `instance` answers a font in which each glyph that is asked for is the
-//! simple outline, without instructions, that the variable font has at a place, under its old number.
+//! A static font of a variable TrueType font: `instance` answers a font in which each glyph that is requested is the
+//! simple outline, without instructions, that the variable font has at a location, under its old number.
 #![tactic(auto)]
 
 pub mod glyphs;

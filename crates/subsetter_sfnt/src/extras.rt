@@ -1,4 +1,4 @@
-//! What is asked for of a font besides its outlines and its metrics.
+//! What is requested of a font besides its outlines and its metrics.
 
 /// What a new font has besides its outlines and its metrics. A document that draws glyphs by their numbers needs none of it.
 #[derive(Clone, Copy, PartialEq, Eq, Debug)]

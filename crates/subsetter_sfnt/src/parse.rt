@@ -37,7 +37,7 @@ fn header(file: &[u8], index: u32, extras: Extras) -> Result<usize, Error>
     }
 }
 
-/// Parses the directory of a font, of which these extras are asked for.
+/// Parses the directory of a font, of which these extras are requested.
 #[tactic(auto, unfolding(crate::specs::Plain::opened))]
 pub fn parse(file: &[u8], index: u32, extras: Extras) -> Result<Face<'_>, Error>
     ensures ok { IfOk result (λ face. (face.«data».now ≡ file.now) × (opened (record { bytes = file.now; index = index; extras = extras }) ≡ Ok face.records.now)) }
@@ -64,7 +64,7 @@ impl<'a> Face<'a> {
             || (!extras.names && tag == Tag::NAME)
     }
 
-    /// The bytes of a table other than `maxp` and `post`, if it is asked for.
+    /// The bytes of a table other than `maxp` and `post`, if it is requested.
     pub fn table(&self, tag: Tag) -> Option<&'a [u8]>
         requires maxp { bytes_eq tag.0 (codes "maxp") ≡ false }
         requires post { bytes_eq tag.0 (codes "post") ≡ false }

@@ -23,7 +23,7 @@ pub enum Instruction<'a> {
     Operand(CharStringNumber),
     /// An operator.
     Operator(Operator),
-    /// The bytes of the mask whose operator stands before.
+    /// The bytes of the mask whose operator is before.
     HintMask(&'a [u8]),
 }
 

@@ -57,7 +57,7 @@ impl<'a> Model for SubroutineContainer<'a> {
 }
 
 impl<'a> SubroutineContainer<'a> {
-    /// The entries of this INDEX. None is read before it is asked for.
+    /// The entries of this INDEX. None is read before it is requested.
     pub fn new(index: Index<'a>) -> Self
         ensures { result ≡ items index.entry }
     {

@@ -1,4 +1,4 @@
-//! Where a font stands on its axes, and the static font that it is there.
+//! Where a font is on its axes, and the static font that it is there.
 
 ghost use Rattle.std.specs.Prelude.{◌≡◌, ◌↔◌, ◌⊎◌, All, IfOk, IfErr, IsTrue, MatchOption, IfSome, None, Ok, codes, pos, true};
 ghost use Rattle.subsetter_base.specs.declared.error.Error.{Error as SpecError};
@@ -51,7 +51,7 @@ fn is_at_default(
     Ok(are_zero(&at))
 }
 
-/// The static font that a font is at user coordinates: None where it stands at its default, and is to be taken as it is, with
+/// The static font that a font is at user coordinates: None where it is at its default, and is to be taken as it is, with
 /// its hints. Else it is what `instance` answers for the mapper's glyphs, each of which may take so many `steps`: a file with
 /// one font, of index 0, in which the glyphs have their old numbers.
 ///

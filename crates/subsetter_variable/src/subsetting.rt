@@ -32,7 +32,7 @@ use subsetter::{Error, GlyphRemapper, Limits, Options, Tag, subset_with_options}
 ///
 /// # Errors
 ///
-/// Each names what stands in the source (`HasFaultAt`); a font in which nothing stands is refused only when out of memory.
+/// Each names what is in the source (`HasFaultAt`); a font in which nothing stands is refused only when out of memory.
 ///
 /// - Those of `subset`, for a font that is subset as it is.
 /// - `MalformedFont`: there is `glyf`, and `fvar` or `avar` is cut.
@@ -106,12 +106,12 @@ pub fn subset_with_variations_and_limits(
     subset_with_variations_and_options(alloc, data, index, coordinates, mapper, &options)
 }
 
-/// As `subset_with_variations_and_limits`, where the new font has only those of its extras that are asked for, as in
-/// `subset_with_options`. An instance has no hinting, whatever is asked for.
+/// As `subset_with_variations_and_limits`, where the new font has only those of its extras that are requested, as in
+/// `subset_with_options`. An instance has no hinting, whatever is requested.
 ///
 /// # Errors
 ///
-/// Those of `subset_with_variations_and_limits`, but for what is said of a table that isn't asked for.
+/// Those of `subset_with_variations_and_limits`, but for what is stated of a table that isn't requested.
 pub fn subset_with_variations_and_options(
     alloc: Global,
     data: &[u8],

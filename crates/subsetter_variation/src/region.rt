@@ -1,4 +1,4 @@
-//! How far a part of the design space counts at a place (OpenType, "OpenType Font Variations Overview").
+//! How far a part of the design space counts at a location (OpenType, "OpenType Font Variations Overview").
 
 ghost use Rattle.std.specs.Prelude.{◌≡◌, ◌≤◌, ◌<◌, ◌^◌, pos, ◌-ℤ◌, ◌≤ℤ◌, unsigned_abs, length};
 ghost use Rattle.subsetter_variation.specs.Region.{is_ignored, proportion, counted, scalar};
@@ -64,7 +64,7 @@ pub(crate) fn counted(t: RegionAxis, at: i32, whole: i64) -> i64
     }
 }
 
-/// The scalar of a region at a place, in parts of 2^30.
+/// The scalar of a region at a location, in parts of 2^30.
 pub fn scalar(region: &[RegionAxis], at: &[i32]) -> i64
     requires { length region.now ≡ length at.now }
     ensures value { result ≡ scalar region.now at.now }

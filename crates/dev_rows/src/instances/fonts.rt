@@ -16,7 +16,7 @@ pub struct Instance<'a> {
     pub steps: &'a str,
 }
 
-/// The instance that words ask for.
+/// The instance that words request.
 pub fn instance_by_words(
     alloc: Global,
     font: &[u8],

@@ -15,7 +15,7 @@ pub struct Answer {
     pub status: u32,
     /// The bytes of the new font; none for an error.
     pub font: Vec<u8>,
-    /// The CIDs of the asked glyphs, which `embed` alone answers.
+    /// The CIDs of the requested glyphs, which `embed` alone answers.
     pub cids: Vec<u16>,
     /// The widths of the CIDs, which `embed` alone answers.
     pub widths: Vec<u32>,

@@ -61,7 +61,7 @@ impl Kind {
     }
 }
 
-/// What a row asks for, and what is to be answered.
+/// What a row requests, and what is to be answered.
 #[derive(Debug, Drop)]
 pub struct Row<'a> {
     pub kind: Kind,

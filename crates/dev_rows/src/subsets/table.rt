@@ -20,7 +20,7 @@ struct SourceFont<'a> {
 /// What became of a line of the table.
 #[derive(Clone, Copy, Debug)]
 enum Outcome<'a> {
-    /// It asks for nothing: a comment, a font, a text that only the C library has.
+    /// It requests nothing: a comment, a font, a text that only the C library has.
     Nothing,
     /// All is as the row of this name says.
     AsExpected(&'a str),

@@ -1,4 +1,4 @@
-//! Out of memory. What stands between two readings of the clock is run by `compare/refusals.py` with its requests for
+//! Out of memory. What is between two readings of the clock is run by `compare/refusals.py` with its requests for
 //! memory refused.
 
 use std::fmt;

@@ -2,7 +2,7 @@
 //!
 //! It begins with its version and numGlyphs; version 1.0, which goes with TrueType outlines, has further fields, and
 //! version 0.5, which goes with CFF outlines, has none. The new table has the new number, and the source's further fields
-//! where its version has any. Where hinting isn't asked for there is one zone, and the fields that bound instructions are 0.
+//! where its version has any. Where hinting isn't requested there is one zone, and the fields that bound instructions are 0.
 
 ghost use Rattle.std.specs.Prelude.{◌≡◌, ◌≤◌, ◌+◌, ◌++◌, codes, length, vec_capacity};
 ghost use Rattle.std.specs.Option.{option_copied};

@@ -180,7 +180,7 @@ impl<'a> Strings<'a> {
     }
 }
 
-/// The records of a table of version 0 as they stand in its bytes, and the bytes that hold their strings.
+/// The records of a table of version 0 as they are in its bytes, and the bytes that hold their strings.
 #[derive(Drop)]
 pub struct Table<'a> {
     pub records: LazyArray16<'a, NameRecord>,
@@ -249,7 +249,7 @@ impl Writeable for Table<'_> {
     }
 }
 
-/// The names that a subset keeps: at most 5460 records as they are written, and the strings that stand behind them.
+/// The names that a subset keeps: at most 5460 records as they are written, and the strings that are behind them.
 #[derive(Drop)]
 pub struct NewNames<'a> {
     records: Vec<u8>,

@@ -4,7 +4,7 @@
 //! Macintosh name, from there on that of a Pascal string among those that follow. The new table has the source's header,
 //! an index for each new glyph, and for each name of the font's own a string. A table of another version is copied.
 //!
-//! The names stand one after another, so the place of every eighth is kept in 32 bits, up to the greatest that is asked
+//! The names are one after another, so the place of every eighth is kept in 32 bits, up to the greatest that is asked
 //! for, and of every one where these are at most four for each kept glyph; past what 32 bits reach a name is found from
 //! the first on. More than 65,278 names of the font's own are said by
 //! a list of distinct reached glyphs with such names that is longer than that.

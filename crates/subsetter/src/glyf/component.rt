@@ -225,7 +225,7 @@ fn cut_tail(out: &mut Vec<u8>, flags: u16, size: usize, hinting: bool)
     }
 }
 
-/// Writes a composite with its components under their new numbers behind other bytes, and its instructions if they are asked for. `MalformedFont` where it is cut.
+/// Writes a composite with its components under their new numbers behind other bytes, and its instructions if they are requested. `MalformedFont` where it is cut.
 /// It is copied as it is, and then each component gets its new number in its place. Where that fails, nothing is written.
 pub fn rewrite_composite(
     out: &mut Vec<u8>,

@@ -28,7 +28,7 @@ use subsetter_sfnt::laying::room::put;
 /// A list of outlines, in less room than a `CowSlice` each: borrowed ones stay in the source, and those that are made
 /// anew stand one after another.
 ///
-/// A borrowed outline is whole here. Where instructions aren't asked for, its pieces without them are found each time
+/// A borrowed outline is whole here. Where instructions aren't requested, its pieces without them are found each time
 /// that it is looked at: when it is counted, for its entry of `loca`, and where it is written.
 #[derive(Drop)]
 pub struct OutlineList<'a> {
@@ -79,7 +79,7 @@ impl<'a> OutlineList<'a> {
         })
     }
 
-    /// Puts a composite last, with its components under their new numbers, and its instructions if they are asked for.
+    /// Puts a composite last, with its components under their new numbers, and its instructions if they are requested.
     /// `MalformedFont` where it is cut.
     pub fn push_composite(&mut self, outline: &[u8], order: &GlyphRemapper) -> Result<(), Error>
         ensures ok { OnOk result (with_last self.old.items (rewritten_composite self.old.hinting order.now outline.now) ≡ Ok self.new.items) }
@@ -99,7 +99,7 @@ impl<'a> OutlineList<'a> {
         Ok(())
     }
 
-    /// Puts a simple outline of the source last, with its instructions if they are asked for.
+    /// Puts a simple outline of the source last, with its instructions if they are requested.
     pub fn push_simple(&mut self, outline: &'a [u8]) -> Result<(), Error>
         ensures ok { OnOk result (self.new.items ≡ self.old.items ++ requested_simple self.old.hinting outline.now ∷ []) }
         ensures same { OnOk result (self.new.hinting ≡ self.old.hinting) }

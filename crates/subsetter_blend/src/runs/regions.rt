@@ -3,7 +3,7 @@
 ghost use Rattle.std.specs.Prelude.{◌≡◌, ◌≤◌, ◌<◌, ◌^◌, pos, IfSome, unsigned_abs, slice_index_or, length, option_map};
 ghost use Rattle.subsetter_blend.specs.Runs.Blend.{scalars_in};
 
-/// The scalars of the regions of item variation data, at a place.
+/// The scalars of the regions of item variation data, at a location.
 pub trait Regions {
     ghost use Rattle.std.specs.Prelude.{ℕ, ℤ, List, Option};
 

@@ -103,7 +103,7 @@ fn number_of(along: Along, by: i64, at: Position, to: Position) -> Option<CharSt
     }
 }
 
-/// All moves of an operator: where they go, if all numbers fit. The whole operands stand behind those that there are.
+/// All moves of an operator: where they go, if all numbers fit. The whole operands are behind those that there are.
 pub fn place_all(
     operator: Operator,
     operands: &[i64],

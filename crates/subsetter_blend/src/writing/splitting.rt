@@ -1,4 +1,4 @@
-//! Which operands stand together, where an operator has more than fit.
+//! Which operands are together, where an operator has more than fit.
 
 ghost use Rattle.std.specs.Prelude.{◌≡◌, ◌≤◌, ◌+◌, ◌*◌, ◌^◌, ◌+ℤ◌, All, length, unsigned_abs};
 ghost use Rattle.subsetter_blend.specs.Writing.Split.{one_byte_cut, cut, one_byte_piece, piece_type, sum_of, moved_by, sum_before};
@@ -74,7 +74,7 @@ fn plus(sum: i64, more: i64) -> i64
     sum + more
 }
 
-/// The operands of a piece, the first with what stands before.
+/// The operands of a piece, the first with what is before.
 pub fn part_of(before: i64, operands: &[i64]) -> Part
     requires few { length operands.now ≤ 48 }
     requires before { unsigned_abs before ≤ 2 ^ 58 }
@@ -107,7 +107,7 @@ fn sum(operands: &[i64]) -> i64
     sum
 }
 
-/// What stands before the operands of the next piece.
+/// What is before the operands of the next piece.
 pub fn carried(hint: bool, before: i64, operands: &[i64]) -> i64
     requires some { 1 ≤ length operands.now }
     requires few { length operands.now ≤ 513 }

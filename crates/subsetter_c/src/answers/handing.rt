@@ -15,9 +15,9 @@ use subsetter::Error;
 pub struct Sizes {
     /// The bytes of the font.
     pub font: usize,
-    /// The CIDs: as many as glyphs were asked for.
+    /// The CIDs: as many as glyphs were requested.
     pub cids: usize,
-    /// The widths: as many as there are different ones among glyph 0 and the asked glyphs.
+    /// The widths: as many as there are different ones among glyph 0 and the requested glyphs.
     pub widths: usize,
 }
 

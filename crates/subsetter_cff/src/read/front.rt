@@ -12,12 +12,12 @@ use subsetter_base::error::Error;
 use subsetter_base::read::Reader;
 use subsetter_cffdata::indexes::index::{Index, parse_index};
 
-/// The parts that stand one behind the other.
+/// The parts that are one behind the other.
 #[derive(Clone, Copy, Debug)]
 pub struct Front<'a> {
     /// The whole table.
     pub bytes: &'a [u8],
-    /// The Name INDEX as it stands.
+    /// The Name INDEX as it is.
     pub names: &'a [u8],
     /// The top dict.
     pub top: &'a [u8],

@@ -1,4 +1,4 @@
-//! The numbers of an entry at a place: each edge of an array of differences, or each number, rounded once.
+//! The numbers of an entry at a location: each edge of an array of differences, or each number, rounded once.
 
 ghost use Rattle.std.specs.Prelude.{◌≡◌, ◌≤◌, ◌+ℤ◌, ◌-ℤ◌, ◌^◌, ◌*◌, ◌+◌, ℕ, All, length, map, take, is_some, pos, unsigned_abs, OnOk, IfErr};
 ghost use Rattle.std.specs.List.{list_all};

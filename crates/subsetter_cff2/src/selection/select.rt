@@ -111,7 +111,7 @@ fn in_format(bytes: &[u8], at: usize, format: u8, glyph: u16) -> Option<u16>
     }
 }
 
-/// The number of a glyph's font dict by the FDSelect at a place; without one it is 0.
+/// The number of a glyph's font dict by the FDSelect at a location; without one it is 0.
 pub fn font_dict_number(bytes: &[u8], select: Option<u32>, glyph: u16) -> Option<u16>
     ensures { result ≡ selected bytes.now select glyph }
 {

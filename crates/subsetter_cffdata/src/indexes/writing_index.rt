@@ -17,7 +17,7 @@ use subsetter_base::write::{Writeable, Writer};
 pub struct OwnedIndex {
     /// The whole INDEX.
     pub data: Vec<u8>,
-    /// How many bytes stand before the first item.
+    /// How many bytes are before the first item.
     pub header_size: usize,
 }
 
@@ -72,7 +72,7 @@ pub fn put_number(size: u8, n: usize, w: &mut Writer) -> Result<(), Error>
     w.extend(&bytes[8 - size as usize..])
 }
 
-/// Writes what stands before the offsets behind the items: how many items there are, how many bytes an offset takes, and the
+/// Writes what is before the offsets behind the items: how many items there are, how many bytes an offset takes, and the
 /// first offset, which is 1. The total is the length of the data together with one.
 pub fn put_front(count: u16, total: u32, w: &mut Writer) -> Result<(), Error>
     ensures ok { OnOk result (w.new ≡ w.old ++ front count total) }

@@ -63,7 +63,7 @@ pub struct NumberRead<'a> {
     pub rest: &'a [u8],
 }
 
-/// The number at the front, and the bytes after it; None where no number stands there or it is cut short.
+/// The number at the front, and the bytes after it; None where no number is there or it is cut short.
 #[inline(always)]
 #[tactic(auto, unfolding(crate::specs::Numerals::CharStringNumber::number_at))]
 pub fn read_number(bytes: &[u8]) -> Option<NumberRead<'_>>

@@ -29,7 +29,7 @@ use subsetter_base::write::{Writeable, Writer};
 pub struct IntegerNumber(pub i32);
 
 impl IntegerNumber {
-    /// Reads an integer; None where no integer stands there or it is cut short.
+    /// Reads an integer; None where no integer is there or it is cut short.
     pub fn parse(r: &mut Reader<'_>) -> Option<IntegerNumber>
         ensures value { Takes (λ x. x.0) result r.old r.new integer_at }
         ensures same { r.new.bytes ≡ r.old.bytes }
@@ -122,7 +122,7 @@ impl Writeable for IntegerNumber {
 pub struct FixedNumber(pub i32);
 
 impl FixedNumber {
-    /// Reads a number of 65536ths; None where no byte 255 stands there or it is cut short.
+    /// Reads a number of 65536ths; None where no byte 255 is there or it is cut short.
     #[tactic(auto, unfolding(crate::specs::Numerals::Numbers::fixed_from))]
     pub fn parse(r: &mut Reader<'_>) -> Option<FixedNumber>
         ensures value { Takes (λ x. x.0) result r.old r.new fixed_number_at }
@@ -179,7 +179,7 @@ impl Default for Number {
 }
 
 impl Number {
-    /// Reads a number of a DICT; None where no number stands there or it can't be read.
+    /// Reads a number of a DICT; None where no number is there or it can't be read.
     pub fn parse_cff_number(r: &mut Reader<'_>) -> Option<Number>
         ensures value { Takes number_of result r.old r.new dict_number_at }
         ensures same { r.new.bytes ≡ r.old.bytes }
@@ -188,7 +188,7 @@ impl Number {
         Self::parse_dict_number(b0, r)
     }
 
-    /// Reads a number of a charstring; None where no number stands there or it is cut short. Bytes 29 and 30 begin no number there.
+    /// Reads a number of a charstring; None where no number is there or it is cut short. Bytes 29 and 30 begin no number there.
     #[tactic(auto, using(crate::proofs::NumeralsLaws::CharStringNumbers::what_follows))]
     pub fn parse_char_string_number(r: &mut Reader<'_>) -> Option<Number>
         ensures value { Takes number_of result r.old r.new charstring_number_at }
@@ -222,7 +222,7 @@ impl Number {
         }
     }
 
-    /// Becomes the number of a DICT whose first byte was read; None where no number stands there or it can't be read.
+    /// Becomes the number of a DICT whose first byte was read; None where no number is there or it can't be read.
     #[inline(always)]
     #[tactic(auto, unfolding(crate::specs::Numerals::Numbers::dict_number_from))]
     pub fn read_dict_number(&mut self, b0: u8, r: &mut Reader<'_>) -> Option<()>

@@ -64,7 +64,7 @@ impl Text {
         }
     }
 
-    /// The characters of a byte, and whether the end stands there.
+    /// The characters of a byte, and whether the end is there.
     #[tactic(auto, unfolding(crate::specs::Reals::TextSteps::byte_step))]
     pub fn push_byte(&mut self, b: u8) -> Option<bool>
         ensures { option_map (λ x. (x, shown self.new)) result ≡ byte_step (shown self.old) b }

@@ -72,7 +72,7 @@ fn moved_offsets(
     moved(alloc, gvar, glyph, &default, at, steps)
 }
 
-/// A composite glyph at a place.
+/// A composite glyph at a location.
 #[tactic(auto, unfolding(crate::specs::Glyphs::Unfolded::composite))]
 pub fn read_composite(
     alloc: Global,

@@ -1,4 +1,4 @@
-//! What a glyph is at a place.
+//! What a glyph is at a location.
 
 ghost use Rattle.std.specs.Prelude.{◌≡◌, ◌≤◌, ◌^◌, ◌-ℤ◌, All, IfOk, length, unsigned_abs};
 ghost use Rattle.std.specs.Option.{option_copied};
@@ -208,7 +208,7 @@ fn rounded(
     drawn_if_fit(outline, advance)
 }
 
-/// What is drawn of a glyph at a place, in so many steps, and the glyphs that are kept.
+/// What is drawn of a glyph at a location, in so many steps, and the glyphs that are kept.
 #[tactic(auto, unfolding(crate::specs::Glyphs::Drawn::drawn))]
 pub fn draw(
     alloc: Global,
@@ -250,7 +250,7 @@ fn drawn_if(
     }
 }
 
-/// What is drawn of the glyphs that are asked for, each in as many steps as each other.
+/// What is drawn of the glyphs that are requested, each in as many steps as each other.
 #[tactic(auto, using(crate::proofs::GlyphsLaws::Glyphs::glyphs_start, crate::proofs::GlyphsLaws::Glyphs::glyphs_step, crate::proofs::GlyphsLaws::Glyphs::glyphs_end))]
 pub fn draw_all(
     alloc: Global,

@@ -1,6 +1,6 @@
 //! Simple glyphs that composites lead to. They are kept, so that a letter is unfolded once for all its accents.
 //!
-//! A glyph has a place by its number, and leaves it to the next one that has the same. With so few places, and only for glyphs of
+//! A glyph has a location by its number, and leaves it to the next one that has the same. With so few places, and only for glyphs of
 //! few points, they hold less than 1 MB whatever the font.
 
 ghost use Rattle.std.specs.Prelude.{◌≡◌, ◌<◌, ◌≤◌, List, ℕ, ℤ, Some, Ok, false, IsTrue, IfOk, IfSome, length};
@@ -34,7 +34,7 @@ impl Model for KeptGlyph {
     ghost view = { λ k. record { glyph = k.glyph; cost = k.cost; outline = k.outline } };
 }
 
-/// The glyphs that are kept, each at its place.
+/// The glyphs that are kept, each at its location.
 #[derive(Drop)]
 pub struct Kept {
     places: Vec<Option<KeptGlyph>>,

@@ -1,4 +1,4 @@
-//! A simple glyph at a place.
+//! A simple glyph at a location.
 
 ghost use Rattle.std.specs.Prelude.{◌≡◌, ◌≤◌, ◌<◌, ◌^◌, ◌+◌, ◌++◌, ◌∷◌, [], ◌*ℤ◌, ◌+ℤ◌, ℕ, pos, length, map, take, slice_index_or, unsigned_abs, All, IsTrue, IfOk};
 ghost use Rattle.std.specs.Option.{option_copied};
@@ -264,7 +264,7 @@ fn unfold_columns(
     near_or_fault(unfolded, steps)
 }
 
-/// A simple glyph at a place, and the steps that are left.
+/// A simple glyph at a location, and the steps that are left.
 #[tactic(auto, unfolding(crate::specs::Glyphs::Unfolded::unfolded_simple))]
 pub fn unfold_simple(
     alloc: Global,

@@ -1,4 +1,4 @@
-//! A glyph at a place, unfolded.
+//! A glyph at a location, unfolded.
 
 ghost use Rattle.std.specs.Prelude.{◌≡◌, IfOk, length};
 ghost use Rattle.std.specs.Option.{option_copied};
@@ -20,7 +20,7 @@ use subsetter_base::read::Reader;
 /// How deep components may lead to components: 64 levels below a glyph.
 const LEVELS: u8 = 65;
 
-/// A glyph at a place: the number of each contour's last point, which points are on the curve, where they lie, and x of
+/// A glyph at a location: the number of each contour's last point, which points are on the curve, where they lie, and x of
 /// the left and of the right phantom point. All coordinates are in parts of 2^30.
 #[derive(Drop)]
 pub struct Unfolded {
@@ -134,7 +134,7 @@ fn unfold_within(
     Ok((all, left, kept))
 }
 
-/// A glyph at a place, the steps that are left, and the glyphs that are kept.
+/// A glyph at a location, the steps that are left, and the glyphs that are kept.
 pub fn unfold(
     alloc: Global,
     source: &Source<'_>,

@@ -167,7 +167,7 @@ fn write_sides(out: &mut Vec<u8>, extents: Option<Extents>) -> Result<(), AllocE
     }
 }
 
-/// Appends the greatest advance, and what stands behind it in `hhea`.
+/// Appends the greatest advance, and what is behind it in `hhea`.
 pub fn write_extremes(out: &mut Vec<u8>, drawn: &[Drawn]) -> Result<(), AllocError>
     ensures { OnOk result (out.new.items ≡ out.old.items ++ extreme_bytes drawn.now) }
 {

@@ -194,7 +194,7 @@ fn varied_post_if(
     }
 }
 
-/// `hhea` and `post` of a font at a place. A cut table is `MalformedFont`, a number past 16 bits `OverflowError`.
+/// `hhea` and `post` of a font at a location. A cut table is `MalformedFont`, a number past 16 bits `OverflowError`.
 #[tactic(auto, unfolding(crate::specs::Tables::Lines::lines_of))]
 pub fn lines_of(alloc: Global, face: &Face<'_>, at: &[i32]) -> Result<Lines, Error>
     requires { IfSome (table_in face.now.«data».now face.now.records.now (codes "hhea")) (λ hhea. 36 ≤ length hhea) }

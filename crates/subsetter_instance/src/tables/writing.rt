@@ -1,6 +1,6 @@
 //! The tables of outlines and metrics of an instance (OpenType, "glyf", "loca" and "hmtx").
 //!
-//! Each glyph of the font has its entry, in the order of the font. One that wasn't asked for has no bytes in `glyf`, and the metric 0 and 0.
+//! Each glyph of the font has its entry, in the order of the font. One that wasn't requested has no bytes in `glyf`, and the metric 0 and 0.
 
 ghost use Rattle.std.specs.Prelude.{◌≡◌, ◌++◌, IfOk, IfErr, OnOk, length, map};
 ghost use Rattle.std.specs.Option.{option_copied};

@@ -209,7 +209,7 @@ fn patch_bytes(out: &mut Vec<u8>, at: usize, bytes: &[u8])
     out[at..at + bytes.len()].copy_from_slice(bytes);
 }
 
-/// Lays out a file in room that its caller reserved, also for what stands before the tables. No memory is taken.
+/// Lays out a file in room that its caller reserved, also for what is before the tables. No memory is taken.
 /// Each table is summed as it is written.
 pub fn construct<T: TableBytes>(
     out: Vec<u8>,

@@ -26,11 +26,11 @@ fn skip_numbers(bytes: &[u8], count: usize) -> Option<&[u8]>
 pub struct LastNumber {
     /// The number.
     pub number: CharStringNumber,
-    /// How many bytes stand before it.
+    /// How many bytes are before it.
     pub before: usize,
 }
 
-/// The last of so many numbers, which are all of these bytes, and how many bytes stand before it.
+/// The last of so many numbers, which are all of these bytes, and how many bytes are before it.
 #[inline(always)]
 pub fn find_last_number(bytes: &[u8], count: usize) -> Option<LastNumber>
     ensures some { IfSome result (λ last. 1 ≤ count) }

@@ -133,7 +133,7 @@ impl Output {
         Ok(stretch)
     }
 
-    /// How many bytes stand before the operands.
+    /// How many bytes are before the operands.
     #[inline(always)]
     pub fn settled_len(&self) -> usize
         ensures { result ≡ length self.now.settled }

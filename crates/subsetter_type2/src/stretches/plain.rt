@@ -1,4 +1,4 @@
-//! Tokens that stand in the flat form as they are, by their first byte.
+//! Tokens that are in the flat form as they are, by their first byte.
 
 ghost use Rattle.std.specs.Prelude.{◌≡◌, ◌≤◌, ◌+◌, ◌*◌, MatchBool, Some, nat_lt, if◌then◌else◌};
 ghost use Rattle.subsetter_type2.specs.Stretches.Plain.{is_plain};

@@ -1,7 +1,7 @@
 //! The stretch at the front of a charstring.
 //!
 //! Numbers in their shortest form, operators that take all operands, and masks whose length is known stand in the flat
-//! form as they stand in the source. So a stretch of them is appended at once, and all else goes token by token. A
+//! form as they are in the source. So a stretch of them is appended at once, and all else goes token by token. A
 //! stretch has at most as many bytes as tokens are left, so its tokens needn't be counted down one by one.
 
 ghost use Rattle.std.specs.Prelude.{◌≡◌, ◌≤◌, ◌<◌, length, IfSome, ℕ, List};

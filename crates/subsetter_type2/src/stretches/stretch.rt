@@ -27,7 +27,7 @@ fn choose(first: bool, one: usize, other: usize) -> usize
 }
 
 impl Stretch {
-    /// Where the operands begin behind this stretch, which stands behind so many bytes.
+    /// Where the operands begin behind this stretch, which is behind so many bytes.
     #[inline(always)]
     pub fn settled_after(&self, settled: usize, before: usize) -> usize
         requires inside { self.now.settled ≤ self.now.len }

@@ -312,7 +312,7 @@ fn moved_in_bytes<'a>(
     Ok((xs, ys, steps))
 }
 
-/// Where the points of a glyph go at a place, x and y in parts of 2^30, and the steps that are left: 1 for each tuple, and 1 for
+/// Where the points of a glyph go at a location, x and y in parts of 2^30, and the steps that are left: 1 for each tuple, and 1 for
 /// each point of one whose scalar isn't 0, each taken before what it is for is read. Where they end it is `OverflowError`; variations
 /// that aren't there or are cut are `MalformedFont`.
 #[tactic(auto, unfolding(crate::specs::Glyphs::Movement::moved_points))]

@@ -151,7 +151,7 @@ fn inner_scalar(peaks: &[u8], starts: &[u8], ends: &[u8], at: &[i32]) -> i64
 }
 
 impl<'a> TupleRegion<'a> {
-    /// The scalar at a place, in parts of 2^30.
+    /// The scalar at a location, in parts of 2^30.
     #[tactic(auto, using(crate::proofs::Regions::axes_count, crate::proofs::Regions::same_plain))]
     pub fn scalar(&self, at: &[i32]) -> i64
         requires { length self.now ≡ length at.now }

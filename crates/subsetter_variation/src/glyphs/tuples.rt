@@ -214,7 +214,7 @@ impl<'a> Model for TupleHeader<'a> {
 }
 
 impl<'a> TupleHeader<'a> {
-    /// How far it counts at a place, in parts of 2^30.
+    /// How far it counts at a location, in parts of 2^30.
     pub fn scalar(&self, at: &[i32]) -> i64
         requires { length self.now.region ≡ length at.now }
         ensures value { result ≡ scalar self.now.region at.now }

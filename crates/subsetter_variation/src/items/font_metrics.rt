@@ -100,7 +100,7 @@ fn varied_metric(mvar: &[u8], at: &[i32], tag: Tag) -> Option<i128>
     value_delta(mvar, at, indexes)
 }
 
-/// What the metric of a tag varies by at a place, in whole units: 0 where it has no value record. A table that is cut, or has no
+/// What the metric of a tag varies by at a location, in whole units: 0 where it has no value record. A table that is cut, or has no
 /// item for the record, is `MalformedFont`, 2^32 units or more `OverflowError`.
 pub fn metric_delta(mvar: &[u8], at: &[i32], tag: Tag) -> Result<i64, Error>
     ensures { result ≡ whole_or_fault (metric_delta mvar.now at.now tag.0) }

@@ -148,7 +148,7 @@ fn coordinate_in(at: &[i32]) -> Option<(i32, &[i32])>
     }
 }
 
-/// The scalar of a region at a place, in parts of 2^30. The axes behind one that makes it 0 aren't read.
+/// The scalar of a region at a location, in parts of 2^30. The axes behind one that makes it 0 aren't read.
 #[tactic(auto, using(crate::proofs::Masters::scalar_of_none))]
 pub fn region_scalar(region: LazyArray16<'_, RegionAxis>, at: &[i32]) -> i64
     ensures value { result ≡ scalar (region_of region.entry) at.now }
@@ -322,7 +322,7 @@ fn terms(s: &Store<'_>, at: &[i32], r: &Row<'_>) -> Option<i128>
     Some(sum)
 }
 
-/// What an item varies by at a place, in parts of 2^30.
+/// What an item varies by at a location, in parts of 2^30.
 #[tactic(auto, unfolding(crate::specs::Items::ItemVariations::item_delta))]
 pub fn item_delta(s: &Store<'_>, at: &[i32], outer: u32, inner: u32) -> Option<i128>
     ensures { result ≡ item_delta s.now at.now outer inner }
@@ -429,7 +429,7 @@ pub(crate) fn in_whole_units(d: i128) -> Result<i64, Error>
     }
 }
 
-/// What the advance of a glyph varies by at a place, in whole units. A table that is cut, or has no item for the glyph, is
+/// What the advance of a glyph varies by at a location, in whole units. A table that is cut, or has no item for the glyph, is
 /// `MalformedFont`, 2^32 units or more `OverflowError`.
 pub fn advance_delta(hvar: &[u8], at: &[i32], glyph: u16) -> Result<i64, Error>
     ensures { result ≡ whole_or_fault (advance_delta hvar.now at.now glyph) }

@@ -1,6 +1,6 @@
 //! The segments that bend an axis (OpenType, "avar").
 //!
-//! OpenType asks for the pairs of -1, 0 and 1, past which no number lies, for numbers that ascend, and for new numbers that
+//! OpenType requests the pairs of -1, 0 and 1, past which no number lies, for numbers that ascend, and for new numbers that
 //! don't descend. Where an axis has anything else, its coordinate isn't modified. The major version has to be 1.
 
 ghost use Rattle.std.specs.Prelude.{◌≡◌, ◌+◌, ◌*◌, ◌<◌, ◌≤◌, ◌^◌, Some, true, ◌-ℤ◌, ◌≤ℤ◌, ◌<ℤ◌, IfSome, true, unsigned_abs};

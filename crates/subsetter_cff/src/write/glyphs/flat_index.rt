@@ -1,4 +1,4 @@
-//! Writing an INDEX whose items stand one behind the other (Technical Note 5176, section 5 "INDEX Data").
+//! Writing an INDEX whose items are one behind the other (Technical Note 5176, section 5 "INDEX Data").
 
 ghost use Rattle.std.specs.Prelude.{◌≡◌, ◌≤◌, ◌<◌, ◌+◌, ◌*◌, ◌^◌, ◌++◌, length, nat_lt, OnOk, IfOk, IfErr};
 ghost use Rattle.subsetter_base.specs.Gives.{Gives};
@@ -35,7 +35,7 @@ fn total_of(size_of_data: usize) -> Result<u32, Error>
     Ok(size_of_data as u32 + 1)
 }
 
-/// Writes what stands before the data of an INDEX: the data has a length, and each end is the offset behind an item, from 1
+/// Writes what is before the data of an INDEX: the data has a length, and each end is the offset behind an item, from 1
 /// on. Data of 4 GiB is `OverflowError`.
 #[tactic(auto, unfolding(crate::specs::Write::Glyphs::FlatIndex::flat_header))]
 pub fn write_flat_header(size_of_data: usize, ends: &[usize], w: &mut Writer) -> Result<(), Error>
@@ -51,7 +51,7 @@ pub fn write_flat_header(size_of_data: usize, ends: &[usize], w: &mut Writer) ->
     put_ends(size_of_offset(total), ends, w)
 }
 
-/// How many bytes stand at most before the data of an INDEX of so many items.
+/// How many bytes are at most before the data of an INDEX of so many items.
 pub fn header_room(size_of_data: usize, count: u16) -> usize
     ensures exact { size_of_data + 1 < 2 ^ 32 → result ≡ 3 + offset_size (size_of_data + 1) * (count + 1) }
     ensures small { result ≤ 3 + 4 * (count + 1) }
@@ -71,7 +71,7 @@ pub fn single_size(size: u32) -> usize
     3 + 2 * usize::from(size_of_offset(size + 1)) + size as usize
 }
 
-/// Writes what stands before the data of an INDEX of one item of a size.
+/// Writes what is before the data of an INDEX of one item of a size.
 #[tactic(auto, unfolding(crate::specs::Write::Glyphs::FlatIndex::single_header))]
 pub fn write_single_header(size: u32, w: &mut Writer) -> Result<(), Error>
     requires { size < 4294967295 }

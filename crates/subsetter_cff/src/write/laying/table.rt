@@ -19,7 +19,7 @@ use subsetter_cffdata::numerals::number::{Number, StringId};
 pub struct FontDictParts<'a> {
     /// Its matrix.
     pub matrix: Matrix,
-    /// The private dict as it stands in the source.
+    /// The private dict as it is in the source.
     pub private: &'a [u8],
     /// Its name.
     pub name: Option<StringName<'a>>,
@@ -28,7 +28,7 @@ pub struct FontDictParts<'a> {
 /// A new table.
 #[derive(Drop)]
 pub struct TableParts<'a> {
-    /// The Name INDEX as it stands.
+    /// The Name INDEX as it is.
     pub names: &'a [u8],
     /// The copyright.
     pub copyright: Option<StringName<'a>>,

@@ -20,7 +20,7 @@ use std::alloc::Global;
 use subsetter_base::error::Error;
 use subsetter_base::write::Writer;
 
-/// What stands between the front and the charstrings.
+/// What is between the front and the charstrings.
 #[derive(Drop)]
 pub struct Pieces {
     /// How many bytes the charset has.
@@ -36,7 +36,7 @@ pub struct Pieces {
 /// A new table, in two pieces: the second one is large, and needn't be copied behind the first.
 #[derive(Drop)]
 pub struct CffPieces {
-    /// What stands before the charstrings' data.
+    /// What is before the charstrings' data.
     pub front: Vec<u8>,
     /// The charstrings, one behind the other.
     pub char_strings: Vec<u8>,

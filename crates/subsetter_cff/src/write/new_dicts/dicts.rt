@@ -114,7 +114,7 @@ fn put_dict(
     Ok(())
 }
 
-/// The font dicts, whose private dicts stand from a place on. A real that is too long, or a private dict that ends past
+/// The font dicts, whose private dicts are from a place on. A real that is too long, or a private dict that ends past
 /// 2147483647, is `OverflowError`.
 pub fn write_dicts(
     alloc: Global,

@@ -72,7 +72,7 @@ pub fn write_offsets(offsets: &Offsets, w: &mut Writer) -> Result<(), Error>
     write_offset(offsets.select, FD_SELECT, w)
 }
 
-/// Writes the entries without offsets, which stand in front. A real that is too long is `OverflowError`.
+/// Writes the entries without offsets, which are in front. A real that is too long is `OverflowError`.
 #[tactic(auto, unfolding(crate::specs::Write::Laying::TableLimits::numbers_limits))]
 pub fn write_named(top: &TopDict<'_>, w: &mut Writer) -> Result<(), Error>
     ensures ok { OnOk result (w.new ≡ w.old ++ named_bytes (top_dict_of top.now)) }
