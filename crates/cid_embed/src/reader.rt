@@ -50,7 +50,11 @@ pub fn read_metrics(file: &[u8]) -> Result<Metrics<'_>, Error>
     }
     let hhea = table(file, Tag::HHEA).ok_or(Error::MalformedFont)?;
     let pairs = number_of_h_metrics(hhea).ok_or(Error::MalformedFont)?;
-    Ok(Metrics { hmtx, number_of_h_metrics: pairs, units })
+    Ok(Metrics {
+        hmtx,
+        number_of_h_metrics: pairs,
+        units,
+    })
 }
 
 impl Metrics<'_> {

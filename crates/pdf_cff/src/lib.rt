@@ -5,7 +5,7 @@
 //! ```
 #![tactic(auto)]
 
-mod values;
 mod stems;
+mod values;
 
 pub use values::{CffValues, cff_values_in, unless_memory};

@@ -7,8 +7,8 @@ ghost use Rattle.subsetter_cffdata.specs.Views.{number_of, operator_of};
 ghost use Rattle.pdf_cff.specs.Stems.{IsNearest, in_thousandths, of_em, stem_by, stem_in, stem_of, stem_operator};
 
 use subsetter_cffdata::dicts::dict::DictionaryParser;
-use subsetter_cffdata::numerals::number::Number;
 use subsetter_cffdata::dicts::operator::Operator;
+use subsetter_cffdata::numerals::number::Number;
 
 /// Whether an operator is StdVW.
 fn is_stem(operator: &Operator) -> bool

@@ -9,10 +9,10 @@ ghost use Rattle.pdf_codes.specs.Cmaps.Leading.{AreLed, name_of, own_cmap, own_n
 ghost use Rattle.pdf_codes.specs.Shown.{uses_of};
 ghost use Rattle.pdf_codes.specs.Cmaps.Texts.{first_text, is_line_found, lines_of_codes, text_in};
 
-use crate::codes::{Codes, codes_for, lines_of};
 use crate::cmaps::leading::{are_cids, pairs_with, write_leading};
-use crate::shown::{Shown, entries_of, units_of_all};
 use crate::cmaps::texts::texts_for;
+use crate::codes::{Codes, codes_for, lines_of};
+use crate::shown::{Shown, entries_of, units_of_all};
 use pdf_text::NamedCmap;
 use std::alloc::Global;
 use subsetter_base::Error;

@@ -5,8 +5,8 @@ ghost use Rattle.pdf_moved.specs.Movement.{clamped, coordinate_on, delta_of, if_
 ghost use Rattle.subsetter_variation.specs.Locations.Axes.{find_axis};
 
 use subsetter_base::Tag;
-use subsetter_variation::locations::axes::{Axis, find_axis, user_coordinate};
 use subsetter_variation::items::font_metrics::metric_delta;
+use subsetter_variation::locations::axes::{Axis, find_axis, user_coordinate};
 
 /// Where a font is moved to.
 #[derive(Clone, Copy)]

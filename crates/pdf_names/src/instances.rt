@@ -12,10 +12,10 @@ use pdf_values::table_name;
 use std::alloc::Global;
 use subsetter_base::read::{Reader, after_four};
 use subsetter_base::{Error, Tag};
-use subsetter_variation::locations::axes::Axis;
 use subsetter_variation::fvar::{
     axes_array_offset, axis_count, axis_size, instance_count, instance_size,
 };
+use subsetter_variation::locations::axes::Axis;
 
 /// Whether bytes begin with the coordinate of an axis.
 fn is_coordinate(axis: Axis, settings: &[(Tag, i32)], bytes: &[u8]) -> bool

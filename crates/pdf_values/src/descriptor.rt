@@ -10,8 +10,8 @@ use crate::looks::bounds::{Bounds, Edges, GlyphBox, bounds_of};
 use crate::looks::flags::flags_of;
 use crate::looks::heights::{Heights, heights_of};
 use crate::looks::lean::italic_angle;
-use crate::units::units_per_em;
 use crate::looks::weight::{font_weight, stem_v, weight_of};
+use crate::units::units_per_em;
 
 /// The tables that the values are read of; none where the font lacks one.
 #[derive(Clone, Copy)]

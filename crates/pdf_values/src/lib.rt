@@ -20,14 +20,14 @@ mod permission;
 mod rounding;
 mod units;
 
-pub use looks::bounds::{Bounds, Edges, GlyphBox, bounds_of};
 pub use descriptor::{Known, Tables, Values, values_of};
+pub use laws::{first_is_taken, none_is_passed};
+pub use looks::bounds::{Bounds, Edges, GlyphBox, bounds_of};
 pub use looks::flags::flags_of;
 pub use looks::heights::{Heights, heights_of};
-pub use laws::{first_is_taken, none_is_passed};
 pub use looks::lean::italic_angle;
+pub use looks::weight::{font_weight, stem_v, weight_of};
 pub use naming::{postscript_name, table_name};
 pub use permission::{Permission, Rights, Usage, is_permitted, permission_of};
 pub use rounding::{lowered, raised, thousandths};
 pub use units::units_per_em;
-pub use looks::weight::{font_weight, stem_v, weight_of};

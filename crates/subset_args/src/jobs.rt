@@ -9,9 +9,9 @@ ghost use Rattle.subset_args.specs.Listing.ListView.{list_view};
 ghost use Rattle.subset_args.specs.View.{source_view, chosen_view, free_view, requested_view, position_view, pdf_view, job_view, command_view};
 ghost use Rattle.subset_args.specs.declared.jobs.ArgsError.TheVariants.{Usage, OutOfMemory};
 
-use crate::listing::characters::read_characters;
 use crate::coordinates::read_coordinates;
 use crate::limits::RunLimits;
+use crate::listing::characters::read_characters;
 use crate::listing::lists::{FileKind, GlyphList, read_argument};
 use crate::options::{
     Chosen, Coding, Free, Parsed, PdfChoice, Source, Switches, parse_free, parse_options,

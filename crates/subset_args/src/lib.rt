@@ -19,11 +19,11 @@ mod nearest;
 mod options;
 mod texts;
 
-pub use listing::characters::codes_descend;
 pub use coordinates::read_coordinates;
-pub use listing::files::{find_wrong, read_list};
 pub use jobs::{ArgsError, Command, Glyphs, Job, PdfJob, Position, Topic, is_stream, read_words};
 pub use limits::RunLimits;
+pub use listing::characters::codes_descend;
+pub use listing::files::{find_wrong, read_list};
 pub use listing::lists::{FileKind, GlyphList, descends};
 pub use mistakes::{Mistake, Wrong, find_mistake};
 pub use options::{Coding, OPTIONS, PdfChoice, Switches};

@@ -5,9 +5,9 @@ ghost use Rattle.subset_args.specs.Mistakes.{IsWrong};
 ghost use Rattle.subset_args.specs.Options.{kind_of};
 ghost use Rattle.subset_args.specs.declared.options.Kind.TheVariants.{Place};
 
-use crate::listing::characters::{codes_descend, is_wrong_codes};
 use crate::coordinates::is_coordinate;
 use crate::jobs::{first_topic, is_name, is_same, is_stream, topic_of};
+use crate::listing::characters::{codes_descend, is_wrong_codes};
 use crate::listing::lists::{FileKind, descends, is_wrong_part};
 use crate::nearest::front;
 use crate::options::{

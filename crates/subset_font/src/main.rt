@@ -18,18 +18,18 @@ mod run;
 mod streams;
 mod task;
 
-pub use making::requested::{Picked, pick};
 pub use faces::axes::{axes_there, carry_axes};
-pub use making::carried::carry_out;
-pub use refusals::failure::{Failure, Report, status_of_run};
-pub use help::{HELP, VERSION_LINE};
-pub use refusals::hint::{Hint, find_axes_hint, find_hint};
 pub use faces::info::{InfoParts, carry_info};
-pub use notes::notes_of;
-pub use making::outcome::{Outcome, make_planned};
-pub use output::emit;
-pub use making::subset::{Made, make_of};
 pub use faces::tables::{table_sizes, tables_of};
+pub use help::{HELP, VERSION_LINE};
+pub use making::carried::carry_out;
+pub use making::outcome::{Outcome, make_planned};
+pub use making::requested::{Picked, pick};
+pub use making::subset::{Made, make_of};
+pub use notes::notes_of;
+pub use output::emit;
+pub use refusals::failure::{Failure, Report, status_of_run};
+pub use refusals::hint::{Hint, find_axes_hint, find_hint};
 pub use task::{Form, Plan, RequestedGlyphs, Task};
 
 #[cfg(test)]

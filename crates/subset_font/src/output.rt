@@ -6,8 +6,8 @@ ghost use Rattle.subset_font.specs.Making.Sheet.{page_of};
 ghost use Rattle.subset_font.specs.Report.{report_of};
 ghost use Rattle.subset_font.specs.declared.refusals.failure.Failure.TheVariants.{Write as CannotWrite, WritePdf as CannotWritePdf, Output};
 
-use crate::refusals::failure::Failure;
 use crate::making::outcome::Outcome;
+use crate::refusals::failure::Failure;
 use crate::task::Form;
 use std::io::Write;
 use subset_lines::{Numbering, write_json, write_lines};

@@ -10,18 +10,20 @@ ghost use Rattle.subset_font.specs.declared.refusals.failure.Failure.TheVariants
 ghost use Rattle.subsetter_base.specs.declared.error.Error.TheVariants.{OutOfMemory};
 
 use crate::faces::axes::carry_axes;
-use crate::making::carried::{carry_out, read_whole};
-use crate::refusals::failure::{Failure, Report, file_of, given, pdf_file, status_of_run};
-use crate::help::{HELP, VERSION_LINE};
-use crate::refusals::hint::{Hint, find_axes_hint, find_hint, no_axes};
 use crate::faces::info::carry_info;
-use crate::refusals::limit_hint::find_limit_hint;
 use crate::faces::missing::missing_in;
 use crate::faces::named::instance_names;
+use crate::help::{HELP, VERSION_LINE};
+use crate::making::carried::{carry_out, read_whole};
 use crate::notes::{known_axes, notes_for};
+use crate::refusals::failure::{Failure, Report, file_of, given, pdf_file, status_of_run};
+use crate::refusals::hint::{Hint, find_axes_hint, find_hint, no_axes};
+use crate::refusals::limit_hint::find_limit_hint;
 use crate::refusals::reason::{Noted, reason_of, unread};
 use crate::streams::{Source, Target, goes_to_output, hold_streams, lines_beside, open_source};
-use crate::task::{Form, Plan, RequestedGlyphs, Task, at_of, extras_of, form_of, instance_of, limits_of, pdf_of};
+use crate::task::{
+    Form, Plan, RequestedGlyphs, Task, at_of, extras_of, form_of, instance_of, limits_of, pdf_of,
+};
 use std::alloc::Global;
 use std::fs::OpenFile;
 use std::io::{BufWriter, ErrorKind, Read, Write};
@@ -349,7 +351,8 @@ fn report_notes<R: Eprint + AllocGlobal>(rt: &R, font: &[u8], plan: &Plan<'_>) {
     let Ok(notes) = notes_for(rt.alloc(), &axes, plan.task.at) else {
         return;
     };
-    let Some(characters) = missing_in(rt.alloc(), font, plan.task.index, &plan.task.requested) else {
+    let Some(characters) = missing_in(rt.alloc(), font, plan.task.index, &plan.task.requested)
+    else {
         return;
     };
     if let Ok(text) = note_lines(rt.alloc(), &axes, &notes, &characters) {

@@ -18,13 +18,13 @@ mod objects;
 mod plain;
 mod text;
 
-pub use faces::axes::{FontAxes, name_of, read_axes, write_axes};
-pub use objects::axes_json::{text_of_name, write_axes_json};
 pub use entry::{Numbering, Unwritten, take_first};
+pub use faces::axes::{FontAxes, name_of, read_axes, write_axes};
 pub use faces::info::{Info, Outlines, write_info, write_info_json};
+pub use faces::sizes::{TableSize, size_lines};
+pub use notes::{Note, note_lines};
+pub use objects::axes_json::{text_of_name, write_axes_json};
 pub use objects::json::{json_numbers, write_json};
 pub use objects::members::json_members;
-pub use notes::{Note, note_lines};
 pub use objects::pdf::json_pdf;
 pub use plain::write_lines;
-pub use faces::sizes::{TableSize, size_lines};

@@ -7,8 +7,8 @@ ghost use Rattle.subset_lines.specs.Fixed.{fixed_text};
 ghost use Rattle.subset_lines.specs.Notes.{no_axis_text, setting_text, clamped_text, note_text, range_text, ranges_text, axes_note, note_lines, notes_text, all_text, note_strings, coordinate_strings, comma_behind, all_strings, notes_array};
 ghost use Rattle.subset_lines.specs.Objects.Quoted.{quoted};
 
-use crate::faces::axes::write_tag;
 use crate::entry::Unwritten;
+use crate::faces::axes::write_tag;
 use crate::fixed::write_labelled;
 use crate::missing::{write_missing_line, write_missing_string};
 use crate::objects::quoted::write_quoted;

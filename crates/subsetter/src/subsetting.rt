@@ -24,12 +24,12 @@ use crate::glyf::{self, GlyfTables, GlyphClosure};
 use crate::truetype::{self, TrueTypeTables};
 use std::alloc::Global;
 use subsetter_base::{Error, GlyphRemapper, Tag};
-use subsetter_sfnt::laying::construct::finish;
 use subsetter_sfnt::extras::Extras;
 use subsetter_sfnt::face::Face;
 use subsetter_sfnt::flavor::{FontFlavor, flavor};
-use subsetter_sfnt::parse::parse;
+use subsetter_sfnt::laying::construct::finish;
 use subsetter_sfnt::laying::tables::in_order;
+use subsetter_sfnt::parse::parse;
 use subsetter_type2::limits::Limits;
 
 /// A subset of a TrueType font that has at most so many bytes.

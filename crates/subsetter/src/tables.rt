@@ -9,11 +9,11 @@ ghost use Rattle.subsetter_sfnt.specs.Laying.Checksum.{checksum};
 ghost use Rattle.subsetter.specs.TableView.{table_bytes};
 ghost use Rattle.subsetter_base.specs.declared.error.Error.TheVariants.{OutOfMemory};
 
-use crate::glyf::outlines::{OutlineList, outlines_len, write_outlines};
 use crate::common::head::NewHead;
 use crate::common::hmtx::NewMetrics;
 use crate::common::maxp::NewMaxp;
 use crate::common::name::NewNames;
+use crate::glyf::outlines::{OutlineList, outlines_len, write_outlines};
 use subsetter_cff::CffPieces;
 use subsetter_sfnt::laying::checksum::checksum;
 use subsetter_sfnt::laying::room::put;

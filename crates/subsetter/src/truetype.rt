@@ -15,10 +15,10 @@ ghost use Rattle.subsetter.specs.Glyf.Written.{is_long, glyf_bytes};
 ghost use Rattle.subsetter.specs.Truetype.Plain.{located, made_of, font_of};
 ghost use Rattle.subsetter.specs.Truetype.View.{made_seen};
 
+use crate::common::shared::{self, SharedTables};
 use crate::glyf::outlines::{OutlineList, outlines_len};
 use crate::glyf::{self, GlyfTables};
 use crate::loca;
-use crate::common::shared::{self, SharedTables};
 use crate::tables::{TableData, borrowed};
 use std::alloc::Global;
 use subsetter_base::{Error, GlyphRemapper, Tag};

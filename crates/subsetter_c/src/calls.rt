@@ -13,8 +13,8 @@ ghost use Rattle.subsetter_c.specs.Version.{version};
 
 use crate::answers::handing::{Sizes, hand_answer, hand_bytes, hand_embedded};
 use crate::answers::making::{self, Made};
-use crate::options::options_of;
 use crate::answers::status;
+use crate::options::options_of;
 use crate::version;
 use cid_embed::{embed, embed_with_options, mapper_for};
 use std::alloc::Global;

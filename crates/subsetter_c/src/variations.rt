@@ -10,9 +10,9 @@ ghost use Rattle.subsetter_c.specs.Answers.Status.{unknown_option};
 
 use crate::answers::handing::{Sizes, hand_answer, hand_embedded};
 use crate::answers::making::{self, Made};
+use crate::answers::status;
 use crate::options::options_of;
 use crate::settings::{Coordinate, settings_for};
-use crate::answers::status;
 use cid_embed::{Embedded, mapper_for};
 use cid_embed_at::embed_with_variations_and_options;
 use std::alloc::Global;

@@ -11,8 +11,8 @@ ghost use Rattle.subsetter_cff_at.specs.View.{opened_of, AreTexts, DrawsNext, Ar
 use crate::opening::OpenTable;
 use std::alloc::Global;
 use subsetter_base::error::Error;
-use subsetter_blend::runs::machine::Subroutines;
 use subsetter_blend::resolving::resolve;
+use subsetter_blend::runs::machine::Subroutines;
 use subsetter_cff2::made::PlacedDict;
 use subsetter_type2::limits::Limits;
 use subsetter_type2::subroutines::SubroutineHandler;

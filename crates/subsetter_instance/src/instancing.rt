@@ -19,9 +19,9 @@ ghost use Rattle.subsetter_instance.specs.Instance.{IsInstance};
 ghost use Rattle.subsetter_instance.specs.Plain.{instance_in};
 
 use crate::glyphs::drawn::draw_all;
+use crate::source::{normalized_coordinates, source_or_fault};
 use crate::tables::file::laid;
 use crate::tables::lines::lines_of;
-use crate::source::{normalized_coordinates, source_or_fault};
 use std::alloc::Global;
 use subsetter_base::{Error, GlyphRemapper, Tag};
 use subsetter_sfnt::extras::Extras;

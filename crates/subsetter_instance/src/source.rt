@@ -17,8 +17,8 @@ use subsetter_sfnt::fields::hhea::number_of_h_metrics;
 use subsetter_sfnt::fields::hmtx::{LongHorMetric, glyph_metric};
 use subsetter_sfnt::fields::loca::loca_offset;
 use subsetter_sfnt::fields::maxp::num_glyphs;
-use subsetter_variation::locations::coordinates::{coordinates, is_other_version};
 use subsetter_variation::glyphs::tuples::{Gvar, gvar_table};
+use subsetter_variation::locations::coordinates::{coordinates, is_other_version};
 
 /// The tables of outlines and metrics, and what varies.
 #[derive(Drop)]
@@ -44,7 +44,11 @@ impl<'a> Model for Source<'a> {
 
 /// The normalized coordinates for settings of user coordinates, each a tag and a value in 65536ths. A cut table is
 /// `MalformedFont`, a major version of `fvar` or `avar` other than 1 `Unimplemented`.
-pub fn normalized_coordinates(alloc: Global, face: &Face<'_>, settings: &[(Tag, i32)]) -> Result<Vec<i32>, Error>
+pub fn normalized_coordinates(
+    alloc: Global,
+    face: &Face<'_>,
+    settings: &[(Tag, i32)],
+) -> Result<Vec<i32>, Error>
     ensures { Gives (λ v. v.items) result (normalized_coordinates (table_in face.now.«data».now face.now.records.now) settings.now) }
 {
     match face.stored(Tag::new(b"fvar")) {

@@ -7,11 +7,11 @@ ghost use Rattle.subsetter_type2.specs.Flat.{flat_form};
 ghost use Rattle.subsetter_type2.specs.ProgramView.{program_bytes};
 
 use crate::limits::Limits;
-use crate::runs::machine::Subroutines;
 pub use crate::operators;
 pub use crate::program::{Instruction, Program};
-use crate::subroutines::SubroutineHandler;
+use crate::runs::machine::Subroutines;
 use crate::runs::{flattening, recursion};
+use crate::subroutines::SubroutineHandler;
 use std::alloc::Global;
 use std::marker::Model;
 use subsetter_base::error::Error;

@@ -13,8 +13,8 @@ use crate::runs::sink::Sink;
 use std::alloc::Global;
 use std::marker::Model;
 use subsetter_base::error::Error;
-use subsetter_cffdata::numerals::charstring_number::CharStringNumber;
 use subsetter_cffdata::dicts::operator::Operator;
+use subsetter_cffdata::numerals::charstring_number::CharStringNumber;
 
 /// One instruction of a program. The bytes of a mask are a part of the charstring that holds them.
 #[derive(Clone, Copy, Debug)]

@@ -11,8 +11,8 @@
 //! ```
 #![tactic(auto)]
 
-pub mod laws;
 mod default_location;
+pub mod laws;
 mod subsetting;
 
 pub use default_location::static_font;

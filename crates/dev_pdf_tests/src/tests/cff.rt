@@ -14,8 +14,20 @@ fn says(said: CffValues<'_>, name: &[u8], stem: Option<u32>) -> bool {
 #[test]
 fn names_and_stems(rt: HostRuntime) -> Result<(), Fail> {
     let alloc = rt.alloc();
-    assert!(rt; says(cff_values_in(alloc, &TEXT, 1000)?, b"Cantarell-Regular", Some(70)));
-    assert!(rt; says(cff_values_in(alloc, &TEXT, 2048)?, b"Cantarell-Regular", Some(34)));
+    assert!(rt;
+        says(
+            cff_values_in(alloc, &TEXT, 1000)?,
+            b"Cantarell-Regular",
+            Some(70)
+        )
+    );
+    assert!(rt;
+        says(
+            cff_values_in(alloc, &TEXT, 2048)?,
+            b"Cantarell-Regular",
+            Some(34)
+        )
+    );
     assert!(rt; says(cff_values_in(alloc, &ZERO, 1000)?, b"D050000L", None));
     assert!(rt;
         says(

@@ -10,7 +10,9 @@ use dev_base::failure::Failure;
 use std::alloc::Global;
 use subsetter_base::Error;
 use subsetter_variation::glyphs::movement::{Outline, moved_points};
-use subsetter_variation::glyphs::tuples::{Gvar, TupleHeader, gvar_table, next_header, numbers_and_deltas, tuple_headers};
+use subsetter_variation::glyphs::tuples::{
+    Gvar, TupleHeader, gvar_table, next_header, numbers_and_deltas, tuple_headers,
+};
 
 /// A tuple that is read: whether tuples share their point numbers, how many tuples there are, the first of them, and how
 /// many are behind it.

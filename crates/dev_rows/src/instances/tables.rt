@@ -5,10 +5,10 @@ use crate::instances::words::{coordinates, count, glyph, number, numbers, settin
 use dev_base::failure::Failure;
 use std::alloc::Global;
 use subsetter_variation::items::item_variations::advance_delta;
-use subsetter_variation::region::{RegionAxis, scalar};
-use subsetter_variation::rounding::nearest;
 use subsetter_variation::locations::{axes, coordinates as normalized};
 use subsetter_variation::packing::packed;
+use subsetter_variation::region::{RegionAxis, scalar};
+use subsetter_variation::rounding::nearest;
 
 /// The nearest whole number to a quotient.
 pub fn quotient(alloc: Global, dividend: &str, divisor: &str) -> Result<Answer, Failure> {

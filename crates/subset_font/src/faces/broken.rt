@@ -6,8 +6,8 @@ ghost use Rattle.subset_font.specs.Faces.Broken.{packed, not_font, face_count, n
 ghost use Rattle.subset_font.specs.Faces.Tables.{records_in};
 
 use crate::faces::face::{Place, place_of};
-use crate::refusals::hint::Hint;
 use crate::faces::tables::directory_of;
+use crate::refusals::hint::Hint;
 use subsetter::Tag;
 use subsetter_base::read::Reader;
 use subsetter_sfnt::directory::{find_record, header_offset, kind_at, records};

@@ -5,14 +5,14 @@ ghost use Rattle.subsetter_sfnt.specs.Extras.{all_extras};
 ghost use Rattle.subset_font.specs.Faces.Info.{outlines_of, other_outlines, permission_of};
 ghost use Rattle.subset_font.specs.declared.refusals.failure.Failure.TheVariants.{Output, Usage};
 
-use crate::making::requested::first_glyphs;
 use crate::faces::broken::face_count;
-use crate::making::carried::read_whole;
 use crate::faces::face::count_glyphs;
+use crate::faces::tables::{directory_of, tables_of};
+use crate::making::carried::read_whole;
+use crate::making::requested::first_glyphs;
+use crate::making::subset::make_of;
 use crate::refusals::failure::Failure;
 use crate::refusals::hint::find_hint;
-use crate::making::subset::make_of;
-use crate::faces::tables::{directory_of, tables_of};
 use crate::task::{Form, RequestedGlyphs, Task};
 use std::alloc::{AllocError, Global};
 use std::io::{Read, Write};

@@ -54,7 +54,12 @@ pub fn missing(alloc: Global, characters: &[char], glyphs: &[u16]) -> Result<Vec
 }
 
 /// The same of the characters that a task requests of a face. None where no glyphs are found, or memory runs out.
-pub fn missing_in(alloc: Global, font: &[u8], index: u32, asked: &RequestedGlyphs<'_>) -> Option<Vec<char>>
+pub fn missing_in(
+    alloc: Global,
+    font: &[u8],
+    index: u32,
+    asked: &RequestedGlyphs<'_>,
+) -> Option<Vec<char>>
     ensures { IfSome result (λ v. IsMissing (record { bytes = font.now; index = index; extras = all_extras }) asked.now v.items) }
 {
     let Ok(picked) = pick(alloc, font, index, asked) else {

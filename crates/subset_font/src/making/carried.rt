@@ -6,9 +6,9 @@ ghost use Rattle.subset_font.specs.Making.Outcome.{IsOutcome, IsNoOutcome};
 ghost use Rattle.subset_font.specs.Making.Carried.{IsBeforeWriting, IsFailureOf, WritesFont, WritesAll};
 ghost use Rattle.subset_font.specs.declared.refusals.failure.Failure.TheVariants.{Read as CannotRead, Write as CannotWrite, WritePdf as CannotWritePdf, Output};
 
-use crate::refusals::failure::Failure;
 use crate::making::outcome::{Outcome, make_planned};
 use crate::output::emit;
+use crate::refusals::failure::Failure;
 use crate::task::Plan;
 use std::alloc::Global;
 use std::io::{Read, Write};

@@ -13,13 +13,13 @@ ghost use Rattle.subset_font.specs.Faces.Tables.{bytes_or_none};
 ghost use Rattle.subset_font.specs.declared.refusals.failure.Failure.TheVariants.{Error as Refused};
 ghost use Rattle.subsetter_base.specs.declared.error.Error.TheVariants.{OutOfMemory};
 
-use crate::refusals::failure::Failure;
 use crate::faces::missing::missing;
 use crate::faces::named::face_settings;
-use crate::notes::{known_axes, notes_for};
+use crate::faces::tables::{directory_of, table_sizes};
 use crate::making::sheet::{sheet_if, with_pdf};
 use crate::making::subset::{Made, make_of};
-use crate::faces::tables::{directory_of, table_sizes};
+use crate::notes::{known_axes, notes_for};
+use crate::refusals::failure::Failure;
 use crate::task::{Form, Plan, Task};
 use glyph_names::glyph_names;
 use std::alloc::{AllocError, Global};

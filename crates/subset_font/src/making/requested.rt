@@ -121,7 +121,12 @@ fn pick_by_characters(
 ///
 /// `NoMapping` where a text or characters are given and the face has no `cmap` for Unicode; `Error` where every glyph is
 /// requested and the face has no count of them, or where memory ran out.
-pub fn pick(alloc: Global, font: &[u8], index: u32, asked: &RequestedGlyphs<'_>) -> Result<Picked, Failure>
+pub fn pick(
+    alloc: Global,
+    font: &[u8],
+    index: u32,
+    asked: &RequestedGlyphs<'_>,
+) -> Result<Picked, Failure>
     ensures ok { IfOk result (λ p. IsRequested (record { bytes = font.now; index = index; extras = all_extras }) asked.now p.characters.items p.glyphs.items) }
     ensures err { IfErr result (λ e. (e ≡ Refused OutOfMemory) ⊎ IsUnasked (record { bytes = font.now; index = index; extras = all_extras }) asked.now e) }
 {

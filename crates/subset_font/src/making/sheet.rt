@@ -6,8 +6,8 @@ ghost use Rattle.subset_font.specs.Making.Sheet.{layout_of, settings_of, pdf_tex
 ghost use Rattle.subset_font.specs.declared.refusals.failure.Failure.TheVariants.{Error as Refused};
 ghost use Rattle.subsetter_base.specs.declared.error.Error.TheVariants.{OutOfMemory};
 
-use crate::refusals::failure::Failure;
 use crate::making::subset::Made;
+use crate::refusals::failure::Failure;
 use crate::task::{RequestedGlyphs, Task};
 use std::alloc::{AllocError, Global};
 use subset_args::PdfChoice;

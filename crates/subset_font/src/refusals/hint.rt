@@ -8,9 +8,9 @@ ghost use Rattle.subset_font.specs.Refusals.Hint.{first_past, no_glyph, no_table
 
 use crate::faces::broken::{cut_table, missing_table, no_font};
 use crate::faces::face::{count_glyphs, place_of};
-use crate::refusals::failure::Failure;
 use crate::faces::info::outlines_of;
 use crate::faces::tables::directory_of;
+use crate::refusals::failure::Failure;
 use crate::task::{RequestedGlyphs, Task};
 use std::fmt;
 use subset_lines::Outlines;

@@ -3,9 +3,9 @@
 ghost use Rattle.std.specs.Prelude.{◌≡◌, IfSome};
 ghost use Rattle.subset_font.specs.Refusals.LimitHint.{within, IsLimitHint};
 
+use crate::making::outcome::make_planned;
 use crate::refusals::failure::Failure;
 use crate::refusals::hint::Hint;
-use crate::making::outcome::make_planned;
 use crate::task::{Plan, Task};
 use std::alloc::Global;
 use subsetter::{Error, Limits, Options};

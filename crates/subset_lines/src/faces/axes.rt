@@ -12,18 +12,18 @@ ghost use Rattle.subset_lines.specs.Fixed.{fixed_text};
 ghost use Rattle.subsetter_base.specs.Bytes.{number};
 
 use crate::entry::Unwritten;
-use crate::fixed::write_fixed;
 use crate::faces::names::{string_for, write_behind};
+use crate::fixed::write_fixed;
 use crate::plain::flush;
 use crate::text::write_text;
 use std::alloc::Global;
 use std::io::Write;
 use subsetter_base::read::{Reader, after_four};
 use subsetter_base::{Error, Tag};
-use subsetter_variation::locations::axes::{Axis, axes};
 use subsetter_variation::fvar::{
     axes_array_offset, axis_count, axis_size, instance_count, instance_size,
 };
+use subsetter_variation::locations::axes::{Axis, axes};
 
 // ---- reading
 

@@ -8,10 +8,10 @@ ghost use Rattle.subset_lines.specs.Objects.Json.{number_or_null};
 ghost use Rattle.subset_lines.specs.Objects.Quoted.{quoted};
 ghost use Rattle.subset_lines.specs.Faces.Info.{has_bit, word_if, words_of_bits, permission_words, outlines_name, line_behind, lines_behind, permission_lines, outlines_end, outlines_line, glyphs_line, counts_lines, if_any, refusal_lines, table_line, table_lines, head_lines, info_lines, strings, string_or_null, table_object, table_objects, variable_member, outlines_members, counts_members, refusal_members, tables_member, info_members, info_json};
 
-use crate::faces::axes::{tag_bytes, write_tag};
 use crate::entry::Unwritten;
-use crate::plain::flush;
+use crate::faces::axes::{tag_bytes, write_tag};
 use crate::objects::quoted::write_quoted;
+use crate::plain::flush;
 use crate::text::write_text;
 use std::alloc::{AllocError, Global};
 use std::io::Write;

@@ -8,8 +8,8 @@ ghost use Rattle.subset_lines.specs.Objects.Json.{number_or_null};
 ghost use Rattle.subset_lines.specs.Faces.Sizes.{size_or_none, table_front, change_text, sizes_close, tables_open, table_line, table_lines, font_line, sizes_text, table_object, table_objects, sizes_member, tables_member};
 ghost use Rattle.subset_lines.specs.Objects.AxesJson.{tag_open};
 
-use crate::faces::axes::{tag_bytes, write_tag};
 use crate::entry::Unwritten;
+use crate::faces::axes::{tag_bytes, write_tag};
 use crate::objects::quoted::write_quoted;
 use crate::text::{write_count, write_text};
 use std::alloc::Global;

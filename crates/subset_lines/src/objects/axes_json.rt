@@ -10,12 +10,12 @@ ghost use Rattle.subset_lines.specs.Faces.Names.{name_of, text_of_units};
 ghost use Rattle.subset_lines.specs.Objects.Quoted.{quoted};
 ghost use Rattle.subsetter_base.specs.Bytes.{number};
 
-use crate::faces::axes::{FontAxes, name_of, tag_bytes, write_coordinate};
 use crate::entry::Unwritten;
-use crate::fixed::write_labelled;
+use crate::faces::axes::{FontAxes, name_of, tag_bytes, write_coordinate};
 use crate::faces::names::write_units;
-use crate::plain::flush;
+use crate::fixed::write_labelled;
 use crate::objects::quoted::write_quoted;
+use crate::plain::flush;
 use crate::text::write_text;
 use std::alloc::Global;
 use std::io::Write;

@@ -6,8 +6,8 @@ ghost use Rattle.subset_lines.specs.Objects.Json.{character_member, number_or_nu
 ghost use Rattle.subset_lines.specs.View.{numbers_view};
 
 use crate::entry::{Numbering, Unwritten, take_first, take_name};
-use crate::plain::flush;
 use crate::objects::quoted::write_shown;
+use crate::plain::flush;
 use crate::text::write_text;
 use std::alloc::Global;
 use std::io::Write;

@@ -8,8 +8,8 @@ ghost use Rattle.subset_lines.specs.Faces.Sizes.{sizes_member};
 ghost use Rattle.subset_lines.specs.Objects.Members.{tables_or_nothing, members};
 
 use crate::entry::Unwritten;
-use crate::notes::{Note, write_notes_array};
 use crate::faces::sizes::{TableSize, write_sizes_member, write_tables_member};
+use crate::notes::{Note, write_notes_array};
 use crate::text::write_text;
 use std::alloc::Global;
 use std::io::Write;

@@ -5,8 +5,8 @@ ghost use Rattle.std.specs.Io.KnownBytes.{Appends};
 ghost use Rattle.subset_lines.specs.Faces.Axes.{shown};
 ghost use Rattle.subset_lines.specs.Objects.Quoted.{escaped_byte, escaped, quoted};
 
-use crate::faces::axes::shown;
 use crate::entry::Unwritten;
+use crate::faces::axes::shown;
 use crate::text::write_text;
 use std::io::Write;
 

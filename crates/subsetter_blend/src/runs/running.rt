@@ -11,9 +11,9 @@ use crate::runs::machine::{Flow, Machine, Subroutines};
 use crate::runs::regions::Regions;
 use crate::writing::taking::Takes;
 use subsetter_base::error::Error;
-use subsetter_type2::runs::fixed_stack::FixedStack;
 use subsetter_type2::limits::Limits;
 use subsetter_type2::rests::innermost;
+use subsetter_type2::runs::fixed_stack::FixedStack;
 
 /// The rests of the callers, at most 255.
 type Rests<'a> = FixedStack<&'a [u8], 255>;

@@ -19,10 +19,10 @@ use crate::writing::taking::Takes;
 use std::alloc::Global;
 use std::marker::Model;
 use subsetter_base::error::Error;
-use subsetter_cffdata::numerals::charstring_number::CharStringNumber;
 use subsetter_cffdata::dicts::operator::{Operator, OperatorType};
-use subsetter_type2::runs::fixed_stack::FixedStack;
+use subsetter_cffdata::numerals::charstring_number::CharStringNumber;
 use subsetter_type2::operators::FLEX;
+use subsetter_type2::runs::fixed_stack::FixedStack;
 
 /// The bytes so far, where the path has come, and the advance as long as it isn't written.
 #[derive(Drop)]

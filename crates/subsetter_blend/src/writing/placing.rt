@@ -5,8 +5,8 @@ ghost use Rattle.subsetter_blend.specs.Writing.Placed.{IsPosition, gone, number_
 
 use crate::axes::{Along, moves_along};
 use crate::runs::parts::{is_within, whole};
-use subsetter_cffdata::numerals::charstring_number::CharStringNumber;
 use subsetter_cffdata::dicts::operator::Operator;
+use subsetter_cffdata::numerals::charstring_number::CharStringNumber;
 use subsetter_type2::runs::fixed_stack::FixedStack;
 use subsetter_variation::rounding::minus;
 

@@ -13,13 +13,13 @@ ghost use Rattle.subsetter_c.specs.Documents.PdfOptions.{AreFontWordsKnown};
 ghost use Rattle.subsetter_c.specs.Settings.{settings_of};
 ghost use Rattle.subsetter_c.specs.Answers.Status.{invalid_text, unknown_option};
 
-use crate::characters::glyphs_for;
 use crate::answers::handing::hand_glyphs;
+use crate::answers::status::{INVALID_TEXT, UNKNOWN_OPTION};
+use crate::characters::glyphs_for;
 use crate::documents::pdf_files::{ObjectsMade, hand_file, hand_objects, nothing};
 use crate::documents::pdf_fonts::{font_for, hand_font, no_font};
 use crate::documents::pdf_options::font_options_of;
 use crate::settings::Coordinate;
-use crate::answers::status::{INVALID_TEXT, UNKNOWN_OPTION};
 use pdf_font::FontOptions;
 use pdf_sheet::Layout;
 use std::alloc::Global;

@@ -15,8 +15,8 @@ ghost use Rattle.subsetter_c.specs.Documents.PdfFonts.{AreNumbersOf, IsEmpty, Is
 ghost use Rattle.subsetter_c.specs.Settings.{settings_of};
 
 use crate::answers::kept::{kept_bytes, kept_columns, kept_flags, kept_shorts, kept_words};
-use crate::settings::{Coordinate, settings_for};
 use crate::answers::status::{DONE, INVALID_TEXT, NOT_PERMITTED, status_of};
+use crate::settings::{Coordinate, settings_for};
 use pdf_font::{
     Column, Columns, FontError, FontOptions, NamedCmap, PdfFont, ProgramKind, Shown, Usage,
     pdf_font,

@@ -10,10 +10,10 @@ ghost use Rattle.subsetter_cff.specs.Write.Plain.{cff_subset};
 ghost use Rattle.subsetter_cff.specs.Write.Laying.TableBy.{table_bytes};
 
 use crate::read::source::Table;
-use crate::write::new_dicts::dicts::judge_privates;
 use crate::write::glyphs::kept_glyphs::keep_glyphs;
 use crate::write::laying::parts::new_table_of;
 use crate::write::laying::writing::{CffPieces, write_table};
+use crate::write::new_dicts::dicts::judge_privates;
 use std::alloc::Global;
 use subsetter_base::GlyphRemapper;
 use subsetter_base::error::Error;

@@ -15,8 +15,8 @@ use subsetter_base::error::Error;
 use subsetter_base::write::Writer;
 use subsetter_blend::runs::parts::whole;
 use subsetter_cff::write::new_dicts::entries::write_numbers;
-use subsetter_cffdata::numerals::number::Number;
 use subsetter_cffdata::dicts::operator::Operator;
+use subsetter_cffdata::numerals::number::Number;
 
 /// The parts, or 0.
 fn known(parts: Option<i64>) -> i64

@@ -16,9 +16,9 @@ use std::ops::Range;
 use subsetter_cff::read::entries::demands::show_last;
 use subsetter_cffdata::dicts::dict::DictionaryParser;
 use subsetter_cffdata::dicts::dict::operators::{PRIVATE, SUBRS};
+use subsetter_cffdata::dicts::operands::range_of;
 use subsetter_cffdata::indexes::index::Index;
 use subsetter_cffdata::numerals::number::Number;
-use subsetter_cffdata::dicts::operands::range_of;
 
 /// A private dict and its local subroutines.
 #[derive(Clone, Copy, Debug)]

@@ -12,8 +12,8 @@ use std::alloc::Global;
 use subsetter_base::error::Error;
 use subsetter_base::write::Writer;
 use subsetter_cffdata::dicts::dict::DictionaryParser;
-use subsetter_cffdata::numerals::number::Number;
 use subsetter_cffdata::dicts::operator::Operator;
+use subsetter_cffdata::numerals::number::Number;
 
 /// How many operands of an entry are read: one more than the stack holds, so that too many are seen.
 const READ_OPERANDS: usize = 514;

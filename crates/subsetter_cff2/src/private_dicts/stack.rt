@@ -10,16 +10,16 @@ ghost use Rattle.subsetter_cff2.specs.PrivateDicts.Blend.{in_parts};
 ghost use Rattle.subsetter_cff2.specs.PrivateDicts.Held.{IsHeld};
 ghost use Rattle.subsetter_cff2.specs.PrivateDicts.PrivateAt.{at_start, cleared, pushed, chosen, last_natural, blended_by, placed_entry};
 
-use crate::private_dicts::blend::{blend_from, in_parts};
 use crate::offsets::one_natural;
+use crate::private_dicts::blend::{blend_from, in_parts};
 use crate::private_dicts::placing::write_front;
 use crate::variation::Variation;
 use std::alloc::Global;
 use std::marker::Model;
 use subsetter_base::error::Error;
 use subsetter_base::write::Writer;
-use subsetter_cffdata::numerals::number::Number;
 use subsetter_cffdata::dicts::operator::Operator;
+use subsetter_cffdata::numerals::number::Number;
 
 /// How many operands the stack holds.
 pub const MAX_OPERANDS: usize = 513;

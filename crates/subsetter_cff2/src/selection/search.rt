@@ -77,7 +77,8 @@ fn are_in_order(bytes: &[u8], list: RangeList) -> bool
     ensures { IsTrue result → AreInOrder bytes.now list.is_wide list.at list.count }
 {
     for i in 0..list.count {
-        let Some(range) = range_at(bytes, list.is_wide, range_offset(list.at, i, list.is_wide)) else {
+        let Some(range) = range_at(bytes, list.is_wide, range_offset(list.at, i, list.is_wide))
+        else {
             return false;
         };
         if range.next < range.first {
@@ -98,8 +99,11 @@ fn find_by_halves(bytes: &[u8], list: RangeList, glyph: u16) -> Option<u16>
     let mut high = list.count;
     while low < high {
         let middle = low + (high - low) / 2;
-        let Some(range) = range_at(bytes, list.is_wide, range_offset(list.at, middle, list.is_wide))
-        else {
+        let Some(range) = range_at(
+            bytes,
+            list.is_wide,
+            range_offset(list.at, middle, list.is_wide),
+        ) else {
             return None;
         };
         if range.next <= glyph {

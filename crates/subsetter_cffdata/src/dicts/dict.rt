@@ -3,10 +3,10 @@
 ghost use Rattle.std.specs.Prelude.{◌≡◌, ◌<◌, ◌≤◌, [], ◌∷◌, length, map};
 ghost use Rattle.subsetter_cffdata.specs.Views.{operator_of};
 
-use crate::numerals::number::{Number, StringId};
 use crate::dicts::operands::{four_of, offset_of, range_of, six_of, string_of};
 use crate::dicts::operator::Operator;
 use crate::dicts::tokens::{EntryRead, next_operator, read_entry};
+use crate::numerals::number::{Number, StringId};
 use std::ops::Range;
 
 /// Reads the entries of a DICT. The operands of an entry go into a buffer, as many as it holds.

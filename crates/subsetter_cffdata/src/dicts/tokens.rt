@@ -9,8 +9,8 @@ ghost use Rattle.subsetter_cffdata.specs.Dicts.TokenView.{token_of};
 ghost use Rattle.subsetter_cffdata.specs.Views.{number_of, operator_of};
 ghost use Rattle.subsetter_cffdata.specs.Dicts.Tokens.{operator_part};
 
-use crate::numerals::number::Number;
 use crate::dicts::operator::{Operator, TWO_BYTE_OPERATOR_MARK};
+use crate::numerals::number::Number;
 use crate::reading;
 use subsetter_base::read::Reader;
 

@@ -15,11 +15,11 @@ ghost use Rattle.subsetter_cffdata.specs.Numerals.Values.{value, thousand, by_10
 ghost use Rattle.subsetter_cffdata.specs.Views.{decimal_of, number_of};
 
 use crate::numerals::charstring_number::{CharStringNumber, read_number};
-use crate::reading;
-pub use crate::reals::real_number::RealNumber;
 pub use crate::numerals::string_id::StringId;
 pub use crate::numerals::u24::U24;
 use crate::numerals::value::{real_of_fixed, real_of_integer, same_reals, thousandfold_of};
+use crate::reading;
+pub use crate::reals::real_number::RealNumber;
 use subsetter_base::error::Error;
 use subsetter_base::read::Reader;
 use subsetter_base::write::{Writeable, Writer};

@@ -3,12 +3,12 @@
 ghost use Rattle.std.specs.Prelude.{◌≤◌, take};
 ghost use Rattle.subsetter_cffdata.specs.Reals.Decimals.{IsPlain};
 
+use crate::numerals::whole::whole_of;
 use crate::reading;
 use crate::reals::reading_text::text_of;
 use crate::reals::real_text::{plain_decimal, real_of_text};
 use crate::reals::real_writing::{pack, text_of_digits};
 use crate::reals::text::Text;
-use crate::numerals::whole::whole_of;
 use subsetter_base::error::Error;
 use subsetter_base::read::Reader;
 use subsetter_base::write::{Writeable, Writer};

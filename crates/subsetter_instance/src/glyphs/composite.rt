@@ -8,11 +8,13 @@ ghost use Rattle.subsetter_instance.specs.Glyphs.Components.{offset_xs, offset_y
 ghost use Rattle.subsetter_instance.specs.Source.{HasAxes};
 ghost use Rattle.subsetter_instance.specs.Glyphs.Unfolded.{IsInReach, composite, moved, no_points, with_component, with_phantoms};
 
-use crate::glyphs::components::{Component, ends_with_phantoms, offsets_with_phantoms, read_components};
+use crate::glyphs::components::{
+    Component, ends_with_phantoms, offsets_with_phantoms, read_components,
+};
 use crate::glyphs::placing::{with_metrics, with_part};
 use crate::glyphs::simple::{coordinate_at, left_point, moved, right_point};
-use crate::source::Source;
 use crate::glyphs::unfolding::Unfolded;
+use crate::source::Source;
 use std::alloc::{AllocError, Global};
 use std::marker::Model;
 use subsetter_base::Error;

@@ -10,8 +10,8 @@ ghost use Rattle.subsetter_instance.specs.Plain.{drawn_if, drawn_all};
 ghost use Rattle.subsetter_instance.specs.Glyphs.Unfolded.{IsInReach};
 
 use crate::glyphs::kept::Kept;
-use crate::source::Source;
 use crate::glyphs::unfolding::{Unfolded, unfold};
+use crate::source::Source;
 use std::alloc::Global;
 use std::marker::Model;
 use subsetter_base::{Error, GlyphRemapper};

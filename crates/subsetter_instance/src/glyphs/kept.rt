@@ -8,8 +8,8 @@ ghost use Rattle.subsetter_instance.specs.Glyphs.Kept.{AreKept, IsKept};
 ghost use Rattle.subsetter_instance.specs.Source.{Source};
 ghost use Rattle.subsetter_instance.specs.Glyphs.Unfolded.{IsInReach, counted_description, is_composite, unfolded};
 
-use crate::source::Source as FontSource;
 use crate::glyphs::unfolding::{Unfolded, counted_description, is_composite};
+use crate::source::Source as FontSource;
 use std::alloc::{AllocError, Global};
 use std::marker::Model;
 

@@ -9,17 +9,17 @@ ghost use Rattle.subsetter_variation.specs.Glyphs.Movement.{AreWithin, IsOutline
 ghost use Rattle.subsetter_instance.specs.Source.{HasAxes};
 ghost use Rattle.subsetter_instance.specs.Glyphs.Unfolded.{IsInReach, are_near, left_point, left_side, moved, near_or_fault, outline_by_flags, right_point, unfolded_by_flags, unfolded_simple, with_phantoms, IsShaped, x_min};
 
-use crate::source::Source;
 use crate::glyphs::unfolding::Unfolded;
+use crate::source::Source;
 use std::alloc::{AllocError, Global};
 use subsetter_base::Error;
 use subsetter_base::read::Reader;
 use subsetter_points::{Columns, read_columns};
 use subsetter_sfnt::fields::hmtx::LongHorMetric;
 use subsetter_variation::glyphs::movement::{Outline as DefaultOutline, moved_points, spent};
-use subsetter_variation::rounding::plus;
 use subsetter_variation::glyphs::tuples::Gvar;
 use subsetter_variation::glyphs::varied::in_units;
+use subsetter_variation::rounding::plus;
 
 /// xMin of a description, 0 of a glyph without bytes.
 fn x_min(bytes: &[u8]) -> i16

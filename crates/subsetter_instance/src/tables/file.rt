@@ -14,14 +14,14 @@ ghost use Rattle.subsetter_instance.specs.Plain.{laid};
 ghost use Rattle.subsetter_instance.specs.Tables.Written.{by_glyph, glyf_bytes, is_long, offsets_from, loca_bytes, hmtx_bytes, head_bytes, hhea_bytes, maxp_bytes, tables};
 
 use crate::glyphs::drawn::Drawn;
-use crate::tables::lines::Lines;
 use crate::source::Source;
+use crate::tables::lines::Lines;
 use crate::tables::{headers, writing};
 use std::alloc::Global;
 use subsetter_base::{Error, GlyphRemapper, Tag};
-use subsetter_sfnt::laying::construct::finish;
 use subsetter_sfnt::face::Face;
 use subsetter_sfnt::flavor::FontFlavor;
+use subsetter_sfnt::laying::construct::finish;
 use subsetter_sfnt::laying::tables::{FontTables, in_order};
 
 /// The tables that are made anew.

@@ -14,8 +14,8 @@ ghost use Rattle.subsetter_sfnt.specs.Laying.Checksum.{checksum};
 ghost use Rattle.subsetter_sfnt.specs.Plain.{file_of};
 ghost use Rattle.subsetter_sfnt.specs.View.{view, views};
 
-use crate::laying::checksum::checksum;
 use crate::flavor::FontFlavor;
+use crate::laying::checksum::checksum;
 use crate::laying::room::{align, aligned_len, patch, put};
 use crate::laying::tables::{NewTable, TableBytes};
 use std::alloc::Global;

@@ -9,11 +9,11 @@ ghost use Rattle.subsetter_type2.specs.Flat.{flat_form};
 ghost use Rattle.subsetter_base.specs.Within.{GivesWithin};
 ghost use Rattle.subsetter_base.specs.declared.error.Error.TheVariants.{CFFError};
 
-use crate::runs::fixed_stack::FixedStack;
 use crate::limits::Limits;
+use crate::rests::innermost;
+use crate::runs::fixed_stack::FixedStack;
 use crate::runs::machine::{Flow, Machine, Subroutines};
 use crate::runs::output::Output;
-use crate::rests::innermost;
 use subsetter_base::error::Error;
 
 /// What runs after a token that leads there; nothing, where a charstring is at its end.

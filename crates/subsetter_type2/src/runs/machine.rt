@@ -13,8 +13,8 @@ use crate::runs::sink::Sink;
 use crate::subroutines::SubroutineHandler;
 use crate::token::{Effect, find_effect, one_byte_effect};
 use subsetter_base::error::Error;
-use subsetter_cffdata::numerals::charstring_number::{CharStringNumber, read_number};
 use subsetter_cffdata::dicts::operator::{Operator, OperatorType, TWO_BYTE_OPERATOR_MARK};
+use subsetter_cffdata::numerals::charstring_number::{CharStringNumber, read_number};
 
 /// The subroutines that a charstring may call.
 #[derive(Drop)]

@@ -11,13 +11,13 @@ ghost use Rattle.subsetter_type2.specs.Runs.OutputView.{last_operand_offset};
 ghost use Rattle.subsetter_type2.specs.Stretches.Stretch.{LeadsOn};
 
 use crate::runs::last_number::find_last_number;
-use crate::stretches::scanning::find_stretch;
 use crate::runs::sink::Sink;
+use crate::stretches::scanning::find_stretch;
 use crate::stretches::stretch::Stretch;
 use std::marker::Model;
 use subsetter_base::error::Error;
-use subsetter_cffdata::numerals::charstring_number::{CharStringNumber, read_number};
 use subsetter_cffdata::dicts::operator::{Operator, OperatorType};
+use subsetter_cffdata::numerals::charstring_number::{CharStringNumber, read_number};
 
 /// The output, whose end is the operands on the stack: they are read there where they are wanted.
 #[derive(Drop)]

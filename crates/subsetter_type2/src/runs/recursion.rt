@@ -8,8 +8,8 @@ ghost use Rattle.subsetter_type2.specs.Flat.{flat_form};
 ghost use Rattle.subsetter_type2.specs.ProgramView.{program_bytes};
 
 use crate::limits::Limits;
-use crate::runs::machine::{Flow, Machine, Subroutines};
 use crate::program::{Draft, Program};
+use crate::runs::machine::{Flow, Machine, Subroutines};
 use std::alloc::Global;
 use subsetter_base::error::Error;
 

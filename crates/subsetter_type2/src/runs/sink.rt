@@ -9,8 +9,8 @@ ghost use Rattle.subsetter_cffdata.specs.Numerals.CharStringNumber.{NumberFits};
 ghost use Rattle.subsetter_base.specs.declared.error.Error.TheVariants.{OutOfMemory};
 
 use subsetter_base::error::Error;
-use subsetter_cffdata::numerals::charstring_number::CharStringNumber;
 use subsetter_cffdata::dicts::operator::Operator;
+use subsetter_cffdata::numerals::charstring_number::CharStringNumber;
 
 /// The flat form so far, whose end is the operands on the stack.
 pub trait Sink<'a> {

@@ -13,9 +13,12 @@ ghost use Rattle.subsetter_base.specs.declared.error.Error.TheVariants.{Malforme
 ghost use Rattle.subsetter_variation.specs.Glyphs.Movement.{AreWithin, IsOutline, IsWithin, spent, moved_by, counted_walk, next_walk, walk_all, start, moved_in_bytes, moved_points};
 ghost use Rattle.subsetter_variation.specs.Glyphs.Tuples.{both_deltas, count_of};
 
-use crate::packing::packed::point_numbers;
-use crate::glyphs::tuples::{Gvar, TupleHeader, TupleHeaders, both_deltas, count_of, next_header, shared_numbers, tuple_headers};
+use crate::glyphs::tuples::{
+    Gvar, TupleHeader, TupleHeaders, both_deltas, count_of, next_header, shared_numbers,
+    tuple_headers,
+};
 use crate::glyphs::varied::{added, added_to_each, in_units};
+use crate::packing::packed::point_numbers;
 use std::alloc::{AllocError, Global};
 use std::marker::Model;
 use subsetter_base::Error;

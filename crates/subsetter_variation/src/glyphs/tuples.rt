@@ -11,8 +11,8 @@ ghost use Rattle.subsetter_base.specs.declared.error.Error.TheVariants.{Malforme
 ghost use Rattle.subsetter_variation.specs.Region.{scalar};
 ghost use Rattle.subsetter_variation.specs.Glyphs.Tuples.{split, parts, gvar_table, offset, variations_of, tuple_headers, peaks_in, ends_in, region_in, next_header, both_deltas, numbers_and_deltas, tuple_size, count_of, shared_numbers};
 
-use crate::packing::packed::{deltas, point_numbers, word_in};
 use crate::glyphs::tuple_region::{TupleRegion, tuple_region};
+use crate::packing::packed::{deltas, point_numbers, word_in};
 use std::alloc::Global;
 use std::marker::Model;
 use subsetter_base::Error;

@@ -13,8 +13,8 @@ ghost use Rattle.subsetter_variation.specs.Locations.Segments.{axis_value_maps};
 ghost use Rattle.subsetter_variation.specs.Locations.Coordinates.{coordinate, unmapped_coordinates, coordinates_at, mapped_coordinates, coordinates_by, is_other_version, normalized_or_fault};
 
 use crate::locations::axes::{Axis, axes, default_normalized, user_coordinate};
-use crate::rounding::nearest;
 use crate::locations::segments::{AxisValueMap, mapped, next_segment_map};
+use crate::rounding::nearest;
 use std::alloc::{AllocError, Global};
 use subsetter_base::read::{LazyArray16, Reader};
 use subsetter_base::{Error, Tag};

@@ -9,12 +9,12 @@ use crate::proved::subsetter::{
 };
 use crate::rattle::alloc::Global;
 
-/// What a PDF writer needs of a font for the glyphs that it asks for.
+/// What a PDF writer needs of a font for the glyphs that it requests.
 #[derive(Debug)]
 pub struct Embedded {
     /// The font program: the subset of the font.
     pub font: Vec<u8>,
-    /// The CID of each asked glyph, in the order asked for.
+    /// The CID of each requested glyph, in the order requested.
     pub cids: Vec<u16>,
     /// The width of each CID, from 0 on, in thousandths of the em.
     pub widths: Vec<u32>,
@@ -53,12 +53,12 @@ pub fn mapper_for(
     }
 }
 
-/// As `embed_with_limits`, where the new font has only those of its extras that are asked for. The CIDs and the widths
+/// As `embed_with_limits`, where the new font has only those of its extras that are requested. The CIDs and the widths
 /// are the same for all of these.
 ///
 /// # Errors
 ///
-/// Those of `embed_with_limits`, but for what is said of a table that isn't asked for.
+/// Those of `embed_with_limits`, but for what is stated of a table that isn't requested.
 pub fn embed_with_options(
     alloc: Global,
     data: &[u8],

@@ -15,7 +15,7 @@ pub struct Metrics<'a> {
     /// The table `hmtx`.
     pub hmtx: &'a [u8],
     /// numberOfHMetrics of `hhea`: how many pairs of an advance and a bearing `hmtx` begins with.
-    pub pairs: u16,
+    pub number_of_h_metrics: u16,
     /// unitsPerEm of `head`, which isn't 0.
     pub units: u16,
 }
@@ -37,12 +37,16 @@ pub fn read_metrics(file: &[u8]) -> Result<Metrics<'_>, Error> {
     }
     let hhea = table(file, Tag::HHEA).ok_or(Error::MalformedFont)?;
     let pairs = number_of_h_metrics(hhea).ok_or(Error::MalformedFont)?;
-    Ok(Metrics { hmtx, pairs, units })
+    Ok(Metrics {
+        hmtx,
+        number_of_h_metrics: pairs,
+        units,
+    })
 }
 
 impl Metrics<'_> {
     /// The advance of a glyph, in font design units.
     pub fn advance(&self, glyph: u16) -> Option<u16> {
-        glyph_advance(self.hmtx, self.pairs, glyph)
+        glyph_advance(self.hmtx, self.number_of_h_metrics, glyph)
     }
 }

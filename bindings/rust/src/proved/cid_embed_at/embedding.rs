@@ -11,8 +11,8 @@ use crate::rattle::alloc::Global;
 ///
 /// # Errors
 ///
-/// Those of `embed_with_variations`, with the chosen limits in place of the default ones, but for what is said of a table that
-/// isn't asked for.
+/// Those of `embed_with_variations`, with the chosen limits in place of the default ones, but for what is stated of a table that
+/// isn't requested.
 pub fn embed_with_variations_and_options(
     alloc: Global,
     data: &[u8],

@@ -17,7 +17,7 @@ fn listed(glyph: u16, delta: u16) -> Option<u16> {
 }
 
 /// Where the number stands that a segment's offset leads to, from the offset's own place on.
-fn place_of(place: usize, offset: u16, distance: u16) -> usize {
+fn glyph_id_offset(place: usize, offset: u16, distance: u16) -> usize {
     place + usize::from(offset) + 2 * usize::from(distance)
 }
 
@@ -33,7 +33,7 @@ fn glyph_at(
     if offset == 0 {
         return Some(shifted(character, delta));
     }
-    let glyph = number_at(table, place_of(place, offset, character - start))?;
+    let glyph = number_at(table, glyph_id_offset(place, offset, character - start))?;
     listed(glyph, delta)
 }
 

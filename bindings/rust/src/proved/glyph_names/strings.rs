@@ -6,7 +6,7 @@ use crate::rattle::prelude::Vec;
 use crate::proved::glyph_names::charset::sids_at;
 use crate::proved::subsetter_base::Error;
 use crate::proved::subsetter_cff::read::source::Table;
-use crate::proved::subsetter_cffdata::index::Index;
+use crate::proved::subsetter_cffdata::indexes::index::Index;
 use crate::rattle::alloc::{AllocError, Global};
 
 /// How a `CFF ` table names its glyphs.

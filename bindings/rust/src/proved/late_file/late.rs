@@ -84,7 +84,7 @@ impl<'a, R: Files> LateFile<'a, R> {
     }
 
     /// Gives the file its name.
-    fn take_place(&mut self) -> io::Result<()> {
+    fn take_name(&mut self) -> io::Result<()> {
         match &self.beside {
             Some(other) => fs::rename(self.rt, other.as_str(), self.name)?,
             None => return Ok(()),
@@ -111,7 +111,7 @@ impl<R: Files> Write for LateFile<'_, R> {
             None => return Ok(()),
         }
         self.settle()?;
-        self.take_place()
+        self.take_name()
     }
 }
 

@@ -5,7 +5,7 @@
 //! let said = said_in(alloc, cff, units)?;     // said.name: "Made-Bold", said.stem: 83
 //! ```
 
-mod said;
 mod stems;
+mod values;
 
-pub use said::{said_in, unless_memory, Said};
+pub use values::{cff_values_in, unless_memory, CffValues};

@@ -3,10 +3,10 @@
 
 use crate::rattle::prelude::Vec;
 
+use crate::proved::pdf_codes::cmaps::leading::{are_cids, pairs_with, write_leading};
+use crate::proved::pdf_codes::cmaps::texts::texts_for;
 use crate::proved::pdf_codes::codes::{codes_for, lines_of, Codes};
-use crate::proved::pdf_codes::leading::{are_cids, pairs_with, write_leading};
 use crate::proved::pdf_codes::shown::{entries_of, units_of_all, Shown};
-use crate::proved::pdf_codes::texts::texts_for;
 use crate::proved::pdf_text::NamedCmap;
 use crate::proved::subsetter_base::Error;
 use crate::rattle::alloc::Global;

@@ -8,10 +8,9 @@
 //! ```
 
 mod calls;
+mod cmaps;
 mod codes;
-mod leading;
 mod shown;
-mod texts;
 mod units;
 
 pub use calls::{codes_and_texts, codes_of, encoding_of};

@@ -2,7 +2,7 @@
 //! Ascent, Descent, CapHeight and XHeight (ISO 32000-1, Table 122) of a font that is moved (OpenType, "MVAR").
 
 use crate::proved::pdf_moved::movement::{varied, Movement};
-use crate::proved::pdf_values::fields::says_bit;
+use crate::proved::pdf_values::fields::sets_bit;
 use crate::proved::pdf_values::{thousandths, Heights};
 use crate::proved::subsetter_base::Tag;
 use crate::proved::subsetter_sfnt::fields::head::{y_max, y_min};
@@ -43,7 +43,7 @@ fn windows_line(os2: Option<&[u8]>) -> Option<Line> {
 
 /// The line of `hhea`, unless the typographic one is to be used (fsSelection, bit 7, USE_TYPO_METRICS).
 fn first_line(hhea: Option<&[u8]>, os2: Option<&[u8]>) -> Option<Line> {
-    if says_bit(fs_selection(os2), 7) {
+    if sets_bit(fs_selection(os2), 7) {
         return None;
     }
     line_in(ascender(hhea), descender(hhea))
@@ -66,7 +66,7 @@ fn clip_line(movement: Movement<'_>, line: Line) -> Line {
 }
 
 /// The line of `hhea`, else the typographic one.
-fn said_line(hhea: Option<&[u8]>, os2: Option<&[u8]>) -> Option<Line> {
+fn source_line(hhea: Option<&[u8]>, os2: Option<&[u8]>) -> Option<Line> {
     match first_line(hhea, os2) {
         Some(line) => Some(line),
         None => line_in(s_typo_ascender(os2), s_typo_descender(os2)),
@@ -79,7 +79,7 @@ fn moved_text_line(
     hhea: Option<&[u8]>,
     os2: Option<&[u8]>,
 ) -> Option<Line> {
-    let line = said_line(hhea, os2)?;
+    let line = source_line(hhea, os2)?;
     Some(text_line(movement, line))
 }
 

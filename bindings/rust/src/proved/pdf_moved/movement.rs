@@ -2,8 +2,8 @@
 //! Where a font is moved to along its axes (OpenType, "fvar", "MVAR").
 
 use crate::proved::subsetter_base::Tag;
-use crate::proved::subsetter_variation::axes::{find_axis, user_coordinate, Axis};
-use crate::proved::subsetter_variation::font_metrics::metric_delta;
+use crate::proved::subsetter_variation::items::font_metrics::metric_delta;
+use crate::proved::subsetter_variation::locations::axes::{find_axis, user_coordinate, Axis};
 
 /// Where a font is moved to.
 #[derive(Clone, Copy)]

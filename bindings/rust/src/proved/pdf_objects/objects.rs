@@ -25,7 +25,7 @@ pub fn write_dictionaries(
 
 /// The objects of a font, whole, one behind the other, with numbers from `first` on: the composite font, its CIDFont, the font
 /// descriptor, the font program, ToUnicode, CIDSet if there is one, and the CMap if the codes have their own. `first` is above
-/// 0. For files that aren't encrypted: streams stand as they are, with no filter.
+/// 0. For files that aren't encrypted: streams are as they are, with no filter.
 ///
 /// # Errors
 ///

@@ -3,7 +3,7 @@
 
 use crate::rattle::prelude::Vec;
 
-use crate::proved::pdf_sheet::frame::{write_glyph_place, Frame};
+use crate::proved::pdf_sheet::frame::{write_glyph_position, Frame};
 use crate::proved::pdf_sheet::glyphs::{write_glyph, SheetGlyph};
 use crate::proved::subsetter_base::Error;
 use crate::rattle::alloc::Global;
@@ -15,7 +15,7 @@ fn write_placed(
     place: usize,
     glyph: SheetGlyph<'_>,
 ) -> Result<(), Error> {
-    write_glyph_place(text, frame, place)?;
+    write_glyph_position(text, frame, place)?;
     write_glyph(text, glyph)
 }
 

@@ -8,7 +8,7 @@ use crate::proved::pdf_glyphs::{
 };
 use crate::proved::pdf_moved::values_at;
 use crate::proved::pdf_names::name_at;
-use crate::proved::pdf_source::cff::said_by;
+use crate::proved::pdf_source::cff::cff_values_by;
 use crate::proved::pdf_source::moved::{movement_of, Location};
 use crate::proved::pdf_source::tag::SubsetTag;
 use crate::proved::pdf_text::{font_name, tag_of};
@@ -106,7 +106,7 @@ fn source_name(alloc: Global, face: &Face<'_>) -> Result<Vec<u8>, Error> {
     if name.len() > 0 {
         return Ok(name);
     }
-    let said = said_by(alloc, face)?;
+    let said = cff_values_by(alloc, face)?;
     postscript_name(alloc, None, said.name)
 }
 

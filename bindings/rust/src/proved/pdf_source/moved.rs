@@ -6,9 +6,9 @@ use crate::rattle::prelude::Vec;
 use crate::proved::pdf_cff::unless_memory;
 use crate::proved::pdf_moved::Movement;
 use crate::proved::subsetter_base::{Error, Tag};
-use crate::proved::subsetter_instance::source::place;
+use crate::proved::subsetter_instance::source::normalized_coordinates;
 use crate::proved::subsetter_sfnt::face::Face;
-use crate::proved::subsetter_variation::axes::{axes, Axis};
+use crate::proved::subsetter_variation::locations::axes::{axes, Axis};
 use crate::rattle::alloc::Global;
 
 /// Where a font is off its default.
@@ -24,7 +24,7 @@ fn coordinates_of(
     face: &Face<'_>,
     settings: &[(Tag, i32)],
 ) -> Result<Option<Vec<i32>>, Error> {
-    match place(alloc, face, settings) {
+    match normalized_coordinates(alloc, face, settings) {
         Ok(at) => Ok(Some(at)),
         Err(error) => {
             unless_memory(error)?;

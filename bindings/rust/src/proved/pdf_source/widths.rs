@@ -21,7 +21,11 @@ fn metrics_of<'a>(face: &Face<'a>) -> Result<Metrics<'a>, Error> {
     }
     let hhea = face.stored(Tag::HHEA).ok_or(Error::MalformedFont)?;
     let pairs = number_of_h_metrics(hhea).ok_or(Error::MalformedFont)?;
-    Ok(Metrics { hmtx, pairs, units })
+    Ok(Metrics {
+        hmtx,
+        number_of_h_metrics: pairs,
+        units,
+    })
 }
 
 /// The widths of so many glyphs of a font, from glyph 0 on. What is missing is `MalformedFont`.

@@ -3,7 +3,7 @@
 
 use crate::rattle::prelude::Vec;
 
-use crate::proved::pdf_text::lines::write_count;
+use crate::proved::pdf_text::cmaps::lines::write_count;
 use crate::proved::pdf_text::numbers::{write_integer, write_integers, write_thousandths};
 use crate::proved::pdf_text::values::{Descriptor, FontValues, OwnCmap, ProgramKind, References};
 use crate::proved::subsetter_base::Error;

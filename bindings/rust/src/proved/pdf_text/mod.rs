@@ -7,27 +7,23 @@
 //! font_name(alloc, &tag_of(program), b"Made Bold")?;                            // OVQQEL+MadeBold
 //! ```
 
-mod arrays;
 mod bits;
-mod columns;
+mod cmaps;
 mod dictionaries;
-mod encoding;
-mod lines;
-mod named;
+mod metrics;
 mod numbers;
 mod objects;
 mod tag;
-mod to_unicode;
 mod values;
 
-pub use arrays::write_widths;
 pub use bits::cid_set;
-pub use columns::{write_columns, Column, DefaultColumn};
-pub use encoding::CidOfCode;
-pub use lines::{write_count, write_word};
-pub use named::{write_named_encoding, NamedCmap};
+pub use cmaps::encoding::CidOfCode;
+pub use cmaps::lines::{write_count, write_word};
+pub use cmaps::named::{write_named_encoding, NamedCmap};
+pub use cmaps::to_unicode::{write_to_unicode, Mapping};
+pub use metrics::arrays::write_widths;
+pub use metrics::columns::{write_columns, Column, DefaultColumn};
 pub use numbers::write_sign;
 pub use objects::{write_dictionaries, write_objects, FontDictionaries, FontObjects};
 pub use tag::{font_name, tag_of};
-pub use to_unicode::{write_to_unicode, Mapping};
 pub use values::{Descriptor, FontValues, OwnCmap, ProgramKind, References};

@@ -3,7 +3,7 @@
 
 use crate::rattle::prelude::Vec;
 
-use crate::proved::pdf_text::lines::write_count;
+use crate::proved::pdf_text::cmaps::lines::write_count;
 use crate::proved::subsetter_base::Error;
 use crate::rattle::io::Write;
 

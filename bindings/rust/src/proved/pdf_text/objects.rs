@@ -3,10 +3,10 @@
 
 use crate::rattle::prelude::Vec;
 
+use crate::proved::pdf_text::cmaps::lines::write_count;
 use crate::proved::pdf_text::dictionaries::{
     write_cid_font, write_cmap, write_descriptor, write_font, write_program, write_size,
 };
-use crate::proved::pdf_text::lines::write_count;
 use crate::proved::pdf_text::values::{FontValues, OwnCmap, References};
 use crate::proved::subsetter_base::Error;
 use crate::rattle::alloc::Global;
@@ -192,7 +192,7 @@ fn checked(first: u32) -> Result<(), Error> {
 
 /// The objects of a font, whole, one behind the other, with numbers from `first` on: the composite font, its CIDFont, the font
 /// descriptor, the font program, ToUnicode, CIDSet if there is one, and the CMap if the file has its own. `first` is above 0, and
-/// each number has generation 0. For files that aren't encrypted: streams stand as they are, with no filter.
+/// each number has generation 0. For files that aren't encrypted: streams are as they are, with no filter.
 ///
 /// # Errors
 ///

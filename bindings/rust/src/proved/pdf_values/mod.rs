@@ -11,25 +11,21 @@
 //! let flags = flags_of(post, os2, head, italic_angle(post));      // 70
 //! ```
 
-mod bounds;
 mod descriptor;
 pub mod fields;
-mod flags;
-mod heights;
-mod lean;
+mod looks;
 mod naming;
 mod permission;
 mod rounding;
 mod units;
-mod weight;
 
-pub use bounds::{bounds_of, Bounds, Edges, GlyphBox};
 pub use descriptor::{values_of, Known, Tables, Values};
-pub use flags::flags_of;
-pub use heights::Heights;
-pub use lean::italic_angle;
+pub use looks::bounds::{bounds_of, Bounds, Edges, GlyphBox};
+pub use looks::flags::flags_of;
+pub use looks::heights::Heights;
+pub use looks::lean::italic_angle;
+pub use looks::weight::{font_weight, stem_v, weight_of};
 pub use naming::{postscript_name, table_name};
 pub use permission::{is_permitted, permission_of, Permission, Rights, Usage};
 pub use rounding::thousandths;
 pub use units::units_per_em;
-pub use weight::{font_weight, stem_v, weight_of};

@@ -3,10 +3,10 @@
 
 use crate::rattle::prelude::{String, Vec};
 
-use crate::proved::subset_args::characters::read_characters;
 use crate::proved::subset_args::coordinates::read_coordinates;
 use crate::proved::subset_args::limits::RunLimits;
-use crate::proved::subset_args::lists::{read_argument, FileKind, GlyphList};
+use crate::proved::subset_args::listing::characters::read_characters;
+use crate::proved::subset_args::listing::lists::{read_argument, FileKind, GlyphList};
 use crate::proved::subset_args::options::{
     parse_free, parse_options, Chosen, Coding, Free, Parsed, PdfChoice, Source, Switches,
 };
@@ -282,13 +282,13 @@ fn read_plain_job(alloc: Global, chosen: Chosen<'_>, words: &[String]) -> Result
 }
 
 /// Whether an option says OUT or INDEX.
-fn says_place(chosen: &Chosen<'_>) -> bool {
+fn names_position(chosen: &Chosen<'_>) -> bool {
     chosen.output.is_some() || chosen.index.is_some()
 }
 
 /// The same where no option says OUT or INDEX.
 fn read_job(alloc: Global, chosen: Chosen<'_>, words: &[String]) -> Result<Job, ArgsError> {
-    if says_place(&chosen) {
+    if names_position(&chosen) {
         return Err(ArgsError::Usage);
     }
     read_plain_job(alloc, chosen, words)

@@ -3,10 +3,10 @@
 
 use crate::rattle::prelude::String;
 
-use crate::proved::subset_args::characters::{codes_descend, is_wrong_codes};
 use crate::proved::subset_args::coordinates::is_coordinate;
 use crate::proved::subset_args::jobs::{first_topic, is_name, is_same, is_stream, topic_of};
-use crate::proved::subset_args::lists::{descends, is_wrong_part, FileKind};
+use crate::proved::subset_args::listing::characters::{codes_descend, is_wrong_codes};
+use crate::proved::subset_args::listing::lists::{descends, is_wrong_part, FileKind};
 use crate::proved::subset_args::nearest::front;
 use crate::proved::subset_args::options::{
     coding_of, kind_of, looks_like_option, says_held, Chosen, Kind, Setting, Source,
@@ -348,7 +348,7 @@ fn is_no_option(word: &str) -> bool {
 }
 
 /// What is wrong with the arguments from one on that is in the position of IN, and isn't behind `--`.
-fn wrong_from_place<'a>(
+fn wrong_from_position<'a>(
     chosen: &Chosen<'a>,
     word: &'a str,
     words: &'a [String],
@@ -411,12 +411,12 @@ fn wrong_from_option<'a>(chosen: Chosen<'a>, words: &'a [String]) -> Option<Mist
         }
         Kind::Help | Kind::Version => None,
         Kind::End => wrong_from_input(&chosen, behind),
-        Kind::Place => wrong_from_place(&chosen, word, words),
+        Kind::Place => wrong_from_position(&chosen, word, words),
     }
 }
 
 /// Whether one of the arguments is an option that says OUT or INDEX, or one with its value, as `-oFILE`.
-fn says_output(words: &[String]) -> bool {
+fn names_output(words: &[String]) -> bool {
     for word in words {
         if let Kind::Setting(Setting::Output | Setting::FaceIndex) = kind_of(front(word)) {
             return true;
@@ -462,7 +462,7 @@ fn wrong_behind_end<'a>(
 }
 
 /// What is wrong with an argument that is no known option, and isn't behind `--`: a wrong option, or a second IN.
-fn wrong_place<'a>(input: Option<&str>, word: &'a str) -> Option<Mistake<'a>> {
+fn wrong_argument<'a>(input: Option<&str>, word: &'a str) -> Option<Mistake<'a>> {
     if topic_of(word).is_some() {
         return mistake_at(Wrong::ShownLate, word);
     }
@@ -506,7 +506,7 @@ fn wrong_free<'a>(
         }
         Kind::Help | Kind::Version => mistake_at(Wrong::Late, word),
         Kind::End => wrong_behind_end(&chosen, input, behind),
-        Kind::Place => match wrong_place(input, word) {
+        Kind::Place => match wrong_argument(input, word) {
             Some(mistake) => Some(mistake),
             None => wrong_free(chosen, Some(word.as_str()), behind),
         },
@@ -539,7 +539,7 @@ fn wrong_with_pdf(words: &[String]) -> Option<Mistake<'_>> {
 pub fn find_mistake(words: &[String]) -> Option<Mistake<'_>> {
     match first_topic(words) {
         Some((_, behind)) => wrong_topic(behind),
-        None if says_output(words) => wrong_free(Chosen::NOTHING, None, words),
+        None if names_output(words) => wrong_free(Chosen::NOTHING, None, words),
         None if says_pdf(words) => wrong_with_pdf(words),
         None => wrong_from_option(Chosen::NOTHING, words),
     }

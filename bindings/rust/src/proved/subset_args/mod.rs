@@ -10,22 +10,20 @@
 //! }
 //! ```
 
-mod characters;
 mod coordinates;
-mod files;
 mod jobs;
 mod limits;
-mod lists;
+mod listing;
 mod mistakes;
 mod nearest;
 mod options;
 mod texts;
 
-pub use characters::codes_descend;
-pub use files::{find_wrong, read_list};
 pub use jobs::{is_stream, read_words, ArgsError, Command, Glyphs, Job, PdfJob, Position, Topic};
 pub use limits::RunLimits;
-pub use lists::{descends, FileKind, GlyphList};
+pub use listing::characters::codes_descend;
+pub use listing::files::{find_wrong, read_list};
+pub use listing::lists::{descends, FileKind, GlyphList};
 pub use mistakes::find_mistake;
 pub use options::{Coding, PdfChoice, Switches};
 pub use texts::{Advice, Shown, CODES_WANTED, ORDER_WANTED, PARTS_WANTED};

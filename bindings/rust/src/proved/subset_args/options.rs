@@ -4,7 +4,7 @@
 use crate::rattle::prelude::String;
 
 use crate::proved::subset_args::limits::RunLimits;
-use crate::proved::subset_args::lists::FileKind;
+use crate::proved::subset_args::listing::lists::FileKind;
 use crate::proved::subsetter_words::{u32_of, u8_of};
 
 /// An option without a value.

@@ -7,27 +7,14 @@
 
 use crate::rattle::prelude::HostRuntime;
 
-mod asked;
-mod axes;
-mod broken;
-mod carried;
-mod face;
-mod failure;
+mod faces;
 mod help;
-mod hint;
-mod info;
-mod limit_hint;
-mod missing;
-mod named;
+mod making;
 mod notes;
-mod outcome;
 mod output;
-mod reason;
+mod refusals;
 mod run;
-mod sheet;
 mod streams;
-mod subset;
-mod tables;
 mod task;
 
 use run::Ended;

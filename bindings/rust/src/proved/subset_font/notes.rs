@@ -3,10 +3,10 @@
 
 use crate::rattle::prelude::Vec;
 
-use crate::proved::subset_font::axes::axes_there;
+use crate::proved::subset_font::faces::axes::axes_there;
 use crate::proved::subset_lines::Note;
 use crate::proved::subsetter::{Error, Tag};
-use crate::proved::subsetter_variation::axes::{find_axis, Axis};
+use crate::proved::subsetter_variation::locations::axes::{find_axis, Axis};
 use crate::rattle::alloc::{AllocError, Global};
 
 /// The least coordinate of an axis, which is its default where that is less.

@@ -8,22 +8,24 @@ use crate::proved::subset_args::{
     Command, FileKind, GlyphList, Glyphs, Job, Shown, Topic, CODES_WANTED, ORDER_WANTED,
     PARTS_WANTED,
 };
-use crate::proved::subset_font::axes::carry_axes;
-use crate::proved::subset_font::carried::{carry_out, read_whole};
-use crate::proved::subset_font::failure::{file_of, given, pdf_file, status_of_run, Failure, Told};
+use crate::proved::subset_font::faces::axes::carry_axes;
+use crate::proved::subset_font::faces::info::carry_info;
+use crate::proved::subset_font::faces::missing::missing_in;
+use crate::proved::subset_font::faces::named::instance_names;
 use crate::proved::subset_font::help::{HELP, VERSION_LINE};
-use crate::proved::subset_font::hint::{find_axes_hint, find_hint, no_axes, Hint};
-use crate::proved::subset_font::info::carry_info;
-use crate::proved::subset_font::limit_hint::find_limit_hint;
-use crate::proved::subset_font::missing::missing_in;
-use crate::proved::subset_font::named::instance_names;
+use crate::proved::subset_font::making::carried::{carry_out, read_whole};
 use crate::proved::subset_font::notes::{known_axes, notes_for};
-use crate::proved::subset_font::reason::{reason_of, unread, Noted};
+use crate::proved::subset_font::refusals::failure::{
+    file_of, given, pdf_file, status_of_run, Failure, Report,
+};
+use crate::proved::subset_font::refusals::hint::{find_axes_hint, find_hint, no_axes, Hint};
+use crate::proved::subset_font::refusals::limit_hint::find_limit_hint;
+use crate::proved::subset_font::refusals::reason::{reason_of, unread, Noted};
 use crate::proved::subset_font::streams::{
     goes_to_output, hold_streams, lines_beside, open_source, Source, Target,
 };
 use crate::proved::subset_font::task::{
-    at_of, extras_of, form_of, instance_of, limits_of, pdf_of, Asked, Form, Plan, Task,
+    at_of, extras_of, form_of, instance_of, limits_of, pdf_of, Form, Plan, RequestedGlyphs, Task,
 };
 use crate::proved::subset_lines::note_lines;
 use crate::proved::subsetter::{Error, Options};
@@ -94,31 +96,31 @@ fn list_of<R: Files + Input + AllocGlobal>(
 }
 
 /// Which glyphs a file requests.
-fn asked_by(list: &GlyphList) -> Asked<'_> {
+fn requested_by(list: &GlyphList) -> RequestedGlyphs<'_> {
     match list {
-        GlyphList::Every => Asked::Every,
-        GlyphList::These(given) => Asked::These(given),
-        GlyphList::Characters(given) => Asked::ByCharacters(given),
-        GlyphList::Text(text) => Asked::ByText(text),
+        GlyphList::Every => RequestedGlyphs::Every,
+        GlyphList::These(given) => RequestedGlyphs::These(given),
+        GlyphList::Characters(given) => RequestedGlyphs::ByCharacters(given),
+        GlyphList::Text(text) => RequestedGlyphs::ByText(text),
     }
 }
 
 /// Which glyphs are kept.
-fn asked_of<'a>(glyphs: &'a Glyphs, list: &'a Option<GlyphList>) -> Asked<'a> {
+fn requested_of<'a>(glyphs: &'a Glyphs, list: &'a Option<GlyphList>) -> RequestedGlyphs<'a> {
     match (glyphs, list) {
-        (Glyphs::Listed(given), _) => Asked::These(given),
-        (Glyphs::ByText(text), _) => Asked::ByText(text),
-        (Glyphs::Every, _) => Asked::Every,
-        (Glyphs::Characters(given), _) => Asked::ByCharacters(given),
-        (Glyphs::InFile(_, _), Some(list)) => asked_by(list),
-        (Glyphs::InFile(_, _), None) => Asked::These(&[]),
+        (Glyphs::Listed(given), _) => RequestedGlyphs::These(given),
+        (Glyphs::ByText(text), _) => RequestedGlyphs::ByText(text),
+        (Glyphs::Every, _) => RequestedGlyphs::Every,
+        (Glyphs::Characters(given), _) => RequestedGlyphs::ByCharacters(given),
+        (Glyphs::InFile(_, _), Some(list)) => requested_by(list),
+        (Glyphs::InFile(_, _), None) => RequestedGlyphs::These(&[]),
     }
 }
 
 /// What a job requests to be made of the font.
 fn task_of<'a>(job: &'a Job, list: &'a Option<GlyphList>) -> Task<'a> {
     Task {
-        asked: asked_of(&job.glyphs, list),
+        requested: requested_of(&job.glyphs, list),
         index: job.index,
         options: Options {
             limits: limits_of(job.limits),
@@ -236,20 +238,20 @@ fn perform<R: Files + Print + Eprint + Input + AllocGlobal>(
 fn report<R: Eprint>(rt: &R, ended: &Result<(), Failure>, file: Option<&str>) -> u8 {
     if let Err(failure) = ended {
         // Nobody could be told of a failure here, so the status alone tells.
-        let _ = eprintln!(rt; "{}", Told { failure, file });
+        let _ = eprintln!(rt; "{}", Report { failure, file });
     }
     status_of_run(ended)
 }
 
 /// Reports why the system refused to read or to write, where that is known.
-fn tell_reason<R: Eprint>(rt: &R, reason: Option<io::Error>) {
+fn report_reason<R: Eprint>(rt: &R, reason: Option<io::Error>) {
     if let Some(reason) = reason {
         let _ = eprintln!(rt; "{reason}");
     }
 }
 
 /// Says more of a font that is refused, where more can be seen.
-fn tell_hint<R: Eprint>(rt: &R, hint: Option<Hint>) {
+fn report_hint<R: Eprint>(rt: &R, hint: Option<Hint>) {
     if let Some(hint) = hint {
         let _ = eprintln!(rt; "{hint}");
     }
@@ -326,7 +328,7 @@ fn report_notes<R: Eprint + AllocGlobal>(rt: &R, font: &[u8], plan: &Plan<'_>) {
             return;
         }
     };
-    let characters = match missing_in(rt.alloc(), font, plan.task.index, &plan.task.asked) {
+    let characters = match missing_in(rt.alloc(), font, plan.task.index, &plan.task.requested) {
         Some(characters) => characters,
         _ => {
             return;
@@ -356,7 +358,7 @@ fn report_names<R: Eprint + AllocGlobal>(rt: &R, font: &[u8], index: u32) {
 fn task_with_widths<'a>(plan: &Plan<'a>) -> Task<'a> {
     let task = plan.task;
     Task {
-        asked: task.asked,
+        requested: task.requested,
         index: task.index,
         options: task.options,
         widths: task.widths || plan.pdf.is_some(),
@@ -368,8 +370,8 @@ fn task_with_widths<'a>(plan: &Plan<'a>) -> Task<'a> {
 /// Reports more of a run that failed, as far as it can be seen in the font.
 fn report_more<R: Eprint + AllocGlobal>(rt: &R, failure: &Failure, font: &[u8], plan: &Plan<'_>) {
     match find_hint(failure, font, &task_with_widths(plan)) {
-        Some(hint) => tell_hint(rt, Some(hint)),
-        None => tell_hint(rt, find_limit_hint(rt.alloc(), failure, font, plan)),
+        Some(hint) => report_hint(rt, Some(hint)),
+        None => report_hint(rt, find_limit_hint(rt.alloc(), failure, font, plan)),
     }
     if let Failure::NoInstance = failure {
         report_names(rt, font, plan.task.index);
@@ -385,7 +387,7 @@ fn run_job<R: Files + Print + Eprint + Input + AllocGlobal>(rt: &R, job: &Job) -
         Err(failure) => {
             let ended = Err(failure);
             let status = report(rt, &ended, file_of(&ended, job));
-            tell_reason(rt, reason);
+            report_reason(rt, reason);
             report_list(rt, &ended, &job.glyphs, &text);
             return status;
         }
@@ -395,7 +397,7 @@ fn run_job<R: Files + Print + Eprint + Input + AllocGlobal>(rt: &R, job: &Job) -
     let is_font_there = goes_to_output(rt, given(&job.output)) || goes_to_output(rt, pdf_file(job));
     let ended = perform(rt, job, &plan, is_font_there, &mut font, &mut reason);
     let status = report(rt, &ended, file_of(&ended, job));
-    tell_reason(rt, reason);
+    report_reason(rt, reason);
     match &ended {
         Ok(()) if has_notes(plan.task.form, is_font_there) => {}
         Ok(()) => report_notes(rt, &font, &plan),
@@ -475,10 +477,10 @@ fn run_shown<R: Files + Print + Eprint + Input + AllocGlobal>(
     let mut reason = None;
     let ended = perform_shown(rt, topic, json, input, index, &mut font, &mut reason);
     let status = report(rt, &ended, unread_file(&ended, input));
-    tell_reason(rt, reason);
+    report_reason(rt, reason);
     match (&ended, topic) {
-        (Err(failure), _) => tell_hint(rt, find_axes_hint(failure, &font, index)),
-        (Ok(()), Topic::Axes) if !json => tell_hint(rt, no_axes(&font, index)),
+        (Err(failure), _) => report_hint(rt, find_axes_hint(failure, &font, index)),
+        (Ok(()), Topic::Axes) if !json => report_hint(rt, no_axes(&font, index)),
         (Ok(()), _) => {}
     }
     status
@@ -490,7 +492,7 @@ fn print_text<R: Print + Eprint>(rt: &R, text: &str) -> u8 {
         Ok(()) => 0,
         Err(error) => {
             let status = report(rt, &Err(Failure::Output), None);
-            tell_reason(rt, Some(error));
+            report_reason(rt, Some(error));
             status
         }
     }

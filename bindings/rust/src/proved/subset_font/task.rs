@@ -6,7 +6,7 @@ use crate::proved::subsetter::{Extras, Limits, Options, Tag};
 
 /// Which glyphs are kept.
 #[derive(Clone, Copy)]
-pub enum Asked<'a> {
+pub enum RequestedGlyphs<'a> {
     /// Those of these old numbers, in the requested order.
     These(&'a [u16]),
     /// Every glyph of the face.
@@ -32,7 +32,7 @@ pub enum Form {
 #[derive(Clone, Copy)]
 pub struct Task<'a> {
     /// The glyphs to keep.
-    pub asked: Asked<'a>,
+    pub requested: RequestedGlyphs<'a>,
     /// The font of a collection, from 0.
     pub index: u32,
     /// How far a charstring may run, and what is kept besides outlines and metrics.

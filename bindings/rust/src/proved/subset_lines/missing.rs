@@ -4,7 +4,7 @@
 use crate::rattle::prelude::Vec;
 
 use crate::proved::subset_lines::entry::Unwritten;
-use crate::proved::subset_lines::quoted::write_quoted;
+use crate::proved::subset_lines::objects::quoted::write_quoted;
 use crate::proved::subset_lines::text::write_text;
 use crate::rattle::alloc::Global;
 use crate::rattle::io::Write;

@@ -9,29 +9,22 @@
 //! write_lines(&numbering, b"", &mut lines)?;         // 36 -> 1, 68 -> 2
 //! ```
 
-mod axes;
-mod axes_json;
 mod entry;
+mod faces;
 mod fixed;
-mod info;
-mod json;
-mod members;
 mod missing;
-mod names;
 mod notes;
-mod pdf;
+mod objects;
 mod plain;
-mod quoted;
-mod sizes;
 mod text;
 
-pub use axes::{name_of, read_axes, write_axes, FontAxes};
-pub use axes_json::{text_of_name, write_axes_json};
 pub use entry::{take_first, Numbering};
-pub use info::{write_info, write_info_json, Info, Outlines};
-pub use json::{json_numbers, write_json};
-pub use members::json_members;
+pub use faces::axes::{name_of, read_axes, write_axes, FontAxes};
+pub use faces::info::{write_info, write_info_json, Info, Outlines};
+pub use faces::sizes::{size_lines, TableSize};
 pub use notes::{note_lines, Note};
-pub use pdf::json_pdf;
+pub use objects::axes_json::{text_of_name, write_axes_json};
+pub use objects::json::{json_numbers, write_json};
+pub use objects::members::json_members;
+pub use objects::pdf::json_pdf;
 pub use plain::write_lines;
-pub use sizes::{size_lines, TableSize};

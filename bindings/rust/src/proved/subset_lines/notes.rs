@@ -3,14 +3,14 @@
 
 use crate::rattle::prelude::Vec;
 
-use crate::proved::subset_lines::axes::write_tag;
 use crate::proved::subset_lines::entry::Unwritten;
+use crate::proved::subset_lines::faces::axes::write_tag;
 use crate::proved::subset_lines::fixed::write_labelled;
 use crate::proved::subset_lines::missing::{write_missing_line, write_missing_string};
-use crate::proved::subset_lines::quoted::write_quoted;
+use crate::proved::subset_lines::objects::quoted::write_quoted;
 use crate::proved::subset_lines::text::write_text;
 use crate::proved::subsetter_base::Tag;
-use crate::proved::subsetter_variation::axes::Axis;
+use crate::proved::subsetter_variation::locations::axes::Axis;
 use crate::rattle::alloc::Global;
 use crate::rattle::io::Write;
 

@@ -50,7 +50,7 @@ fn rights_by(is_held: bool) -> Rights {
     }
 }
 
-/// What is chosen of the font: what isn't said is as by default.
+/// What is chosen of the font: what isn't stated is as by default.
 pub fn options_of(request: &PdfRequest<'_>) -> FontOptions {
     FontOptions {
         limits: request.limits,

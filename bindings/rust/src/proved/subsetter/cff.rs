@@ -4,13 +4,13 @@
 //! The new table is made by `subsetter_cff`, in two pieces. Its glyphs are the given ones and no others, as a charstring
 //! leads to no further glyph.
 
-use crate::proved::subsetter::shared::{self, SharedTables};
+use crate::proved::subsetter::common::shared::{self, SharedTables};
 use crate::proved::subsetter::tables::TableData;
 use crate::proved::subsetter_base::{Error, GlyphRemapper};
 use crate::proved::subsetter_cff::CffPieces;
 use crate::proved::subsetter_sfnt::face::Face;
 use crate::proved::subsetter_sfnt::flavor::FontFlavor;
-use crate::proved::subsetter_sfnt::tables::FontTables;
+use crate::proved::subsetter_sfnt::laying::tables::FontTables;
 use crate::proved::subsetter_type2::limits::Limits;
 use crate::rattle::alloc::Global;
 

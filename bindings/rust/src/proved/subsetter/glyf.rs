@@ -38,7 +38,7 @@ pub struct GlyfTables<'a> {
     #[allow(dead_code)] // (the definitions read it)
     pub head: &'a [u8],
     pub long: bool,
-    /// Whether instructions are asked for.
+    /// Whether instructions are requested.
     pub hinting: bool,
 }
 
@@ -124,7 +124,7 @@ fn keep_block<'a>(
     Ok(())
 }
 
-/// Outlines that were looked up, each as it stands in the new `glyf` but for its padding, with instructions if they are asked for.
+/// Outlines that were looked up, each as it is in the new `glyf` but for its padding, with instructions if they are requested.
 ///
 /// Each block of them is begun before one of it is looked at, so that many are fetched from memory at a time.
 pub fn subset<'a>(

@@ -13,14 +13,9 @@
 
 mod cff;
 mod choice;
+mod common;
 mod glyf;
-mod head;
-mod hmtx;
 mod loca;
-mod maxp;
-mod name;
-mod post;
-mod shared;
 mod subsetting;
 mod tables;
 mod truetype;

@@ -8,12 +8,12 @@ use crate::proved::subsetter::choice::Options;
 use crate::proved::subsetter::glyf::{self, GlyfTables, GlyphClosure};
 use crate::proved::subsetter::truetype::{self, TrueTypeTables};
 use crate::proved::subsetter_base::{Error, GlyphRemapper, Tag};
-use crate::proved::subsetter_sfnt::construct::finish;
 use crate::proved::subsetter_sfnt::extras::Extras;
 use crate::proved::subsetter_sfnt::face::Face;
 use crate::proved::subsetter_sfnt::flavor::{flavor, FontFlavor};
+use crate::proved::subsetter_sfnt::laying::construct::finish;
+use crate::proved::subsetter_sfnt::laying::tables::in_order;
 use crate::proved::subsetter_sfnt::parse::parse;
-use crate::proved::subsetter_sfnt::tables::in_order;
 use crate::proved::subsetter_type2::limits::Limits;
 use crate::rattle::alloc::Global;
 
@@ -48,7 +48,7 @@ fn subset_cff(
     finish(alloc, FontFlavor::Cff, &list, limits.bytes())
 }
 
-/// As `subset_with_limits`, where the new font has only those of its extras that are asked for.
+/// As `subset_with_limits`, where the new font has only those of its extras that are requested.
 ///
 /// - Without `hinting` it has no `cvt `, `fpgm` and `prep`, and no outline in `glyf` has instructions. An outline whose
 ///   instructions are cut stays as it is. `maxp` bounds no instructions, and the hints of charstrings stay. A font whose
@@ -58,8 +58,8 @@ fn subset_cff(
 ///
 /// # Errors
 ///
-/// Those of `subset_with_limits`, but for what is said of a table that isn't asked for: of `name` without `names`, and of
-/// what stands behind the header of 32 bytes in `post` without `glyph_names`.
+/// Those of `subset_with_limits`, but for what is stated of a table that isn't requested: of `name` without `names`, and of
+/// what is behind the header of 32 bytes in `post` without `glyph_names`.
 pub fn subset_with_options(
     alloc: Global,
     data: &[u8],

@@ -3,15 +3,15 @@
 
 use crate::rattle::prelude::Vec;
 
+use crate::proved::subsetter::common::head::NewHead;
+use crate::proved::subsetter::common::hmtx::NewMetrics;
+use crate::proved::subsetter::common::maxp::NewMaxp;
+use crate::proved::subsetter::common::name::NewNames;
 use crate::proved::subsetter::glyf::outlines::{outlines_len, write_outlines, OutlineList};
-use crate::proved::subsetter::head::NewHead;
-use crate::proved::subsetter::hmtx::NewMetrics;
-use crate::proved::subsetter::maxp::NewMaxp;
-use crate::proved::subsetter::name::NewNames;
 use crate::proved::subsetter_cff::CffPieces;
-use crate::proved::subsetter_sfnt::checksum::checksum;
-use crate::proved::subsetter_sfnt::room::put;
-use crate::proved::subsetter_sfnt::tables::TableBytes;
+use crate::proved::subsetter_sfnt::laying::checksum::checksum;
+use crate::proved::subsetter_sfnt::laying::room::put;
+use crate::proved::subsetter_sfnt::laying::tables::TableBytes;
 
 /// The bytes of a table, or what they are written from.
 #[derive(Clone, Copy)]
@@ -23,7 +23,7 @@ pub enum TableData<'b, 'a> {
         outlines: &'b OutlineList<'a>,
         long: bool,
     },
-    /// `CFF ` in two pieces: what stands before the charstrings' data, and that data.
+    /// `CFF ` in two pieces: what is before the charstrings' data, and that data.
     Pieces(&'b CffPieces),
     /// `head`.
     Head(&'b NewHead<'a>),

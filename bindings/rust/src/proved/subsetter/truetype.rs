@@ -6,15 +6,15 @@
 
 use crate::rattle::prelude::Vec;
 
+use crate::proved::subsetter::common::shared::{self, SharedTables};
 use crate::proved::subsetter::glyf::outlines::{outlines_len, OutlineList};
 use crate::proved::subsetter::glyf::{self, GlyfTables};
 use crate::proved::subsetter::loca;
-use crate::proved::subsetter::shared::{self, SharedTables};
 use crate::proved::subsetter::tables::{borrowed, TableData};
 use crate::proved::subsetter_base::{Error, GlyphRemapper, Tag};
 use crate::proved::subsetter_sfnt::face::Face;
 use crate::proved::subsetter_sfnt::flavor::FontFlavor;
-use crate::proved::subsetter_sfnt::tables::FontTables;
+use crate::proved::subsetter_sfnt::laying::tables::FontTables;
 use crate::rattle::alloc::Global;
 
 /// What is made for the new font; its programs are the source's.

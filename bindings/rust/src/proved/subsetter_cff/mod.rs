@@ -18,7 +18,7 @@
 //! - Numbers of strings are found by a walk through a list: there are at most 260 (Adobe, Identity, three of the top
 //!   dict, one for each of 255 font dicts).
 //! - Charstrings are flattened into one vector, with a list of ends, from which their INDEX is written.
-//! - The new table is two pieces: all that stands before the charstrings' data, and that data, which is large and is
+//! - The new table is two pieces: all that is before the charstrings' data, and that data, which is large and is
 //!   copied once, into the file.
 //! - Each offset in the front has five bytes, so its length doesn't depend on them. Entries without offsets and strings
 //!   are written first, the length is added up from theirs, and the front is put together once the offsets are known.
@@ -28,5 +28,5 @@
 pub mod read;
 pub mod write;
 
+pub use write::laying::writing::CffPieces;
 pub use write::subsetting::subset;
-pub use write::writing::CffPieces;

@@ -2,8 +2,8 @@
 //! The values of a CFF table (Technical Note 5176): numbers, operators, INDEX structures and DICT structures, read and
 //! written.
 //!
-//! [`index::parse_index`] takes an INDEX, [`dict`]'s `DictionaryParser` the entries of a DICT one after the other, and
-//! `index::create_index` writes an INDEX.
+//! [`indexes::index::parse_index`] takes an INDEX, [`dict`]'s `DictionaryParser` the entries of a DICT one after the
+//! other, and `indexes::index::create_index` writes an INDEX.
 //!
 //! ```text
 //! let strings = parse_index::<u16>(&mut r)?;
@@ -11,25 +11,8 @@
 //! while let Some(operator) = parser.parse_next() { .. }
 //! ```
 
-pub mod charstring_number;
-pub mod dict;
-pub mod index;
-mod index_iter;
-mod index_size;
-mod index_view;
-pub mod number;
-mod offset_size;
-pub mod operands;
-pub mod operator;
+pub mod dicts;
+pub mod indexes;
+pub mod numerals;
 pub mod reading;
-mod reading_index;
-mod reading_text;
-mod real_number;
-mod real_text;
-mod real_writing;
-mod string_id;
-mod text;
-mod tokens;
-mod value;
-mod whole;
-mod writing_index;
+mod reals;

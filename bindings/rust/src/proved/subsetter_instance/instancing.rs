@@ -6,10 +6,10 @@
 use crate::rattle::prelude::Vec;
 
 use crate::proved::subsetter_base::{Error, GlyphRemapper, Tag};
-use crate::proved::subsetter_instance::drawn::draw_all;
-use crate::proved::subsetter_instance::file::laid;
-use crate::proved::subsetter_instance::lines::lines_of;
-use crate::proved::subsetter_instance::source::{place, source_or_fault};
+use crate::proved::subsetter_instance::glyphs::drawn::draw_all;
+use crate::proved::subsetter_instance::source::{normalized_coordinates, source_or_fault};
+use crate::proved::subsetter_instance::tables::file::laid;
+use crate::proved::subsetter_instance::tables::lines::lines_of;
 use crate::proved::subsetter_sfnt::extras::Extras;
 use crate::proved::subsetter_sfnt::face::Face;
 use crate::proved::subsetter_sfnt::flavor::{flavor, FontFlavor};
@@ -33,7 +33,7 @@ fn make(
     mapper: &GlyphRemapper,
     steps: u32,
 ) -> Result<Vec<u8>, Error> {
-    let at = place(alloc, face, coordinates)?;
+    let at = normalized_coordinates(alloc, face, coordinates)?;
     let source = source_or_fault(face, at.len())?;
     let drawn = draw_all(alloc, &source, &at, steps, mapper)?;
     let lines = lines_of(alloc, face, &at)?;
@@ -50,7 +50,7 @@ fn make(
 ///
 /// # Errors
 ///
-/// Each names what stands in the source (`HasInstanceFault`); a font in which nothing stands is refused only when out of
+/// Each names what is in the source (`HasInstanceFault`); a font in which nothing stands is refused only when out of
 /// memory.
 ///
 /// - `UnknownKind`: the file doesn't begin with a known kind of font, or has none of `glyf`, `CFF ` and `CFF2`.

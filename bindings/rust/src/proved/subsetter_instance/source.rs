@@ -11,8 +11,8 @@ use crate::proved::subsetter_sfnt::fields::hhea::number_of_h_metrics;
 use crate::proved::subsetter_sfnt::fields::hmtx::{glyph_metric, LongHorMetric};
 use crate::proved::subsetter_sfnt::fields::loca::loca_offset;
 use crate::proved::subsetter_sfnt::fields::maxp::num_glyphs;
-use crate::proved::subsetter_variation::coordinates::{coordinates, is_other_version};
-use crate::proved::subsetter_variation::tuples::{gvar_table, Gvar};
+use crate::proved::subsetter_variation::glyphs::tuples::{gvar_table, Gvar};
+use crate::proved::subsetter_variation::locations::coordinates::{coordinates, is_other_version};
 use crate::rattle::alloc::Global;
 
 /// The tables of outlines and metrics, and what varies.
@@ -21,7 +21,7 @@ pub struct Source<'a> {
     loca: &'a [u8],
     long: bool,
     count: u16,
-    pairs: u16,
+    number_of_h_metrics: u16,
     hmtx: &'a [u8],
     gvar: Option<Gvar<'a>>,
     hvar: Option<&'a [u8]>,
@@ -29,7 +29,11 @@ pub struct Source<'a> {
 
 /// The normalized coordinates for settings of user coordinates, each a tag and a value in 65536ths. A cut table is
 /// `MalformedFont`, a major version of `fvar` or `avar` other than 1 `Unimplemented`.
-pub fn place(alloc: Global, face: &Face<'_>, settings: &[(Tag, i32)]) -> Result<Vec<i32>, Error> {
+pub fn normalized_coordinates(
+    alloc: Global,
+    face: &Face<'_>,
+    settings: &[(Tag, i32)],
+) -> Result<Vec<i32>, Error> {
     match face.stored(Tag::new(b"fvar")) {
         None => Ok(Vec::new(alloc)),
         Some(fvar) => coordinates(alloc, fvar, face.stored(Tag::new(b"avar")), settings),
@@ -69,7 +73,7 @@ pub fn source_in<'a>(face: &Face<'a>, axes: usize) -> Option<Source<'a>> {
         loca,
         long: format != 0,
         count,
-        pairs,
+        number_of_h_metrics: pairs,
         hmtx,
         gvar,
         hvar: face.stored(Tag::new(b"HVAR")),
@@ -118,6 +122,6 @@ impl<'a> Source<'a> {
 
     /// The metric of a glyph: a pair of its own, or the last advance with a bearing of its own.
     pub fn metric(&self, glyph: u16) -> Option<LongHorMetric> {
-        glyph_metric(self.hmtx, self.pairs, glyph)
+        glyph_metric(self.hmtx, self.number_of_h_metrics, glyph)
     }
 }

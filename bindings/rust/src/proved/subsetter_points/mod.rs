@@ -17,23 +17,9 @@
 mod bounds;
 pub mod component;
 #[cfg(feature = "variable-fonts")]
-mod coordinates;
+mod list_bytes;
 #[cfg(feature = "variable-fonts")]
-mod delta_bytes;
-#[cfg(feature = "variable-fonts")]
-mod deltas;
-#[cfg(feature = "variable-fonts")]
-mod end_bytes;
-#[cfg(feature = "variable-fonts")]
-mod ends;
-#[cfg(feature = "variable-fonts")]
-mod fitting;
-#[cfg(feature = "variable-fonts")]
-mod flag_bytes;
-#[cfg(feature = "variable-fonts")]
-mod flags;
-#[cfg(feature = "variable-fonts")]
-mod front;
+mod lists;
 #[cfg(feature = "variable-fonts")]
 mod outline;
 #[cfg(feature = "variable-fonts")]
@@ -44,7 +30,7 @@ mod writing;
 #[cfg(feature = "variable-fonts")]
 pub use bounds::least_x;
 #[cfg(feature = "variable-fonts")]
-pub use fitting::fits;
+pub use list_bytes::fitting::fits;
 #[cfg(feature = "variable-fonts")]
 pub use outline::{Columns, Outline, Point};
 #[cfg(feature = "variable-fonts")]

@@ -11,10 +11,10 @@ use crate::rattle::prelude::Vec;
 
 use crate::proved::subsetter_base::read::Reader;
 use crate::proved::subsetter_base::Error;
-use crate::proved::subsetter_points::coordinates::read_coordinates;
-use crate::proved::subsetter_points::ends::{count, read_ends};
-use crate::proved::subsetter_points::flags::read_flags;
-use crate::proved::subsetter_points::front::{read_after, read_word};
+use crate::proved::subsetter_points::lists::coordinates::read_coordinates;
+use crate::proved::subsetter_points::lists::ends::{count, read_ends};
+use crate::proved::subsetter_points::lists::flags::read_flags;
+use crate::proved::subsetter_points::lists::front::{read_after, read_word};
 use crate::proved::subsetter_points::outline::Columns;
 use crate::rattle::alloc::Global;
 

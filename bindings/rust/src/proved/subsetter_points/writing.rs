@@ -10,9 +10,9 @@ use crate::rattle::prelude::Vec;
 
 use crate::proved::subsetter_base::Error;
 use crate::proved::subsetter_points::bounds::write_box;
-use crate::proved::subsetter_points::delta_bytes::{write_xs, write_ys};
-use crate::proved::subsetter_points::end_bytes::write_ends;
-use crate::proved::subsetter_points::flag_bytes::write_flags;
+use crate::proved::subsetter_points::list_bytes::delta_bytes::{write_xs, write_ys};
+use crate::proved::subsetter_points::list_bytes::end_bytes::write_ends;
+use crate::proved::subsetter_points::list_bytes::flag_bytes::write_flags;
 use crate::proved::subsetter_points::outline::{Outline, Point};
 
 /// Writes points as a simple glyph description, by the last points of their contours.

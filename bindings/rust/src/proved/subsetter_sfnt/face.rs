@@ -72,7 +72,7 @@ impl Writeable for TableRecord {
     }
 }
 
-/// A font's bytes, those of its directory's records, and what is asked for of it.
+/// A font's bytes, those of its directory's records, and what is requested of it.
 #[derive(Clone, Copy)]
 pub struct Face<'a> {
     pub data: &'a [u8],

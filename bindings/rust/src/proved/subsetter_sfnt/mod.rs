@@ -10,13 +10,10 @@
 //! let head = face.table(Tag::HEAD);
 //! ```
 
-pub mod checksum;
-pub mod construct;
 pub mod directory;
 pub mod extras;
 pub mod face;
 pub mod fields;
 pub mod flavor;
+pub mod laying;
 pub mod parse;
-pub mod room;
-pub mod tables;

@@ -26,7 +26,7 @@ fn header(file: &[u8], index: u32, _extras: Extras) -> Result<usize, Error> {
     }
 }
 
-/// Parses the directory of a font, of which these extras are asked for.
+/// Parses the directory of a font, of which these extras are requested.
 pub fn parse(file: &[u8], index: u32, extras: Extras) -> Result<Face<'_>, Error> {
     let at = header(file, index, extras)?;
     let records = records_at(file, at).ok_or(Error::MalformedFont)?;
@@ -45,7 +45,7 @@ impl<'a> Face<'a> {
             || (!extras.names && tag == Tag::NAME)
     }
 
-    /// The bytes of a table other than `maxp` and `post`, if it is asked for.
+    /// The bytes of a table other than `maxp` and `post`, if it is requested.
     pub fn table(&self, tag: Tag) -> Option<&'a [u8]> {
         if self.leaves_out(tag) {
             return None;

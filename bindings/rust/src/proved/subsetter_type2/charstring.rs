@@ -4,9 +4,9 @@
 use crate::rattle::prelude::Vec;
 
 use crate::proved::subsetter_base::error::Error;
-use crate::proved::subsetter_type2::flattening;
 use crate::proved::subsetter_type2::limits::Limits;
-use crate::proved::subsetter_type2::machine::Subroutines;
+use crate::proved::subsetter_type2::runs::flattening;
+use crate::proved::subsetter_type2::runs::machine::Subroutines;
 use crate::proved::subsetter_type2::subroutines::SubroutineHandler;
 
 /// The bytes of a charstring.

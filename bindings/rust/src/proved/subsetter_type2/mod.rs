@@ -12,17 +12,10 @@
 
 pub mod argstack;
 pub mod charstring;
-pub mod fixed_stack;
-mod flattening;
-mod last_number;
 pub mod limits;
-mod machine;
 pub mod operators;
-mod output;
-mod plain;
 pub mod rests;
-mod scanning;
-mod sink;
-mod stretch;
+pub mod runs;
+mod stretches;
 pub mod subroutines;
 pub mod token;

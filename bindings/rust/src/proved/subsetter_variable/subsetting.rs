@@ -4,15 +4,15 @@
 use crate::rattle::prelude::Vec;
 
 use crate::proved::subsetter::{subset_with_options, Error, GlyphRemapper, Options, Tag};
-use crate::proved::subsetter_variable::standing::static_font;
+use crate::proved::subsetter_variable::default_location::static_font;
 use crate::rattle::alloc::Global;
 
-/// As `subset_with_variations_and_limits`, where the new font has only those of its extras that are asked for, as in
-/// `subset_with_options`. An instance has no hinting, whatever is asked for.
+/// As `subset_with_variations_and_limits`, where the new font has only those of its extras that are requested, as in
+/// `subset_with_options`. An instance has no hinting, whatever is requested.
 ///
 /// # Errors
 ///
-/// Those of `subset_with_variations_and_limits`, but for what is said of a table that isn't asked for.
+/// Those of `subset_with_variations_and_limits`, but for what is stated of a table that isn't requested.
 pub fn subset_with_variations_and_options(
     alloc: Global,
     data: &[u8],

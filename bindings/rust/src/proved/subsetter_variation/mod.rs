@@ -3,9 +3,9 @@
 //! points of a glyph and its advance go. Tables are byte slices here, and there are no fonts. All numbers are whole: scalars and moved
 //! points are in parts of 2^30, and whoever writes an outline rounds each coordinate once, by `rounding::nearest`.
 //!
-//! - `coordinates::coordinates` turns user coordinates into normalized ones, by `fvar` and `avar`.
-//! - `tuples::gvar_table` opens `gvar`, and `movement::moved_points` says where the points of a glyph go, in a number of steps.
-//! - `item_variations::advance_delta` says what `HVAR` adds to an advance, and `font_metrics::metric_delta` what `MVAR` adds to a metric of
+//! - `locations::coordinates::coordinates` turns user coordinates into normalized ones, by `fvar` and `avar`.
+//! - `glyphs::tuples::gvar_table` opens `gvar`, and `glyphs::movement::moved_points` says where the points of a glyph go, in a number of steps.
+//! - `items::item_variations::advance_delta` says what `HVAR` adds to an advance, and `items::font_metrics::metric_delta` what `MVAR` adds to a metric of
 //!   the whole font.
 //!
 //! ```text
@@ -16,20 +16,10 @@
 //! let x = nearest(moved_xs[0], 1 << 30);
 //! ```
 
-pub mod axes;
-pub mod contour;
-pub mod coordinates;
-pub mod font_metrics;
 pub mod fvar;
-pub mod glyph;
-pub mod inference;
-pub mod item_variations;
-pub mod movement;
-pub mod packed;
-pub mod packed_sums;
+pub mod glyphs;
+pub mod items;
+pub mod locations;
+pub mod packing;
 pub mod region;
 pub mod rounding;
-pub mod segments;
-pub mod tuple_region;
-pub mod tuples;
-pub mod varied;

@@ -7,9 +7,9 @@ ghost use Rattle.subsetter_cff.specs.Read.Entries.Values.{values_of};
 
 use crate::read::entries::top_dict::TopDictData;
 use subsetter_cffdata::dicts::dict::operators::{first_byte, second_byte};
-use subsetter_cffdata::numerals::number::Number;
 use subsetter_cffdata::dicts::operands::{four_of, offset_of, range_of, six_of, string_of};
 use subsetter_cffdata::dicts::operator::{Operator, TWO_BYTE_OPERATOR_MARK};
+use subsetter_cffdata::numerals::number::Number;
 
 /// What an operator says.
 #[derive(Clone, Copy)]

@@ -13,8 +13,8 @@ ghost use Rattle.subsetter_cff.specs.Read.Entries.TopDicts.{IsTopDict};
 use crate::read::entries::fields::{Demands, field_of, is_demanded, take_field};
 use std::ops::Range;
 use subsetter_cffdata::dicts::dict::DictionaryParser;
-use subsetter_cffdata::numerals::number::{Number, StringId};
 use subsetter_cffdata::dicts::operator::Operator;
+use subsetter_cffdata::numerals::number::{Number, StringId};
 
 /// What a top dict says.
 #[derive(Drop)]

@@ -12,15 +12,15 @@ ghost use Rattle.subsetter_cff.specs.Read.FdArray.Private.{private_at};
 ghost use Rattle.subsetter_cff.specs.Read.FdArray.PrivateView.{private_view};
 
 use crate::read::entries::demands::show_last;
-use crate::read::fd_array::font_dict_entries::{FontDictData, parse_font_dict_data};
 use crate::read::entries::operators::same_operator;
+use crate::read::fd_array::font_dict_entries::{FontDictData, parse_font_dict_data};
 use crate::read::fd_array::private::{PrivateDict, parse_private};
 use subsetter_cffdata::dicts::dict::DictionaryParser;
 use subsetter_cffdata::dicts::dict::operators::PRIVATE;
-use subsetter_cffdata::indexes::index::Index;
-use subsetter_cffdata::numerals::number::Number;
 use subsetter_cffdata::dicts::operands::range_of;
 use subsetter_cffdata::dicts::operator::Operator;
+use subsetter_cffdata::indexes::index::Index;
+use subsetter_cffdata::numerals::number::Number;
 
 /// A font dict with its private dict.
 #[derive(Drop)]

@@ -11,12 +11,14 @@ ghost use Rattle.subsetter_cff.specs.Write.Laying.PartsView.{top_by};
 ghost use Rattle.subsetter_cff.specs.Write.Laying.TableLimits.{limit, has_index, is_offset, numbers_limits, front_limits};
 ghost use Rattle.subsetter_cff.specs.Write.NewDicts.TopDictView.{top_dict_of, offsets_of, AreOffsets};
 
-use crate::write::new_dicts::dicts::offset_behind;
 use crate::write::glyphs::flat_index::{single_size, write_single_header};
-use crate::write::strings::sid_remapper::SidRemapper;
 use crate::write::laying::slice_index::write_index;
 use crate::write::laying::table::{TableParts, name_number};
-use crate::write::new_dicts::top_dict::{OFFSETS_SIZE, Offsets, TopDict, write_named, write_offsets};
+use crate::write::new_dicts::dicts::offset_behind;
+use crate::write::new_dicts::top_dict::{
+    OFFSETS_SIZE, Offsets, TopDict, write_named, write_offsets,
+};
+use crate::write::strings::sid_remapper::SidRemapper;
 use std::alloc::Global;
 use subsetter_base::error::Error;
 use subsetter_base::write::Writer;

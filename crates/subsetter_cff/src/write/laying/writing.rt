@@ -10,12 +10,14 @@ ghost use Rattle.subsetter_cff.specs.Write.Laying.TableLimits.{pieces_limits, of
 ghost use Rattle.subsetter_cff.specs.Write.NewDicts.TopDictView.{offsets_of, AreOffsets};
 
 use crate::write::glyphs::charset::{charset_size, rewrite_charset};
-use crate::write::new_dicts::dicts::{make_index, offset_behind, select_size, write_dicts, write_select};
 use crate::write::glyphs::flat_index::{header_room, write_flat_header};
 use crate::write::laying::front::{FrontDraft, draft_front, write_front};
-use crate::write::strings::sid_remapper::SidRemapper;
 use crate::write::laying::table::{TableParts, number_strings};
+use crate::write::new_dicts::dicts::{
+    make_index, offset_behind, select_size, write_dicts, write_select,
+};
 use crate::write::new_dicts::top_dict::Offsets;
+use crate::write::strings::sid_remapper::SidRemapper;
 use std::alloc::Global;
 use subsetter_base::error::Error;
 use subsetter_base::write::Writer;

@@ -16,10 +16,10 @@ ghost use Rattle.subsetter_cff.specs.Write.Laying.TableBy.{new_dicts};
 ghost use Rattle.subsetter_cff.specs.Write.Laying.TableLimits.{limit, has_index, short, is_offset, dict_limits, dicts_limits};
 
 use crate::read::fd_array::fd_select::{generate_fd_index, rewrite_fd_index};
+use crate::write::laying::table::{FontDictParts, TableParts, name_number};
 use crate::write::new_dicts::font_dict::write_font_dict;
 use crate::write::new_dicts::private_dict::rewrite_private_dict;
 use crate::write::strings::sid_remapper::SidRemapper;
-use crate::write::laying::table::{FontDictParts, TableParts, name_number};
 use std::alloc::Global;
 use subsetter_base::error::Error;
 use subsetter_base::write::Writer;

@@ -13,8 +13,8 @@ ghost use Rattle.subsetter_cff.specs.Write.Laying.Layout.{integer, plain_entry, 
 
 use subsetter_base::error::Error;
 use subsetter_base::write::Writer;
-use subsetter_cffdata::numerals::number::{IntegerNumber, Number, StringId};
 use subsetter_cffdata::dicts::operator::Operator;
+use subsetter_cffdata::numerals::number::{IntegerNumber, Number, StringId};
 
 /// Writes numbers and an operator. A real that is too long is `OverflowError`.
 #[tactic(auto, using(crate::proofs::WriteLaws::NewDictsLaws::WrittenEntries::written_entry_is, crate::proofs::WriteLaws::LayingLaws::Checked::numbers_kept, crate::proofs::WriteLaws::LayingLaws::Checked::numbers_refused))]

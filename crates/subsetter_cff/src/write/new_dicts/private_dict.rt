@@ -13,8 +13,8 @@ use subsetter_base::error::Error;
 use subsetter_base::write::Writer;
 use subsetter_cffdata::dicts::dict::DictionaryParser;
 use subsetter_cffdata::dicts::dict::operators::SUBRS;
-use subsetter_cffdata::numerals::number::Number;
 use subsetter_cffdata::dicts::operator::Operator;
+use subsetter_cffdata::numerals::number::Number;
 
 /// Whether an operator is that of the local subroutines.
 fn is_subroutines(operator: &Operator) -> bool

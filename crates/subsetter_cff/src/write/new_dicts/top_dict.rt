@@ -13,7 +13,10 @@ ghost use Rattle.subsetter_cff.specs.Write.NewDicts.TopDictView.{top_dict_of, of
 use crate::write::new_dicts::entries::{write_integer, write_numbers, write_offset, write_string};
 use subsetter_base::error::Error;
 use subsetter_base::write::Writer;
-use subsetter_cffdata::dicts::dict::operators::{CHARSET, CHAR_STRINGS, CID_COUNT, COPYRIGHT, FD_ARRAY, FD_SELECT, FONT_BBOX, FONT_MATRIX, FONT_NAME, NOTICE, ROS};
+use subsetter_cffdata::dicts::dict::operators::{
+    CHAR_STRINGS, CHARSET, CID_COUNT, COPYRIGHT, FD_ARRAY, FD_SELECT, FONT_BBOX, FONT_MATRIX,
+    FONT_NAME, NOTICE, ROS,
+};
 use subsetter_cffdata::numerals::number::{IntegerNumber, Number, StringId};
 
 /// What a new top dict says, beside where the parts stand.

@@ -150,7 +150,7 @@ fn put_number(out: &mut Vec<u8>, at: usize, number: u16) {
 }
 
 /// The flags of a component, without that of instructions where these are not asked for.
-fn flags_asked(hinting: bool, flags: u16) -> u16 {
+fn requested_flags(hinting: bool, flags: u16) -> u16 {
     if hinting {
         flags
     } else {
@@ -167,7 +167,7 @@ fn renumber(
     hinting: bool,
 ) {
     let number = order.get(component.glyph).unwrap_or(0);
-    put_number(out, at, flags_asked(hinting, component.flags));
+    put_number(out, at, requested_flags(hinting, component.flags));
     put_number(out, at + 2, number);
 }
 
@@ -178,7 +178,7 @@ fn cut_tail(out: &mut Vec<u8>, flags: u16, size: usize, hinting: bool) {
     }
 }
 
-/// Writes a composite with its components under their new numbers behind other bytes, and its instructions if they are asked for. `MalformedFont` where it is cut.
+/// Writes a composite with its components under their new numbers behind other bytes, and its instructions if they are requested. `MalformedFont` where it is cut.
 /// It is copied as it is, and then each component gets its new number in its place. Where that fails, nothing is written.
 pub fn rewrite_composite(
     out: &mut Vec<u8>,

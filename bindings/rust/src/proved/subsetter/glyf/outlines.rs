@@ -12,14 +12,14 @@ use crate::rattle::prelude::Vec;
 use crate::proved::subsetter::glyf::component::rewrite_composite;
 use crate::proved::subsetter::glyf::pieces::Outline;
 use crate::proved::subsetter_base::{Error, GlyphRemapper};
-use crate::proved::subsetter_sfnt::checksum::Sum;
-use crate::proved::subsetter_sfnt::room::put;
+use crate::proved::subsetter_sfnt::laying::checksum::Sum;
+use crate::proved::subsetter_sfnt::laying::room::put;
 use crate::rattle::alloc::Global;
 
 /// A list of outlines, in less room than a `CowSlice` each: borrowed ones stay in the source, and those that are made
 /// anew stand one after another.
 ///
-/// A borrowed outline is whole here. Where instructions aren't asked for, its pieces without them are found each time
+/// A borrowed outline is whole here. Where instructions aren't requested, its pieces without them are found each time
 /// that it is looked at: when it is counted, for its entry of `loca`, and where it is written.
 pub struct OutlineList<'a> {
     /// Whether instructions are asked for.
@@ -49,7 +49,7 @@ impl<'a> OutlineList<'a> {
         })
     }
 
-    /// Puts a composite last, with its components under their new numbers, and its instructions if they are asked for.
+    /// Puts a composite last, with its components under their new numbers, and its instructions if they are requested.
     /// `MalformedFont` where it is cut.
     pub fn push_composite(&mut self, outline: &[u8], order: &GlyphRemapper) -> Result<(), Error> {
         self.kept.reserve(1)?;
@@ -69,7 +69,7 @@ impl<'a> OutlineList<'a> {
         Ok(())
     }
 
-    /// Puts a simple outline of the source last, with its instructions if they are asked for.
+    /// Puts a simple outline of the source last, with its instructions if they are requested.
     pub fn push_simple(&mut self, outline: &'a [u8]) -> Result<(), Error> {
         match outline {
             [] => self.push_empty(),

@@ -4,7 +4,7 @@
 
 use crate::proved::subsetter_base::read::u16_at;
 
-/// A simple outline without its instructions: what stands before their length, and what stands behind them. A length of
+/// A simple outline without its instructions: what is before their length, and what is behind them. A length of
 /// 0 stands between the two.
 #[derive(Clone, Copy)]
 pub struct Bare<'a> {
@@ -45,7 +45,7 @@ fn bare_pieces(outline: &[u8]) -> Option<Bare<'_>> {
 }
 
 impl<'a> Outline<'a> {
-    /// A simple outline of the source, with its instructions if they are asked for.
+    /// A simple outline of the source, with its instructions if they are requested.
     pub fn simple(outline: &'a [u8], hinting: bool) -> Self {
         if hinting {
             return Outline::Whole(outline);

@@ -3,14 +3,14 @@
 
 use crate::proved::subsetter_base::error::Error;
 use crate::proved::subsetter_base::read::Reader;
-use crate::proved::subsetter_cffdata::index::{parse_index, Index};
+use crate::proved::subsetter_cffdata::indexes::index::{parse_index, Index};
 
-/// The parts that stand one behind the other.
+/// The parts that are one behind the other.
 #[derive(Clone, Copy, Debug)]
 pub struct Front<'a> {
     /// The whole table.
     pub bytes: &'a [u8],
-    /// The Name INDEX as it stands.
+    /// The Name INDEX as it is.
     pub names: &'a [u8],
     /// The top dict.
     pub top: &'a [u8],

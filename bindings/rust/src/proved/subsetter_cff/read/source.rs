@@ -4,13 +4,15 @@
 use crate::rattle::prelude::Vec;
 
 use crate::proved::subsetter_base::error::Error;
-use crate::proved::subsetter_cff::read::fd_select::{parse_fd_select, FDSelect};
-use crate::proved::subsetter_cff::read::font_dict::FontDict;
-use crate::proved::subsetter_cff::read::font_dict_list::parse_font_dicts;
+use crate::proved::subsetter_cff::read::entries::top_dict::{
+    no_values, read_top_dict, TopDictData,
+};
+use crate::proved::subsetter_cff::read::fd_array::fd_select::{parse_fd_select, FDSelect};
+use crate::proved::subsetter_cff::read::fd_array::font_dict::FontDict;
+use crate::proved::subsetter_cff::read::fd_array::font_dict_list::parse_font_dicts;
+use crate::proved::subsetter_cff::read::fd_array::private::{index_at, parse_private, PrivateDict};
 use crate::proved::subsetter_cff::read::front::{parse_front, Front};
-use crate::proved::subsetter_cff::read::private::{index_at, parse_private, PrivateDict};
-use crate::proved::subsetter_cff::read::top_dict::{nothing_said, read_top_dict, TopDictData};
-use crate::proved::subsetter_cffdata::index::Index;
+use crate::proved::subsetter_cffdata::indexes::index::Index;
 use crate::rattle::alloc::Global;
 
 /// What a font without font dicts has: its private dict.
@@ -110,7 +112,7 @@ fn open_keyed<'a>(
 
 /// Opens what the top dict leads to.
 fn open_top<'a>(alloc: Global, front: Front<'a>) -> Result<Table<'a>, Error> {
-    let mut top = nothing_said();
+    let mut top = no_values();
     if !read_top_dict(front.top, &mut top) {
         return Err(Error::MalformedFont);
     }

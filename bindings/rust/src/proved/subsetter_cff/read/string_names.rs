@@ -2,8 +2,8 @@
 //! Strings by their numbers (Technical Note 5176, section 10 "String INDEX").
 
 use crate::proved::subsetter_base::error::Error;
-use crate::proved::subsetter_cffdata::index::Index;
-use crate::proved::subsetter_cffdata::number::StringId;
+use crate::proved::subsetter_cffdata::indexes::index::Index;
+use crate::proved::subsetter_cffdata::numerals::number::StringId;
 
 /// A standard string by its number, or another by its bytes.
 #[derive(Clone, Copy, Debug)]

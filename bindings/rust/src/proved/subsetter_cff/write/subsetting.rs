@@ -4,10 +4,10 @@
 use crate::proved::subsetter_base::error::Error;
 use crate::proved::subsetter_base::GlyphRemapper;
 use crate::proved::subsetter_cff::read::source::Table;
-use crate::proved::subsetter_cff::write::dicts::judge_privates;
-use crate::proved::subsetter_cff::write::kept_glyphs::keep_glyphs;
-use crate::proved::subsetter_cff::write::parts::new_table_of;
-use crate::proved::subsetter_cff::write::writing::{write_table, CffPieces};
+use crate::proved::subsetter_cff::write::glyphs::kept_glyphs::keep_glyphs;
+use crate::proved::subsetter_cff::write::laying::parts::new_table_of;
+use crate::proved::subsetter_cff::write::laying::writing::{write_table, CffPieces};
+use crate::proved::subsetter_cff::write::new_dicts::dicts::judge_privates;
 use crate::proved::subsetter_type2::limits::Limits;
 use crate::rattle::alloc::Global;
 
