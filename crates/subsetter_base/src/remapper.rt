@@ -188,7 +188,7 @@ impl<C: CheckedAdd, T: Copy + Eq + Hash> Hash for Remapper<C, T> {
 /// The values of a remapper, by their new numbers.
 #[derive(Drop)]
 pub struct SortedIter<'a, T: Copy> {
-    pub(crate) rest: &'a [T],
+    rest: &'a [T],
 }
 
 impl<'a, T: Copy> Model for SortedIter<'a, T> {
