@@ -2,7 +2,7 @@
 use Rattle.std.specs.Prelude.{ℕ, List, [], ◌++◌, map, reverse, Option, Some, None, Result, Ok, Err}
 use Rattle.std.specs.Borrow.{Bor}
 use Rattle.subsetter_base.specs.declared.error.Error.{Error}
-use Rattle.subsetter_type2.specs.Runs.Machine.{Registers, Lead, Act, Does, Fails, Event}
+use Rattle.subsetter_type2.specs.Runs.Machine.{Registers, Continuation, Act, Does, Fails, Event}
 use Rattle.subsetter_type2.specs.Flat.{flat_event}
 
 -- the rests, the running one first
@@ -17,7 +17,7 @@ event_bytes (Some event) = flat_event event
 pub record Done : Type 0 where
   pub registers : Registers
   pub settled : List ℕ
-  pub lead : Lead
+  pub lead : Continuation
 
 abbrev pub done : Act → List ℕ → Result Done Error
 done (Does said next lead) settled = Ok (record { registers = next; settled = settled ++ event_bytes said; lead = lead })

@@ -6,7 +6,7 @@ use Rattle.subsetter_base.specs.declared.error.Error.TheVariants.{CFFError, Over
 use Rattle.subsetter_cffdata.specs.declared.numerals.charstring_number.CharStringNumber.{CharStringNumber}
 use Rattle.subsetter_cffdata.specs.declared.dicts.operator.Operator.{Operator}
 use Rattle.subsetter_cffdata.specs.Numerals.CharStringNumber.{number_at}
-use Rattle.subsetter_type2.specs.Runs.Machine.{Library, Lead, On, Into, rests_after, unended}
+use Rattle.subsetter_type2.specs.Runs.Machine.{Library, Continuation, On, Into, rests_after, unended}
 use Rattle.subsetter_type2.specs.Subroutines.{biased_entry}
 use Rattle.subsetter_type2.specs.Token.{Token, Operand, Operation, token_of}
 use Rattle.subsetter_blend.specs.declared.runs.kind.Kind.{Kind}
@@ -37,7 +37,7 @@ pub record State : Type 0 where
 
 -- what a token does: perhaps an event, new registers and where it leads; or a fault
 pub data Act : Type 0 where
-  Does : (said : Option Event) (next : Registers) (lead : Lead) → Act
+  Does : (said : Option Event) (next : Registers) (lead : Continuation) → Act
   Fails : (error : Error) → Act
 
 abbrev pub last_operand : List ℤ → Option ℤ
@@ -174,13 +174,13 @@ act_at setting bytes r = act_on setting (token_of bytes) r
 pub record Done (S : Type 0) : Type 0 where
   pub registers : Registers
   pub taken : S
-  pub lead : Lead
+  pub lead : Continuation
 
 abbrev pub taken_also : {S : Type 0} → (Event → S → Result S Error) → Option Event → S → Result S Error
 taken_also take None s = Ok s
 taken_also take (Some event) s = take event s
 
-abbrev pub done_with : {S : Type 0} → Registers → Lead → Result S Error → Result (Done S) Error
+abbrev pub done_with : {S : Type 0} → Registers → Continuation → Result S Error → Result (Done S) Error
 done_with next lead (Ok s) = Ok (record { registers = next; taken = s; lead = lead })
 done_with next lead (Err e) = Err e
 
@@ -197,9 +197,9 @@ follow depth callers (Ok d) go =
     else Err CFFError
 
 -- the run is over where nothing is left to run, and else it wants a token
-abbrev pub want : {S : Type 0} → List (List ℕ) → Result S Error → (List ℕ → List (List ℕ) → Result S Error) → Result S Error
-want [] over go = over
-want (bytes ∷ callers) over go = go bytes callers
+abbrev pub ended_or : {S : Type 0} → List (List ℕ) → Result S Error → (List ℕ → List (List ℕ) → Result S Error) → Result S Error
+ended_or [] over go = over
+ended_or (bytes ∷ callers) over go = go bytes callers
 
 -- no operand is left at the end
 abbrev pub ended : {S : Type 0} → S → List ℤ → Result S Error
@@ -208,9 +208,9 @@ ended s (z ∷ zs) = Err CFFError
 
 -- a run from a state, with so many tokens at most
 unfoldable pub run : {S : Type 0} → (Event → S → Result S Error) → Setting → ℕ → ℕ → S → State → Result S Error
-run take setting depth zero s state = want (unended state.rests) (ended s state.registers.operands) (λ bytes callers. Err CFFError)
+run take setting depth zero s state = ended_or (unended state.rests) (ended s state.registers.operands) (λ bytes callers. Err CFFError)
 run take setting depth (suc tokens) s state =
-    want (unended state.rests) (ended s state.registers.operands)
+    ended_or (unended state.rests) (ended s state.registers.operands)
     (λ bytes callers. follow depth callers (done take (act_at setting bytes state.registers) s) (run take setting depth tokens))
 
 -- before the first token, where these item variation data count

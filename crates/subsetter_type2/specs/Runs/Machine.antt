@@ -36,15 +36,15 @@ pub record Event : Type 0 where
 
 -- where a token leads: on with the rest of its charstring, into a subroutine and then on with the rest,
 -- back to the caller, or to the end of the glyph
-pub data Lead : Type 0 where
-  On : (rest : List ℕ) → Lead
-  Into : (body rest : List ℕ) → Lead
-  Back : Lead
-  Over : Lead
+pub data Continuation : Type 0 where
+  On : (rest : List ℕ) → Continuation
+  Into : (body rest : List ℕ) → Continuation
+  Back : Continuation
+  Over : Continuation
 
 -- what a token does: perhaps an event, new registers and where it leads; or a fault
 pub data Act : Type 0 where
-  Does : (said : Option Event) (next : Registers) (lead : Lead) → Act
+  Does : (said : Option Event) (next : Registers) (lead : Continuation) → Act
   Fails : (error : Error) → Act
 
 -- the subroutine that this operand names; none where it names none, or an unreadable one
@@ -67,7 +67,7 @@ push number rest r =
     else Fails CFFError
 
 -- an operator that takes all operands, with its mask: an event
-abbrev pub emit : Operator → List ℕ → Lead → Registers → Act
+abbrev pub emit : Operator → List ℕ → Continuation → Registers → Act
 emit operator mask lead r =
     Does (Some (record { operator = operator; operands = r.operands; mask = mask })) (record r { operands = [] }) lead
 
@@ -143,7 +143,7 @@ unfoldable pub act_at : Library → List ℕ → Registers → Act
 act_at library bytes r = act_on library (token_of bytes) r
 
 -- what is left to run after a token, where the callers have these bytes left
-abbrev pub rests_after : Lead → List (List ℕ) → List (List ℕ)
+abbrev pub rests_after : Continuation → List (List ℕ) → List (List ℕ)
 rests_after (On rest) callers = rest ∷ callers
 rests_after (Into body rest) callers = body ∷ rest ∷ callers
 rests_after Back callers = callers
@@ -187,16 +187,16 @@ follow (Goes event next) said go = go (with_event said event) next
 follow (Faults error) said go = Stops error
 
 -- the run is over where nothing is left to run, and else it wants a token
-abbrev pub want : List (List ℕ) → Outcome → (List ℕ → List (List ℕ) → Outcome) → Outcome
-want [] over go = over
-want (bytes ∷ callers) over go = go bytes callers
+abbrev pub ended_or : List (List ℕ) → Outcome → (List ℕ → List (List ℕ) → Outcome) → Outcome
+ended_or [] over go = over
+ended_or (bytes ∷ callers) over go = go bytes callers
 
 -- a run from a state in which these events have been said, with so many tokens at most
 unfoldable pub run : Library → ℕ → ℕ → List Event → State → Outcome
 run library depth zero said s =
-    want (unended s.rests) (Finishes (record { events = said; left = s.registers.operands })) (λ bytes callers. Stops CFFError)
+    ended_or (unended s.rests) (Finishes (record { events = said; left = s.registers.operands })) (λ bytes callers. Stops CFFError)
 run library depth (suc tokens) said s =
-    want (unended s.rests) (Finishes (record { events = said; left = s.registers.operands }))
+    ended_or (unended s.rests) (Finishes (record { events = said; left = s.registers.operands }))
     (λ bytes callers. follow (move depth callers (act_at library bytes s.registers)) said (run library depth tokens))
 
 abbrev pub start : List ℕ → State

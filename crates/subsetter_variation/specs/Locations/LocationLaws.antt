@@ -8,8 +8,8 @@ use Rattle.subsetter_variation.specs.declared.locations.axes.Axis.{Axis}
 use Rattle.subsetter_variation.specs.declared.locations.segments.AxisValueMap.{AxisValueMap}
 
 -- a segment map takes each number to itself that it keeps: -1, 0 and 1 among them
-abbrev pub IsKept : Type 0
-IsKept = (ends : List AxisValueMap) (z : ℤ) → keeps z ends ≡ true → mapped ends (fine z) ≡ fine z
+abbrev pub IsMappedToItself : Type 0
+IsMappedToItself = (ends : List AxisValueMap) (z : ℤ) → keeps z ends ≡ true → mapped ends (fine z) ≡ fine z
 
 -- the default of an axis lies at 0, whatever the segments
 abbrev pub IsDefaultAtZero : Type 0

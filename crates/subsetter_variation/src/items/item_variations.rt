@@ -20,7 +20,7 @@ use subsetter_base::Error;
 use subsetter_base::numbers::number_of;
 use subsetter_base::read::{LazyArray16, Readable, Reader, from_offset, signed_at};
 
-/// An offset of 32 bits, unless it is 0, which stands for no table.
+/// An offset of 32 bits, unless it is 0, which means no table.
 fn offset_at(bytes: &[u8], at: usize) -> Option<u32>
     ensures { result ≡ offset_at bytes.now at }
 {
@@ -196,7 +196,7 @@ fn row_at(
     })
 }
 
-/// The row of an item, by the place of its data.
+/// The row of an item, by the offset of its data.
 #[tactic(auto, unfolding(crate::specs::Items::ItemVariations::row_in))]
 fn row_in(bytes: &[u8], at: usize, inner: u32) -> Option<Row<'_>>
     requires { at < 2 ^ 32 }
@@ -225,7 +225,7 @@ fn item_row<'a>(s: &Store<'a>, outer: u32, inner: u32) -> Option<Row<'a>>
     row_in(s.bytes, at as usize, inner)
 }
 
-/// Where item variation data stand in the store.
+/// The offset of item variation data in the store.
 fn data_offset(s: &Store<'_>, outer: u32) -> Option<u32>
     ensures value { result ≡ data_offset s.now outer }
     ensures few { IfSome result (λ _. outer < 65536) }
@@ -333,7 +333,7 @@ pub fn item_delta(s: &Store<'_>, at: &[i32], outer: u32, inner: u32) -> Option<i
     terms(s, at, &item_row(s, outer, inner)?)
 }
 
-/// How many entries a map of indexes has, and where they stand.
+/// How many entries a map of indexes has, and their offset.
 fn map_head(map: &[u8]) -> Option<(u32, usize)>
     ensures value { result ≡ map_head map.now }
     ensures offset { IfSome result (λ h. h.1 ≤ 6) }
@@ -408,7 +408,7 @@ fn store_of(hvar: &[u8], axis_count: usize) -> Option<Store<'_>>
     }
 }
 
-/// What the advance of a glyph varies by at a place, in parts of 2^30.
+/// What the advance of a glyph varies by at a location, in parts of 2^30.
 #[tactic(auto, unfolding(crate::specs::Items::ItemVariations::advance_delta))]
 fn varied_advance(hvar: &[u8], at: &[i32], glyph: u16) -> Option<i128>
     ensures { result ≡ advance_delta hvar.now at.now glyph }
