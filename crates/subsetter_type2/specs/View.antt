@@ -1,4 +1,4 @@
--- What the code's values stand for.
+-- What the code's values mean.
 use Rattle.std.specs.Prelude.{ℕ, List, [], ◌++◌, map, reverse, Option, Some, None, Result, Ok, Err}
 use Rattle.std.specs.Borrow.{Bor}
 use Rattle.subsetter_base.specs.declared.error.Error.{Error}
@@ -13,7 +13,7 @@ abbrev pub event_bytes : Option Event → List ℕ
 event_bytes None = []
 event_bytes (Some event) = flat_event event
 
--- what an act leaves: the registers, the bytes that are then settled, and where it leads
+-- what an act leaves: the registers, the bytes that are then settled, and what runs next
 pub record Done : Type 0 where
   pub registers : Registers
   pub settled : List ℕ

@@ -35,7 +35,7 @@ pub record State : Type 0 where
   pub rests : List (List ℕ)
   pub registers : Registers
 
--- what a token does: perhaps an event, new registers and where it leads; or a fault
+-- what a token does: perhaps an event, new registers and what runs next; or a fault
 pub data Act : Type 0 where
   Does : (said : Option Event) (next : Registers) (lead : Continuation) → Act
   Fails : (error : Error) → Act
@@ -46,9 +46,9 @@ last_operand operands = slice_get operands (length operands - 1)
 abbrev pub but_last : List ℤ → List ℤ
 but_last operands = take (length operands - 1) operands
 
--- In what follows `rest` is what stands after the token in its charstring.
+-- In what follows `rest` is what is after the token in its charstring.
 
--- a number goes onto the stack, which holds 513
+-- a number is put onto the stack, which holds 513
 abbrev pub push : CharStringNumber → List ℕ → Registers → Act
 push number rest r =
     if nat_lt (length r.operands) 513
@@ -62,7 +62,7 @@ emit operator mask rest r =
     then Does (Some (record { operator = operator; operands = r.operands; mask = mask })) (record r { operands = [] }) (On rest)
     else Fails CFFError
 
--- the stems with those that the operands stand for, two for each
+-- the stems with those of the operands, two for each
 abbrev pub stems_after : Registers → ℕ
 stems_after r = r.stems + length r.operands / 2
 
@@ -170,7 +170,7 @@ unfoldable pub act_at : Setting → List ℕ → Registers → Act
 act_at setting bytes r = act_on setting (token_of bytes) r
 
 -- ---- the run, whose events something takes, one after the other
--- what an act leaves: the registers, what has taken its event, and where it leads
+-- what an act leaves: the registers, what has taken its event, and what runs next
 pub record Done (S : Type 0) : Type 0 where
   pub registers : Registers
   pub taken : S
@@ -188,7 +188,7 @@ abbrev pub done : {S : Type 0} → (Event → S → Result S Error) → Act → 
 done take (Does said next lead) s = done_with next lead (taken_also take said s)
 done take (Fails error) s = Err error
 
--- goes on from an act, no deeper than the limit
+-- continues from an act, no deeper than the limit
 abbrev pub follow : {S : Type 0} → ℕ → List (List ℕ) → Result (Done S) Error → (S → State → Result S Error) → Result S Error
 follow depth callers (Err error) go = Err error
 follow depth callers (Ok d) go =
@@ -196,7 +196,7 @@ follow depth callers (Ok d) go =
     then go d.taken (record { rests = rests_after d.lead callers; registers = d.registers })
     else Err CFFError
 
--- the run is over where nothing is left to run, and else it wants a token
+-- the run is over where nothing is left to run, and else it needs a token
 abbrev pub ended_or : {S : Type 0} → List (List ℕ) → Result S Error → (List ℕ → List (List ℕ) → Result S Error) → Result S Error
 ended_or [] over go = over
 ended_or (bytes ∷ callers) over go = go bytes callers

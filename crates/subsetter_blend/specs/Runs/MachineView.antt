@@ -1,4 +1,4 @@
--- What the code's machine stands for.
+-- What the code's machine is.
 use Rattle.std.specs.Prelude.{◌≡◌, ◌≢◌, ℕ, ℤ, List, Option, None, Result, Ok, Err, MatchResult}
 use Rattle.subsetter_base.specs.declared.error.Error.{Error}
 use Rattle.subsetter_base.specs.declared.error.Error.TheVariants.{OutOfMemory}

@@ -1,4 +1,4 @@
--- Exact operands as whole ones: each place of the path, and each edge of a stem, is rounded once.
+-- Exact operands as whole ones: each position of the path, and each edge of a stem, is rounded once.
 use Rattle.std.specs.Prelude.{ℕ, ◌+◌, ℤ, pos, negsuc, ◌+ℤ◌, ◌-ℤ◌, int_le, Bool, ◌&&◌, if◌then◌else◌, List, [], ◌∷◌, ◌++◌, Option, Some, None, option_map}
 use Rattle.std.specs.Option.{option_and_then}
 use Rattle.subsetter_cffdata.specs.declared.dicts.operator.Operator.{Operator}
@@ -14,7 +14,7 @@ use Rattle.subsetter_blend.specs.Runs.Number.{IsWithin, is_within, whole}
 abbrev pub is_short : ℤ → Bool
 is_short v = int_le (negsuc 32767) v && int_le v (pos 32767)
 
--- an exact place, in parts, lies within 32768 units
+-- an exact position, in parts, is within 32768 units
 pub record IsPosition (at : Position) : Type 0 where
   pub x : IsWithin at.x
   pub y : IsWithin at.y

@@ -24,7 +24,7 @@ pub record IsSound (s : Stretch) : Type 0 where
   pub ends : s.settled ≤ s.len
   pub last : s.last ≤ s.len
 
--- what is written behind a stretch whose bytes stand behind these, of which the operands begin at this place
+-- what is written behind a stretch whose bytes are behind these, of which the operands begin at this place
 pub record Comes (charstring : List ℕ) (mask_len : ℕ) (bytes : List ℕ) (settled : ℕ) (w : Written) (s : Stretch) : Type 0 where
   pub now : Written
   pub stands : IsOutput (bytes ++ take s.len charstring) (operands_offset s.settled settled (length bytes)) s.count now

@@ -24,10 +24,10 @@ IsOnly t contour = All (λ p. (touched p ≡ None) ⊎ (touched p ≡ Some t)) c
 abbrev pub IsShift : Type 0
 IsShift = (contour : List Point) (k : ℕ) (t : Touched) (scalar : ℤ) → k < length contour → IsOnly t contour → last_touched contour ≡ Some t → moved contour k scalar ≡ scalar *ℤ t.delta
 
--- z lies between a and b
+-- z is between a and b
 abbrev pub IsBetween : ℤ → ℤ → ℤ → Type 0
 IsBetween z a b = ((a ≤ℤ z) × (z ≤ℤ b)) ⊎ ((b ≤ℤ z) × (z ≤ℤ a))
 
--- an inferred delta lies between the scaled deltas of its neighbours, which don't lie at one coordinate
+-- an inferred delta is between the scaled deltas of its neighbours, which aren't at one coordinate
 abbrev pub IsBetweenNeighbours : Type 0
 IsBetweenNeighbours = (x : ℤ) (one other : Touched) (scalar : ℤ) → (one.at ≡ other.at → ⊥) → IsBetween (between x one other scalar) (scalar *ℤ one.delta) (scalar *ℤ other.delta)
