@@ -1,7 +1,7 @@
 use Rattle.std.proofs.Common.{w16, rules}
 use Rattle.std.proofs.lemmas.Int.{to_z-of_z}
 use mir.Val.{SFits}
-use Rattle.subsetter_instance.proofs.tables.extremes.with_point.Goals as goal
+use Rattle.subsetter_points.proofs.bounds.with_point.Goals as goal
 
 pub returns : goal.returns
 returns c =
