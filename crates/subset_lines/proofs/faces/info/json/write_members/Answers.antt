@@ -1,7 +1,7 @@
 use Rattle.std.proofs.Common.{◌++◌, map}
 use Rattle.subset_lines.specs.Faces.Info.{outlines_members, counts_members, refusal_members, tables_member}
 use Rattle.subset_lines.proofs.Written.{both, then}
-use Rattle.subset_lines.proofs.faces.info.write_members.Goals as goal
+use Rattle.subset_lines.proofs.faces.info.json.write_members.Goals as goal
 
 pub returns : goal.returns
 returns g c =

@@ -4,7 +4,7 @@ use Rattle.std.specs.Io.KnownBytes.{Appends}
 use Rattle.subset_lines.specs.Faces.Info.{outlines_name, variable_member}
 use Rattle.subset_lines.specs.Objects.Quoted.{quoted}
 use Rattle.subset_lines.proofs.Written.{then}
-use Rattle.subset_lines.proofs.faces.info.write_outlines_members.Goals as goal
+use Rattle.subset_lines.proofs.faces.info.json.write_outlines_members.Goals as goal
 
 pub returns : goal.returns
 returns g c =

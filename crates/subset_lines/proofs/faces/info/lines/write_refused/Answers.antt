@@ -3,7 +3,7 @@ use Rattle.std.specs.Prelude.{codes}
 use Rattle.std.specs.Option.{option_copied}
 use Rattle.subset_lines.specs.Faces.Info.{if_any}
 use Rattle.subset_lines.proofs.Written.{then}
-use Rattle.subset_lines.proofs.faces.info.write_refused.Goals as goal
+use Rattle.subset_lines.proofs.faces.info.lines.write_refused.Goals as goal
 
 pub returns : goal.returns
 returns g c =

@@ -3,7 +3,7 @@ use Rattle.std.specs.Prelude.{codes}
 use Rattle.std.specs.Option.{option_copied}
 use Rattle.subset_lines.specs.Faces.Info.{strings, string_or_null}
 use Rattle.subset_lines.proofs.Written.{both, then}
-use Rattle.subset_lines.proofs.faces.info.write_refusal_members.Goals as goal
+use Rattle.subset_lines.proofs.faces.info.json.write_refusal_members.Goals as goal
 
 pub returns : goal.returns
 returns g c =

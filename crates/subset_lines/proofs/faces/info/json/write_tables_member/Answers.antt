@@ -2,7 +2,7 @@ use Rattle.std.proofs.Common.{◌++◌, []}
 use Rattle.std.specs.Prelude.{codes}
 use Rattle.subset_lines.specs.Faces.Info.{table_objects}
 use Rattle.subset_lines.proofs.Written.{then}
-use Rattle.subset_lines.proofs.faces.info.write_tables_member.Goals as goal
+use Rattle.subset_lines.proofs.faces.info.json.write_tables_member.Goals as goal
 
 pub returns : goal.returns
 returns g c =

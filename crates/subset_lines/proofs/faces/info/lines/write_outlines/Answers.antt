@@ -3,7 +3,7 @@ use Rattle.std.specs.Prelude.{codes}
 use Rattle.std.specs.Io.KnownBytes.{Appends}
 use Rattle.subset_lines.specs.Faces.Info.{outlines_name, outlines_end}
 use Rattle.subset_lines.proofs.Written.{then}
-use Rattle.subset_lines.proofs.faces.info.write_outlines.Goals as goal
+use Rattle.subset_lines.proofs.faces.info.lines.write_outlines.Goals as goal
 
 pub returns : goal.returns
 returns g c =
