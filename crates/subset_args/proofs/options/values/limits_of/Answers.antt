@@ -5,7 +5,7 @@ use Rattle.std.proofs.lemmas.List.Folds.{list_any_none}
 use Rattle.std.proofs.lemmas.List.Sums.{fails_before_first}
 use Rattle.subsetter_words.specs.Numbers.{number_in_bits}
 use Rattle.subset_args.specs.Limits.{front, rest, limits_from, limits_in}
-use Rattle.subset_args.proofs.options.limits_of.Goals as goal
+use Rattle.subset_args.proofs.options.values.limits_of.Goals as goal
 
 -- an argument without a second comma
 no_bytes : (word tokens depth : List ℕ) → tokens ≡ front word → depth ≡ rest word → list_any (λ b. eqb b 44) depth ≡ false → limits_from tokens depth None ≡ limits_in word
