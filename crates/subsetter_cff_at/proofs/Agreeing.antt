@@ -18,7 +18,7 @@ use Rattle.subsetter_cff2.specs.Selection.UsedDicts.{counted_dicts, index_in}
 use Rattle.subsetter_cff2.specs.Variation.{Variation}
 use Rattle.subsetter_cff_at.specs.Plain.{dict_bound, numbers_from, present, setting, glyph_text, placed_text, text_if, texts_from, Drawn, drawn, Opened, opened, parts_of, some_requested, made_table}
 use Rattle.subsetter_cff_at.specs.Promise.{LimitsAgree}
-use Rattle.subsetter_cff_at.proofs.Promised.{drawn_steps}
+use Rattle.subsetter_cff_at.proofs.DrawnGlyphs.{drawn_steps}
 
 -- one answer is one
 one_answer : {A : Type 0} (r : Result A Error) (a b : A) → r ≡ Ok a → r ≡ Ok b → a ≡ b

@@ -8,7 +8,6 @@ ghost use Rattle.subsetter_points.specs.Bounds.{with_point, box_around, bounds_b
 ghost use Rattle.subsetter_points.specs.Simple.{xs_of, box};
 
 use crate::outline::Point;
-use std::alloc::AllocError;
 use subsetter_base::Error;
 use subsetter_base::compare::{larger, smaller};
 
@@ -65,15 +64,15 @@ pub fn least_x(first: i16, rest: &[Point]) -> i16
     least
 }
 
-/// Appends xMin, yMin, xMax and yMax.
-pub fn write_bounds(out: &mut Vec<u8>, bounds: Bounds) -> Result<(), AllocError>
-    ensures { OnOk result (out.new.items ≡ out.old.items ++ bounds_bytes bounds) }
+/// xMin, yMin, xMax and yMax as bytes.
+pub fn bounds_bytes(bounds: Bounds) -> [u8; 8]
+    ensures { result ≡ bounds_bytes bounds }
 {
     let [a, b] = bounds.x_min.to_be_bytes();
     let [c, d] = bounds.y_min.to_be_bytes();
     let [e, f] = bounds.x_max.to_be_bytes();
     let [g, h] = bounds.y_max.to_be_bytes();
-    out.extend_from_slice(&[a, b, c, d, e, f, g, h])
+    [a, b, c, d, e, f, g, h]
 }
 
 /// Writes the bounding box of a point and others.
@@ -81,6 +80,6 @@ pub fn write_box(out: &mut Vec<u8>, first: Point, rest: &[Point]) -> Result<(), 
     ensures ok { OnOk result (out.new.items ≡ out.old.items ++ box first rest.now) }
     ensures err { IfErr result (λ e. e ≡ OutOfMemory) }
 {
-    write_bounds(out, box_around(first, rest))?;
+    out.extend_from_slice(&bounds_bytes(box_around(first, rest)))?;
     Ok(())
 }

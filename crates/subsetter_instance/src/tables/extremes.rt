@@ -6,7 +6,7 @@ ghost use Rattle.subsetter_instance.specs.Tables.Extremes.{extents_of, glyph_ext
 use crate::glyphs::drawn::Drawn;
 use std::alloc::AllocError;
 use subsetter_base::compare::{larger, smaller};
-use subsetter_points::{Bounds, Point, box_around, write_bounds};
+use subsetter_points::{Bounds, Point, bounds_bytes, box_around};
 
 /// The extents of a glyph with contours, or of several.
 #[derive(Clone, Copy)]
@@ -101,7 +101,7 @@ pub fn write_box(out: &mut Vec<u8>, extents: Option<Extents>) -> Result<(), Allo
 {
     match extents {
         None => out.extend_from_slice(&[0; 8]),
-        Some(e) => write_bounds(out, e.bounds),
+        Some(e) => out.extend_from_slice(&bounds_bytes(e.bounds)),
     }
 }
 
