@@ -24,7 +24,7 @@ mod points;
 mod reading;
 mod writing;
 
-pub use bounds::{Bounds, box_around, least_x, write_bounds};
+pub use bounds::{Bounds, bounds_bytes, box_around, least_x};
 pub use list_bytes::fitting::fits;
 pub use outline::{Columns, Outline, Point};
 pub use reading::{read_columns, read_simple};
