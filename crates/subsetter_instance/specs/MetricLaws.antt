@@ -52,7 +52,7 @@ IsAdvanceAtDefault = (hvar : List ℕ) (at : List ℤ) (g before a : ℕ) (width
 -- without HVAR too, of a simple glyph, if each tuple has such an axis
 abbrev pub IsSimpleAdvanceAtDefault : Type 0
 IsSimpleAdvanceAtDefault = (s : Source) (at : List ℤ) (steps g : ℕ) (bytes : List ℕ) (m : LongHorMetric) (d : Drawn) → All (λ c. c ≡ pos 0) at → ((t : Gvar) (h : ℕ) (o : Outline) → s.gvar ≡ Some t → HasBoundTuples t h o (length at)) → s.hvar ≡ None
-    → counted_description s g ≡ Some bytes → is_composite bytes ≡ false → metric s g ≡ Some m → drawn s at steps g ≡ Ok d → d.advance ≡ m.advance
+    → counted_description s g ≡ Some bytes → is_composite bytes ≡ false → metric s g ≡ Some m → drawn s at steps g ≡ Ok d → d.advance ≡ m.advance_width
 
 -- ---- metrics
 

@@ -71,7 +71,7 @@ drawn_if_fit ends points width = if parts_fit ends points then Ok (record { ends
 -- what is drawn of an unfolded glyph
 unfoldable pub rounded : Source → List ℤ → ℕ → LongHorMetric → Unfolded → Result Drawn Error
 rounded s at g m u = do
-  width ← advance s.hvar at g m.advance (u.right -ℤ u.left)
+  width ← advance s.hvar at g m.advance_width (u.right -ℤ u.left)
   points ← points_or_fault u.left u.on u.xs u.ys
   drawn_if_fit u.ends points width
 

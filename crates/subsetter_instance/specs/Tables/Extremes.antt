@@ -4,7 +4,7 @@ use Rattle.std.specs.List.{fold}
 use Rattle.std.specs.Int.{w16, to_be_bytes, int_min, int_max}
 use Rattle.subsetter_points.specs.declared.bounds.Bounds.{Bounds}
 use Rattle.subsetter_points.specs.declared.outline.Point.{Point}
-use Rattle.subsetter_points.specs.Bounds.{box_around}
+use Rattle.subsetter_points.specs.Bounds.{box_around, bounds_bytes}
 use Rattle.subsetter_points.specs.Simple.{signed_word}
 use Rattle.subsetter_instance.specs.Glyphs.Drawn.{Drawn}
 use Rattle.subsetter_instance.specs.declared.tables.extremes.Extents.{Extents}
@@ -49,7 +49,7 @@ widest drawn = fold max 0 (map (λ d. d.advance) drawn)
 -- xMin, yMin, xMax and yMax of "head": 0 where no glyph has contours
 abbrev pub box_bytes : Option Extents → List ℕ
 box_bytes None = 0 ∷ 0 ∷ 0 ∷ 0 ∷ 0 ∷ 0 ∷ 0 ∷ 0 ∷ []
-box_bytes (Some e) = signed_word e.bounds.x_min ++ signed_word e.bounds.y_min ++ signed_word e.bounds.x_max ++ signed_word e.bounds.y_max
+box_bytes (Some e) = bounds_bytes e.bounds
 
 -- minLeftSideBearing, minRightSideBearing and xMaxExtent of "hhea": 0 where no glyph has contours. The left side bearing of a glyph is
 -- its least x, so the least of them is that of the box; and the extent, which is the left side bearing and the width of the glyph's

@@ -193,7 +193,7 @@ fn rounded(
     ensures { Gives (λ d. d) result (rounded source.now at.now glyph metric unfolded) }
 {
     let width = distance(unfolded.left, unfolded.right);
-    let advance = advance(source.hvar(), at, glyph, metric.advance, width)?;
+    let advance = advance(source.hvar(), at, glyph, metric.advance_width, width)?;
     let points = points_or_fault(
         alloc,
         unfolded.left,

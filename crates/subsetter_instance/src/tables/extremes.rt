@@ -1,10 +1,9 @@
 //! The extremes of the glyphs that are drawn (OpenType, "head" and "hhea").
 
-ghost use Rattle.std.specs.Prelude.{◌≡◌, ◌++◌, ◌-ℤ◌, OnOk, pos};
+ghost use Rattle.std.specs.Prelude.{◌≡◌, ◌-ℤ◌, pos};
 ghost use Rattle.subsetter_instance.specs.Tables.Extremes.{extents_of, glyph_extents, both, joined, all_extents, widest, box_bytes, saturated, side_bytes, extreme_bytes};
 
 use crate::glyphs::drawn::Drawn;
-use std::alloc::AllocError;
 use subsetter_base::compare::{larger, smaller};
 use subsetter_points::{Bounds, Point, bounds_bytes, box_around};
 
@@ -95,35 +94,36 @@ fn widest(drawn: &[Drawn]) -> u16
     most
 }
 
-/// Appends the box of `head`: 0 where no glyph has contours.
-pub fn write_box(out: &mut Vec<u8>, extents: Option<Extents>) -> Result<(), AllocError>
-    ensures { OnOk result (out.new.items ≡ out.old.items ++ box_bytes extents) }
+/// The box of `head`: 0 where no glyph has contours.
+pub fn box_bytes(extents: Option<Extents>) -> [u8; 8]
+    ensures { result ≡ box_bytes extents }
 {
     match extents {
-        None => out.extend_from_slice(&[0; 8]),
-        Some(e) => out.extend_from_slice(&bounds_bytes(e.bounds)),
+        None => [0; 8],
+        Some(e) => bounds_bytes(e.bounds),
     }
 }
 
-/// Appends the least left and the least right side bearing and the greatest extent of `hhea`: 0 where no glyph has contours.
-fn write_sides(out: &mut Vec<u8>, extents: Option<Extents>) -> Result<(), AllocError>
-    ensures { OnOk result (out.new.items ≡ out.old.items ++ side_bytes extents) }
+/// The least left and the least right side bearing and the greatest extent of `hhea`: 0 where no glyph has contours.
+fn side_bytes(extents: Option<Extents>) -> [u8; 6]
+    ensures { result ≡ side_bytes extents }
 {
     match extents {
-        None => out.extend_from_slice(&[0; 6]),
+        None => [0; 6],
         Some(e) => {
             let [a, b] = e.bounds.x_min.to_be_bytes();
             let [c, d] = e.right.to_be_bytes();
             let [f, g] = e.bounds.x_max.to_be_bytes();
-            out.extend_from_slice(&[a, b, c, d, f, g])
+            [a, b, c, d, f, g]
         }
     }
 }
 
-/// Appends the greatest advance, and what is behind it in `hhea`.
-pub fn write_extremes(out: &mut Vec<u8>, drawn: &[Drawn]) -> Result<(), AllocError>
-    ensures { OnOk result (out.new.items ≡ out.old.items ++ extreme_bytes drawn.now) }
+/// The greatest advance, and what is behind it in `hhea`.
+pub fn extreme_bytes(drawn: &[Drawn]) -> [u8; 8]
+    ensures { result ≡ extreme_bytes drawn.now }
 {
-    out.extend_from_slice(&widest(drawn).to_be_bytes())?;
-    write_sides(out, all_extents(drawn))
+    let [a, b] = widest(drawn).to_be_bytes();
+    let [c, d, e, f, g, h] = side_bytes(all_extents(drawn));
+    [a, b, c, d, e, f, g, h]
 }

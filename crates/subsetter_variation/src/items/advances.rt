@@ -4,11 +4,9 @@
 //! A map of indexes without entries has no reading (FreeType and HarfBuzz take 0 there). The version of `HVAR` isn't
 //! looked at.
 
-ghost use Rattle.std.specs.Prelude.{[], ◌∷◌, MatchOption, ◌≡◌, ◌+◌, ◌*◌, ◌<◌, ◌≤◌, ◌^◌, Some, IfSome, length, pos, ◌*ℤ◌, ◌≤ℤ◌, unsigned_abs};
-ghost use Rattle.std.specs.Option.{ok_or, option_copied};
-ghost use Rattle.subsetter_base.specs.Bytes.{signed_at};
+ghost use Rattle.std.specs.Prelude.{[], ◌≡◌, ◌+◌, ◌*◌, ◌<◌, ◌≤◌, ◌^◌, Some, IfSome};
+ghost use Rattle.std.specs.Option.{ok_or};
 ghost use Rattle.subsetter_base.specs.declared.error.Error.TheVariants.{MalformedFont};
-ghost use Rattle.subsetter_variation.specs.Region.{scalar};
 ghost use Rattle.subsetter_variation.specs.Items.ItemVariations.{nullable_offset, item_store, item_delta, in_whole_units, whole_or_fault};
 ghost use Rattle.subsetter_variation.specs.Items.Advances.{map_head, split_index, mapped_index, advance_index, store_of, advance_delta, entry_index};
 

@@ -6,11 +6,10 @@
 //! `OverflowError`. The version of the store has to be 1.
 
 ghost use Rattle.std.specs.Prelude.{[], ◌∷◌, MatchOption, ◌≡◌, ◌+◌, ◌*◌, ◌<◌, ◌≤◌, ◌^◌, Some, IfSome, length, pos, ◌*ℤ◌, ◌≤ℤ◌, unsigned_abs};
-ghost use Rattle.std.specs.Option.{ok_or, option_copied};
+ghost use Rattle.std.specs.Option.{option_copied};
 ghost use Rattle.subsetter_base.specs.Bytes.{signed_at};
-ghost use Rattle.subsetter_base.specs.declared.error.Error.TheVariants.{MalformedFont};
 ghost use Rattle.subsetter_variation.specs.Region.{scalar};
-ghost use Rattle.subsetter_variation.specs.Items.ItemVariations.{nullable_offset, item_store, region_axis_in, region_items, region_of, data_offset, data_regions, row_size, row_at, row_in, item_row, word_delta, byte_delta, delta, term, terms, item_delta, in_whole_units, whole_or_fault};
+ghost use Rattle.subsetter_variation.specs.Items.ItemVariations.{nullable_offset, item_store, region_axis_in, region_items, region_of, data_offset, data_regions, row_size, row_at, row_in, item_row, word_delta, byte_delta, delta, term, terms, item_delta, in_whole_units};
 
 use crate::region::{RegionAxis, counted};
 use crate::rounding::{nearest, scaled, wide_plus};

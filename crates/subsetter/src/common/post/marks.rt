@@ -4,16 +4,10 @@
 //! for, and of every one where these are at most four for each kept glyph; past what 32 bits reach a name is found from
 //! the first on.
 
-ghost use Rattle.std.specs.Prelude.{◌≡◌, ◌≤◌, ◌<◌, ◌+◌, ◌*◌, ◌++◌, ℕ, [], length, drop, slice_index, get_or, flat_map, OnOk, IfOk, IfErr, IfSome};
-ghost use Rattle.std.specs.Option.{option_copied, option_map};
-ghost use Rattle.std.specs.Cow.{cow_slice_items};
-ghost use Rattle.std.specs.Iterator.{YieldsFirstRef, item_count};
-ghost use Rattle.subsetter_base.specs.Gives.{Gives};
+ghost use Rattle.std.specs.Prelude.{◌≡◌, ◌≤◌, ◌<◌, ◌+◌, ◌*◌, ℕ, [], length, drop, get_or, IfOk, IfErr, IfSome};
 ghost use Rattle.subsetter_base.specs.declared.error.Error.TheVariants.{OutOfMemory};
 ghost use Rattle.subsetter.specs.Common.Post.Marks.{step_of};
-ghost use Rattle.subsetter.specs.Common.Post.Read.{names_in, post_table, pascal_bytes};
-ghost use Rattle.subsetter_sfnt.specs.Extras.{without_glyph_names};
-ghost use Rattle.subsetter.specs.Common.Post.Plain.{seen_post, indexes_of, custom_count, new_indexes, entry_of, post_of_indexes, subset_glyph_names, new_post};
+ghost use Rattle.subsetter.specs.Common.Post.Read.{names_in};
 
 use crate::common::post::read::Names;
 use std::alloc::Global;

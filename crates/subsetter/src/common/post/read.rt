@@ -3,16 +3,12 @@
 //! Version 2.0 has after its header of 32 bytes an index for each glyph: below 258 it is the number of a standard
 //! Macintosh name, from there on that of a Pascal string among those that follow.
 
-ghost use Rattle.std.specs.Prelude.{◌≡◌, ◌≤◌, ◌<◌, ◌+◌, ◌*◌, ◌++◌, ℕ, [], length, drop, slice_index, get_or, flat_map, OnOk, IfOk, IfErr, IfSome};
-ghost use Rattle.std.specs.Option.{option_copied, option_map};
-ghost use Rattle.std.specs.Cow.{cow_slice_items};
+ghost use Rattle.std.specs.Prelude.{◌≡◌, ◌<◌, ◌*◌, ℕ, [], length, IfOk};
+ghost use Rattle.std.specs.Option.{option_map};
 ghost use Rattle.std.specs.Iterator.{YieldsFirstRef, item_count};
 ghost use Rattle.subsetter_base.specs.Gives.{Gives};
-ghost use Rattle.subsetter_base.specs.declared.error.Error.TheVariants.{OutOfMemory};
-ghost use Rattle.subsetter.specs.Common.Post.Marks.{step_of};
-ghost use Rattle.subsetter.specs.Common.Post.Read.{names_in, post_table, pascal_bytes};
-ghost use Rattle.subsetter_sfnt.specs.Extras.{without_glyph_names};
-ghost use Rattle.subsetter.specs.Common.Post.Plain.{seen_post, indexes_of, custom_count, new_indexes, entry_of, post_of_indexes, subset_glyph_names, new_post};
+ghost use Rattle.subsetter.specs.Common.Post.Read.{names_in, post_table};
+ghost use Rattle.subsetter.specs.Common.Post.Plain.{seen_post, indexes_of};
 
 use std::alloc::Global;
 use std::marker::Model;

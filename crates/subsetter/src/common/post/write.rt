@@ -4,16 +4,14 @@
 //! another version than 2.0 is copied. More than 65,278 names of the font's own are said by a list of distinct reached
 //! glyphs with such names that is longer than that.
 
-ghost use Rattle.std.specs.Prelude.{◌≡◌, ◌≤◌, ◌<◌, ◌+◌, ◌*◌, ◌++◌, ℕ, [], length, drop, slice_index, get_or, flat_map, OnOk, IfOk, IfErr, IfSome};
+ghost use Rattle.std.specs.Prelude.{◌≡◌, ◌≤◌, ◌<◌, ◌+◌, ◌*◌, ◌++◌, ℕ, [], length, slice_index, flat_map, OnOk, IfOk, IfErr};
 ghost use Rattle.std.specs.Option.{option_copied, option_map};
 ghost use Rattle.std.specs.Cow.{cow_slice_items};
-ghost use Rattle.std.specs.Iterator.{YieldsFirstRef, item_count};
 ghost use Rattle.subsetter_base.specs.Gives.{Gives};
 ghost use Rattle.subsetter_base.specs.declared.error.Error.TheVariants.{OutOfMemory};
-ghost use Rattle.subsetter.specs.Common.Post.Marks.{step_of};
-ghost use Rattle.subsetter.specs.Common.Post.Read.{names_in, post_table, pascal_bytes};
+ghost use Rattle.subsetter.specs.Common.Post.Read.{names_in, pascal_bytes};
 ghost use Rattle.subsetter_sfnt.specs.Extras.{without_glyph_names};
-ghost use Rattle.subsetter.specs.Common.Post.Plain.{seen_post, indexes_of, custom_count, new_indexes, entry_of, post_of_indexes, subset_glyph_names, new_post};
+ghost use Rattle.subsetter.specs.Common.Post.Plain.{seen_post, custom_count, new_indexes, entry_of, post_of_indexes, subset_glyph_names, new_post};
 
 use crate::common::post::marks::NameList;
 use crate::common::post::read::Version2Table;

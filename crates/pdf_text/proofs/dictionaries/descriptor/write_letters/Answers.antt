@@ -3,9 +3,10 @@ use Rattle.std.proofs.lemmas.Int.{to_z-of_z}
 use Rattle.std.specs.Prelude.{codes}
 use mir.Val.{SFits}
 use Rattle.std.specs.Fmt.{signed_decimal}
-use Rattle.pdf_text.specs.Dictionaries.{entry, x_height_entry}
+use Rattle.pdf_text.specs.Dictionaries.Descriptor.{x_height_entry}
+use Rattle.pdf_text.specs.Dictionaries.Entries.{entry}
 use Rattle.pdf_text.proofs.Pieces.{two_written}
-use Rattle.pdf_text.proofs.dictionaries.write_letters.Goals as goal
+use Rattle.pdf_text.proofs.dictionaries.descriptor.write_letters.Goals as goal
 
 pub returns-clause-ok : goal.returns-clause-ok
 returns-clause-ok c =

@@ -1,8 +1,9 @@
 use Rattle.std.proofs.Common.{◌++◌, List, ℕ, Bool, ap, ◌∙◌}
 use Rattle.std.specs.Prelude.{is_some}
-use Rattle.pdf_text.specs.Dictionaries.{entry, reference, heading_entries, height_entries, weight_entries, program_key, cid_set_entry}
+use Rattle.pdf_text.specs.Dictionaries.Descriptor.{heading_entries, height_entries, weight_entries, program_key, cid_set_entry}
+use Rattle.pdf_text.specs.Dictionaries.Entries.{entry, reference}
 use Rattle.pdf_text.proofs.Written.{five_written}
-use Rattle.pdf_text.proofs.dictionaries.write_descriptor.Goals as goal
+use Rattle.pdf_text.proofs.dictionaries.descriptor.write_descriptor.Goals as goal
 
 pub returns-clause-ok : goal.returns-clause-ok
 returns-clause-ok c =

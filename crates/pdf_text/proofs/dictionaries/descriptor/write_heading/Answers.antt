@@ -1,8 +1,8 @@
 use Rattle.std.specs.Prelude.{codes, decimal, ◌++◌}
 use Rattle.pdf_text.specs.Numbers.{thousandths}
-use Rattle.pdf_text.specs.Dictionaries.{entry, array}
+use Rattle.pdf_text.specs.Dictionaries.Entries.{entry, array}
 use Rattle.pdf_text.proofs.Written.{five_written}
-use Rattle.pdf_text.proofs.dictionaries.write_heading.Goals as goal
+use Rattle.pdf_text.proofs.dictionaries.descriptor.write_heading.Goals as goal
 
 pub returns-clause-ok : goal.returns-clause-ok
 returns-clause-ok c =

@@ -4,7 +4,7 @@ use Rattle.std.specs.Prelude.{codes}
 use mir.Val.{SFits}
 use Rattle.pdf_text.specs.Numbers.{thousandths}
 use Rattle.pdf_text.proofs.Written.{three_written}
-use Rattle.pdf_text.proofs.dictionaries.write_angle.Goals as goal
+use Rattle.pdf_text.proofs.dictionaries.descriptor.write_angle.Goals as goal
 
 pub returns-clause-ok : goal.returns-clause-ok
 returns-clause-ok c =

@@ -1,8 +1,8 @@
 use Rattle.std.proofs.Common.{◌++◌, List, ℕ, sym, ap, ◌∙◌, append_assoc}
 use Rattle.std.specs.Prelude.{codes}
-use Rattle.pdf_text.specs.Dictionaries.{reference}
+use Rattle.pdf_text.specs.Dictionaries.Entries.{reference}
 use Rattle.pdf_text.proofs.Written.{three_written}
-use Rattle.pdf_text.proofs.dictionaries.write_descendant.Goals as goal
+use Rattle.pdf_text.proofs.dictionaries.fonts.write_descendant.Goals as goal
 
 pub returns-clause-ok : goal.returns-clause-ok
 returns-clause-ok c =
