@@ -1,4 +1,4 @@
-//! The parts of a glyph at a place.
+//! The parts of a glyph at a location.
 
 ghost use Rattle.std.specs.Prelude.{◌≡◌, ◌+◌, ◌≤◌, ◌<◌, ◌^◌, length, map, IfOk, IsTrue};
 ghost use Rattle.subsetter_points.specs.Simple.{are_ends};
@@ -7,7 +7,7 @@ ghost use Rattle.subsetter_variation.specs.Glyphs.Varied.{AreEnds};
 use std::alloc::Global;
 use subsetter_base::Error;
 use subsetter_instance::source::Source;
-use subsetter_points::read_simple;
+use subsetter_points::{Column, coordinate_in, read_simple};
 use subsetter_variation::glyphs::movement::{Outline, moved_points};
 use subsetter_variation::glyphs::tuples::{Gvar, next_header, shared_numbers, tuple_headers};
 
@@ -42,28 +42,20 @@ fn ends_of(alloc: Global, outline: &subsetter_points::Outline) -> Result<Vec<usi
     Ok(ends)
 }
 
-/// The coordinates from left to right of an outline and its phantom points.
-fn xs_of(alloc: Global, outline: &subsetter_points::Outline) -> Result<Vec<i16>, Error>
+/// A column of the coordinates of an outline and its phantom points.
+fn coordinates_of(
+    alloc: Global,
+    outline: &subsetter_points::Outline,
+    column: Column,
+) -> Result<Vec<i16>, Error>
     ensures { IfOk result (λ v. length v.items ≡ length outline.now.points.items + 4) }
 {
-    let mut xs = Vec::new(alloc);
+    let mut coordinates = Vec::new(alloc);
     for point in &outline.points {
-        xs.push(point.x)?;
+        coordinates.push(coordinate_in(column, *point))?;
     }
-    xs.extend_from_slice(&[0; PHANTOMS])?;
-    Ok(xs)
-}
-
-/// The coordinates from below to above of an outline and its phantom points.
-fn ys_of(alloc: Global, outline: &subsetter_points::Outline) -> Result<Vec<i16>, Error>
-    ensures { IfOk result (λ v. length v.items ≡ length outline.now.points.items + 4) }
-{
-    let mut ys = Vec::new(alloc);
-    for point in &outline.points {
-        ys.push(point.y)?;
-    }
-    ys.extend_from_slice(&[0; PHANTOMS])?;
-    Ok(ys)
+    coordinates.extend_from_slice(&[0; PHANTOMS])?;
+    Ok(coordinates)
 }
 
 /// The scalar of each tuple of a glyph of so many points, by the bytes of its variations.
@@ -105,7 +97,7 @@ fn scalars_of(
     scalars_in(alloc, gvar, bytes, count, at)
 }
 
-/// The parts of a simple glyph at a place; `MalformedFont` where it is none or can't be read.
+/// The parts of a simple glyph at a location; `MalformedFont` where it is none or can't be read.
 pub fn parts_of(
     alloc: Global,
     source: &Source<'_>,
@@ -117,8 +109,8 @@ pub fn parts_of(
 {
     let description = source.description(glyph).ok_or(Error::MalformedFont)?;
     let outline = read_simple(alloc, description)?.ok_or(Error::MalformedFont)?;
-    let xs = xs_of(alloc, &outline)?;
-    let ys = ys_of(alloc, &outline)?;
+    let xs = coordinates_of(alloc, &outline, Column::XCoordinates)?;
+    let ys = coordinates_of(alloc, &outline, Column::YCoordinates)?;
     let ends = ends_of(alloc, &outline)?;
     let count = u32::try_from(xs.len()).map_err(|_| Error::MalformedFont)?;
     let scalars = scalars_of(alloc, gvar, glyph, count, at)?;
