@@ -60,7 +60,7 @@ fn stem_of(units: u16, operator: &Operator, operands: &[Number]) -> Option<u32>
     stem_by(units, operands)
 }
 
-/// That of the first entry of a private dict that says one. Two operands tell whether there is just one.
+/// That of the first entry of a private dict that has one. Two operands are enough to know whether there is just one.
 pub fn stem_in(units: u16, dict: &[u8]) -> Option<u32>
     requires { 0 < units }
     ensures { result ≡ stem_in units (entries dict.now) }

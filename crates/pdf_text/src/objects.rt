@@ -262,7 +262,7 @@ pub fn write_objects(
     )
 }
 
-/// Each object stands from its offset to that of the next, whatever the objects are.
+/// Each object is between its offset and that of the next, whatever the objects are.
 pub fn objects_are_at()
     ensures { AreAt }
 {}

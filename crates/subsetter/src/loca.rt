@@ -1,4 +1,4 @@
-//! `loca`, the places of the outlines (OpenType, "loca").
+//! `loca`, the offsets of the outlines (OpenType, "loca").
 //!
 //! It has an offset into `glyf` for each glyph and one more for the end: four bytes each in the long format, or halves of
 //! them in two bytes in the short one. The new table is written anew for the new `glyf`, in the short format where that can

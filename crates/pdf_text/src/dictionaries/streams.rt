@@ -1,4 +1,4 @@
-//! What stands in the dictionaries of streams: of a font program (ISO 32000-1, 9.9) and of a CMap (9.7.5.3).
+//! What is in the dictionaries of streams: of a font program (ISO 32000-1, 9.9) and of a CMap (9.7.5.3).
 
 ghost use Rattle.std.specs.Prelude.{◌≡◌, ◌++◌, IfErr, OnOk};
 ghost use Rattle.subsetter_base.specs.declared.error.Error.TheVariants.{OutOfMemory};

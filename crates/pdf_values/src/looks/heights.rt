@@ -131,7 +131,7 @@ fn descent_of(line: Line) -> i32
     -line.descent.abs()
 }
 
-/// The height of capitals: what is said, else Ascent.
+/// The height of capitals: what is stated, else Ascent.
 pub fn cap_height(height: Option<i32>, line: Line) -> i32
     requires line { IsSmall line }
     requires height { IfSome height (λ v. unsigned_abs v ≤ 2 ^ 16) }

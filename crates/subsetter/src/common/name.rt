@@ -1,7 +1,7 @@
 //! `name`, the names of a font (OpenType, "name").
 //!
-//! Version 0 has records, each of which says for a platform, an encoding, a language and a name where in the storage behind
-//! the records its string stands. The new table keeps the Unicode records of the names 0 to 14 but the description, and
+//! Version 0 has records, each of which has for a platform, an encoding, a language and a name the offset of its string in the
+//! storage behind the records. The new table keeps the Unicode records of the names 0 to 14 but the description, and
 //! stores each string once. A table of another version is copied.
 //!
 //! The source's table is read without copying (`Table`). What a subset keeps of it is `NewNames`, which is written into

@@ -9,7 +9,7 @@ use subsetter_cffdata::dicts::operator::{Operator, TWO_BYTE_OPERATOR_MARK};
 /// What an operator of a private dict does.
 #[derive(Clone, Copy, Debug)]
 pub enum PrivateOperator {
-    /// It blends: results take the place of defaults and deltas.
+    /// It blends: results replace defaults and deltas.
     Blends,
     /// It chooses the item variation data.
     ChoosesData,

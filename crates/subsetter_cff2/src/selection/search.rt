@@ -14,12 +14,12 @@ use std::marker::Model;
 use subsetter_base::error::Error;
 use subsetter_base::read::Reader;
 
-/// Ranges of format 3 or 4, from a location on.
+/// Ranges of format 3 or 4, from an offset on.
 #[derive(Clone, Copy, Debug)]
 pub struct RangeList {
     /// They are of format 4.
     pub is_wide: bool,
-    /// Where they stand.
+    /// Their offset.
     pub at: usize,
     /// How many there are stated to be.
     pub count: u32,

@@ -1,6 +1,6 @@
-//! Simple glyphs that composites lead to. They are kept, so that a letter is unfolded once for all its accents.
+//! Simple glyphs that composites have. They are kept, so that a letter is unfolded once for all its accents.
 //!
-//! A glyph has a location by its number, and leaves it to the next one that has the same. With so few places, and only for glyphs of
+//! A glyph has a slot by its number, and leaves it to the next one that has the same. With so few slots, and only for glyphs of
 //! few points, they hold less than 1 MB whatever the font.
 
 ghost use Rattle.std.specs.Prelude.{◌≡◌, ◌<◌, ◌≤◌, List, ℕ, ℤ, Some, Ok, false, IsTrue, IfOk, IfSome, length};
@@ -13,7 +13,7 @@ use crate::source::Source as FontSource;
 use std::alloc::{AllocError, Global};
 use std::marker::Model;
 
-/// How many places there are.
+/// How many slots there are.
 const SLOTS: usize = 128;
 /// The most points of a glyph that is kept.
 const MOST_POINTS: usize = 256;
@@ -71,7 +71,7 @@ fn no_glyphs(alloc: Global) -> Result<Vec<Option<KeptGlyph>>, AllocError>
     Ok(places)
 }
 
-/// The same places, or places without glyphs if there are none yet.
+/// The same slots, or slots without glyphs if there are none yet.
 fn all_slots(
     alloc: Global,
     places: Vec<Option<KeptGlyph>>,
@@ -96,7 +96,7 @@ impl Kept {
         }
     }
 
-    /// A glyph that is kept, if it takes at most so many steps, and a component may lead so many levels deep at all.
+    /// A glyph that is kept, if it takes at most so many steps, and components may be so many levels deep at all.
     pub fn find(&self, depth: u8, glyph: u16, steps: u32) -> Option<&KeptGlyph>
         ensures deep { IfSome result (λ k. 0 < depth) }
         ensures number { IfSome result (λ k. k.now.glyph ≡ glyph) }

@@ -107,7 +107,7 @@ fn point_at(xs: &[i64], ys: &[i64], number: u16) -> Option<(i64, i64)>
     Some((x, y))
 }
 
-/// How far a point of a component is from the one that it is to lie on. `MalformedFont` where one isn't there.
+/// How far a point of a component is from the one that it is to match. `MalformedFont` where one isn't there.
 #[tactic(auto, unfolding(crate::specs::Glyphs::Unfolded::matched))]
 fn matched(parent: Option<(i64, i64)>, child: Option<(i64, i64)>) -> Result<(i64, i64), Error>
     requires parent { IfSome parent (λ p. (unsigned_abs p.0 ≤ 2 ^ 47) × (unsigned_abs p.1 ≤ 2 ^ 47)) }

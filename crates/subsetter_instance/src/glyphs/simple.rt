@@ -31,7 +31,7 @@ fn x_min(bytes: &[u8]) -> i16
     }
 }
 
-/// Where the left side of the default lies.
+/// x of the left side of the default.
 fn left_side(bytes: &[u8], metric: LongHorMetric) -> i32
     ensures value { result ≡ left_side bytes.now metric }
     ensures bound { unsigned_abs result ≤ 2 ^ 16 }
@@ -69,7 +69,7 @@ pub fn left_point(bytes: &[u8], metric: LongHorMetric, n: usize, xs: &[i64]) -> 
     plus(in_parts(left_side(bytes, metric)), coordinate_at(xs, n))
 }
 
-/// Where the right side of the default lies.
+/// x of the right side of the default.
 fn right_side(bytes: &[u8], metric: LongHorMetric) -> i32
     ensures value { result ≡ left_side bytes.now metric +ℤ pos metric.advance_width }
     ensures bound { unsigned_abs result ≤ 2 ^ 18 }
@@ -233,7 +233,7 @@ fn simple_outline(
     })
 }
 
-/// A simple glyph at a place, of which the description is read, and the steps that are left.
+/// A simple glyph at a location, of which the description is read, and the steps that are left.
 #[tactic(auto, unfolding(crate::specs::Glyphs::Unfolded::unfolded_by_flags))]
 fn unfold_columns(
     alloc: Global,

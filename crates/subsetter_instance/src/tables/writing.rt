@@ -15,7 +15,7 @@ use subsetter_base::{Error, GlyphRemapper};
 use subsetter_sfnt::fields::hmtx::{LONG_HOR_METRIC_SIZE, LongHorMetric};
 use subsetter_sfnt::fields::loca::{OFFSET16_MAX, OFFSET32_SIZE, write_offset};
 
-/// What is drawn of a glyph, if it was asked for.
+/// What is drawn of a glyph, if it was requested.
 fn glyph_among<'a>(mapper: &GlyphRemapper, drawn: &'a [Drawn], glyph: u16) -> Option<&'a Drawn>
     ensures { option_copied result ≡ glyph_among mapper.now drawn.now glyph }
 {
@@ -40,7 +40,7 @@ pub fn by_glyph<'a>(
     Ok(all)
 }
 
-/// Appends the description of a glyph, of even length; nothing where it wasn't asked for.
+/// Appends the description of a glyph, of even length; nothing where it wasn't requested.
 fn write_outline(glyf: &mut Vec<u8>, drawn: Option<&Drawn>) -> Result<(), Error>
     ensures ok { OnOk result (glyf.new.items ≡ glyf.old.items ++ outline_bytes (option_copied drawn.entry)) }
     ensures err { IfErr result (λ e. e ≡ OutOfMemory) }
@@ -93,7 +93,7 @@ pub fn loca(alloc: Global, long: bool, offsets: &[usize]) -> Result<Vec<u8>, Err
     Ok(loca)
 }
 
-/// The metric of a glyph, 0 and 0 where it wasn't asked for.
+/// The metric of a glyph, 0 and 0 where it wasn't requested.
 fn metric_of(drawn: Option<&Drawn>) -> LongHorMetric
     ensures { result ≡ drawn_metric (option_copied drawn.entry) }
 {

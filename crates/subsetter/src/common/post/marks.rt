@@ -1,7 +1,7 @@
 //! The font's own names of `post` by their numbers.
 //!
-//! The names are one after another, so the place of every eighth is kept in 32 bits, up to the greatest that is asked
-//! for, and of every one where these are at most four for each kept glyph; past what 32 bits reach a name is found from
+//! The names are one after another, so the offset of every eighth is kept in 32 bits, up to the greatest that is
+//! requested, and of every one where these are at most four for each kept glyph; past what 32 bits reach a name is found from
 //! the first on.
 
 ghost use Rattle.std.specs.Prelude.{◌≡◌, ◌≤◌, ◌<◌, ◌+◌, ◌*◌, ℕ, [], length, drop, get_or, IfOk, IfErr, IfSome};

@@ -19,7 +19,7 @@ use subsetter_cffdata::dicts::dict::operators::{
 };
 use subsetter_cffdata::numerals::number::{IntegerNumber, Number, StringId};
 
-/// What a new top dict says, beside where the parts stand.
+/// The values of a new top dict, beside the offsets of the parts.
 #[derive(Drop)]
 pub struct TopDict<'a> {
     /// The number of the copyright's string.
@@ -34,7 +34,7 @@ pub struct TopDict<'a> {
     pub font_box: &'a [Number; 4],
 }
 
-/// Where the parts stand that a new top dict names.
+/// The offsets of the parts that a new top dict names.
 #[derive(Clone, Copy)]
 pub struct Offsets {
     /// The charset.
