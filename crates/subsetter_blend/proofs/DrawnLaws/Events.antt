@@ -24,8 +24,8 @@ use Rattle.subsetter_blend.specs.Writing.Flex.{opened_operator}
 use Rattle.subsetter_blend.specs.Hint.{is_hint}
 use Rattle.subsetter_blend.specs.Runs.Kind.{type_accepts, one_byte_accepts, accepts}
 use Rattle.subsetter_blend.specs.Runs.Number.{whole}
-use Rattle.subsetter_blend.specs.Writing.Placed.{gone, Placed, placed, origin}
-use Rattle.subsetter_blend.specs.Writing.Says.{type_masks}
+use Rattle.subsetter_blend.specs.Writing.Placed.{position_after, Placed, placed, origin}
+use Rattle.subsetter_blend.specs.Writing.Marks.{type_masks}
 use Rattle.subsetter_blend.specs.Writing.Split.{piece_type, front_of, rest_of, next_cut, pieces}
 use Rattle.subsetter_blend.specs.Writing.Stems.{edges_from, has_stems, type_stems, stems_of}
 use Rattle.subsetter_blend.specs.Writing.Taking.{Event}
@@ -116,9 +116,9 @@ onto a b = omega (arith, ints)
 edges_rounded : (axis : ℕ → Along) (i : ℕ) (at : Position) (vs : List ℤ) → ((k : ℕ) → axis k ≡ X) → edges_from (whole at.x) (diffs axis i at vs) ≡ map whole (edges_from at.x vs)
 edges_rounded axis i at [] h = refl
 edges_rounded axis i at (v ∷ vs) h =
-    ap (λ (a : Along). edges_from (whole at.x) (diff a v at ∷ diffs axis (i + 1) (gone a v at) vs)) (h i)
-    ∙ ap (λ (z : ℤ). z ∷ edges_from z (diffs axis (i + 1) (gone X v at) vs)) (onto (whole at.x) (whole (at.x +ℤ v)))
-    ∙ ap (λ (l : List ℤ). whole (at.x +ℤ v) ∷ l) (edges_rounded axis (i + 1) (gone X v at) vs h)
+    ap (λ (a : Along). edges_from (whole at.x) (diff a v at ∷ diffs axis (i + 1) (position_after a v at) vs)) (h i)
+    ∙ ap (λ (z : ℤ). z ∷ edges_from z (diffs axis (i + 1) (position_after X v at) vs)) (onto (whole at.x) (whole (at.x +ℤ v)))
+    ∙ ap (λ (l : List ℤ). whole (at.x +ℤ v) ∷ l) (edges_rounded axis (i + 1) (position_after X v at) vs h)
 
 whole_none : whole (pos 0) ≡ pos 0
 unfolding whole nearest

@@ -8,7 +8,7 @@ use Rattle.subsetter_base.specs.declared.error.Error.{Error}
 use Rattle.subsetter_base.specs.declared.error.Error.TheVariants.{CFFError, OverflowError}
 use Rattle.subsetter_cffdata.specs.declared.numerals.charstring_number.CharStringNumber.{CharStringNumber}
 use Rattle.subsetter_cffdata.specs.declared.dicts.operator.Operator.{Operator}
-use Rattle.subsetter_type2.specs.Runs.Machine.{Lead, On, rests_after, unended}
+use Rattle.subsetter_type2.specs.Runs.Machine.{Continuation, On, rests_after, unended}
 use Rattle.subsetter_type2.specs.Token.{Token, Operand, Operation, token_of}
 use Rattle.subsetter_blend.specs.declared.runs.kind.Kind.{Kind}
 use Rattle.subsetter_blend.specs.declared.runs.kind.Kind.TheVariants.{ChoosesData, Blends, CountsStems, Draws, CallsLocal, CallsGlobal, Masks}
@@ -30,7 +30,7 @@ use Rattle.subsetter_cff_at.specs.RunFault.{HasOperatorFault, HasTokenFault, Has
 fails_same : (d e : Error) → Fails d ≡ Fails e → d ≡ e
 fails_same d e h = cc
 
-no_failure : (said : Option Event) (next : Registers) (lead : Lead) (e : Error) → Does said next lead ≡ Fails e → ⊥
+no_failure : (said : Option Event) (next : Registers) (lead : Continuation) (e : Error) → Does said next lead ≡ Fails e → ⊥
 no_failure said next lead e h = absurd cc
 
 if_fails : (b : Bool) (d e : Error) (act : Act) → (if b then act else Fails d) ≡ Fails e → ((b ≡ false) × (d ≡ e)) ⊎ ((b ≡ true) × (act ≡ Fails e))
@@ -274,7 +274,7 @@ module _ (setting : Setting) (depth : ℕ) where
   module _ (tokens : ℕ) (again : (f : Fitted) (state : State) (e : Error) → run fitted setting depth tokens f state ≡ Err e → R tokens f state e)
       (f : Fitted) (state : State) (bytes : List ℕ) (callers : List (List ℕ)) (is : unended state.rests ≡ bytes ∷ callers) (e : Error) where
     -- a token leads on
-    led_by : (deep : Bool) (g : Fitted) (said : Option Event) (next : Registers) (lead : Lead) → act_at setting bytes state.registers ≡ Does said next lead → taken_also fitted said f ≡ Ok g
+    led_by : (deep : Bool) (g : Fitted) (said : Option Event) (next : Registers) (lead : Continuation) → act_at setting bytes state.registers ≡ Does said next lead → taken_also fitted said f ≡ Ok g
         → nat_le (length (rests_after lead callers)) depth ≡ deep
         → (if deep then run fitted setting depth tokens g (record { rests = rests_after lead callers; registers = next }) else Err CFFError) ≡ Err e → R (suc tokens) f state e
     led_by true g said next lead acts taken fits h =
@@ -283,7 +283,7 @@ module _ (setting : Setting) (depth : ℕ) where
         (let same : CFFError ≡ e = cc in
         subst (R (suc tokens) f state) same (too_deep tokens f g state bytes callers said next lead is acts taken (leb-false (length (rests_after lead callers)) depth fits)))
 
-    event_led : (a : Result Fitted Error) (event : Event) (next : Registers) (lead : Lead) → act_at setting bytes state.registers ≡ Does (Some event) next lead → fitted event f ≡ a
+    event_led : (a : Result Fitted Error) (event : Event) (next : Registers) (lead : Continuation) → act_at setting bytes state.registers ≡ Does (Some event) next lead → fitted event f ≡ a
         → follow depth callers (done_with next lead a) (run fitted setting depth tokens) ≡ Err e → R (suc tokens) f state e
     event_led (Ok g) event next lead acts taken h = led_by (nat_le (length (rests_after lead callers)) depth) g (Some event) next lead acts taken refl h
     event_led (Err d) event next lead acts taken h =

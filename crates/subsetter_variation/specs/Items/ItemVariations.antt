@@ -84,7 +84,7 @@ item_row s outer inner = do
   at ← if nat_lt outer data_count then nullable_offset s.bytes (8 + outer * 4) else None
   row_in s.bytes at inner
 
--- where item variation data stand in the store
+-- where item variation data are in the store
 abbrev pub data_offset : Store → ℕ → Option ℕ
 data_offset s outer = do
   data_count ← number s.bytes 6 2
@@ -129,7 +129,7 @@ terms s at r (suc n) k = do
   rest ← terms s at r n (k + 1)
   Some (first +ℤ rest)
 
--- what an item varies by at a place, in parts of 2^30; the indexes 0xFFFF and 0xFFFF stand for no variation
+-- what an item varies by at a location, in parts of 2^30; the indexes 0xFFFF and 0xFFFF stand for no variation
 unfoldable pub item_delta : Store → List ℤ → ℕ → ℕ → Option ℤ
 item_delta s at outer inner =
     if outer == 65535 && inner == 65535 then Some (pos 0)

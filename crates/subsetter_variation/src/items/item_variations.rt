@@ -193,7 +193,7 @@ fn row_at(
     })
 }
 
-/// The row of an item, by the place of its data.
+/// The row of an item, by the offset of its data.
 #[tactic(auto, unfolding(crate::specs::Items::ItemVariations::row_in))]
 fn row_in(bytes: &[u8], at: usize, inner: u32) -> Option<Row<'_>>
     requires { at < 2 ^ 32 }
@@ -222,7 +222,7 @@ fn item_row<'a>(s: &Store<'a>, outer: u32, inner: u32) -> Option<Row<'a>>
     row_in(s.bytes, at as usize, inner)
 }
 
-/// Where item variation data stand in the store.
+/// The offset of item variation data in the store.
 fn data_offset(s: &Store<'_>, outer: u32) -> Option<u32>
     ensures value { result ≡ data_offset s.now outer }
     ensures few { IfSome result (λ _. outer < 65536) }
