@@ -143,7 +143,7 @@ fn row_at(
     })
 }
 
-/// The row of an item, by the place of its data.
+/// The row of an item, by the offset of its data.
 fn row_in(bytes: &[u8], at: usize, inner: u32) -> Option<Row<'_>> {
     let items = Reader::new_at(bytes, at).read::<u16>()?;
     let words = Reader::new_at(bytes, at + 2).read::<u16>()?;
