@@ -27,13 +27,13 @@ const HEADER_SIZE: usize = 10;
 /// The most contours of a simple glyph: `numberOfContours` is an int16, and below 0 for a composite glyph.
 const MOST_CONTOURS: u16 = 0x7FFF;
 /// The delta in x is one byte.
-const X_SHORT_VECTOR: u8 = 0x02;
+pub(crate) const X_SHORT_VECTOR: u8 = 0x02;
 /// That byte is added; without it x is the same as before.
-const X_IS_SAME_OR_POSITIVE_X_SHORT_VECTOR: u8 = 0x10;
+pub(crate) const X_IS_SAME_OR_POSITIVE_X_SHORT_VECTOR: u8 = 0x10;
 /// The delta in y is one byte.
-const Y_SHORT_VECTOR: u8 = 0x04;
+pub(crate) const Y_SHORT_VECTOR: u8 = 0x04;
 /// That byte is added; without it y is the same as before.
-const Y_IS_SAME_OR_POSITIVE_Y_SHORT_VECTOR: u8 = 0x20;
+pub(crate) const Y_IS_SAME_OR_POSITIVE_Y_SHORT_VECTOR: u8 = 0x20;
 
 /// The flags, the x coordinates and the y coordinates of so many points.
 #[tactic(auto, unfolding(crate::specs::Simple::points_at))]

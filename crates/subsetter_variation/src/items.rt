@@ -2,3 +2,4 @@
 
 pub mod font_metrics;
 pub mod item_variations;
+pub(crate) mod layout;

@@ -6,6 +6,10 @@ ghost use Rattle.subsetter_points.specs.Simple.{encoding_bits, shortest_encoding
 
 use crate::lists::deltas::delta_between;
 use crate::outline::Point;
+use crate::reading::{
+    X_IS_SAME_OR_POSITIVE_X_SHORT_VECTOR, X_SHORT_VECTOR, Y_IS_SAME_OR_POSITIVE_Y_SHORT_VECTOR,
+    Y_SHORT_VECTOR,
+};
 use subsetter_base::Error;
 
 /// Contours of the glyph may overlap.
@@ -17,8 +21,12 @@ fn x_bits(delta: i16) -> u8
     ensures value { result ≡ encoding_bits 2 16 (shortest_encoding delta) }
     ensures small { result ≤ 18 }
 {
-    let same_or_positive = if delta >= 0 { 0x10 } else { 0 };
-    let byte = if delta != 0 { 0x02 } else { 0 };
+    let same_or_positive = if delta >= 0 {
+        X_IS_SAME_OR_POSITIVE_X_SHORT_VECTOR
+    } else {
+        0
+    };
+    let byte = if delta != 0 { X_SHORT_VECTOR } else { 0 };
     if delta > -256 && delta < 256 {
         same_or_positive + byte
     } else {
@@ -31,8 +39,12 @@ fn y_bits(delta: i16) -> u8
     ensures value { result ≡ encoding_bits 4 32 (shortest_encoding delta) }
     ensures small { result ≤ 36 }
 {
-    let same_or_positive = if delta >= 0 { 0x20 } else { 0 };
-    let byte = if delta != 0 { 0x04 } else { 0 };
+    let same_or_positive = if delta >= 0 {
+        Y_IS_SAME_OR_POSITIVE_Y_SHORT_VECTOR
+    } else {
+        0
+    };
+    let byte = if delta != 0 { Y_SHORT_VECTOR } else { 0 };
     if delta > -256 && delta < 256 {
         same_or_positive + byte
     } else {
