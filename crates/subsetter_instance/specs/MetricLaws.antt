@@ -4,7 +4,8 @@ use Rattle.std.specs.Prelude.{◌≡◌, ◌≤◌, ℕ, ◌==◌, ◌&&◌, fal
 use Rattle.subsetter_base.specs.Bytes.{IsBytes}
 use Rattle.subsetter_variation.specs.Items.FontMetrics.{metric_store, value_of}
 use Rattle.subsetter_variation.specs.Items.ItemLaws.{HasBoundRegions, IsMaster}
-use Rattle.subsetter_variation.specs.Items.ItemVariations.{Row, Store, advance_index, delta, item_row, store_of}
+use Rattle.subsetter_variation.specs.Items.ItemVariations.{Row, Store, delta, item_row}
+use Rattle.subsetter_variation.specs.Items.Advances.{advance_index, store_of}
 use Rattle.subsetter_variation.specs.Glyphs.Movement.{Outline}
 use Rattle.subsetter_variation.specs.Glyphs.Tuples.{Gvar}
 use Rattle.subsetter_variation.specs.VariationLaws.{HasBoundTuples}

@@ -4,7 +4,8 @@ ghost use Rattle.std.specs.Prelude.{◌≡◌};
 ghost use Rattle.std.specs.Option.{option_map};
 ghost use Rattle.subsetter_sfnt.specs.Extras.{all_extras};
 ghost use Rattle.cmap.specs.View.{mapping_view};
-ghost use Rattle.subset_font.specs.Making.Requested.{face_glyphs, face_mapping};
+ghost use Rattle.subset_font.specs.Making.Requested.{face_glyphs};
+ghost use Rattle.cmap.specs.Faces.{face_mapping};
 ghost use Rattle.subset_font.specs.Faces.FaceView.{place_view};
 
 use cmap::{Subtable, find_subtable};

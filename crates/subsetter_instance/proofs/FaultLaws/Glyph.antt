@@ -18,7 +18,7 @@ use Rattle.subsetter_instance.specs.Glyphs.Drawn.{Drawn, advance, bearing, point
 use Rattle.subsetter_instance.specs.Plain.{drawn_if, drawn_all}
 use Rattle.subsetter_instance.proofs.FaultLaws.Tables.{hmtx_missing, hmtx_refused}
 use Rattle.subsetter_instance.specs.Fault.{HasGlyphFault, no_glyph, no_metric, in_walk, in_advance, far_point, large_outline}
-use Rattle.subsetter_instance.proofs.FaultLaws.Walk.{walk_refused, walk_stops}
+use Rattle.subsetter_instance.proofs.FaultLaws.WalkLaws.Walk.{walk_refused, walk_stops}
 use Rattle.subsetter_instance.proofs.FaultLaws.Rounded.{advance_refused, advance_stops, points_refused, points_stop}
 
 -- ---- what isn't drawn

@@ -12,7 +12,8 @@ use Rattle.subsetter_base.proofs.Results.{done_is, bind_ok}
 use Rattle.subsetter_points.specs.declared.outline.Point.{Point}
 use Rattle.subsetter_points.specs.Simple.{has_16_bits, deltas_fit, points_fit, parts_fit, are_ends, xs_of, ys_of, parts, parts_bytes}
 use Rattle.subsetter_points.proofs.Back.{parts_back}
-use Rattle.subsetter_variation.specs.Items.ItemVariations.{advance_delta, whole_or_fault}
+use Rattle.subsetter_variation.specs.Items.ItemVariations.{whole_or_fault}
+use Rattle.subsetter_variation.specs.Items.Advances.{advance_delta}
 use Rattle.subsetter_sfnt.specs.declared.fields.hmtx.LongHorMetric.{LongHorMetric}
 use Rattle.subsetter_instance.specs.Source.{Source, metric}
 use Rattle.subsetter_instance.specs.Glyphs.Unfolded.{Unfolded, unfolded}

@@ -9,7 +9,8 @@ use Rattle.subsetter_base.specs.declared.error.Error.TheVariants.{MalformedFont,
 use Rattle.subsetter_points.specs.declared.outline.Point.{Point}
 use Rattle.subsetter_points.specs.Simple.{has_16_bits, parts_fit, xs_of}
 use Rattle.subsetter_variation.specs.Nearest.{nearest}
-use Rattle.subsetter_variation.specs.Items.ItemVariations.{advance_delta, whole_or_fault}
+use Rattle.subsetter_variation.specs.Items.ItemVariations.{whole_or_fault}
+use Rattle.subsetter_variation.specs.Items.Advances.{advance_delta}
 use Rattle.subsetter_instance.specs.Source.{Source, metric}
 use Rattle.subsetter_instance.specs.Glyphs.Unfolded.{Unfolded, unfolded}
 use Rattle.subsetter_sfnt.specs.declared.fields.hmtx.LongHorMetric.{LongHorMetric}

@@ -17,7 +17,7 @@ use std::marker::Model;
 use subsetter_base::{Error, GlyphRemapper};
 use subsetter_points::{Outline, Point, fits, least_x};
 use subsetter_sfnt::fields::hmtx::LongHorMetric;
-use subsetter_variation::items::item_variations::advance_delta;
+use subsetter_variation::items::advances::advance_delta;
 
 /// The unit of unfolded coordinates.
 const UNIT: u64 = 1 << 30;

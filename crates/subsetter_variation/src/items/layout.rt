@@ -1,4 +1,4 @@
-//! Where the fields of an item variation store and of `HVAR` are (OpenType, "Item Variation Store" and "HVAR").
+//! Where the fields of an item variation store are (OpenType, "Item Variation Store").
 
 /// variationRegionListOffset of an item variation store, four bytes.
 pub const VARIATION_REGION_LIST_OFFSET: usize = 2;
@@ -30,19 +30,5 @@ pub const LONG_WORDS: u16 = 0x8000;
 pub const DELTA32_SIZE: usize = 4;
 
 pub const DELTA16_SIZE: usize = 2;
-
-/// entryFormat of a map of delta set indexes, one byte, behind format.
-pub const ENTRY_FORMAT: usize = 1;
-/// mapCount, two bytes in format 0, and four in format 1.
-pub const MAP_COUNT: usize = 2;
-/// mapData in format 0.
-pub const MAP_DATA_0: usize = 4;
-/// mapData in format 1.
-pub const MAP_DATA_1: usize = 6;
 /// The index that stands for no variation, as an outer and as an inner one.
 pub const NO_VARIATION_INDEX: u32 = 0xFFFF;
-
-/// itemVariationStoreOffset of `HVAR`, four bytes.
-pub const ITEM_VARIATION_STORE_OFFSET: usize = 4;
-/// advanceWidthMappingOffset of `HVAR`, four bytes.
-pub const ADVANCE_WIDTH_MAPPING_OFFSET: usize = 8;
