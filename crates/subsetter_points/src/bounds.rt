@@ -8,6 +8,7 @@ ghost use Rattle.subsetter_points.specs.Bounds.{with_point, box_around, bounds_b
 ghost use Rattle.subsetter_points.specs.Simple.{xs_of, box};
 
 use crate::outline::Point;
+use std::alloc::AllocError;
 use subsetter_base::Error;
 use subsetter_base::compare::{larger, smaller};
 
@@ -64,7 +65,7 @@ pub fn least_x(first: i16, rest: &[Point]) -> i16
     least
 }
 
-/// xMin, yMin, xMax and yMax as bytes.
+/// xMin, yMin, xMax and yMax.
 pub fn bounds_bytes(bounds: Bounds) -> [u8; 8]
     ensures { result ≡ bounds_bytes bounds }
 {
@@ -75,11 +76,18 @@ pub fn bounds_bytes(bounds: Bounds) -> [u8; 8]
     [a, b, c, d, e, f, g, h]
 }
 
+/// Appends xMin, yMin, xMax and yMax.
+fn write_bounds(out: &mut Vec<u8>, bounds: Bounds) -> Result<(), AllocError>
+    ensures { OnOk result (out.new.items ≡ out.old.items ++ bounds_bytes bounds) }
+{
+    out.extend_from_slice(&bounds_bytes(bounds))
+}
+
 /// Writes the bounding box of a point and others.
 pub fn write_box(out: &mut Vec<u8>, first: Point, rest: &[Point]) -> Result<(), Error>
     ensures ok { OnOk result (out.new.items ≡ out.old.items ++ box first rest.now) }
     ensures err { IfErr result (λ e. e ≡ OutOfMemory) }
 {
-    out.extend_from_slice(&bounds_bytes(box_around(first, rest)))?;
+    write_bounds(out, box_around(first, rest))?;
     Ok(())
 }

@@ -26,6 +26,6 @@ mod writing;
 
 pub use bounds::{Bounds, bounds_bytes, box_around, least_x};
 pub use list_bytes::fitting::fits;
-pub use outline::{Column, Columns, Outline, Point, coordinate_in};
+pub use outline::{Columns, Outline, Point};
 pub use reading::{read_columns, read_simple};
 pub use writing::write_simple;

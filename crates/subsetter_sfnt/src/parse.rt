@@ -10,11 +10,11 @@ ghost use Rattle.subsetter_sfnt.specs.Plain.{opened_header, opened};
 
 use crate::directory::{records_at, table_in};
 use crate::extras::Extras;
-use crate::face::{Face, FontKind};
+use crate::face::{Face, FontKind, TABLE_DIRECTORY_OFFSETS};
 use subsetter_base::read::Reader;
 use subsetter_base::{Error, Tag};
 
-/// The offset of the font's header.
+/// Where the font's header stands.
 #[tactic(auto, unfolding(crate::specs::Plain::opened_header))]
 fn header(file: &[u8], index: u32, extras: Extras) -> Result<usize, Error>
     ensures exact { result ≡ opened_header (record { bytes = file.now; index = index; extras = extras }) }
@@ -27,7 +27,7 @@ fn header(file: &[u8], index: u32, extras: Extras) -> Result<usize, Error>
     }
     let mut r = Reader::new_at(
         file,
-        12usize.saturating_add(4usize.saturating_mul(index as usize)),
+        TABLE_DIRECTORY_OFFSETS.saturating_add(4usize.saturating_mul(index as usize)),
     );
     let offset = r.read::<u32>().ok_or(Error::MalformedFont)?;
     let mut r = Reader::new_at(file, offset as usize);
@@ -55,7 +55,7 @@ pub fn parse(file: &[u8], index: u32, extras: Extras) -> Result<Face<'_>, Error>
 }
 
 impl<'a> Face<'a> {
-    /// Whether a table isn't requested.
+    /// Whether a table isn't asked for.
     fn leaves_out(&self, tag: Tag) -> bool
         ensures { result ≡ ((not self.now.extras.hinting && is_program tag.0) || (not self.now.extras.names && bytes_eq tag.0 (codes "name"))) }
     {

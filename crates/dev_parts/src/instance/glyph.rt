@@ -7,7 +7,7 @@ ghost use Rattle.subsetter_variation.specs.Glyphs.Varied.{AreEnds};
 use std::alloc::Global;
 use subsetter_base::Error;
 use subsetter_instance::source::Source;
-use subsetter_points::{Column, coordinate_in, read_simple};
+use subsetter_points::read_simple;
 use subsetter_variation::glyphs::movement::{Outline, moved_points};
 use subsetter_variation::glyphs::tuples::{Gvar, next_header, shared_numbers, tuple_headers};
 
@@ -42,20 +42,23 @@ fn ends_of(alloc: Global, outline: &subsetter_points::Outline) -> Result<Vec<usi
     Ok(ends)
 }
 
-/// A column of the coordinates of an outline and its phantom points.
+/// The coordinates of an outline and its phantom points, from left to right and from below to above.
 fn coordinates_of(
     alloc: Global,
     outline: &subsetter_points::Outline,
-    column: Column,
-) -> Result<Vec<i16>, Error>
-    ensures { IfOk result (λ v. length v.items ≡ length outline.now.points.items + 4) }
+) -> Result<(Vec<i16>, Vec<i16>), Error>
+    ensures xs { IfOk result (λ p. length p.0.items ≡ length outline.now.points.items + 4) }
+    ensures ys { IfOk result (λ p. length p.1.items ≡ length outline.now.points.items + 4) }
 {
-    let mut coordinates = Vec::new(alloc);
+    let mut xs = Vec::new(alloc);
+    let mut ys = Vec::new(alloc);
     for point in &outline.points {
-        coordinates.push(coordinate_in(column, *point))?;
+        xs.push(point.x)?;
+        ys.push(point.y)?;
     }
-    coordinates.extend_from_slice(&[0; PHANTOMS])?;
-    Ok(coordinates)
+    xs.extend_from_slice(&[0; PHANTOMS])?;
+    ys.extend_from_slice(&[0; PHANTOMS])?;
+    Ok((xs, ys))
 }
 
 /// The scalar of each tuple of a glyph of so many points, by the bytes of its variations.
@@ -109,8 +112,7 @@ pub fn parts_of(
 {
     let description = source.description(glyph).ok_or(Error::MalformedFont)?;
     let outline = read_simple(alloc, description)?.ok_or(Error::MalformedFont)?;
-    let xs = coordinates_of(alloc, &outline, Column::XCoordinates)?;
-    let ys = coordinates_of(alloc, &outline, Column::YCoordinates)?;
+    let (xs, ys) = coordinates_of(alloc, &outline)?;
     let ends = ends_of(alloc, &outline)?;
     let count = u32::try_from(xs.len()).map_err(|_| Error::MalformedFont)?;
     let scalars = scalars_of(alloc, gvar, glyph, count, at)?;

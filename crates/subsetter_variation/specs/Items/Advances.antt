@@ -41,7 +41,7 @@ store_of hvar axis_count = do
   s ← item_store bytes
   if s.axis_count == axis_count then Some s else None
 
--- what the advance of a glyph varies by at a location, in parts of 2^30
+-- what the advance of a glyph varies by at a place, in parts of 2^30
 unfoldable pub advance_delta : List ℕ → List ℤ → ℕ → Option ℤ
 advance_delta hvar at g = do
   s ← store_of hvar (length at)
