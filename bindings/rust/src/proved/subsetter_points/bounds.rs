@@ -55,13 +55,18 @@ pub fn least_x(first: i16, rest: &[Point]) -> i16 {
     least
 }
 
-/// Appends xMin, yMin, xMax and yMax.
-pub fn write_bounds(out: &mut Vec<u8>, bounds: Bounds) -> Result<(), AllocError> {
+/// xMin, yMin, xMax and yMax.
+pub fn bounds_bytes(bounds: Bounds) -> [u8; 8] {
     let [a, b] = bounds.x_min.to_be_bytes();
     let [c, d] = bounds.y_min.to_be_bytes();
     let [e, f] = bounds.x_max.to_be_bytes();
     let [g, h] = bounds.y_max.to_be_bytes();
-    out.extend_from_slice(&[a, b, c, d, e, f, g, h])
+    [a, b, c, d, e, f, g, h]
+}
+
+/// Appends xMin, yMin, xMax and yMax.
+fn write_bounds(out: &mut Vec<u8>, bounds: Bounds) -> Result<(), AllocError> {
+    out.extend_from_slice(&bounds_bytes(bounds))
 }
 
 /// Writes the bounding box of a point and others.

@@ -28,7 +28,7 @@ mod reading;
 mod writing;
 
 #[cfg(feature = "variable-fonts")]
-pub use bounds::{box_around, least_x, write_bounds, Bounds};
+pub use bounds::{bounds_bytes, box_around, least_x, Bounds};
 #[cfg(feature = "variable-fonts")]
 pub use list_bytes::fitting::fits;
 #[cfg(feature = "variable-fonts")]

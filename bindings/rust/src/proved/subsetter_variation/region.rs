@@ -3,6 +3,9 @@
 
 use crate::proved::subsetter_variation::rounding::part;
 
+/// 1 in parts of 2^30.
+pub(crate) const ONE: i64 = 1073741824;
+
 /// What a region is on one axis, in 16384ths: where it begins to count, where it counts in full, and where it ends.
 #[derive(Clone, Copy, Debug, PartialEq, Eq)]
 pub struct RegionAxis {
@@ -16,14 +19,14 @@ fn is_ignored(t: RegionAxis) -> bool {
     t.peak == 0 || t.peak < t.start || t.end < t.peak || (t.start < 0 && 0 < t.end)
 }
 
-/// Of a whole as great a part as a place has passed of the way from an end to the peak.
+/// Of a whole as great a part as a coordinate has passed of the distance from an end to the peak.
 fn proportion(end: i16, peak: i16, at: i32, whole: i64) -> i64 {
     let passed = i64::from(at.abs_diff(i32::from(end)));
     let way = u64::from(i32::from(peak).abs_diff(i32::from(end)));
     part(passed, way, whole)
 }
 
-/// What of a whole counts at a place on the axis.
+/// What of a whole counts at a coordinate on the axis.
 pub(crate) fn counted(t: RegionAxis, at: i32, whole: i64) -> i64 {
     let peak = i32::from(t.peak);
     if is_ignored(t) {

@@ -135,7 +135,7 @@ fn rounded(
     unfolded: Unfolded,
 ) -> Result<Drawn, Error> {
     let width = distance(unfolded.left, unfolded.right);
-    let advance = advance(source.hvar(), at, glyph, metric.advance, width)?;
+    let advance = advance(source.hvar(), at, glyph, metric.advance_width, width)?;
     let points = points_or_fault(
         alloc,
         unfolded.left,
