@@ -43,7 +43,7 @@ PLANTS = [
     ("a step less", STEPS, CLOSURE, "", r"docs/way\.txt has no step Closure"),
     ("steps in another order", STEPS, re.compile(r"(truetype \| Components.*\n)(truetype \| Offsets.*\n)"), r"\2\1", r"its steps aren't in the order"),
     ("a text that is too wide", STEPS, "| which glyphs |", "| which glyphs the new font has and which it hasn't |", r"^way: docs/way\.txt: Closure: too wide for its box: which glyphs the"),
-    ("a band that is too full", STEPS, re.compile(r"(request .*)\n"), r"\1 subsetter_variation/src/items/item_variations.rt\n", r"^way: docs/way\.txt: Request: too wide for its part of the band: "),
+    ("a band that is too full", STEPS, re.compile(r"(request .*)\n"), r"\1 subsetter_variation/src/items/item_variations.rt\n", r"^way: docs/way\.txt: Request: too wide for its band by "),
     ("a heading by another name", WALK, "### Closure:", "### Closures:", r"docs/WALK\.md: no step Closure$"),
     ("a step of the walk that isn't in the table", WALK, None, "\n### Hinting\n", r"docs/way\.txt has no step Hinting"),
     ("a step of the walk without its file", WALK, "(../crates/subsetter/src/loca.rt)", "(../crates/subsetter/src/lib.rt)", r"Offsets has no link to crates/subsetter/src/loca\.rt"),

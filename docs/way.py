@@ -182,15 +182,16 @@ def lines_for(step, room):
 
 
 def lines_across(step, room):
-    """The lines of a band: its title, and its files side by side."""
-    cell = room / len(step.files)
-    parts = [path.partition("/")[::2] for path in step.files]
-    wide = [text for pair in parts for text in pair if not fits(text, "path", cell - 26)]
-    if wide:
-        raise Trouble(f"{STEPS}: {step.name}: too wide for its part of the band: {', '.join(wide)}")
+    """The lines of a band: its title, and its files side by side, each as wide as it needs, with the rest of the room between them."""
+    parts = [(crate + "/", file, crate) for crate, _, file in (path.partition("/") for path in step.files)]
+    needs = [max(width_of(it, "path") for it in part[:2]) + 26 for part in parts]
+    between = (room - sum(needs)) / len(parts)
+    if between < 0:
+        raise Trouble(f"{STEPS}: {step.name}: too wide for its band by {-between * len(parts):.0f}")
+    lefts = [13 + sum(needs[:k]) + k * between for k in range(len(parts))]
     front = [(0, "title", step.name, None), (width_of(step.name + ": ", "title"), "what", step.what, None)]
-    return [front, [(13 + k * cell, "path", crate + "/", crate) for k, (crate, _) in enumerate(parts)],
-            [(13 + k * cell, "path", file, None) for k, (_, file) in enumerate(parts)]]
+    return [front, [(left, "path", above, crate) for left, (above, _, crate) in zip(lefts, parts)],
+            [(left, "path", below, None) for left, (_, below, _) in zip(lefts, parts)]]
 
 
 # ---- where all is

@@ -14,7 +14,7 @@
 mod descriptor;
 pub mod fields;
 mod laws;
-mod looks;
+pub mod looks;
 mod naming;
 mod permission;
 mod rounding;

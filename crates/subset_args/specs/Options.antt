@@ -4,15 +4,15 @@ use Rattle.std.specs.Option.{option_map, option_and_then}
 use Rattle.std.specs.Str.{bytes_eq}
 use Rattle.subsetter_words.specs.Numbers.{number_in_bits}
 use Rattle.subset_args.specs.Limits.{Bounds, limits_in}
-use Rattle.subset_args.specs.declared.options.Switch.{Switch}
-use Rattle.subset_args.specs.declared.options.Switch.TheVariants.{Widths, NoHinting, NoNames, NoGlyphNames, Json, Quiet, Verbose, Vertical}
-use Rattle.subset_args.specs.declared.options.Setting.{Setting}
-use Rattle.subset_args.specs.declared.options.Setting.TheVariants.{Limits, GidsFile, Text, At, Gids, FaceIndex, Output, TextFile, Unicodes, UnicodesFile, Pdf, Codes, Rights}
-use Rattle.subset_args.specs.declared.options.Coding.{Coding}
-use Rattle.subset_args.specs.declared.options.Coding.TheVariants.{Consecutive, Source as InSource, Text as EachText}
-use Rattle.subset_args.specs.declared.options.Kind.{Kind}
-use Rattle.subset_args.specs.declared.options.Kind.TheVariants.{Switch as IsSwitch, Setting as IsSetting, Help, Version, End, Place}
-use Rattle.subset_args.specs.declared.options.Switches.{Switches}
+use Rattle.subset_args.specs.declared.options.names.Switch.{Switch}
+use Rattle.subset_args.specs.declared.options.names.Switch.TheVariants.{Widths, NoHinting, NoNames, NoGlyphNames, Json, Quiet, Verbose, Vertical}
+use Rattle.subset_args.specs.declared.options.names.Setting.{Setting}
+use Rattle.subset_args.specs.declared.options.names.Setting.TheVariants.{Limits, GidsFile, Text, At, Gids, FaceIndex, Output, TextFile, Unicodes, UnicodesFile, Pdf, Codes, Rights}
+use Rattle.subset_args.specs.declared.options.names.Coding.{Coding}
+use Rattle.subset_args.specs.declared.options.names.Coding.TheVariants.{Consecutive, Source as InSource, Text as EachText}
+use Rattle.subset_args.specs.declared.options.names.Kind.{Kind}
+use Rattle.subset_args.specs.declared.options.names.Kind.TheVariants.{Switch as IsSwitch, Setting as IsSetting, Help, Version, End, Place}
+use Rattle.subset_args.specs.declared.options.chosen.Switches.{Switches}
 use Rattle.subset_args.specs.declared.listing.lists.FileKind.{FileKind}
 use Rattle.subset_args.specs.declared.listing.lists.FileKind.TheVariants.{Glyphs as OfGlyphs, Characters as OfCharacters, Text as OfText}
 

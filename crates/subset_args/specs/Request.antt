@@ -10,11 +10,11 @@ use Rattle.subset_args.specs.Limits.{Bounds}
 use Rattle.subset_args.specs.Listing.Lists.{FileList, every, these, characters, text_of, argument_list}
 use Rattle.subset_args.specs.Listing.Characters.{argument_characters}
 use Rattle.subset_args.specs.Options.{GlyphSource, in_file, by_text, in_list, in_codes, Choice, Free, Options, helped, versioned, chosen, no_choice, parsed, free}
-use Rattle.subset_args.specs.declared.options.Coding.TheVariants.{Consecutive}
-use Rattle.subset_args.specs.declared.options.PdfChoice.{PdfChoice}
-use Rattle.subset_args.specs.declared.options.Switches.{Switches}
-use Rattle.subset_args.specs.declared.jobs.Topic.{Topic}
-use Rattle.subset_args.specs.declared.jobs.Topic.TheVariants.{Axes, Info}
+use Rattle.subset_args.specs.declared.options.names.Coding.TheVariants.{Consecutive}
+use Rattle.subset_args.specs.declared.options.chosen.PdfChoice.{PdfChoice}
+use Rattle.subset_args.specs.declared.options.chosen.Switches.{Switches}
+use Rattle.subset_args.specs.declared.jobs.command.Topic.{Topic}
+use Rattle.subset_args.specs.declared.jobs.command.Topic.TheVariants.{Axes, Info}
 
 -- the values, if there is one at each place
 abbrev pub all_some : List (Option ℕ) → Option (List ℕ)

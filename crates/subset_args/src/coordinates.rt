@@ -7,9 +7,9 @@ ghost use Rattle.std.specs.Option.{option_map};
 ghost use Rattle.subset_args.specs.Coordinates.{decimal_of, size_in, fixed, below_zero, above_zero, with_minus, value_in, tag_in, coordinate_of, coordinate_in, coordinates_of, coordinates_in};
 ghost use Rattle.subset_args.specs.Halves.{halves, behind_digit, halves_behind, quarters};
 ghost use Rattle.std.specs.Str.{all_ascii_digits};
-ghost use Rattle.subset_args.specs.declared.jobs.ArgsError.TheVariants.{Usage, OutOfMemory};
+ghost use Rattle.subset_args.specs.declared.jobs.command.ArgsError.TheVariants.{Usage, OutOfMemory};
 
-use crate::jobs::ArgsError;
+use crate::jobs::command::ArgsError;
 use std::alloc::{AllocError, Global};
 use subsetter_base::Tag;
 use subsetter_variation::rounding::nearest;

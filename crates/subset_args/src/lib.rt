@@ -20,11 +20,15 @@ mod options;
 mod texts;
 
 pub use coordinates::read_coordinates;
-pub use jobs::{ArgsError, Command, Glyphs, Job, PdfJob, Position, Topic, is_stream, read_words};
+pub use jobs::command::{ArgsError, Command, Glyphs, Job, PdfJob, Position, Topic};
+pub use jobs::parts::is_stream;
+pub use jobs::reading::read_words;
 pub use limits::RunLimits;
 pub use listing::characters::codes_descend;
 pub use listing::files::{find_wrong, read_list};
 pub use listing::lists::{FileKind, GlyphList, descends};
-pub use mistakes::{Mistake, Wrong, find_mistake};
-pub use options::{Coding, OPTIONS, PdfChoice, Switches};
+pub use mistakes::free::find_mistake;
+pub use mistakes::mistake::{Mistake, Wrong};
+pub use options::chosen::{PdfChoice, Switches};
+pub use options::names::{Coding, OPTIONS};
 pub use texts::{Advice, CODES_WANTED, ORDER_WANTED, PARTS_WANTED, Shown};

@@ -1,6 +1,6 @@
 //! The texts of mistakes.
 
-use crate::mistakes::{Mistake, Wrong};
+use crate::mistakes::mistake::{Mistake, Wrong};
 use crate::nearest::{Remedy, remedy_of};
 use std::fmt;
 

@@ -9,8 +9,8 @@ use Rattle.subsetter_sfnt.specs.declared.face.TableRecord.{TableRecord}
 use Rattle.subset_font.specs.Faces.FaceView.{place_view}
 use Rattle.subset_font.specs.Faces.Tables.{bytes_or_none, records_in}
 use Rattle.subset_font.specs.declared.faces.face.Place.{Place}
-use Rattle.subset_font.specs.declared.refusals.hint.Hint.{Hint}
-use Rattle.subset_font.specs.declared.refusals.hint.Hint.TheVariants.{Woff, Woff2, NotFont, Empty, NoFace, NoHeader, CutDirectory, Cut, NoTable}
+use Rattle.subset_font.specs.declared.refusals.hint.text.Hint.{Hint}
+use Rattle.subset_font.specs.declared.refusals.hint.text.Hint.TheVariants.{Woff, Woff2, NotFont, Empty, NoFace, NoHeader, CutDirectory, Cut, NoTable}
 
 -- the first that is there
 abbrev pub or_else : Option Hint → Option Hint → Option Hint

@@ -7,8 +7,8 @@ use Rattle.subsetter_base.specs.declared.error.Error.TheVariants.{UnknownKind, M
 use Rattle.subsetter_base.specs.declared.tag.Tag.{Tag}
 use Rattle.subsetter_sfnt.specs.Extras.{all_extras}
 use Rattle.subsetter_sfnt.specs.Read.{Font, find_record, records, stored}
-use Rattle.subset_lines.specs.declared.faces.info.Outlines.{Outlines}
-use Rattle.subset_lines.specs.declared.faces.info.Outlines.TheVariants.{TrueType, Cff, Cff2 as HasCff2, Missing}
+use Rattle.subset_lines.specs.declared.faces.info.face.Outlines.{Outlines}
+use Rattle.subset_lines.specs.declared.faces.info.face.Outlines.TheVariants.{TrueType, Cff, Cff2 as HasCff2, Missing}
 use Rattle.subset_font.specs.Making.Requested.{face_glyphs}
 use Rattle.subset_font.specs.Faces.Broken.{or_else, no_font, cut_table, missing_table}
 use Rattle.subset_font.specs.Faces.Info.{outlines_of}
@@ -23,8 +23,8 @@ use Rattle.pdf_values.specs.Permission.{is_usable}
 use Rattle.pdf_values.specs.declared.permission.Permission.{Permission}
 use Rattle.subset_font.specs.declared.refusals.failure.Failure.{Failure}
 use Rattle.subset_font.specs.declared.refusals.failure.Failure.TheVariants.{Error, NoMapping, NoInstance, NotPermitted, Usage, List as WrongList, Read, ReadList, Write, WritePdf, Output}
-use Rattle.subset_font.specs.declared.refusals.hint.Hint.{Hint}
-use Rattle.subset_font.specs.declared.refusals.hint.Hint.TheVariants.{NoGlyph, NoEntries, Descends, Outside, Cff2, NoUnicode, WrongAxes, NoAxes, NoOutlines, NoMetrics, FewMetrics, Forbidden}
+use Rattle.subset_font.specs.declared.refusals.hint.text.Hint.{Hint}
+use Rattle.subset_font.specs.declared.refusals.hint.text.Hint.TheVariants.{NoGlyph, NoEntries, Descends, Outside, Cff2, NoUnicode, WrongAxes, NoAxes, NoOutlines, NoMetrics, FewMetrics, Forbidden}
 
 -- the first of the glyphs that a face of so many doesn't have
 abbrev pub first_past : ℕ → List ℕ → Option ℕ

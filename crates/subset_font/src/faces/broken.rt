@@ -7,7 +7,7 @@ ghost use Rattle.subset_font.specs.Faces.Tables.{records_in};
 
 use crate::faces::face::{Place, place_of};
 use crate::faces::tables::directory_of;
-use crate::refusals::hint::Hint;
+use crate::refusals::hint::text::Hint;
 use subsetter::Tag;
 use subsetter_base::read::Reader;
 use subsetter_sfnt::directory::{find_record, header_offset, kind_at, records};

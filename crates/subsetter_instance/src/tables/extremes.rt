@@ -1,25 +1,12 @@
 //! The extremes of the glyphs that are drawn (OpenType, "head" and "hhea").
 
 ghost use Rattle.std.specs.Prelude.{◌≡◌, ◌++◌, ◌-ℤ◌, OnOk, pos};
-ghost use Rattle.subsetter_instance.specs.Tables.Extremes.{with_point, box_around, extents_of, glyph_extents, both, joined, all_extents, widest, box_bytes, saturated, side_bytes, extreme_bytes};
+ghost use Rattle.subsetter_instance.specs.Tables.Extremes.{extents_of, glyph_extents, both, joined, all_extents, widest, box_bytes, saturated, side_bytes, extreme_bytes};
 
 use crate::glyphs::drawn::Drawn;
 use std::alloc::AllocError;
 use subsetter_base::compare::{larger, smaller};
-use subsetter_points::Point;
-
-/// A box around points.
-#[derive(Clone, Copy)]
-pub struct Bounds {
-    /// The left side.
-    pub x_min: i16,
-    /// The lower side.
-    pub y_min: i16,
-    /// The right side.
-    pub x_max: i16,
-    /// The upper side.
-    pub y_max: i16,
-}
+use subsetter_points::{Bounds, Point, box_around, write_bounds};
 
 /// The extents of a glyph with contours, or of several.
 #[derive(Clone, Copy)]
@@ -28,34 +15,6 @@ pub struct Extents {
     pub bounds: Bounds,
     /// The least right side bearing, at most 32767.
     pub right: i16,
-}
-
-/// The least box around a box and a point.
-fn with_point(bounds: Bounds, point: Point) -> Bounds
-    ensures { result ≡ with_point bounds point }
-{
-    Bounds {
-        x_min: smaller(bounds.x_min, point.x),
-        y_min: smaller(bounds.y_min, point.y),
-        x_max: larger(bounds.x_max, point.x),
-        y_max: larger(bounds.y_max, point.y),
-    }
-}
-
-/// The least box around a point and others.
-fn box_around(first: Point, rest: &[Point]) -> Bounds
-    ensures { result ≡ box_around first rest.now }
-{
-    let mut bounds = Bounds {
-        x_min: first.x,
-        y_min: first.y,
-        x_max: first.x,
-        y_max: first.y,
-    };
-    for point in rest {
-        bounds = with_point(bounds, *point);
-    }
-    bounds
 }
 
 /// The right side bearing of a glyph, by its advance and its greatest x: 32767 where it is greater.
@@ -142,13 +101,7 @@ pub fn write_box(out: &mut Vec<u8>, extents: Option<Extents>) -> Result<(), Allo
 {
     match extents {
         None => out.extend_from_slice(&[0; 8]),
-        Some(e) => {
-            let [a, b] = e.bounds.x_min.to_be_bytes();
-            let [c, d] = e.bounds.y_min.to_be_bytes();
-            let [f, g] = e.bounds.x_max.to_be_bytes();
-            let [h, i] = e.bounds.y_max.to_be_bytes();
-            out.extend_from_slice(&[a, b, c, d, f, g, h, i])
-        }
+        Some(e) => write_bounds(out, e.bounds),
     }
 }
 

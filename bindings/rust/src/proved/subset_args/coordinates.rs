@@ -5,7 +5,7 @@
 
 use crate::rattle::prelude::Vec;
 
-use crate::proved::subset_args::jobs::ArgsError;
+use crate::proved::subset_args::jobs::command::ArgsError;
 use crate::proved::subsetter_base::Tag;
 use crate::proved::subsetter_variation::rounding::nearest;
 use crate::proved::subsetter_words::{parts_of, u16_of};

@@ -5,21 +5,8 @@ use crate::rattle::prelude::Vec;
 
 use crate::proved::subsetter_base::compare::{larger, smaller};
 use crate::proved::subsetter_instance::glyphs::drawn::Drawn;
-use crate::proved::subsetter_points::Point;
+use crate::proved::subsetter_points::{box_around, write_bounds, Bounds, Point};
 use crate::rattle::alloc::AllocError;
-
-/// A box around points.
-#[derive(Clone, Copy)]
-pub struct Bounds {
-    /// The left side.
-    pub x_min: i16,
-    /// The lower side.
-    pub y_min: i16,
-    /// The right side.
-    pub x_max: i16,
-    /// The upper side.
-    pub y_max: i16,
-}
 
 /// The extents of a glyph with contours, or of several.
 #[derive(Clone, Copy)]
@@ -28,30 +15,6 @@ pub struct Extents {
     pub bounds: Bounds,
     /// The least right side bearing, at most 32767.
     pub right: i16,
-}
-
-/// The least box around a box and a point.
-fn with_point(bounds: Bounds, point: Point) -> Bounds {
-    Bounds {
-        x_min: smaller(bounds.x_min, point.x),
-        y_min: smaller(bounds.y_min, point.y),
-        x_max: larger(bounds.x_max, point.x),
-        y_max: larger(bounds.y_max, point.y),
-    }
-}
-
-/// The least box around a point and others.
-fn box_around(first: Point, rest: &[Point]) -> Bounds {
-    let mut bounds = Bounds {
-        x_min: first.x,
-        y_min: first.y,
-        x_max: first.x,
-        y_max: first.y,
-    };
-    for point in rest {
-        bounds = with_point(bounds, *point);
-    }
-    bounds
 }
 
 /// The right side bearing of a glyph, by its advance and its greatest x: 32767 where it is greater.
@@ -126,13 +89,7 @@ fn widest(drawn: &[Drawn]) -> u16 {
 pub fn write_box(out: &mut Vec<u8>, extents: Option<Extents>) -> Result<(), AllocError> {
     match extents {
         None => out.extend_from_slice(&[0; 8]),
-        Some(e) => {
-            let [a, b] = e.bounds.x_min.to_be_bytes();
-            let [c, d] = e.bounds.y_min.to_be_bytes();
-            let [f, g] = e.bounds.x_max.to_be_bytes();
-            let [h, i] = e.bounds.y_max.to_be_bytes();
-            out.extend_from_slice(&[a, b, c, d, f, g, h, i])
-        }
+        Some(e) => write_bounds(out, e.bounds),
     }
 }
 
