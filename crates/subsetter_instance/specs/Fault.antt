@@ -32,7 +32,7 @@ pub data HasGlyphFault (s : Source) (at : List ℤ) (steps g : ℕ) : Error → 
   -- its description, its variations, or a component's
   in_walk : {e : Error} → HasWalkFault s at levels steps g e → HasGlyphFault s at steps g e
   -- its advance
-  in_advance : {e : Error} (m : LongHorMetric) (u : Unfolded × ℕ) → metric s g ≡ Some m → unfolded levels s at steps g ≡ Ok u → HasAdvanceFault s.hvar at g m.advance (u.0.right -ℤ u.0.left) e → HasGlyphFault s at steps g e
+  in_advance : {e : Error} (m : LongHorMetric) (u : Unfolded × ℕ) → metric s g ≡ Some m → unfolded levels s at steps g ≡ Ok u → HasAdvanceFault s.hvar at g m.advance_width (u.0.right -ℤ u.0.left) e → HasGlyphFault s at steps g e
   -- a rounded coordinate has no 16 bits
   far_point : (u : Unfolded × ℕ) → unfolded levels s at steps g ≡ Ok u → HasFarPoint u.0.left u.0.on u.0.xs u.0.ys → HasGlyphFault s at steps g OverflowError
   -- a delta between neighbours has no 16 bits, or there are too many points or contours

@@ -1,4 +1,4 @@
--- How far a part of the design space counts at a place (OpenType, "OpenType Font Variations Overview").
+-- How far a part of the design space counts at a location (OpenType, "OpenType Font Variations Overview").
 use Rattle.std.specs.Prelude.{Bool, ◌||◌, ◌&&◌, List, [], ◌∷◌, int_lt, int_le, if◌then◌else◌, ℤ, pos, ◌-ℤ◌, unsigned_abs}
 use Rattle.std.specs.Ordering.{int_eq}
 use Rattle.subsetter_variation.specs.Nearest.{part}
@@ -8,7 +8,7 @@ use Rattle.subsetter_variation.specs.declared.region.RegionAxis.{RegionAxis}
 abbrev pub unit : ℤ
 unit = pos 1073741824
 
--- the axis is passed over: its peak is the default, its ends don't surround the peak, or they lie on both sides of the default
+-- the axis is passed over: its peak is the default, its ends don't surround the peak, or they are on both sides of the default
 abbrev pub is_ignored : RegionAxis → Bool
 is_ignored t = int_eq t.peak (pos 0) || int_lt t.peak t.start || int_lt t.end t.peak || (int_lt t.start (pos 0) && int_lt (pos 0) t.end)
 
@@ -16,7 +16,7 @@ is_ignored t = int_eq t.peak (pos 0) || int_lt t.peak t.start || int_lt t.end t.
 unfoldable pub proportion : ℤ → ℤ → ℤ → ℤ → ℤ
 proportion end peak at whole = part (pos (unsigned_abs (at -ℤ end))) (unsigned_abs (peak -ℤ end)) whole
 
--- what of a whole counts at a place on the axis: all at the peak, nothing at the ends and beyond, and between them in proportion
+-- what of a whole counts at a location on the axis: all at the peak, nothing at the ends and beyond, and between them in proportion
 unfoldable pub counted : RegionAxis → ℤ → ℤ → ℤ
 counted t at whole =
     if is_ignored t then whole

@@ -20,7 +20,7 @@ fn is_ignored(t: RegionAxis) -> bool
     t.peak == 0 || t.peak < t.start || t.end < t.peak || (t.start < 0 && 0 < t.end)
 }
 
-/// Of a whole as great a part as a place has passed of the way from an end to the peak.
+/// Of a whole as great a part as a coordinate has passed of the distance from an end to the peak.
 fn proportion(end: i16, peak: i16, at: i32, whole: i64) -> i64
     requires apart { 0 < unsigned_abs (peak -ℤ end) }
     requires between { unsigned_abs (at -ℤ end) ≤ unsigned_abs (peak -ℤ end) }
@@ -35,7 +35,7 @@ fn proportion(end: i16, peak: i16, at: i32, whole: i64) -> i64
     part(passed, way, whole)
 }
 
-/// What of a whole counts at a place on the axis.
+/// What of a whole counts at a coordinate on the axis.
 #[tactic(auto, unfolding(crate::specs::Region::counted))]
 pub(crate) fn counted(t: RegionAxis, at: i32, whole: i64) -> i64
     requires not_negative { pos 0 ≤ℤ whole }

@@ -4,7 +4,7 @@ use crate::instances::answer::{Answer, list, lists, one};
 use crate::instances::words::{coordinates, count, glyph, number, numbers, settings};
 use dev_base::failure::Failure;
 use std::alloc::Global;
-use subsetter_variation::items::item_variations::advance_delta;
+use subsetter_variation::items::advances::advance_delta;
 use subsetter_variation::locations::{axes, coordinates as normalized};
 use subsetter_variation::packing::packed;
 use subsetter_variation::region::{RegionAxis, scalar};

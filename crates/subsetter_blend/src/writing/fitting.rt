@@ -67,7 +67,7 @@ fn begins(operator: OperatorType) -> bool
     }
 }
 
-/// The operator may stand here.
+/// The operator may be here.
 fn may_begin(advance: Option<i16>, operator: OperatorType) -> bool
     ensures { result ≡ may_begin advance operator }
 {
@@ -116,7 +116,7 @@ fn append_event(
     Ok(())
 }
 
-/// The place that an operator begins at.
+/// The position that an operator begins at.
 fn start_point(hint: bool, at: Position) -> Position
     requires { IsPosition at }
     ensures value { result ≡ start_point hint at }
@@ -125,7 +125,7 @@ fn start_point(hint: bool, at: Position) -> Position
     if hint { Position { x: 0, y: 0 } } else { at }
 }
 
-/// The place behind an operator.
+/// The position behind an operator.
 fn end_point(hint: bool, old: Position, new: Position) -> Position
     requires old { IsPosition old }
     requires new { IsPosition new }
@@ -147,7 +147,7 @@ impl Fitting {
         }
     }
 
-    /// How many numbers stand in front of the next operands.
+    /// How many numbers are in front of the next operands.
     fn front(&self) -> usize
         ensures value { result ≡ length (width self.now.pen.advance) }
         ensures few { result ≤ 1 }

@@ -51,7 +51,7 @@ impl IntegerNumber {
         }
     }
 
-    /// 32 to 246 stand for themselves less 139; 247 to 254 have one more byte.
+    /// 32 to 246 mean themselves less 139; 247 to 254 have one more byte.
     #[tactic(auto, unfolding(crate::specs::Numerals::Numbers::short_integer))]
     fn parse_short(b0: u8, r: &mut Reader<'_>) -> Option<IntegerNumber>
         ensures value { Takes (λ x. x.0) result r.old r.new (short_integer b0) }

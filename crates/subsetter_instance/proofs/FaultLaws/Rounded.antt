@@ -9,7 +9,8 @@ use Rattle.subsetter_base.proofs.Results.{done, failed_is, bind_err}
 use Rattle.subsetter_points.specs.declared.outline.Point.{Point}
 use Rattle.subsetter_points.specs.Simple.{has_16_bits}
 use Rattle.subsetter_variation.specs.Nearest.{nearest}
-use Rattle.subsetter_variation.specs.Items.ItemVariations.{advance_delta, in_whole_units, whole_or_fault}
+use Rattle.subsetter_variation.specs.Items.ItemVariations.{in_whole_units, whole_or_fault}
+use Rattle.subsetter_variation.specs.Items.Advances.{advance_delta}
 use Rattle.subsetter_variation.proofs.GlyphsLaws.GvarFaults.{behind, behind_error}
 use Rattle.subsetter_instance.specs.Glyphs.Drawn.{advance, advance_or_fault, point_or_fault, points_or_fault, whole}
 use Rattle.subsetter_instance.proofs.FaultLaws.ItemLaws.Hvar.{hvar_refused, hvar_clean}

@@ -78,14 +78,14 @@ abbrev pub x_min : List ℕ → ℤ
 x_min bytes = signed_or_zero (number bytes 2 2)
 
 abbrev pub left_side : List ℕ → LongHorMetric → ℤ
-left_side bytes m = x_min bytes -ℤ cast_signed w16 m.bearing
+left_side bytes m = x_min bytes -ℤ cast_signed w16 m.lsb
 
 -- the left phantom point, and the right one, which is an advance from it: of the default, and moved as the first two of the points behind n
 abbrev pub left_point : List ℕ → LongHorMetric → ℕ → List ℤ → ℤ
 left_point bytes m n xs = pos (2 ^ 30) *ℤ left_side bytes m +ℤ slice_index_or xs n (pos 0)
 
 abbrev pub right_point : List ℕ → LongHorMetric → ℕ → List ℤ → ℤ
-right_point bytes m n xs = pos (2 ^ 30) *ℤ (left_side bytes m +ℤ pos m.advance) +ℤ slice_index_or xs (n + 1) (pos 0)
+right_point bytes m n xs = pos (2 ^ 30) *ℤ (left_side bytes m +ℤ pos m.advance_width) +ℤ slice_index_or xs (n + 1) (pos 0)
 
 -- ---- a simple glyph
 

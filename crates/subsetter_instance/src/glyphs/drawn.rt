@@ -17,7 +17,7 @@ use std::marker::Model;
 use subsetter_base::{Error, GlyphRemapper};
 use subsetter_points::{Outline, Point, fits, least_x};
 use subsetter_sfnt::fields::hmtx::LongHorMetric;
-use subsetter_variation::items::item_variations::advance_delta;
+use subsetter_variation::items::advances::advance_delta;
 
 /// The unit of unfolded coordinates.
 const UNIT: u64 = 1 << 30;
@@ -193,7 +193,7 @@ fn rounded(
     ensures { Gives (λ d. d) result (rounded source.now at.now glyph metric unfolded) }
 {
     let width = distance(unfolded.left, unfolded.right);
-    let advance = advance(source.hvar(), at, glyph, metric.advance, width)?;
+    let advance = advance(source.hvar(), at, glyph, metric.advance_width, width)?;
     let points = points_or_fault(
         alloc,
         unfolded.left,

@@ -36,7 +36,7 @@ fn left_side(bytes: &[u8], metric: LongHorMetric) -> i32
     ensures value { result ≡ left_side bytes.now metric }
     ensures bound { unsigned_abs result ≤ 2 ^ 16 }
 {
-    i32::from(x_min(bytes)) - i32::from(metric.bearing.cast_signed())
+    i32::from(x_min(bytes)) - i32::from(metric.lsb.cast_signed())
 }
 
 /// Whole units in parts of 2^30.
@@ -71,10 +71,10 @@ pub fn left_point(bytes: &[u8], metric: LongHorMetric, n: usize, xs: &[i64]) -> 
 
 /// Where the right side of the default lies.
 fn right_side(bytes: &[u8], metric: LongHorMetric) -> i32
-    ensures value { result ≡ left_side bytes.now metric +ℤ pos metric.advance }
+    ensures value { result ≡ left_side bytes.now metric +ℤ pos metric.advance_width }
     ensures bound { unsigned_abs result ≤ 2 ^ 18 }
 {
-    left_side(bytes, metric) + i32::from(metric.advance)
+    left_side(bytes, metric) + i32::from(metric.advance_width)
 }
 
 /// x of the right phantom point behind n points.

@@ -9,7 +9,7 @@ use Rattle.subsetter_variation.specs.Locations.Axes.{default_normalized, user_co
 use Rattle.subsetter_variation.specs.Locations.Coordinates.{coordinate}
 use Rattle.subsetter_variation.specs.Nearest.{nearest, part}
 use Rattle.subsetter_variation.specs.Locations.Segments.{ascends, ascends_from, by_segments, fine, follows, is_on, is_segment_map, keeps, mapped, mapped_from, on_segment, passed}
-use Rattle.subsetter_variation.specs.Locations.LocationLaws.{IsDefaultAtZero, IsGreatestAtOne, IsKept, IsLeastAtMinusOne}
+use Rattle.subsetter_variation.specs.Locations.LocationLaws.{IsDefaultAtZero, IsGreatestAtOne, IsMappedToItself, IsLeastAtMinusOne}
 use Rattle.subsetter_variation.specs.declared.locations.axes.Axis.{Axis}
 use Rattle.subsetter_variation.specs.declared.locations.segments.AxisValueMap.{AxisValueMap}
 use Rattle.subsetter_variation.proofs.GlyphsLaws.Turning.{nearest_zero}
@@ -107,7 +107,7 @@ kept_by : (z : ℤ) (ends : List AxisValueMap) → ascends ends ≡ true → kee
 kept_by z [] up h = refl
 kept_by z (p ∷ ends) up h = kept_from z p ends up h
 
-pub is_kept : IsKept
+pub is_kept : IsMappedToItself
 is_kept ends z h = by (is_segment_map ends) refl
   where
     by : (b : Bool) → is_segment_map ends ≡ b → cond b (by_segments ends (fine z)) (fine z) ≡ fine z

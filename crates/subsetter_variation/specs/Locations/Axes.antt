@@ -1,4 +1,4 @@
--- The axes of a variable font (OpenType, "fvar"), and where a coordinate lies on one. Coordinates are in 65536ths.
+-- The axes of a variable font (OpenType, "fvar"), and where a coordinate is on one. Coordinates are in 65536ths.
 use Rattle.std.specs.Prelude.{ℕ, zero, suc, ◌+◌, List, [], ◌∷◌, take, find, Option, Some, None, nat_lt, int_lt, int_le, if◌then◌else◌, ℤ, pos, neg_ℤ, ◌-ℤ◌, unsigned_abs}
 use Rattle.std.specs.Str.{bytes_eq}
 use Rattle.subsetter_base.specs.Bytes.{range, number, long_signed_at}

@@ -30,15 +30,15 @@ fine z = pos 4 *ℤ z
 unfoldable pub passed : ℤ → ℤ → ℤ → ℤ → ℤ
 passed from to n whole = part (n -ℤ from) (unsigned_abs (to -ℤ from)) whole
 
--- a number that lies between two ends, at the same part of the way between their new numbers
+-- a number that is between two ends, at the same part of the way between their new numbers
 unfoldable pub on_segment : AxisValueMap → AxisValueMap → ℤ → ℤ
 on_segment p q n = fine p.to +ℤ passed (fine p.from) (fine q.from) n (fine q.to -ℤ fine p.to)
 
--- the number lies between two ends, and not on the second
+-- the number is between two ends, and not on the second
 abbrev pub is_on : AxisValueMap → AxisValueMap → ℤ → Bool
 is_on p q n = int_le (fine p.from) n && int_lt n (fine q.from)
 
--- by the first segment in which the number lies; one that lies in none stays
+-- by the first segment in which the number lies; one that is in none stays
 abbrev pub mapped_from : AxisValueMap → List AxisValueMap → ℤ → ℤ
 mapped_from p [] n = n
 mapped_from p (q ∷ ends) n = if is_on p q n then on_segment p q n else mapped_from q ends n

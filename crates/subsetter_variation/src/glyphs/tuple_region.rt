@@ -104,7 +104,7 @@ pub(crate) fn tuple_region<'a>(
     }
 }
 
-/// The scalar at a place of a region without ends of its own. The axes behind one that makes it 0 aren't read.
+/// The scalar at a location of a region without ends of its own. The axes behind one that makes it 0 aren't read.
 #[tactic(auto, using(crate::proofs::Regions::scalar_step, crate::proofs::Regions::scalar_end))]
 fn plain_scalar(peaks: &[u8], at: &[i32]) -> i64
     requires { length peaks.now ≡ tuple_size (length at.now) }

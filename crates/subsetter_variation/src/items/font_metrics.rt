@@ -1,6 +1,6 @@
 //! Metrics of a whole font that vary (OpenType, "MVAR").
 //!
-//! The records are looked through in turn, and the first one with a tag counts. A metric without a record doesn't vary, and a
+//! The records are searched in order, and the first one with a tag counts. A metric without a record doesn't vary, and a
 //! table without records needs no store. The version has to be 1.
 
 ghost use Rattle.std.specs.Prelude.{◌≡◌, ◌≤◌, bytes_eq, length, take};
@@ -91,7 +91,7 @@ fn value_delta(mvar: &[u8], at: &[i32], indexes: Option<(u16, u16)>) -> Option<i
     }
 }
 
-/// What the metric of a tag varies by at a place, in parts of 2^30.
+/// What the metric of a tag varies by at a location, in parts of 2^30.
 #[tactic(auto, unfolding(crate::specs::Items::FontMetrics::metric_delta))]
 fn varied_metric(mvar: &[u8], at: &[i32], tag: Tag) -> Option<i128>
     ensures { result ≡ metric_delta mvar.now at.now tag.0 }

@@ -1,28 +1,25 @@
-//! Item variation stores, and the advances of `HVAR` (OpenType, "Item Variation Store" and "HVAR").
+//! Item variation stores (OpenType, "Item Variation Store").
 //!
-//! An item, a region or item variation data that aren't there have no reading, nor has a map of indexes without entries
-//! (FreeType and HarfBuzz take 0 there). The indexes 0xFFFF, 0xFFFF are 0, as OpenType says; an offset of 0 is no
-//! table. The sum of an item's deltas is taken in 128 bits, as 65,535 long words don't fit 64; where an advance changes
-//! by 2^32 units or more the answer is `OverflowError`. The version of the store has to be 1, that of `HVAR` isn't
-//! looked at.
+//! An item, a region or item variation data that aren't there have no reading (FreeType and HarfBuzz take 0 there). The
+//! indexes 0xFFFF, 0xFFFF are 0, as OpenType says; an offset of 0 is no table. The sum of an item's deltas is taken in
+//! 128 bits, as 65,535 long words don't fit 64; where what varies changes by 2^32 units or more the answer is
+//! `OverflowError`. The version of the store has to be 1.
 
 ghost use Rattle.std.specs.Prelude.{[], ◌∷◌, MatchOption, ◌≡◌, ◌+◌, ◌*◌, ◌<◌, ◌≤◌, ◌^◌, Some, IfSome, length, pos, ◌*ℤ◌, ◌≤ℤ◌, unsigned_abs};
-ghost use Rattle.std.specs.Option.{ok_or, option_copied};
+ghost use Rattle.std.specs.Option.{option_copied};
 ghost use Rattle.subsetter_base.specs.Bytes.{signed_at};
-ghost use Rattle.subsetter_base.specs.declared.error.Error.TheVariants.{MalformedFont};
 ghost use Rattle.subsetter_variation.specs.Region.{scalar};
-ghost use Rattle.subsetter_variation.specs.Items.ItemVariations.{offset_at, item_store, region_axis_in, region_items, region_of, data_offset, data_regions, row_size, row_at, row_in, item_row, word_delta, byte_delta, delta, term, terms, item_delta, map_head, split_index, mapped_index, advance_index, store_of, advance_delta, in_whole_units, whole_or_fault, entry_index};
+ghost use Rattle.subsetter_variation.specs.Items.ItemVariations.{nullable_offset, item_store, region_axis_in, region_items, region_of, data_offset, data_regions, row_size, row_at, row_in, item_row, word_delta, byte_delta, delta, term, terms, item_delta, in_whole_units};
 
 use crate::region::{RegionAxis, counted};
 use crate::rounding::{nearest, scaled, wide_plus};
 use std::marker::Model;
 use subsetter_base::Error;
-use subsetter_base::numbers::number_of;
-use subsetter_base::read::{LazyArray16, Readable, Reader, from_offset, signed_at};
+use subsetter_base::read::{LazyArray16, Readable, Reader, signed_at};
 
 /// An offset of 32 bits, unless it is 0, which stands for no table.
-fn offset_at(bytes: &[u8], at: usize) -> Option<u32>
-    ensures { result ≡ offset_at bytes.now at }
+pub(crate) fn nullable_offset(bytes: &[u8], at: usize) -> Option<u32>
+    ensures { result ≡ nullable_offset bytes.now at }
 {
     let offset = Reader::new_at(bytes, at).read::<u32>()?;
     if offset == 0 { None } else { Some(offset) }
@@ -109,7 +106,7 @@ pub fn item_store(bytes: &[u8]) -> Option<Store<'_>>
     ensures { result ≡ item_store bytes.now }
 {
     let format = Reader::new(bytes).read::<u16>()?;
-    let at = offset_at(bytes, 2)? as usize;
+    let at = nullable_offset(bytes, 2)? as usize;
     let axis_count = Reader::new_at(bytes, at).read::<u16>()?;
     let region_count = Reader::new_at(bytes, at + 2).read::<u16>()?;
     let size = (region_count as usize).saturating_mul(axis_count as usize * 6);
@@ -196,7 +193,7 @@ fn row_at(
     })
 }
 
-/// The row of an item, by the place of its data.
+/// The row of an item, by the offset of its data.
 #[tactic(auto, unfolding(crate::specs::Items::ItemVariations::row_in))]
 fn row_in(bytes: &[u8], at: usize, inner: u32) -> Option<Row<'_>>
     requires { at < 2 ^ 32 }
@@ -221,11 +218,11 @@ fn item_row<'a>(s: &Store<'a>, outer: u32, inner: u32) -> Option<Row<'a>>
     if outer >= u32::from(data_count) {
         return None;
     }
-    let at = offset_at(s.bytes, 8 + outer as usize * 4)?;
+    let at = nullable_offset(s.bytes, 8 + outer as usize * 4)?;
     row_in(s.bytes, at as usize, inner)
 }
 
-/// Where item variation data stand in the store.
+/// The offset of item variation data in the store.
 fn data_offset(s: &Store<'_>, outer: u32) -> Option<u32>
     ensures value { result ≡ data_offset s.now outer }
     ensures few { IfSome result (λ _. outer < 65536) }
@@ -234,7 +231,7 @@ fn data_offset(s: &Store<'_>, outer: u32) -> Option<u32>
     if outer >= u32::from(data_count) {
         return None;
     }
-    offset_at(s.bytes, 8 + outer as usize * 4)
+    nullable_offset(s.bytes, 8 + outer as usize * 4)
 }
 
 /// The bytes that spell the indexes of the regions of item variation data, two for each.
@@ -333,91 +330,6 @@ pub fn item_delta(s: &Store<'_>, at: &[i32], outer: u32, inner: u32) -> Option<i
     terms(s, at, &item_row(s, outer, inner)?)
 }
 
-/// How many entries a map of indexes has, and where they stand.
-fn map_head(map: &[u8]) -> Option<(u32, usize)>
-    ensures value { result ≡ map_head map.now }
-    ensures offset { IfSome result (λ h. h.1 ≤ 6) }
-{
-    match Reader::new(map).read::<u8>()? {
-        0 => Some((u32::from(Reader::new_at(map, 2).read::<u16>()?), 4)),
-        1 => Some((Reader::new_at(map, 2).read::<u32>()?, 6)),
-        _ => None,
-    }
-}
-
-/// An entry's outer and inner index.
-fn split_index(bits: u8, entry: u32) -> (u32, u32)
-    requires { bits ≤ 16 }
-    ensures { result ≡ split_index bits entry }
-{
-    (entry >> bits, entry % (1 << bits))
-}
-
-/// The entry of a glyph, past the end the last one.
-fn entry_index(count: u32, glyph: u16) -> u32
-    requires { 0 < count }
-    ensures value { result ≡ entry_index count glyph }
-    ensures bound { result < 65536 }
-{
-    if u32::from(glyph) < count {
-        u32::from(glyph)
-    } else {
-        count - 1
-    }
-}
-
-/// The indexes of a glyph by a map, past the end the last ones.
-#[tactic(auto, unfolding(crate::specs::Items::ItemVariations::mapped_index))]
-fn mapped_index(map: &[u8], glyph: u16) -> Option<(u32, u32)>
-    ensures { result ≡ mapped_index map.now glyph }
-{
-    let (count, from) = map_head(map)?;
-    let form = Reader::new_at(map, 1).read::<u8>()?;
-    if count == 0 {
-        return None;
-    }
-    let size = (form / 16 % 4 + 1) as usize;
-    let place = entry_index(count, glyph);
-    let bytes = Reader::new_at(map, from + place as usize * size).read_bytes(size)?;
-    Some(split_index(form % 16 + 1, number_of(bytes)))
-}
-
-/// The indexes of a glyph's advance.
-#[tactic(auto, unfolding(crate::specs::Items::ItemVariations::advance_index))]
-fn advance_index(hvar: &[u8], glyph: u16) -> Option<(u32, u32)>
-    ensures { result ≡ advance_index hvar.now glyph }
-{
-    let at = Reader::new_at(hvar, 8).read::<u32>()?;
-    if at == 0 {
-        return Some((0, u32::from(glyph)));
-    }
-    mapped_index(from_offset(hvar, at as usize)?, glyph)
-}
-
-/// The store of `HVAR`, if its regions have as many axes as the font.
-#[tactic(auto, unfolding(crate::specs::Items::ItemVariations::store_of))]
-fn store_of(hvar: &[u8], axis_count: usize) -> Option<Store<'_>>
-    ensures { result ≡ store_of hvar.now axis_count }
-{
-    let at = offset_at(hvar, 4)?;
-    let s = item_store(from_offset(hvar, at as usize)?)?;
-    if s.axis_count as usize == axis_count {
-        Some(s)
-    } else {
-        None
-    }
-}
-
-/// What the advance of a glyph varies by at a place, in parts of 2^30.
-#[tactic(auto, unfolding(crate::specs::Items::ItemVariations::advance_delta))]
-fn varied_advance(hvar: &[u8], at: &[i32], glyph: u16) -> Option<i128>
-    ensures { result ≡ advance_delta hvar.now at.now glyph }
-{
-    let s = store_of(hvar, at.len())?;
-    let (outer, inner) = advance_index(hvar, glyph)?;
-    item_delta(&s, at, outer, inner)
-}
-
 /// Parts of 2^30 as whole units, unless there are too many.
 pub(crate) fn in_whole_units(d: i128) -> Result<i64, Error>
     ensures { result ≡ in_whole_units d }
@@ -427,12 +339,4 @@ pub(crate) fn in_whole_units(d: i128) -> Result<i64, Error>
     } else {
         Err(Error::OverflowError)
     }
-}
-
-/// What the advance of a glyph varies by at a location, in whole units. A table that is cut, or has no item for the glyph, is
-/// `MalformedFont`, 2^32 units or more `OverflowError`.
-pub fn advance_delta(hvar: &[u8], at: &[i32], glyph: u16) -> Result<i64, Error>
-    ensures { result ≡ whole_or_fault (advance_delta hvar.now at.now glyph) }
-{
-    in_whole_units(varied_advance(hvar, at, glyph).ok_or(Error::MalformedFont)?)
 }

@@ -1,6 +1,6 @@
 //! The axes of a variable font (OpenType, "fvar").
 //!
-//! An axis whose least coordinate lies above its default, which OpenType doesn't allow, has nothing below its default.
+//! An axis whose least coordinate is above its default, which OpenType doesn't allow, has nothing below its default.
 
 ghost use Rattle.std.specs.Prelude.{◌≡◌, ◌<◌, ◌≤◌, ◌-ℤ◌, ◌<ℤ◌, length, unsigned_abs};
 ghost use Rattle.std.specs.Option.{ok_or};
@@ -112,7 +112,7 @@ fn toward(end: i32, default: i32, coordinate: i32) -> i64
     )
 }
 
-/// The place of a coordinate below the default.
+/// The normalized coordinate of one below the default.
 fn below_default(axis: &Axis, coordinate: i32) -> i64
     requires { coordinate <ℤ axis.now.default }
     ensures value { result ≡ below_default axis.now coordinate }
@@ -127,7 +127,7 @@ fn below_default(axis: &Axis, coordinate: i32) -> i64
     }
 }
 
-/// The place of a coordinate above the default.
+/// The normalized coordinate of one above the default.
 fn above_default(axis: &Axis, coordinate: i32) -> i64
     requires { axis.now.default <ℤ coordinate }
     ensures value { result ≡ above_default axis.now coordinate }
@@ -142,7 +142,7 @@ fn above_default(axis: &Axis, coordinate: i32) -> i64
     }
 }
 
-/// The place of a user coordinate on an axis: from -65536 at its least one to 65536 at its greatest one.
+/// The normalized coordinate of a user coordinate on an axis: from -65536 at its least one to 65536 at its greatest one.
 #[tactic(auto, unfolding(crate::specs::Locations::Axes::default_normalized))]
 pub fn default_normalized(axis: &Axis, coordinate: i32) -> i64
     ensures value { result ≡ default_normalized axis.now coordinate }

@@ -1,7 +1,7 @@
 //! The coordinates of an instance on the axes of its font.
 //!
-//! A user coordinate is clamped to its axis first, goes to 16.16, through `avar` in 16.16, and then to F2Dot14, each
-//! rounded by `nearest`. Below the default of an axis that has nothing below it the place is 0, as in HarfBuzz and
+//! A user coordinate is clamped to its axis first, normalized in 16.16, mapped by `avar` in 16.16, and then in F2Dot14, each
+//! rounded by `nearest`. Below the default of an axis that has nothing below it the coordinate is 0, as in HarfBuzz and
 //! fontTools.
 
 ghost use Rattle.std.specs.Prelude.{◌≡◌, ◌≤◌, ◌^◌, length, map, Some, None, Ok, unsigned_abs};
@@ -52,7 +52,7 @@ fn unmapped_coordinates(
     Ok(coordinates)
 }
 
-/// On each axis, whose segments stand behind those of the axis before.
+/// On each axis, whose segments are behind those of the axis before.
 #[tactic(auto, using(crate::proofs::PackingLaws::Listed::coordinates_cut))]
 fn coordinates_at(
     alloc: Global,

@@ -1,6 +1,6 @@
 //! The segments that bend an axis (OpenType, "avar").
 //!
-//! OpenType requests the pairs of -1, 0 and 1, past which no number lies, for numbers that ascend, and for new numbers that
+//! OpenType requests the pairs of -1, 0 and 1, past which there is no number, for numbers that ascend, and for new numbers that
 //! don't descend. Where an axis has anything else, its coordinate isn't modified. The major version has to be 1.
 
 ghost use Rattle.std.specs.Prelude.{◌≡◌, ◌+◌, ◌*◌, ◌<◌, ◌≤◌, ◌^◌, Some, true, ◌-ℤ◌, ◌≤ℤ◌, ◌<ℤ◌, IfSome, true, unsigned_abs};
@@ -54,7 +54,7 @@ fn passed(from: i64, to: i64, n: i64, whole: i64) -> i64
     part(n - from, way, whole)
 }
 
-/// A number that lies between two ends, at the same part of the way between their new numbers.
+/// A number between two ends, at the same part of the distance between their new numbers.
 #[tactic(auto, unfolding(crate::specs::Locations::Segments::on_segment))]
 fn on_segment(p: AxisValueMap, q: AxisValueMap, n: i64) -> i64
     requires behind { fine p.from ≤ℤ n }
@@ -68,7 +68,7 @@ fn on_segment(p: AxisValueMap, q: AxisValueMap, n: i64) -> i64
     plus(to, more)
 }
 
-/// The number lies between two ends, and not on the second.
+/// The number is between two ends, and isn't the second.
 fn is_on(p: AxisValueMap, q: AxisValueMap, n: i64) -> bool
     ensures value { result ≡ is_on p q n }
     ensures behind { result ≡ true → fine p.from ≤ℤ n }
@@ -131,7 +131,7 @@ fn is_segment_map(ends: &LazyArray16<'_, AxisValueMap>) -> bool
     keeps(ends, -16384) && keeps(ends, 0) && keeps(ends, 16384) && ascends(ends)
 }
 
-/// A number by the segments of an axis; one that lies in none stays, and so does each where the ends aren't those of segments.
+/// A number by the segments of an axis; one that is in none is unchanged, and so is each where the ends aren't those of segments.
 pub fn mapped(ends: LazyArray16<'_, AxisValueMap>, n: i64) -> i64
     requires { unsigned_abs n ≤ 2 ^ 19 }
     ensures value { result ≡ mapped (axis_value_maps ends.entry) n }
@@ -144,7 +144,7 @@ pub fn mapped(ends: LazyArray16<'_, AxisValueMap>, n: i64) -> i64
     }
 }
 
-/// A number by the first segment in which it lies; one that lies in none stays.
+/// A number by the first segment in which it is; one that is in none is unchanged.
 fn by_segments(ends: LazyArray16<'_, AxisValueMap>, n: i64) -> i64
     requires { unsigned_abs n ≤ 2 ^ 19 }
     ensures value { result ≡ by_segments (axis_value_maps ends.entry) n }

@@ -1,7 +1,7 @@
 //! Packed point numbers and packed deltas (OpenType, "Tuple Variation Store").
 //!
-//! The reading is strict: a run that goes on past its count, data past the glyph's, and a point number that isn't above
-//! the one before it, or not below the count of points, have no reading. A count of 0 point numbers stands for all points,
+//! The reading is strict: a run that is longer than its count, data past the glyph's, and a point number that isn't above
+//! the one before it, or not below the count of points, have no reading. A count of 0 point numbers means all points,
 //! in one byte or in two (`80 00`), as in HarfBuzz and fontTools: OpenType says so of a first byte of 0 alone, and leaves the
 //! other open, which FreeType reads as no points.
 
@@ -20,7 +20,7 @@ use subsetter_base::Error;
 /// A run that is being read.
 #[derive(Drop)]
 struct Run<'a> {
-    /// How many numbers it still has.
+    /// How many numbers are left of it.
     left: u8,
     /// Its first byte.
     control: u8,
@@ -181,7 +181,7 @@ fn ended<'a>(r: Run<'a>) -> Option<&'a [u8]>
     if r.left == 0 { Some(r.bytes) } else { None }
 }
 
-/// That many deltas, and the bytes behind them. A cut list, or a run that goes on past its end, is `MalformedFont`.
+/// That many deltas, and the bytes behind them. A cut list, or a run that is longer than it, is `MalformedFont`.
 #[tactic(auto, using(crate::proofs::PackingLaws::Runs::deltas_step, crate::proofs::PackingLaws::Runs::deltas_cut, crate::proofs::PackingLaws::Runs::deltas_end), unfolding(crate::specs::Packing::Packed::deltas))]
 pub fn deltas(alloc: Global, n: usize, bytes: &[u8]) -> Result<(Vec<i16>, &[u8]), Error>
     ensures exact { Gives (λ r. (r.0.items, r.1.now)) result (ok_or (deltas n bytes.now) MalformedFont) }
@@ -224,7 +224,7 @@ fn points_from(
     Ok((list, rest))
 }
 
-/// The points that deltas are given for, none for all, and the bytes behind them. A cut list, a run that goes on past its end,
+/// The points that deltas are given for, none for all, and the bytes behind them. A cut list, a run that is longer than it,
 /// or a number that is given twice or isn't below the limit is `MalformedFont`.
 #[tactic(auto, unfolding(crate::specs::Packing::Packed::point_numbers))]
 pub fn point_numbers(

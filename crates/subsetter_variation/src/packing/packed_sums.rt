@@ -9,7 +9,7 @@ ghost use Rattle.subsetter_variation.specs.Packing.Packed.{deltas, deltas_from};
 use crate::packing::packed::byte_in;
 use crate::rounding::given;
 
-/// The signed number of the byte at a place.
+/// The signed number of the byte at an offset.
 fn byte_at(bytes: &[u8], at: usize) -> i16
     requires { at < length bytes.now }
     ensures { result ≡ cast_signed w8 (slice_index_or bytes.now at 0) }
@@ -30,7 +30,7 @@ fn add_bytes(sums: &mut [i64], bytes: &[u8], scalar: i64)
     }
 }
 
-/// The signed number of the two bytes at a place.
+/// The signed number of the two bytes at an offset.
 fn word_at(bytes: &[u8], at: usize) -> i16
     requires { at + 1 < length bytes.now }
     ensures { result ≡ cast_signed w16 (slice_index_or bytes.now at 0 * 256 + slice_index_or bytes.now (at + 1) 0) }
@@ -80,7 +80,7 @@ fn add_run<'a>(sums: &mut [i64], control: u8, bytes: &'a [u8], scalar: i64) -> O
     Some(&bytes[count..])
 }
 
-/// Adds to each sum its delta times the scalar. The bytes behind the deltas, unless they are cut or a run goes on past their end.
+/// Adds to each sum its delta times the scalar. The bytes behind the deltas, unless they are cut or a run is longer than they.
 #[tactic(auto, unfolding(crate::specs::Packing::Packed::deltas))]
 pub fn add_deltas<'a>(sums: &mut [i64], bytes: &'a [u8], scalar: i64) -> Option<&'a [u8]>
     requires scalar { unsigned_abs scalar ≤ 2 ^ 30 }

@@ -13,7 +13,7 @@
 
 mod descriptor;
 pub mod fields;
-mod looks;
+pub mod looks;
 mod naming;
 mod permission;
 mod rounding;

@@ -8,35 +8,27 @@
 use crate::rattle::prelude::Vec;
 
 use crate::proved::subsetter::glyf::outlines::{outlines_len, OutlineList};
-use crate::proved::subsetter_base::write::Writer;
 use crate::proved::subsetter_base::Error;
-use crate::proved::subsetter_sfnt::fields::loca::{OFFSET16_SIZE, OFFSET32_SIZE};
+use crate::proved::subsetter_sfnt::fields::loca::{
+    write_offset, OFFSET16_MAX, OFFSET16_SIZE, OFFSET32_SIZE,
+};
 use crate::rattle::alloc::Global;
 
 /// Whether the offsets need the long format: halves of them don't fit 16 bits.
 pub fn is_long(outlines: &OutlineList<'_>) -> bool {
-    outlines_len(outlines, false) > 131_070
-}
-
-/// Writes an offset, or half of it.
-fn write_offset(w: &mut Writer, long: bool, offset: usize) -> Result<(), Error> {
-    if long {
-        w.write(&(offset as u32))
-    } else {
-        w.write(&((offset / 2) as u16))
-    }
+    outlines_len(outlines, false) > OFFSET16_MAX
 }
 
 /// `loca`: where each outline begins, and where the last one ends.
 pub fn subset(alloc: Global, outlines: &OutlineList<'_>, long: bool) -> Result<Vec<u8>, Error> {
     let entry = if long { OFFSET32_SIZE } else { OFFSET16_SIZE };
     let room = outlines.len().saturating_add(1).saturating_mul(entry);
-    let mut w = Writer::with_capacity(alloc, room)?;
+    let mut loca = Vec::with_capacity(alloc, room)?;
     let mut offset: usize = 0;
     for outline in outlines.iter() {
-        write_offset(&mut w, long, offset)?;
+        write_offset(&mut loca, long, offset)?;
         offset = offset.saturating_add(outline.padded_len(long));
     }
-    write_offset(&mut w, long, offset)?;
-    Ok(w.finish())
+    write_offset(&mut loca, long, offset)?;
+    Ok(loca)
 }

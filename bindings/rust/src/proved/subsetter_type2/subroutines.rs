@@ -21,7 +21,7 @@ impl<'a> SubroutineHandler<'a> {
         self.get_with_unbiased(unbiased)
     }
 
-    /// The entry at this place; none where there is none, or it cannot be read.
+    /// The entry at this index; none where there is none, or it cannot be read.
     pub fn get_with_unbiased(&self, index: u32) -> Option<CharString<'a>> {
         self.index.get(index)
     }
@@ -38,7 +38,7 @@ fn bias(count: u32) -> u16 {
     }
 }
 
-/// The place in the INDEX that an operand names; none where the sum with the bias is below 0.
+/// The index in the INDEX that an operand names; none where the sum with the bias is below 0.
 pub fn unapply_bias(index: i32, bias: u16) -> Option<u32> {
     let sum = index as i64 + bias as i64;
     if sum < 0 {

@@ -16,14 +16,14 @@ fn is_ignored(t: RegionAxis) -> bool {
     t.peak == 0 || t.peak < t.start || t.end < t.peak || (t.start < 0 && 0 < t.end)
 }
 
-/// Of a whole as great a part as a place has passed of the way from an end to the peak.
+/// Of a whole as great a part as a coordinate has passed of the distance from an end to the peak.
 fn proportion(end: i16, peak: i16, at: i32, whole: i64) -> i64 {
     let passed = i64::from(at.abs_diff(i32::from(end)));
     let way = u64::from(i32::from(peak).abs_diff(i32::from(end)));
     part(passed, way, whole)
 }
 
-/// What of a whole counts at a place on the axis.
+/// What of a whole counts at a coordinate on the axis.
 pub(crate) fn counted(t: RegionAxis, at: i32, whole: i64) -> i64 {
     let peak = i32::from(t.peak);
     if is_ignored(t) {

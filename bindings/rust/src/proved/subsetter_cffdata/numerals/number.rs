@@ -29,7 +29,7 @@ impl IntegerNumber {
         }
     }
 
-    /// 32 to 246 stand for themselves less 139; 247 to 254 have one more byte.
+    /// 32 to 246 mean themselves less 139; 247 to 254 have one more byte.
     fn parse_short(b0: u8, r: &mut Reader<'_>) -> Option<IntegerNumber> {
         match b0 {
             32..=246 => Some(IntegerNumber(i32::from(b0) - 139)),

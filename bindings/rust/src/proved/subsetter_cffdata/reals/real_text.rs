@@ -7,7 +7,7 @@ use crate::proved::subsetter_cffdata::reals::text::Text;
 /// A sign that was read, and what follows.
 #[derive(Clone, Copy, Debug)]
 struct SignRead<'a> {
-    /// A minus stands in front.
+    /// A minus is in front.
     negative: bool,
     /// What follows.
     rest: &'a [u8],
@@ -24,14 +24,14 @@ struct DigitsRead<'a> {
 
 /// Digits without outer zeros.
 #[derive(Clone, Copy, Debug)]
-struct KeptDigits<'a> {
+struct SignificantDigits<'a> {
     /// The digits.
     digits: &'a [u8],
-    /// How many zeros stood at the end.
+    /// How many zeros were at the end.
     zeros: usize,
 }
 
-/// Whether a minus stands in front, and what follows.
+/// Whether a minus is in front, and what follows.
 fn split_sign(text: &[u8]) -> SignRead<'_> {
     match text {
         [14, rest @ ..] => SignRead {
@@ -99,7 +99,7 @@ fn exponent_behind(negative: bool, text: &[u8]) -> Option<i32> {
     }
 }
 
-/// The exponent that stands behind the digits: 0 where there is none.
+/// The exponent behind the digits: 0 where there is none.
 fn exponent_of(text: &[u8]) -> Option<i32> {
     match text {
         [] => Some(0),
@@ -127,7 +127,7 @@ fn trimmed_len(ds: &[u8]) -> usize {
     len
 }
 
-/// How many zeros stand in front.
+/// How many zeros are in front.
 fn zeros_in_front(ds: &[u8]) -> usize {
     for (i, d) in ds.iter().enumerate() {
         if *d != 0 {
@@ -137,11 +137,11 @@ fn zeros_in_front(ds: &[u8]) -> usize {
     ds.len()
 }
 
-/// The digits without the zeros in front and at the end, and how many stood at the end.
-fn without_outer_zeros(ds: &[u8]) -> KeptDigits<'_> {
+/// The digits without the zeros in front and at the end, and how many were at the end.
+fn without_outer_zeros(ds: &[u8]) -> SignificantDigits<'_> {
     let end = trimmed_len(ds);
     let start = zeros_in_front(&ds[..end]);
-    KeptDigits {
+    SignificantDigits {
         digits: &ds[start..end],
         zeros: ds.len() - end,
     }

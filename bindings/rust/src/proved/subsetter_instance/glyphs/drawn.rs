@@ -9,7 +9,7 @@ use crate::proved::subsetter_instance::glyphs::unfolding::{unfold, Unfolded};
 use crate::proved::subsetter_instance::source::Source;
 use crate::proved::subsetter_points::{fits, least_x, Outline, Point};
 use crate::proved::subsetter_sfnt::fields::hmtx::LongHorMetric;
-use crate::proved::subsetter_variation::items::item_variations::advance_delta;
+use crate::proved::subsetter_variation::items::advances::advance_delta;
 use crate::rattle::alloc::Global;
 
 /// The unit of unfolded coordinates.
@@ -135,7 +135,7 @@ fn rounded(
     unfolded: Unfolded,
 ) -> Result<Drawn, Error> {
     let width = distance(unfolded.left, unfolded.right);
-    let advance = advance(source.hvar(), at, glyph, metric.advance, width)?;
+    let advance = advance(source.hvar(), at, glyph, metric.advance_width, width)?;
     let points = points_or_fault(
         alloc,
         unfolded.left,

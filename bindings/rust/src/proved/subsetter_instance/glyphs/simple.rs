@@ -27,7 +27,7 @@ fn x_min(bytes: &[u8]) -> i16 {
 
 /// Where the left side of the default lies.
 fn left_side(bytes: &[u8], metric: LongHorMetric) -> i32 {
-    i32::from(x_min(bytes)) - i32::from(metric.bearing.to_signed())
+    i32::from(x_min(bytes)) - i32::from(metric.lsb.to_signed())
 }
 
 /// Whole units in parts of 2^30.
@@ -50,7 +50,7 @@ pub fn left_point(bytes: &[u8], metric: LongHorMetric, n: usize, xs: &[i64]) -> 
 
 /// Where the right side of the default lies.
 fn right_side(bytes: &[u8], metric: LongHorMetric) -> i32 {
-    left_side(bytes, metric) + i32::from(metric.advance)
+    left_side(bytes, metric) + i32::from(metric.advance_width)
 }
 
 /// x of the right phantom point behind n points.

@@ -68,7 +68,7 @@ pub(crate) fn tuple_region<'a>(
     }
 }
 
-/// The scalar at a place of a region without ends of its own. The axes behind one that makes it 0 aren't read.
+/// The scalar at a location of a region without ends of its own. The axes behind one that makes it 0 aren't read.
 fn plain_scalar(peaks: &[u8], at: &[i32]) -> i64 {
     let mut whole = 1073741824;
     let mut rest = peaks;

@@ -7,7 +7,7 @@ use crate::rattle::prelude::Cast;
 use crate::proved::subsetter_variation::packing::packed::byte_in;
 use crate::proved::subsetter_variation::rounding::given;
 
-/// The signed number of the byte at a place.
+/// The signed number of the byte at an offset.
 fn byte_at(bytes: &[u8], at: usize) -> i16 {
     i16::from(bytes[at].to_signed())
 }
@@ -19,7 +19,7 @@ fn add_bytes(sums: &mut [i64], bytes: &[u8], scalar: i64) {
     }
 }
 
-/// The signed number of the two bytes at a place.
+/// The signed number of the two bytes at an offset.
 fn word_at(bytes: &[u8], at: usize) -> i16 {
     (u16::from(bytes[at]) * 256 + u16::from(bytes[at + 1])).to_signed()
 }
@@ -52,7 +52,7 @@ fn add_run<'a>(sums: &mut [i64], control: u8, bytes: &'a [u8], scalar: i64) -> O
     Some(&bytes[count..])
 }
 
-/// Adds to each sum its delta times the scalar. The bytes behind the deltas, unless they are cut or a run goes on past their end.
+/// Adds to each sum its delta times the scalar. The bytes behind the deltas, unless they are cut or a run is longer than they.
 pub fn add_deltas<'a>(sums: &mut [i64], bytes: &'a [u8], scalar: i64) -> Option<&'a [u8]> {
     let mut at = 0;
     let mut rest = bytes;
