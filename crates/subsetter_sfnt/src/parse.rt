@@ -10,7 +10,7 @@ ghost use Rattle.subsetter_sfnt.specs.Plain.{opened_header, opened};
 
 use crate::directory::{records_at, table_in};
 use crate::extras::Extras;
-use crate::face::{Face, FontKind};
+use crate::face::{Face, FontKind, TABLE_DIRECTORY_OFFSETS};
 use subsetter_base::read::Reader;
 use subsetter_base::{Error, Tag};
 
@@ -27,7 +27,7 @@ fn header(file: &[u8], index: u32, extras: Extras) -> Result<usize, Error>
     }
     let mut r = Reader::new_at(
         file,
-        12usize.saturating_add(4usize.saturating_mul(index as usize)),
+        TABLE_DIRECTORY_OFFSETS.saturating_add(4usize.saturating_mul(index as usize)),
     );
     let offset = r.read::<u32>().ok_or(Error::MalformedFont)?;
     let mut r = Reader::new_at(file, offset as usize);

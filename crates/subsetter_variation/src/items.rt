@@ -3,3 +3,4 @@
 pub mod advances;
 pub mod font_metrics;
 pub mod item_variations;
+pub(crate) mod layout;

@@ -5,6 +5,9 @@ ghost use Rattle.subsetter_variation.specs.Region.{is_ignored, proportion, count
 
 use crate::rounding::part;
 
+/// 1 in parts of 2^30.
+pub(crate) const ONE: i64 = 1073741824;
+
 /// What a region is on one axis, in 16384ths: where it begins to count, where it counts in full, and where it ends.
 #[derive(Clone, Copy, Debug, PartialEq, Eq)]
 pub struct RegionAxis {
@@ -71,7 +74,7 @@ pub fn scalar(region: &[RegionAxis], at: &[i32]) -> i64
     ensures low { pos 0 ≤ℤ result }
     ensures high { result ≤ℤ pos (2 ^ 30) }
 {
-    let mut whole = 1073741824;
+    let mut whole = ONE;
     for i in 0..region.len() {
         whole = counted(region[i], at[i], whole);
     }

@@ -7,7 +7,7 @@ ghost use Rattle.subsetter_cffdata.specs.Reals.TextSteps.{shown};
 ghost use Rattle.subsetter_cffdata.specs.Views.{decimal_of};
 
 use crate::reals::real_number::RealNumber;
-use crate::reals::text::Text;
+use crate::reals::text::{EXPONENT, MINUS, POINT, Text};
 
 /// A sign that was read, and what follows.
 #[derive(Clone, Copy, Debug)]
@@ -42,7 +42,7 @@ fn split_sign(text: &[u8]) -> SignRead<'_>
     ensures len { length result.rest.now ≤ length text.now }
 {
     match text {
-        [14, rest @ ..] => SignRead {
+        [MINUS, rest @ ..] => SignRead {
             negative: true,
             rest,
         },
@@ -61,7 +61,7 @@ fn split_digits(text: &[u8]) -> DigitsRead<'_>
     ensures len { length result.digits.now + length result.rest.now ≡ length text.now }
 {
     for (i, c) in text.iter().enumerate() {
-        if *c >= 10 {
+        if *c >= POINT {
             let (digits, rest) = text.split_at(i);
             return DigitsRead { digits, rest };
         }
@@ -79,7 +79,7 @@ fn split_fraction(text: &[u8]) -> DigitsRead<'_>
     ensures len { length result.digits.now ≤ length text.now }
 {
     match text {
-        [10, rest @ ..] => split_digits(rest),
+        [POINT, rest @ ..] => split_digits(rest),
         _ => DigitsRead {
             digits: &[],
             rest: text,
@@ -127,7 +127,7 @@ fn exponent_of(text: &[u8]) -> Option<i32>
 {
     match text {
         [] => Some(0),
-        [11, rest @ ..] => {
+        [EXPONENT, rest @ ..] => {
             let read = split_sign(rest);
             exponent_behind(read.negative, read.rest)
         }

@@ -14,6 +14,8 @@ ghost use Rattle.subsetter_sfnt.specs.Laying.Checksum.{checksum};
 ghost use Rattle.subsetter_sfnt.specs.Plain.{file_of};
 ghost use Rattle.subsetter_sfnt.specs.View.{view, views};
 
+use crate::face::{TABLE_RECORD_SIZE, TABLE_RECORDS};
+use crate::fields::head::CHECKSUM_ADJUSTMENT;
 use crate::flavor::FontFlavor;
 use crate::laying::checksum::checksum;
 use crate::laying::room::{align, aligned_len, patch, put};
@@ -21,19 +23,24 @@ use crate::laying::tables::{NewTable, TableBytes};
 use std::alloc::Global;
 use subsetter_base::{Error, Tag};
 
+/// The greatest offset and the greatest length, which have 32 bits.
+const MAX_OFFSET: usize = 0xffff_ffff;
+/// The sum of a whole file with its adjustment (OpenType, "head", checksumAdjustment).
+const FILE_SUM: u32 = 0xB1B0AFBA;
+
 /// How many bytes the file has. `OverflowError` where a place or a length is 2^32 or more. No memory is taken.
 fn measured<T: TableBytes>(tables: &[NewTable<T>]) -> Result<usize, Error>
     requires { length tables.now < 16 }
     ensures ok { IfOk result (λ n. (fits (start_of (views T.bytes_of tables.now)) (views T.bytes_of tables.now) ≡ true) × (n ≡ start_of (views T.bytes_of tables.now) + length (body (views T.bytes_of tables.now)))) }
     ensures err { IfErr result (λ e. (e ≡ OverflowError) × (fits (start_of (views T.bytes_of tables.now)) (views T.bytes_of tables.now) ≡ false)) }
 {
-    let mut at = 12 + 16 * tables.len();
+    let mut at = TABLE_RECORDS + TABLE_RECORD_SIZE * tables.len();
     for table in tables {
-        if at > 0xffff_ffff {
+        if at > MAX_OFFSET {
             return Err(Error::OverflowError);
         }
         let len = table.data.len();
-        if len > 0xffff_ffff {
+        if len > MAX_OFFSET {
             return Err(Error::OverflowError);
         }
         at = at.saturating_add(aligned_len(len));
@@ -172,7 +179,7 @@ fn adjust_table<T: TableBytes>(out: &mut Vec<u8>, at: usize, word: u32, table: &
     ensures { out.new.items ≡ take at out.old.items ++ (adjusted word (view T.bytes_of table.now)).bytes ++ drop (at + length (view T.bytes_of table.now).bytes) out.old.items }
 {
     if table.tag == Tag::HEAD {
-        patch(out, at + 8, word);
+        patch(out, at + CHECKSUM_ADJUSTMENT, word);
     }
 }
 
@@ -227,14 +234,14 @@ pub fn construct<T: TableBytes>(
 {
     let mut out = out;
     let mut front = front;
-    let start = 12 + 16 * tables.len();
+    let start = TABLE_RECORDS + TABLE_RECORD_SIZE * tables.len();
     skip_front(&mut out, start);
     write_header(&mut front, flavor.kind(), tables.len() as u16);
     let tables_sum = write_tables(&mut out, &mut front, start, tables);
     patch_bytes(&mut out, 0, &front);
     // Each table begins at a multiple of four, so the sum of the file is that of its parts.
     let sum = checksum(&front).wrapping_add(tables_sum);
-    adjust(&mut out, start, 0xB1B0AFBAu32.wrapping_sub(sum), tables);
+    adjust(&mut out, start, FILE_SUM.wrapping_sub(sum), tables);
     out
 }
 
@@ -265,7 +272,7 @@ pub fn finish<T: TableBytes>(
 {
     let size = measured(tables)?;
     check_bound(size, bytes)?;
-    let front = Vec::with_capacity(alloc, 12 + 16 * tables.len())?;
+    let front = Vec::with_capacity(alloc, TABLE_RECORDS + TABLE_RECORD_SIZE * tables.len())?;
     let out = Vec::with_capacity(alloc, size)?;
     Ok(construct(out, front, flavor, tables))
 }

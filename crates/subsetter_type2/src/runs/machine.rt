@@ -16,6 +16,9 @@ use subsetter_base::error::Error;
 use subsetter_cffdata::dicts::operator::{Operator, OperatorType, TWO_BYTE_OPERATOR_MARK};
 use subsetter_cffdata::numerals::charstring_number::{CharStringNumber, read_number};
 
+/// The most stems, whose number has 16 bits.
+const MAX_STEMS: usize = 65535;
+
 /// The subroutines that a charstring may call.
 #[derive(Drop)]
 pub struct Subroutines<'a> {
@@ -103,7 +106,7 @@ impl<'a, S: Sink<'a>> Machine<S> {
         ensures err { IfErr result (λ e. (e ≡ Error.CFFError) × (65535 < stems_after (registers_of S.written self.now))) }
     {
         let stems = self.stems as usize + self.output.count() / 2;
-        if stems > 65535 {
+        if stems > MAX_STEMS {
             return Err(Error::CFFError);
         }
         Ok(stems as u16)

@@ -4,7 +4,7 @@ ghost use Rattle.std.specs.Prelude.{◌≡◌, ◌≤◌, ◌+◌, ◌^◌, pos,
 ghost use Rattle.subsetter_variation.specs.Region.{scalar};
 ghost use Rattle.subsetter_variation.specs.Glyphs.Tuples.{short, plain_region_axis, region_axis_of, region_axes, tuple_size};
 
-use crate::region::{RegionAxis, counted};
+use crate::region::{ONE, RegionAxis, counted};
 use std::marker::Model;
 use subsetter_base::read::signed_at;
 
@@ -112,7 +112,7 @@ fn plain_scalar(peaks: &[u8], at: &[i32]) -> i64
     ensures low { pos 0 ≤ℤ result }
     ensures high { result ≤ℤ pos (2 ^ 30) }
 {
-    let mut whole = 1073741824;
+    let mut whole = ONE;
     let mut rest = peaks;
     for i in 0..at.len() {
         whole = counted(plain_region_axis(short(rest)), at[i], whole);
@@ -134,7 +134,7 @@ fn inner_scalar(peaks: &[u8], starts: &[u8], ends: &[u8], at: &[i32]) -> i64
     ensures low { pos 0 ≤ℤ result }
     ensures high { result ≤ℤ pos (2 ^ 30) }
 {
-    let mut whole = 1073741824;
+    let mut whole = ONE;
     let mut p = peaks;
     let mut s = starts;
     let mut e = ends;

@@ -11,7 +11,13 @@ ghost use Rattle.subsetter_base.specs.Bytes.{signed_at};
 ghost use Rattle.subsetter_variation.specs.Region.{scalar};
 ghost use Rattle.subsetter_variation.specs.Items.ItemVariations.{nullable_offset, item_store, region_axis_in, region_items, region_of, data_offset, data_regions, row_size, row_at, row_in, item_row, word_delta, byte_delta, delta, term, terms, item_delta, in_whole_units};
 
-use crate::region::{RegionAxis, counted};
+use crate::items::layout::{
+    DELTA16_SIZE, DELTA32_SIZE, ITEM_VARIATION_DATA_COUNT, ITEM_VARIATION_DATA_OFFSETS, LONG_WORDS,
+    NO_VARIATION_INDEX, OFFSET32_SIZE, REGION_AXIS_COORDINATES_SIZE, REGION_COUNT,
+    REGION_INDEX_COUNT, REGION_INDEX_SIZE, REGION_INDEXES, VARIATION_REGION_LIST_OFFSET,
+    VARIATION_REGIONS, WORD_DELTA_COUNT,
+};
+use crate::region::{ONE, RegionAxis, counted};
 use crate::rounding::{nearest, scaled, wide_plus};
 use std::marker::Model;
 use subsetter_base::Error;
@@ -96,7 +102,7 @@ impl Readable<'_> for RegionAxis {
     ghost value_of = { λ bytes. Some (region_axis_in bytes) };
 
     fn read(r: &mut Reader<'_>) -> Option<Self> {
-        Some(region_axis_in(r.read_bytes(6)?))
+        Some(region_axis_in(r.read_bytes(REGION_AXIS_COORDINATES_SIZE)?))
     }
 }
 
@@ -106,11 +112,13 @@ pub fn item_store(bytes: &[u8]) -> Option<Store<'_>>
     ensures { result ≡ item_store bytes.now }
 {
     let format = Reader::new(bytes).read::<u16>()?;
-    let at = nullable_offset(bytes, 2)? as usize;
+    let at = nullable_offset(bytes, VARIATION_REGION_LIST_OFFSET)? as usize;
     let axis_count = Reader::new_at(bytes, at).read::<u16>()?;
-    let region_count = Reader::new_at(bytes, at + 2).read::<u16>()?;
-    let size = (region_count as usize).saturating_mul(axis_count as usize * 6);
-    let regions = Reader::new_at(bytes, at + 4).read_bytes(size)?;
+    let region_count = Reader::new_at(bytes, at + REGION_COUNT).read::<u16>()?;
+    let size = (region_count as usize).saturating_mul(
+        axis_count as usize * REGION_AXIS_COORDINATES_SIZE,
+    );
+    let regions = Reader::new_at(bytes, at + VARIATION_REGIONS).read_bytes(size)?;
     if format == 1 {
         Some(Store {
             axis_count,
@@ -131,7 +139,7 @@ pub fn region_items<'a>(s: &Store<'a>, index: u16) -> Option<LazyArray16<'a, Reg
     if index >= s.region_count {
         return None;
     }
-    let size = s.axis_count as usize * 6;
+    let size = s.axis_count as usize * REGION_AXIS_COORDINATES_SIZE;
     Reader::new_at(s.regions, index as usize * size).read_array16(s.axis_count)
 }
 
@@ -152,7 +160,7 @@ pub fn region_scalar(region: LazyArray16<'_, RegionAxis>, at: &[i32]) -> i64
     ensures low { pos 0 ≤ℤ result }
     ensures high { result ≤ℤ pos (2 ^ 30) }
 {
-    let mut whole = 1073741824;
+    let mut whole = ONE;
     let mut rest = at;
     for axis in region.iter() {
         let Some((first, others)) = coordinate_in(rest) else {
@@ -181,8 +189,12 @@ fn row_at(
     ensures { result ≡ row_at bytes.now at inner count words long }
 {
     let size = (count as usize + words as usize) * (if long { 2 } else { 1 });
-    let indexes = Reader::new_at(bytes, at + 6).read_bytes(count as usize * 2)?;
-    let from = (at + 6 + count as usize * 2).saturating_add((inner as usize).saturating_mul(size));
+    let indexes = Reader::new_at(bytes, at + REGION_INDEXES).read_bytes(
+        count as usize * REGION_INDEX_SIZE,
+    )?;
+    let from = (at + REGION_INDEXES + count as usize * REGION_INDEX_SIZE).saturating_add(
+        (inner as usize).saturating_mul(size),
+    );
     let deltas = Reader::new_at(bytes, from).read_bytes(size)?;
     Some(Row {
         count,
@@ -200,10 +212,17 @@ fn row_in(bytes: &[u8], at: usize, inner: u32) -> Option<Row<'_>>
     ensures { result ≡ row_in bytes.now at inner }
 {
     let items = Reader::new_at(bytes, at).read::<u16>()?;
-    let words = Reader::new_at(bytes, at + 2).read::<u16>()?;
-    let count = Reader::new_at(bytes, at + 4).read::<u16>()?;
-    if inner < u32::from(items) && words % 32768 <= count {
-        row_at(bytes, at, inner, count, words % 32768, words >= 32768)
+    let words = Reader::new_at(bytes, at + WORD_DELTA_COUNT).read::<u16>()?;
+    let count = Reader::new_at(bytes, at + REGION_INDEX_COUNT).read::<u16>()?;
+    if inner < u32::from(items) && words % LONG_WORDS <= count {
+        row_at(
+            bytes,
+            at,
+            inner,
+            count,
+            words % LONG_WORDS,
+            words >= LONG_WORDS,
+        )
     } else {
         None
     }
@@ -214,11 +233,14 @@ fn row_in(bytes: &[u8], at: usize, inner: u32) -> Option<Row<'_>>
 fn item_row<'a>(s: &Store<'a>, outer: u32, inner: u32) -> Option<Row<'a>>
     ensures { result ≡ item_row s.now outer inner }
 {
-    let data_count = Reader::new_at(s.bytes, 6).read::<u16>()?;
+    let data_count = Reader::new_at(s.bytes, ITEM_VARIATION_DATA_COUNT).read::<u16>()?;
     if outer >= u32::from(data_count) {
         return None;
     }
-    let at = nullable_offset(s.bytes, 8 + outer as usize * 4)?;
+    let at = nullable_offset(
+        s.bytes,
+        ITEM_VARIATION_DATA_OFFSETS + outer as usize * OFFSET32_SIZE,
+    )?;
     row_in(s.bytes, at as usize, inner)
 }
 
@@ -227,11 +249,14 @@ fn data_offset(s: &Store<'_>, outer: u32) -> Option<u32>
     ensures value { result ≡ data_offset s.now outer }
     ensures few { IfSome result (λ _. outer < 65536) }
 {
-    let data_count = Reader::new_at(s.bytes, 6).read::<u16>()?;
+    let data_count = Reader::new_at(s.bytes, ITEM_VARIATION_DATA_COUNT).read::<u16>()?;
     if outer >= u32::from(data_count) {
         return None;
     }
-    nullable_offset(s.bytes, 8 + outer as usize * 4)
+    nullable_offset(
+        s.bytes,
+        ITEM_VARIATION_DATA_OFFSETS + outer as usize * OFFSET32_SIZE,
+    )
 }
 
 /// The bytes that spell the indexes of the regions of item variation data, two for each.
@@ -242,8 +267,8 @@ pub fn data_regions<'a>(s: &Store<'a>, outer: u32) -> Option<&'a [u8]>
     ensures data_count { IfSome result (λ _. outer < 65536) }
 {
     let at = data_offset(s, outer)? as usize;
-    let count = Reader::new_at(s.bytes, at + 4).read::<u16>()?;
-    Reader::new_at(s.bytes, at + 6).read_bytes(count as usize * 2)
+    let count = Reader::new_at(s.bytes, at + REGION_INDEX_COUNT).read::<u16>()?;
+    Reader::new_at(s.bytes, at + REGION_INDEXES).read_bytes(count as usize * REGION_INDEX_SIZE)
 }
 
 /// A delta that is a word.
@@ -251,10 +276,10 @@ fn word_delta(r: &Row<'_>, k: u16) -> Option<i32>
     ensures { result ≡ word_delta r.now k }
 {
     if r.long {
-        let word = Reader::new_at(r.deltas, k as usize * 4).read::<u32>()?;
+        let word = Reader::new_at(r.deltas, k as usize * DELTA32_SIZE).read::<u32>()?;
         Some(word.cast_signed())
     } else {
-        let word = Reader::new_at(r.deltas, k as usize * 2).read::<u16>()?;
+        let word = Reader::new_at(r.deltas, k as usize * DELTA16_SIZE).read::<u16>()?;
         Some(i32::from(word.cast_signed()))
     }
 }
@@ -265,7 +290,7 @@ fn byte_delta(r: &Row<'_>, k: u16) -> Option<i32>
 {
     let place = r.words as usize + k as usize;
     if r.long {
-        let word = Reader::new_at(r.deltas, place * 2).read::<u16>()?;
+        let word = Reader::new_at(r.deltas, place * DELTA16_SIZE).read::<u16>()?;
         Some(i32::from(word.cast_signed()))
     } else {
         let byte = Reader::new_at(r.deltas, place).read::<u8>()?;
@@ -290,7 +315,7 @@ fn term(s: &Store<'_>, at: &[i32], r: &Row<'_>, k: u16) -> Option<i64>
     ensures value { result ≡ term s.now at.now r.now k }
     ensures bound { IfSome result (λ x. unsigned_abs x ≤ 2 ^ 62) }
 {
-    let index = Reader::new_at(r.indexes, k as usize * 2).read::<u16>()?;
+    let index = Reader::new_at(r.indexes, k as usize * REGION_INDEX_SIZE).read::<u16>()?;
     let region = region_items(s, index)?;
     let d = delta(r, k)?;
     Some(scaled(region_scalar(region, at), i64::from(d)))
@@ -324,7 +349,7 @@ fn terms(s: &Store<'_>, at: &[i32], r: &Row<'_>) -> Option<i128>
 pub fn item_delta(s: &Store<'_>, at: &[i32], outer: u32, inner: u32) -> Option<i128>
     ensures { result ≡ item_delta s.now at.now outer inner }
 {
-    if outer == 65535 && inner == 65535 {
+    if outer == NO_VARIATION_INDEX && inner == NO_VARIATION_INDEX {
         return Some(0);
     }
     terms(s, at, &item_row(s, outer, inner)?)

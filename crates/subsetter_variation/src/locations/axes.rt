@@ -15,6 +15,11 @@ use std::alloc::Global;
 use subsetter_base::read::{Reader, long_signed_at};
 use subsetter_base::{Error, Tag};
 
+/// How many bytes an axis record has, or more where axisSize says so.
+const VARIATION_AXIS_RECORD_SIZE: u16 = 20;
+/// 1 in 65536ths.
+const ONE: i64 = 65536;
+
 /// An axis: its name, and its coordinates in 65536ths.
 #[derive(Clone, Copy, PartialEq, Eq)]
 pub struct Axis {
@@ -79,7 +84,7 @@ pub fn axes(alloc: Global, fvar: &[u8]) -> Result<Vec<Axis>, Error>
     let at = axes_array_offset(fvar).ok_or(Error::MalformedFont)?;
     let count = axis_count(fvar).ok_or(Error::MalformedFont)?;
     let size = axis_size(fvar).ok_or(Error::MalformedFont)?;
-    if size < 20 {
+    if size < VARIATION_AXIS_RECORD_SIZE {
         return Err(Error::MalformedFont);
     }
     axes_at(alloc, count, size as usize, fvar, at as usize)
@@ -108,7 +113,7 @@ fn toward(end: i32, default: i32, coordinate: i32) -> i64
     part(
         i64::from(coordinate) - i64::from(default),
         u64::from(end.abs_diff(default)),
-        65536,
+        ONE,
     )
 }
 
@@ -121,7 +126,7 @@ fn below_default(axis: &Axis, coordinate: i32) -> i64
     if axis.default <= axis.minimum {
         0
     } else if coordinate <= axis.minimum {
-        -65536
+        -ONE
     } else {
         toward(axis.minimum, axis.default, coordinate)
     }
@@ -136,7 +141,7 @@ fn above_default(axis: &Axis, coordinate: i32) -> i64
     if axis.maximum <= axis.default {
         0
     } else if axis.maximum <= coordinate {
-        65536
+        ONE
     } else {
         toward(axis.maximum, axis.default, coordinate)
     }

@@ -19,6 +19,11 @@ use std::alloc::{AllocError, Global};
 use subsetter_base::read::{LazyArray16, Reader};
 use subsetter_base::{Error, Tag};
 
+/// axisCount of `avar`, two bytes.
+const AXIS_COUNT: usize = 6;
+/// axisSegmentMaps of `avar`.
+const AXIS_SEGMENT_MAPS: usize = 8;
+
 /// 65536ths as 16384ths.
 fn coarse(n: i64) -> i32
     requires { unsigned_abs n ≤ 2 ^ 19 }
@@ -62,7 +67,7 @@ fn coordinates_at(
 ) -> Result<Vec<i32>, Error>
     ensures { Gives (λ v. v.items) result (ok_or (coordinates_at axes.now settings.now avar.now 8) MalformedFont) }
 {
-    let mut r = Reader::new_at(avar, 8);
+    let mut r = Reader::new_at(avar, AXIS_SEGMENT_MAPS);
     let mut coordinates = Vec::with_capacity(alloc, axes.len())?;
     for axis in axes {
         let ends = next_segment_map(&mut r).ok_or(Error::MalformedFont)?;
@@ -81,7 +86,7 @@ fn mapped_coordinates(
 ) -> Result<Vec<i32>, Error>
     ensures { Gives (λ v. v.items) result (ok_or (mapped_coordinates axes.now settings.now avar.now) MalformedFont) }
 {
-    let count = Reader::new_at(avar, 6)
+    let count = Reader::new_at(avar, AXIS_COUNT)
         .read::<u16>()
         .ok_or(Error::MalformedFont)?;
     if count as usize != axes.len() {

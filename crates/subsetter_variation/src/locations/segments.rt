@@ -9,6 +9,11 @@ ghost use Rattle.subsetter_variation.specs.Locations.Segments.{axis_value_map_of
 use crate::rounding::{minus, part, plus};
 use subsetter_base::read::{LazyArray16, Readable, Reader, signed_at};
 
+/// How many bytes the end of a segment has.
+const AXIS_VALUE_MAP_SIZE: usize = 4;
+/// 1 in 16384ths.
+const ONE: i16 = 16384;
+
 /// The end of a segment: a number and its new one, in 16384ths.
 #[derive(Clone, Copy, PartialEq, Eq)]
 pub struct AxisValueMap {
@@ -24,7 +29,7 @@ impl Readable<'_> for AxisValueMap {
     ghost value_of = { λ bytes. Some (axis_value_map_of bytes) };
 
     fn read(r: &mut Reader<'_>) -> Option<Self> {
-        let b = r.read_bytes(4)?;
+        let b = r.read_bytes(AXIS_VALUE_MAP_SIZE)?;
         Some(AxisValueMap {
             from: signed_at(b, 0),
             to: signed_at(b, 2),
@@ -128,7 +133,7 @@ fn ascends(ends: &LazyArray16<'_, AxisValueMap>) -> bool
 fn is_segment_map(ends: &LazyArray16<'_, AxisValueMap>) -> bool
     ensures { result ≡ is_segment_map (axis_value_maps ends.now) }
 {
-    keeps(ends, -16384) && keeps(ends, 0) && keeps(ends, 16384) && ascends(ends)
+    keeps(ends, -ONE) && keeps(ends, 0) && keeps(ends, ONE) && ascends(ends)
 }
 
 /// A number by the segments of an axis; one that is in none is unchanged, and so is each where the ends aren't those of segments.

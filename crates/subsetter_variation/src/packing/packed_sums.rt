@@ -6,7 +6,7 @@ ghost use Rattle.std.specs.Int.{w8, w16, cast_signed};
 ghost use Rattle.std.specs.Option.{option_copied};
 ghost use Rattle.subsetter_variation.specs.Packing.Packed.{deltas, deltas_from};
 
-use crate::packing::packed::byte_in;
+use crate::packing::packed::{DELTA_RUN_COUNTS, DELTAS_ARE_WORDS, DELTAS_ARE_ZERO, byte_in};
 use crate::rounding::given;
 
 /// The signed number of the byte at an offset.
@@ -63,10 +63,10 @@ fn add_run<'a>(sums: &mut [i64], control: u8, bytes: &'a [u8], scalar: i64) -> O
     ensures bound { IfSome (deltas_from (length sums.old) (record { left = length sums.old; control = control; bytes = bytes.now })) (λ d. EachIndex sums.old (λ k. unsigned_abs (scalar *ℤ slice_index_or d.0 k (pos 0)) ≤ 2 ^ 45)) }
 {
     let count = sums.len();
-    if control >= 128 {
+    if control >= DELTAS_ARE_ZERO {
         return Some(bytes);
     }
-    if control >= 64 {
+    if control >= DELTAS_ARE_WORDS {
         if bytes.len() < count * 2 {
             return None;
         }
@@ -93,7 +93,7 @@ pub fn add_deltas<'a>(sums: &mut [i64], bytes: &'a [u8], scalar: i64) -> Option<
     let mut rest = bytes;
     while at < sums.len() {
         let (control, behind) = byte_in(rest)?;
-        let past = at + usize::from(control % 64) + 1;
+        let past = at + usize::from(control % DELTA_RUN_COUNTS) + 1;
         if past > sums.len() {
             return None;
         }

@@ -5,7 +5,7 @@ use crate::proved::subsetter_base::read::Reader;
 use crate::proved::subsetter_base::{Error, Tag};
 use crate::proved::subsetter_sfnt::directory::{records_at, table_in};
 use crate::proved::subsetter_sfnt::extras::Extras;
-use crate::proved::subsetter_sfnt::face::{Face, FontKind};
+use crate::proved::subsetter_sfnt::face::{Face, FontKind, TABLE_DIRECTORY_OFFSETS};
 
 /// Where the font's header stands.
 fn header(file: &[u8], index: u32, _extras: Extras) -> Result<usize, Error> {
@@ -16,7 +16,7 @@ fn header(file: &[u8], index: u32, _extras: Extras) -> Result<usize, Error> {
     }
     let mut r = Reader::new_at(
         file,
-        12usize.saturating_add(4usize.saturating_mul(index as usize)),
+        TABLE_DIRECTORY_OFFSETS.saturating_add(4usize.saturating_mul(index as usize)),
     );
     let offset = r.read::<u32>().ok_or(Error::MalformedFont)?;
     let mut r = Reader::new_at(file, offset as usize);

@@ -3,6 +3,9 @@
 
 use crate::proved::subsetter_variation::rounding::part;
 
+/// 1 in parts of 2^30.
+pub(crate) const ONE: i64 = 1073741824;
+
 /// What a region is on one axis, in 16384ths: where it begins to count, where it counts in full, and where it ends.
 #[derive(Clone, Copy, Debug, PartialEq, Eq)]
 pub struct RegionAxis {

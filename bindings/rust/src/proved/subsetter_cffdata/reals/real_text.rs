@@ -2,7 +2,7 @@
 //! What the text of a real means.
 
 use crate::proved::subsetter_cffdata::reals::real_number::RealNumber;
-use crate::proved::subsetter_cffdata::reals::text::Text;
+use crate::proved::subsetter_cffdata::reals::text::{Text, EXPONENT, MINUS, POINT};
 
 /// A sign that was read, and what follows.
 #[derive(Clone, Copy, Debug)]
@@ -34,7 +34,7 @@ struct SignificantDigits<'a> {
 /// Whether a minus is in front, and what follows.
 fn split_sign(text: &[u8]) -> SignRead<'_> {
     match text {
-        [14, rest @ ..] => SignRead {
+        [MINUS, rest @ ..] => SignRead {
             negative: true,
             rest,
         },
@@ -48,7 +48,7 @@ fn split_sign(text: &[u8]) -> SignRead<'_> {
 /// The digits in front, and what follows them.
 fn split_digits(text: &[u8]) -> DigitsRead<'_> {
     for (i, c) in text.iter().enumerate() {
-        if *c >= 10 {
+        if *c >= POINT {
             let (digits, rest) = text.split_at(i);
             return DigitsRead { digits, rest };
         }
@@ -62,7 +62,7 @@ fn split_digits(text: &[u8]) -> DigitsRead<'_> {
 /// The digits behind a point, and what follows.
 fn split_fraction(text: &[u8]) -> DigitsRead<'_> {
     match text {
-        [10, rest @ ..] => split_digits(rest),
+        [POINT, rest @ ..] => split_digits(rest),
         _ => DigitsRead {
             digits: &[],
             rest: text,
@@ -103,7 +103,7 @@ fn exponent_behind(negative: bool, text: &[u8]) -> Option<i32> {
 fn exponent_of(text: &[u8]) -> Option<i32> {
     match text {
         [] => Some(0),
-        [11, rest @ ..] => {
+        [EXPONENT, rest @ ..] => {
             let read = split_sign(rest);
             exponent_behind(read.negative, read.rest)
         }

@@ -6,21 +6,28 @@
 use crate::rattle::prelude::Vec;
 
 use crate::proved::subsetter_base::{Error, Tag};
+use crate::proved::subsetter_sfnt::face::{TABLE_RECORDS, TABLE_RECORD_SIZE};
+use crate::proved::subsetter_sfnt::fields::head::CHECKSUM_ADJUSTMENT;
 use crate::proved::subsetter_sfnt::flavor::FontFlavor;
 use crate::proved::subsetter_sfnt::laying::checksum::checksum;
 use crate::proved::subsetter_sfnt::laying::room::{align, aligned_len, patch, put};
 use crate::proved::subsetter_sfnt::laying::tables::{NewTable, TableBytes};
 use crate::rattle::alloc::Global;
 
+/// The greatest offset and the greatest length, which have 32 bits.
+const MAX_OFFSET: usize = 0xffff_ffff;
+/// The sum of a whole file with its adjustment (OpenType, "head", checksumAdjustment).
+const FILE_SUM: u32 = 0xB1B0AFBA;
+
 /// How many bytes the file has. `OverflowError` where a place or a length is 2^32 or more. No memory is taken.
 fn measured<T: TableBytes>(tables: &[NewTable<T>]) -> Result<usize, Error> {
-    let mut at = 12 + 16 * tables.len();
+    let mut at = TABLE_RECORDS + TABLE_RECORD_SIZE * tables.len();
     for table in tables {
-        if at > 0xffff_ffff {
+        if at > MAX_OFFSET {
             return Err(Error::OverflowError);
         }
         let len = table.data.len();
-        if len > 0xffff_ffff {
+        if len > MAX_OFFSET {
             return Err(Error::OverflowError);
         }
         at = at.saturating_add(aligned_len(len));
@@ -112,7 +119,7 @@ fn write_tables<T: TableBytes>(
 /// Puts the adjustment into a table that stands at a place, if it is `head`.
 fn adjust_table<T: TableBytes>(out: &mut Vec<u8>, at: usize, word: u32, table: &NewTable<T>) {
     if table.tag == Tag::HEAD {
-        patch(out, at + 8, word);
+        patch(out, at + CHECKSUM_ADJUSTMENT, word);
     }
 }
 
@@ -145,14 +152,14 @@ pub fn construct<T: TableBytes>(
 ) -> Vec<u8> {
     let mut out = out;
     let mut front = front;
-    let start = 12 + 16 * tables.len();
+    let start = TABLE_RECORDS + TABLE_RECORD_SIZE * tables.len();
     skip_front(&mut out, start);
     write_header(&mut front, flavor.kind(), tables.len() as u16);
     let tables_sum = write_tables(&mut out, &mut front, start, tables);
     patch_bytes(&mut out, 0, &front);
     // Each table begins at a multiple of four, so the sum of the file is that of its parts.
     let sum = checksum(&front).wrapping_add(tables_sum);
-    adjust(&mut out, start, 0xB1B0AFBAu32.wrapping_sub(sum), tables);
+    adjust(&mut out, start, FILE_SUM.wrapping_sub(sum), tables);
     out
 }
 
@@ -174,7 +181,7 @@ pub fn finish<T: TableBytes>(
 ) -> Result<Vec<u8>, Error> {
     let size = measured(tables)?;
     check_bound(size, bytes)?;
-    let front = Vec::with_capacity(alloc, 12 + 16 * tables.len())?;
+    let front = Vec::with_capacity(alloc, TABLE_RECORDS + TABLE_RECORD_SIZE * tables.len())?;
     let out = Vec::with_capacity(alloc, size)?;
     Ok(construct(out, front, flavor, tables))
 }

@@ -14,6 +14,9 @@ use crate::proved::subsetter_type2::runs::sink::Sink;
 use crate::proved::subsetter_type2::subroutines::SubroutineHandler;
 use crate::proved::subsetter_type2::token::{find_effect, one_byte_effect, Effect};
 
+/// The most stems, whose number has 16 bits.
+const MAX_STEMS: usize = 65535;
+
 /// The subroutines that a charstring may call.
 pub struct Subroutines<'a> {
     pub global: SubroutineHandler<'a>,
@@ -84,7 +87,7 @@ impl<'a, S: Sink<'a>> Machine<S> {
     /// The stems with those of the operands.
     fn stems_after(&self) -> Result<u16, Error> {
         let stems = self.stems as usize + self.output.count() / 2;
-        if stems > 65535 {
+        if stems > MAX_STEMS {
             return Err(Error::CFFError);
         }
         Ok(stems as u16)

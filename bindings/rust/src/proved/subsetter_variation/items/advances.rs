@@ -12,11 +12,28 @@ use crate::proved::subsetter_variation::items::item_variations::{
     in_whole_units, item_delta, item_store, nullable_offset, Store,
 };
 
+/// itemVariationStoreOffset of `HVAR`, four bytes.
+const ITEM_VARIATION_STORE_OFFSET: usize = 4;
+/// advanceWidthMappingOffset of `HVAR`, four bytes.
+const ADVANCE_WIDTH_MAPPING_OFFSET: usize = 8;
+
+/// entryFormat of a map, one byte, behind format.
+const ENTRY_FORMAT: usize = 1;
+/// mapCount, two bytes in format 0, and four in format 1.
+const MAP_COUNT: usize = 2;
+/// mapData in format 0, and in format 1.
+const MAP_DATA_0: usize = 4;
+
+const MAP_DATA_1: usize = 6;
+
 /// How many entries a map of indexes has, and where they stand.
 fn map_head(map: &[u8]) -> Option<(u32, usize)> {
     match Reader::new(map).read::<u8>()? {
-        0 => Some((u32::from(Reader::new_at(map, 2).read::<u16>()?), 4)),
-        1 => Some((Reader::new_at(map, 2).read::<u32>()?, 6)),
+        0 => Some((
+            u32::from(Reader::new_at(map, MAP_COUNT).read::<u16>()?),
+            MAP_DATA_0,
+        )),
+        1 => Some((Reader::new_at(map, MAP_COUNT).read::<u32>()?, MAP_DATA_1)),
         _ => None,
     }
 }
@@ -38,7 +55,7 @@ fn entry_index(count: u32, glyph: u16) -> u32 {
 /// The indexes of a glyph by a map, past the end the last ones.
 fn mapped_index(map: &[u8], glyph: u16) -> Option<(u32, u32)> {
     let (count, from) = map_head(map)?;
-    let form = Reader::new_at(map, 1).read::<u8>()?;
+    let form = Reader::new_at(map, ENTRY_FORMAT).read::<u8>()?;
     if count == 0 {
         return None;
     }
@@ -50,7 +67,7 @@ fn mapped_index(map: &[u8], glyph: u16) -> Option<(u32, u32)> {
 
 /// The indexes of a glyph's advance.
 fn advance_index(hvar: &[u8], glyph: u16) -> Option<(u32, u32)> {
-    let at = Reader::new_at(hvar, 8).read::<u32>()?;
+    let at = Reader::new_at(hvar, ADVANCE_WIDTH_MAPPING_OFFSET).read::<u32>()?;
     if at == 0 {
         return Some((0, u32::from(glyph)));
     }
@@ -59,7 +76,7 @@ fn advance_index(hvar: &[u8], glyph: u16) -> Option<(u32, u32)> {
 
 /// The store of `HVAR`, if its regions have as many axes as the font.
 fn store_of(hvar: &[u8], axis_count: usize) -> Option<Store<'_>> {
-    let at = nullable_offset(hvar, 4)?;
+    let at = nullable_offset(hvar, ITEM_VARIATION_STORE_OFFSET)?;
     let s = item_store(from_offset(hvar, at as usize)?)?;
     if s.axis_count() as usize == axis_count {
         Some(s)

@@ -10,7 +10,13 @@ use crate::rattle::prelude::Cast;
 
 use crate::proved::subsetter_base::read::{signed_at, LazyArray16, Readable, Reader};
 use crate::proved::subsetter_base::Error;
-use crate::proved::subsetter_variation::region::{counted, RegionAxis};
+use crate::proved::subsetter_variation::items::layout::{
+    DELTA16_SIZE, DELTA32_SIZE, ITEM_VARIATION_DATA_COUNT, ITEM_VARIATION_DATA_OFFSETS, LONG_WORDS,
+    NO_VARIATION_INDEX, OFFSET32_SIZE, REGION_AXIS_COORDINATES_SIZE, REGION_COUNT, REGION_INDEXES,
+    REGION_INDEX_COUNT, REGION_INDEX_SIZE, VARIATION_REGIONS, VARIATION_REGION_LIST_OFFSET,
+    WORD_DELTA_COUNT,
+};
+use crate::proved::subsetter_variation::region::{counted, RegionAxis, ONE};
 use crate::proved::subsetter_variation::rounding::{nearest, scaled, wide_plus};
 
 /// An offset of 32 bits, unless it is 0, which stands for no table.
@@ -60,18 +66,19 @@ impl Readable<'_> for RegionAxis {
     const SIZE: usize = 6;
 
     fn read(r: &mut Reader<'_>) -> Option<Self> {
-        Some(region_axis_in(r.read_bytes(6)?))
+        Some(region_axis_in(r.read_bytes(REGION_AXIS_COORDINATES_SIZE)?))
     }
 }
 
 /// The store that these bytes begin, unless it is cut.
 pub fn item_store(bytes: &[u8]) -> Option<Store<'_>> {
     let format = Reader::new(bytes).read::<u16>()?;
-    let at = nullable_offset(bytes, 2)? as usize;
+    let at = nullable_offset(bytes, VARIATION_REGION_LIST_OFFSET)? as usize;
     let axis_count = Reader::new_at(bytes, at).read::<u16>()?;
-    let region_count = Reader::new_at(bytes, at + 2).read::<u16>()?;
-    let size = (region_count as usize).saturating_mul(axis_count as usize * 6);
-    let regions = Reader::new_at(bytes, at + 4).read_bytes(size)?;
+    let region_count = Reader::new_at(bytes, at + REGION_COUNT).read::<u16>()?;
+    let size =
+        (region_count as usize).saturating_mul(axis_count as usize * REGION_AXIS_COORDINATES_SIZE);
+    let regions = Reader::new_at(bytes, at + VARIATION_REGIONS).read_bytes(size)?;
     if format == 1 {
         Some(Store {
             axis_count,
@@ -89,7 +96,7 @@ pub fn region_items<'a>(s: &Store<'a>, index: u16) -> Option<LazyArray16<'a, Reg
     if index >= s.region_count {
         return None;
     }
-    let size = s.axis_count as usize * 6;
+    let size = s.axis_count as usize * REGION_AXIS_COORDINATES_SIZE;
     Reader::new_at(s.regions, index as usize * size).read_array16(s.axis_count)
 }
 
@@ -103,7 +110,7 @@ fn coordinate_in(at: &[i32]) -> Option<(i32, &[i32])> {
 
 /// The scalar of a region at a location, in parts of 2^30. The axes behind one that makes it 0 aren't read.
 pub fn region_scalar(region: LazyArray16<'_, RegionAxis>, at: &[i32]) -> i64 {
-    let mut whole = 1073741824;
+    let mut whole = ONE;
     let mut rest = at;
     for axis in region.iter() {
         let (first, others) = match coordinate_in(rest) {
@@ -131,8 +138,10 @@ fn row_at(
     long: bool,
 ) -> Option<Row<'_>> {
     let size = (count as usize + words as usize) * (if long { 2 } else { 1 });
-    let indexes = Reader::new_at(bytes, at + 6).read_bytes(count as usize * 2)?;
-    let from = (at + 6 + count as usize * 2).saturating_add((inner as usize).saturating_mul(size));
+    let indexes = Reader::new_at(bytes, at + REGION_INDEXES)
+        .read_bytes(count as usize * REGION_INDEX_SIZE)?;
+    let from = (at + REGION_INDEXES + count as usize * REGION_INDEX_SIZE)
+        .saturating_add((inner as usize).saturating_mul(size));
     let deltas = Reader::new_at(bytes, from).read_bytes(size)?;
     Some(Row {
         count,
@@ -146,10 +155,17 @@ fn row_at(
 /// The row of an item, by the offset of its data.
 fn row_in(bytes: &[u8], at: usize, inner: u32) -> Option<Row<'_>> {
     let items = Reader::new_at(bytes, at).read::<u16>()?;
-    let words = Reader::new_at(bytes, at + 2).read::<u16>()?;
-    let count = Reader::new_at(bytes, at + 4).read::<u16>()?;
-    if inner < u32::from(items) && words % 32768 <= count {
-        row_at(bytes, at, inner, count, words % 32768, words >= 32768)
+    let words = Reader::new_at(bytes, at + WORD_DELTA_COUNT).read::<u16>()?;
+    let count = Reader::new_at(bytes, at + REGION_INDEX_COUNT).read::<u16>()?;
+    if inner < u32::from(items) && words % LONG_WORDS <= count {
+        row_at(
+            bytes,
+            at,
+            inner,
+            count,
+            words % LONG_WORDS,
+            words >= LONG_WORDS,
+        )
     } else {
         None
     }
@@ -157,21 +173,24 @@ fn row_in(bytes: &[u8], at: usize, inner: u32) -> Option<Row<'_>> {
 
 /// The row of an item.
 fn item_row<'a>(s: &Store<'a>, outer: u32, inner: u32) -> Option<Row<'a>> {
-    let data_count = Reader::new_at(s.bytes, 6).read::<u16>()?;
+    let data_count = Reader::new_at(s.bytes, ITEM_VARIATION_DATA_COUNT).read::<u16>()?;
     if outer >= u32::from(data_count) {
         return None;
     }
-    let at = nullable_offset(s.bytes, 8 + outer as usize * 4)?;
+    let at = nullable_offset(
+        s.bytes,
+        ITEM_VARIATION_DATA_OFFSETS + outer as usize * OFFSET32_SIZE,
+    )?;
     row_in(s.bytes, at as usize, inner)
 }
 
 /// A delta that is a word.
 fn word_delta(r: &Row<'_>, k: u16) -> Option<i32> {
     if r.long {
-        let word = Reader::new_at(r.deltas, k as usize * 4).read::<u32>()?;
+        let word = Reader::new_at(r.deltas, k as usize * DELTA32_SIZE).read::<u32>()?;
         Some(word.to_signed())
     } else {
-        let word = Reader::new_at(r.deltas, k as usize * 2).read::<u16>()?;
+        let word = Reader::new_at(r.deltas, k as usize * DELTA16_SIZE).read::<u16>()?;
         Some(i32::from(word.to_signed()))
     }
 }
@@ -180,7 +199,7 @@ fn word_delta(r: &Row<'_>, k: u16) -> Option<i32> {
 fn byte_delta(r: &Row<'_>, k: u16) -> Option<i32> {
     let place = r.words as usize + k as usize;
     if r.long {
-        let word = Reader::new_at(r.deltas, place * 2).read::<u16>()?;
+        let word = Reader::new_at(r.deltas, place * DELTA16_SIZE).read::<u16>()?;
         Some(i32::from(word.to_signed()))
     } else {
         let byte = Reader::new_at(r.deltas, place).read::<u8>()?;
@@ -199,7 +218,7 @@ fn delta(r: &Row<'_>, k: u16) -> Option<i32> {
 
 /// The scalar of one of a row's regions, times its delta.
 fn term(s: &Store<'_>, at: &[i32], r: &Row<'_>, k: u16) -> Option<i64> {
-    let index = Reader::new_at(r.indexes, k as usize * 2).read::<u16>()?;
+    let index = Reader::new_at(r.indexes, k as usize * REGION_INDEX_SIZE).read::<u16>()?;
     let region = region_items(s, index)?;
     let d = delta(r, k)?;
     Some(scaled(region_scalar(region, at), i64::from(d)))
@@ -225,7 +244,7 @@ fn terms(s: &Store<'_>, at: &[i32], r: &Row<'_>) -> Option<i128> {
 
 /// What an item varies by at a location, in parts of 2^30.
 pub fn item_delta(s: &Store<'_>, at: &[i32], outer: u32, inner: u32) -> Option<i128> {
-    if outer == 65535 && inner == 65535 {
+    if outer == NO_VARIATION_INDEX && inner == NO_VARIATION_INDEX {
         return Some(0);
     }
     terms(s, at, &item_row(s, outer, inner)?)

@@ -18,6 +18,11 @@ use crate::proved::subsetter_variation::locations::segments::{
 use crate::proved::subsetter_variation::rounding::nearest;
 use crate::rattle::alloc::Global;
 
+/// axisCount of `avar`, two bytes.
+const AXIS_COUNT: usize = 6;
+/// axisSegmentMaps of `avar`.
+const AXIS_SEGMENT_MAPS: usize = 8;
+
 /// 65536ths as 16384ths.
 fn coarse(n: i64) -> i32 {
     nearest(n, 4) as i32
@@ -49,7 +54,7 @@ fn coordinates_at(
     settings: &[(Tag, i32)],
     avar: &[u8],
 ) -> Result<Vec<i32>, Error> {
-    let mut r = Reader::new_at(avar, 8);
+    let mut r = Reader::new_at(avar, AXIS_SEGMENT_MAPS);
     let mut coordinates = Vec::with_capacity(alloc, axes.len())?;
     for axis in axes {
         let ends = next_segment_map(&mut r).ok_or(Error::MalformedFont)?;
@@ -65,7 +70,7 @@ fn mapped_coordinates(
     settings: &[(Tag, i32)],
     avar: &[u8],
 ) -> Result<Vec<i32>, Error> {
-    let count = Reader::new_at(avar, 6)
+    let count = Reader::new_at(avar, AXIS_COUNT)
         .read::<u16>()
         .ok_or(Error::MalformedFont)?;
     if count as usize != axes.len() {

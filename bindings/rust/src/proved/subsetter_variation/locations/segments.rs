@@ -7,6 +7,11 @@
 use crate::proved::subsetter_base::read::{signed_at, LazyArray16, Readable, Reader};
 use crate::proved::subsetter_variation::rounding::{minus, part, plus};
 
+/// How many bytes the end of a segment has.
+const AXIS_VALUE_MAP_SIZE: usize = 4;
+/// 1 in 16384ths.
+const ONE: i16 = 16384;
+
 /// The end of a segment: a number and its new one, in 16384ths.
 #[derive(Clone, Copy, PartialEq, Eq)]
 pub struct AxisValueMap {
@@ -18,7 +23,7 @@ impl Readable<'_> for AxisValueMap {
     const SIZE: usize = 4;
 
     fn read(r: &mut Reader<'_>) -> Option<Self> {
-        let b = r.read_bytes(4)?;
+        let b = r.read_bytes(AXIS_VALUE_MAP_SIZE)?;
         Some(AxisValueMap {
             from: signed_at(b, 0),
             to: signed_at(b, 2),
@@ -92,7 +97,7 @@ fn ascends(ends: &LazyArray16<'_, AxisValueMap>) -> bool {
 
 /// Whether these are the ends of segments: -1, 0 and 1 are kept, and the ends ascend.
 fn is_segment_map(ends: &LazyArray16<'_, AxisValueMap>) -> bool {
-    keeps(ends, -16384) && keeps(ends, 0) && keeps(ends, 16384) && ascends(ends)
+    keeps(ends, -ONE) && keeps(ends, 0) && keeps(ends, ONE) && ascends(ends)
 }
 
 /// A number by the segments of an axis; one that is in none is unchanged, and so is each where the ends aren't those of segments.

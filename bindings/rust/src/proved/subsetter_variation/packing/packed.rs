@@ -11,6 +11,19 @@ use crate::rattle::prelude::{Cast, Vec};
 use crate::proved::subsetter_base::Error;
 use crate::rattle::alloc::Global;
 
+/// The flags of a run of deltas: all are 0, and it has no bytes.
+pub(crate) const DELTAS_ARE_ZERO: u8 = 0x80;
+/// Each has two bytes.
+pub(crate) const DELTAS_ARE_WORDS: u8 = 0x40;
+/// So many values are below these flags: one more than DELTA_RUN_COUNT_MASK.
+pub(crate) const DELTA_RUN_COUNTS: u8 = 0x40;
+/// The flag of a run of point numbers: each has two bytes.
+const POINTS_ARE_WORDS: u8 = 0x80;
+/// So many values are below this flag: one more than POINT_RUN_COUNT_MASK.
+const POINT_RUN_COUNTS: u8 = 0x80;
+/// The flag of a count of point numbers that has two bytes.
+const COUNT_IS_WORD: u8 = 0x80;
+
 /// A run that is being read.
 struct Run<'a> {
     /// How many numbers are left of it.
@@ -76,10 +89,10 @@ fn behind<'a>(r: Run<'a>, bytes: &'a [u8]) -> Run<'a> {
 
 /// The next delta of a run.
 fn delta_in<'a>(r: Run<'a>) -> Option<(i16, Run<'a>)> {
-    if r.control >= 128 {
+    if r.control >= DELTAS_ARE_ZERO {
         let rest = r.bytes;
         Some((0, behind(r, rest)))
-    } else if r.control >= 64 {
+    } else if r.control >= DELTAS_ARE_WORDS {
         let (word, rest) = word_in(r.bytes)?;
         Some((word.to_signed(), behind(r, rest)))
     } else {
@@ -90,12 +103,12 @@ fn delta_in<'a>(r: Run<'a>) -> Option<(i16, Run<'a>)> {
 
 /// The next delta of this run or the next.
 fn next_delta<'a>(r: Run<'a>) -> Option<(i16, Run<'a>)> {
-    delta_in(begun(64, r)?)
+    delta_in(begun(DELTA_RUN_COUNTS, r)?)
 }
 
 /// The next step of a run.
 fn step_in<'a>(r: Run<'a>) -> Option<(u16, Run<'a>)> {
-    if r.control >= 128 {
+    if r.control >= POINTS_ARE_WORDS {
         let (word, rest) = word_in(r.bytes)?;
         Some((word, behind(r, rest)))
     } else {
@@ -106,7 +119,7 @@ fn step_in<'a>(r: Run<'a>) -> Option<(u16, Run<'a>)> {
 
 /// The next number: by a step from the one before, not under the least, and below the limit.
 fn next_point<'a>(limit: u32, before: u32, least: u32, r: Run<'a>) -> Option<(u32, Run<'a>)> {
-    let (step, rest) = step_in(begun(128, r)?)?;
+    let (step, rest) = step_in(begun(POINT_RUN_COUNTS, r)?)?;
     let number = u64::from(before) + u64::from(step);
     if number < u64::from(least) {
         return None;
@@ -120,11 +133,14 @@ fn next_point<'a>(limit: u32, before: u32, least: u32, r: Run<'a>) -> Option<(u3
 /// How many numbers are listed.
 fn count_in(bytes: &[u8]) -> Option<(u16, &[u8])> {
     let (first, rest) = byte_in(bytes)?;
-    if first < 128 {
+    if first < COUNT_IS_WORD {
         return Some((u16::from(first), rest));
     }
     let (low, rest) = byte_in(rest)?;
-    Some((u16::from(first - 128) * 256 + u16::from(low), rest))
+    Some((
+        u16::from(first - COUNT_IS_WORD) * 256 + u16::from(low),
+        rest,
+    ))
 }
 
 /// The bytes behind the last run.

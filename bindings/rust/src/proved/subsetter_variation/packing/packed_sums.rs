@@ -4,7 +4,9 @@
 
 use crate::rattle::prelude::Cast;
 
-use crate::proved::subsetter_variation::packing::packed::byte_in;
+use crate::proved::subsetter_variation::packing::packed::{
+    byte_in, DELTAS_ARE_WORDS, DELTAS_ARE_ZERO, DELTA_RUN_COUNTS,
+};
 use crate::proved::subsetter_variation::rounding::given;
 
 /// The signed number of the byte at an offset.
@@ -35,10 +37,10 @@ fn add_words(sums: &mut [i64], bytes: &[u8], scalar: i64) {
 /// unless it is cut.
 fn add_run<'a>(sums: &mut [i64], control: u8, bytes: &'a [u8], scalar: i64) -> Option<&'a [u8]> {
     let count = sums.len();
-    if control >= 128 {
+    if control >= DELTAS_ARE_ZERO {
         return Some(bytes);
     }
-    if control >= 64 {
+    if control >= DELTAS_ARE_WORDS {
         if bytes.len() < count * 2 {
             return None;
         }
@@ -58,7 +60,7 @@ pub fn add_deltas<'a>(sums: &mut [i64], bytes: &'a [u8], scalar: i64) -> Option<
     let mut rest = bytes;
     while at < sums.len() {
         let (control, behind) = byte_in(rest)?;
-        let past = at + usize::from(control % 64) + 1;
+        let past = at + usize::from(control % DELTA_RUN_COUNTS) + 1;
         if past > sums.len() {
             return None;
         }
