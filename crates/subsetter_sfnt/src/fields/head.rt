@@ -9,7 +9,7 @@ use subsetter_base::fields::{number_in, signed_in};
 use subsetter_base::read::Reader;
 
 /// checksumAdjustment, four bytes.
-pub const CHECKSUM_ADJUSTMENT: usize = 8;
+pub(crate) const CHECKSUM_ADJUSTMENT: usize = 8;
 /// magicNumber, four bytes.
 const MAGIC_NUMBER: usize = 12;
 /// unitsPerEm, two bytes.

@@ -41,7 +41,7 @@ fn stem_of(units: u16, operator: &Operator, operands: &[Number]) -> Option<u32> 
     stem_by(units, operands)
 }
 
-/// That of the first entry of a private dict that says one. Two operands tell whether there is just one.
+/// That of the first entry of a private dict that has one. Two operands are enough to know whether there is just one.
 pub fn stem_in(units: u16, dict: &[u8]) -> Option<u32> {
     let mut buffer = [Number::zero(); 2];
     let mut parser = DictionaryParser::new(dict, &mut buffer);

@@ -5,15 +5,14 @@
 //! components are other glyphs. The new `glyf` has the outlines of the given glyphs and of all that these reach, each as it
 //! is but for the numbers of its components.
 //!
-//! The closure goes over the given glyphs from the last to the first, and keeps a stack of the components that wait; a
-//! waiting glyph that is known when it is taken is skipped. Whether a glyph is a composite is told by the first byte of
+//! The closure takes the given glyphs from the last to the first, and keeps a stack of the components that wait; a
+//! waiting glyph that is known when it is taken is skipped. Whether a glyph is a composite is known by the first byte of
 //! its outline. These bytes are read a block of 64 at a time, in a loop in which nothing depends on them, so that the
 //! processor fetches many at once; then the components of the block are followed, while its outlines are at hand. The
 //! outlines that were looked up are answered with the order, 24 bytes each, and given back once the new list is made.
 //!
 //! Which glyphs are reached is defined over a look-up of outlines (`IsReachableBy`), so that the closure is stated on
-//! the code's own tables. An outline needs `loca`, `glyf` and 52 bytes of `head`, as the format of `loca` stands at
-//! byte 50.
+//! the code's own tables. An outline needs `loca`, `glyf` and 52 bytes of `head`, as indexToLocFormat is at byte 50.
 
 use crate::rattle::prelude::Vec;
 

@@ -17,13 +17,13 @@ pub const TTC_TAG: u32 = 0x74746366;
 /// How many bytes such a word has.
 const SFNT_VERSION_SIZE: usize = 4;
 /// tableDirectoryOffsets of a collection's header, four bytes each.
-pub const TABLE_DIRECTORY_OFFSETS: usize = 12;
+pub(crate) const TABLE_DIRECTORY_OFFSETS: usize = 12;
 /// numTables of a table directory, two bytes.
-pub const NUM_TABLES: usize = 4;
+pub(crate) const NUM_TABLES: usize = 4;
 /// tableRecords of a table directory.
-pub const TABLE_RECORDS: usize = 12;
+pub(crate) const TABLE_RECORDS: usize = 12;
 /// How many bytes a record has.
-pub const TABLE_RECORD_SIZE: usize = 16;
+pub(crate) const TABLE_RECORD_SIZE: usize = 16;
 
 /// What a file or a part of it begins with.
 #[derive(Clone, Copy, Debug, PartialEq, Eq)]

@@ -99,7 +99,7 @@ fn descent_of(line: Line) -> i32 {
     -line.descent.abs()
 }
 
-/// The height of capitals: what is said, else Ascent.
+/// The height of capitals: what is stated, else Ascent.
 pub fn cap_height(height: Option<i32>, line: Line) -> i32 {
     match height {
         Some(height) => height,

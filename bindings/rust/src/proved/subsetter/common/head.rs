@@ -32,7 +32,7 @@ impl<'a> NewHead<'a> {
 }
 
 /// `head` of a subset, where the source has it: with zeros in checksumAdjustment, and with the format of `loca`, which is
-/// the short one in a font without `loca`. Under 52 bytes, where that format would stand, it is `MalformedFont`.
+/// the short one in a font without `loca`. Under 52 bytes, where that format would be, it is `MalformedFont`.
 pub fn subset<'a>(head: Option<&'a [u8]>, long: bool) -> Result<Option<NewHead<'a>>, Error> {
     let head = match head {
         Some(head) => head,

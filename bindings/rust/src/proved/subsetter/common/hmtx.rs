@@ -5,7 +5,7 @@
 //! alone for the glyphs after these, which share the last advance. The new `hmtx` has the metrics of the new glyphs by the
 //! least number of pairs, and `hhea` is the source's but for that number.
 //!
-//! That the number of pairs is the least is said without the trimming: no bytes whatever give the glyphs' metrics by a
+//! That the number of pairs is the least is stated without the trimming: no bytes whatever give the glyphs' metrics by a
 //! lesser count. A bearing is two bytes that are kept and never computed with.
 
 use crate::rattle::prelude::Vec;

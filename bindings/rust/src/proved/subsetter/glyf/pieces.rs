@@ -5,7 +5,7 @@
 use crate::proved::subsetter_base::read::u16_at;
 
 /// A simple outline without its instructions: what is before their length, and what is behind them. A length of
-/// 0 stands between the two.
+/// 0 is between the two.
 #[derive(Clone, Copy)]
 pub struct Bare<'a> {
     pub front: &'a [u8],

@@ -3,10 +3,10 @@
 //! Number Encoding").
 
 /// Of an integer in two bytes more.
-pub const SHORT_INTEGER: u8 = 28;
+pub(crate) const SHORT_INTEGER: u8 = 28;
 /// Of an integer in four bytes more; in a DICT alone.
-pub const LONG_INTEGER: u8 = 29;
+pub(crate) const LONG_INTEGER: u8 = 29;
 /// Of a real, whose characters are in the nibbles behind it; in a DICT alone.
-pub const REAL: u8 = 30;
+pub(crate) const REAL: u8 = 30;
 /// Of a number of 65536ths in four bytes more; in a charstring alone.
-pub const FIXED: u8 = 255;
+pub(crate) const FIXED: u8 = 255;

@@ -2,19 +2,19 @@
 //! The text of a real.
 
 /// The characters of a real by their nibbles (Technical Note 5176, table 5): `.`, which stands between digits.
-pub const POINT: u8 = 10;
+pub(crate) const POINT: u8 = 10;
 /// `E`, before an exponent.
-pub const EXPONENT: u8 = 11;
+pub(crate) const EXPONENT: u8 = 11;
 /// `E-`, before an exponent below 0.
 const NEGATIVE_EXPONENT: u8 = 12;
 /// No character.
 const RESERVED: u8 = 13;
 /// `-`
-pub const MINUS: u8 = 14;
+pub(crate) const MINUS: u8 = 14;
 /// The end of a number.
-pub const END: u8 = 15;
+pub(crate) const END: u8 = 15;
 /// The end in both nibbles of a byte.
-pub const TWO_ENDS: u8 = 255;
+pub(crate) const TWO_ENDS: u8 = 255;
 
 /// At most 64 characters.
 #[derive(Clone, Copy)]

@@ -16,7 +16,7 @@ use crate::rattle::alloc::{AllocError, Global};
 pub enum Arguments {
     /// Moved by x and y, in font design units.
     Offset(i16, i16),
-    /// So that its point of the second number lies on the point of the first number of the components before it.
+    /// So that its point of the second number matches the point of the first number of the components before it.
     Points(u16, u16),
 }
 

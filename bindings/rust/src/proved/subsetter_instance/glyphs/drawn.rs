@@ -165,7 +165,7 @@ pub fn draw(
     Ok((drawn, kept))
 }
 
-/// What is drawn of a glyph that is asked for, and the glyphs that are kept. `MalformedFont` where it is none of the font's.
+/// What is drawn of a glyph that is requested, and the glyphs that are kept. `MalformedFont` where it is none of the font's.
 fn drawn_if(
     alloc: Global,
     source: &Source<'_>,

@@ -27,30 +27,22 @@ fn quotient(v: i64) -> i64 {
     nearest(v, 16384)
 }
 
-/// x of a point through a matrix.
-fn transformed_x(m: Matrix, x: i64, y: i64) -> i64 {
-    quotient(sum(m.xx, x, m.xy, y))
+/// A coordinate of a point through a row of a matrix.
+fn transformed(a: i16, b: i16, x: i64, y: i64) -> i64 {
+    quotient(sum(a, x, b, y))
 }
 
-/// x of points through a matrix.
-fn all_xs(alloc: Global, m: Matrix, xs: &[i64], ys: &[i64]) -> Result<Vec<i64>, AllocError> {
+/// A column of coordinates through a row of a matrix.
+fn transformed_column(
+    alloc: Global,
+    a: i16,
+    b: i16,
+    xs: &[i64],
+    ys: &[i64],
+) -> Result<Vec<i64>, AllocError> {
     let mut all = Vec::with_capacity(alloc, xs.len())?;
     for i in 0..xs.len() {
-        all.push(transformed_x(m, xs[i], ys[i]))?;
-    }
-    Ok(all)
-}
-
-/// y of a point through a matrix.
-fn transformed_y(m: Matrix, x: i64, y: i64) -> i64 {
-    quotient(sum(m.yx, x, m.yy, y))
-}
-
-/// y of points through a matrix.
-fn all_ys(alloc: Global, m: Matrix, xs: &[i64], ys: &[i64]) -> Result<Vec<i64>, AllocError> {
-    let mut all = Vec::with_capacity(alloc, xs.len())?;
-    for i in 0..xs.len() {
-        all.push(transformed_y(m, xs[i], ys[i]))?;
+        all.push(transformed(a, b, xs[i], ys[i]))?;
     }
     Ok(all)
 }
@@ -78,7 +70,7 @@ fn point_at(xs: &[i64], ys: &[i64], number: u16) -> Option<(i64, i64)> {
     Some((x, y))
 }
 
-/// How far a point of a component is from the one that it is to lie on. `MalformedFont` where one isn't there.
+/// How far a point of a component is from the one that it is to match. `MalformedFont` where one isn't there.
 fn matched(parent: Option<(i64, i64)>, child: Option<(i64, i64)>) -> Result<(i64, i64), Error> {
     let (x, y) = parent.ok_or(Error::MalformedFont)?;
     let (from_x, from_y) = child.ok_or(Error::MalformedFont)?;
@@ -244,8 +236,8 @@ pub fn with_part(
     match component.matrix {
         None => with_points(component, x, y, before, part, &part.xs, &part.ys, steps),
         Some(m) => {
-            let xs = all_xs(alloc, m, &part.xs, &part.ys)?;
-            let ys = all_ys(alloc, m, &part.xs, &part.ys)?;
+            let xs = transformed_column(alloc, m.xx, m.xy, &part.xs, &part.ys)?;
+            let ys = transformed_column(alloc, m.yx, m.yy, &part.xs, &part.ys)?;
             with_points(component, x, y, before, part, &xs, &ys, steps)
         }
     }

@@ -25,7 +25,7 @@ fn x_min(bytes: &[u8]) -> i16 {
     }
 }
 
-/// Where the left side of the default lies.
+/// x of the left side of the default.
 fn left_side(bytes: &[u8], metric: LongHorMetric) -> i32 {
     i32::from(x_min(bytes)) - i32::from(metric.lsb.to_signed())
 }
@@ -48,7 +48,7 @@ pub fn left_point(bytes: &[u8], metric: LongHorMetric, n: usize, xs: &[i64]) -> 
     plus(in_parts(left_side(bytes, metric)), coordinate_at(xs, n))
 }
 
-/// Where the right side of the default lies.
+/// x of the right side of the default.
 fn right_side(bytes: &[u8], metric: LongHorMetric) -> i32 {
     left_side(bytes, metric) + i32::from(metric.advance_width)
 }
@@ -170,7 +170,7 @@ fn simple_outline(
     })
 }
 
-/// A simple glyph at a place, of which the description is read, and the steps that are left.
+/// A simple glyph at a location, of which the description is read, and the steps that are left.
 fn unfold_columns(
     alloc: Global,
     source: &Source<'_>,

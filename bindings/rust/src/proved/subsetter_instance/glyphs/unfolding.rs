@@ -11,10 +11,10 @@ use crate::proved::subsetter_instance::glyphs::simple::unfold_simple;
 use crate::proved::subsetter_instance::source::Source;
 use crate::rattle::alloc::Global;
 
-/// How deep components may lead to components: 64 levels below a glyph.
+/// How deep components may have components: 64 levels below a glyph.
 const LEVELS: u8 = 65;
 
-/// A glyph at a location: the number of each contour's last point, which points are on the curve, where they lie, and x of
+/// A glyph at a location: the number of each contour's last point, which points are on the curve, their coordinates, and x of
 /// the left and of the right phantom point. All coordinates are in parts of 2^30.
 pub struct Unfolded {
     pub ends: Vec<u16>,
@@ -45,7 +45,7 @@ pub fn counted_description<'a>(source: &Source<'a>, glyph: u16) -> Option<&'a [u
     }
 }
 
-/// A glyph at a place, the steps that are left, and the glyphs that are kept. It may lead to components so many levels deep.
+/// A glyph at a location, the steps that are left, and the glyphs that are kept. It may have components so many levels deep.
 fn unfold_within(
     alloc: Global,
     depth: u8,

@@ -11,7 +11,7 @@ use crate::proved::subsetter_sfnt::fields::hmtx::{LongHorMetric, LONG_HOR_METRIC
 use crate::proved::subsetter_sfnt::fields::loca::{write_offset, OFFSET16_MAX, OFFSET32_SIZE};
 use crate::rattle::alloc::Global;
 
-/// What is drawn of a glyph, if it was asked for.
+/// What is drawn of a glyph, if it was requested.
 fn glyph_among<'a>(mapper: &GlyphRemapper, drawn: &'a [Drawn], glyph: u16) -> Option<&'a Drawn> {
     let place = mapper.get(glyph)?;
     drawn.get(usize::from(place))
@@ -31,7 +31,7 @@ pub fn by_glyph<'a>(
     Ok(all)
 }
 
-/// Appends the description of a glyph, of even length; nothing where it wasn't asked for.
+/// Appends the description of a glyph, of even length; nothing where it wasn't requested.
 fn write_outline(glyf: &mut Vec<u8>, drawn: Option<&Drawn>) -> Result<(), Error> {
     match drawn {
         Some(drawn) => drawn.write_outline(glyf),
@@ -71,7 +71,7 @@ pub fn loca(alloc: Global, long: bool, offsets: &[usize]) -> Result<Vec<u8>, Err
     Ok(loca)
 }
 
-/// The metric of a glyph, 0 and 0 where it wasn't asked for.
+/// The metric of a glyph, 0 and 0 where it wasn't requested.
 fn metric_of(drawn: Option<&Drawn>) -> LongHorMetric {
     match drawn {
         Some(drawn) => drawn.metric(),

@@ -9,7 +9,7 @@ use crate::proved::subsetter_base::read::Reader;
 use crate::proved::subsetter_sfnt::laying::room::put;
 
 /// checksumAdjustment, four bytes.
-pub const CHECKSUM_ADJUSTMENT: usize = 8;
+pub(crate) const CHECKSUM_ADJUSTMENT: usize = 8;
 /// magicNumber, four bytes.
 const MAGIC_NUMBER: usize = 12;
 /// unitsPerEm, two bytes.

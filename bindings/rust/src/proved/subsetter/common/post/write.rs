@@ -2,8 +2,8 @@
 //! The new `post`.
 //!
 //! It has the source's header, an index for each new glyph, and for each name of the font's own a string. A table of
-//! another version than 2.0 is copied. More than 65,278 names of the font's own are said by a list of distinct reached
-//! glyphs with such names that is longer than that.
+//! another version than 2.0 is copied. More than 65,278 names of the font's own mean a list of distinct reached glyphs
+//! with such names that is longer than that.
 
 use crate::rattle::prelude::Vec;
 

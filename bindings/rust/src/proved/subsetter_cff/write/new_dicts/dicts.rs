@@ -30,7 +30,7 @@ pub struct WrittenDicts {
     pub dicts: Vec<Vec<u8>>,
 }
 
-/// The place behind a piece. An offset is at most 2147483647: a greater one is `OverflowError`.
+/// The offset behind a piece. An offset is at most 2147483647: a greater one is `OverflowError`.
 pub fn offset_behind(place: usize, size: usize) -> Result<usize, Error> {
     let end = match place.checked_add(size) {
         Some(end) => end,
@@ -85,7 +85,7 @@ fn put_dict(
     Ok(())
 }
 
-/// The font dicts, whose private dicts are from a place on. A real that is too long, or a private dict that ends past
+/// The font dicts, whose private dicts are from an offset on. A real that is too long, or a private dict that ends past
 /// 2147483647, is `OverflowError`.
 pub fn write_dicts(
     alloc: Global,

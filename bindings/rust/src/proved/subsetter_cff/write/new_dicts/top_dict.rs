@@ -12,7 +12,7 @@ use crate::proved::subsetter_cffdata::dicts::dict::operators::{
 };
 use crate::proved::subsetter_cffdata::numerals::number::{IntegerNumber, Number, StringId};
 
-/// What a new top dict says, beside where the parts stand.
+/// The values of a new top dict, beside the offsets of the parts.
 pub struct TopDict<'a> {
     /// The number of the copyright's string.
     pub copyright: Option<StringId>,
@@ -26,7 +26,7 @@ pub struct TopDict<'a> {
     pub font_box: &'a [Number; 4],
 }
 
-/// Where the parts stand that a new top dict names.
+/// The offsets of the parts that a new top dict names.
 #[derive(Clone, Copy)]
 pub struct Offsets {
     /// The charset.
