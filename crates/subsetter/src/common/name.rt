@@ -45,7 +45,7 @@ const LINEAR_MAX: usize = 32;
 #[derive(Drop)]
 struct Strings<'a> {
     strings: Vec<&'a [u8]>,
-    /// Where the strings begin that stand behind the first 32, and of these none.
+    /// The offsets of the strings after the first 32.
     hashed: HashMap<Text<'a>, u16>,
     size: usize,
 }

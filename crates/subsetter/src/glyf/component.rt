@@ -215,7 +215,7 @@ fn renumber(
     put_number(out, at + 2, number);
 }
 
-/// Leaves out as many bytes behind the last component, unless these are its instructions, and asked for.
+/// Removes the last `size` bytes, unless they are instructions, and requested.
 fn cut_tail(out: &mut Vec<u8>, flags: u16, size: usize, hinting: bool)
     requires { size ≤ length out.old.items }
     ensures { out.new.items ≡ (if hinting && has_instructions flags then out.old.items else take (length out.old.items - size) out.old.items) }

@@ -20,7 +20,7 @@ const MAX_OFFSET: usize = 0xffff_ffff;
 const FILE_SUM: u32 = 0xB1B0AFBA;
 
 /// How many bytes the file has. `OverflowError` where an offset or a length is 2^32 or more. No memory is taken.
-fn measured<T: TableBytes>(tables: &[NewTable<T>]) -> Result<usize, Error> {
+fn file_size<T: TableBytes>(tables: &[NewTable<T>]) -> Result<usize, Error> {
     let mut at = TABLE_RECORDS + TABLE_RECORD_SIZE * tables.len();
     for table in tables {
         if at > MAX_OFFSET {
@@ -179,7 +179,7 @@ pub fn finish<T: TableBytes>(
     tables: &[NewTable<T>],
     bytes: Option<u32>,
 ) -> Result<Vec<u8>, Error> {
-    let size = measured(tables)?;
+    let size = file_size(tables)?;
     check_bound(size, bytes)?;
     let front = Vec::with_capacity(alloc, TABLE_RECORDS + TABLE_RECORD_SIZE * tables.len())?;
     let out = Vec::with_capacity(alloc, size)?;
