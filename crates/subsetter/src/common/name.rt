@@ -35,8 +35,6 @@ use subsetter_sfnt::laying::room::put;
 const KEPT_NAMES: u16 = 15;
 /// The name that describes the typeface.
 const DESCRIPTION: u16 = 10;
-/// The greatest offset of a string, which has 16 bits.
-const OFFSET16_LAST: usize = 65535;
 /// The most bytes of records before storageOffset passes 16 bits.
 const RECORDS_MAX: usize = 65520;
 
@@ -161,7 +159,7 @@ impl<'a> Strings<'a> {
     {
         let found = self.find(string);
         let place = found.unwrap_or(self.size);
-        if place > OFFSET16_LAST {
+        if place > 65535 {
             return Err(Error::SubsetError);
         }
         if found.is_none() {
