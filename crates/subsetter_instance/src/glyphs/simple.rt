@@ -14,6 +14,7 @@ use crate::source::Source;
 use std::alloc::{AllocError, Global};
 use subsetter_base::Error;
 use subsetter_base::read::Reader;
+use subsetter_points::header::X_MIN;
 use subsetter_points::{Columns, read_columns};
 use subsetter_sfnt::fields::hmtx::LongHorMetric;
 use subsetter_variation::glyphs::movement::{Outline as DefaultOutline, moved_points, spent};
@@ -25,7 +26,7 @@ use subsetter_variation::rounding::plus;
 fn x_min(bytes: &[u8]) -> i16
     ensures { result ≡ x_min bytes.now }
 {
-    match Reader::new_at(bytes, 2).read::<u16>() {
+    match Reader::new_at(bytes, X_MIN).read::<u16>() {
         Some(bits) => bits.cast_signed(),
         None => 0,
     }

@@ -16,6 +16,7 @@ use std::alloc::Global;
 use std::marker::Model;
 use subsetter_base::Error;
 use subsetter_base::read::Reader;
+use subsetter_points::header::COMPOSITE;
 
 /// How deep components may have components: 64 levels below a glyph.
 const LEVELS: u8 = 65;
@@ -47,7 +48,7 @@ pub fn is_composite(bytes: &[u8]) -> bool
     let Some(contours) = Reader::new(bytes).read::<u16>() else {
         return false;
     };
-    contours >= 0x8000
+    contours >= COMPOSITE
 }
 
 /// The description of a glyph that `maxp` counts, if it is there.
