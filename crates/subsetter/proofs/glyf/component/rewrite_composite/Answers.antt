@@ -8,8 +8,8 @@ use Rattle.subsetter.proofs.GlyfLaws.Chains.{with_front, chain_text, text_fails,
 use Rattle.subsetter.proofs.GlyfLaws.Renumbering.{underway_starts, underway_next, underway_ends, behind_starts, behind_next}
 use Rattle.subsetter.proofs.glyf.component.rewrite_composite.Goals as goal
 
-pub returns-then-outline-lt10-clause-err : goal.returns-then-outline-lt10-clause-err
-returns-then-outline-lt10-clause-err c = ap (behind c.args.out.now.items) (composite_short c.args.hinting c.args.order.now c.args.outline.now (omega arith))
+pub returns-then-outline-lt-HEADER_SIZE-clause-err : goal.returns-then-outline-lt-HEADER_SIZE-clause-err
+returns-then-outline-lt-HEADER_SIZE-clause-err c = ap (behind c.args.out.now.items) (composite_short c.args.hinting c.args.order.now c.args.outline.now (omega arith))
 
 pub loop-component-init : goal.loop-component-init
 loop-component-init c =
