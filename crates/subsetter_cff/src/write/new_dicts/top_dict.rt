@@ -63,7 +63,7 @@ fn write_registry(w: &mut Writer) -> Result<(), Error>
 pub const OFFSETS_SIZE: usize = 33;
 
 /// CIDCount: all numbers of 16 bits but the last.
-const CIDS: i32 = 65535;
+const CIDS: u16 = 65535;
 
 /// Writes the entries with offsets.
 pub fn write_offsets(offsets: &Offsets, w: &mut Writer) -> Result<(), Error>
