@@ -67,7 +67,7 @@ pub fn records(file: &[u8], index: u32) -> Option<&[u8]>
     records_at(file, at)
 }
 
-/// The first record that bears a tag.
+/// The first record that has a tag.
 pub fn find_record(records: &[u8], tag: Tag) -> Option<TableRecord>
     ensures { result ≡ find_record tag.0 (directory_records (length records.now / 16) records.now) }
 {

@@ -14,7 +14,7 @@ use crate::face::{Face, FontKind, TABLE_DIRECTORY_OFFSETS};
 use subsetter_base::read::Reader;
 use subsetter_base::{Error, Tag};
 
-/// Where the font's header stands.
+/// The offset of the font's header.
 #[tactic(auto, unfolding(crate::specs::Plain::opened_header))]
 fn header(file: &[u8], index: u32, extras: Extras) -> Result<usize, Error>
     ensures exact { result ≡ opened_header (record { bytes = file.now; index = index; extras = extras }) }
@@ -55,7 +55,7 @@ pub fn parse(file: &[u8], index: u32, extras: Extras) -> Result<Face<'_>, Error>
 }
 
 impl<'a> Face<'a> {
-    /// Whether a table isn't asked for.
+    /// Whether a table isn't requested.
     fn leaves_out(&self, tag: Tag) -> bool
         ensures { result ≡ ((not self.now.extras.hinting && is_program tag.0) || (not self.now.extras.names && bytes_eq tag.0 (codes "name"))) }
     {

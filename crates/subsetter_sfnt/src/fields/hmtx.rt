@@ -34,7 +34,7 @@ impl LongHorMetric {
     }
 }
 
-/// An advance and a bearing at two places of `hmtx`.
+/// An advance and a bearing at two offsets of `hmtx`.
 fn metric_at(hmtx: &[u8], advance_at: usize, bearing_at: usize) -> Option<LongHorMetric>
     ensures { result ≡ metric_at hmtx.now advance_at bearing_at }
 {
@@ -73,7 +73,7 @@ pub fn last_advance(hmtx: &[u8], count: u16) -> Option<u16>
     Reader::new_at(hmtx, LONG_HOR_METRIC_SIZE * (count as usize - 1)).read::<u16>()
 }
 
-/// The advance of a glyph, where so many pairs are said.
+/// The advance of a glyph, where so many pairs are stated.
 pub fn glyph_advance(hmtx: &[u8], count: u16, glyph: u16) -> Option<u16>
     ensures { result ≡ advance_in hmtx.now count glyph }
 {

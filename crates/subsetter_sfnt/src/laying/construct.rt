@@ -1,6 +1,6 @@
 //! Laying out a font file.
 //!
-//! The checksum adjustment is a patch of four bytes, the last step. That the tables' places fit 32 bits is checked by
+//! The checksum adjustment is a patch of four bytes, the last step. That the tables' offsets fit 32 bits is checked by
 //! `measured`, which takes no memory and whose clause names its one error.
 
 ghost use Rattle.std.specs.Prelude.{◌≡◌, ◌+◌, ◌-◌, ◌*◌, ◌<◌, ◌≤◌, ◌^◌, ◌++◌, ◌%◌, [], length, map, take, drop, true, false, vec_capacity, OnOk, IfOk, IfErr};
@@ -28,7 +28,7 @@ const MAX_OFFSET: usize = 0xffff_ffff;
 /// The sum of a whole file with its adjustment (OpenType, "head", checksumAdjustment).
 const FILE_SUM: u32 = 0xB1B0AFBA;
 
-/// How many bytes the file has. `OverflowError` where a place or a length is 2^32 or more. No memory is taken.
+/// How many bytes the file has. `OverflowError` where an offset or a length is 2^32 or more. No memory is taken.
 fn measured<T: TableBytes>(tables: &[NewTable<T>]) -> Result<usize, Error>
     requires { length tables.now < 16 }
     ensures ok { IfOk result (λ n. (fits (start_of (views T.bytes_of tables.now)) (views T.bytes_of tables.now) ≡ true) × (n ≡ start_of (views T.bytes_of tables.now) + length (body (views T.bytes_of tables.now)))) }
@@ -103,7 +103,7 @@ fn write_words(out: &mut Vec<u8>, sum: u32, at: u32, len: u32)
     put(out, &[a, b, c, d, e, f, g, h, i, j, k, l]);
 }
 
-/// Writes the record of a table that stands at a place.
+/// Writes the record of a table that is at an offset.
 fn write_record<T: TableBytes>(
     out: &mut Vec<u8>,
     at: usize,
@@ -145,7 +145,7 @@ fn write_table<T: TableBytes>(
     sum
 }
 
-/// Writes tables, each with zeros up to a multiple of four, and the records of tables that stand from a place on.
+/// Writes tables, each with zeros up to a multiple of four, and the records of tables that are from an offset on.
 /// Answers the checksum of all the tables.
 fn write_tables<T: TableBytes>(
     out: &mut Vec<u8>,
@@ -171,7 +171,7 @@ fn write_tables<T: TableBytes>(
     sum
 }
 
-/// Puts the adjustment into a table that stands at a place, if it is `head`.
+/// Puts the adjustment into a table that is at an offset, if it is `head`.
 fn adjust_table<T: TableBytes>(out: &mut Vec<u8>, at: usize, word: u32, table: &NewTable<T>)
     requires is_table { IsTable (view T.bytes_of table.now) }
     requires within { at + length (view T.bytes_of table.now).bytes ≤ length out.old.items }
@@ -183,7 +183,7 @@ fn adjust_table<T: TableBytes>(out: &mut Vec<u8>, at: usize, word: u32, table: &
     }
 }
 
-/// Puts the adjustment into `head` among the tables that stand from a place on.
+/// Puts the adjustment into `head` among the tables that are from an offset on.
 fn adjust<T: TableBytes>(out: &mut Vec<u8>, start: usize, word: u32, tables: &[NewTable<T>])
     requires tables { AllByRecursion IsTable (views T.bytes_of tables.now) }
     requires fit { fits start (views T.bytes_of tables.now) ≡ true }
@@ -198,7 +198,7 @@ fn adjust<T: TableBytes>(out: &mut Vec<u8>, start: usize, word: u32, tables: &[N
     }
 }
 
-/// Keeps room for what stands before the tables.
+/// Keeps room for what is before the tables.
 fn skip_front(out: &mut Vec<u8>, count: usize)
     requires few { count ≤ 252 }
     requires room { length out.old.items + count ≤ vec_capacity out.old }
@@ -208,7 +208,7 @@ fn skip_front(out: &mut Vec<u8>, count: usize)
     put(out, &[0; 252][..count]);
 }
 
-/// Puts bytes in the place of as many from a place on.
+/// Puts bytes in place of as many from an offset on.
 fn patch_bytes(out: &mut Vec<u8>, at: usize, bytes: &[u8])
     requires { at + length bytes.now ≤ length out.old.items }
     ensures { out.new.items ≡ take at out.old.items ++ bytes.now ++ drop (at + length bytes.now) out.old.items }
@@ -256,7 +256,7 @@ fn check_bound(size: usize, bytes: Option<u32>) -> Result<(), Error>
     }
 }
 
-/// Lays out a file. Its size is taken first: `OverflowError` where a place or a length is 2^32 or more, or where it has more
+/// Lays out a file. Its size is taken first: `OverflowError` where an offset or a length is 2^32 or more, or where it has more
 /// bytes than it may, if these have a bound. Room is reserved once.
 #[tactic(auto, unfolding(crate::specs::Plain::file_of))]
 pub fn finish<T: TableBytes>(
