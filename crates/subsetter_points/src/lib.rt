@@ -16,6 +16,7 @@
 
 mod bounds;
 pub mod component;
+pub mod header;
 pub mod laws;
 mod list_bytes;
 mod lists;

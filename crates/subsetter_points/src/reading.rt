@@ -12,6 +12,7 @@ ghost use Rattle.subsetter_base.specs.declared.error.Error.TheVariants.{OutOfMem
 ghost use Rattle.subsetter_points.specs.Simple.{points, points_at, body_at, parts_at, description_at, header_at, parts, simple, are_ends};
 ghost use Rattle.subsetter_points.specs.View.{parts_of, parts_of_columns, contours_of};
 
+use crate::header::HEADER_SIZE;
 use crate::lists::coordinates::read_coordinates;
 use crate::lists::deltas::{
     X_IS_SAME_OR_POSITIVE_X_SHORT_VECTOR, X_SHORT_VECTOR, Y_IS_SAME_OR_POSITIVE_Y_SHORT_VECTOR,
@@ -26,8 +27,6 @@ use std::alloc::Global;
 use subsetter_base::Error;
 use subsetter_base::read::Reader;
 
-/// The size of the header: the number of contours and the bounding box.
-const HEADER_SIZE: usize = 10;
 /// The most contours of a simple glyph: `numberOfContours` is an int16, and below 0 for a composite glyph.
 const MOST_CONTOURS: u16 = 0x7FFF;
 

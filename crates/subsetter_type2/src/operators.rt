@@ -62,6 +62,18 @@ pub mod first_byte {
     pub const LEAST_NUMBER: u8 = 32;
 }
 
+/// The second bytes of the operators of two bytes.
+pub mod second_byte {
+    /// hflex.
+    pub const HFLEX: u8 = 34;
+    /// flex.
+    pub const FLEX: u8 = 35;
+    /// hflex1.
+    pub const HFLEX1: u8 = 36;
+    /// flex1.
+    pub const FLEX1: u8 = 37;
+}
+
 /// hstem (1): the edges of horizontal stems.
 pub const HORIZONTAL_STEM: Operator = Operator(OneByteOperator([first_byte::HORIZONTAL_STEM]));
 
@@ -147,16 +159,19 @@ pub const VH_CURVE_TO: Operator = Operator(OneByteOperator([first_byte::VH_CURVE
 pub const HV_CURVE_TO: Operator = Operator(OneByteOperator([first_byte::HV_CURVE_TO]));
 
 /// hflex (12 34): two curves that are drawn as one line where their depth is below half a pixel. The ends and the control points next to them have one height, the joint and its neighbours another.
-pub const HFLEX: Operator = Operator(TwoByteOperator([TWO_BYTE_OPERATOR_MARK, 34]));
+pub const HFLEX: Operator = Operator(TwoByteOperator([TWO_BYTE_OPERATOR_MARK, second_byte::HFLEX]));
 
 /// flex (12 35): such curves with any points, and the depth, in hundredths of a pixel, below which they are a line.
-pub const FLEX: Operator = Operator(TwoByteOperator([TWO_BYTE_OPERATOR_MARK, 35]));
+pub const FLEX: Operator = Operator(TwoByteOperator([TWO_BYTE_OPERATOR_MARK, second_byte::FLEX]));
 
 /// hflex1 (12 36): such curves by half a pixel. The two ends have one height, the joint and its neighbours another.
-pub const HFLEX1: Operator = Operator(TwoByteOperator([TWO_BYTE_OPERATOR_MARK, 36]));
+pub const HFLEX1: Operator = Operator(TwoByteOperator([
+    TWO_BYTE_OPERATOR_MARK,
+    second_byte::HFLEX1,
+]));
 
 /// flex1 (12 37): such curves by half a pixel. The two ends have one height or one x.
-pub const FLEX1: Operator = Operator(TwoByteOperator([TWO_BYTE_OPERATOR_MARK, 37]));
+pub const FLEX1: Operator = Operator(TwoByteOperator([TWO_BYTE_OPERATOR_MARK, second_byte::FLEX1]));
 
 /// No operator (255): a number of 65536ths follows, of four bytes.
 pub const FIXED_16_16: Operator = Operator(OneByteOperator([first_byte::FIXED_16_16]));

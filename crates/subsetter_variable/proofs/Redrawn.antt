@@ -21,7 +21,7 @@ use Rattle.subsetter_variation.specs.Glyphs.Tuples.{Gvar}
 use Rattle.subsetter_variation.specs.Glyphs.Varied.{in_units}
 use Rattle.subsetter_sfnt.specs.declared.fields.hmtx.LongHorMetric.{LongHorMetric}
 use Rattle.subsetter_instance.specs.Source.{Source, description, metric}
-use Rattle.subsetter_instance.specs.Glyphs.Unfolded.{Unfolded, moved, with_phantoms, near_or_fault, left_side, left_point, right_point, x_min, signed_or_zero, simple_outline, unfolded_simple, unfolded_composite, is_composite, is_below_zero, counted_description, unfolded}
+use Rattle.subsetter_instance.specs.Glyphs.Unfolded.{Unfolded, moved, with_phantoms, in_range_or_fault, left_side, left_point, right_point, x_min, signed_or_zero, simple_outline, unfolded_simple, unfolded_composite, is_composite, is_below_zero, counted_description, unfolded}
 use Rattle.subsetter_instance.specs.Glyphs.Drawn.{Drawn, whole, word_or_fault, point_or_fault, points_or_fault, advance_or_fault, advance, bearing, drawn_if_fit, levels, rounded, drawn}
 use Rattle.subsetter_instance.specs.Instance.{IsDrawn}
 use Rattle.subsetter_instance.proofs.FileLaws.Fitting.{drawn_fits}
@@ -148,7 +148,7 @@ module _ (es : List ℕ) (ps : List Point) (width : ℕ) (small : cast_unsigned 
     simple_is : (steps : ℕ) (u : Unfolded × ℕ) → unfolded_simple s [] steps g text own ≡ Ok u → u.0 ≡ unmoved
     unfolding unfolded_simple
     simple_is steps u h =
-        let near = λ (o : List ℕ × List Point) (to : List ℤ × List ℤ × ℕ). near_or_fault (simple_outline text own o.0 o.1 to.0 to.1) to.2 in
+        let near = λ (o : List ℕ × List Point) (to : List ℤ × List ℤ × ℕ). in_range_or_fault (simple_outline text own o.0 o.1 to.0 to.1) to.2 in
         let move = λ (o : List ℕ × List Point) (left : ℕ). moved s.gvar g (with_phantoms o.0 (xs_of o.1) (ys_of o.1)) [] left >>= near o in
         let a = bind_ok (ok_or (parts text) MalformedFont) (λ o. spent (length o.1 + 5) steps >>= move o) u h in
         let same : a.0 ≡ (es, ps) = just_is a.0 (es, ps) (sym (named_ok (parts text) MalformedFont a.0 a.1) ∙ reads) in

@@ -7,7 +7,7 @@ use Rattle.subsetter_base.specs.Bytes.{number}
 use Rattle.subsetter_base.proofs.Options.{just_is, bind_some}
 use Rattle.subsetter_sfnt.specs.declared.extras.Extras.{Extras}
 use Rattle.subsetter_sfnt.specs.declared.flavor.FontFlavor.TheVariants.{TrueType}
-use Rattle.subsetter_sfnt.specs.Extras.{by_hinting, by_names, by_glyph_names, is_program}
+use Rattle.subsetter_sfnt.specs.Extras.{by_hinting, by_names, by_glyph_names, is_hinting_table}
 use Rattle.subsetter_sfnt.specs.FontAt.{font_at}
 use Rattle.subsetter_sfnt.specs.declared.fields.hmtx.LongHorMetric.{LongHorMetric}
 use Rattle.subsetter_sfnt.specs.Read.{as_font, stored, table, flavor}
@@ -108,7 +108,7 @@ by_choice h n g tag found = by_glyph_names g tag (by_names n tag (by_hinting h t
 
 -- neither a program, nor maxp, nor name, nor post
 record IsAlways (tag : List ℕ) : Type 0 where
-  program : is_program tag ≡ false
+  program : is_hinting_table tag ≡ false
   profile : bytes_eq tag (codes "maxp") ≡ false
   names : bytes_eq tag (codes "name") ≡ false
   glyph_names : bytes_eq tag (codes "post") ≡ false
@@ -134,7 +134,7 @@ module _ (file : List ℕ) (x : Extras) where
   found tag bytes a h = always tag a x.hinting x.names x.glyph_names (stored (font_at file 0 x) tag) ∙ sym (same_stored (font_at file 0 x) tag) ∙ h
 
   module _ (s : Source) (r : IsRead (stored (as_font file)) 0 s) where
-    plain : {tag : List ℕ} → is_program tag ≡ false → bytes_eq tag (codes "maxp") ≡ false → bytes_eq tag (codes "name") ≡ false → bytes_eq tag (codes "post") ≡ false → IsAlways tag
+    plain : {tag : List ℕ} → is_hinting_table tag ≡ false → bytes_eq tag (codes "maxp") ≡ false → bytes_eq tag (codes "name") ≡ false → bytes_eq tag (codes "post") ≡ false → IsAlways tag
     plain p m n g = record { program = p; profile = m; names = n; glyph_names = g }
 
     pub glyf_found : table (font_at file 0 x) (codes "glyf") ≡ Some s.glyf

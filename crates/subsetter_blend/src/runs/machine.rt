@@ -105,7 +105,7 @@ impl Machine {
         ensures err { IfErr result (λ e. (e ≡ Error.CFFError) × (65535 < stems_after (registers_of self.now))) }
     {
         let stems = self.stems as usize + self.operands.len() / 2;
-        if stems > 65535 {
+        if stems > MAX_STEMS {
             return Err(Error::CFFError);
         }
         Ok(stems as u16)

@@ -19,7 +19,7 @@ use Rattle.subsetter_sfnt.specs.declared.fields.hmtx.LongHorMetric.{LongHorMetri
 use Rattle.subsetter_instance.specs.Glyphs.Drawn.{Drawn, advance, advance_or_fault, bearing, drawn_if_fit, points_or_fault, rounded, whole}
 use Rattle.subsetter_instance.specs.MetricLaws.{IsSimpleAdvanceAtDefault}
 use Rattle.subsetter_instance.specs.Source.{Source, metric}
-use Rattle.subsetter_instance.specs.Glyphs.Unfolded.{Unfolded, counted_description, is_composite, left_point, left_side, moved, near_or_fault, right_point, simple_outline, unfolded, unfolded_composite, unfolded_simple, with_phantoms}
+use Rattle.subsetter_instance.specs.Glyphs.Unfolded.{Unfolded, counted_description, is_composite, left_point, left_side, moved, in_range_or_fault, right_point, simple_outline, unfolded, unfolded_composite, unfolded_simple, with_phantoms}
 use Rattle.subsetter_instance.proofs.Defaults.{drawn_parts, stays}
 use Rattle.subsetter_instance.proofs.MetricLaws.{advance_is}
 use Rattle.subsetter_instance.proofs.SameLaws.Simple.{near_is}
@@ -60,7 +60,7 @@ rounded_advance s at g m u d h =
 
 module _ (s : Source) (at : List ℤ) (g : ℕ) (bytes : List ℕ) (m : LongHorMetric) where
   abbrev outlined : List ℕ × List Point → List ℤ × List ℤ × ℕ → Result (Unfolded × ℕ) Error
-  outlined o to = near_or_fault (simple_outline bytes m o.0 o.1 to.0 to.1) to.2
+  outlined o to = in_range_or_fault (simple_outline bytes m o.0 o.1 to.0 to.1) to.2
 
   abbrev move : List ℕ × List Point → ℕ → Result (Unfolded × ℕ) Error
   move o left = moved s.gvar g (with_phantoms o.0 (xs_of o.1) (ys_of o.1)) at left >>= outlined o

@@ -7,13 +7,14 @@ ghost use Rattle.subsetter_points.specs.Simple.{are_ends};
 ghost use Rattle.subsetter_base.specs.Bytes.{has_flag};
 ghost use Rattle.subsetter_variation.specs.Glyphs.Movement.{AreWithin, IsOutline};
 ghost use Rattle.subsetter_instance.specs.Source.{HasAxes};
-ghost use Rattle.subsetter_instance.specs.Glyphs.Unfolded.{IsInReach, are_near, left_point, left_side, moved, near_or_fault, outline_by_flags, right_point, unfolded_by_flags, unfolded_simple, with_phantoms, IsShaped, x_min};
+ghost use Rattle.subsetter_instance.specs.Glyphs.Unfolded.{IsInReach, are_near, left_point, left_side, moved, in_range_or_fault, outline_by_flags, right_point, unfolded_by_flags, unfolded_simple, with_phantoms, IsShaped, x_min};
 
 use crate::glyphs::unfolding::Unfolded;
 use crate::source::Source;
 use std::alloc::{AllocError, Global};
 use subsetter_base::Error;
 use subsetter_base::read::Reader;
+use subsetter_points::header::X_MIN;
 use subsetter_points::{Columns, read_columns};
 use subsetter_sfnt::fields::hmtx::LongHorMetric;
 use subsetter_variation::glyphs::movement::{Outline as DefaultOutline, moved_points, spent};
@@ -25,7 +26,7 @@ use subsetter_variation::rounding::plus;
 fn x_min(bytes: &[u8]) -> i16
     ensures { result ≡ x_min bytes.now }
 {
-    match Reader::new_at(bytes, 2).read::<u16>() {
+    match Reader::new_at(bytes, X_MIN).read::<u16>() {
         Some(bits) => bits.cast_signed(),
         None => 0,
     }
@@ -99,9 +100,9 @@ pub fn are_near(coordinates: &[i64]) -> bool
 }
 
 /// A glyph whose points are near, else `OverflowError`.
-pub fn near_or_fault(unfolded: Unfolded, steps: u32) -> Result<(Unfolded, u32), Error>
+pub fn in_range_or_fault(unfolded: Unfolded, steps: u32) -> Result<(Unfolded, u32), Error>
     requires { IsShaped unfolded }
-    ensures value { result ≡ near_or_fault unfolded steps }
+    ensures value { result ≡ in_range_or_fault unfolded steps }
     ensures bound { IfOk result (λ r. IsInReach r.0) }
 {
     if are_near(&unfolded.xs) && are_near(&unfolded.ys) {
@@ -261,7 +262,7 @@ fn unfold_columns(
     let steps = spent(flags.len() + 5, steps)?;
     let (xs, ys, steps) = moved_simple(alloc, source.gvar(), glyph, &ends, xs, ys, at, steps)?;
     let unfolded = simple_outline(alloc, bytes, metric, ends, &flags, xs, ys)?;
-    near_or_fault(unfolded, steps)
+    in_range_or_fault(unfolded, steps)
 }
 
 /// A simple glyph at a location, and the steps that are left.

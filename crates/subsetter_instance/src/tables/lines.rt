@@ -173,7 +173,7 @@ fn varied_post(
     let Some(mvar) = mvar else {
         return Ok(copied(alloc, post)?);
     };
-    if post.len() < 12 {
+    if post.len() < IS_FIXED_PITCH {
         return Ok(copied(alloc, post)?);
     }
     varied_underline(alloc, mvar, at, post)

@@ -1,7 +1,7 @@
 //! Laying out a font file.
 //!
 //! The checksum adjustment is a patch of four bytes, the last step. That the tables' offsets fit 32 bits is checked by
-//! `measured`, which takes no memory and whose clause names its one error.
+//! `file_size`, which takes no memory and whose clause names its one error.
 
 ghost use Rattle.std.specs.Prelude.{◌≡◌, ◌+◌, ◌-◌, ◌*◌, ◌<◌, ◌≤◌, ◌^◌, ◌++◌, ◌%◌, [], length, map, take, drop, true, false, vec_capacity, OnOk, IfOk, IfErr};
 ghost use Rattle.std.specs.Int.{w16, w32, to_be_bytes};
@@ -29,7 +29,7 @@ const MAX_OFFSET: usize = 0xffff_ffff;
 const FILE_SUM: u32 = 0xB1B0AFBA;
 
 /// How many bytes the file has. `OverflowError` where an offset or a length is 2^32 or more. No memory is taken.
-fn measured<T: TableBytes>(tables: &[NewTable<T>]) -> Result<usize, Error>
+fn file_size<T: TableBytes>(tables: &[NewTable<T>]) -> Result<usize, Error>
     requires { length tables.now < 16 }
     ensures ok { IfOk result (λ n. (fits (start_of (views T.bytes_of tables.now)) (views T.bytes_of tables.now) ≡ true) × (n ≡ start_of (views T.bytes_of tables.now) + length (body (views T.bytes_of tables.now)))) }
     ensures err { IfErr result (λ e. (e ≡ OverflowError) × (fits (start_of (views T.bytes_of tables.now)) (views T.bytes_of tables.now) ≡ false)) }
@@ -198,7 +198,7 @@ fn adjust<T: TableBytes>(out: &mut Vec<u8>, start: usize, word: u32, tables: &[N
     }
 }
 
-/// Keeps room for what is before the tables.
+/// Writes zeros for what is before the tables, which is patched later. At most 252 bytes: a header and 15 records.
 fn skip_front(out: &mut Vec<u8>, count: usize)
     requires few { count ≤ 252 }
     requires room { length out.old.items + count ≤ vec_capacity out.old }
@@ -208,7 +208,7 @@ fn skip_front(out: &mut Vec<u8>, count: usize)
     put(out, &[0; 252][..count]);
 }
 
-/// Puts bytes in place of as many from an offset on.
+/// Overwrites the bytes at an offset.
 fn patch_bytes(out: &mut Vec<u8>, at: usize, bytes: &[u8])
     requires { at + length bytes.now ≤ length out.old.items }
     ensures { out.new.items ≡ take at out.old.items ++ bytes.now ++ drop (at + length bytes.now) out.old.items }
@@ -270,7 +270,7 @@ pub fn finish<T: TableBytes>(
     ensures gives { GivesWithin (λ v. v.items) bytes length result (file_of (kind_word flavor) (views T.bytes_of tables.now)) }
     ensures within { IfOk result (λ v. is_past bytes (length v.items) ≡ false) }
 {
-    let size = measured(tables)?;
+    let size = file_size(tables)?;
     check_bound(size, bytes)?;
     let front = Vec::with_capacity(alloc, TABLE_RECORDS + TABLE_RECORD_SIZE * tables.len())?;
     let out = Vec::with_capacity(alloc, size)?;

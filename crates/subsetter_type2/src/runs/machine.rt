@@ -17,7 +17,7 @@ use subsetter_cffdata::dicts::operator::{Operator, OperatorType, TWO_BYTE_OPERAT
 use subsetter_cffdata::numerals::charstring_number::{CharStringNumber, read_number};
 
 /// The most stems, whose number has 16 bits.
-const MAX_STEMS: usize = 65535;
+pub const MAX_STEMS: usize = 65535;
 
 /// The subroutines that a charstring may call.
 #[derive(Drop)]

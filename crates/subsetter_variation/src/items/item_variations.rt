@@ -17,7 +17,7 @@ use crate::items::layout::{
     REGION_INDEX_COUNT, REGION_INDEX_SIZE, REGION_INDEXES, VARIATION_REGION_LIST_OFFSET,
     VARIATION_REGIONS, WORD_DELTA_COUNT,
 };
-use crate::region::{ONE, RegionAxis, counted};
+use crate::region::{ONE, RegionAxis, times_axis_scalar};
 use crate::rounding::{nearest, scaled, wide_plus};
 use std::marker::Model;
 use subsetter_base::Error;
@@ -166,7 +166,7 @@ pub fn region_scalar(region: LazyArray16<'_, RegionAxis>, at: &[i32]) -> i64
         let Some((first, others)) = coordinate_in(rest) else {
             return whole;
         };
-        whole = counted(axis, first, whole);
+        whole = times_axis_scalar(axis, first, whole);
         if whole == 0 {
             return 0;
         }

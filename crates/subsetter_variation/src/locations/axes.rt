@@ -10,7 +10,7 @@ ghost use Rattle.subsetter_variation.specs.Locations.Axes.{axis_of, find_axis, a
 ghost use Rattle.subsetter_base.specs.Bytes.{long_signed_at};
 
 use crate::fvar::{axes_array_offset, axis_count, axis_size};
-use crate::rounding::part;
+use crate::rounding::mul_div_nearest;
 use std::alloc::Global;
 use subsetter_base::read::{Reader, long_signed_at};
 use subsetter_base::{Error, Tag};
@@ -110,7 +110,7 @@ fn toward(end: i32, default: i32, coordinate: i32) -> i64
     ensures value { result ≡ toward end default coordinate }
     ensures bound { unsigned_abs result ≤ 65536 }
 {
-    part(
+    mul_div_nearest(
         i64::from(coordinate) - i64::from(default),
         u64::from(end.abs_diff(default)),
         ONE,

@@ -25,7 +25,7 @@ const AXIS_COUNT: usize = 6;
 const AXIS_SEGMENT_MAPS: usize = 8;
 
 /// 65536ths as 16384ths.
-fn coarse(n: i64) -> i32
+fn fixed_to_f2dot14(n: i64) -> i32
     requires { unsigned_abs n ≤ 2 ^ 19 }
     ensures value { result ≡ nearest n 4 }
     ensures bound { unsigned_abs result ≤ 2 ^ 17 }
@@ -39,7 +39,7 @@ fn coordinate(axis: &Axis, ends: LazyArray16<'_, AxisValueMap>, settings: &[(Tag
     ensures { result ≡ coordinate axis.now (axis_value_maps ends.entry) settings.now }
 {
     let place = default_normalized(axis, user_coordinate(axis, settings));
-    coarse(mapped(ends, place))
+    fixed_to_f2dot14(mapped(ends, place))
 }
 
 /// On each axis, where none is mapped.

@@ -4,9 +4,9 @@
 //! don't descend. Where an axis has anything else, its coordinate isn't modified. The major version has to be 1.
 
 ghost use Rattle.std.specs.Prelude.{◌≡◌, ◌+◌, ◌*◌, ◌<◌, ◌≤◌, ◌^◌, Some, true, ◌-ℤ◌, ◌≤ℤ◌, ◌<ℤ◌, IfSome, true, unsigned_abs};
-ghost use Rattle.subsetter_variation.specs.Locations.Segments.{axis_value_map_of, segment_map_at, axis_value_maps, fine, passed, on_segment, is_on, by_segments, keeps, follows, ascends, is_segment_map, mapped};
+ghost use Rattle.subsetter_variation.specs.Locations.Segments.{axis_value_map_of, segment_map_at, axis_value_maps, f2dot14_to_fixed, interpolated, on_segment, is_on, by_segments, keeps, follows, ascends, is_segment_map, mapped};
 
-use crate::rounding::{minus, part, plus};
+use crate::rounding::{minus, mul_div_nearest, plus};
 use subsetter_base::read::{LazyArray16, Readable, Reader, signed_at};
 
 /// How many bytes the end of a segment has.
@@ -38,48 +38,48 @@ impl Readable<'_> for AxisValueMap {
 }
 
 /// 16384ths as 65536ths.
-fn fine(z: i16) -> i64
-    ensures value { result ≡ fine z }
+fn f2dot14_to_fixed(z: i16) -> i64
+    ensures value { result ≡ f2dot14_to_fixed z }
     ensures bound { unsigned_abs result ≤ 2 ^ 17 }
 {
     4 * i64::from(z)
 }
 
 /// Of a whole as great a part as a number has passed of the way from one end to another.
-fn passed(from: i64, to: i64, n: i64, whole: i64) -> i64
+fn interpolated(from: i64, to: i64, n: i64, whole: i64) -> i64
     requires behind { from ≤ℤ n }
     requires before { n <ℤ to }
     requires start { unsigned_abs from ≤ 2 ^ 20 }
     requires end { unsigned_abs to ≤ 2 ^ 20 }
     requires small { unsigned_abs whole ≤ 2 ^ 20 }
-    ensures value { result ≡ passed from to n whole }
+    ensures value { result ≡ interpolated from to n whole }
     ensures bound { unsigned_abs result ≤ unsigned_abs whole }
 {
     let way = (to - from).unsigned_abs();
-    part(n - from, way, whole)
+    mul_div_nearest(n - from, way, whole)
 }
 
 /// A number between two ends, at the same part of the distance between their new numbers.
 #[tactic(auto, unfolding(crate::specs::Locations::Segments::on_segment))]
 fn on_segment(p: AxisValueMap, q: AxisValueMap, n: i64) -> i64
-    requires behind { fine p.from ≤ℤ n }
-    requires before { n <ℤ fine q.from }
+    requires behind { f2dot14_to_fixed p.from ≤ℤ n }
+    requires before { n <ℤ f2dot14_to_fixed q.from }
     ensures value { result ≡ on_segment p q n }
     ensures bound { unsigned_abs result ≤ 2 ^ 19 }
 {
-    let to = fine(p.to);
-    let whole = minus(fine(q.to), to);
-    let more = passed(fine(p.from), fine(q.from), n, whole);
+    let to = f2dot14_to_fixed(p.to);
+    let whole = minus(f2dot14_to_fixed(q.to), to);
+    let more = interpolated(f2dot14_to_fixed(p.from), f2dot14_to_fixed(q.from), n, whole);
     plus(to, more)
 }
 
 /// The number is between two ends, and isn't the second.
 fn is_on(p: AxisValueMap, q: AxisValueMap, n: i64) -> bool
     ensures value { result ≡ is_on p q n }
-    ensures behind { result ≡ true → fine p.from ≤ℤ n }
-    ensures before { result ≡ true → n <ℤ fine q.from }
+    ensures behind { result ≡ true → f2dot14_to_fixed p.from ≤ℤ n }
+    ensures before { result ≡ true → n <ℤ f2dot14_to_fixed q.from }
 {
-    fine(p.from) <= n && n < fine(q.from)
+    f2dot14_to_fixed(p.from) <= n && n < f2dot14_to_fixed(q.from)
 }
 
 /// The ends of the segments of the next axis.

@@ -7,7 +7,7 @@ ghost use Rattle.std.specs.Option.{option_copied};
 ghost use Rattle.subsetter_variation.specs.Packing.Packed.{deltas, deltas_from};
 
 use crate::packing::packed::{DELTA_RUN_COUNTS, DELTAS_ARE_WORDS, DELTAS_ARE_ZERO, byte_in};
-use crate::rounding::given;
+use crate::rounding::scalar_times_delta;
 
 /// The signed number of the byte at an offset.
 fn byte_at(bytes: &[u8], at: usize) -> i16
@@ -26,7 +26,7 @@ fn add_bytes(sums: &mut [i64], bytes: &[u8], scalar: i64)
     ensures bound { EachIndex sums.old (λ k. unsigned_abs (scalar *ℤ cast_signed w8 (slice_index_or bytes.now k 0)) ≤ 2 ^ 45) }
 {
     for k in 0..sums.len() {
-        sums[k] += given(scalar, byte_at(bytes, k));
+        sums[k] += scalar_times_delta(scalar, byte_at(bytes, k));
     }
 }
 
@@ -47,7 +47,7 @@ fn add_words(sums: &mut [i64], bytes: &[u8], scalar: i64)
     ensures bound { EachIndex sums.old (λ k. unsigned_abs (scalar *ℤ cast_signed w16 (slice_index_or bytes.now (k * 2) 0 * 256 + slice_index_or bytes.now (k * 2 + 1) 0)) ≤ 2 ^ 45) }
 {
     for k in 0..sums.len() {
-        sums[k] += given(scalar, word_at(bytes, k * 2));
+        sums[k] += scalar_times_delta(scalar, word_at(bytes, k * 2));
     }
 }
 

@@ -47,7 +47,7 @@ pub fn records(file: &[u8], index: u32) -> Option<&[u8]> {
     records_at(file, at)
 }
 
-/// The first record that bears a tag.
+/// The first record that has a tag.
 pub fn find_record(records: &[u8], tag: Tag) -> Option<TableRecord> {
     let mut r = Reader::new(records);
     while let Some(record) = r.read::<TableRecord>() {

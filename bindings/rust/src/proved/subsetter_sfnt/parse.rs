@@ -7,7 +7,7 @@ use crate::proved::subsetter_sfnt::directory::{records_at, table_in};
 use crate::proved::subsetter_sfnt::extras::Extras;
 use crate::proved::subsetter_sfnt::face::{Face, FontKind, TABLE_DIRECTORY_OFFSETS};
 
-/// Where the font's header stands.
+/// The offset of the font's header.
 fn header(file: &[u8], index: u32, _extras: Extras) -> Result<usize, Error> {
     let mut r = Reader::new(file);
     let kind = r.read::<FontKind>().ok_or(Error::UnknownKind)?;
@@ -38,7 +38,7 @@ pub fn parse(file: &[u8], index: u32, extras: Extras) -> Result<Face<'_>, Error>
 }
 
 impl<'a> Face<'a> {
-    /// Whether a table isn't asked for.
+    /// Whether a table isn't requested.
     fn leaves_out(&self, tag: Tag) -> bool {
         let extras = self.extras;
         (!extras.hinting && (tag == Tag::CVT || (tag == Tag::FPGM || tag == Tag::PREP)))

@@ -14,7 +14,7 @@ use std::alloc::Global;
 use std::marker::Model;
 use subsetter_base::read::{LazyArray16, Reader};
 use subsetter_base::{Error, GlyphRemapper};
-use subsetter_sfnt::fields::post::{HEADER_SIZE, version};
+use subsetter_sfnt::fields::post::{HEADER_SIZE, VERSION_2_0, version};
 
 /// Names, each behind its length byte. An empty name is a name; a cut one ends them.
 #[derive(Drop)]
@@ -73,7 +73,7 @@ impl<'a> Version2Table<'a> {
     pub fn parse(data: &'a [u8]) -> Option<Self>
         ensures { option_map seen_post result ≡ post_table «data».now }
     {
-        if version(data)? != 0x0002_0000 {
+        if version(data)? != VERSION_2_0 {
             return None;
         }
         let mut r = Reader::new(data);

@@ -20,6 +20,7 @@ use std::borrow::CowSlice;
 use subsetter_base::read::Reader;
 use subsetter_base::write::Writer;
 use subsetter_base::{Error, GlyphRemapper};
+use subsetter_sfnt::fields::post::{HEADER_SIZE, INDEXES, ITALIC_ANGLE, VERSION_2_0, VERSION_3_0};
 
 /// How many glyphs have standard Macintosh names, whose indexes are the numbers below.
 const STANDARD_NAMES: u16 = 258;
@@ -135,7 +136,7 @@ fn write_table(
     if count_custom(indexes) > CUSTOM_MAX {
         return Err(Error::OverflowError);
     }
-    let room = room_for_names(indexes, names).saturating_add(34 + 2 * indexes.len());
+    let room = room_for_names(indexes, names).saturating_add(INDEXES + 2 * indexes.len());
     let mut w = Writer::with_capacity(alloc, room)?;
     w.extend(table.header)?;
     w.write(&count)?;
@@ -161,7 +162,7 @@ pub fn subset<'a>(
     let version = Reader::new(bytes)
         .read::<u32>()
         .ok_or(Error::MalformedFont)?;
-    if version != 0x0002_0000 {
+    if version != VERSION_2_0 {
         return Ok(Some(CowSlice::Borrowed(bytes)));
     }
     let table = Version2Table::parse(bytes).ok_or(Error::MalformedFont)?;
@@ -179,9 +180,9 @@ fn header_alone(alloc: Global, bytes: &[u8]) -> Result<Vec<u8>, Error>
     ensures ok { IfOk result (λ v. v.items ≡ without_glyph_names bytes.now) }
     ensures err { IfErr result (λ e. e ≡ OutOfMemory) }
 {
-    let mut w = Writer::with_capacity(alloc, 32)?;
-    w.write(&0x0003_0000u32)?;
-    w.extend(&bytes[4..32])?;
+    let mut w = Writer::with_capacity(alloc, HEADER_SIZE)?;
+    w.write(&VERSION_3_0)?;
+    w.extend(&bytes[ITALIC_ANGLE..HEADER_SIZE])?;
     Ok(w.finish())
 }
 
@@ -196,7 +197,7 @@ pub fn subset_without_names<'a>(
     let Some(bytes) = post else {
         return subset(alloc, post, mapper);
     };
-    if bytes.len() < 32 {
+    if bytes.len() < HEADER_SIZE {
         return subset(alloc, post, mapper);
     }
     Ok(Some(CowSlice::Owned(header_alone(alloc, bytes)?)))

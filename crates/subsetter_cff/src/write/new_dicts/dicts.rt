@@ -32,6 +32,9 @@ const FONT_DICT_ROOM: usize = 64;
 /// Room for a few private dicts, in bytes.
 const PRIVATES_ROOM: usize = 256;
 
+/// Offsets, as numbers of a dict, are below this.
+const OFFSETS: usize = 2147483648;
+
 /// Font dicts and their private dicts.
 #[derive(Drop)]
 pub struct WrittenDicts {
@@ -53,7 +56,7 @@ pub fn offset_behind(place: usize, size: usize) -> Result<usize, Error>
     let Some(end) = place.checked_add(size) else {
         return Err(Error::OverflowError);
     };
-    if end >= 2147483648 {
+    if end >= OFFSETS {
         return Err(Error::OverflowError);
     }
     Ok(end)

@@ -16,7 +16,7 @@ use Rattle.subsetter_instance.specs.declared.glyphs.components.Component.{Compon
 use Rattle.subsetter_sfnt.specs.declared.fields.hmtx.LongHorMetric.{LongHorMetric}
 use Rattle.subsetter_instance.specs.Glyphs.Components.{component_at, components_at}
 use Rattle.subsetter_instance.specs.Source.{Source}
-use Rattle.subsetter_instance.specs.Glyphs.Unfolded.{Child, Composite, Unfolded, composite, is_scaled, joined, joined_or_fault, joined_parts, left_point, matched, moved, near_or_fault, placed, point_at, right_point, shift_by, shifted, transformed_xs, transformed_ys, with_component, with_part}
+use Rattle.subsetter_instance.specs.Glyphs.Unfolded.{Child, Composite, Unfolded, composite, is_scaled, joined, joined_or_fault, joined_parts, left_point, matched, moved, in_range_or_fault, placed, point_at, right_point, shift_by, shifted, transformed_xs, transformed_ys, with_component, with_part}
 use Rattle.subsetter_instance.specs.Faults.WalkFault.{HasComponentFault, HasCompositeFault, HasPlacingFault, default_offsets, cut_component, far_component, few_steps_for_glyph, in_components, in_offset_variations, later_component, many_points, no_child, no_header, no_parent, no_step, scaled_offset}
 use Rattle.subsetter_instance.proofs.FaultLaws.WalkLaws.Simple.{variation_fault, variation_stops, far_refused, far_stops, near_is, near_answer}
 
@@ -148,9 +148,9 @@ module _ (c : Component) (x y : ℤ) (before part : Unfolded) where
   pub part_refused : (steps : ℕ) (e : Error) → with_part c x y before part steps ≡ Err e → HasPlacingFault c x y before part e
   unfolding with_part
   part_refused steps e h =
-      elim (bind_err (placed c x y before part) (λ p. near_or_fault p steps >>= λ near. joined_or_fault before near.0 near.1) e h) [
+      elim (bind_err (placed c x y before part) (λ p. in_range_or_fault p steps >>= λ near. joined_or_fault before near.0 near.1) e h) [
         | inl k ↦ placing_refused e k
-        | inr k ↦ elim (bind_err (near_or_fault k.0 steps) (λ near. joined_or_fault before near.0 near.1) e k.2) [
+        | inr k ↦ elim (bind_err (in_range_or_fault k.0 steps) (λ near. joined_or_fault before near.0 near.1) e k.2) [
           | inl l ↦ let f = far_refused k.0 steps e l in subst (HasPlacingFault c x y before part) f.1 (far_component k.0 k.1 f.0)
           | inr l ↦
               let near = near_answer k.0 steps l.0 l.1 in
@@ -173,19 +173,19 @@ module _ (c : Component) (x y : ℤ) (before part : Unfolded) where
   pub part_stops : (steps : ℕ) (e : Error) → HasPlacingFault c x y before part e → with_part c x y before part steps ≡ Err e
   unfolding with_part matched
   part_stops steps _ (scaled_offset a b is t) =
-      behind_error (placed c x y before part) (λ p. near_or_fault p steps >>= λ near. joined_or_fault before near.0 near.1) Unimplemented
+      behind_error (placed c x y before part) (λ p. in_range_or_fault p steps >>= λ near. joined_or_fault before near.0 near.1) Unimplemented
       (shift_stops (Offset a b) is Unimplemented (ap (λ k. cond k (Err Unimplemented) (done {A = ℤ × ℤ} (x, y))) t))
   part_stops steps _ (no_parent parent child is none) =
-      behind_error (placed c x y before part) (λ p. near_or_fault p steps >>= λ near. joined_or_fault before near.0 near.1) MalformedFont
+      behind_error (placed c x y before part) (λ p. in_range_or_fault p steps >>= λ near. joined_or_fault before near.0 near.1) MalformedFont
       (shift_stops (Points parent child) is MalformedFont (behind_missing (parent_point parent) MalformedFont (λ p. ok_or (child_point child) MalformedFont >>= λ q. Ok (p.0 -ℤ q.0, p.1 -ℤ q.1)) none))
   part_stops steps _ (no_child parent child p is there none) =
-      behind_error (placed c x y before part) (λ p. near_or_fault p steps >>= λ near. joined_or_fault before near.0 near.1) MalformedFont
+      behind_error (placed c x y before part) (λ p. in_range_or_fault p steps >>= λ near. joined_or_fault before near.0 near.1) MalformedFont
       (shift_stops (Points parent child) is MalformedFont
       (behind_named (parent_point parent) MalformedFont (λ p. ok_or (child_point child) MalformedFont >>= λ q. Ok (p.0 -ℤ q.0, p.1 -ℤ q.1)) p there ∙ behind_missing (child_point child) MalformedFont (λ q. Ok (p.0 -ℤ q.0, p.1 -ℤ q.1)) none))
   part_stops steps _ (far_component p is far) =
-      behind (placed c x y before part) (λ p. near_or_fault p steps >>= λ near. joined_or_fault before near.0 near.1) p is ∙ behind_error (near_or_fault p steps) (λ near. joined_or_fault before near.0 near.1) OverflowError (far_stops p steps far)
+      behind (placed c x y before part) (λ p. in_range_or_fault p steps >>= λ near. joined_or_fault before near.0 near.1) p is ∙ behind_error (in_range_or_fault p steps) (λ near. joined_or_fault before near.0 near.1) OverflowError (far_stops p steps far)
   part_stops steps _ (many_points p is near many) =
-      behind (placed c x y before part) (λ p. near_or_fault p steps >>= λ near. joined_or_fault before near.0 near.1) p is ∙ behind (near_or_fault p steps) (λ near. joined_or_fault before near.0 near.1) (p, steps) (near_is p steps near)
+      behind (placed c x y before part) (λ p. in_range_or_fault p steps >>= λ near. joined_or_fault before near.0 near.1) p is ∙ behind (in_range_or_fault p steps) (λ near. joined_or_fault before near.0 near.1) (p, steps) (near_is p steps near)
       ∙ many_stop (nat_lt (length before.on + length p.on) 65536) p steps refl many
 
 -- ---- one component behind the other

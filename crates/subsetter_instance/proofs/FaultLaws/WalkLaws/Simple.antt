@@ -14,7 +14,7 @@ use Rattle.subsetter_variation.specs.Glyphs.Tuples.{Gvar}
 use Rattle.subsetter_variation.proofs.GlyphsLaws.GvarFaults.{behind, behind_error, behind_named, behind_missing, moving_refused, moving_stops, spent_refused, too_few}
 use Rattle.subsetter_sfnt.specs.declared.fields.hmtx.LongHorMetric.{LongHorMetric}
 use Rattle.subsetter_instance.specs.Source.{Source}
-use Rattle.subsetter_instance.specs.Glyphs.Unfolded.{Unfolded, are_near, moved, near_or_fault, simple_outline, unfolded_simple}
+use Rattle.subsetter_instance.specs.Glyphs.Unfolded.{Unfolded, are_near, moved, in_range_or_fault, simple_outline, unfolded_simple}
 use Rattle.subsetter_instance.specs.Faults.WalkFault.{HasSimpleFault, IsFar, default_points, far_outline, few_steps_for_points, in_point_variations, no_outline}
 
 -- ---- points that move, and are near
@@ -26,20 +26,20 @@ variation_fault (Some t) g o at steps e h = (t, refl, moving_refused t g o at st
 pub variation_stops : (gvar : Option Gvar) (t : Gvar) (g : ℕ) (o : Outline) (at : List ℤ) (steps : ℕ) (e : Error) → gvar ≡ Some t → HasVariationFault t g o at steps e → moved gvar g o at steps ≡ Err e
 variation_stops gvar t g o at steps e is f = ap (λ v. moved v g o at steps) is ∙ moving_stops t g o at steps e f
 
-pub far_refused : (u : Unfolded) (steps : ℕ) (e : Error) → near_or_fault u steps ≡ Err e → IsFar u × (OverflowError ≡ e)
+pub far_refused : (u : Unfolded) (steps : ℕ) (e : Error) → in_range_or_fault u steps ≡ Err e → IsFar u × (OverflowError ≡ e)
 far_refused u steps e h = by (are_near u.xs && are_near u.ys) h
   where
     by : (b : Bool) → cond b (done {A = Unfolded × ℕ} (u, steps)) (Err OverflowError) ≡ Err e → (b ≡ false) × (OverflowError ≡ e)
     by true k = absurd cc
     by false k = (refl, failed_is {A = Unfolded × ℕ} OverflowError e k)
 
-pub far_stops : (u : Unfolded) (steps : ℕ) → IsFar u → near_or_fault u steps ≡ Err OverflowError
+pub far_stops : (u : Unfolded) (steps : ℕ) → IsFar u → in_range_or_fault u steps ≡ Err OverflowError
 far_stops u steps h = ap (λ b. cond b (done {A = Unfolded × ℕ} (u, steps)) (Err OverflowError)) h
 
-pub near_is : (u : Unfolded) (steps : ℕ) → (are_near u.xs && are_near u.ys) ≡ true → near_or_fault u steps ≡ Ok (u, steps)
+pub near_is : (u : Unfolded) (steps : ℕ) → (are_near u.xs && are_near u.ys) ≡ true → in_range_or_fault u steps ≡ Ok (u, steps)
 near_is u steps h = ap (λ b. cond b (done {A = Unfolded × ℕ} (u, steps)) (Err OverflowError)) h
 
-pub near_answer : (u : Unfolded) (steps : ℕ) (r : Unfolded × ℕ) → near_or_fault u steps ≡ Ok r → ((are_near u.xs && are_near u.ys) ≡ true) × (done {A = Unfolded × ℕ} (u, steps) ≡ done r)
+pub near_answer : (u : Unfolded) (steps : ℕ) (r : Unfolded × ℕ) → in_range_or_fault u steps ≡ Ok r → ((are_near u.xs && are_near u.ys) ≡ true) × (done {A = Unfolded × ℕ} (u, steps) ≡ done r)
 near_answer u steps r h = by (are_near u.xs && are_near u.ys) h
   where
     by : (b : Bool) → cond b (done {A = Unfolded × ℕ} (u, steps)) (Err OverflowError) ≡ Ok r → (b ≡ true) × (done {A = Unfolded × ℕ} (u, steps) ≡ done r)
@@ -50,7 +50,7 @@ near_answer u steps r h = by (are_near u.xs && are_near u.ys) h
 
 module _ (s : Source) (at : List ℤ) (steps g : ℕ) (bytes : List ℕ) (m : LongHorMetric) where
   abbrev simply_put : List ℕ × List Point → List ℤ × List ℤ × ℕ → Result (Unfolded × ℕ) Error
-  simply_put o to = near_or_fault (simple_outline bytes m o.0 o.1 to.0 to.1) to.2
+  simply_put o to = in_range_or_fault (simple_outline bytes m o.0 o.1 to.0 to.1) to.2
 
   abbrev simply_moved : List ℕ × List Point → ℕ → Result (Unfolded × ℕ) Error
   simply_moved o left = moved s.gvar g (default_points o) at left >>= simply_put o

@@ -4,7 +4,7 @@
 use crate::rattle::prelude::Vec;
 
 use crate::proved::subsetter_base::{Error, GlyphRemapper};
-use crate::proved::subsetter_instance::glyphs::kept::Kept;
+use crate::proved::subsetter_instance::glyphs::cache::GlyphCache;
 use crate::proved::subsetter_instance::glyphs::unfolding::{unfold, Unfolded};
 use crate::proved::subsetter_instance::source::Source;
 use crate::proved::subsetter_points::{fits, least_x, Outline, Point};
@@ -157,8 +157,8 @@ pub fn draw(
     at: &[i32],
     steps: u32,
     glyph: u16,
-    kept: Kept,
-) -> Result<(Drawn, Kept), Error> {
+    kept: GlyphCache,
+) -> Result<(Drawn, GlyphCache), Error> {
     let metric = source.metric(glyph).ok_or(Error::MalformedFont)?;
     let (unfolded, _, kept) = unfold(alloc, source, at, steps, glyph, kept)?;
     let drawn = rounded(alloc, source, at, glyph, metric, unfolded)?;
@@ -172,8 +172,8 @@ fn drawn_if(
     at: &[i32],
     steps: u32,
     glyph: u16,
-    kept: Kept,
-) -> Result<(Drawn, Kept), Error> {
+    kept: GlyphCache,
+) -> Result<(Drawn, GlyphCache), Error> {
     if glyph < source.count() {
         draw(alloc, source, at, steps, glyph, kept)
     } else {
@@ -190,7 +190,7 @@ pub fn draw_all(
     mapper: &GlyphRemapper,
 ) -> Result<Vec<Drawn>, Error> {
     let mut all = Vec::with_capacity(alloc, usize::from(mapper.num_gids()))?;
-    let mut kept = Kept::new(alloc);
+    let mut kept = GlyphCache::new(alloc);
     for glyph in mapper.remapped_gids() {
         let (drawn, others) = drawn_if(alloc, source, at, steps, glyph, kept)?;
         all.push(drawn)?;

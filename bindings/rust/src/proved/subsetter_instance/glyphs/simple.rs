@@ -67,7 +67,7 @@ pub fn are_near(coordinates: &[i64]) -> bool {
 }
 
 /// A glyph whose points are near, else `OverflowError`.
-pub fn near_or_fault(unfolded: Unfolded, steps: u32) -> Result<(Unfolded, u32), Error> {
+pub fn in_range_or_fault(unfolded: Unfolded, steps: u32) -> Result<(Unfolded, u32), Error> {
     if are_near(&unfolded.xs) && are_near(&unfolded.ys) {
         Ok((unfolded, steps))
     } else {
@@ -190,7 +190,7 @@ fn unfold_columns(
     let steps = spent(flags.len() + 5, steps)?;
     let (xs, ys, steps) = moved_simple(alloc, source.gvar(), glyph, &ends, xs, ys, at, steps)?;
     let unfolded = simple_outline(alloc, bytes, metric, ends, &flags, xs, ys)?;
-    near_or_fault(unfolded, steps)
+    in_range_or_fault(unfolded, steps)
 }
 
 /// A simple glyph at a location, and the steps that are left.

@@ -5,8 +5,8 @@ use crate::rattle::prelude::Vec;
 
 use crate::proved::subsetter_base::read::Reader;
 use crate::proved::subsetter_base::Error;
+use crate::proved::subsetter_instance::glyphs::cache::GlyphCache;
 use crate::proved::subsetter_instance::glyphs::composite::read_composite;
-use crate::proved::subsetter_instance::glyphs::kept::Kept;
 use crate::proved::subsetter_instance::glyphs::simple::unfold_simple;
 use crate::proved::subsetter_instance::source::Source;
 use crate::rattle::alloc::Global;
@@ -53,8 +53,8 @@ fn unfold_within(
     at: &[i32],
     steps: u32,
     glyph: u16,
-    kept: Kept,
-) -> Result<(Unfolded, u32, Kept), Error> {
+    kept: GlyphCache,
+) -> Result<(Unfolded, u32, GlyphCache), Error> {
     if depth == 0 {
         return Err(Error::MalformedFont);
     }
@@ -105,7 +105,7 @@ pub fn unfold(
     at: &[i32],
     steps: u32,
     glyph: u16,
-    kept: Kept,
-) -> Result<(Unfolded, u32, Kept), Error> {
+    kept: GlyphCache,
+) -> Result<(Unfolded, u32, GlyphCache), Error> {
     unfold_within(alloc, LEVELS, source, at, steps, glyph, kept)
 }

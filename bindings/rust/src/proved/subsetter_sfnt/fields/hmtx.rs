@@ -29,7 +29,7 @@ impl LongHorMetric {
     }
 }
 
-/// An advance and a bearing at two places of `hmtx`.
+/// An advance and a bearing at two offsets of `hmtx`.
 fn metric_at(hmtx: &[u8], advance_at: usize, bearing_at: usize) -> Option<LongHorMetric> {
     let advance_width = Reader::new_at(hmtx, advance_at).read::<u16>()?;
     let lsb = Reader::new_at(hmtx, bearing_at).read::<u16>()?;
@@ -60,7 +60,7 @@ pub fn last_advance(hmtx: &[u8], count: u16) -> Option<u16> {
     Reader::new_at(hmtx, LONG_HOR_METRIC_SIZE * (count as usize - 1)).read::<u16>()
 }
 
-/// The advance of a glyph, where so many pairs are said.
+/// The advance of a glyph, where so many pairs are stated.
 pub fn glyph_advance(hmtx: &[u8], count: u16, glyph: u16) -> Option<u16> {
     let pair = glyph.min(count.saturating_sub(1));
     Reader::new_at(hmtx, LONG_HOR_METRIC_SIZE * usize::from(pair)).read::<u16>()

@@ -19,8 +19,8 @@ const MAX_OFFSET: usize = 0xffff_ffff;
 /// The sum of a whole file with its adjustment (OpenType, "head", checksumAdjustment).
 const FILE_SUM: u32 = 0xB1B0AFBA;
 
-/// How many bytes the file has. `OverflowError` where a place or a length is 2^32 or more. No memory is taken.
-fn measured<T: TableBytes>(tables: &[NewTable<T>]) -> Result<usize, Error> {
+/// How many bytes the file has. `OverflowError` where an offset or a length is 2^32 or more. No memory is taken.
+fn file_size<T: TableBytes>(tables: &[NewTable<T>]) -> Result<usize, Error> {
     let mut at = TABLE_RECORDS + TABLE_RECORD_SIZE * tables.len();
     for table in tables {
         if at > MAX_OFFSET {
@@ -74,7 +74,7 @@ fn write_words(out: &mut Vec<u8>, sum: u32, at: u32, len: u32) {
     put(out, &[a, b, c, d, e, f, g, h, i, j, k, l]);
 }
 
-/// Writes the record of a table that stands at a place.
+/// Writes the record of a table that is at an offset.
 fn write_record<T: TableBytes>(
     out: &mut Vec<u8>,
     at: usize,
@@ -99,7 +99,7 @@ fn write_table<T: TableBytes>(
     sum
 }
 
-/// Writes tables, each with zeros up to a multiple of four, and the records of tables that stand from a place on.
+/// Writes tables, each with zeros up to a multiple of four, and the records of tables that are from an offset on.
 /// Answers the checksum of all the tables.
 fn write_tables<T: TableBytes>(
     out: &mut Vec<u8>,
@@ -116,14 +116,14 @@ fn write_tables<T: TableBytes>(
     sum
 }
 
-/// Puts the adjustment into a table that stands at a place, if it is `head`.
+/// Puts the adjustment into a table that is at an offset, if it is `head`.
 fn adjust_table<T: TableBytes>(out: &mut Vec<u8>, at: usize, word: u32, table: &NewTable<T>) {
     if table.tag == Tag::HEAD {
         patch(out, at + CHECKSUM_ADJUSTMENT, word);
     }
 }
 
-/// Puts the adjustment into `head` among the tables that stand from a place on.
+/// Puts the adjustment into `head` among the tables that are from an offset on.
 fn adjust<T: TableBytes>(out: &mut Vec<u8>, start: usize, word: u32, tables: &[NewTable<T>]) {
     let mut at = start;
     for table in tables {
@@ -132,12 +132,12 @@ fn adjust<T: TableBytes>(out: &mut Vec<u8>, start: usize, word: u32, tables: &[N
     }
 }
 
-/// Keeps room for what stands before the tables.
+/// Keeps room for what is before the tables.
 fn skip_front(out: &mut Vec<u8>, count: usize) {
     put(out, &[0; 252][..count]);
 }
 
-/// Puts bytes in the place of as many from a place on.
+/// Puts bytes in place of as many from an offset on.
 fn patch_bytes(out: &mut Vec<u8>, at: usize, bytes: &[u8]) {
     out[at..at + bytes.len()].copy_from_slice(bytes);
 }
@@ -171,7 +171,7 @@ fn check_bound(size: usize, bytes: Option<u32>) -> Result<(), Error> {
     }
 }
 
-/// Lays out a file. Its size is taken first: `OverflowError` where a place or a length is 2^32 or more, or where it has more
+/// Lays out a file. Its size is taken first: `OverflowError` where an offset or a length is 2^32 or more, or where it has more
 /// bytes than it may, if these have a bound. Room is reserved once.
 pub fn finish<T: TableBytes>(
     alloc: Global,
@@ -179,7 +179,7 @@ pub fn finish<T: TableBytes>(
     tables: &[NewTable<T>],
     bytes: Option<u32>,
 ) -> Result<Vec<u8>, Error> {
-    let size = measured(tables)?;
+    let size = file_size(tables)?;
     check_bound(size, bytes)?;
     let front = Vec::with_capacity(alloc, TABLE_RECORDS + TABLE_RECORD_SIZE * tables.len())?;
     let out = Vec::with_capacity(alloc, size)?;

@@ -16,7 +16,7 @@ use crate::proved::subsetter_variation::items::layout::{
     REGION_INDEX_COUNT, REGION_INDEX_SIZE, VARIATION_REGIONS, VARIATION_REGION_LIST_OFFSET,
     WORD_DELTA_COUNT,
 };
-use crate::proved::subsetter_variation::region::{counted, RegionAxis, ONE};
+use crate::proved::subsetter_variation::region::{times_axis_scalar, RegionAxis, ONE};
 use crate::proved::subsetter_variation::rounding::{nearest, scaled, wide_plus};
 
 /// An offset of 32 bits, unless it is 0, which stands for no table.
@@ -119,7 +119,7 @@ pub fn region_scalar(region: LazyArray16<'_, RegionAxis>, at: &[i32]) -> i64 {
                 return whole;
             }
         };
-        whole = counted(axis, first, whole);
+        whole = times_axis_scalar(axis, first, whole);
         if whole == 0 {
             return 0;
         }

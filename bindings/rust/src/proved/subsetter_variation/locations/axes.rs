@@ -8,7 +8,7 @@ use crate::rattle::prelude::Vec;
 use crate::proved::subsetter_base::read::{long_signed_at, Reader};
 use crate::proved::subsetter_base::{Error, Tag};
 use crate::proved::subsetter_variation::fvar::{axes_array_offset, axis_count, axis_size};
-use crate::proved::subsetter_variation::rounding::part;
+use crate::proved::subsetter_variation::rounding::mul_div_nearest;
 use crate::rattle::alloc::Global;
 
 /// How many bytes an axis record has, or more where axisSize says so.
@@ -87,7 +87,7 @@ pub fn user_coordinate(axis: &Axis, settings: &[(Tag, i32)]) -> i32 {
 
 /// How far a coordinate is from the default, in 65536ths of the way from it to an end.
 fn toward(end: i32, default: i32, coordinate: i32) -> i64 {
-    part(
+    mul_div_nearest(
         i64::from(coordinate) - i64::from(default),
         u64::from(end.abs_diff(default)),
         ONE,

@@ -24,14 +24,14 @@ const AXIS_COUNT: usize = 6;
 const AXIS_SEGMENT_MAPS: usize = 8;
 
 /// 65536ths as 16384ths.
-fn coarse(n: i64) -> i32 {
+fn fixed_to_f2dot14(n: i64) -> i32 {
     nearest(n, 4) as i32
 }
 
 /// The coordinate on one axis, in 16384ths.
 fn coordinate(axis: &Axis, ends: LazyArray16<'_, AxisValueMap>, settings: &[(Tag, i32)]) -> i32 {
     let place = default_normalized(axis, user_coordinate(axis, settings));
-    coarse(mapped(ends, place))
+    fixed_to_f2dot14(mapped(ends, place))
 }
 
 /// On each axis, where none is mapped.

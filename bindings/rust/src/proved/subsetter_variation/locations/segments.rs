@@ -5,7 +5,7 @@
 //! don't descend. Where an axis has anything else, its coordinate isn't modified. The major version has to be 1.
 
 use crate::proved::subsetter_base::read::{signed_at, LazyArray16, Readable, Reader};
-use crate::proved::subsetter_variation::rounding::{minus, part, plus};
+use crate::proved::subsetter_variation::rounding::{minus, mul_div_nearest, plus};
 
 /// How many bytes the end of a segment has.
 const AXIS_VALUE_MAP_SIZE: usize = 4;
@@ -32,27 +32,27 @@ impl Readable<'_> for AxisValueMap {
 }
 
 /// 16384ths as 65536ths.
-fn fine(z: i16) -> i64 {
+fn f2dot14_to_fixed(z: i16) -> i64 {
     4 * i64::from(z)
 }
 
 /// Of a whole as great a part as a number has passed of the way from one end to another.
-fn passed(from: i64, to: i64, n: i64, whole: i64) -> i64 {
+fn interpolated(from: i64, to: i64, n: i64, whole: i64) -> i64 {
     let way = (to - from).unsigned_abs();
-    part(n - from, way, whole)
+    mul_div_nearest(n - from, way, whole)
 }
 
 /// A number between two ends, at the same part of the distance between their new numbers.
 fn on_segment(p: AxisValueMap, q: AxisValueMap, n: i64) -> i64 {
-    let to = fine(p.to);
-    let whole = minus(fine(q.to), to);
-    let more = passed(fine(p.from), fine(q.from), n, whole);
+    let to = f2dot14_to_fixed(p.to);
+    let whole = minus(f2dot14_to_fixed(q.to), to);
+    let more = interpolated(f2dot14_to_fixed(p.from), f2dot14_to_fixed(q.from), n, whole);
     plus(to, more)
 }
 
 /// The number is between two ends, and isn't the second.
 fn is_on(p: AxisValueMap, q: AxisValueMap, n: i64) -> bool {
-    fine(p.from) <= n && n < fine(q.from)
+    f2dot14_to_fixed(p.from) <= n && n < f2dot14_to_fixed(q.from)
 }
 
 /// The ends of the segments of the next axis.

@@ -7,7 +7,7 @@ use crate::rattle::prelude::Cast;
 use crate::proved::subsetter_variation::packing::packed::{
     byte_in, DELTAS_ARE_WORDS, DELTAS_ARE_ZERO, DELTA_RUN_COUNTS,
 };
-use crate::proved::subsetter_variation::rounding::given;
+use crate::proved::subsetter_variation::rounding::scalar_times_delta;
 
 /// The signed number of the byte at an offset.
 fn byte_at(bytes: &[u8], at: usize) -> i16 {
@@ -17,7 +17,7 @@ fn byte_at(bytes: &[u8], at: usize) -> i16 {
 /// Adds to each sum the signed number of its byte times the scalar.
 fn add_bytes(sums: &mut [i64], bytes: &[u8], scalar: i64) {
     for k in 0..sums.len() {
-        sums[k] += given(scalar, byte_at(bytes, k));
+        sums[k] += scalar_times_delta(scalar, byte_at(bytes, k));
     }
 }
 
@@ -29,7 +29,7 @@ fn word_at(bytes: &[u8], at: usize) -> i16 {
 /// Adds to each sum the signed number of its two bytes times the scalar.
 fn add_words(sums: &mut [i64], bytes: &[u8], scalar: i64) {
     for k in 0..sums.len() {
-        sums[k] += given(scalar, word_at(bytes, k * 2));
+        sums[k] += scalar_times_delta(scalar, word_at(bytes, k * 2));
     }
 }
 

@@ -1,7 +1,7 @@
 use Rattle.std.proofs.Common.{◌≡◌, ◌+◌, ◌-◌, ◌*◌, ◌^◌, true, drop, length, pos, ◌≤ℤ◌}
 use Rattle.subsetter_variation.specs.Region.{scalar, scalar_of}
 use Rattle.subsetter_variation.specs.Glyphs.Tuples.{region_axes}
-use Rattle.subsetter_variation.proofs.glyphs.tuple_region.inner_scalar.Given as goal
+use Rattle.subsetter_variation.proofs.glyphs.tuple_region.intermediate_scalar.Given as goal
 
 abbrev pub invariant-loop-i : goal.invariant-loop-i
 invariant-loop-i l = record {

@@ -1,6 +1,6 @@
 use Rattle.std.proofs.Common.{ap, arith, ◌^◌, ◌*◌, ◌≤◌, ◌*ℤ◌, unsigned_abs, w16, w64, mul-le-mul, FitsSigned, rules}
 use Rattle.std.proofs.lemmas.Int.{fits_signed_mul, ints, to_z-of_z, unsigned_abs-mul}
-use Rattle.subsetter_variation.proofs.rounding.given.Goals as goal
+use Rattle.subsetter_variation.proofs.rounding.scalar_times_delta.Goals as goal
 
 pub overflow_mul-result : goal.overflow_mul-result
 overflow_mul-result c =

@@ -1,6 +1,6 @@
 use Rattle.std.proofs.Common.{arith, ap, ◌^◌, unsigned_abs, w64, mul-le-mul}
 use Rattle.std.proofs.lemmas.Int.{to_z-of_z, fits_signed_mul, unsigned_abs-mul}
-use Rattle.subsetter_variation.proofs.rounding.weighted.Goals as goal
+use Rattle.subsetter_variation.proofs.rounding.delta_times_distance.Goals as goal
 
 -- src/lib.rt:24:1
 pub returns-clause-value : goal.returns-clause-value

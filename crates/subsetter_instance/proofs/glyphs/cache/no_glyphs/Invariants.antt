@@ -1,7 +1,7 @@
 use Rattle.std.proofs.Common.{◌≡◌, List, ℤ, length}
-use Rattle.subsetter_instance.specs.Glyphs.Kept.{AreKept}
+use Rattle.subsetter_instance.specs.Glyphs.Cache.{AreKept}
 use Rattle.subsetter_instance.specs.Source.{Source}
-use Rattle.subsetter_instance.proofs.glyphs.kept.no_glyphs.Given as goal
+use Rattle.subsetter_instance.proofs.glyphs.cache.no_glyphs.Given as goal
 
 abbrev pub invariant-loop-place : goal.invariant-loop-place
 invariant-loop-place l = record {

@@ -4,7 +4,7 @@
 //! few points, they hold less than 1 MB whatever the font.
 
 ghost use Rattle.std.specs.Prelude.{◌≡◌, ◌<◌, ◌≤◌, List, ℕ, ℤ, Some, Ok, false, IsTrue, IfOk, IfSome, length};
-ghost use Rattle.subsetter_instance.specs.Glyphs.Kept.{AreKept, IsKept};
+ghost use Rattle.subsetter_instance.specs.Glyphs.Cache.{AreKept, IsKept};
 ghost use Rattle.subsetter_instance.specs.Source.{Source};
 ghost use Rattle.subsetter_instance.specs.Glyphs.Unfolded.{IsInReach, counted_description, is_composite, unfolded};
 
@@ -27,7 +27,7 @@ pub struct KeptGlyph {
 }
 
 impl Model for KeptGlyph {
-    ghost use Rattle.subsetter_instance.specs.Glyphs.Kept.{KeptGlyph};
+    ghost use Rattle.subsetter_instance.specs.Glyphs.Cache.{KeptGlyph};
 
     ghost Value = { KeptGlyph };
 
@@ -36,13 +36,13 @@ impl Model for KeptGlyph {
 
 /// The glyphs that are kept, each at its location.
 #[derive(Drop)]
-pub struct Kept {
+pub struct GlyphCache {
     places: Vec<Option<KeptGlyph>>,
 }
 
-impl Model for Kept {
+impl Model for GlyphCache {
     ghost use Rattle.std.specs.Prelude.{List, Option};
-    ghost use Rattle.subsetter_instance.specs.Glyphs.Kept.{KeptGlyph};
+    ghost use Rattle.subsetter_instance.specs.Glyphs.Cache.{KeptGlyph};
 
     ghost Value = { List (Option KeptGlyph) };
 
@@ -86,12 +86,12 @@ fn all_slots(
     }
 }
 
-impl Kept {
+impl GlyphCache {
     /// No glyphs yet.
     pub fn new(alloc: Global) -> Self
         ensures { (s : Source) (at : List ℤ) → AreKept s at result }
     {
-        Kept {
+        GlyphCache {
             places: Vec::new(alloc),
         }
     }
@@ -138,6 +138,6 @@ impl Kept {
             cost: before - after,
             outline,
         });
-        Ok(Kept { places })
+        Ok(GlyphCache { places })
     }
 }

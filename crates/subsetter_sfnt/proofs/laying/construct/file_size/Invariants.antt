@@ -1,7 +1,7 @@
 use Rattle.std.proofs.Common.{◌≡◌, ◌+◌, ◌≤◌, ◌^◌, drop, length}
 use Rattle.subsetter_sfnt.specs.Laying.Written.{fits, body, start_of}
 use Rattle.subsetter_sfnt.specs.View.{views}
-use Rattle.subsetter_sfnt.proofs.laying.construct.measured.Given as goal
+use Rattle.subsetter_sfnt.proofs.laying.construct.file_size.Given as goal
 
 abbrev pub invariant-loop-table : goal.invariant-loop-table
 invariant-loop-table g l = record {
