@@ -102,8 +102,8 @@ PLANTS = [
     ("no comma between notes", "proved/subset_lines/notes.rs", '_ => b",",', '_ => b"",'),
     ("the notes beside the object", "proved/subset_font/run/reports.rs", "Form::Json => is_font_there,", "Form::Json => false,"),
     ("no notes beside a file", "proved/subset_font/run/reports.rs", "Form::Json => is_font_there,", "Form::Json => true,"),
-    ("a file cut by a byte", "proved/subset_font/faces/broken.rs", "end_of(place_of(one)) > size", "end_of(place_of(one)) > size + 1"),
-    ("a cut table called missing", "proved/subset_font/faces/broken.rs", "Some(found) => Hint::Cut(tag, end_of(place_of(found)), font.len() as u64),", "Some(_) => Hint::NoTable(tag),"),
+    ("a file cut by a byte", "proved/subset_font/faces/broken.rs", "end_of(range_of(one)) > size", "end_of(range_of(one)) > size + 1"),
+    ("a cut table called missing", "proved/subset_font/faces/broken.rs", "Some(found) => Hint::Cut(tag, end_of(range_of(found)), font.len() as u64),", "Some(_) => Hint::NoTable(tag),"),
     ("a file that is no font", "proved/subset_font/faces/broken.rs", "None => Some(Hint::NotFont),", "None => None,"),
     ("an empty file", "proved/subset_font/faces/broken.rs", "    if font.len() == 0 {", "    if font.len() == 9 {"),
     ("a directory that is cut", "proved/subset_font/faces/broken.rs", "(Some(_), None) => Some(Hint::CutDirectory),", "(Some(_), None) => None,"),
@@ -148,7 +148,7 @@ PLANTS = [
     ("an option without a PDF", "proved/subset_args/jobs/parts.rs", "chosen.coding.is_some() || chosen.is_held", "chosen.is_held"),
     ("the file of OUT named for the PDF", "proved/subset_font/refusals/failure.rs", "Failure::WritePdf => pdf_file(job),", "Failure::WritePdf => given(&job.output),"),
     ("the reason of OUT for the PDF", "proved/subset_font/refusals/reason.rs", "Failure::WritePdf => page,", "Failure::WritePdf => output,"),
-    ("lines in front of a PDF on standard output", "proved/subset_font/run/job.rs", "goes_to_output(rt, given(&job.output)) || goes_to_output(rt, pdf_file(job))", "goes_to_output(rt, given(&job.output))"),
+    ("lines in front of a PDF on standard output", "proved/subset_font/run/job.rs", "is_to_standard_output(rt, given(&job.output)) || is_to_standard_output(rt, pdf_file(job))", "is_to_standard_output(rt, given(&job.output))"),
     ("the statuses swapped in the help", "proved/subset_font/help.rs", "2 an argument is wrong, 3 a file", "3 an argument is wrong, 2 a file"),
 ]
 

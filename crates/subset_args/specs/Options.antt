@@ -152,12 +152,12 @@ coding_in word =
 abbrev pub with_coding : List ℕ → Choice → Option Choice
 with_coding value choice = if is_some choice.coding then None else option_map (λ coding. record choice { coding = Some coding }) (coding_in value)
 
-abbrev pub says_held : List ℕ → Bool
-says_held word = bytes_eq word (codes "held")
+abbrev pub holds_rights : List ℕ → Bool
+holds_rights word = bytes_eq word (codes "held")
 
 -- with the rights to embed the font; none where they were given before, or by another word
 abbrev pub with_rights : List ℕ → Choice → Option Choice
-with_rights value choice = if choice.is_held || not (says_held value) then None else Some (record choice { is_held = true })
+with_rights value choice = if choice.is_held || not (holds_rights value) then None else Some (record choice { is_held = true })
 
 -- with an option and its value
 abbrev pub with_setting : Setting → List ℕ → Choice → Option Choice

@@ -158,12 +158,12 @@ abbrev pub command_by_options : List (List ℕ) → Option Command
 command_by_options words = option_and_then command_of (parsed None no_choice words)
 
 -- whether an option says where the new font or a PDF goes
-abbrev pub says_file : Choice → Bool
-says_file choice = is_some choice.output || is_some choice.pdf
+abbrev pub has_output : Choice → Bool
+has_output choice = is_some choice.output || is_some choice.pdf
 
 -- what is requested with OUT or a PDF by an option, and INDEX too, if it isn't 0
 abbrev pub request_free : Free → Option Request
-request_free f = if says_file f.choice then option_and_then (request_of f.choice f.input f.choice.output (unwrap_or f.choice.index 0)) (requested f.choice.source []) else None
+request_free f = if has_output f.choice then option_and_then (request_of f.choice f.input f.choice.output (unwrap_or f.choice.index 0)) (requested f.choice.source []) else None
 
 abbrev pub command_free : List (List ℕ) → Option Command
 command_free words = option_and_then (λ f. option_map subset (request_free f)) (free None no_choice None words)

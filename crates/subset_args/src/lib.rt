@@ -31,4 +31,4 @@ pub use mistakes::free::find_mistake;
 pub use mistakes::mistake::{Mistake, Wrong};
 pub use options::chosen::{PdfChoice, Switches};
 pub use options::names::{Coding, OPTIONS};
-pub use texts::{Advice, CODES_WANTED, ORDER_WANTED, PARTS_WANTED, Shown};
+pub use texts::{Advice, CODES_EXPECTED, ORDER_EXPECTED, PARTS_EXPECTED, Shown};

@@ -31,7 +31,7 @@ pub fn axis_count(alloc: Global, fvar: &[u8]) -> Result<Answer, Failure> {
 }
 
 /// The normalized coordinates of settings.
-pub fn place(
+pub fn normalized_settings(
     alloc: Global,
     fvar: &[u8],
     avar: Option<&[u8]>,

@@ -2,7 +2,7 @@
 
 ghost use Rattle.std.specs.Prelude.{◌≡◌, ◌⊎◌, map, IfOk, IfErr, IfSome, Some, None, string_bytes};
 ghost use Rattle.std.specs.Option.{option_copied, option_map};
-ghost use Rattle.subset_args.specs.Request.{request_of, request_behind, request_plain, names_position, says_file, request_with, request_free, command_by_options, command_free, command_or, shown_of, shown_by, topic_of, first_topic, behind_first, command};
+ghost use Rattle.subset_args.specs.Request.{request_of, request_behind, request_plain, names_position, has_output, request_with, request_free, command_by_options, command_free, command_or, shown_of, shown_by, topic_of, first_topic, behind_first, command};
 ghost use Rattle.subset_args.specs.View.{chosen_view, free_view, requested_view, job_view, command_view};
 ghost use Rattle.subset_args.specs.declared.jobs.command.ArgsError.TheVariants.{Usage, OutOfMemory};
 
@@ -94,8 +94,8 @@ fn read_job(alloc: Global, chosen: Chosen<'_>, words: &[String]) -> Result<Job, 
 }
 
 /// Whether an option says where the new font or a PDF goes.
-fn says_file(chosen: &Chosen<'_>) -> bool
-    ensures { result ≡ says_file (chosen_view chosen.now) }
+fn has_output(chosen: &Chosen<'_>) -> bool
+    ensures { result ≡ has_output (chosen_view chosen.now) }
 {
     chosen.output.is_some() || chosen.pdf.is_some()
 }
@@ -106,7 +106,7 @@ fn read_free_job(alloc: Global, free: Free<'_>) -> Result<Job, ArgsError>
     ensures err { IfErr result (λ e. (e ≡ OutOfMemory) ⊎ ((e ≡ Usage) × (request_free (free_view free.entry) ≡ None))) }
 {
     let chosen = free.chosen;
-    if !says_file(&chosen) {
+    if !has_output(&chosen) {
         return Err(ArgsError::Usage);
     }
     let glyphs = read_glyphs(alloc, chosen.source, &[])?;

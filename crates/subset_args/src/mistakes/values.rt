@@ -10,7 +10,7 @@ use crate::listing::lists::{FileKind, descends, is_wrong_part};
 use crate::mistakes::mistake::{Mistake, Wrong, mistake_at};
 use crate::options::chosen::Chosen;
 use crate::options::names::Source;
-use crate::options::values::{coding_of, says_held};
+use crate::options::values::{coding_of, holds_rights};
 use subsetter_words::{u16_of, u32_of};
 
 /// The INDEX that isn't a number.
@@ -148,7 +148,7 @@ pub fn wrong_coding(word: &str) -> Option<Mistake<'_>>
 pub fn wrong_rights(word: &str) -> Option<Mistake<'_>>
     ensures { IfSome result (λ m. IsWrong m.wrong m.word.now) }
 {
-    if says_held(word) {
+    if holds_rights(word) {
         return None;
     }
     mistake_at(Wrong::Rights, word)

@@ -8,7 +8,7 @@ ghost use Rattle.subset_args.specs.View.{source_view, chosen_view};
 use crate::limits::RunLimits;
 use crate::listing::lists::FileKind;
 use crate::options::names::{Coding, Setting, Source, Switch};
-use crate::options::values::{coding_of, limits_of, says_held};
+use crate::options::values::{coding_of, holds_rights, limits_of};
 use subsetter_words::u32_of;
 
 /// The options without a value that were given.
@@ -305,7 +305,7 @@ impl<'a> Chosen<'a> {
     fn with_rights(self, value: &str) -> Option<Chosen<'a>>
         ensures { option_map chosen_view result ≡ with_rights value.now (chosen_view self.entry) }
     {
-        if self.is_held || !says_held(value) {
+        if self.is_held || !holds_rights(value) {
             return None;
         }
         Some(Chosen {

@@ -3,7 +3,7 @@
 ghost use Rattle.std.specs.Prelude.{◌≡◌};
 ghost use Rattle.std.specs.Option.{option_map};
 ghost use Rattle.subset_args.specs.Limits.{limits_from, limits_in, limits_view};
-ghost use Rattle.subset_args.specs.Options.{coding_in, says_held};
+ghost use Rattle.subset_args.specs.Options.{coding_in, holds_rights};
 
 use crate::limits::RunLimits;
 use crate::options::names::Coding;
@@ -22,8 +22,8 @@ pub fn coding_of(word: &str) -> Option<Coding>
 }
 
 /// Whether a word says that the user holds the rights.
-pub fn says_held(word: &str) -> bool
-    ensures { result ≡ says_held word.now }
+pub fn holds_rights(word: &str) -> bool
+    ensures { result ≡ holds_rights word.now }
 {
     word == "held"
 }

@@ -8,7 +8,7 @@ use crate::refusals::failure::{Failure, given, pdf_file};
 use crate::refusals::reason::{Noted, reason_of};
 use crate::run::reports::{report_made, report_unlisted};
 use crate::run::request::{list_of, plan_of};
-use crate::streams::{Source, Target, goes_to_output, lines_beside, open_source};
+use crate::streams::{Source, Target, is_to_standard_output, lines_beside, open_source};
 use crate::task::Plan;
 use std::alloc::Global;
 use std::fs::OpenFile;
@@ -124,7 +124,8 @@ pub fn run_job<R: Files + Print + Eprint + Input + AllocGlobal>(rt: &R, job: &Jo
     };
     let plan = plan_of(job, &list);
     let mut font = Vec::new(rt.alloc());
-    let is_font_there = goes_to_output(rt, given(&job.output)) || goes_to_output(rt, pdf_file(job));
+    let is_font_there = is_to_standard_output(rt, given(&job.output))
+        || is_to_standard_output(rt, pdf_file(job));
     let ended = perform(rt, job, &plan, is_font_there, &mut font, &mut reason);
     report_made(rt, &ended, job, &plan, is_font_there, &font, reason)
 }

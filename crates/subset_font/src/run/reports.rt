@@ -14,8 +14,8 @@ use crate::refusals::limit_hint::find_limit_hint;
 use crate::task::{Form, Plan, Task};
 use std::io;
 use subset_args::{
-    CODES_WANTED, FileKind, Glyphs, Job, ORDER_WANTED, PARTS_WANTED, Shown, Topic, codes_descend,
-    descends, find_wrong,
+    CODES_EXPECTED, FileKind, Glyphs, Job, ORDER_EXPECTED, PARTS_EXPECTED, Shown, Topic,
+    codes_descend, descends, find_wrong,
 };
 use subset_lines::note_lines;
 use subsetter::Error;
@@ -62,19 +62,19 @@ fn report_part<R: Eprint>(rt: &R, kind: FileKind, part: &[u8]) {
     let _ = match kind {
         FileKind::Glyphs if is_descending => {
             let _ = eprintln!(rt; "--gids-file: the range \"{part}\" descends");
-            rt.eprintln(ORDER_WANTED)
+            rt.eprintln(ORDER_EXPECTED)
         }
         FileKind::Characters if is_descending => {
             let _ = eprintln!(rt; "--unicodes-file: the range \"{part}\" descends");
-            rt.eprintln(ORDER_WANTED)
+            rt.eprintln(ORDER_EXPECTED)
         }
         FileKind::Glyphs => {
             let _ = eprintln!(rt; "--gids-file: \"{part}\" is not a glyph number");
-            rt.eprintln(PARTS_WANTED)
+            rt.eprintln(PARTS_EXPECTED)
         }
         FileKind::Characters => {
             let _ = eprintln!(rt; "--unicodes-file: \"{part}\" is not a character number");
-            rt.eprintln(CODES_WANTED)
+            rt.eprintln(CODES_EXPECTED)
         }
         FileKind::Text => {
             let _ = eprintln!(rt; "--text-file: the text is not UTF-8");

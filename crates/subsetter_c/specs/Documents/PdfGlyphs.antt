@@ -6,7 +6,7 @@ use Rattle.subsetter_sfnt.specs.Fault.{HasOpeningFault}
 use Rattle.subsetter_sfnt.specs.Read.{Font}
 use Rattle.cmap.specs.Faces.{face_mapping}
 use Rattle.cmap.specs.Subtable.{Mapping, glyph_of}
-use Rattle.subsetter_c.specs.Answers.Handed.{IsWantOfMemory}
+use Rattle.subsetter_c.specs.Answers.Handed.{IsOutOfMemory}
 
 -- the glyph of each character of a text
 pub record AreGlyphsOf (font : Font) (text glyphs : List ℕ) : Type 0 where
@@ -23,4 +23,4 @@ pub record HasNoMapping (font : Font) (e : Error) : Type 0 where
 
 -- why there are no glyphs
 abbrev pub IsGlyphRefusal : Font → Error → Type 0
-IsGlyphRefusal font e = IsWantOfMemory font e ⊎ (HasOpeningFault font e ⊎ HasNoMapping font e)
+IsGlyphRefusal font e = IsOutOfMemory font e ⊎ (HasOpeningFault font e ⊎ HasNoMapping font e)

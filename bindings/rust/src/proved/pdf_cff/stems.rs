@@ -5,9 +5,12 @@ use crate::proved::subsetter_cffdata::dicts::dict::DictionaryParser;
 use crate::proved::subsetter_cffdata::dicts::operator::Operator;
 use crate::proved::subsetter_cffdata::numerals::number::Number;
 
+/// StdVW, an operator of one byte.
+const STD_VW: u8 = 11;
+
 /// Whether an operator is StdVW.
 fn is_stem(operator: &Operator) -> bool {
-    operator.as_slice() == [11].as_slice()
+    operator.as_slice() == [STD_VW].as_slice()
 }
 
 /// One number in thousandths, where it isn't below 0 and has at most three decimals.

@@ -85,7 +85,7 @@ pub struct GlyphClosure<'a> {
     pub outlines: Vec<Option<&'a [u8]>>,
 }
 
-/// How many outlines are begun at a time.
+/// How many outlines are prefetched at a time.
 const PREFETCH_BLOCK: usize = 64;
 
 /// The outlines of a remapper's glyphs, each if it is there.
@@ -125,7 +125,7 @@ fn keep_block<'a>(
 
 /// Outlines that were looked up, each as it is in the new `glyf` but for its padding, with instructions if they are requested.
 ///
-/// Each block of them is begun before one of it is looked at, so that many are fetched from memory at a time.
+/// Each block of them is prefetched before one of it is looked at, so that many are fetched from memory at a time.
 pub fn subset<'a>(
     alloc: Global,
     found: Vec<Option<&'a [u8]>>,
@@ -246,7 +246,7 @@ fn pop_first_byte(first_bytes: &mut Vec<u8>, outlines: &[Option<&[u8]>]) -> Resu
 /// The mapper's glyphs, and then each further one that they reach through components, with the outlines of all.
 ///
 /// The last of the waiting glyphs is taken first, and the mapper's glyphs lie below all others. The outlines of these are
-/// begun a block at a time, and the components of a block are read while it is at hand.
+/// prefetched a block at a time, and the components of a block are read while it is at hand.
 /// `OverflowError` where all 65536 numbers are reached, or composites that have more than `most` bytes together in the new
 /// `glyf`, before their components are followed; `MalformedFont` where a reached glyph has one byte or is a composite of
 /// fewer than ten, or the composites with those that are cut have more than `most`.

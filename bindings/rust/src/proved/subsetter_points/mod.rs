@@ -16,6 +16,7 @@
 #[cfg(feature = "variable-fonts")]
 mod bounds;
 pub mod component;
+pub mod header;
 #[cfg(feature = "variable-fonts")]
 mod list_bytes;
 #[cfg(feature = "variable-fonts")]

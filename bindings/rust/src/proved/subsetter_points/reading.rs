@@ -11,6 +11,7 @@ use crate::rattle::prelude::Vec;
 
 use crate::proved::subsetter_base::read::Reader;
 use crate::proved::subsetter_base::Error;
+use crate::proved::subsetter_points::header::HEADER_SIZE;
 use crate::proved::subsetter_points::lists::coordinates::read_coordinates;
 use crate::proved::subsetter_points::lists::deltas::{
     X_IS_SAME_OR_POSITIVE_X_SHORT_VECTOR, X_SHORT_VECTOR, Y_IS_SAME_OR_POSITIVE_Y_SHORT_VECTOR,
@@ -22,8 +23,6 @@ use crate::proved::subsetter_points::lists::front::{read_after, read_word};
 use crate::proved::subsetter_points::outline::Columns;
 use crate::rattle::alloc::Global;
 
-/// The size of the header: the number of contours and the bounding box.
-const HEADER_SIZE: usize = 10;
 /// The most contours of a simple glyph: `numberOfContours` is an int16, and below 0 for a composite glyph.
 const MOST_CONTOURS: u16 = 0x7FFF;
 

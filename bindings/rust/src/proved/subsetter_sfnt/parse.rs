@@ -45,7 +45,8 @@ impl<'a> Face<'a> {
             || (!extras.names && tag == Tag::NAME)
     }
 
-    /// The bytes of a table other than `maxp` and `post`, if it is requested.
+    /// The bytes of a table other than `maxp` and `post`, if it is requested: of these two a part is kept whatever is requested, by
+    /// [`Face::stored`].
     pub fn table(&self, tag: Tag) -> Option<&'a [u8]> {
         if self.leaves_out(tag) {
             return None;
@@ -53,7 +54,7 @@ impl<'a> Face<'a> {
         self.stored(tag)
     }
 
-    /// The bytes of a table.
+    /// The bytes of a table as they are in the file, whatever is requested.
     pub fn stored(&self, tag: Tag) -> Option<&'a [u8]> {
         table_in(self.data, self.records, tag)
     }

@@ -5,7 +5,7 @@ ghost use Rattle.subsetter_sfnt.specs.Extras.{all_extras};
 ghost use Rattle.subset_font.specs.Refusals.Hint.{no_font_or_glyph, no_part, wrong_table, wrong_outlines, hint_of_malformed, cut_or_bare, hint_of_unknown, hint_of_error, no_mapping, hint_of_mapping, no_axes, axes_hint_of_error, axes_hint, forbidden_bit, hint_of};
 
 use crate::faces::broken::{cut_table, missing_table, no_font};
-use crate::faces::face::place_of;
+use crate::faces::face::range_of;
 use crate::faces::tables::directory_of;
 use crate::refusals::failure::Failure;
 use crate::refusals::hint::parts::{

@@ -6,7 +6,7 @@ ghost use Rattle.subset_font.specs.Making.Made.{face_of};
 ghost use Rattle.subset_font.specs.Refusals.Hint.{first_past, no_glyph, no_table, no_table_for_widths, no_table_for, entry, wrong_range, wrong_between, wrong_outline, first_wrong, listed, no_outline, is_cff2, wrong_metrics_of, wrong_metrics, no_outlines};
 
 use crate::faces::broken::missing_table;
-use crate::faces::face::{count_glyphs, place_of};
+use crate::faces::face::{count_glyphs, range_of};
 use crate::faces::info::outlines_of;
 use crate::refusals::hint::text::Hint;
 use crate::task::{RequestedGlyphs, Task};

@@ -1,6 +1,6 @@
 //! What can be known of a refusal, and its text.
 
-use crate::faces::face::place_of;
+use crate::faces::face::range_of;
 use std::fmt;
 use subsetter::Tag;
 use subsetter_base::read::Reader;

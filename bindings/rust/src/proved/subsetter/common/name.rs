@@ -17,14 +17,23 @@ use crate::proved::subsetter::common::name::text::Text;
 use crate::proved::subsetter_base::read::{LazyArray16, Reader};
 use crate::proved::subsetter_base::write::{Writeable, Writer};
 use crate::proved::subsetter_base::Error;
-use crate::proved::subsetter_sfnt::fields::name::{NameRecord, COUNT};
+use crate::proved::subsetter_sfnt::fields::name::{
+    NameRecord, COUNT, HEADER_SIZE, NAME_RECORD_SIZE,
+};
 use crate::proved::subsetter_sfnt::laying::room::put;
 use crate::rattle::alloc::Global;
 use crate::rattle::collections::HashMap;
 
+/// The names below this one are kept: 15 is reserved, and those behind it are of families.
+const KEPT_NAMES: u16 = 15;
+/// The name that describes the typeface.
+const DESCRIPTION: u16 = 10;
+/// The most bytes of records before storageOffset passes 16 bits.
+const RECORDS_MAX: usize = 65520;
+
 /// Whether a subset keeps a record: its string is Unicode, and it isn't the description.
 fn is_kept(one: &NameRecord) -> bool {
-    one.is_unicode() && one.name_id < 15 && one.name_id != 10
+    one.is_unicode() && one.name_id < KEPT_NAMES && one.name_id != DESCRIPTION
 }
 
 /// How many strings are looked through one by one.
@@ -33,7 +42,7 @@ const LINEAR_MAX: usize = 32;
 /// Distinct strings, which are to stand one after another.
 struct Strings<'a> {
     strings: Vec<&'a [u8]>,
-    /// Where the strings begin that stand behind the first 32, and of these none.
+    /// The offsets of the strings after the first 32.
     hashed: HashMap<Text<'a>, u16>,
     size: usize,
 }
@@ -172,7 +181,7 @@ impl Writeable for Table<'_> {
         let count = count_records(self);
         w.write(&0u16)?;
         w.write(&count)?;
-        w.write(&(((6 + 12 * count as usize) % 65536) as u16))?;
+        w.write(&(((HEADER_SIZE + NAME_RECORD_SIZE * count as usize) % 65536) as u16))?;
         write_records(w, self)?;
         w.extend(self.storage)?;
         Ok(())
@@ -188,12 +197,12 @@ pub struct NewNames<'a> {
 impl<'a> NewNames<'a> {
     /// How many bytes the table has; where these are 2^32 or more, some number from 2^32 on.
     pub fn len(&self) -> usize {
-        (6 + self.records.len()).saturating_add(self.strings.len())
+        (HEADER_SIZE + self.records.len()).saturating_add(self.strings.len())
     }
 
     /// Writes the table.
     pub fn write(&self, out: &mut Vec<u8>) {
-        write_header(out, self.records.len() / 12);
+        write_header(out, self.records.len() / NAME_RECORD_SIZE);
         put(out, &self.records);
         self.strings.write(out);
     }
@@ -202,7 +211,7 @@ impl<'a> NewNames<'a> {
 /// Writes the header of a table of so many records.
 fn write_header(out: &mut Vec<u8>, count: usize) {
     let [a, b] = (count as u16).to_be_bytes();
-    let [c, d] = ((6 + 12 * count) as u16).to_be_bytes();
+    let [c, d] = ((HEADER_SIZE + NAME_RECORD_SIZE * count) as u16).to_be_bytes();
     put(out, &[0, 0, a, b, c, d]);
 }
 
@@ -233,7 +242,7 @@ fn no_bytes(alloc: Global, count: usize) -> Result<Writer, Error> {
 
 /// The names of records as they are written, unless these are more than 5460, of twelve bytes each.
 fn few_names<'a>(records: Vec<u8>, strings: Strings<'a>) -> Result<NewNames<'a>, Error> {
-    if records.len() > 65520 {
+    if records.len() > RECORDS_MAX {
         return Err(Error::SubsetError);
     }
     Ok(NewNames { records, strings })
@@ -242,7 +251,7 @@ fn few_names<'a>(records: Vec<u8>, strings: Strings<'a>) -> Result<NewNames<'a>,
 /// The records that a subset keeps, with room for as many as are usual taken at once.
 fn laid_names<'a>(alloc: Global, table: &Table<'a>) -> Result<NewNames<'a>, Error> {
     let count = usize::from(table.records.len()).min(LINEAR_MAX);
-    let mut front = no_bytes(alloc, 12 * count)?;
+    let mut front = no_bytes(alloc, NAME_RECORD_SIZE * count)?;
     let mut strings = Strings::with_capacity(alloc, count)?;
     collect_names(table, &mut front, &mut strings)?;
     few_names(front.finish(), strings)

@@ -22,9 +22,14 @@ fn sum(a: i16, x: i64, b: i16, y: i64) -> i64 {
     plus(product(a, x), product(b, y))
 }
 
+/// 1 as an F2DOT14.
+const ONE: i16 = 16384;
+/// How many units 1 has in an F2DOT14.
+const F2DOT14_UNITS: u64 = 16384;
+
 /// A number of 16384ths, to the nearest whole number.
 fn quotient(v: i64) -> i64 {
-    nearest(v, 16384)
+    nearest(v, F2DOT14_UNITS)
 }
 
 /// A coordinate of a point through a row of a matrix.
@@ -49,7 +54,7 @@ fn transformed_column(
 
 /// Whether a matrix changes nothing.
 fn is_identity(m: Matrix) -> bool {
-    m.xx == 16384 && m.yx == 0 && m.xy == 0 && m.yy == 16384
+    m.xx == ONE && m.yx == 0 && m.xy == 0 && m.yy == ONE
 }
 
 /// Whether an offset is to be scaled. Where the flags say both, it isn't, as by default.

@@ -7,6 +7,7 @@ use crate::proved::subsetter_base::read::Reader;
 use crate::proved::subsetter_base::Error;
 use crate::proved::subsetter_instance::glyphs::unfolding::Unfolded;
 use crate::proved::subsetter_instance::source::Source;
+use crate::proved::subsetter_points::header::X_MIN;
 use crate::proved::subsetter_points::{read_columns, Columns};
 use crate::proved::subsetter_sfnt::fields::hmtx::LongHorMetric;
 use crate::proved::subsetter_variation::glyphs::movement::{
@@ -19,7 +20,7 @@ use crate::rattle::alloc::{AllocError, Global};
 
 /// xMin of a description, 0 of a glyph without bytes.
 fn x_min(bytes: &[u8]) -> i16 {
-    match Reader::new_at(bytes, 2).read::<u16>() {
+    match Reader::new_at(bytes, X_MIN).read::<u16>() {
         Some(bits) => bits.to_signed(),
         None => 0,
     }

@@ -9,6 +9,7 @@ use crate::proved::subsetter_instance::glyphs::cache::GlyphCache;
 use crate::proved::subsetter_instance::glyphs::composite::read_composite;
 use crate::proved::subsetter_instance::glyphs::simple::unfold_simple;
 use crate::proved::subsetter_instance::source::Source;
+use crate::proved::subsetter_points::header::COMPOSITE;
 use crate::rattle::alloc::Global;
 
 /// How deep components may have components: 64 levels below a glyph.
@@ -33,7 +34,7 @@ pub fn is_composite(bytes: &[u8]) -> bool {
             return false;
         }
     };
-    contours >= 0x8000
+    contours >= COMPOSITE
 }
 
 /// The description of a glyph that `maxp` counts, if it is there.

@@ -143,7 +143,7 @@ fn varied_post(
             return Ok(copied(alloc, post)?);
         }
     };
-    if post.len() < 12 {
+    if post.len() < IS_FIXED_PITCH {
         return Ok(copied(alloc, post)?);
     }
     varied_underline(alloc, mvar, at, post)

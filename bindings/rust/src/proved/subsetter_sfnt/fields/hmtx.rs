@@ -60,7 +60,7 @@ pub fn last_advance(hmtx: &[u8], count: u16) -> Option<u16> {
     Reader::new_at(hmtx, LONG_HOR_METRIC_SIZE * (count as usize - 1)).read::<u16>()
 }
 
-/// The advance of a glyph, where so many pairs are stated.
+/// The advance of a glyph, by `numberOfHMetrics`.
 pub fn glyph_advance(hmtx: &[u8], count: u16, glyph: u16) -> Option<u16> {
     let pair = glyph.min(count.saturating_sub(1));
     Reader::new_at(hmtx, LONG_HOR_METRIC_SIZE * usize::from(pair)).read::<u16>()

@@ -13,10 +13,12 @@ use crate::proved::subsetter_base::Error;
 pub const OFFSET32_SIZE: usize = 4;
 /// How many bytes it has in the short one.
 pub const OFFSET16_SIZE: usize = 2;
+/// The greatest offset of the long format.
+pub const OFFSET32_MAX: usize = 0xffff_ffff;
 /// The greatest offset of the short format, whose halves have 16 bits.
 pub const OFFSET16_MAX: usize = 131_070;
 
-/// An entry: an offset, which the short format has by half.
+/// An entry: an offset; the short format stores its half.
 pub fn loca_offset(loca: &[u8], long: bool, index: usize) -> Option<usize> {
     if long {
         let offset = Reader::new_at(loca, OFFSET32_SIZE * index).read::<u32>()?;

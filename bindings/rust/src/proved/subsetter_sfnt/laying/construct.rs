@@ -132,12 +132,12 @@ fn adjust<T: TableBytes>(out: &mut Vec<u8>, start: usize, word: u32, tables: &[N
     }
 }
 
-/// Keeps room for what is before the tables.
+/// Writes zeros for what is before the tables, which is patched later. At most 252 bytes: a header and 15 records.
 fn skip_front(out: &mut Vec<u8>, count: usize) {
     put(out, &[0; 252][..count]);
 }
 
-/// Puts bytes in place of as many from an offset on.
+/// Overwrites the bytes at an offset.
 fn patch_bytes(out: &mut Vec<u8>, at: usize, bytes: &[u8]) {
     out[at..at + bytes.len()].copy_from_slice(bytes);
 }

@@ -15,7 +15,7 @@ use crate::proved::subsetter_type2::subroutines::SubroutineHandler;
 use crate::proved::subsetter_type2::token::{find_effect, one_byte_effect, Effect};
 
 /// The most stems, whose number has 16 bits.
-const MAX_STEMS: usize = 65535;
+pub const MAX_STEMS: usize = 65535;
 
 /// The subroutines that a charstring may call.
 pub struct Subroutines<'a> {

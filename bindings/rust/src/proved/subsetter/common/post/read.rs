@@ -8,7 +8,7 @@ use crate::rattle::prelude::Vec;
 
 use crate::proved::subsetter_base::read::{LazyArray16, Reader};
 use crate::proved::subsetter_base::{Error, GlyphRemapper};
-use crate::proved::subsetter_sfnt::fields::post::{version, HEADER_SIZE};
+use crate::proved::subsetter_sfnt::fields::post::{version, HEADER_SIZE, VERSION_2_0};
 use crate::rattle::alloc::Global;
 
 /// Names, each behind its length byte. An empty name is a name; a cut one ends them.
@@ -49,7 +49,7 @@ pub struct Version2Table<'a> {
 impl<'a> Version2Table<'a> {
     /// Parses a table, if it is one of version 2.0 and its header and its indexes are there.
     pub fn parse(data: &'a [u8]) -> Option<Self> {
-        if version(data)? != 0x0002_0000 {
+        if version(data)? != VERSION_2_0 {
             return None;
         }
         let mut r = Reader::new(data);

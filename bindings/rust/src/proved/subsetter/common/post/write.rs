@@ -12,6 +12,9 @@ use crate::proved::subsetter::common::post::read::Version2Table;
 use crate::proved::subsetter_base::read::Reader;
 use crate::proved::subsetter_base::write::Writer;
 use crate::proved::subsetter_base::{Error, GlyphRemapper};
+use crate::proved::subsetter_sfnt::fields::post::{
+    HEADER_SIZE, INDEXES, ITALIC_ANGLE, VERSION_2_0, VERSION_3_0,
+};
 use crate::rattle::alloc::Global;
 use crate::rattle::borrow::CowSlice;
 
@@ -109,7 +112,7 @@ fn write_table(
     if count_custom(indexes) > CUSTOM_MAX {
         return Err(Error::OverflowError);
     }
-    let room = room_for_names(indexes, names).saturating_add(34 + 2 * indexes.len());
+    let room = room_for_names(indexes, names).saturating_add(INDEXES + 2 * indexes.len());
     let mut w = Writer::with_capacity(alloc, room)?;
     w.extend(table.header)?;
     w.write(&count)?;
@@ -135,7 +138,7 @@ pub fn subset<'a>(
     let version = Reader::new(bytes)
         .read::<u32>()
         .ok_or(Error::MalformedFont)?;
-    if version != 0x0002_0000 {
+    if version != VERSION_2_0 {
         return Ok(Some(CowSlice::Borrowed(bytes)));
     }
     let table = Version2Table::parse(bytes).ok_or(Error::MalformedFont)?;
@@ -149,9 +152,9 @@ pub fn subset<'a>(
 
 /// A header of 32 bytes under version 3.0.
 fn header_alone(alloc: Global, bytes: &[u8]) -> Result<Vec<u8>, Error> {
-    let mut w = Writer::with_capacity(alloc, 32)?;
-    w.write(&0x0003_0000u32)?;
-    w.extend(&bytes[4..32])?;
+    let mut w = Writer::with_capacity(alloc, HEADER_SIZE)?;
+    w.write(&VERSION_3_0)?;
+    w.extend(&bytes[ITALIC_ANGLE..HEADER_SIZE])?;
     Ok(w.finish())
 }
 
@@ -167,7 +170,7 @@ pub fn subset_without_names<'a>(
             return subset(alloc, post, mapper);
         }
     };
-    if bytes.len() < 32 {
+    if bytes.len() < HEADER_SIZE {
         return subset(alloc, post, mapper);
     }
     Ok(Some(CowSlice::Owned(header_alone(alloc, bytes)?)))

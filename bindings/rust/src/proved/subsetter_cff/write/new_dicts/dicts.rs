@@ -22,6 +22,9 @@ const FONT_DICT_ROOM: usize = 64;
 /// Room for a few private dicts, in bytes.
 const PRIVATES_ROOM: usize = 256;
 
+/// Offsets, as numbers of a dict, are below this.
+const OFFSETS: usize = 2147483648;
+
 /// Font dicts and their private dicts.
 pub struct WrittenDicts {
     /// The private dicts, one behind the other.
@@ -38,7 +41,7 @@ pub fn offset_behind(place: usize, size: usize) -> Result<usize, Error> {
             return Err(Error::OverflowError);
         }
     };
-    if end >= 2147483648 {
+    if end >= OFFSETS {
         return Err(Error::OverflowError);
     }
     Ok(end)

@@ -50,11 +50,14 @@ fn write_registry(w: &mut Writer) -> Result<(), Error> {
 /// How many bytes the entries with offsets have, whatever the offsets are.
 pub const OFFSETS_SIZE: usize = 33;
 
+/// CIDCount: all numbers of 16 bits but the last.
+const CIDS: u16 = 65535;
+
 /// Writes the entries with offsets.
 pub fn write_offsets(offsets: &Offsets, w: &mut Writer) -> Result<(), Error> {
     write_offset(offsets.charset, CHARSET, w)?;
     write_offset(offsets.char_strings, CHAR_STRINGS, w)?;
-    write_integer(65535, CID_COUNT, w)?;
+    write_integer(CIDS, CID_COUNT, w)?;
     write_offset(offsets.font_dicts, FD_ARRAY, w)?;
     write_offset(offsets.select, FD_SELECT, w)
 }
