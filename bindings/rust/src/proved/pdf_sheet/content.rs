@@ -9,7 +9,7 @@ use crate::proved::subsetter_base::Error;
 use crate::rattle::alloc::Global;
 
 /// Writes a glyph at its place.
-fn write_placed(
+fn write_positioned(
     text: &mut Vec<u8>,
     frame: Frame,
     place: usize,
@@ -23,7 +23,7 @@ fn write_placed(
 fn write_glyphs(text: &mut Vec<u8>, frame: Frame, glyphs: &[SheetGlyph<'_>]) -> Result<(), Error> {
     let mut place = 0;
     for glyph in glyphs {
-        write_placed(text, frame, place, *glyph)?;
+        write_positioned(text, frame, place, *glyph)?;
         place += 1;
     }
     Ok(())

@@ -35,7 +35,7 @@ pub fn widths_of(alloc: Global, face: &Face<'_>, count: u16) -> Result<Vec<u32>,
 }
 
 /// Widths below this are counted at a place of their own, and the others, which few fonts have, by a map.
-const PLACES: usize = 2048;
+const INDEXED_WIDTHS: usize = 2048;
 
 /// How often widths were counted.
 struct Counts {
@@ -47,7 +47,7 @@ impl Counts {
     /// None were counted.
     fn new(alloc: Global) -> Result<Self, Error> {
         Ok(Self {
-            placed: vec![in alloc; 0; PLACES]?,
+            placed: vec![in alloc; 0; INDEXED_WIDTHS]?,
             mapped: HashMap::new(alloc),
         })
     }

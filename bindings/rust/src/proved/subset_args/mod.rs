@@ -29,4 +29,4 @@ pub use listing::lists::{descends, FileKind, GlyphList};
 pub use mistakes::free::find_mistake;
 pub use options::chosen::{PdfChoice, Switches};
 pub use options::names::Coding;
-pub use texts::{Advice, Shown, CODES_WANTED, ORDER_WANTED, PARTS_WANTED};
+pub use texts::{Advice, Shown, CODES_EXPECTED, ORDER_EXPECTED, PARTS_EXPECTED};

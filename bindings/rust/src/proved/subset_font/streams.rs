@@ -127,7 +127,7 @@ fn is_standard_output<R: Files>(rt: &R, name: &str) -> bool {
 }
 
 /// Whether the font or a PDF goes to standard output, if it is named.
-pub fn goes_to_output<R: Files>(rt: &R, name: Option<&str>) -> bool {
+pub fn is_to_standard_output<R: Files>(rt: &R, name: Option<&str>) -> bool {
     match name {
         Some(name) => is_stream(name) || is_standard_output(rt, name),
         None => false,

@@ -80,14 +80,14 @@ fn read_job(alloc: Global, chosen: Chosen<'_>, words: &[String]) -> Result<Job, 
 }
 
 /// Whether an option says where the new font or a PDF goes.
-fn says_file(chosen: &Chosen<'_>) -> bool {
+fn has_output(chosen: &Chosen<'_>) -> bool {
     chosen.output.is_some() || chosen.pdf.is_some()
 }
 
 /// What is requested by options before and after IN, one of which says OUT or a PDF.
 fn read_free_job(alloc: Global, free: Free<'_>) -> Result<Job, ArgsError> {
     let chosen = free.chosen;
-    if !says_file(&chosen) {
+    if !has_output(&chosen) {
         return Err(ArgsError::Usage);
     }
     let glyphs = read_glyphs(alloc, chosen.source, &[])?;

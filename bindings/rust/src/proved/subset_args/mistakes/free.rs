@@ -112,7 +112,7 @@ fn wrong_free<'a>(
 }
 
 /// Whether one of the arguments requests a PDF.
-fn says_pdf(words: &[String]) -> bool {
+fn requests_pdf(words: &[String]) -> bool {
     for word in words {
         if let Kind::Setting(Setting::Pdf) = kind_of(word) {
             return true;
@@ -138,7 +138,7 @@ pub fn find_mistake(words: &[String]) -> Option<Mistake<'_>> {
     match first_topic(words) {
         Some((_, behind)) => wrong_topic(behind),
         None if names_output(words) => wrong_free(Chosen::NOTHING, None, words),
-        None if says_pdf(words) => wrong_with_pdf(words),
+        None if requests_pdf(words) => wrong_with_pdf(words),
         None => wrong_from_option(Chosen::NOTHING, words),
     }
 }

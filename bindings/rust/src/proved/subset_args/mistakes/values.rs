@@ -8,7 +8,7 @@ use crate::proved::subset_args::listing::lists::{descends, is_wrong_part, FileKi
 use crate::proved::subset_args::mistakes::mistake::{mistake_at, Mistake, Wrong};
 use crate::proved::subset_args::options::chosen::Chosen;
 use crate::proved::subset_args::options::names::Source;
-use crate::proved::subset_args::options::values::{coding_of, says_held};
+use crate::proved::subset_args::options::values::{coding_of, holds_rights};
 use crate::proved::subsetter_words::{u16_of, u32_of};
 
 /// The INDEX that isn't a number.
@@ -122,7 +122,7 @@ pub fn wrong_coding(word: &str) -> Option<Mistake<'_>> {
 
 /// The value of `--rights` that isn't `held`.
 pub fn wrong_rights(word: &str) -> Option<Mistake<'_>> {
-    if says_held(word) {
+    if holds_rights(word) {
         return None;
     }
     mistake_at(Wrong::Rights, word)

@@ -4,7 +4,7 @@
 use crate::proved::subset_args::limits::RunLimits;
 use crate::proved::subset_args::listing::lists::FileKind;
 use crate::proved::subset_args::options::names::{Coding, Setting, Source, Switch};
-use crate::proved::subset_args::options::values::{coding_of, limits_of, says_held};
+use crate::proved::subset_args::options::values::{coding_of, holds_rights, limits_of};
 use crate::proved::subsetter_words::u32_of;
 
 /// The options without a value that were given.
@@ -277,7 +277,7 @@ impl<'a> Chosen<'a> {
 
     /// With the rights to embed the font.
     fn with_rights(self, value: &str) -> Option<Chosen<'a>> {
-        if self.is_held || !says_held(value) {
+        if self.is_held || !holds_rights(value) {
             return None;
         }
         Some(Chosen {

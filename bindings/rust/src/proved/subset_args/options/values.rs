@@ -16,7 +16,7 @@ pub fn coding_of(word: &str) -> Option<Coding> {
 }
 
 /// Whether a word says that the user holds the rights.
-pub fn says_held(word: &str) -> bool {
+pub fn holds_rights(word: &str) -> bool {
     word == "held"
 }
 

@@ -9,14 +9,14 @@ use crate::proved::subsetter_sfnt::fields::maxp::num_glyphs;
 
 /// Where a table is, in bytes.
 #[derive(Clone, Copy)]
-pub struct Place {
+pub struct TableRange {
     pub offset: u32,
     pub length: u32,
 }
 
 /// Where the table of a record is.
-pub fn place_of(one: TableRecord) -> Place {
-    Place {
+pub fn range_of(one: TableRecord) -> TableRange {
+    TableRange {
         offset: one.offset,
         length: one.length,
     }

@@ -180,7 +180,7 @@ fn with_more(
 }
 
 /// The task of a plan at coordinates.
-fn placed<'a>(task: &Task<'a>, at: &'a [(Tag, i32)]) -> Task<'a> {
+fn task_at<'a>(task: &Task<'a>, at: &'a [(Tag, i32)]) -> Task<'a> {
     Task {
         requested: task.requested,
         index: task.index,
@@ -192,14 +192,14 @@ fn placed<'a>(task: &Task<'a>, at: &'a [(Tag, i32)]) -> Task<'a> {
 }
 
 /// What a plan makes of a font at the coordinates of the named instance.
-fn make_placed(
+fn make_instance(
     alloc: Global,
     font: &[u8],
     plan: &Plan<'_>,
     _name: &str,
     at: &[(Tag, i32)],
 ) -> Result<Outcome, Failure> {
-    let task = placed(&plan.task, at);
+    let task = task_at(&plan.task, at);
     match make_of(alloc, font, &task) {
         Ok(made) => with_more(alloc, font, plan, &task, made),
         Err(failure) => Err(failure),
@@ -214,7 +214,7 @@ fn make_at_instance(
     name: &str,
 ) -> Result<Outcome, Failure> {
     match face_settings(alloc, font, plan.task.index, name) {
-        Ok(at) => make_placed(alloc, font, plan, name, &at),
+        Ok(at) => make_instance(alloc, font, plan, name, &at),
         Err(failure) => Err(failure),
     }
 }

@@ -10,7 +10,7 @@ use crate::proved::subset_font::refusals::reason::{reason_of, Noted};
 use crate::proved::subset_font::run::reports::{report_made, report_unlisted};
 use crate::proved::subset_font::run::request::{list_of, plan_of};
 use crate::proved::subset_font::streams::{
-    goes_to_output, lines_beside, open_source, Source, Target,
+    is_to_standard_output, lines_beside, open_source, Source, Target,
 };
 use crate::proved::subset_font::task::Plan;
 use crate::proved::subsetter::Error;
@@ -122,7 +122,8 @@ pub fn run_job<R: Files + Print + Eprint + Input + AllocGlobal>(rt: &R, job: &Jo
     };
     let plan = plan_of(job, &list);
     let mut font = Vec::new(rt.alloc());
-    let is_font_there = goes_to_output(rt, given(&job.output)) || goes_to_output(rt, pdf_file(job));
+    let is_font_there =
+        is_to_standard_output(rt, given(&job.output)) || is_to_standard_output(rt, pdf_file(job));
     let ended = perform(rt, job, &plan, is_font_there, &mut font, &mut reason);
     report_made(rt, &ended, job, &plan, is_font_there, &font, reason)
 }

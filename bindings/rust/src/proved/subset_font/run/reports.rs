@@ -4,8 +4,8 @@
 use crate::rattle::prelude::{AllocGlobal, Eprint};
 
 use crate::proved::subset_args::{
-    codes_descend, descends, find_wrong, FileKind, Glyphs, Job, Shown, Topic, CODES_WANTED,
-    ORDER_WANTED, PARTS_WANTED,
+    codes_descend, descends, find_wrong, FileKind, Glyphs, Job, Shown, Topic, CODES_EXPECTED,
+    ORDER_EXPECTED, PARTS_EXPECTED,
 };
 use crate::proved::subset_font::faces::missing::missing_in;
 use crate::proved::subset_font::faces::named::instance_names;
@@ -58,19 +58,19 @@ fn report_part<R: Eprint>(rt: &R, kind: FileKind, part: &[u8]) {
     let _ = match kind {
         FileKind::Glyphs if is_descending => {
             let _ = eprintln!(rt; "--gids-file: the range \"{part}\" descends");
-            rt.eprintln(ORDER_WANTED)
+            rt.eprintln(ORDER_EXPECTED)
         }
         FileKind::Characters if is_descending => {
             let _ = eprintln!(rt; "--unicodes-file: the range \"{part}\" descends");
-            rt.eprintln(ORDER_WANTED)
+            rt.eprintln(ORDER_EXPECTED)
         }
         FileKind::Glyphs => {
             let _ = eprintln!(rt; "--gids-file: \"{part}\" is not a glyph number");
-            rt.eprintln(PARTS_WANTED)
+            rt.eprintln(PARTS_EXPECTED)
         }
         FileKind::Characters => {
             let _ = eprintln!(rt; "--unicodes-file: \"{part}\" is not a character number");
-            rt.eprintln(CODES_WANTED)
+            rt.eprintln(CODES_EXPECTED)
         }
         FileKind::Text => {
             let _ = eprintln!(rt; "--text-file: the text is not UTF-8");
