@@ -105,8 +105,8 @@ def paths(document, text):
 
 def rows_of_sections(text):
     """The cells of the tables, with the crate and the folders that the tables of MODULES name for them."""
-    for section in re.split(r"^## ", text, flags=re.M)[1:]:
-        crate = (re.match(r"Where is what in `(crates/\w+)`", section) or [None, None])[1]
+    for section in re.split(r"^###? ", text, flags=re.M)[1:]:
+        crate = (re.match(r"(?:Where is what in )?`(crates/\w+)`", section) or [None, None])[1]
         folders = []
         for line in section.split("\n"):
             cells = [it.strip() for it in line.strip("|").split("|")]
