@@ -10,7 +10,7 @@ import tempfile
 
 ROOT = os.path.dirname(os.path.dirname(os.path.realpath(__file__)))
 SCRIPT, JUDGE = "compare/wrong_bodies.py", "compare/lib/wrong_body.py"
-READERS = ("compare/lib/rattle_code.py", "compare/lib/rattle_text.py", "compare/lib/rattle_antt.py")
+OTHERS = [f"compare/lib/{it}.py" for it in ("rattle_code", "rattle_text", "rattle_antt", "build", "results_of", "comparisons", "repository")]
 GOOD = "refused, as it must be: src/lib.rt:1:1: error: top::f: not proved"
 WEAK = "refused, as it must be (only because a proof file names what the edit took away, so this says little): proofs/A.antt:1:1: error"
 IN_PROOF = "refused, as it must be: ./proofs/a/f/Answers.antt:3:1: error: `returns`: not this type"
@@ -118,15 +118,15 @@ class Room:
             file.write(text)
 
     def run(self, *words, **answers):
-        """The status of the script, the last line that it prints, and the edits that it had rt try."""
+        """The status of the script, the line with its counts, and what it had rt try."""
         self.write("answers.json", json.dumps({"all": GOOD, **answers}))
         self.write("tried", "")
-        environment = {**os.environ, "PATH": f"{self.folder}/bin:{os.environ['PATH']}", "TOLD": self.folder}
+        environment = {**os.environ, "PATH": f"{self.folder}/bin:{os.environ['PATH']}", "TOLD": self.folder, "TMPDIR": self.folder}
         ran = subprocess.run([sys.executable, os.path.join(self.folder, SCRIPT), *words], env=environment, capture_output=True, text=True, timeout=60)
         self.printed = ran.stdout
         with open(os.path.join(self.folder, "tried"), encoding="utf-8") as file:
             names = file.read().split()
-        return ran.returncode, (ran.stdout.splitlines() or [""])[-1], [os.path.basename(it).split(".")[0] for it in names]
+        return ran.returncode, next((it for it in ran.stdout.splitlines() if " wrong bodies of " in it), ""), [os.path.basename(it).split(".")[0] for it in names]
 
 
 def wanted(refused, weak=0, earlier=0, of=10, at=None, survive=0):
@@ -281,6 +281,18 @@ def changed_meanwhile(room):
     yield room.run(), (0, wanted(10), NAMES)
 
 
+def results(room):
+    in_code(room, ("let one = 1;", "let one = 2;"))
+    path = os.path.join(room.folder, "out/rows.csv")
+    os.makedirs(os.path.dirname(path))
+    yield room.run("--results", path, only=OPEN, e05=SURVIVES)[0], 1
+    with open(path, encoding="utf-8") as file:
+        rows = [line.rsplit(",", 1)[0] for line in file][1:]
+    yield rows[:2] + rows[5:7], ["Crate,Wrong body,Came to", f"top,e00.edit,\"{GOOD}\"", "top,e04.edit,refused at src/a.rt:7:5 in a::f: returns-clause-one", f"top,e05.edit,{SURVIVES}"]
+    yield [it for it in room.printed.splitlines() if it[:1] != "|"][0], f"must-fail top/e05.edit: {SURVIVES}"
+    yield "| top | 10 | 9 | 9 | 0 | 1 |" in room.printed, True
+
+
 def jobs(room):
     for name in NAMES:
         room.write(f"compare/wrong_bodies/other/{name}.edit", f"file: src/lib.rt\nold: other\nnew: {name}\n")
@@ -297,7 +309,7 @@ TESTS = {
     "HANDLES": changed("HANDLES"), "another kit": another_kit, "another line of crates.txt": another_line, "a change elsewhere": changed_elsewhere,
     "a run that is cut off": cut_off, "a goal is open": open_goal, "an edit that proves": proves, "a method": method, "two functions": two_functions,
     "a clause, a type": no_body, "a proof's text": no_code, "an old text that stands there twice": not_applied, "a source that changes meanwhile": changed_meanwhile,
-    "two crates side by side": jobs,
+    "two crates side by side": jobs, "rows are written": results,
     "a proof fails, and no goal is open": not_sure(1, "./proofs/a/f/Answers.antt:3:1: error: `returns-clause-one`: not this type\n" + LOST + END, said=IN_PROOF),
     "a proof names what is gone": not_sure(1, "./proofs/a/f/Answers.antt:3:1: error: `returns-clause-one` has no field `now`\n" + LOST + END, said=WEAK),
     "it isn't compiled": not_sure(1, "src/a.rt:6:5: error[E0308]: mismatched types\n" + NOTE + LOST + END),
@@ -348,6 +360,8 @@ PLANTS = [
     ("a check that proves refuses", "an edit that proves", "    if said:\n", "    if said or not said:\n"),
     ("changes meanwhile don't count", "a source that changes meanwhile", "if now != {edit: sums[edit] for edit in now}:", "if False:"),
     ("one crate is tried", "two crates side by side", "for crate, names in edits.items()]:", "for crate, names in list(edits.items())[:1]]:"),
+    ("survivors aren't printed", "rows are written", "if not re.match(AT_GOAL, outcome(it.said))]", "if not it.said]"),
+    ("rows are of nothing", "rows are written", "in sorted(said.items()))\n\n\ndef read_words", "in ())\n\n\ndef read_words"),
     ("any status refuses", "the prover could not tell", "if status != 1 or", "if"),
     ("a check that doesn't end refuses", "the check doesn't end", "not ended or int(ended[2]) >= int(ended[1]) or", "ended and int(ended[2]) >= int(ended[1]) or"),
     ("a check with all proved refuses", "all are proved", "int(ended[2]) >= int(ended[1]) or", ""),
@@ -379,7 +393,7 @@ def planted(texts, old, new):
 
 def main():
     texts = {}
-    for path in (SCRIPT, JUDGE, *READERS):
+    for path in (SCRIPT, JUDGE, *OTHERS):
         with open(os.path.join(ROOT, path), encoding="utf-8") as file:
             texts[path] = file.read()
     wrong = [it for name in TESTS for it in faults(texts, name)]

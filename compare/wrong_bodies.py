@@ -355,8 +355,8 @@ def main():
     weakest = [it.said for _, it in sorted(said.items()) if not re.match(AT_GOAL, outcome(it.said))]
     print(*weakest, sep="\n", end="\n" * bool(weakest))
     count, refused, at, weak, survive, minutes = counted(said.values())
-    print(f"{(time.monotonic() - begun) / 60:.1f} minutes by the clock; these tries took {minutes:.1f} minutes of a processor, {before / 60:.1f} of them in earlier runs")
     print(f"{count} wrong bodies of {len(edits)} crates, {refused} refused, {at} of them at a goal of the code, {weak} not by a contract; {survive} survive, {count - refused - survive} bad or not tried; {old} in earlier runs")
+    print(f"{(time.monotonic() - begun) / 60:.1f} minutes by the clock for this run; these tries took {minutes:.1f} minutes of a processor, {before / 60:.1f} of them in earlier runs")
     sys.exit(0 if refused == count else 1)
 
 
