@@ -81,7 +81,7 @@ else:
     crate = sys.argv[2]
     names = sorted(os.listdir(f"crates/{crate}/must-fail"))
     note(crate, names)
-    if code(f"crates/{crate}") != code(f"{room}/crates/{crate}") or kept(f"crates/{crate}") != "whole":
+    if code(f"crates/{crate}") != code(f"{room}/crates/{crate}") or kept(f"crates/{crate}") != "whole" or os.environ.get("RT_JOBS") != "1":
         note(crate, ["wrong"])
     if told.get("kills") in [it.split(".")[0] for it in names]:
         os.kill(os.getppid(), signal.SIGKILL)
@@ -121,7 +121,7 @@ class Room:
         """The status of the script, the line with its counts, and what it had rt try."""
         self.write("answers.json", json.dumps({"all": GOOD, **answers}))
         self.write("tried", "")
-        environment = {**os.environ, "PATH": f"{self.folder}/bin:{os.environ['PATH']}", "TOLD": self.folder, "TMPDIR": self.folder}
+        environment = {**{it: text for it, text in os.environ.items() if it != "RT_JOBS"}, "PATH": f"{self.folder}/bin:{os.environ['PATH']}", "TOLD": self.folder, "TMPDIR": self.folder}
         ran = subprocess.run([sys.executable, os.path.join(self.folder, SCRIPT), *words], env=environment, capture_output=True, text=True, timeout=60)
         self.printed = ran.stdout
         with open(os.path.join(self.folder, "tried"), encoding="utf-8") as file:
@@ -358,6 +358,7 @@ PLANTS = [
     ("what an edit's check keeps goes on", "an edit that proves", "    begin(room, crate)\n    ran = run", "    ran = run"),
     ("an open goal is looked for from nothing", "a goal is open", "    begin(room, crate)\n    was", "    shutil.rmtree(begun_with(room, crate))\n    os.makedirs(begun_with(room, crate))\n    write(begun_with(room, crate) + '/f.oantt', '')\n    was"),
     ("a check that proves refuses", "an edit that proves", "    if said:\n", "    if said or not said:\n"),
+    ("rt must-fail takes all processors", "all are refused", ', env=ENVIRONMENT)', ")"),
     ("changes meanwhile don't count", "a source that changes meanwhile", "if now != {edit: sums[edit] for edit in now}:", "if False:"),
     ("one crate is tried", "two crates side by side", "for crate, names in edits.items()]:", "for crate, names in list(edits.items())[:1]]:"),
     ("survivors aren't printed", "rows are written", "if not re.match(AT_GOAL, outcome(it.said))]", "if not it.said]"),

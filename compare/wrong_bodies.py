@@ -149,6 +149,8 @@ def keep(sums, said):
 
 Ran = collections.namedtuple("Ran", "status printed seconds")
 Tried = collections.namedtuple("Tried", "said seconds")
+# `rt must-fail` takes all processors else; here the crates side by side share them.
+ENVIRONMENT = {**os.environ, "RT_JOBS": os.environ.get("RT_JOBS", "1")}
 # rt holds the folders of a crate and of all below while it works there.
 IN_PLACE = threading.Lock()
 
@@ -156,7 +158,7 @@ IN_PLACE = threading.Lock()
 def run(words, folder, errors=None):
     """A command's status, what it printed, and the processor seconds of all that it started."""
     with tempfile.TemporaryFile("w+", encoding="utf-8", errors="replace") as out:
-        command = subprocess.Popen(words, cwd=folder, stdin=subprocess.DEVNULL, stdout=out, stderr=errors)
+        command = subprocess.Popen(words, cwd=folder, stdin=subprocess.DEVNULL, stdout=out, stderr=errors, env=ENVIRONMENT)
         _, status, usage = os.wait4(command.pid, 0)
         command.returncode = os.waitstatus_to_exitcode(status)
         out.seek(0)
