@@ -19,7 +19,7 @@ import time
 
 HERE = os.path.dirname(os.path.realpath(__file__))
 PROGRAM = os.path.join(os.path.dirname(HERE), "crates", "subset_font")
-ARGUMENTS = os.path.join(os.path.dirname(HERE), "crates", "subset_args", "src", "options.rt")
+ARGUMENTS = os.path.join(os.path.dirname(HERE), "crates", "subset_args", "src", "options", "names.rt")
 
 ALL = ["--gids", "--gids-file", "--text", "--text-file", "--unicodes", "--unicodes-file", "-o", "--output-file", "--face-index", "--pdf", "--vertical", "--codes", "--rights", "--at",
        "--no-hinting", "--no-names", "--no-glyph-names", "--limits", "--widths", "--verbose", "--json", "--quiet", "--axes", "--info", "-h", "--help", "--version"]

@@ -4,7 +4,7 @@
 - no folder of sources, definitions or proofs has over 12 files, and no file over 400 lines;
 - a crate stands on crates of its own layer or of one below it (.ci/conventions/layers.txt);
 - a record or a field of a table is read by one module (.ci/conventions/tables.txt);
-- no definition and no function stands twice (`compare/contracts.py --twins`);
+- no definition and no function stands twice (`compare/contracts.py --twins`), nor once for x and once for y, or for width and height;
 - each public function, but of the developers' crates, has an `ensures`, or docs/GUARANTEES.md lists it with the test in its place.
 
 .ci/conventions/exceptions.txt lists what isn't so yet, each kind with its number, which may only fall: a new fault fails the
@@ -119,8 +119,8 @@ def doubles(tree):
     for group in twins.definitions(tree):
         if len({twins.name(it) for it in group}) == 1 or not twins.is_small(tree, group[0]):
             found["definition " + " = ".join(sorted(group))] = "they say the same"
-    for group in twins.bodies(tree):
-        found["function " + " = ".join(sorted(it.id for it in group))] = "they have one body"
+    for groups, how in (twins.bodies(tree), "they have one body"), (twins.columns(tree), "they have one body but for x and y, or width and height"):
+        found.update({"function " + " = ".join(sorted(it.id for it in group)): how for group in groups})
     if tree.problems:
         raise Trouble("\n".join(sorted(set(tree.problems))[:20]))
     return found

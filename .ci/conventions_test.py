@@ -49,6 +49,10 @@ TWIN = add("crates/high/specs/Own.antt", "\nabbrev pub many : ℕ → ℕ\nmany 
 TWIN = both(TWIN, at("crates/high/specs/Own.antt", "{ℕ}", "{ℕ, ◌*◌}"), at("crates/low/specs/Bytes.antt", "scaled n = 256 * n", "scaled n = 256 * n * (n * n)"),
             at("crates/high/specs/Own.antt", "256 * n", "256 * n * (n * n)"))
 FUNCTIONS = both(add("crates/low/src/read.rt", "fn one()" + BODY), add("crates/high/src/lib.rt", "fn two()" + BODY))
+# The greatest coordinate of a column, twice.
+GREATEST = "fn greatest_{0}(points: &[Point]) -> i16 {{\n    let mut {0} = points[0].{0};\n    for point in points {{\n        {0} = larger({0}, point.{0});\n    }}\n    {0}\n}}\n"
+WIDEST = "fn {0}_of(boxes: &[Page]) -> u16 {{\n    let mut {0} = boxes[0].{0};\n    for page in boxes {{\n        {0} = {0}.max(page.{0} + page.{0}_unit);\n    }}\n    {0}\n}}\n"
+COLUMN = add("crates/low/src/read.rt", GREATEST.format("x") + GREATEST.format("y"))
 READER = add("crates/high/src/lib.rt", "fn units(head: &[u8]) -> Option<u16> {\n    Reader::new_at(head, 18).read::<u16>()\n}\n")
 LIST = "# Guarantees\n\n### Public functions without a contract\n\n| Function | Its request | Tests |\n|---|---|---|\n"
 BARE = add("crates/low/src/read.rt", "\npub fn opened(name: &str) -> bool {\n    name.is_empty()\n}\n")
@@ -86,6 +90,11 @@ PLANTS = [
     ("a third one beside two that are excepted", both(TWIN, excepted("definition high.specs.Own.many = low.specs.Bytes.scaled"),
                                                      add("crates/high/specs/Own.antt", "\nabbrev pub more : ℕ → ℕ\nmore k = 256 * k * (k * k)\n")), 1, "high.specs.Own.more"),
     ("a function that stands twice", FUNCTIONS, 1, "function high.two = low.read.one"),
+    ("a function for x and one for y", COLUMN, 1, "function low.read.greatest_x = low.read.greatest_y: they have one body but for x and y"),
+    ("one that is excepted", both(COLUMN, excepted("function low.read.greatest_x = low.read.greatest_y")), 0, "1 function"),
+    ("one for widths and one for heights, in two crates", both(add("crates/low/src/read.rt", WIDEST.format("width")), add("crates/high/src/lib.rt", WIDEST.format("height"))), 1,
+     "function high.height_of = low.read.width_of"),
+    ("a function for x, and one that takes the least y", add("crates/low/src/read.rt", GREATEST.format("x") + GREATEST.format("y").replace("larger", "smaller")), 0, "0 faults"),
     ("an exception that isn't needed", excepted("folder crates/low/specs"), 1, "the exception isn't needed"),
     ("a number that is too high", at(EXCEPTIONS, "at most 0 of file", "at most 1 of file"), 1, "the number may only fall"),
     ("an exception without its number", both(READER, add(EXCEPTIONS, "reader crates/high/src/lib.rt of head.unitsPerEm\n")), 1, "the number may only fall"),

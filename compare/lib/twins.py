@@ -1,6 +1,6 @@
 """What stands twice in a checkout (`contracts.py --twins`): definitions of specs/ that say the same, also where what they cite
-has other names or stands elsewhere, and functions of src/ with the same body or the same contract; then names that mean one
-thing here and another there."""
+has other names or stands elsewhere, and functions of src/ with the same body, the same but for x and y or width and height, or
+the same contract; then names that mean one thing here and another there."""
 import re
 
 from rattle_view import View
@@ -8,6 +8,9 @@ from rattle_view import View
 SMALL = 6  # words of a definition below which two may well be alike by chance
 BODY = 24  # words of a function's body, likewise
 SHAPE = 60  # words of a body that is the same but for names and fields
+# Parts of names that tell one column of OpenType from the other, and those of the other.
+COLUMNS = {"y": "x", "ys": "xs", "dy": "dx", "height": "width", "heights": "widths", "vertical": "horizontal", "ver": "hor", "vhea": "hhea", "vmtx": "hmtx", "vvar": "hvar",
+           "vorg": "horg", "tsb": "lsb", "bsb": "rsb", "top": "left", "bottom": "right", "up": "across"}
 
 
 def classes(tree):
@@ -79,6 +82,19 @@ def bodies(tree):
     return groups(tree, lambda item: tuple(item.body), BODY)
 
 
+def columns(tree):
+    """Functions with the same body but for x and y, or width and height: lists of items."""
+    return [it for it in groups(tree, lambda item: tuple(column(word) for word in item.body), BODY) if len({tuple(item.body) for item in it}) > 1]
+
+
+def column(word):
+    """A word in which y is x, height is width, and so on: `least_ys` is `least_xs`, and so are `YCoordinates` and `XCoordinates` the same."""
+    if not re.match(r"[A-Za-z_]\w*$", word):
+        return word
+    parts = [it.lower() if it.lower() in COLUMNS or it.lower() in COLUMNS.values() else it for it in re.sub(r"^([XY])(?=[A-Z][a-z])", r"\1_", word).split("_")]
+    return "_".join(COLUMNS.get(it, it) for it in parts)
+
+
 def shapes(tree):
     """Functions with the same body but for names, fields and numbers."""
     return groups(tree, lambda item: shape(item.body), SHAPE)
@@ -119,6 +135,7 @@ def lists(tree):
     yield "definitions of several names that say the same", [line(tree, it) for it in other if not is_small(tree, it[0])]
     yield "the same, so short that it may be by chance", [line(tree, it) for it in other if is_small(tree, it[0])]
     yield "functions with one body", [items_line(it) for it in whole]
+    yield "functions with one body but for x and y, or width and height", [items_line(it) for it in columns(tree)]
     yield "functions with one body but for names and numbers", [items_line(it) for it in shapes(tree) if it not in whole]
     yield "functions with one contract and several bodies", [items_line(it) for it in contracts(tree, kinds) if len({tuple(item.body) for item in it}) > 1]
     yield "definitions of one name in several crates that say different things", [line(tree, it) for it in namesakes(tree, kinds)]
@@ -134,6 +151,6 @@ def printed(tree):
     for k, (title, lines) in enumerate(lists(tree)):
         print(f"# {len(lines)} groups: {title}")
         print("".join(it + "\n" for it in sorted(lines)))
-        twice += len(lines) if k in (0, 1, 3) else 0
+        twice += len(lines) if k in (0, 1, 3, 4) else 0
     print(f"{len(tree.definitions)} definitions, {len(tree.items)} items; {twice} groups stand twice")
     return not twice

@@ -7,7 +7,7 @@ use Rattle.subsetter_base.specs.Bytes.{IsBytes}
 use Rattle.subsetter_base.specs.Indexes.{index_of}
 use Rattle.subsetter_base.specs.declared.error.Error.{Error}
 use Rattle.subsetter_base.specs.declared.error.Error.TheVariants.{MalformedFont, OutOfMemory}
-use Rattle.subsetter_base.proofs.GlyphLemmas.{known-all, Contains-place, place-finds, room_left_for_zero}
+use Rattle.subsetter_base.proofs.GlyphLemmas.{known-all, Contains-index, index-finds, room_left_for_zero}
 use Rattle.subsetter_base.proofs.Options.{some_of}
 use Rattle.subsetter_cff.specs.Write.Again.{AreAll}
 use Rattle.subsetter.specs.Fault.{HasFault}
@@ -31,8 +31,8 @@ some_numbered cids = some_known (numbering cids) 0 (known-all cids 0)
 -- each asked CID is there
 numbered : (cids : List ℕ) (cid : ℕ) → Contains cids cid → Contains (numbering cids) cid
 numbered cids cid c =
-    let at = some_of (index_of (numbering cids) cid) (known-all cids cid ∙ ap (λ b. eqb 0 cid || b) (Contains-place cids cid c) ∙ or-true (eqb 0 cid)) in
-    let found = place-finds (numbering cids) cid at.0 at.1 in
+    let at = some_of (index_of (numbering cids) cid) (known-all cids cid ∙ ap (λ b. eqb 0 cid || b) (Contains-index cids cid c) ∙ or-true (eqb 0 cid)) in
+    let found = index-finds (numbering cids) cid at.0 at.1 in
     (at.0, found.0, get_or_default (numbering cids) at.0 cid 0 found.0 ∙ found.1)
 
 -- one that the font doesn't have is a fault

@@ -8,7 +8,7 @@ use Rattle.subsetter_base.specs.Gives.{Gives}
 use Rattle.subsetter_base.specs.Indexes.{index_of, HasAllAboveZero}
 use Rattle.subsetter_base.specs.declared.error.Error.{Error}
 use Rattle.subsetter_base.specs.declared.error.Error.TheVariants.{UnknownKind, MalformedFont, Unimplemented, SubsetError, OverflowError, CFFError, OutOfMemory}
-use Rattle.subsetter_base.proofs.GlyphLemmas.{known, known-all, Contains-place}
+use Rattle.subsetter_base.proofs.GlyphLemmas.{known, known-all, Contains-index}
 use Rattle.subsetter_sfnt.specs.Read.{Font}
 use Rattle.subsetter.specs.Fault.{HasFault, in_opening}
 use Rattle.subsetter.specs.Subset.{IsSubset}
@@ -25,7 +25,7 @@ use Rattle.cid_embed.proofs.Reading.{IsReading, is_reading}
 pub asked_known : (glyphs mapper : List ℕ) (k d : ℕ) → mapper ≡ numbering glyphs → k < length glyphs → IsSome (index_of mapper (get_or glyphs k d))
 asked_known glyphs mapper k d m lt =
     let q = get_or glyphs k d in
-    let known_there : known glyphs q ≡ true = Contains-place glyphs q (k, lt, get_or_default glyphs k q d lt) in
+    let known_there : known glyphs q ≡ true = Contains-index glyphs q (k, lt, get_or_default glyphs k q d lt) in
     ap (λ (l : List ℕ). known l q) m ∙ known-all glyphs q ∙ ap (λ b. eqb 0 q || b) known_there ∙ or-true (eqb 0 q)
 
 -- a subset in whose source no fault stands, the size limits being judged for its order of glyphs

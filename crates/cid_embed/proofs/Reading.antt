@@ -28,17 +28,17 @@ use Rattle.cid_embed.proofs.Tables.{table_of_is, no_hmtx_again, no_head_again}
 -- ---- the advance of a metric
 
 abbrev metric_by : Option ℕ → Option ℕ → Option LongHorMetric
-metric_by a b = option_and_then (λ advance. option_and_then (λ bearing. Some (record { advance = advance; bearing = bearing })) b) a
+metric_by a b = option_and_then (λ advance. option_and_then (λ bearing. Some (record { advance_width = advance; lsb = bearing })) b) a
 
-advance_by : (a b : Option ℕ) (m : LongHorMetric) → metric_by a b ≡ Some m → a ≡ Some m.advance
+advance_by : (a b : Option ℕ) (m : LongHorMetric) → metric_by a b ≡ Some m → a ≡ Some m.advance_width
 advance_by None b m h = absurd cc
 advance_by (Some a) None m h = absurd cc
-advance_by (Some a) (Some b) m h = ap (λ (x : LongHorMetric). Some x.advance) (just_is (record { advance = a; bearing = b }) m h)
+advance_by (Some a) (Some b) m h = ap (λ (x : LongHorMetric). Some x.advance_width) (just_is (record { advance_width = a; lsb = b }) m h)
 
-advance_there : (hmtx : List ℕ) (p q : ℕ) (m : LongHorMetric) → metric_at hmtx p q ≡ Some m → number hmtx p 2 ≡ Some m.advance
+advance_there : (hmtx : List ℕ) (p q : ℕ) (m : LongHorMetric) → metric_at hmtx p q ≡ Some m → number hmtx p 2 ≡ Some m.advance_width
 advance_there hmtx p q m h = advance_by (number hmtx p 2) (number hmtx q 2) m h
 
-pub advance_of : (hmtx : List ℕ) (pairs g : ℕ) (m : LongHorMetric) → metric_in hmtx pairs g ≡ Some m → advance_in hmtx pairs g ≡ Some m.advance
+pub advance_of : (hmtx : List ℕ) (pairs g : ℕ) (m : LongHorMetric) → metric_in hmtx pairs g ≡ Some m → advance_in hmtx pairs g ≡ Some m.advance_width
 unfolding metric_in
 advance_of hmtx pairs g m h = elim (cases_lt g pairs) [
   | inl less ↦
@@ -54,7 +54,7 @@ advance_of hmtx pairs g m h = elim (cases_lt g pairs) [
     past : Bool → Option LongHorMetric
     past b = cond b None (metric_at hmtx (4 * (pairs - 1)) (4 * pairs + 2 * (g - pairs)))
 
-    by : (b : Bool) → past b ≡ Some m → number hmtx (4 * (pairs - 1)) 2 ≡ Some m.advance
+    by : (b : Bool) → past b ≡ Some m → number hmtx (4 * (pairs - 1)) 2 ≡ Some m.advance_width
     by true k = absurd cc
     by false k = advance_there hmtx (4 * (pairs - 1)) (4 * pairs + 2 * (g - pairs)) m k
 
@@ -66,9 +66,9 @@ pub record HasMetric (font : Font) (m : Measures) (g i : ℕ) : Type 0 where
   pub source : metric_of (table font) g ≡ Some metric
   pub copy : metric_in m.hmtx m.number_of_h_metrics i ≡ Some metric
 
-width_is : (font : Font) (g units : ℕ) (m : LongHorMetric) → metric_of (table font) g ≡ Some m → units_per_em font ≡ Some units → width font g ≡ Some (thousandths m.advance units)
+width_is : (font : Font) (g units : ℕ) (m : LongHorMetric) → metric_of (table font) g ≡ Some m → units_per_em font ≡ Some units → width font g ≡ Some (thousandths m.advance_width units)
 width_is font g units m h u =
-    ap (option_and_then (λ (x : LongHorMetric). option_and_then (λ n. Some (thousandths x.advance n)) (units_per_em font))) h ∙ ap (option_and_then (λ n. Some (thousandths m.advance n))) u
+    ap (option_and_then (λ (x : LongHorMetric). option_and_then (λ n. Some (thousandths x.advance_width n)) (units_per_em font))) h ∙ ap (option_and_then (λ n. Some (thousandths m.advance_width n))) u
 
 one_width : (m : Measures) (g n a : ℕ) (ws : List ℕ) → advance_in m.hmtx m.number_of_h_metrics g ≡ Some a → widths_from m (g + 1) n ≡ Ok ws → widths_from m g (suc n) ≡ Ok (thousandths a m.units ∷ ws)
 one_width m g n a ws h k =
@@ -88,8 +88,8 @@ all_widths font m (x ∷ glyphs) g u h =
     let later : (i : ℕ) → i < length glyphs → HasMetric font m (slice_index glyphs i) (g + 1 + i) = λ i lt. subst (HasMetric font m (slice_index glyphs i)) (omega arith) (h (suc i) (omega arith)) in
     let rest = all_widths font m glyphs (g + 1) u later in
     record {
-      widths = thousandths first.metric.advance m.units ∷ rest.widths;
-      read = one_width m g (length glyphs) first.metric.advance rest.widths (advance_of m.hmtx m.number_of_h_metrics g first.metric here) rest.read;
+      widths = thousandths first.metric.advance_width m.units ∷ rest.widths;
+      read = one_width m g (length glyphs) first.metric.advance_width rest.widths (advance_of m.hmtx m.number_of_h_metrics g first.metric here) rest.read;
       are = ap (λ o. o ∷ map Some rest.widths) (sym (width_is font x m.units first.metric first.source u)) ∙ ap (λ (l : List (Option ℕ)). width font x ∷ l) rest.are;
     }
 

@@ -24,7 +24,7 @@ abbrev pub width : Font → ℕ → Option ℕ
 width font g = do
   m ← metric font g
   units ← units_per_em font
-  Some (thousandths m.advance units)
+  Some (thousandths m.advance_width units)
 
 -- what can stand in a font against widths, under the name of the error
 pub data HasWidthFault (font : Font) : Error → Type 0 where

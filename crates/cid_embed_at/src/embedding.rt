@@ -28,7 +28,7 @@ use subsetter_variable::static_font;
 /// # Errors
 ///
 /// - Those of `embed`, for the font as it is or for its instance.
-/// - Those of `subset_with_variations` of a font's place and of its instance.
+/// - Those of `subset_with_variations` of a font's location and of its instance.
 pub fn embed_with_variations(
     alloc: Global,
     data: &[u8],

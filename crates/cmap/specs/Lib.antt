@@ -1,3 +1,4 @@
+pub mod Faces
 pub mod Groups
 pub mod Segments
 pub mod Subtable

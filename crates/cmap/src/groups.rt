@@ -5,6 +5,13 @@ ghost use Rattle.cmap.specs.Groups.{group_of, has, in_range, by_groups, glyph_by
 
 use subsetter_base::read::{Reader, u32_at};
 
+/// numGroups, four bytes.
+const NUM_GROUPS: usize = 12;
+/// groups.
+const GROUPS: usize = 16;
+/// How many bytes a group has.
+const SEQUENTIAL_MAP_GROUP_SIZE: usize = 12;
+
 /// A range of characters, and the glyph of its first.
 #[derive(Clone, Copy)]
 struct Group {
@@ -47,7 +54,7 @@ impl Group {
 pub fn glyph_by_groups(table: &[u8], character: u32) -> Option<u16>
     ensures { result ≡ glyph_by_groups table.now character }
 {
-    let count = Reader::new_at(table, 12).read::<u32>()?;
+    let count = Reader::new_at(table, NUM_GROUPS).read::<u32>()?;
     find_glyph(table, count, character)
 }
 
@@ -57,7 +64,10 @@ fn find_glyph(table: &[u8], count: u32, character: u32) -> Option<u16>
     ensures { result ≡ by_groups table.now count 16 character }
 {
     for place in 0..count {
-        let bytes = Reader::new_at(table, 16 + 12 * (place as usize)).read_bytes(12)?;
+        let bytes = Reader::new_at(
+            table,
+            GROUPS + SEQUENTIAL_MAP_GROUP_SIZE * (place as usize),
+        ).read_bytes(SEQUENTIAL_MAP_GROUP_SIZE)?;
         let group = group_of(bytes);
         if group.has(character) {
             return group.glyph_of(character);

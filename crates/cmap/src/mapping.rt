@@ -41,6 +41,21 @@ impl Subtable<'_> {
     }
 }
 
+/// numTables, two bytes.
+const NUM_TABLES: usize = 2;
+/// encodingRecords.
+const ENCODING_RECORDS: usize = 4;
+/// How many bytes an encoding record has.
+const ENCODING_RECORD_SIZE: usize = 8;
+/// encodingID of a record, two bytes, behind platformID.
+const ENCODING_ID: usize = 2;
+/// subtableOffset of a record, four bytes.
+const SUBTABLE_OFFSET: usize = 4;
+/// The formats that are read.
+const SEGMENT_MAPPING: u16 = 4;
+
+const SEGMENTED_COVERAGE: u16 = 12;
+
 /// Whether a platform and its encoding are Unicode.
 fn is_unicode(platform: u16, encoding: u16) -> bool
     ensures { result ≡ is_unicode platform encoding }
@@ -65,8 +80,8 @@ fn unicode_table(cmap: &[u8], at: usize, format: u16) -> Option<&[u8]>
     ensures { option_copied result ≡ unicode_table format cmap.now at }
 {
     let platform = Reader::new_at(cmap, at).read::<u16>()?;
-    let encoding = Reader::new_at(cmap, at + 2).read::<u16>()?;
-    let offset = Reader::new_at(cmap, at + 4).read::<u32>()?;
+    let encoding = Reader::new_at(cmap, at + ENCODING_ID).read::<u16>()?;
+    let offset = Reader::new_at(cmap, at + SUBTABLE_OFFSET).read::<u32>()?;
     if !is_unicode(platform, encoding) {
         return None;
     }
@@ -80,7 +95,11 @@ fn find_of_format(cmap: &[u8], count: u16, format: u16) -> Option<&[u8]>
     ensures { option_copied result ≡ table_from format cmap.now count 4 }
 {
     for record in 0..count {
-        if let Some(table) = unicode_table(cmap, 4 + 8 * usize::from(record), format) {
+        if let Some(table) = unicode_table(
+            cmap,
+            ENCODING_RECORDS + ENCODING_RECORD_SIZE * usize::from(record),
+            format,
+        ) {
             return Some(table);
         }
     }
@@ -91,7 +110,7 @@ fn find_of_format(cmap: &[u8], count: u16, format: u16) -> Option<&[u8]>
 fn table_of_format(cmap: &[u8], format: u16) -> Option<&[u8]>
     ensures { option_copied result ≡ table_of_format format cmap.now }
 {
-    let count = Reader::new_at(cmap, 2).read::<u16>()?;
+    let count = Reader::new_at(cmap, NUM_TABLES).read::<u16>()?;
     find_of_format(cmap, count, format)
 }
 
@@ -100,9 +119,9 @@ fn table_of_format(cmap: &[u8], format: u16) -> Option<&[u8]>
 pub fn find_subtable(cmap: &[u8]) -> Option<Subtable<'_>>
     ensures { option_map mapping_view result ≡ mapping cmap.now }
 {
-    if let Some(table) = table_of_format(cmap, 12) {
+    if let Some(table) = table_of_format(cmap, SEGMENTED_COVERAGE) {
         return Some(Subtable::Groups(table));
     }
-    let table = table_of_format(cmap, 4)?;
+    let table = table_of_format(cmap, SEGMENT_MAPPING)?;
     Some(Subtable::Segments(table))
 }

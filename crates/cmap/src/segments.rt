@@ -5,6 +5,14 @@ ghost use Rattle.cmap.specs.Segments.{segment_count, end_code, start_code, id_de
 
 use subsetter_base::read::number_at;
 
+/// segCountX2, two bytes.
+const SEG_COUNT_X2: usize = 6;
+/// endCode of each segment, two bytes.
+const END_CODES: usize = 14;
+/// startCode of each segment, behind the end codes and reservedPad, where there are no segments; then idDelta and
+/// idRangeOffset of each, two bytes each.
+const START_CODES: usize = 16;
+
 /// A glyph and a delta, modulo 65536.
 fn shifted(glyph: u16, delta: u16) -> u16
     ensures { result ≡ shifted glyph delta }
@@ -56,9 +64,9 @@ fn in_segment(table: &[u8], count: usize, segment: usize, character: u16) -> Opt
     requires inside { segment < count }
     ensures { result ≡ in_segment table.now count segment character }
 {
-    let start = number_at(table, 16 + 2 * count + 2 * segment)?;
-    let delta = number_at(table, 16 + 4 * count + 2 * segment)?;
-    let place = 16 + 6 * count + 2 * segment;
+    let start = number_at(table, START_CODES + 2 * count + 2 * segment)?;
+    let delta = number_at(table, START_CODES + 4 * count + 2 * segment)?;
+    let place = START_CODES + 6 * count + 2 * segment;
     let offset = number_at(table, place)?;
     if start > character {
         return None;
@@ -73,7 +81,7 @@ fn find_glyph(table: &[u8], count: usize, character: u16) -> Option<u16>
     ensures { result ≡ by_segments table.now count count 0 character }
 {
     for segment in 0..count {
-        let end = number_at(table, 14 + 2 * segment)?;
+        let end = number_at(table, END_CODES + 2 * segment)?;
         if character <= end {
             return in_segment(table, count, segment, character);
         }
@@ -85,6 +93,6 @@ fn find_glyph(table: &[u8], count: usize, character: u16) -> Option<u16>
 pub fn glyph_by_segments(table: &[u8], character: u16) -> Option<u16>
     ensures { result ≡ glyph_by_segments table.now character }
 {
-    let twice = number_at(table, 6)?;
+    let twice = number_at(table, SEG_COUNT_X2)?;
     find_glyph(table, usize::from(twice / 2), character)
 }

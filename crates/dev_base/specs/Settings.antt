@@ -5,10 +5,7 @@ use Rattle.std.specs.Option.{option_map, option_and_then}
 use Rattle.std.specs.List.{position_or_len, before_first, after_first}
 use Rattle.subsetter_base.specs.declared.tag.Tag.{Tag}
 use Rattle.subsetter_words.specs.Numbers.{number_in_bits}
-
--- a tag has four bytes
-abbrev pub tag_of : List ℕ → Option Tag
-tag_of text = if length text == 4 then Some (record { 0 = text }) else None
+use Rattle.subsetter_words.specs.Tags.{tag_of}
 
 -- the user coordinate of a word with an equals sign (61) between its tag and the 32 bits of its value in 16.16
 abbrev pub setting_of : List ℕ → Option (Tag × ℤ)

@@ -7,14 +7,14 @@ ghost use Rattle.dev_base.specs.declared.failure.Failure.TheVariants.{Usage, Mem
 use crate::failure::Failure;
 use std::alloc::Global;
 use subsetter_base::Tag;
-use subsetter_words::u32_of;
+use subsetter_words::{tag_of, u32_of};
 
 /// The user coordinate of a word `TAG=VALUE`, where VALUE is the 32 bits of a number in 65536ths.
 fn setting_of(word: &str) -> Option<(Tag, i32)>
     ensures { result ≡ setting_of word.now }
 {
     let (tag, value) = word.split_once('=')?;
-    let tag = tag.parse::<Tag>().ok()?;
+    let tag = tag_of(tag)?;
     let bits = u32_of(value)?;
     Some((tag, bits.cast_signed()))
 }

@@ -1,4 +1,4 @@
-//! A hash that tells two outputs apart.
+//! A hash by which two outputs differ.
 
 ghost use Rattle.std.specs.Prelude.{◌≡◌};
 ghost use Rattle.dev_bench.specs.Digest.{digest_from, start};

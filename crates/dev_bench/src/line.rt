@@ -1,4 +1,4 @@
-//! The line that tells what a task took.
+//! The line that reports what a task took.
 
 ghost use Rattle.std.specs.Prelude.{◌≡◌, length};
 ghost use Rattle.dev_bench.specs.Digest.{digest_from, start};

@@ -1,7 +1,7 @@
 //! Measures how long a subset takes: `dev_bench FONT INDEX GLYPHS COUNT [OUT [TAG=VALUE ..]]`.
 //!
 //! GLYPHS is a list of numbers and ranges, as `3,10-12`. The font is read once, the mapper is made once, and the
-//! subset is made COUNT times. The line `ok MEDIAN LEAST LENGTH HASH` tells the median and the least nanoseconds of a
+//! subset is made COUNT times. The line `ok MEDIAN LEAST LENGTH HASH` has the median and the least nanoseconds of a
 //! call, the output's length and its FNV-1a hash of 64 bits in hexadecimal; where the font is refused the line is
 //! `error TEXT`. With OUT the output is written there. With user coordinates, each a tag and the 32 bits of a value in
 //! 65536ths, an instance is made in place of a subset. `dev_bench --list FILE` does the same for each line of FILE,

@@ -15,8 +15,8 @@ status_of CFFError = 6
 status_of OutOfMemory = 7
 
 -- two answers are the same to the byte
-pub record IsSame (answered wanted : Answer) : Type 0 where
-  pub status : answered.status ≡ wanted.status
-  pub font : answered.font.items ≡ wanted.font.items
-  pub cids : answered.cids.items ≡ wanted.cids.items
-  pub widths : answered.widths.items ≡ wanted.widths.items
+pub record IsSame (answered expected : Answer) : Type 0 where
+  pub status : answered.status ≡ expected.status
+  pub font : answered.font.items ≡ expected.font.items
+  pub cids : answered.cids.items ≡ expected.cids.items
+  pub widths : answered.widths.items ≡ expected.widths.items

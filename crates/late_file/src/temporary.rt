@@ -1,4 +1,4 @@
-//! A file beside another, which takes its place when it is whole.
+//! A file beside another, which replaces it when it is whole.
 
 use std::alloc::Global;
 use std::fs::{Metadata, OpenFile, OpenOptions};

@@ -10,11 +10,14 @@ use subsetter_cffdata::dicts::dict::DictionaryParser;
 use subsetter_cffdata::dicts::operator::Operator;
 use subsetter_cffdata::numerals::number::Number;
 
+/// StdVW, an operator of one byte.
+const STD_VW: u8 = 11;
+
 /// Whether an operator is StdVW.
 fn is_stem(operator: &Operator) -> bool
     ensures { result ≡ bytes_eq (operator_of operator.now) stem_operator }
 {
-    operator.as_slice() == [11].as_slice()
+    operator.as_slice() == [STD_VW].as_slice()
 }
 
 /// One number in thousandths, where it isn't below 0 and has at most three decimals.
@@ -60,7 +63,7 @@ fn stem_of(units: u16, operator: &Operator, operands: &[Number]) -> Option<u32>
     stem_by(units, operands)
 }
 
-/// That of the first entry of a private dict that says one. Two operands tell whether there is just one.
+/// That of the first entry of a private dict that has one. Two operands are enough to know whether there is just one.
 pub fn stem_in(units: u16, dict: &[u8]) -> Option<u32>
     requires { 0 < units }
     ensures { result ≡ stem_in units (entries dict.now) }

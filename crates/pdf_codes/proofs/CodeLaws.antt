@@ -7,7 +7,7 @@ use Rattle.std.proofs.lemmas.Bool.{eqb-true}
 use Rattle.std.proofs.lemmas.List.{get_or-map, get_or_default, length-map}
 use Rattle.subsetter_base.specs.Indexes.{index_of, with_glyph, with_glyphs}
 use Rattle.subsetter_base.specs.Remap.{index_by, with_value}
-use Rattle.subsetter_base.proofs.GlyphLemmas.{Contains-place, known, known-all, place-finds}
+use Rattle.subsetter_base.proofs.GlyphLemmas.{Contains-index, known, known-all, index-finds}
 use Rattle.subsetter_base.proofs.Lists.{and_parts}
 use Rattle.subsetter_base.proofs.Options.{just_is}
 use Rattle.pdf_codes.specs.declared.codes.Codes.{Codes}
@@ -91,7 +91,7 @@ pub its_glyph : (choice : Codes) (us : List Used) (codes : List ℕ) → AreCode
 its_glyph Consecutive us codes h i lt =
     let glyphs = glyphs_of us in
     let found = found_at (index_of (with_glyphs (0 ∷ []) glyphs)) glyphs codes 0 h i (omega (arith, length-map us (λ (u : Used). u.glyph))) in
-    (place-finds (with_glyphs (0 ∷ []) glyphs) (get_or glyphs i 0) (get_or codes i 0) found).1
+    (index-finds (with_glyphs (0 ∷ []) glyphs) (get_or glyphs i 0) (get_or codes i 0) found).1
 its_glyph Source us codes h i lt = ap (λ (l : List ℕ). get_or l i 0) h
 its_glyph EachText us codes h i lt =
     let found = found_at (index_by same (pairs_of us)) (map keyed us) codes zeroth_pair h i (omega (arith, length-map us keyed)) in
@@ -117,7 +117,7 @@ zero_glyph choice us codes h i a e = sym (its_glyph choice us codes h i a) ∙ a
 pub in_use_known : (glyphs mapper : List ℕ) (k d : ℕ) → mapper ≡ with_glyphs (0 ∷ []) glyphs → k < length glyphs → IsSome (index_of mapper (get_or glyphs k d))
 in_use_known glyphs mapper k d m lt =
     let q = get_or glyphs k d in
-    let known_there : known glyphs q ≡ true = Contains-place glyphs q (k, lt, get_or_default glyphs k q d lt) in
+    let known_there : known glyphs q ≡ true = Contains-index glyphs q (k, lt, get_or_default glyphs k q d lt) in
     ap (λ (l : List ℕ). known l q) m ∙ known-all glyphs q ∙ ap (λ b. eqb 0 q || b) known_there ∙ or-true (eqb 0 q)
 
 longer_by : (b : Bool) (l : List Used) (x : Used) → length l ≤ length (cond b l (l ++ x ∷ []))

@@ -4,7 +4,7 @@ use Rattle.std.specs.Option.{option_or}
 use Rattle.std.proofs.lemmas.Bool.{cases_eq, eq-eqb, ne_eqb}
 use Rattle.std.proofs.lemmas.List.{get_or-set_same, get_or-set_other}
 use Rattle.subsetter_base.specs.Indexes.{index_of, IsWithoutRepeats}
-use Rattle.subsetter_base.proofs.GlyphLemmas.{place-finds}
+use Rattle.subsetter_base.proofs.GlyphLemmas.{index-finds}
 use Rattle.subsetter_base.proofs.Options.{just_is, some_not_none}
 use Rattle.pdf_glyphs.specs.Origins.{filled}
 use Rattle.pdf_glyphs.specs.Vertical.{Origin, by_record, origin_at, origin_from}
@@ -22,7 +22,7 @@ first_of (Some x) y later = refl
 
 -- where a glyph's number is, within the list
 pub y_place : (mapper : List ℕ) (g n : ℕ) (found : Option ℕ) → found ≡ Some n → found ≡ index_of mapper g → n < length mapper
-y_place mapper g n found some is = (place-finds mapper g n (sym is ∙ some)).0
+y_place mapper g n found some is = (index-finds mapper g n (sym is ∙ some)).0
 
 module _ (mapper : List ℕ) (once : IsWithoutRepeats mapper) (o : Origin) where
   other_place : (n k : ℕ) → index_of mapper o.glyph ≡ Some n → (k ≡ n → ⊥) → k < length mapper → o.glyph ≡ get_or mapper k 0 → ⊥
@@ -38,7 +38,7 @@ module _ (mapper : List ℕ) (once : IsWithoutRepeats mapper) (o : Origin) where
   -- its y is noted, unless an earlier record has one
   pub y_put : (ys : List (Option ℤ)) (n k : ℕ) (later : Option ℤ) → index_of mapper o.glyph ≡ Some n → length ys ≡ length mapper → k < length mapper → option_or (get_or (filled ys n o.y) k None) later ≡ option_or (get_or ys k None) (by_record (Some o) (get_or mapper k 0) later)
   y_put ys n k later found len lt =
-      let there = place-finds mapper o.glyph n found in
+      let there = index-finds mapper o.glyph n found in
       let v : Option ℤ = get_or ys n None in
       elim (cases_eq k n) [
         | inl e ↦

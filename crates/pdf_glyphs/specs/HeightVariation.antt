@@ -1,7 +1,8 @@
 -- What advance heights vary by off a font's default (OpenType, "VVAR"): its items are found as those of "HVAR" are.
 use Rattle.std.specs.Prelude.{ℕ, ◌^◌, nat_lt, if◌then◌else◌, int_le, List, ℤ, pos, ◌+ℤ◌, unsigned_abs}
 use Rattle.std.specs.Result.{result_unwrap_or}
-use Rattle.subsetter_variation.specs.Items.ItemVariations.{advance_delta, whole_or_fault}
+use Rattle.subsetter_variation.specs.Items.ItemVariations.{whole_or_fault}
+use Rattle.subsetter_variation.specs.Items.Advances.{advance_delta}
 use Rattle.pdf_glyphs.specs.declared.heights.HeightVariation.{HeightVariation}
 
 -- the normalized coordinates, in 16384ths, and the bytes of "VVAR"

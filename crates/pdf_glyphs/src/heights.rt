@@ -3,7 +3,7 @@
 ghost use Rattle.std.specs.Prelude.{◌≡◌};
 ghost use Rattle.pdf_glyphs.specs.HeightVariation.{height_delta, if_height, variation_view, varied_height};
 
-use subsetter_variation::items::item_variations::advance_delta;
+use subsetter_variation::items::advances::advance_delta;
 
 /// Where a font is off its default, and what its advance heights vary by.
 #[derive(Clone, Copy)]

@@ -1,4 +1,3 @@
 pub mod Heights
-pub mod Lines
 pub mod Movement
 pub mod Values

@@ -6,7 +6,7 @@ use Rattle.std.proofs.lemmas.List.{take_all, drop_all, map-append}
 use Rattle.std.proofs.lemmas.List.Elements.{All-nil, All-cons}
 use Rattle.std.proofs.lemmas.List.Folds.{concat-append}
 use Rattle.pdf_text.specs.Cmaps.Cmap.{words}
-use Rattle.pdf_text.specs.Dictionaries.{reference}
+use Rattle.pdf_text.specs.Dictionaries.Entries.{reference}
 use Rattle.pdf_text.specs.Objects.{object_text, objects_from, offsets_from, font_objects}
 use Rattle.pdf_text.specs.declared.values.FontValues.{FontValues}
 use Rattle.pdf_text.proofs.ObjectLaws.At.{one_more_offset}

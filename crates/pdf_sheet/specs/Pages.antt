@@ -1,7 +1,7 @@
 -- The objects of a sheet: catalog, pages and their contents (ISO 32000-1, 7.7), and those of its font.
 use Rattle.std.specs.Prelude.{◌≤◌, ◌⊎◌, ◌^◌, ℕ, zero, suc, ◌+◌, ◌-◌, ◌*◌, ◌/◌, List, [], ◌∷◌, ◌++◌, length, take, drop, codes, decimal}
 use Rattle.pdf_text.specs.declared.values.FontValues.{FontValues}
-use Rattle.pdf_text.specs.Dictionaries.{reference}
+use Rattle.pdf_text.specs.Dictionaries.Entries.{reference}
 use Rattle.pdf_text.specs.Objects.{stream_end, references_from, objects_of, values_of}
 use Rattle.pdf_sheet.specs.declared.glyphs.SheetGlyph.{SheetGlyph}
 use Rattle.pdf_sheet.specs.declared.frame.Layout.{Layout}

@@ -11,7 +11,7 @@ use subsetter_base::Error;
 
 /// Writes a glyph at its place.
 #[tactic(auto, using(pdf_text::proofs::Pieces::two_written))]
-fn write_placed(
+fn write_positioned(
     text: &mut Vec<u8>,
     frame: Frame,
     place: usize,
@@ -32,7 +32,7 @@ fn write_glyphs(text: &mut Vec<u8>, frame: Frame, glyphs: &[SheetGlyph<'_>]) -> 
 {
     let mut place = 0;
     for glyph in glyphs {
-        write_placed(text, frame, place, *glyph)?;
+        write_positioned(text, frame, place, *glyph)?;
         place += 1;
     }
     Ok(())

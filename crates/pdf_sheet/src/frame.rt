@@ -132,7 +132,7 @@ fn write_cell_position(text: &mut Vec<u8>, vertical: bool, place: usize) -> Resu
     write_position(text, cell_x(place), cell_y(place))
 }
 
-/// Writes where a glyph stands that has so many before it, if it doesn't follow the one before.
+/// Writes the position of a glyph that has so many before it, if it doesn't follow the one before.
 pub fn write_glyph_position(text: &mut Vec<u8>, frame: Frame, place: usize) -> Result<(), Error>
     ensures ok { OnOk result (text.new.items ≡ text.old.items ++ glyph_position frame.layout frame.vertical frame.height place) }
     ensures err { IfErr result (λ e. e ≡ OutOfMemory) }

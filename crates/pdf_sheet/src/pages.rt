@@ -2,7 +2,7 @@
 
 ghost use Rattle.std.specs.Prelude.{◌≡◌, ◌<◌, ◌+◌, ◌^◌, ◌++◌, ◌∷◌, [], IfErr, IfOk, OnOk, codes, decimal, length, min};
 ghost use Rattle.subsetter_base.specs.declared.error.Error.TheVariants.{OutOfMemory};
-ghost use Rattle.pdf_text.specs.Dictionaries.{reference};
+ghost use Rattle.pdf_text.specs.Dictionaries.Entries.{reference};
 ghost use Rattle.pdf_text.specs.Objects.{stream_end};
 ghost use Rattle.pdf_sheet.specs.Content.{content};
 ghost use Rattle.pdf_sheet.specs.Pages.{catalog_value, kids, pages_value, page_value, stream_value, page_values, pages_by, pages_of, page_count, font_number, front_values};

@@ -49,7 +49,7 @@ pub fn widths_of(alloc: Global, face: &Face<'_>, count: u16) -> Result<Vec<u32>,
 }
 
 /// Widths below this are counted at a place of their own, and the others, which few fonts have, by a map.
-const PLACES: usize = 2048;
+const INDEXED_WIDTHS: usize = 2048;
 
 /// How often widths were counted.
 #[derive(Drop)]
@@ -65,7 +65,7 @@ impl Counts {
         ensures err { IfErr result (λ e. e ≡ OutOfMemory) }
     {
         Ok(Self {
-            placed: vec![in alloc; 0; PLACES]?,
+            placed: vec![in alloc; 0; INDEXED_WIDTHS]?,
             mapped: HashMap::new(alloc),
         })
     }

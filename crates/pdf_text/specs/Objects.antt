@@ -9,7 +9,10 @@ use Rattle.pdf_text.specs.declared.values.References.{References}
 use Rattle.pdf_text.specs.declared.objects.Object.{Object}
 use Rattle.pdf_text.specs.declared.objects.FontDictionaries.{FontDictionaries}
 use Rattle.pdf_text.specs.declared.objects.Object.TheVariants.{Font, CidFont, FontDescriptor, FontFile, ToUnicode, CidSet, Cmap}
-use Rattle.pdf_text.specs.Dictionaries.{entry, dictionary, font_entries, cid_font_entries, descriptor_entries, program_entries, cmap_entries}
+use Rattle.pdf_text.specs.Dictionaries.Descriptor.{descriptor_entries}
+use Rattle.pdf_text.specs.Dictionaries.Entries.{entry, dictionary}
+use Rattle.pdf_text.specs.Dictionaries.Fonts.{font_entries, cid_font_entries}
+use Rattle.pdf_text.specs.Dictionaries.Streams.{program_entries, cmap_entries}
 
 -- ---- what an object is
 

@@ -4,13 +4,14 @@ ghost use Rattle.std.specs.Prelude.{◌≡◌, ◌<◌, ◌≤◌, ◌+◌, ◌^
 ghost use Rattle.std.specs.List.{concat};
 ghost use Rattle.std.specs.Option.{option_copied};
 ghost use Rattle.subsetter_base.specs.declared.error.Error.TheVariants.{OutOfMemory, OverflowError};
-ghost use Rattle.pdf_text.specs.Dictionaries.{dictionary};
+ghost use Rattle.pdf_text.specs.Dictionaries.Entries.{dictionary};
 ghost use Rattle.pdf_text.specs.Objects.{AreDictionaries, entries_of, bytes_of, text_of_cmap, stream_end, value_end, value_of, object_text, when, objects_of, references_from, objects_from, offsets_from, values_of, font_objects, AreFontObjectsAt, AreAt, AreReferredTo, IsDictionaryWhen};
 
 use crate::cmaps::lines::write_count;
-use crate::dictionaries::{
-    write_cid_font, write_cmap, write_descriptor, write_font, write_program, write_size,
-};
+use crate::dictionaries::descriptor::write_descriptor;
+use crate::dictionaries::entries::write_size;
+use crate::dictionaries::fonts::{write_cid_font, write_font};
+use crate::dictionaries::streams::{write_cmap, write_program};
 use crate::values::{FontValues, OwnCmap, References};
 use std::alloc::Global;
 use subsetter_base::Error;
@@ -261,7 +262,7 @@ pub fn write_objects(
     )
 }
 
-/// Each object stands from its offset to that of the next, whatever the objects are.
+/// Each object is between its offset and that of the next, whatever the objects are.
 pub fn objects_are_at()
     ensures { AreAt }
 {}

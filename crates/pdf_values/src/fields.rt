@@ -12,7 +12,7 @@ pub fn has_bit(n: u16, place: u32) -> bool
     (n >> place) % 2 == 1
 }
 
-/// Whether a field that is said has a bit.
+/// Whether a field that is stated has a bit.
 pub fn sets_bit(field: Option<u16>, place: u32) -> bool
     requires { place < 16 }
     ensures { result ≡ sets_bit field place }

@@ -2,7 +2,7 @@
 //! font's tables, and what the font permits.
 //!
 //! Each table is a byte slice, or none where the font lacks it. No value refuses a font: a field that is missing or cut
-//! counts as not said, and the next source is taken.
+//! counts as not stated, and the next source is taken.
 //!
 //! ```text
 //! let units = units_per_em(head);
@@ -14,7 +14,7 @@
 mod descriptor;
 pub mod fields;
 mod laws;
-mod looks;
+pub mod looks;
 mod naming;
 mod permission;
 mod rounding;

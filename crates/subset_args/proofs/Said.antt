@@ -4,8 +4,8 @@ use Rattle.std.specs.Borrow.{Bor}
 use Rattle.std.specs.Option.{option_map, option_and_then}
 use Rattle.subsetter_base.specs.declared.tag.Tag.{Tag}
 use Rattle.subset_args.specs.Coordinates.{coordinate_in, coordinates_of}
-use Rattle.subset_args.specs.declared.jobs.ArgsError.{ArgsError}
-use Rattle.subset_args.specs.declared.jobs.ArgsError.TheVariants.{Usage, OutOfMemory}
+use Rattle.subset_args.specs.declared.jobs.command.ArgsError.{ArgsError}
+use Rattle.subset_args.specs.declared.jobs.command.ArgsError.TheVariants.{Usage, OutOfMemory}
 use Rattle.subsetter_words.proofs.Numbers.{texts}
 
 abbrev Coordinates : Type 0

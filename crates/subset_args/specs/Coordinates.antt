@@ -7,6 +7,7 @@ use Rattle.std.specs.Str.Parse.{digits_value}
 use Rattle.subsetter_base.specs.declared.tag.Tag.{Tag}
 use Rattle.subsetter_variation.specs.Nearest.{nearest}
 use Rattle.subsetter_words.specs.Numbers.{number_in_bits}
+use Rattle.subsetter_words.specs.Tags.{tag_of}
 
 -- ---- a decimal number, in 65536ths
 
@@ -67,13 +68,9 @@ value_in word = if has_byte is_minus word then with_minus (before_first is_minus
 abbrev pub is_equals : ℕ → Bool
 is_equals b = b == 61
 
--- the four bytes of an axis' tag
-abbrev pub tag_in : List ℕ → Option Tag
-tag_in name = if length name == 4 then Some (record { 0 = name }) else None
-
 -- `wght=650`
 abbrev pub coordinate_of : List ℕ → List ℕ → Option (Tag × ℤ)
-coordinate_of name value = option_and_then (λ tag. option_map (λ v. (tag, v)) (value_in value)) (tag_in name)
+coordinate_of name value = option_and_then (λ tag. option_map (λ v. (tag, v)) (value_in value)) (tag_of name)
 
 abbrev pub coordinate_in : List ℕ → Option (Tag × ℤ)
 coordinate_in part = if has_byte is_equals part then coordinate_of (before_first is_equals part) (after_first is_equals part) else None

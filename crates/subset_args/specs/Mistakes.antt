@@ -6,10 +6,10 @@ use Rattle.subset_args.specs.Listing.Characters.{codes_in, codes_descend}
 use Rattle.subset_args.specs.Request.{topic_of}
 use Rattle.subsetter_words.specs.Numbers.{number_in_bits}
 use Rattle.subset_args.specs.Coordinates.{coordinate_in}
-use Rattle.subset_args.specs.Options.{kind_of, looks_like_option, coding_in, says_held}
-use Rattle.subset_args.specs.declared.options.Kind.TheVariants.{Place}
-use Rattle.subset_args.specs.declared.mistakes.Wrong.{Wrong}
-use Rattle.subset_args.specs.declared.mistakes.Wrong.TheVariants.{NoInput, NoOutput, NoIndex, NoGlyphs, Further, BehindShown, Late, ShownLate, Unknown, Twice, NoValue, GlyphsTwice, BesideOption, InputTwice, Index, FaceIndex, Glyph, Limits, Coordinate, Part, Descends, Codes, CodesDescend, BesideInput, NoOutputOption, NoSource, Coding, Rights, NoPdf, OutputTwice}
+use Rattle.subset_args.specs.Options.{kind_of, looks_like_option, coding_in, holds_rights}
+use Rattle.subset_args.specs.declared.options.names.Kind.TheVariants.{Place}
+use Rattle.subset_args.specs.declared.mistakes.mistake.Wrong.{Wrong}
+use Rattle.subset_args.specs.declared.mistakes.mistake.Wrong.TheVariants.{NoInput, NoOutput, NoIndex, NoGlyphs, Further, BehindShown, Late, ShownLate, Unknown, Twice, NoValue, GlyphsTwice, BesideOption, InputTwice, Index, FaceIndex, Glyph, Limits, Coordinate, Part, Descends, Codes, CodesDescend, BesideInput, NoOutputOption, NoSource, Coding, Rights, NoPdf, OutputTwice}
 
 -- what is said of an argument, or of a value that it lists, is so as far as its own bytes show
 abbrev pub IsWrong : Wrong → List ℕ → Type 0
@@ -40,6 +40,6 @@ IsWrong BesideInput word = Unit {0}
 IsWrong NoOutputOption word = Unit {0}
 IsWrong NoSource word = Unit {0}
 IsWrong Coding word = coding_in word ≡ None
-IsWrong Rights word = says_held word ≡ false
+IsWrong Rights word = holds_rights word ≡ false
 IsWrong NoPdf word = Unit {0}
 IsWrong OutputTwice word = Unit {0}

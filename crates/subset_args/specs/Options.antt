@@ -4,15 +4,15 @@ use Rattle.std.specs.Option.{option_map, option_and_then}
 use Rattle.std.specs.Str.{bytes_eq}
 use Rattle.subsetter_words.specs.Numbers.{number_in_bits}
 use Rattle.subset_args.specs.Limits.{Bounds, limits_in}
-use Rattle.subset_args.specs.declared.options.Switch.{Switch}
-use Rattle.subset_args.specs.declared.options.Switch.TheVariants.{Widths, NoHinting, NoNames, NoGlyphNames, Json, Quiet, Verbose, Vertical}
-use Rattle.subset_args.specs.declared.options.Setting.{Setting}
-use Rattle.subset_args.specs.declared.options.Setting.TheVariants.{Limits, GidsFile, Text, At, Gids, FaceIndex, Output, TextFile, Unicodes, UnicodesFile, Pdf, Codes, Rights}
-use Rattle.subset_args.specs.declared.options.Coding.{Coding}
-use Rattle.subset_args.specs.declared.options.Coding.TheVariants.{Consecutive, Source as InSource, Text as EachText}
-use Rattle.subset_args.specs.declared.options.Kind.{Kind}
-use Rattle.subset_args.specs.declared.options.Kind.TheVariants.{Switch as IsSwitch, Setting as IsSetting, Help, Version, End, Place}
-use Rattle.subset_args.specs.declared.options.Switches.{Switches}
+use Rattle.subset_args.specs.declared.options.names.Switch.{Switch}
+use Rattle.subset_args.specs.declared.options.names.Switch.TheVariants.{Widths, NoHinting, NoNames, NoGlyphNames, Json, Quiet, Verbose, Vertical}
+use Rattle.subset_args.specs.declared.options.names.Setting.{Setting}
+use Rattle.subset_args.specs.declared.options.names.Setting.TheVariants.{Limits, GidsFile, Text, At, Gids, FaceIndex, Output, TextFile, Unicodes, UnicodesFile, Pdf, Codes, Rights}
+use Rattle.subset_args.specs.declared.options.names.Coding.{Coding}
+use Rattle.subset_args.specs.declared.options.names.Coding.TheVariants.{Consecutive, Source as InSource, Text as EachText}
+use Rattle.subset_args.specs.declared.options.names.Kind.{Kind}
+use Rattle.subset_args.specs.declared.options.names.Kind.TheVariants.{Switch as IsSwitch, Setting as IsSetting, Help, Version, End, Place}
+use Rattle.subset_args.specs.declared.options.chosen.Switches.{Switches}
 use Rattle.subset_args.specs.declared.listing.lists.FileKind.{FileKind}
 use Rattle.subset_args.specs.declared.listing.lists.FileKind.TheVariants.{Glyphs as OfGlyphs, Characters as OfCharacters, Text as OfText}
 
@@ -152,12 +152,12 @@ coding_in word =
 abbrev pub with_coding : List ℕ → Choice → Option Choice
 with_coding value choice = if is_some choice.coding then None else option_map (λ coding. record choice { coding = Some coding }) (coding_in value)
 
-abbrev pub says_held : List ℕ → Bool
-says_held word = bytes_eq word (codes "held")
+abbrev pub holds_rights : List ℕ → Bool
+holds_rights word = bytes_eq word (codes "held")
 
 -- with the rights to embed the font; none where they were given before, or by another word
 abbrev pub with_rights : List ℕ → Choice → Option Choice
-with_rights value choice = if choice.is_held || not (says_held value) then None else Some (record choice { is_held = true })
+with_rights value choice = if choice.is_held || not (holds_rights value) then None else Some (record choice { is_held = true })
 
 -- with an option and its value
 abbrev pub with_setting : Setting → List ℕ → Choice → Option Choice

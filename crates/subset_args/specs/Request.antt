@@ -10,11 +10,11 @@ use Rattle.subset_args.specs.Limits.{Bounds}
 use Rattle.subset_args.specs.Listing.Lists.{FileList, every, these, characters, text_of, argument_list}
 use Rattle.subset_args.specs.Listing.Characters.{argument_characters}
 use Rattle.subset_args.specs.Options.{GlyphSource, in_file, by_text, in_list, in_codes, Choice, Free, Options, helped, versioned, chosen, no_choice, parsed, free}
-use Rattle.subset_args.specs.declared.options.Coding.TheVariants.{Consecutive}
-use Rattle.subset_args.specs.declared.options.PdfChoice.{PdfChoice}
-use Rattle.subset_args.specs.declared.options.Switches.{Switches}
-use Rattle.subset_args.specs.declared.jobs.Topic.{Topic}
-use Rattle.subset_args.specs.declared.jobs.Topic.TheVariants.{Axes, Info}
+use Rattle.subset_args.specs.declared.options.names.Coding.TheVariants.{Consecutive}
+use Rattle.subset_args.specs.declared.options.chosen.PdfChoice.{PdfChoice}
+use Rattle.subset_args.specs.declared.options.chosen.Switches.{Switches}
+use Rattle.subset_args.specs.declared.jobs.command.Topic.{Topic}
+use Rattle.subset_args.specs.declared.jobs.command.Topic.TheVariants.{Axes, Info}
 
 -- the values, if there is one at each place
 abbrev pub all_some : List (Option ℕ) → Option (List ℕ)
@@ -158,12 +158,12 @@ abbrev pub command_by_options : List (List ℕ) → Option Command
 command_by_options words = option_and_then command_of (parsed None no_choice words)
 
 -- whether an option says where the new font or a PDF goes
-abbrev pub says_file : Choice → Bool
-says_file choice = is_some choice.output || is_some choice.pdf
+abbrev pub has_output : Choice → Bool
+has_output choice = is_some choice.output || is_some choice.pdf
 
 -- what is requested with OUT or a PDF by an option, and INDEX too, if it isn't 0
 abbrev pub request_free : Free → Option Request
-request_free f = if says_file f.choice then option_and_then (request_of f.choice f.input f.choice.output (unwrap_or f.choice.index 0)) (requested f.choice.source []) else None
+request_free f = if has_output f.choice then option_and_then (request_of f.choice f.input f.choice.output (unwrap_or f.choice.index 0)) (requested f.choice.source []) else None
 
 abbrev pub command_free : List (List ℕ) → Option Command
 command_free words = option_and_then (λ f. option_map subset (request_free f)) (free None no_choice None words)

@@ -4,20 +4,20 @@ use Rattle.std.specs.Option.{option_copied, option_map}
 use Rattle.subset_args.specs.Limits.{limits_view}
 use Rattle.subset_args.specs.Options.{GlyphSource, in_file, by_text, in_list, in_codes, Choice, Free as FreeSaid, Options, helped, versioned, chosen}
 use Rattle.subset_args.specs.Request.{RequestedGlyphs, listed, every_glyph, of_characters, from, Position as Requested, at_coordinates, at_instance, PdfRequest, Request, Command as Wanted, help, version, subset, show}
-use Rattle.subset_args.specs.declared.options.Source.{Source}
-use Rattle.subset_args.specs.declared.options.Source.TheVariants.{File, Text, InList, Characters as InCodes}
-use Rattle.subset_args.specs.declared.options.Chosen.{Chosen}
-use Rattle.subset_args.specs.declared.options.Free.{Free}
-use Rattle.subset_args.specs.declared.options.Parsed.{Parsed}
-use Rattle.subset_args.specs.declared.options.Parsed.TheVariants.{Help, Version, Chosen as IsChosen}
-use Rattle.subset_args.specs.declared.jobs.Glyphs.{Glyphs}
-use Rattle.subset_args.specs.declared.jobs.Glyphs.TheVariants.{Listed, Characters, InFile, ByText, Every}
-use Rattle.subset_args.specs.declared.jobs.Position.{Position}
-use Rattle.subset_args.specs.declared.jobs.Position.TheVariants.{Coordinates, Named}
-use Rattle.subset_args.specs.declared.jobs.PdfJob.{PdfJob}
-use Rattle.subset_args.specs.declared.jobs.Job.{Job}
-use Rattle.subset_args.specs.declared.jobs.Command.{Command}
-use Rattle.subset_args.specs.declared.jobs.Command.TheVariants.{Help as ForHelp, Version as ForVersion, Subset, Show}
+use Rattle.subset_args.specs.declared.options.names.Source.{Source}
+use Rattle.subset_args.specs.declared.options.names.Source.TheVariants.{File, Text, InList, Characters as InCodes}
+use Rattle.subset_args.specs.declared.options.chosen.Chosen.{Chosen}
+use Rattle.subset_args.specs.declared.options.reading.Free.{Free}
+use Rattle.subset_args.specs.declared.options.reading.Parsed.{Parsed}
+use Rattle.subset_args.specs.declared.options.reading.Parsed.TheVariants.{Help, Version, Chosen as IsChosen}
+use Rattle.subset_args.specs.declared.jobs.command.Glyphs.{Glyphs}
+use Rattle.subset_args.specs.declared.jobs.command.Glyphs.TheVariants.{Listed, Characters, InFile, ByText, Every}
+use Rattle.subset_args.specs.declared.jobs.command.Position.{Position}
+use Rattle.subset_args.specs.declared.jobs.command.Position.TheVariants.{Coordinates, Named}
+use Rattle.subset_args.specs.declared.jobs.command.PdfJob.{PdfJob}
+use Rattle.subset_args.specs.declared.jobs.command.Job.{Job}
+use Rattle.subset_args.specs.declared.jobs.command.Command.{Command}
+use Rattle.subset_args.specs.declared.jobs.command.Command.TheVariants.{Help as ForHelp, Version as ForVersion, Subset, Show}
 
 abbrev pub source_view : Source → GlyphSource
 source_view (File kind name) = in_file kind name.now

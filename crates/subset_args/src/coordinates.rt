@@ -4,16 +4,16 @@
 
 ghost use Rattle.std.specs.Prelude.{◌≡◌, ◌⊎◌, ◌≤◌, ◌<◌, ◌*◌, ◌++◌, ◌&&◌, nat_lt, ◌∷◌, [], map, OnOk, IfOk, IfErr, IfSome, Some, None, length, pos, neg_ℤ, unsigned_abs, is_some};
 ghost use Rattle.std.specs.Option.{option_map};
-ghost use Rattle.subset_args.specs.Coordinates.{decimal_of, size_in, fixed, below_zero, above_zero, with_minus, value_in, tag_in, coordinate_of, coordinate_in, coordinates_of, coordinates_in};
+ghost use Rattle.subset_args.specs.Coordinates.{decimal_of, size_in, fixed, below_zero, above_zero, with_minus, value_in, coordinate_of, coordinate_in, coordinates_of, coordinates_in};
 ghost use Rattle.subset_args.specs.Halves.{halves, behind_digit, halves_behind, quarters};
 ghost use Rattle.std.specs.Str.{all_ascii_digits};
-ghost use Rattle.subset_args.specs.declared.jobs.ArgsError.TheVariants.{Usage, OutOfMemory};
+ghost use Rattle.subset_args.specs.declared.jobs.command.ArgsError.TheVariants.{Usage, OutOfMemory};
 
-use crate::jobs::ArgsError;
+use crate::jobs::command::ArgsError;
 use std::alloc::{AllocError, Global};
 use subsetter_base::Tag;
 use subsetter_variation::rounding::nearest;
-use subsetter_words::{parts_of, u16_of, u32_of};
+use subsetter_words::{parts_of, tag_of, u16_of, u32_of};
 
 /// A number without a sign: so many halves of a 65536th, and whether there is more.
 #[derive(Clone, Copy)]
@@ -178,17 +178,6 @@ fn value_of(word: &str) -> Option<i32>
         Some((front, behind)) => with_minus(front, behind),
         None => above_zero(word),
     }
-}
-
-/// The tag that a text of four bytes is.
-fn tag_of(name: &str) -> Option<Tag>
-    ensures { result ≡ tag_in name.now }
-{
-    let bytes = name.as_bytes();
-    if bytes.len() != 4 {
-        return None;
-    }
-    Some(Tag::new(&[bytes[0], bytes[1], bytes[2], bytes[3]]))
 }
 
 /// The coordinate that a name and a value say.

@@ -1,18 +1,18 @@
 //! The texts of mistakes.
 
-use crate::mistakes::{Mistake, Wrong};
+use crate::mistakes::mistake::{Mistake, Wrong};
 use crate::nearest::{Remedy, remedy_of};
 use std::fmt;
 
 /// What a list of glyphs may have.
-pub const PARTS_WANTED: &str = "expected: numbers to 65535 and ranges as 36-38, or * alone";
+pub const PARTS_EXPECTED: &str = "expected: numbers to 65535 and ranges as 36-38, or * alone";
 
 /// What a list of characters may have.
-pub const CODES_WANTED: &str =
+pub const CODES_EXPECTED: &str =
     "expected: hexadecimal numbers and ranges, as U+0041-005A; U+ may be left out";
 
 /// What is expected in place of a range whose ends aren't in order.
-pub const ORDER_WANTED: &str = "expected: the lesser number first, as 10-20";
+pub const ORDER_EXPECTED: &str = "expected: the lesser number first, as 10-20";
 
 /// How many characters of an argument a line has.
 const MOST: usize = 40;
@@ -123,9 +123,9 @@ fn expected(wrong: Wrong) -> &'static str {
         Wrong::Glyph => "expected: numbers from 0 to 65535, with commas, as 36,37,38",
         Wrong::Limits => "expected: numbers, as 1000000,64, with DEPTH from 1 to 255",
         Wrong::Coordinate => { "expected: coordinates as wght=650,wdth=87.5, or a name alone" }
-        Wrong::Part => PARTS_WANTED,
-        Wrong::Codes => CODES_WANTED,
-        Wrong::Descends | Wrong::CodesDescend => ORDER_WANTED,
+        Wrong::Part => PARTS_EXPECTED,
+        Wrong::Codes => CODES_EXPECTED,
+        Wrong::Descends | Wrong::CodesDescend => ORDER_EXPECTED,
         Wrong::BesideInput =>
             "expected: with -o or --face-index, IN and options alone; glyphs by --gids",
         Wrong::Coding => "expected: consecutive, source or text",

@@ -5,12 +5,12 @@ use Rattle.subsetter.specs.Limits.{token_limit, depth_limit}
 use Rattle.subsetter_sfnt.specs.declared.extras.Extras.{Extras}
 use Rattle.subsetter_type2.specs.declared.limits.Limits.{Limits}
 use Rattle.subset_args.specs.declared.limits.RunLimits.{RunLimits}
-use Rattle.subset_args.specs.declared.options.Switches.{Switches}
-use Rattle.subset_args.specs.declared.jobs.Glyphs.{Glyphs}
-use Rattle.subset_args.specs.declared.jobs.Glyphs.TheVariants.{Listed, Characters as ListedCharacters, InFile, ByText as InText, Every as WholeFace}
-use Rattle.subset_args.specs.declared.jobs.Job.{Job}
-use Rattle.subset_args.specs.declared.jobs.Position.{Position}
-use Rattle.subset_args.specs.declared.jobs.Position.TheVariants.{Coordinates, Named}
+use Rattle.subset_args.specs.declared.options.chosen.Switches.{Switches}
+use Rattle.subset_args.specs.declared.jobs.command.Glyphs.{Glyphs}
+use Rattle.subset_args.specs.declared.jobs.command.Glyphs.TheVariants.{Listed, Characters as ListedCharacters, InFile, ByText as InText, Every as WholeFace}
+use Rattle.subset_args.specs.declared.jobs.command.Job.{Job}
+use Rattle.subset_args.specs.declared.jobs.command.Position.{Position}
+use Rattle.subset_args.specs.declared.jobs.command.Position.TheVariants.{Coordinates, Named}
 use Rattle.subsetter_base.specs.declared.tag.Tag.{Tag}
 use Rattle.subset_args.specs.declared.listing.lists.GlyphList.{GlyphList}
 use Rattle.subset_args.specs.declared.listing.lists.GlyphList.TheVariants.{Every as EveryGlyph, These as TheseGlyphs, Characters as TheseCharacters, Text as OfText}

@@ -4,9 +4,9 @@ use Rattle.std.specs.Option.{option_map}
 use Rattle.std.specs.IoError.{error_kind}
 use Rattle.std.specs.declared.io.Error.{Error as IoError}
 use Rattle.std.specs.declared.io.ErrorKind.TheVariants.{OutOfMemory}
-use Rattle.subset_args.specs.declared.jobs.Glyphs.{Glyphs}
-use Rattle.subset_args.specs.declared.jobs.Glyphs.TheVariants.{Listed, Characters, InFile, ByText, Every}
-use Rattle.subset_args.specs.declared.jobs.Job.{Job}
+use Rattle.subset_args.specs.declared.jobs.command.Glyphs.{Glyphs}
+use Rattle.subset_args.specs.declared.jobs.command.Glyphs.TheVariants.{Listed, Characters, InFile, ByText, Every}
+use Rattle.subset_args.specs.declared.jobs.command.Job.{Job}
 use Rattle.subset_font.specs.declared.refusals.failure.Failure.{Failure}
 use Rattle.subset_font.specs.declared.refusals.failure.Failure.TheVariants.{Error, NoMapping, NoInstance, NotPermitted, Usage, List as WrongList, Read, ReadList, Write, WritePdf, Output}
 

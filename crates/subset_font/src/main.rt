@@ -29,14 +29,15 @@ pub use making::subset::{Made, make_of};
 pub use notes::notes_of;
 pub use output::emit;
 pub use refusals::failure::{Failure, Report, status_of_run};
-pub use refusals::hint::{Hint, find_axes_hint, find_hint};
+pub use refusals::hint::found::{find_axes_hint, find_hint};
+pub use refusals::hint::text::Hint;
 pub use task::{Form, Plan, RequestedGlyphs, Task};
 
 #[cfg(test)]
 mod tests;
 
-use run::Ended;
+use run::program::Ended;
 
 fn main(rt: HostRuntime) -> Ended {
-    run::run(&rt)
+    run::program::run(&rt)
 }

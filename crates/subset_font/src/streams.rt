@@ -135,7 +135,7 @@ fn is_standard_output<R: Files>(rt: &R, name: &str) -> bool {
 }
 
 /// Whether the font or a PDF goes to standard output, if it is named.
-pub fn goes_to_output<R: Files>(rt: &R, name: Option<&str>) -> bool
+pub fn is_to_standard_output<R: Files>(rt: &R, name: Option<&str>) -> bool
     ensures unnamed { name.entry ≡ None → result ≡ false }
     ensures stream { IfSome name.entry (λ name. is_stream name.now ≡ true → result ≡ true) }
 {

@@ -1,7 +1,7 @@
 -- Records that are read one after another.
-use Rattle.std.proofs.Common.{◌≡◌, ℕ, suc, ◌+◌, ◌-◌, ◌<◌, List, [], ◌∷◌, ◌++◌, map, Option, Some, None, Result, Err, true, false, refl, sym, ap, ◌∙◌, append_assoc, arith}
+use Rattle.std.proofs.Common.{◌≡◌, ℕ, suc, ◌+◌, ◌-◌, ◌<◌, List, [], ◌∷◌, ◌++◌, map, length, ◌≤◌, Option, Some, None, Result, Err, true, false, refl, sym, ap, ◌∙◌, append_assoc, arith}
 use Rattle.std.specs.Borrow.{Bor}
-use Rattle.std.proofs.lemmas.List.{map-append}
+use Rattle.std.proofs.lemmas.List.{map-append, take_all}
 use Rattle.std.specs.Option.{ok_or, option_map}
 use Rattle.subsetter_base.specs.Bytes.{range}
 use Rattle.subsetter_base.specs.declared.error.Error.{Error}
@@ -32,6 +32,12 @@ records_cut front n i size fvar at e less h =
     rw (one, h) refl
 
 -- ---- a name
+
+-- the record of twelve bytes is read from their start
+pub whole_record : (bytes : List ℕ) → length bytes ≡ 12 → range bytes 0 12 ≡ Some bytes
+whole_record bytes twelve =
+    let least : length bytes ≤ 12 = omega arith in
+    rw (twelve, take_all 12 bytes least) refl
 
 -- one more record to look at
 one_more : (n i : ℕ) → i < n → n - i ≡ suc (n - (i + 1))

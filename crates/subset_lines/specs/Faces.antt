@@ -2,4 +2,5 @@
 pub mod Axes
 pub mod Info
 pub mod Names
+pub mod Settings
 pub mod Sizes

@@ -3,4 +3,5 @@
 pub(crate) mod axes;
 pub(crate) mod info;
 pub(crate) mod names;
+pub(crate) mod settings;
 pub(crate) mod sizes;

@@ -20,7 +20,9 @@ mod text;
 
 pub use entry::{Numbering, Unwritten, take_first};
 pub use faces::axes::{FontAxes, name_of, read_axes, write_axes};
-pub use faces::info::{Info, Outlines, write_info, write_info_json};
+pub use faces::info::face::{Info, Outlines};
+pub use faces::info::json::write_info_json;
+pub use faces::info::lines::write_info;
 pub use faces::sizes::{TableSize, size_lines};
 pub use notes::{Note, note_lines};
 pub use objects::axes_json::{text_of_name, write_axes_json};

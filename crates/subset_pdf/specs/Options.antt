@@ -1,8 +1,8 @@
 -- What the options of a command line choose of a font.
 use Rattle.std.specs.Prelude.{Bool, true, false, None}
-use Rattle.subset_args.specs.declared.options.Coding.{Coding}
-use Rattle.subset_args.specs.declared.options.Coding.TheVariants.{Consecutive, Source, Text}
-use Rattle.subset_args.specs.declared.options.PdfChoice.{PdfChoice}
+use Rattle.subset_args.specs.declared.options.names.Coding.{Coding}
+use Rattle.subset_args.specs.declared.options.names.Coding.TheVariants.{Consecutive, Source, Text}
+use Rattle.subset_args.specs.declared.options.chosen.PdfChoice.{PdfChoice}
 use Rattle.subsetter_type2.specs.declared.limits.Limits.{Limits}
 use Rattle.pdf_codes.specs.declared.codes.Codes.{Codes}
 use Rattle.pdf_codes.specs.declared.codes.Codes.TheVariants.{Consecutive as InOrder, Source as AsInSource, EachText}

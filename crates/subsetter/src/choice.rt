@@ -6,7 +6,7 @@ ghost use Rattle.subsetter_sfnt.specs.Extras.{all_extras};
 use subsetter_sfnt::extras::Extras;
 use subsetter_type2::limits::Limits;
 
-/// How far a charstring may run, and what is kept.
+/// How much work and how large a font is allowed, and what is kept.
 #[derive(Clone, Copy, PartialEq, Eq, Debug)]
 pub struct Options {
     pub limits: Limits,

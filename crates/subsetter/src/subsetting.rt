@@ -79,14 +79,14 @@ fn subset_cff(
 ///
 /// # Errors
 ///
-/// Each names what is in the source (`HasFault`); a font in which nothing stands is refused only when out of memory.
-/// Where several faults stand, any of their names may come. The *reached* glyphs are the mapper's and those that they
-/// lead to through components; a charstring leads to no other glyph. What is stated of `CFF ` counts where there is no
+/// Each names what is in the source (`HasFault`); a font without a fault is refused only when out of memory.
+/// Where it has several faults, any of their names may come. The *reached* glyphs are the mapper's and the components of
+/// these at any depth; a charstring reaches no other glyph. What is stated of `CFF ` counts where there is no
 /// `glyf`, and what is stated of `loca` where there is one.
 ///
 /// - `UnknownKind`: the file doesn't begin with a known kind of font, or has none of `glyf`, `CFF ` and `CFF2`.
 /// - `MalformedFont`:
-///   - the collection has no entry for `index`, or that entry doesn't lead to the header of a single font;
+///   - the collection has no entry for `index`, or at its offset there is no header of a single font;
 ///   - the header or a record of the directory is cut;
 ///   - there is `glyf`, but `loca` or `head` is missing; or `head` has fewer than 52 bytes;
 ///   - a reached glyph has no range in `loca`, its range isn't inside `glyf`, or it has one byte or is a composite that is
@@ -121,7 +121,7 @@ fn subset_cff(
 ///   - all 65536 glyph numbers are reached;
 ///   - `hmtx` is there and `hhea` counts no metrics;
 ///   - in a `post` of version 2 more than 65278 reached glyphs have names of the font's own;
-///   - the new `glyf`, a table's place or its length would pass 4294967295 bytes;
+///   - the new `glyf`, a table's offset or its length would pass 4294967295 bytes;
 ///   - the glyphs of the mapper have 256 font dicts;
 ///   - a real in a matrix, in FontBBox or in a private dict that is written has a text of more than 64 characters;
 ///   - in the new `CFF ` the data of an INDEX would have more than 4294967294 bytes, or an offset or the length of a
@@ -239,7 +239,8 @@ pub fn subset_with_options(
     }
 }
 
-/// Whether a font can be opened: what `subset` looks at before it takes memory. This takes none.
+/// Whether a font can be opened: the file, its directory and the kind of its outlines. `subset` looks at these first, and takes no
+/// memory for it.
 ///
 /// # Errors
 ///

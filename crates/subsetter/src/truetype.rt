@@ -23,6 +23,7 @@ use crate::tables::{TableData, borrowed};
 use std::alloc::Global;
 use subsetter_base::{Error, GlyphRemapper, Tag};
 use subsetter_sfnt::face::Face;
+use subsetter_sfnt::fields::loca::OFFSET32_MAX;
 use subsetter_sfnt::flavor::FontFlavor;
 use subsetter_sfnt::laying::tables::FontTables;
 
@@ -41,7 +42,7 @@ fn check_len(outlines: &OutlineList<'_>, long: bool) -> Result<(), Error>
     ensures ok { OnOk result (length (glyf_bytes long outlines.now.items) < 2 ^ 32) }
     ensures err { IfErr result (λ e. (e ≡ OverflowError) × (2 ^ 32 ≤ length (glyf_bytes long outlines.now.items))) }
 {
-    if outlines_len(outlines, long) > 0xffff_ffff {
+    if outlines_len(outlines, long) > OFFSET32_MAX {
         return Err(Error::OverflowError);
     }
     Ok(())

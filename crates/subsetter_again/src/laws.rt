@@ -1,7 +1,7 @@
-//! The laws of a subset of a subset, which name no code. The second subset's glyphs are named by their places in the
+//! The laws of a subset of a subset, which name no code. The second subset's glyphs are named by their indexes in the
 //! first one's order.
 //!
-//! Composition and the fixed point ask for one glyph at least in the second list, which every mapper has. That a list
+//! Composition and the fixed point need one glyph at least in the second list, which every mapper has. That a list
 //! names all glyphs in order is counted by the first order (`AreAll`): a subset has as many glyphs as its order, so
 //! nothing has to be read of it.
 
@@ -42,7 +42,7 @@ pub fn keeps_all_charstrings()
     ensures { KeepsAllCharStrings }
 {}
 
-/// No fault stands in a subset for all its glyphs, in order.
+/// A subset for all its glyphs, in order, has no fault.
 pub fn no_fault_again()
     ensures { HasNoFaultAgain }
 {}

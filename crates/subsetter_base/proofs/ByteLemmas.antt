@@ -5,8 +5,8 @@
 --                                parts of `a ++ b`, a part between two others, no part past the end
 --   number_at                    a number between two other parts
 --   range-fits, range-take_drop  where there is a part, and what it is
---   stays_inside                 a reading leads to no place past the end
---   range-drop                   a part of what is left behind a place
+--   stays_inside                 a reading moves to no offset past the end
+--   range-drop                   a part of what is left behind an offset
 --   range-short, number-fits, number-short
 --                                how many bytes there are where a part or a number is there, or isn't
 --   IsBytes-take, IsBytes-drop, IsBytes-range, number-small
@@ -63,7 +63,7 @@ found false x y e = absurd cc
 pub range-fits : (bytes part : List ℕ) (at size : ℕ) → range bytes at size ≡ Some part → at + size ≤ length bytes
 range-fits bytes p at size e = leb-true _ _ (found (leb (at + size) (length bytes)) (take size (drop at bytes)) p e).0
 
--- a reading of a value leaves a place that was inside the data inside it
+-- a reading of a value leaves an offset that was inside the data inside it
 pub stays_inside : {X : Type 0} (old new : Source) (size : ℕ) (value_of : List ℕ → Option X) (result : Option X) → result ≡ option_and_then value_of (range old.bytes old.offset size)
     → new ≡ (if is_some result then record old { offset = old.offset + size } else old) → IsInside old → IsInside new
 stays_inside old new size value_of None e moves inside = rw moves inside
@@ -140,7 +140,7 @@ be-fits (b ∷ bytes) all =
     let whole : (b + 1) * 256 ^ length bytes ≤ 256 * 256 ^ length bytes = mul-le-mul_right (256 ^ length bytes) (omega arith) in
     omega (arith, power, whole, rest, add-mul b 1 (256 ^ length bytes))
 
--- a part of what is left behind a place
+-- a part of what is left behind an offset
 pub range-drop : (bytes : List ℕ) (k at size : ℕ) → k ≤ length bytes → range (drop k bytes) at size ≡ range bytes (k + at) size
 range-drop bytes k at size h =
     let len : length (take k bytes) ≡ k = length-take-le k bytes h in
@@ -185,7 +185,7 @@ number-small bytes at n h e =
     let fits : be part.0 < 256 ^ 2 = subst (λ k. be part.0 < 256 ^ k) (range-length bytes part.0 at 2 part.1) (be-fits part.0 (IsBytes-range bytes part.0 at 2 h part.1)) in
     omega (arith, part.2, fits)
 
--- ---- the number of a few bytes, by their places
+-- ---- the number of a few bytes, by their offsets
 pub be_one : (bytes : List ℕ) → length bytes ≡ 1 → be bytes ≡ get_or bytes 0 0
 be_one [] e = absurd (omega arith)
 be_one (a ∷ []) e = omega arith

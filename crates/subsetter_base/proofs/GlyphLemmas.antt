@@ -1,5 +1,5 @@
 -- Which numbers a list of glyphs has, and how many of them there can be.
---   place-finds, place-Contains, Contains-place     a place, and being there
+--   index-finds, index-Contains, Contains-index     an index, and being there
 --   known-with_glyph, known-with_glyphs             what a grown list has
 --   room_left_for_zero, none_left_out               when all glyphs above 0 are given
 --   ascending                                       what rising glyphs make of the list 0
@@ -18,7 +18,7 @@ use Rattle.std.proofs.lemmas.Map.Keys.{IsDistinct-from_apart}
 use Rattle.std.proofs.lemmas.Map.Steps.{length-le_from_distinct_below, le-length_from_below}
 use Rattle.subsetter_base.specs.Indexes.{index_of, with_glyph, with_glyphs, IsWithoutRepeats, HasAllAboveZero, IsAscending}
 use Rattle.subsetter_base.proofs.Options.{some_of, none_of}
-use Rattle.subsetter_base.proofs.PlaceLemmas.{place-push, IsWithoutRepeats-push}
+use Rattle.subsetter_base.proofs.IndexLemmas.{index-push, IsWithoutRepeats-push}
 
 -- the list has the number
 abbrev pub known : List ℕ → ℕ → Bool
@@ -41,7 +41,7 @@ positive (suc n) other = omega arith
 strictly : (a b : ℕ) → a ≤ b → (a ≡ b → ⊥) → a < b
 strictly a b le other = elim (cases_lt a b) [ inl lt ↦ lt | inr ge ↦ absurd (other (omega arith)) ]
 
--- ---- a place, and being there
+-- ---- an index, and being there
 
 known-cons : (y : ℕ) (ys : List ℕ) (q : ℕ) → known (y ∷ ys) q ≡ (eqb y q || known ys q)
 known-cons y ys q = elim (eqb y q) as (λ b. is_some (cond b (Some 0) (option_map (λ i. i + 1) (index_of ys q))) ≡ (b || known ys q)) [
@@ -54,17 +54,17 @@ found_in true o i e = inl (refl, cc)
 found_in false None i e = absurd cc
 found_in false (Some k) i e = inr (k, refl, let f : Some (k + 1) ≡ Some i = e in let g : k + 1 ≡ i = cc in omega arith)
 
-pub place-finds : (xs : List ℕ) (q i : ℕ) → index_of xs q ≡ Some i → (i < length xs) × (get_or xs i 0 ≡ q)
-place-finds [] q i e = absurd cc
-place-finds (y ∷ ys) q i e = elim (found_in (eqb y q) (index_of ys q) i e) [
+pub index-finds : (xs : List ℕ) (q i : ℕ) → index_of xs q ≡ Some i → (i < length xs) × (get_or xs i 0 ≡ q)
+index-finds [] q i e = absurd cc
+index-finds (y ∷ ys) q i e = elim (found_in (eqb y q) (index_of ys q) i e) [
   | inl here ↦ rw here.1 (omega arith, eqb-true y q here.0)
-  | inr there ↦ let before = place-finds ys q there.0 there.1 in rw there.2 (omega (arith, before.0), before.1)
+  | inr there ↦ let before = index-finds ys q there.0 there.1 in rw there.2 (omega (arith, before.0), before.1)
 ]
 
-pub place-Contains : (xs : List ℕ) (q : ℕ) → known xs q ≡ true → Contains xs q
-place-Contains xs q e =
+pub index-Contains : (xs : List ℕ) (q : ℕ) → known xs q ≡ true → Contains xs q
+index-Contains xs q e =
     let at = some_of (index_of xs q) e in
-    let is = place-finds xs q at.0 at.1 in
+    let is = index-finds xs q at.0 at.1 in
     (at.0, is.0, get_or_default xs at.0 q 0 is.0 ∙ is.1)
 
 pub known-at : (xs : List ℕ) (i d : ℕ) → i < length xs → known xs (get_or xs i d) ≡ true
@@ -72,8 +72,8 @@ known-at [] i d lt = absurd (omega (arith, lt))
 known-at (y ∷ ys) zero d lt = known-cons y ys y ∙ ap (λ b. b || known ys y) (eq-eqb y y refl)
 known-at (y ∷ ys) (suc i) d lt = known-cons y ys (get_or ys i d) ∙ ap (λ b. eqb y (get_or ys i d) || b) (known-at ys i d (omega arith)) ∙ or-true (eqb y (get_or ys i d))
 
-pub Contains-place : (xs : List ℕ) (q : ℕ) → Contains xs q → known xs q ≡ true
-Contains-place xs q c = ap (known xs) (sym c.2) ∙ known-at xs c.0 q c.1
+pub Contains-index : (xs : List ℕ) (q : ℕ) → Contains xs q → known xs q ≡ true
+Contains-index xs q c = ap (known xs) (sym c.2) ∙ known-at xs c.0 q c.1
 
 -- ---- what a grown list has
 
@@ -88,7 +88,7 @@ grown false false false h = refl
 
 pushed_known : (xs : List ℕ) (x q : ℕ) → known xs x ≡ false → known (xs ++ x ∷ []) q ≡ (eqb x q || known xs q)
 pushed_known xs x q absent =
-    ap is_some (place-push xs x q (length xs) (none_of (index_of xs x) absent) refl)
+    ap is_some (index-push xs x q (length xs) (none_of (index_of xs x) absent) refl)
     ∙ elim (eqb x q) as (λ b. is_some (cond b (Some (length xs)) (index_of xs q)) ≡ (b || known xs q)) [ true ↦ refl | false ↦ refl ]
 
 pub known-with_glyph : (xs : List ℕ) (x q : ℕ) → known (with_glyph xs x) q ≡ (known xs q || eqb x q)
@@ -121,8 +121,8 @@ any-is_known : (xs : List ℕ) (q : ℕ) → list_any (eqb q) xs ≡ known xs q
 any-is_known [] q = refl
 any-is_known (y ∷ ys) q = ap (λ b. eqb q y || b) (any-is_known ys q) ∙ ap (λ b. b || known ys q) (eqb-flip q y) ∙ sym (known-cons y ys q)
 
-pub IsDistinct-places : (xs : List ℕ) → IsWithoutRepeats xs → IsDistinct eqb xs
-IsDistinct-places xs once = IsDistinct-from_apart eqb xs (λ i j d below lt.
+pub IsDistinct-indexes : (xs : List ℕ) → IsWithoutRepeats xs → IsDistinct eqb xs
+IsDistinct-indexes xs once = IsDistinct-from_apart eqb xs (λ i j d below lt.
     let x = get_or_default xs i d 0 (omega arith) in
     let y = get_or_default xs j d 0 lt in
     ne_eqb (get_or xs i d) (get_or xs j d) (λ same.
@@ -133,12 +133,12 @@ IsDistinct-places xs once = IsDistinct-from_apart eqb xs (λ i j d below lt.
 pub below : (n : ℕ) (xs : List ℕ) → ((i : ℕ) → get_or xs i 0 < n) → (q : ℕ) → list_any (eqb q) xs ≡ true → q < n
 below n xs small q e =
     let at = some_of (index_of xs q) (sym (any-is_known xs q) ∙ e) in
-    let is = (place-finds xs q at.0 at.1).1 in
+    let is = (index-finds xs q at.0 at.1).1 in
     omega (arith, small at.0, is)
 
 -- at most n numbers below n
 pub length-le_small : (n : ℕ) (xs : List ℕ) → IsWithoutRepeats xs → ((i : ℕ) → get_or xs i 0 < n) → length xs ≤ n
-length-le_small n xs once small = length-le_from_distinct_below xs n (IsDistinct-places xs once) (below n xs small)
+length-le_small n xs once small = length-le_from_distinct_below xs n (IsDistinct-indexes xs once) (below n xs small)
 
 pub small-push : (n : ℕ) (xs : List ℕ) (x : ℕ) → ((i : ℕ) → get_or xs i 0 < n) → x < n → (i : ℕ) → get_or (xs ++ x ∷ []) i 0 < n
 small-push n [] x small lt zero = lt
@@ -152,7 +152,7 @@ room_left_for_zero glyphs few all =
     let total = with_glyphs (0 ∷ []) glyphs in
     let each : (q : ℕ) → q < 65536 → list_any (eqb q) total ≡ true = λ q lt. any-is_known total q ∙ known-all glyphs q ∙ elim (cases_eq 0 q) [
       | inl zero_is ↦ or_left (eqb 0 q) (known glyphs q) (eq-eqb 0 q zero_is)
-      | inr other ↦ or_right (eqb 0 q) (known glyphs q) (Contains-place glyphs q (all q (positive q other) (omega (arith, lt))))
+      | inr other ↦ or_right (eqb 0 q) (known glyphs q) (Contains-index glyphs q (all q (positive q other) (omega (arith, lt))))
     ] in
     absurd (omega (arith, few, le-length_from_below total 65536 each))
 
@@ -164,7 +164,7 @@ two_known false b c e f = (refl, e ∙ f)
 pub none_left_out : (xs glyphs : List ℕ) (i x : ℕ) → with_glyphs xs (drop i glyphs) ≡ with_glyphs (0 ∷ []) glyphs → i < length glyphs → x ≡ get_or glyphs i 0
     → known xs x ≡ false → x < 65536 → length xs ≡ 65535 → IsWithoutRepeats xs → ((k : ℕ) → get_or xs k 0 < 65536) → HasAllAboveZero glyphs
 none_left_out xs glyphs i x so_far lt is absent fits full once small y above most = elim (cases_Bool (known glyphs y)) [
-  | inl given ↦ place-Contains glyphs y given
+  | inl given ↦ index-Contains glyphs y given
   | inr lacking ↦
       let not_zero : eqb 0 y ≡ false = ne_eqb 0 y (λ e. absurd (omega (arith, above, e))) in
       let in_total : known (with_glyphs (0 ∷ []) glyphs) y ≡ false = known-all glyphs y ∙ ap (λ b. b || known glyphs y) not_zero ∙ lacking in
@@ -243,13 +243,13 @@ ascending glyphs sorted same order =
     record {
       rises = rising_all sorted (0 ∷ []) (climbs_from sorted (λ i j le lt. up i j 0 le lt)) (λ k lt. absurd (omega (arith, lt))) zero_first;
       members = λ x. (
-        (λ there. elim (or_cases (eqb 0 x) (known sorted x) (sym (known-all sorted x) ∙ Contains-place total x there)) [
+        (λ there. elim (or_cases (eqb 0 x) (known sorted x) (sym (known-all sorted x) ∙ Contains-index total x there)) [
           | inl is_zero ↦ inl (sym (eqb-true 0 x is_zero))
-          | inr given ↦ inr (Contains-permutation sorted glyphs x (IsPermutation-sym glyphs sorted same) (place-Contains sorted x given))
+          | inr given ↦ inr (Contains-permutation sorted glyphs x (IsPermutation-sym glyphs sorted same) (index-Contains sorted x given))
         ]),
-        (λ given. place-Contains total x (known-all sorted x ∙ elim given [
+        (λ given. index-Contains total x (known-all sorted x ∙ elim given [
           | inl is_zero ↦ or_left (eqb 0 x) (known sorted x) (eq-eqb 0 x (sym is_zero))
-          | inr among ↦ or_right (eqb 0 x) (known sorted x) (Contains-place sorted x (Contains-permutation glyphs sorted x same among))
+          | inr among ↦ or_right (eqb 0 x) (known sorted x) (Contains-index sorted x (Contains-permutation glyphs sorted x same among))
         ])),
       );
     }

@@ -17,7 +17,7 @@ values_of-more {A} size value_of n count bytes rest x is after e =
     ∙ ap (λ (o : Option A). elim o [ None ↦ [] | Some y ↦ y ∷ values_of size value_of count (drop size bytes) ]) (sym e)
     ∙ ap (λ (l : List ℕ). x ∷ values_of size value_of count l) (sym after)
 
--- ---- each of the values is the item at its place
+-- ---- each of the values is the item at its index
 
 module _ {A : Type 0} (size : ℕ) (value_of : List ℕ → Option A) where
   read_if : (b : Bool) (o : Option (List ℕ)) (x : A) → option_and_then value_of (cond b o None) ≡ Some x → (b ≡ true) × (option_and_then value_of o ≡ Some x)

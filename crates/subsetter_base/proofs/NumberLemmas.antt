@@ -5,7 +5,7 @@ use Rattle.std.proofs.lemmas.Bool.{cases_eq, cases_lt, eqb-true, eqb-false}
 use Rattle.std.proofs.lemmas.List.{length-append, length-replicate, length-set, length_push, get_or-replicate, get_or_past, get_or_append_left, get_or-append_right, get_or-set_same, get_or-set_other}
 use Rattle.subsetter_base.specs.Indexes.{index_of}
 use Rattle.subsetter_base.specs.Numbers.{code, entry_index, entry, ArePages, AreNumbers}
-use Rattle.subsetter_base.proofs.PlaceLemmas.{place-push}
+use Rattle.subsetter_base.proofs.IndexLemmas.{index-push}
 
 pub uncode_none : (o : Option ℕ) → 0 ≡ code o → o ≡ None
 uncode_none None h = refl
@@ -127,7 +127,7 @@ number_added pages entries pages_before entries_before xs x n after before is co
       are_pages = pages_stay pages entries x (n + 1) is there;
       count = count;
       room = omega (arith, room, before.room, length_push xs x, length-set entries (entry_index pages x) (n + 1));
-      number = λ q. entry_set pages entries x (n + 1) is there q ∙ ap (cond (eqb x q) (n + 1)) (stays q ∙ before.number q) ∙ by (eqb x q) (index_of xs q) ∙ ap code (sym (place-push xs x q n absent number));
+      number = λ q. entry_set pages entries x (n + 1) is there q ∙ ap (cond (eqb x q) (n + 1)) (stays q ∙ before.number q) ∙ by (eqb x q) (index_of xs q) ∙ ap code (sym (index-push xs x q n absent number));
     })
   where
     by : (b : Bool) (o : Option ℕ) → cond b (n + 1) (code o) ≡ code (cond b (Some n) o)

@@ -4,7 +4,7 @@ use Rattle.std.specs.List.{list_any}
 use Rattle.std.specs.Option.{option_map, unwrap_or}
 use Rattle.std.specs.List.Sorted.{IsStrictlyIncreasing}
 
--- where a number stands first in a list
+-- the first index of a number in a list
 abbrev pub index_of : List ℕ → ℕ → Option ℕ
 index_of [] x = None
 index_of (y ∷ ys) x = if y == x then Some 0 else option_map (λ i. i + 1) (index_of ys x)
@@ -22,11 +22,11 @@ with_glyphs glyphs (x ∷ xs) = with_glyphs (with_glyph glyphs x) xs
 abbrev pub is_listed : List ℕ → ℕ → Bool
 is_listed numbers n = list_any (λ m. m == n) numbers
 
--- the new number of an old one: where it stands in the order
+-- the new number of an old one: its index in the order
 abbrev pub new_index : List ℕ → ℕ → ℕ
 new_index order g = unwrap_or (index_of order g) 0
 
--- each stands at its own place, so none comes twice
+-- each is first at its own index, so none comes twice
 abbrev pub IsWithoutRepeats : List ℕ → Type 0
 IsWithoutRepeats xs = (i : ℕ) → i < length xs → index_of xs (slice_index xs i) ≡ Some i
 

@@ -8,7 +8,7 @@ pub record Items : Type 0 where
   pub bytes : List ℕ
   pub count : ℕ
 
--- the bytes of the item at a place
+-- the bytes of the item at an index
 abbrev pub item : ℕ → Items → ℕ → Option (List ℕ)
 item size items i = if nat_lt i items.count then range items.bytes (i * size) size else None
 

@@ -7,21 +7,21 @@ abbrev pub code : Option ℕ → ℕ
 code None = 0
 code (Some n) = n + 1
 
--- where the entry of a glyph stands: on the page that the list of pages names for it
+-- the index of a glyph's entry: on the page that the list of pages names for it
 abbrev pub entry_index : List ℕ → ℕ → ℕ
 entry_index pages g = 64 * slice_index pages (g / 64) + g % 64
 
 abbrev pub entry : List ℕ → List ℕ → ℕ → ℕ
 entry pages entries g = slice_index entries (entry_index pages g)
 
--- the pages are whole and among the entries, and no two glyphs share one but the first, which is empty and stands for all that aren't there
+-- the pages are whole and among the entries, and no two glyphs share one but the first, which is empty and is that of all that aren't there
 pub record ArePages (pages entries : List ℕ) : Type 0 where
   pub whole : length entries % 64 ≡ 0
   pub within : (k : ℕ) → 64 * slice_index pages k + 64 ≤ length entries
   pub apart : (j k : ℕ) → slice_index pages j ≡ slice_index pages k → slice_index pages j ≢ 0 → j ≡ k
   pub empty : (r : ℕ) → r < 64 → slice_index entries r ≡ 0
 
--- the entries are the places of the glyphs in a list
+-- the entries are the indexes of the glyphs in a list
 pub record AreNumbers (pages entries glyphs : List ℕ) : Type 0 where
   pub are_pages : ArePages pages entries
   pub count : length pages ≡ 1024

@@ -2,7 +2,7 @@
 use Rattle.std.specs.Prelude.{ℕ, ◌+◌, Bool, List, [], ◌∷◌, ◌++◌, Option, Some, None, is_some, nat_lt, if◌then◌else◌}
 use Rattle.std.specs.Option.{option_map}
 
--- where a value stands first in a list
+-- the first index of a value in a list
 abbrev pub index_by : {A : Type 0} → (A → A → Bool) → List A → A → Option ℕ
 index_by eq [] x = None
 index_by eq (y ∷ ys) x = if eq y x then Some 0 else option_map (λ i. i + 1) (index_by eq ys x)

@@ -1,6 +1,6 @@
 //! Arrays whose items are read from their bytes only when they are requested.
 //!
-//! `LazyArray16` keeps its bytes and its count. It isn't `Copy`; `iter` stands beside `into_iter`.
+//! `LazyArray16` keeps its bytes and its count. It isn't `Copy`; it has `iter` beside `into_iter`.
 
 ghost use Rattle.std.specs.Prelude.{◌≡◌, ◌*◌, ◌/◌, ◌<◌, ◌≤◌, [], length};
 ghost use Rattle.std.specs.Iterator.{YieldsFirst, item_count};
@@ -55,7 +55,7 @@ impl<'a, T: Readable<'a>> LazyArray16<'a, T> {
         self.len
     }
 
-    /// The item at a place, if it is there and its bytes spell one.
+    /// The item at an index, if it is there and its bytes spell one.
     pub fn get(&self, index: u16) -> Option<T>
         ensures { result ≡ option_and_then T.value_of (item T.SIZE self.now index) }
     {

@@ -1,6 +1,6 @@
 //! New consecutive numbers for values, in the order in which these come.
 //!
-//! `get` and `remap` answer the counter's type. `CheckedAdd` asks for `Copy + From<u8>`.
+//! `get` and `remap` return the counter's type. `CheckedAdd` requires `Copy + From<u8>`.
 
 ghost use Rattle.std.specs.Prelude.{◌≡◌, ◌+◌, ◌<◌, ◌⊎◌, ℕ, [], length, Some, is_ok, IfOk, IfErr, IsOk, IsSome, IsTrue, if◌then◌else◌};
 ghost use Rattle.std.specs.Cmp.{partial_equiv_from_equiv};
@@ -95,7 +95,7 @@ impl<C: CheckedAdd, T: Copy + Eq + Hash> Model for Remapper<C, T> {
 
     ghost invariant = { λ r. record {
       counted : C.number r.counter ≡ length r.backward.items;
-      forward_is_place : (q : T) → option_map C.number (get T.eq r.forward q) ≡ index_by T.eq r.backward.items q;
+      forward_is_index : (q : T) → option_map C.number (get T.eq r.forward q) ≡ index_by T.eq r.backward.items q;
       once : IsDistinct T.eq r.backward.items;
     } };
 }

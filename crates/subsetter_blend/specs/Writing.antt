@@ -1,7 +1,7 @@
 -- The charstring that is written.
 pub mod Flex
 pub mod Placed
-pub mod Says
+pub mod Marks
 pub mod Split
 pub mod Stems
 pub mod Taking

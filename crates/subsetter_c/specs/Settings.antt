@@ -14,7 +14,7 @@ use Rattle.subsetter_variable.specs.Subset.{whole, IsAnswerAt, HasFaultAt, HasNo
 use Rattle.cid_embed.specs.declared.embedding.Embedded.{Embedded}
 use Rattle.cid_embed_at.specs.Embed.{IsEmbeddingAnswerAt, HasEmbedFaultAt, HasNoEmbeddingAt}
 use Rattle.subsetter_c.specs.Answers.Embedding.{Buffers, lists_of, AreHandedOver}
-use Rattle.subsetter_c.specs.Answers.Handed.{IsHandedOver, IsWantOfMemory}
+use Rattle.subsetter_c.specs.Answers.Handed.{IsHandedOver, IsOutOfMemory}
 use Rattle.subsetter_c.specs.Answers.Made.{IsMade, IsFontMade}
 use Rattle.subsetter_c.specs.declared.answers.handing.Sizes.{Sizes}
 use Rattle.subsetter_c.specs.declared.settings.Coordinate.{Coordinate}
@@ -45,7 +45,7 @@ pub data HasCallFaultAt (bound : Option ℕ) (tokens depth : ℕ) (font : Font) 
 
 -- why no subset is answered: memory ran out, or a fault stands, and then no call answers one
 abbrev pub IsRefusalAt : Option ℕ → ℕ → ℕ → Font → List (Tag × ℤ) → List ℕ → Error → Type 0
-IsRefusalAt bound tokens depth font settings glyphs e = IsWantOfMemory font e ⊎ (HasCallFaultAt bound tokens depth font settings glyphs e × HasNoAnswerAt bound tokens depth font settings (numbering glyphs))
+IsRefusalAt bound tokens depth font settings glyphs e = IsOutOfMemory font e ⊎ (HasCallFaultAt bound tokens depth font settings glyphs e × HasNoAnswerAt bound tokens depth font settings (numbering glyphs))
 
 -- a subset is handed over in a buffer of the caller
 abbrev pub IsSubsetHandedAt : Option ℕ → ℕ → ℕ → Font → List (Tag × ℤ) → List ℕ → List ℕ → List ℕ → ℕ → ℕ → Type 0
@@ -70,7 +70,7 @@ pub record IsSoundEmbeddingAt (bound : Option ℕ) (tokens depth : ℕ) (font : 
 
 -- why nothing is answered: memory ran out, or a fault stands, and then no call answers anything
 abbrev pub IsEmbeddingRefusalAt : Option ℕ → ℕ → ℕ → Font → List (Tag × ℤ) → List ℕ → Error → Type 0
-IsEmbeddingRefusalAt bound tokens depth font settings glyphs why = IsWantOfMemory font why ⊎ (((order : List ℕ) × HasEmbedFaultAt bound tokens depth font settings glyphs order why) × HasNoEmbeddingAt bound tokens depth font settings glyphs)
+IsEmbeddingRefusalAt bound tokens depth font settings glyphs why = IsOutOfMemory font why ⊎ (((order : List ℕ) × HasEmbedFaultAt bound tokens depth font settings glyphs order why) × HasNoEmbeddingAt bound tokens depth font settings glyphs)
 
 -- a subset with its CIDs and widths is handed over in buffers of the caller
 abbrev pub IsEmbeddingHandedAt : Option ℕ → ℕ → ℕ → Font → List (Tag × ℤ) → List ℕ → Buffers → Buffers → Sizes → ℕ → Type 0

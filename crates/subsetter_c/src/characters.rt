@@ -7,11 +7,12 @@ ghost use Rattle.subsetter_sfnt.specs.Extras.{all_extras};
 ghost use Rattle.subsetter_sfnt.specs.Fault.{HasOpeningFault};
 ghost use Rattle.subsetter_sfnt.specs.FontAt.{font_at};
 ghost use Rattle.subsetter_sfnt.specs.Read.{table_in};
+ghost use Rattle.cmap.specs.Faces.{face_mapping};
 ghost use Rattle.cmap.specs.Subtable.{mapping};
 ghost use Rattle.cmap.specs.View.{mapping_view};
 ghost use Rattle.pdf_font.specs.Opened.{IsOpened};
 ghost use Rattle.subsetter_pdf_c.specs.Entries.{are_scalars};
-ghost use Rattle.subsetter_c.specs.Documents.PdfGlyphs.{AreGlyphsOf, HasNoMapping, IsGlyphRefusal, mapping_in};
+ghost use Rattle.subsetter_c.specs.Documents.PdfGlyphs.{AreGlyphsOf, HasNoMapping, IsGlyphRefusal};
 
 use cmap::{Subtable, find_subtable};
 use std::alloc::Global;
@@ -39,7 +40,7 @@ fn mapping_by<'a>(face: &Face<'a>) -> Option<Subtable<'a>>
 
 /// The table of a font by which the glyphs of Unicode characters are found.
 fn mapping_for(font: &[u8], index: u32) -> Result<Subtable<'_>, Error>
-    ensures ok { IfOk result (λ table. mapping_in (font_at font.now index all_extras) ≡ Some (mapping_view table)) }
+    ensures ok { IfOk result (λ table. face_mapping (font_at font.now index all_extras) ≡ Some (mapping_view table)) }
     ensures opens { IfOk result (λ table. (e : SpecError) → ¬ (HasOpeningFault (font_at font.now index all_extras) e)) }
     ensures err { IfErr result (λ e. HasOpeningFault (font_at font.now index all_extras) e ⊎ HasNoMapping (font_at font.now index all_extras) e) }
 {

@@ -1,11 +1,11 @@
-//! What the words of `subsetter_options` ask for.
+//! What the words of `subsetter_options` request.
 
 ghost use Rattle.std.specs.Prelude.{◌≡◌, ◌==◌, if◌then◌else◌, Some, None, MatchOption};
 ghost use Rattle.subsetter_c.specs.Options.{AreRequested, AreKnown, or_default, word};
 
 use subsetter::{Extras, Limits, Options};
 
-/// A word by its place; one past the end is 0.
+/// A word by its index; one past the end is 0.
 pub fn word(words: &[u32], at: usize) -> u32
     ensures { result ≡ word words.now at }
 {

@@ -7,7 +7,7 @@ use Rattle.subsetter_base.specs.declared.error.Error.{Error}
 use Rattle.subsetter_base.specs.declared.error.Error.TheVariants.{MalformedFont, OverflowError, CFFError}
 use Rattle.subsetter_type2.specs.Runs.Machine.{rests_after, unended}
 use Rattle.subsetter_cff.proofs.ReadLaws.Results.{bind_ok, same_Ok, passed}
-use Rattle.subsetter_blend.specs.Runs.Machine.{Setting, State, Done, act_at, done, follow, want, ended, run, run_all, start}
+use Rattle.subsetter_blend.specs.Runs.Machine.{Setting, State, Done, act_at, done, follow, ended_or, ended, run, run_all, start}
 use Rattle.subsetter_blend.specs.Resolved.{all_finished, resolved}
 use Rattle.subsetter_blend.specs.Writing.Taking.{Event}
 use Rattle.subsetter_blend.specs.Writing.Written.{Fitted, fitted, fitted_start, finished}
@@ -18,7 +18,7 @@ use Rattle.subsetter_cff2.specs.Selection.UsedDicts.{counted_dicts, index_in}
 use Rattle.subsetter_cff2.specs.Variation.{Variation}
 use Rattle.subsetter_cff_at.specs.Plain.{dict_bound, numbers_from, present, setting, glyph_text, placed_text, text_if, texts_from, Drawn, drawn, Opened, opened, parts_of, some_requested, made_table}
 use Rattle.subsetter_cff_at.specs.Promise.{LimitsAgree}
-use Rattle.subsetter_cff_at.proofs.Promised.{drawn_steps}
+use Rattle.subsetter_cff_at.proofs.DrawnGlyphs.{drawn_steps}
 
 -- one answer is one
 one_answer : {A : Type 0} (r : Result A Error) (a b : A) → r ≡ Ok a → r ≡ Ok b → a ≡ b
@@ -33,7 +33,7 @@ follow_agree depth other callers (Ok d) go more a b same h k =
     same d.taken state (passed (nat_le (length (rests_after d.lead callers)) depth) CFFError (go d.taken state) a h).1 (passed (nat_le (length (rests_after d.lead callers)) other) CFFError (more d.taken state) b k).1
 
 want_agree : {S : Type 0} (rests : List (List ℕ)) (over : Result S Error) (go more : List ℕ → List (List ℕ) → Result S Error) (a b : S)
-    → ((bytes : List ℕ) (callers : List (List ℕ)) → go bytes callers ≡ Ok a → more bytes callers ≡ Ok b → a ≡ b) → want rests over go ≡ Ok a → want rests over more ≡ Ok b → a ≡ b
+    → ((bytes : List ℕ) (callers : List (List ℕ)) → go bytes callers ≡ Ok a → more bytes callers ≡ Ok b → a ≡ b) → ended_or rests over go ≡ Ok a → ended_or rests over more ≡ Ok b → a ≡ b
 want_agree [] over go more a b same h k = one_answer over a b h k
 want_agree (bytes ∷ callers) over go more a b same h k = same bytes callers h k
 

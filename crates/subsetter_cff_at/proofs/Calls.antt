@@ -20,7 +20,7 @@ use Rattle.subsetter_cff_at.specs.Request.{Request}
 use Rattle.subsetter_cff_at.specs.View.{DrawsNext, FailsMaking, KeepsBound, drawn_size}
 use Rattle.subsetter_cff_at.specs.declared.texts.Texts.{Texts}
 use Rattle.subsetter_cff_at.proofs.Found.{few_used, length-numbers, length-dicts, length-texts}
-use Rattle.subsetter_cff_at.proofs.Promised.{drawn_steps}
+use Rattle.subsetter_cff_at.proofs.DrawnGlyphs.{drawn_steps}
 
 -- ---- a glyph more
 requested_text : (cff : Cff2) (v : Option Variation) (tokens depth : ℕ) (dicts : List NewDict) (place glyph advance : ℕ) (text : List ℕ) → placed_text cff v tokens depth dicts place glyph advance ≡ Ok text

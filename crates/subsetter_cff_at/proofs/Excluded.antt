@@ -34,9 +34,10 @@ use Rattle.subsetter_cff_at.specs.Plain.{dict_bound, present, setting, all_fille
 use Rattle.subsetter_cff_at.specs.Request.{Request}
 use Rattle.subsetter_cff_at.specs.Units.{top_matrix}
 use Rattle.subsetter_cff_at.proofs.Found.{few_used, requested_at}
-use Rattle.subsetter_cff_at.proofs.PrivateFaults.{private_stands}
-use Rattle.subsetter_cff_at.proofs.RunFaults.{charstring_stands}
-use Rattle.subsetter_cff_at.proofs.Promised.{DrawnSteps, drawn_steps, GlyphFound, glyph_found, place_found, OpenSteps, open_steps}
+use Rattle.subsetter_cff_at.proofs.FaultLaws.PrivateFaults.{private_stands}
+use Rattle.subsetter_cff_at.proofs.FaultLaws.RunFaults.{charstring_stands}
+use Rattle.subsetter_cff_at.proofs.Promised.{OpenSteps, open_steps}
+use Rattle.subsetter_cff_at.proofs.DrawnGlyphs.{DrawnSteps, drawn_steps, GlyphFound, glyph_found, place_found}
 
 -- nothing is both there and not
 both : {A : Type 0} (o : Option A) (x : A) → o ≡ None → o ≡ Some x → ⊥

@@ -1,9 +1,8 @@
 pub mod Steps
 pub mod Found
+pub mod DrawnGlyphs
 pub mod Promised
-pub mod PrivateFaults
-pub mod RunFaults
-pub mod Faults
+pub mod FaultLaws
 pub mod Excluded
 pub mod Agreeing
 pub mod Promises

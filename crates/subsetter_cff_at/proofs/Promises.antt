@@ -11,7 +11,7 @@ use Rattle.subsetter_cff_at.specs.Promise.{IsRequest, IsTableAt}
 use Rattle.subsetter_cff_at.specs.Request.{Request}
 use Rattle.subsetter_cff_at.specs.View.{drawn_size, FailsMaking}
 use Rattle.subsetter_cff_at.proofs.Excluded.{made_excludes}
-use Rattle.subsetter_cff_at.proofs.Faults.{refused_stands}
+use Rattle.subsetter_cff_at.proofs.FaultLaws.Faults.{refused_stands}
 use Rattle.subsetter_cff_at.proofs.Promised.{made_is_table}
 
 module _ {X : Type 0} (view : X → List ℕ) (bound : Option ℕ) (bytes : List ℕ) (r : Request) (tokens depth : ℕ) where

@@ -6,7 +6,7 @@ use Rattle.subsetter_base.specs.declared.error.Error.{Error}
 use Rattle.subsetter_base.specs.declared.error.Error.TheVariants.{CFFError, OverflowError}
 use Rattle.subsetter_cffdata.specs.declared.numerals.charstring_number.CharStringNumber.{CharStringNumber}
 use Rattle.subsetter_cffdata.specs.declared.dicts.operator.Operator.{Operator}
-use Rattle.subsetter_type2.specs.Runs.Machine.{Lead, rests_after, unended}
+use Rattle.subsetter_type2.specs.Runs.Machine.{Continuation, rests_after, unended}
 use Rattle.subsetter_type2.specs.Token.{Operand, Operation, token_of}
 use Rattle.subsetter_blend.specs.declared.runs.kind.Kind.TheVariants.{ChoosesData, Blends, CountsStems, Draws, CallsLocal, CallsGlobal, Masks}
 use Rattle.subsetter_blend.specs.Runs.Blend.{blended}
@@ -79,12 +79,12 @@ pub data HasRunFault (setting : Setting) (depth : ℕ) : ℕ → Fitted → Stat
   no_token : (f : Fitted) (state : State) (bytes : List ℕ) (callers : List (List ℕ)) → unended state.rests ≡ bytes ∷ callers → HasRunFault setting depth zero f state CFFError
   in_token : {e : Error} (tokens : ℕ) (f : Fitted) (state : State) (bytes : List ℕ) (callers : List (List ℕ)) → unended state.rests ≡ bytes ∷ callers
       → HasTokenFault setting bytes state.registers e → HasRunFault setting depth (suc tokens) f state e
-  in_event : {e : Error} (tokens : ℕ) (f : Fitted) (state : State) (bytes : List ℕ) (callers : List (List ℕ)) (event : Event) (next : Registers) (lead : Lead) → unended state.rests ≡ bytes ∷ callers
+  in_event : {e : Error} (tokens : ℕ) (f : Fitted) (state : State) (bytes : List ℕ) (callers : List (List ℕ)) (event : Event) (next : Registers) (lead : Continuation) → unended state.rests ≡ bytes ∷ callers
       → act_at setting bytes state.registers ≡ Does (Some event) next lead → HasEventFault event f e → HasRunFault setting depth (suc tokens) f state e
   -- it leads deeper than the limit, or to a fault
-  too_deep : (tokens : ℕ) (f g : Fitted) (state : State) (bytes : List ℕ) (callers : List (List ℕ)) (said : Option Event) (next : Registers) (lead : Lead) → unended state.rests ≡ bytes ∷ callers
+  too_deep : (tokens : ℕ) (f g : Fitted) (state : State) (bytes : List ℕ) (callers : List (List ℕ)) (said : Option Event) (next : Registers) (lead : Continuation) → unended state.rests ≡ bytes ∷ callers
       → act_at setting bytes state.registers ≡ Does said next lead → taken_also fitted said f ≡ Ok g → depth < length (rests_after lead callers) → HasRunFault setting depth (suc tokens) f state CFFError
-  later : {e : Error} (tokens : ℕ) (f g : Fitted) (state : State) (bytes : List ℕ) (callers : List (List ℕ)) (said : Option Event) (next : Registers) (lead : Lead) → unended state.rests ≡ bytes ∷ callers
+  later : {e : Error} (tokens : ℕ) (f g : Fitted) (state : State) (bytes : List ℕ) (callers : List (List ℕ)) (said : Option Event) (next : Registers) (lead : Continuation) → unended state.rests ≡ bytes ∷ callers
       → act_at setting bytes state.registers ≡ Does said next lead → taken_also fitted said f ≡ Ok g → length (rests_after lead callers) ≤ depth
       → HasRunFault setting depth tokens g (record { rests = rests_after lead callers; registers = next }) e → HasRunFault setting depth (suc tokens) f state e
 

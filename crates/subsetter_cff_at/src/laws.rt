@@ -13,7 +13,7 @@ pub fn refused_has_fault()
     ensures { RefusedHasFault }
 {}
 
-/// Where a table is made, no fault stands.
+/// Where a table is made, there is no fault.
 pub fn made_excludes()
     ensures { MadeExcludes }
 {}

@@ -15,6 +15,7 @@ use subsetter_blend::resolving::resolve;
 use subsetter_blend::runs::machine::Subroutines;
 use subsetter_cff2::made::PlacedDict;
 use subsetter_type2::limits::Limits;
+use subsetter_type2::operators::first_byte;
 use subsetter_type2::subroutines::SubroutineHandler;
 
 /// The charstrings of glyphs, one behind the other.
@@ -137,7 +138,7 @@ fn draw_next(
     match advance {
         None => {
             let requested = texts.requested;
-            put(texts, &[14], requested)
+            put(texts, &[first_byte::ENDCHAR], requested)
         }
         Some(advance) => {
             let text = placed_text(alloc, opened, dicts, place, glyph, advance, limits)?;

@@ -5,7 +5,7 @@ ghost use Rattle.std.specs.Int.{w32};
 ghost use Rattle.std.specs.List.{AllByRecursion};
 ghost use Rattle.std.specs.Option.{option_map_or};
 ghost use Rattle.subsetter_cffdata.specs.Bytes.{ReadAgain};
-ghost use Rattle.subsetter_cffdata.specs.Dicts.Dict.{NewEntry, FitsNewEntry, entry_bytes, meaning, dict, entries, entry_at, kept};
+ghost use Rattle.subsetter_cffdata.specs.Dicts.Dict.{NewEntry, FitsNewEntry, entry_bytes, meaning, dict, entries, entry_at, limited};
 ghost use Rattle.subsetter_cffdata.specs.Indexes.Index.{index, index_at};
 ghost use Rattle.subsetter_cffdata.specs.Numerals.Numbers.{Number, FitsDict, integer, integer_at, offset, number, dict_number_at};
 ghost use Rattle.subsetter_cffdata.specs.Indexes.Owned.{FitIndex};
@@ -51,10 +51,10 @@ pub fn dict_is_read_again()
 /// The entries of a DICT are the one in front, and those behind it.
 #[tactic(auto, using(crate::proofs::DictsLaws::Entries::entries_step))]
 pub fn entries_follow_one_another()
-    ensures { (bytes : List ℕ) → entries bytes ≡ option_map_or (λ e. kept e.0 ∷ entries e.1) (entry_at bytes) [] }
+    ensures { (bytes : List ℕ) → entries bytes ≡ option_map_or (λ e. limited e.0 ∷ entries e.1) (entry_at bytes) [] }
 {}
 
-/// The numbers of a DICT, whatever its bytes: an integer fits in 32 bits, and the power of ten of a real lies within 1127 in size.
+/// The numbers of a DICT, whatever its bytes: an integer fits in 32 bits, and the power of ten of a real is at most 1127 in size.
 #[tactic(auto, using(crate::proofs::NumeralsLaws::BoundedNumbers::entries_bounded))]
 pub fn read_numbers_are_bounded()
     ensures { (bytes : List ℕ) → AllByRecursion HasBounded (entries bytes) }

@@ -5,7 +5,7 @@ pub mod Place
 pub mod Source
 pub mod ItemLaws
 pub mod Tables
-pub mod Walk
+pub mod WalkLaws
 pub mod Rounded
 pub mod Lines
 pub mod Glyph

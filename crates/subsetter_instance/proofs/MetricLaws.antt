@@ -15,7 +15,8 @@ use Rattle.subsetter_points.specs.Simple.{has_16_bits, signed_word}
 use Rattle.subsetter_base.specs.Options as optional
 use Rattle.subsetter_variation.specs.Items.FontMetrics.{metric_delta, metric_store, value_delta, value_of}
 use Rattle.subsetter_variation.specs.Items.ItemLaws.{HasBoundRegions, IsMaster}
-use Rattle.subsetter_variation.specs.Items.ItemVariations.{Row, Store, advance_delta, advance_index, delta, in_whole_units, item_delta, item_row, store_of, terms, whole_or_fault}
+use Rattle.subsetter_variation.specs.Items.ItemVariations.{Row, Store, delta, in_whole_units, item_delta, item_row, terms, whole_or_fault}
+use Rattle.subsetter_variation.specs.Items.Advances.{advance_delta, advance_index, store_of}
 use Rattle.subsetter_variation.specs.Nearest.{nearest}
 use Rattle.subsetter_variation.specs.Region.{unit}
 use Rattle.subsetter_variation.proofs.ItemsLaws.Items.{is_item_at_default, is_item_at_master, nearest_is}

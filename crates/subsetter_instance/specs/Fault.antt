@@ -16,7 +16,7 @@ use Rattle.subsetter_instance.specs.Faults.GlyphFault.{HasHmtxFault}
 use Rattle.subsetter_instance.specs.Faults.CoordinatesFault.{HasCoordinatesFault}
 use Rattle.subsetter_instance.specs.Faults.SourceFault.{HasSourceFault, HasVersionFault}
 use Rattle.subsetter_instance.specs.Faults.WalkFault.{HasWalkFault}
-use Rattle.subsetter_instance.specs.Faults.RoundedFault.{HasAdvanceFault, HasFarPoint}
+use Rattle.subsetter_instance.specs.Faults.RoundedFault.{HasAdvanceFault, HasPointOutOfRange}
 use Rattle.subsetter_instance.specs.Faults.LinesFault.{HasLinesFault}
 use Rattle.subsetter_instance.specs.Glyphs.Drawn.{Drawn, levels, points_or_fault}
 use Rattle.subsetter_instance.specs.Plain.{drawn_all}
@@ -32,9 +32,9 @@ pub data HasGlyphFault (s : Source) (at : List ℤ) (steps g : ℕ) : Error → 
   -- its description, its variations, or a component's
   in_walk : {e : Error} → HasWalkFault s at levels steps g e → HasGlyphFault s at steps g e
   -- its advance
-  in_advance : {e : Error} (m : LongHorMetric) (u : Unfolded × ℕ) → metric s g ≡ Some m → unfolded levels s at steps g ≡ Ok u → HasAdvanceFault s.hvar at g m.advance (u.0.right -ℤ u.0.left) e → HasGlyphFault s at steps g e
+  in_advance : {e : Error} (m : LongHorMetric) (u : Unfolded × ℕ) → metric s g ≡ Some m → unfolded levels s at steps g ≡ Ok u → HasAdvanceFault s.hvar at g m.advance_width (u.0.right -ℤ u.0.left) e → HasGlyphFault s at steps g e
   -- a rounded coordinate has no 16 bits
-  far_point : (u : Unfolded × ℕ) → unfolded levels s at steps g ≡ Ok u → HasFarPoint u.0.left u.0.on u.0.xs u.0.ys → HasGlyphFault s at steps g OverflowError
+  far_point : (u : Unfolded × ℕ) → unfolded levels s at steps g ≡ Ok u → HasPointOutOfRange u.0.left u.0.on u.0.xs u.0.ys → HasGlyphFault s at steps g OverflowError
   -- a delta between neighbours has no 16 bits, or there are too many points or contours
   large_outline : (u : Unfolded × ℕ) (points : List Point) → unfolded levels s at steps g ≡ Ok u → points_or_fault u.0.left u.0.on u.0.xs u.0.ys ≡ Ok points → parts_fit u.0.ends points ≡ false → HasGlyphFault s at steps g OverflowError
 

@@ -1,5 +1,5 @@
 -- Glyphs at a location.
 pub mod Components
 pub mod Drawn
-pub mod Kept
+pub mod Cache
 pub mod Unfolded

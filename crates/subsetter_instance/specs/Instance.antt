@@ -28,7 +28,7 @@ pub record IsDrawn (s out : Source) (at : List ℤ) (steps g : ℕ) : Type 0 whe
   -- its description is these bytes, of even length, and reads as these points
   pub bytes : description out g ≡ Some (aligned 2 (parts_bytes it.ends it.points))
   pub reads : parts (aligned 2 (parts_bytes it.ends it.points)) ≡ Some (it.ends, it.points)
-  pub metrics : metric out g ≡ Some (record { advance = it.advance; bearing = cast_unsigned w16 it.bearing })
+  pub metrics : metric out g ≡ Some (record { advance_width = it.advance; lsb = cast_unsigned w16 it.bearing })
 
 -- a table of the file is that of the source, which a look-up finds, or neither has one
 abbrev pub KeepsTable : (List ℕ → Option (List ℕ)) → Font → List ℕ → Type 0

@@ -4,7 +4,8 @@ use Rattle.std.specs.Prelude.{◌≡◌, ◌≤◌, ℕ, ◌==◌, ◌&&◌, fal
 use Rattle.subsetter_base.specs.Bytes.{IsBytes}
 use Rattle.subsetter_variation.specs.Items.FontMetrics.{metric_store, value_of}
 use Rattle.subsetter_variation.specs.Items.ItemLaws.{HasBoundRegions, IsMaster}
-use Rattle.subsetter_variation.specs.Items.ItemVariations.{Row, Store, advance_index, delta, item_row, store_of}
+use Rattle.subsetter_variation.specs.Items.ItemVariations.{Row, Store, delta, item_row}
+use Rattle.subsetter_variation.specs.Items.Advances.{advance_index, store_of}
 use Rattle.subsetter_variation.specs.Glyphs.Movement.{Outline}
 use Rattle.subsetter_variation.specs.Glyphs.Tuples.{Gvar}
 use Rattle.subsetter_variation.specs.VariationLaws.{HasBoundTuples}
@@ -51,7 +52,7 @@ IsAdvanceAtDefault = (hvar : List ℕ) (at : List ℤ) (g before a : ℕ) (width
 -- without HVAR too, of a simple glyph, if each tuple has such an axis
 abbrev pub IsSimpleAdvanceAtDefault : Type 0
 IsSimpleAdvanceAtDefault = (s : Source) (at : List ℤ) (steps g : ℕ) (bytes : List ℕ) (m : LongHorMetric) (d : Drawn) → All (λ c. c ≡ pos 0) at → ((t : Gvar) (h : ℕ) (o : Outline) → s.gvar ≡ Some t → HasBoundTuples t h o (length at)) → s.hvar ≡ None
-    → counted_description s g ≡ Some bytes → is_composite bytes ≡ false → metric s g ≡ Some m → drawn s at steps g ≡ Ok d → d.advance ≡ m.advance
+    → counted_description s g ≡ Some bytes → is_composite bytes ≡ false → metric s g ≡ Some m → drawn s at steps g ≡ Ok d → d.advance ≡ m.advance_width
 
 -- ---- metrics
 

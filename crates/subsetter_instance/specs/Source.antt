@@ -1,6 +1,6 @@
 -- The tables that an instance is made from (OpenType, "head", "hhea", "hmtx", "maxp", "loca", "glyf", "fvar", "avar", "gvar" and "HVAR").
-use Rattle.std.specs.Prelude.{◌≡◌, IfSome, ℕ, ◌+◌, ◌-◌, ◌*◌, Bool, not, ◌||◌, List, [], codes, Option, Some, None, Result, Ok, Err, nat_lt, ◌==◌, if◌then◌else◌, ℤ}
-use Rattle.std.specs.Option.{ok_or, option_map}
+use Rattle.std.specs.Prelude.{◌≡◌, IfSome, ℕ, ◌+◌, Bool, not, ◌||◌, List, [], codes, Option, Some, None, Result, Ok, Err, ◌==◌, if◌then◌else◌, ℤ}
+use Rattle.std.specs.Option.{ok_or}
 use Rattle.subsetter_base.specs.Bytes.{number, between_offsets}
 use Rattle.subsetter_base.specs.declared.tag.Tag.{Tag}
 use Rattle.subsetter_base.specs.declared.error.Error.{Error}
@@ -8,7 +8,8 @@ use Rattle.subsetter_base.specs.declared.error.Error.TheVariants.{MalformedFont,
 use Rattle.subsetter_variation.specs.Glyphs.Tuples.{Gvar, gvar_table}
 use Rattle.subsetter_variation.specs.Locations.Coordinates.{is_other_version, normalized_or_fault}
 use Rattle.subsetter_base.specs.Options.{◌>>=◌}
-use Rattle.subsetter_sfnt.specs.Fields.Hmtx.{metric_at}
+use Rattle.subsetter_sfnt.specs.Fields.Hmtx.{metric_in}
+use Rattle.subsetter_sfnt.specs.Fields.Loca.{loca_offset}
 use Rattle.subsetter_sfnt.specs.declared.fields.hmtx.LongHorMetric.{LongHorMetric}
 
 -- ---- the place
@@ -72,9 +73,9 @@ HasAxes gvar axes = IfSome gvar (λ t. axes ≡ t.axis_count)
 
 -- ---- a glyph
 
--- an offset of loca: of four bytes, or half of it of two
+-- an offset of loca
 abbrev pub offset : Source → ℕ → Option ℕ
-offset s g = if s.long then number s.loca (4 * g) 4 else option_map (λ half. 2 * half) (number s.loca (2 * g) 2)
+offset s g = loca_offset s.loca s.long g
 
 -- the description of a glyph: the bytes between its offset and the next
 unfoldable pub description : Source → ℕ → Option (List ℕ)
@@ -83,9 +84,6 @@ description s g = do
   to ← offset s (g + 1)
   between_offsets s.glyf from to
 
--- pairs come first, for as many glyphs as their number says, then bearings alone, which share the last pair's advance
+-- the metric of a glyph
 unfoldable pub metric : Source → ℕ → Option LongHorMetric
-metric s g =
-    if nat_lt g s.number_of_h_metrics then metric_at s.hmtx (4 * g) (4 * g + 2)
-    else if s.number_of_h_metrics == 0 then None
-    else metric_at s.hmtx (4 * (s.number_of_h_metrics - 1)) (4 * s.number_of_h_metrics + 2 * (g - s.number_of_h_metrics))
+metric s g = metric_in s.hmtx s.number_of_h_metrics g

@@ -1,10 +1,10 @@
 //! Glyphs at a location.
 
+pub mod cache;
 pub mod components;
 pub mod composite;
 pub mod drawn;
 pub mod glyph;
-pub mod kept;
 pub mod placing;
 pub mod simple;
 pub mod unfolding;

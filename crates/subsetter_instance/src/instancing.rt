@@ -67,13 +67,12 @@ fn make(
 ///
 /// `data` is a font file or a collection, of which `index` names a face (it is ignored for a single font). A coordinate is the
 /// tag of an axis and a value in 65536ths; where a tag comes twice the last value counts, and an axis without a value stays at
-/// its default. A font without `fvar` has no axes. Each glyph may take so many `steps`: one for each glyph that it leads
-/// to, each point, each tuple, and each point again of a tuple that counts.
+/// its default. A font without `fvar` has no axes. Each glyph may take so many `steps`: one for each component at
+/// any depth, each point, each tuple, and each point again of a tuple that counts.
 ///
 /// # Errors
 ///
-/// Each names what is in the source (`HasInstanceFault`); a font in which nothing stands is refused only when out of
-/// memory.
+/// Each names what is in the source (`HasInstanceFault`); a font without a fault is refused only when out of memory.
 ///
 /// - `UnknownKind`: the file doesn't begin with a known kind of font, or has none of `glyf`, `CFF ` and `CFF2`.
 /// - `Unimplemented`: the outlines aren't those of `glyf`; `fvar`, `avar`, `gvar`, `HVAR` or `MVAR` has a major version
@@ -92,7 +91,7 @@ pub fn instance(
 ) -> Result<Vec<u8>, Error>
     // What is answered is an instance of the font, read afresh from its bytes.
     ensures ok { IfOk result (λ out. IsInstance (font_at «data».now index all_extras) coordinates.now mapper.now out.items) }
-    // And then no fault stands.
+    // And then there is no fault.
     ensures clean { IfOk result (λ _. (e : SpecError) → ¬ (HasInstanceFault (font_at «data».now index all_extras) coordinates.now mapper.now steps e)) }
     // There is one answer, in whatever number of steps.
     ensures exact { IfOk result (λ out. IsAnswer (font_at «data».now index all_extras) coordinates.now mapper.now steps out.items) }
@@ -101,7 +100,7 @@ pub fn instance(
     ensures err { IfErr result (λ e. (e ≡ OutOfMemory) ⊎ HasInstanceFault (font_at «data».now index all_extras) coordinates.now mapper.now steps e) }
     // And, unless out of memory, it has no answer in these steps.
     ensures no_answer { IfErr result (λ e. (e ≡ OutOfMemory) ⊎ HasNoAnswer (font_at «data».now index all_extras) coordinates.now mapper.now steps) }
-    // Where a fault stands that is found before memory is taken, the answer isn't out of memory.
+    // Where there is a fault that is found before memory is taken, the answer isn't out of memory.
     ensures before_memory { (e : SpecError) → HasOpeningFault (font_at «data».now index all_extras) e → result ≢ Err OutOfMemory }
 {
     let face = open(data, index)?;

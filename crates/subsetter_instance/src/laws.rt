@@ -13,12 +13,12 @@ pub fn is_same_at_any_steps()
     ensures { IsSameAtAnySteps }
 {}
 
-/// An error is the name of a fault that stands.
+/// An error is the name of a fault of the source.
 pub fn has_fault_where_refused()
     ensures { HasFaultWhereRefused }
 {}
 
-/// Where there is a file no fault stands.
+/// Where there is a file, the source has no fault.
 pub fn has_none_where_answered()
     ensures { HasNoneWhereAnswered }
 {}

@@ -157,7 +157,7 @@ impl<'a> Source<'a> {
     }
 
     /// The metric of a glyph: a pair of its own, or the last advance with a bearing of its own.
-    #[tactic(auto, unfolding(crate::specs::Source::metric, subsetter_sfnt::specs::Fields::Hmtx::metric_in))]
+    #[tactic(auto, unfolding(crate::specs::Source::metric))]
     pub fn metric(&self, glyph: u16) -> Option<LongHorMetric>
         ensures { result ≡ metric self.now glyph }
     {

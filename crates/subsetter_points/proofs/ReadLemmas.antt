@@ -12,7 +12,7 @@ use Rattle.subsetter_base.specs.Bytes.{has_flag}
 use Rattle.subsetter_points.specs.View.{parts_of, contours_of}
 use Rattle.subsetter_points.specs.declared.outline.Outline as code
 
--- what was read before stands in front
+-- what was read before is in front
 abbrev pub with_front : {A : Type 0} → List A → Option (List A × List ℕ) → Option (List A × List ℕ)
 with_front front None = None
 with_front front (Some p) = Some (front ++ p.0, p.1)

@@ -5,6 +5,8 @@ use Rattle.std.specs.List.{fold, list_all}
 use Rattle.std.specs.Int.{w16, to_be_bytes, cast_signed, cast_unsigned, int_min, int_max}
 use Rattle.subsetter_base.specs.Bytes.{number, has_flag}
 use Rattle.subsetter_base.specs.Options.{◌>>=◌}
+use Rattle.subsetter_points.specs.declared.outline.Column.{Column}
+use Rattle.subsetter_points.specs.declared.outline.Column.TheVariants.{XCoordinates, YCoordinates}
 use Rattle.subsetter_points.specs.declared.outline.Point.{Point}
 use Rattle.subsetter_points.specs.declared.lists.deltas.Encoding.{Encoding}
 use Rattle.subsetter_points.specs.declared.lists.deltas.Encoding.TheVariants.{Same, Positive, Negative, Word}
@@ -74,14 +76,14 @@ contours from (end ∷ ends) points = take (end + 1 - from) points ∷ contours 
 abbrev pub repeats_at : ℕ → List ℕ → Option (ℕ × List ℕ)
 repeats_at flag bytes = if has_flag flag 0x08 then byte bytes else Some (0, bytes)
 
--- a flag that stands in the bytes, and how often it is to be repeated
+-- a flag that is in the bytes, and how often it is to be repeated
 abbrev pub run_at : List ℕ → Option (Run × List ℕ)
 run_at bytes = do
   flag ← byte bytes
   repeats ← repeats_at flag.0 flag.1
   Some (record { flag = flag.0; repeats = repeats.0 }, repeats.1)
 
--- the next point's flag: the one before it while that is to be repeated, else one that stands in the bytes
+-- the next point's flag: the one before it while that is to be repeated, else one that is in the bytes
 abbrev pub next : Run → List ℕ → Option (Run × List ℕ)
 next run bytes = if run.repeats == 0 then run_at bytes else Some (record { flag = run.flag; repeats = run.repeats - 1 }, bytes)
 
@@ -156,7 +158,7 @@ points_at n bytes = do
   y ← ys f.0 x.1
   Some (points f.0 x.0 y.0)
 
--- the bytes after the instructions, whose size (instructionLength) stands before them
+-- the bytes after the instructions, whose size (instructionLength) is before them
 abbrev pub body_at : List ℕ → Option (List ℕ)
 body_at bytes = do
   size ← word bytes
@@ -241,6 +243,14 @@ xs_of points = map (λ p. p.x) points
 abbrev pub ys_of : List Point → List ℤ
 ys_of points = map (λ p. p.y) points
 
+-- a coordinate of a point, and the same of points
+abbrev pub coordinate_in : Column → Point → ℤ
+coordinate_in XCoordinates p = p.x
+coordinate_in YCoordinates p = p.y
+
+abbrev pub column_of : Column → List Point → List ℤ
+column_of column points = map (λ p. coordinate_in column p) points
+
 -- the bounding box of a point and others, on the curve or not: xMin, yMin, xMax, yMax
 abbrev pub box : Point → List Point → List ℕ
 box p points = signed_word (fold int_min p.x (xs_of points)) ++ signed_word (fold int_min p.y (ys_of points)) ++ signed_word (fold int_max p.x (xs_of points)) ++ signed_word (fold int_max p.y (ys_of points))
@@ -249,7 +259,7 @@ box p points = signed_word (fold int_min p.x (xs_of points)) ++ signed_word (fol
 abbrev pub end_bytes : List ℕ → List ℕ
 end_bytes ends = flat_map (to_be_bytes w16) ends
 
--- flags, of which the first has OVERLAP_SIMPLE, as contours of a variable font overlap where they please; xCoordinates and
+-- flags, of which the first has OVERLAP_SIMPLE, as contours of a variable font may overlap; xCoordinates and
 -- yCoordinates
 abbrev pub point_bytes : List Point → List ℕ
 point_bytes points = flag_bytes true (pos 0) (pos 0) points ++ (delta_bytes (pos 0) (xs_of points) ++ delta_bytes (pos 0) (ys_of points))

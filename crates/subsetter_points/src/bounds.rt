@@ -2,13 +2,57 @@
 
 ghost use Rattle.std.specs.Prelude.{◌≡◌, ◌++◌, OnOk, IfErr};
 ghost use Rattle.std.specs.List.{fold};
-ghost use Rattle.std.specs.Int.{int_min, int_max};
+ghost use Rattle.std.specs.Int.{int_min};
 ghost use Rattle.subsetter_base.specs.declared.error.Error.TheVariants.{OutOfMemory};
-ghost use Rattle.subsetter_points.specs.Simple.{signed_word, xs_of, ys_of, box};
+ghost use Rattle.subsetter_points.specs.Bounds.{with_point, box_around, bounds_bytes};
+ghost use Rattle.subsetter_points.specs.Simple.{xs_of, box};
 
 use crate::outline::Point;
+use std::alloc::AllocError;
 use subsetter_base::Error;
 use subsetter_base::compare::{larger, smaller};
+
+/// A box around points.
+#[derive(Clone, Copy)]
+pub struct Bounds {
+    /// The left side.
+    pub x_min: i16,
+    /// The lower side.
+    pub y_min: i16,
+    /// The right side.
+    pub x_max: i16,
+    /// The upper side.
+    pub y_max: i16,
+}
+
+/// The least box around a box and a point.
+#[inline]
+fn with_point(bounds: Bounds, point: Point) -> Bounds
+    ensures { result ≡ with_point bounds point }
+{
+    Bounds {
+        x_min: smaller(bounds.x_min, point.x),
+        y_min: smaller(bounds.y_min, point.y),
+        x_max: larger(bounds.x_max, point.x),
+        y_max: larger(bounds.y_max, point.y),
+    }
+}
+
+/// The least box around a point and others.
+pub fn box_around(first: Point, rest: &[Point]) -> Bounds
+    ensures { result ≡ box_around first rest.now }
+{
+    let mut bounds = Bounds {
+        x_min: first.x,
+        y_min: first.y,
+        x_max: first.x,
+        y_max: first.y,
+    };
+    for point in rest {
+        bounds = with_point(bounds, *point);
+    }
+    bounds
+}
 
 /// The least x of a point's, `first`, and of others.
 pub fn least_x(first: i16, rest: &[Point]) -> i16
@@ -21,46 +65,22 @@ pub fn least_x(first: i16, rest: &[Point]) -> i16
     least
 }
 
-/// The least y of a point's, `first`, and of others.
-fn least_y(first: i16, rest: &[Point]) -> i16
-    ensures { result ≡ fold int_min first (ys_of rest.now) }
+/// xMin, yMin, xMax and yMax.
+pub fn bounds_bytes(bounds: Bounds) -> [u8; 8]
+    ensures { result ≡ bounds_bytes bounds }
 {
-    let mut least = first;
-    for point in rest {
-        least = smaller(least, point.y);
-    }
-    least
+    let [a, b] = bounds.x_min.to_be_bytes();
+    let [c, d] = bounds.y_min.to_be_bytes();
+    let [e, f] = bounds.x_max.to_be_bytes();
+    let [g, h] = bounds.y_max.to_be_bytes();
+    [a, b, c, d, e, f, g, h]
 }
 
-/// The greatest x of a point's, `first`, and of others.
-fn greatest_x(first: i16, rest: &[Point]) -> i16
-    ensures { result ≡ fold int_max first (xs_of rest.now) }
+/// Appends xMin, yMin, xMax and yMax.
+fn write_bounds(out: &mut Vec<u8>, bounds: Bounds) -> Result<(), AllocError>
+    ensures { OnOk result (out.new.items ≡ out.old.items ++ bounds_bytes bounds) }
 {
-    let mut greatest = first;
-    for point in rest {
-        greatest = larger(greatest, point.x);
-    }
-    greatest
-}
-
-/// The greatest y of a point's, `first`, and of others.
-fn greatest_y(first: i16, rest: &[Point]) -> i16
-    ensures { result ≡ fold int_max first (ys_of rest.now) }
-{
-    let mut greatest = first;
-    for point in rest {
-        greatest = larger(greatest, point.y);
-    }
-    greatest
-}
-
-/// Writes an int16.
-fn write_signed(out: &mut Vec<u8>, value: i16) -> Result<(), Error>
-    ensures ok { OnOk result (out.new.items ≡ out.old.items ++ signed_word value) }
-    ensures err { IfErr result (λ e. e ≡ OutOfMemory) }
-{
-    out.extend_from_slice(&value.to_be_bytes())?;
-    Ok(())
+    out.extend_from_slice(&bounds_bytes(bounds))
 }
 
 /// Writes the bounding box of a point and others.
@@ -68,9 +88,6 @@ pub fn write_box(out: &mut Vec<u8>, first: Point, rest: &[Point]) -> Result<(), 
     ensures ok { OnOk result (out.new.items ≡ out.old.items ++ box first rest.now) }
     ensures err { IfErr result (λ e. e ≡ OutOfMemory) }
 {
-    write_signed(out, least_x(first.x, rest))?;
-    write_signed(out, least_y(first.y, rest))?;
-    write_signed(out, greatest_x(first.x, rest))?;
-    write_signed(out, greatest_y(first.y, rest))?;
+    write_bounds(out, box_around(first, rest))?;
     Ok(())
 }

@@ -1,4 +1,9 @@
-//! The flags of a component (OpenType, "glyf", "Composite glyph description").
+//! The record of a component, and its flags (OpenType, "glyf", "Composite glyph description").
+
+/// glyphIndex, two bytes, behind flags.
+pub const GLYPH_INDEX: usize = 2;
+/// argument1, and behind it argument2, two bytes each or one.
+pub const ARGUMENTS: usize = 4;
 
 /// The arguments are two words, and not two bytes.
 pub const ARG_1_AND_2_ARE_WORDS: u16 = 0x0001;

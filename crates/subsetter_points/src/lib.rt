@@ -3,8 +3,8 @@
 //!
 //! - [`read_simple`] reads the [`Outline`] of a simple glyph: its points, and the last point of each contour.
 //! - [`read_columns`] reads the same as [`Columns`]: the flags and the coordinates, not joined.
-//! - [`fits`] says whether an outline can be written, and [`write_simple`] appends its bytes.
-//! - [`laws`] says that what is written is read again.
+//! - [`fits`] is whether an outline can be written, and [`write_simple`] appends its bytes.
+//! - [`laws`] has the law that what is written is read again.
 //!
 //! ```text
 //! let Some(mut outline) = read_simple(alloc, glyph)? else { return Err(Error::MalformedFont) };
@@ -16,6 +16,7 @@
 
 mod bounds;
 pub mod component;
+pub mod header;
 pub mod laws;
 mod list_bytes;
 mod lists;
@@ -24,7 +25,7 @@ mod points;
 mod reading;
 mod writing;
 
-pub use bounds::least_x;
+pub use bounds::{Bounds, bounds_bytes, box_around, least_x};
 pub use list_bytes::fitting::fits;
 pub use outline::{Columns, Outline, Point};
 pub use reading::{read_columns, read_simple};

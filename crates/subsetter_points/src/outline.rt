@@ -1,6 +1,7 @@
 //! Outlines as points.
 
 ghost use Rattle.std.specs.Prelude.{◌≡◌, []};
+ghost use Rattle.subsetter_points.specs.Simple.{coordinate_in};
 
 use std::alloc::Global;
 
@@ -15,6 +16,26 @@ pub struct Point {
     pub on_curve: bool,
 }
 
+/// One of the two columns of coordinates of a simple glyph description.
+#[derive(Clone, Copy)]
+pub enum Column {
+    /// From left to right.
+    XCoordinates,
+    /// From below to above.
+    YCoordinates,
+}
+
+/// The coordinate of a point in a column.
+#[inline]
+pub fn coordinate_in(column: Column, point: Point) -> i16
+    ensures { result ≡ coordinate_in column point }
+{
+    match column {
+        Column::XCoordinates => point.x,
+        Column::YCoordinates => point.y,
+    }
+}
+
 /// An outline: the points of its contours one after the other, and for each contour the number of its last point, from 0.
 #[derive(Debug, Drop)]
 pub struct Outline {
@@ -24,7 +45,7 @@ pub struct Outline {
     pub ends: Vec<u16>,
 }
 
-/// An outline before its points are joined: of each point its flag, of which bit 0 says whether it is on the curve, and its
+/// An outline before its points are joined: of each point its flag, of which bit 0 is set where it is on the curve, and its
 /// coordinates, and for each contour the number of its last point.
 #[derive(Debug, Drop)]
 pub struct Columns {

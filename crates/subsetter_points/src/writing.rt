@@ -2,7 +2,7 @@
 //!
 //! The bounding box is that of all points, control points among them. There is one flag for each point, without
 //! REPEAT_FLAG (repeats would save 1.4 % of the outlines of the fonts that were measured). The first one has OVERLAP_SIMPLE,
-//! as contours of a variable font may overlap at any place. A delta takes its shortest encoding: nothing for 0, a byte below
+//! as contours of a variable font may overlap anywhere. A delta takes its shortest encoding: nothing for 0, a byte below
 //! 256 in size, else two bytes. There are no instructions.
 
 ghost use Rattle.std.specs.Prelude.{◌≡◌, ◌++◌, IsTrue, OnOk, IfErr};
@@ -11,10 +11,10 @@ ghost use Rattle.subsetter_points.specs.Simple.{parts_bytes, simple_bytes, parts
 ghost use Rattle.subsetter_points.specs.View.{contours_of};
 
 use crate::bounds::write_box;
-use crate::list_bytes::delta_bytes::{write_xs, write_ys};
+use crate::list_bytes::delta_bytes::write_deltas;
 use crate::list_bytes::end_bytes::write_ends;
 use crate::list_bytes::flag_bytes::write_flags;
-use crate::outline::{Outline, Point};
+use crate::outline::{Column, Outline, Point};
 use subsetter_base::Error;
 
 /// Writes points as a simple glyph description, by the last points of their contours.
@@ -32,12 +32,12 @@ fn write_parts(out: &mut Vec<u8>, ends: &[u16], points: &[Point]) -> Result<(), 
     write_ends(out, ends)?;
     out.extend_from_slice(&[0, 0])?;
     write_flags(out, points)?;
-    write_xs(out, points)?;
-    write_ys(out, points)?;
+    write_deltas(out, Column::XCoordinates, points)?;
+    write_deltas(out, Column::YCoordinates, points)?;
     Ok(())
 }
 
-/// Appends the simple glyph description of an outline that fits, as `fits` says, to bytes; nothing where it has no points.
+/// Appends the simple glyph description of an outline that [`fits`](crate::fits) to bytes; nothing where it has no points.
 #[tactic(auto, using(crate::proofs::WriteLemmas::bytes_of_parts, crate::proofs::WriteLemmas::fits_of_parts))]
 pub fn write_simple(out: &mut Vec<u8>, outline: &Outline) -> Result<(), Error>
     requires { IsTrue (parts_fit outline.now.ends.items outline.now.points.items) }

@@ -1,4 +1,5 @@
 -- The font file: directory, tables, checksums.
+pub mod FieldsLaws
 pub mod LayingLaws
 pub mod Back
 pub mod Fault

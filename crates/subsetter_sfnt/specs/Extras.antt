@@ -10,8 +10,8 @@ abbrev pub all_extras : Extras
 all_extras = record { hinting = true; names = true; glyph_names = true }
 
 -- the programs that instructions of outlines call
-abbrev pub is_program : List ℕ → Bool
-is_program tag = bytes_eq tag (codes "cvt ") || (bytes_eq tag (codes "fpgm") || bytes_eq tag (codes "prep"))
+abbrev pub is_hinting_table : List ℕ → Bool
+is_hinting_table tag = bytes_eq tag (codes "cvt ") || (bytes_eq tag (codes "fpgm") || bytes_eq tag (codes "prep"))
 
 -- `post` without the names of glyphs: its header of 32 bytes under version 3.0, which has nothing else (OpenType, "post"); a table that is shorter stays
 abbrev pub without_glyph_names : List ℕ → List ℕ
@@ -33,7 +33,7 @@ without_instructions maxp = take 6 maxp ++ bare_fields (drop 6 maxp)
 -- a table of a tag, where hinting is asked for or not
 abbrev pub by_hinting : Bool → List ℕ → Option (List ℕ) → Option (List ℕ)
 by_hinting true tag found = found
-by_hinting false tag found = if is_program tag then None else if bytes_eq tag (codes "maxp") then option_map without_instructions found else found
+by_hinting false tag found = if is_hinting_table tag then None else if bytes_eq tag (codes "maxp") then option_map without_instructions found else found
 
 -- and names
 abbrev pub by_names : Bool → List ℕ → Option (List ℕ) → Option (List ℕ)

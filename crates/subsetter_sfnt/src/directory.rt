@@ -6,7 +6,9 @@ ghost use Rattle.subsetter_sfnt.specs.Extras.{all_extras};
 ghost use Rattle.subsetter_sfnt.specs.Read.{kind_at, header_by_kind, header_offset, records_at, records, find_record, directory_records, table_in, stored};
 ghost use Rattle.subsetter_sfnt.specs.declared.face.FontKind.TheVariants.{Collection};
 
-use crate::face::{FontKind, TableRecord};
+use crate::face::{
+    FontKind, NUM_TABLES, TABLE_DIRECTORY_OFFSETS, TABLE_RECORD_SIZE, TABLE_RECORDS, TableRecord,
+};
 use subsetter_base::Tag;
 use subsetter_base::read::Reader;
 
@@ -24,7 +26,7 @@ fn offset_in_collection(file: &[u8], index: u32) -> Option<usize>
 {
     let at = Reader::new_at(
         file,
-        12usize.saturating_add(4usize.saturating_mul(index as usize)),
+        TABLE_DIRECTORY_OFFSETS.saturating_add(4usize.saturating_mul(index as usize)),
     )
     .read::<u32>()?;
     match kind_at(file, at as usize)? {
@@ -51,10 +53,10 @@ pub fn records_at(file: &[u8], at: usize) -> Option<&[u8]>
     requires { at < 2 ^ 32 }
     ensures { option_copied result ≡ records_at file.now at }
 {
-    let mut r = Reader::new_at(file, at + 4);
+    let mut r = Reader::new_at(file, at + NUM_TABLES);
     let count = r.read::<u16>()?;
-    let mut r = Reader::new_at(file, at + 12);
-    r.read_bytes(16 * (count as usize))
+    let mut r = Reader::new_at(file, at + TABLE_RECORDS);
+    r.read_bytes(TABLE_RECORD_SIZE * (count as usize))
 }
 
 /// The bytes of the records of the font's directory.
@@ -65,7 +67,7 @@ pub fn records(file: &[u8], index: u32) -> Option<&[u8]>
     records_at(file, at)
 }
 
-/// The first record that bears a tag.
+/// The first record that has a tag.
 pub fn find_record(records: &[u8], tag: Tag) -> Option<TableRecord>
     ensures { result ≡ find_record tag.0 (directory_records (length records.now / 16) records.now) }
 {

@@ -3,7 +3,7 @@
 /// What a new font has besides its outlines and its metrics. A document that draws glyphs by their numbers needs none of it.
 #[derive(Clone, Copy, PartialEq, Eq, Debug)]
 pub struct Extras {
-    /// The instructions of outlines in `glyf`, and the programs `cvt `, `fpgm` and `prep`.
+    /// The instructions of outlines in `glyf`, and what they use: `cvt `, `fpgm` and `prep`.
     pub hinting: bool,
     /// The names of the font, `name`.
     pub names: bool,

@@ -7,7 +7,7 @@ use Rattle.subsetter_base.specs.declared.error.Error.TheVariants.{CFFError}
 use Rattle.subsetter_cffdata.specs.Views.{operator_of}
 use Rattle.subsetter_type2.specs.Token.{token_of}
 use Rattle.subsetter_type2.specs.Flat.{flat_operands, flat_event, flat_events, flat, bytes_of, flat_form}
-use Rattle.subsetter_type2.specs.Runs.Machine.{Library, Registers, State, Event, Trace, Act, Does, Fails, Goes, Faults, Lead, On, Into, Back, Over, Outcome, Finishes, Stops, unended, follow, with_event, act_at, move, rests_after, run, outcome, start}
+use Rattle.subsetter_type2.specs.Runs.Machine.{Library, Registers, State, Event, Trace, Act, Does, Fails, Goes, Faults, Continuation, On, Into, Back, Over, Outcome, Finishes, Stops, unended, follow, with_event, act_at, move, rests_after, run, outcome, start}
 use Rattle.subsetter_type2.proofs.RunsLaws.Runs.{run_more, run_over, run_out}
 use Rattle.subsetter_type2.proofs.RunsLaws.RecursionLemmas.{unended_front}
 use Rattle.subsetter_type2.proofs.Replay.{one, operands_run}
@@ -46,13 +46,13 @@ ahead_over said r n u s e =
     subst (Ahead said r n) p (record { events = []; said_is = sym (append-nil said); plays = plays_over r n s })
 
 -- an act has bytes that it reads
-some_act : (library : Library) (bytes : List ℕ) (r : Registers) (event : Option Event) (r' : Registers) (lead : Lead) → act_at library bytes r ≡ Does event r' lead → 0 < length bytes
+some_act : (library : Library) (bytes : List ℕ) (r : Registers) (event : Option Event) (r' : Registers) (lead : Continuation) → act_at library bytes r ≡ Does event r' lead → 0 < length bytes
 unfolding act_at token_of
 some_act library [] r event r' lead e = absurd (cc)
 some_act library (b ∷ bytes) r event r' lead e = omega arith
 
 -- the operands and the operator of an event
-event_run : (library : Library) (depth m : ℕ) (said : List Event) (r r' : Registers) (e : Event) (lead : Lead) (x : List ℕ) → 1 ≤ depth → Sound r → Loud r e r' lead
+event_run : (library : Library) (depth m : ℕ) (said : List Event) (r r' : Registers) (e : Event) (lead : Continuation) (x : List ℕ) → 1 ≤ depth → Sound r → Loud r e r' lead
     → run library depth (length r.operands + suc m) said (one (flat_event e ++ x) (emptied r)) ≡ follow (move depth [] (Does (Some e) r' (lead_with lead x))) said (run library depth m)
 event_run library depth m said r r' e lead x d s l =
     let bytes : flat_event e ++ x ≡ flat_operands r.operands ++ (operator_of e.operator ++ (e.mask ++ x)) =
@@ -125,7 +125,7 @@ test_moved true event next said go u e = e
 test_moved false event next said go u e = absurd (cc)
 
 -- where the depth allows the step
-pub moved : (depth : ℕ) (callers : List (List ℕ)) (event : Option Event) (r : Registers) (lead : Lead) (said : List Event) (go : List Event → State → Outcome) (u : Trace) → follow (move depth callers (Does event r lead)) said go ≡ Finishes u → go (with_event said event) (record { rests = rests_after lead callers; registers = r }) ≡ Finishes u
+pub moved : (depth : ℕ) (callers : List (List ℕ)) (event : Option Event) (r : Registers) (lead : Continuation) (said : List Event) (go : List Event → State → Outcome) (u : Trace) → follow (move depth callers (Does event r lead)) said go ≡ Finishes u → go (with_event said event) (record { rests = rests_after lead callers; registers = r }) ≡ Finishes u
 moved depth callers event r lead said go u e = test_moved (nat_le (length (rests_after lead callers)) depth) event _ said go u e
 
 module _ (library : Library) (depth : ℕ) where

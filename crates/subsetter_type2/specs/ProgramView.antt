@@ -19,7 +19,7 @@ program_bytes program = flat_map instruction_bytes program
 abbrev pub operand_instructions : List CharStringNumber → List Instruction
 operand_instructions numbers = map (λ n. instruction.Operand n) numbers
 
--- what stands before the operands on the stack
+-- what is before the operands on the stack
 abbrev pub settled_program : List Instruction → List CharStringNumber → List Instruction
 settled_program program numbers = take (length program - length numbers) program
 

@@ -62,10 +62,22 @@ pub mod first_byte {
     pub const LEAST_NUMBER: u8 = 32;
 }
 
-/// hstem (1): where horizontal stems lie.
+/// The second bytes of the operators of two bytes.
+pub mod second_byte {
+    /// hflex.
+    pub const HFLEX: u8 = 34;
+    /// flex.
+    pub const FLEX: u8 = 35;
+    /// hflex1.
+    pub const HFLEX1: u8 = 36;
+    /// flex1.
+    pub const FLEX1: u8 = 37;
+}
+
+/// hstem (1): the edges of horizontal stems.
 pub const HORIZONTAL_STEM: Operator = Operator(OneByteOperator([first_byte::HORIZONTAL_STEM]));
 
-/// vstem (3): where vertical stems lie.
+/// vstem (3): the edges of vertical stems.
 pub const VERTICAL_STEM: Operator = Operator(OneByteOperator([first_byte::VERTICAL_STEM]));
 
 /// vmoveto (4): the point moves vertically, and a subpath begins there.
@@ -74,12 +86,12 @@ pub const VERTICAL_MOVE_TO: Operator = Operator(OneByteOperator([first_byte::VER
 /// rlineto (5): lines.
 pub const LINE_TO: Operator = Operator(OneByteOperator([first_byte::LINE_TO]));
 
-/// hlineto (6): lines, horizontal and vertical in turns, the first horizontal.
+/// hlineto (6): lines, horizontal and vertical alternating, the first horizontal.
 pub const HORIZONTAL_LINE_TO: Operator = Operator(OneByteOperator([
     first_byte::HORIZONTAL_LINE_TO,
 ]));
 
-/// vlineto (7): lines, vertical and horizontal in turns, the first vertical.
+/// vlineto (7): lines, vertical and horizontal alternating, the first vertical.
 pub const VERTICAL_LINE_TO: Operator = Operator(OneByteOperator([first_byte::VERTICAL_LINE_TO]));
 
 /// rrcurveto (8): Bézier curves.
@@ -96,7 +108,7 @@ pub const RETURN: Operator = Operator(OneByteOperator([first_byte::RETURN]));
 /// endchar (14): the glyph ends.
 pub const ENDCHAR: Operator = Operator(OneByteOperator([first_byte::ENDCHAR]));
 
-/// hstemhm (18): where horizontal stems lie, in a glyph with hint masks.
+/// hstemhm (18): the edges of horizontal stems, in a glyph with hint masks.
 pub const HORIZONTAL_STEM_HINT_MASK: Operator = Operator(OneByteOperator([
     first_byte::HORIZONTAL_STEM_HINT_MASK,
 ]));
@@ -115,7 +127,7 @@ pub const HORIZONTAL_MOVE_TO: Operator = Operator(OneByteOperator([
     first_byte::HORIZONTAL_MOVE_TO,
 ]));
 
-/// vstemhm (23): where vertical stems lie, in a glyph with hint masks.
+/// vstemhm (23): the edges of vertical stems, in a glyph with hint masks.
 pub const VERTICAL_STEM_HINT_MASK: Operator = Operator(OneByteOperator([
     first_byte::VERTICAL_STEM_HINT_MASK,
 ]));
@@ -140,23 +152,26 @@ pub const CALL_GLOBAL_SUBROUTINE: Operator = Operator(OneByteOperator([
     first_byte::CALL_GLOBAL_SUBROUTINE,
 ]));
 
-/// vhcurveto (30): curves that begin vertical and horizontal in turns, the first vertical.
+/// vhcurveto (30): curves that begin vertical and horizontal alternating, the first vertical.
 pub const VH_CURVE_TO: Operator = Operator(OneByteOperator([first_byte::VH_CURVE_TO]));
 
-/// hvcurveto (31): curves that begin horizontal and vertical in turns, the first horizontal.
+/// hvcurveto (31): curves that begin horizontal and vertical alternating, the first horizontal.
 pub const HV_CURVE_TO: Operator = Operator(OneByteOperator([first_byte::HV_CURVE_TO]));
 
 /// hflex (12 34): two curves that are drawn as one line where their depth is below half a pixel. The ends and the control points next to them have one height, the joint and its neighbours another.
-pub const HFLEX: Operator = Operator(TwoByteOperator([TWO_BYTE_OPERATOR_MARK, 34]));
+pub const HFLEX: Operator = Operator(TwoByteOperator([TWO_BYTE_OPERATOR_MARK, second_byte::HFLEX]));
 
 /// flex (12 35): such curves with any points, and the depth, in hundredths of a pixel, below which they are a line.
-pub const FLEX: Operator = Operator(TwoByteOperator([TWO_BYTE_OPERATOR_MARK, 35]));
+pub const FLEX: Operator = Operator(TwoByteOperator([TWO_BYTE_OPERATOR_MARK, second_byte::FLEX]));
 
 /// hflex1 (12 36): such curves by half a pixel. The two ends have one height, the joint and its neighbours another.
-pub const HFLEX1: Operator = Operator(TwoByteOperator([TWO_BYTE_OPERATOR_MARK, 36]));
+pub const HFLEX1: Operator = Operator(TwoByteOperator([
+    TWO_BYTE_OPERATOR_MARK,
+    second_byte::HFLEX1,
+]));
 
 /// flex1 (12 37): such curves by half a pixel. The two ends have one height or one x.
-pub const FLEX1: Operator = Operator(TwoByteOperator([TWO_BYTE_OPERATOR_MARK, 37]));
+pub const FLEX1: Operator = Operator(TwoByteOperator([TWO_BYTE_OPERATOR_MARK, second_byte::FLEX1]));
 
 /// No operator (255): a number of 65536ths follows, of four bytes.
 pub const FIXED_16_16: Operator = Operator(OneByteOperator([first_byte::FIXED_16_16]));

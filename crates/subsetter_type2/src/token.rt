@@ -3,7 +3,7 @@
 ghost use Rattle.std.specs.Prelude.{◌≡◌};
 ghost use Rattle.subsetter_type2.specs.Token.{effect_of, one_byte_effect, two_byte_effect};
 
-use crate::operators::first_byte;
+use crate::operators::{first_byte, second_byte};
 use subsetter_cffdata::dicts::operator::{Operator, OperatorType, TWO_BYTE_OPERATOR_MARK};
 
 /// What an operator does.
@@ -79,8 +79,7 @@ fn two_byte_effect(mark: u8, second: u8) -> Option<Effect>
     ensures { result ≡ two_byte_effect mark second }
 {
     match (mark, second) {
-        // hflex, flex, hflex1, flex1
-        (TWO_BYTE_OPERATOR_MARK, 34..=37) => Some(Effect::Draws),
+        (TWO_BYTE_OPERATOR_MARK, second_byte::HFLEX..=second_byte::FLEX1) => Some(Effect::Draws),
         _ => None,
     }
 }

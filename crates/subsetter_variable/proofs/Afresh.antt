@@ -116,11 +116,11 @@ module _ (font : Font) (settings : List (Tag × ℤ)) (glyphs file : List ℕ) (
           let parts = subst (λ p. SameParts same.tables.long (UnfoldAlike (font_at file 0 x) (as_font out) 0) p same.copy) found same.same in
           copy.1 ∙ ap Some (same_bytes copy.0 b same.copy same.tables.long (UnfoldAlike (font_at file 0 x) (as_font out) 0) copy.2 (even (parts_bytes it.ends it.points)) parts)
 
-      metrics_here : hmtx.metric (as_font out) k ≡ Some (record { advance = drawn_here.it.advance; bearing = cast_unsigned w16 drawn_here.it.bearing })
+      metrics_here : hmtx.metric (as_font out) k ≡ Some (record { advance_width = drawn_here.it.advance; lsb = cast_unsigned w16 drawn_here.it.bearing })
       metrics_here =
           let g = get_or glyphs k 0 in
           let m = metrics_kept.metrics k lt in
-          let there = metric_found file x i.out read g (record { advance = drawn_here.it.advance; bearing = cast_unsigned w16 drawn_here.it.bearing }) drawn_here.metrics in
+          let there = metric_found file x i.out read g (record { advance_width = drawn_here.it.advance; lsb = cast_unsigned w16 drawn_here.it.bearing }) drawn_here.metrics in
           m.copy ∙ sym m.source ∙ there
 
       pub glyph_drawn : IsDrawnAs i.source i.at i.steps (get_or glyphs k 0) (as_font out) k

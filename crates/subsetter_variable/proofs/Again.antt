@@ -21,7 +21,8 @@ use Rattle.subsetter_instance.specs.Tables.Extremes.{all_extents, box_bytes, ext
 use Rattle.subsetter_instance.specs.Instance.{IsInstance}
 use Rattle.subsetter_instance.specs.Tables.Lines.{Lines, lines_of, with_lines}
 use Rattle.subsetter_instance.specs.Plain.{drawn_if, drawn_all}
-use Rattle.subsetter_instance.specs.Tables.Written.{by_glyph, glyf_bytes, is_long, offsets_from, loca_bytes, hmtx_bytes, head_bytes, hhea_bytes, maxp_bytes, tables}
+use Rattle.subsetter_sfnt.specs.Fields.Loca.{loca_bytes}
+use Rattle.subsetter_instance.specs.Tables.Written.{by_glyph, glyf_bytes, is_long, offsets_from, hmtx_of, head_bytes, hhea_bytes, maxp_bytes, tables}
 use Rattle.subsetter_instance.proofs.FileLaws.Among.{drawn_one}
 use Rattle.subsetter_instance.proofs.FileLaws.Laid.{has_room}
 use Rattle.subsetter_instance.proofs.FileLaws.Lines.{still_lines}
@@ -85,7 +86,7 @@ with_parts n ds all head hhea name post = record {
   glyf = Some (glyf_bytes all);
   head = Some head;
   hhea = Some hhea;
-  hmtx = Some (hmtx_bytes all);
+  hmtx = Some (hmtx_of all);
   loca = Some (loca_bytes (is_long (glyf_bytes all)) (offsets_from 0 all));
   maxp = Some (maxp_bytes n ds);
   name = name;

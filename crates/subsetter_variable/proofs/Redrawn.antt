@@ -21,7 +21,7 @@ use Rattle.subsetter_variation.specs.Glyphs.Tuples.{Gvar}
 use Rattle.subsetter_variation.specs.Glyphs.Varied.{in_units}
 use Rattle.subsetter_sfnt.specs.declared.fields.hmtx.LongHorMetric.{LongHorMetric}
 use Rattle.subsetter_instance.specs.Source.{Source, description, metric}
-use Rattle.subsetter_instance.specs.Glyphs.Unfolded.{Unfolded, moved, with_phantoms, near_or_fault, left_side, left_point, right_point, x_min, signed_or_zero, simple_outline, unfolded_simple, unfolded_composite, is_composite, is_below_zero, counted_description, unfolded}
+use Rattle.subsetter_instance.specs.Glyphs.Unfolded.{Unfolded, moved, with_phantoms, in_range_or_fault, left_side, left_point, right_point, x_min, signed_or_zero, simple_outline, unfolded_simple, unfolded_composite, is_composite, is_below_zero, counted_description, unfolded}
 use Rattle.subsetter_instance.specs.Glyphs.Drawn.{Drawn, whole, word_or_fault, point_or_fault, points_or_fault, advance_or_fault, advance, bearing, drawn_if_fit, levels, rounded, drawn}
 use Rattle.subsetter_instance.specs.Instance.{IsDrawn}
 use Rattle.subsetter_instance.proofs.FileLaws.Fitting.{drawn_fits}
@@ -112,7 +112,7 @@ module _ (es : List ℕ) (ps : List Point) (width : ℕ) (small : cast_unsigned 
   text = aligned 2 (parts_bytes es ps)
 
   abbrev own : LongHorMetric
-  own = record { advance = width; bearing = cast_unsigned w16 (bearing ps) }
+  own = record { advance_width = width; lsb = cast_unsigned w16 (bearing ps) }
 
   abbrev xs : List ℤ
   xs = in_units (xs_of ps ++ phantoms)
@@ -125,7 +125,7 @@ module _ (es : List ℕ) (ps : List Point) (width : ℕ) (small : cast_unsigned 
   unmoved = record { ends = es; on = map (λ p. p.on_curve) ps; xs = in_units (xs_of ps); ys = in_units (ys_of ps); left = pos 0; right = pos (2 ^ 30) *ℤ pos width }
 
   side : left_side text own ≡ pos 0
-  side = ap (λ v. v -ℤ cast_signed w16 own.bearing) (least_is es ps small) ∙ minus_self (cast_signed w16 own.bearing)
+  side = ap (λ v. v -ℤ cast_signed w16 own.lsb) (least_is es ps small) ∙ minus_self (cast_signed w16 own.lsb)
 
   left_is : left_point text own (length ps) xs ≡ pos 0
   left_is = ap (λ v. pos (2 ^ 30) *ℤ left_side text own +ℤ v) (left_phantom (xs_of ps) (length ps) (length-map ps (λ p. p.x))) ∙ plus_zero (pos (2 ^ 30) *ℤ left_side text own) ∙ ap (λ v. pos (2 ^ 30) *ℤ v) side
@@ -148,7 +148,7 @@ module _ (es : List ℕ) (ps : List Point) (width : ℕ) (small : cast_unsigned 
     simple_is : (steps : ℕ) (u : Unfolded × ℕ) → unfolded_simple s [] steps g text own ≡ Ok u → u.0 ≡ unmoved
     unfolding unfolded_simple
     simple_is steps u h =
-        let near = λ (o : List ℕ × List Point) (to : List ℤ × List ℤ × ℕ). near_or_fault (simple_outline text own o.0 o.1 to.0 to.1) to.2 in
+        let near = λ (o : List ℕ × List Point) (to : List ℤ × List ℤ × ℕ). in_range_or_fault (simple_outline text own o.0 o.1 to.0 to.1) to.2 in
         let move = λ (o : List ℕ × List Point) (left : ℕ). moved s.gvar g (with_phantoms o.0 (xs_of o.1) (ys_of o.1)) [] left >>= near o in
         let a = bind_ok (ok_or (parts text) MalformedFont) (λ o. spent (length o.1 + 5) steps >>= move o) u h in
         let same : a.0 ≡ (es, ps) = just_is a.0 (es, ps) (sym (named_ok (parts text) MalformedFont a.0 a.1) ∙ reads) in
@@ -200,7 +200,7 @@ bearing_is s at steps g d h =
     let a = bind_ok (ok_or (metric s g) MalformedFont) (λ m. unfolded levels s at steps g >>= λ u. rounded s at g m u.0) d h in
     let b = bind_ok (unfolded levels s at steps g) (λ u. rounded s at g a.0 u.0) d a.2 in
     let u = b.0.0 in
-    let c = bind_ok (advance s.hvar at g a.0.advance (u.right -ℤ u.left)) (λ w. points_or_fault u.left u.on u.xs u.ys >>= λ qs. drawn_if_fit u.ends qs w) d b.2 in
+    let c = bind_ok (advance s.hvar at g a.0.advance_width (u.right -ℤ u.left)) (λ w. points_or_fault u.left u.on u.xs u.ys >>= λ qs. drawn_if_fit u.ends qs w) d b.2 in
     let e = bind_ok (points_or_fault u.left u.on u.xs u.ys) (λ qs. drawn_if_fit u.ends qs c.0) d c.2 in
     by u.ends e.0 c.0 (parts_fit u.ends e.0) e.2
   where
@@ -221,11 +221,11 @@ module _ (source out : Source) (at : List ℤ) (steps g : ℕ) (k : IsDrawn sour
   small : cast_unsigned w16 (bearing it.points) < 2 ^ 16
   small = let w = drawn_fits source at steps g k.it k.drawn_is in rw same_bearing at w.bearing
 
-  metric_is : metric out g ≡ Some (record { advance = it.advance; bearing = cast_unsigned w16 (bearing it.points) })
-  metric_is = k.metrics ∙ ap (λ (v : ℤ). Some (record { advance = it.advance; bearing = cast_unsigned w16 v })) same_bearing
+  metric_is : metric out g ≡ Some (record { advance_width = it.advance; lsb = cast_unsigned w16 (bearing it.points) })
+  metric_is = k.metrics ∙ ap (λ (v : ℤ). Some (record { advance_width = it.advance; lsb = cast_unsigned w16 v })) same_bearing
 
-  metric_read : (m : LongHorMetric) → ok_or (metric out g) MalformedFont ≡ Ok m → m ≡ record { advance = it.advance; bearing = cast_unsigned w16 (bearing it.points) }
-  metric_read m h = just_is m (record { advance = it.advance; bearing = cast_unsigned w16 (bearing it.points) }) (sym (named_ok (metric out g) MalformedFont m h) ∙ metric_is)
+  metric_read : (m : LongHorMetric) → ok_or (metric out g) MalformedFont ≡ Ok m → m ≡ record { advance_width = it.advance; lsb = cast_unsigned w16 (bearing it.points) }
+  metric_read m h = just_is m (record { advance_width = it.advance; lsb = cast_unsigned w16 (bearing it.points) }) (sym (named_ok (metric out g) MalformedFont m h) ∙ metric_is)
 
   described : (b : List ℕ) → counted_description out g ≡ Some b → b ≡ bytes
   described b h = by (nat_lt g out.count) h

@@ -1,5 +1,5 @@
 -- The tables of an instance, read as those of a font that is subset.
-use Rattle.std.proofs.Common.{◌≡◌, ℕ, ◌+◌, ◌-◌, ◌*◌, Bool, true, false, cond, eqb, ltb, List, Option, Some, None, refl, sym, ap, ◌∙◌}
+use Rattle.std.proofs.Common.{◌≡◌, ℕ, ◌-◌, Bool, true, false, List, Option, Some, refl, sym, ap, ◌∙◌}
 use Rattle.std.specs.Prelude.{codes, not, ◌==◌}
 use Rattle.std.specs.Option.{option_and_then}
 use Rattle.std.specs.Str.{bytes_eq}
@@ -7,16 +7,14 @@ use Rattle.subsetter_base.specs.Bytes.{number}
 use Rattle.subsetter_base.proofs.Options.{just_is, bind_some}
 use Rattle.subsetter_sfnt.specs.declared.extras.Extras.{Extras}
 use Rattle.subsetter_sfnt.specs.declared.flavor.FontFlavor.TheVariants.{TrueType}
-use Rattle.subsetter_sfnt.specs.Extras.{by_hinting, by_names, by_glyph_names, is_program}
+use Rattle.subsetter_sfnt.specs.Extras.{by_hinting, by_names, by_glyph_names, is_hinting_table}
 use Rattle.subsetter_sfnt.specs.FontAt.{font_at}
+use Rattle.subsetter_sfnt.specs.declared.fields.hmtx.LongHorMetric.{LongHorMetric}
 use Rattle.subsetter_sfnt.specs.Read.{as_font, stored, table, flavor}
-use Rattle.subsetter.specs.declared.common.hmtx.Metric as kept
 use Rattle.subsetter.specs.Glyf.Read.{Outlines, outlines, outlines_in, outline, outline_in}
 use Rattle.subsetter.specs.Common.Hmtx.Read as hmtx
 use Rattle.subsetter_variation.specs.Glyphs.Tuples.{Gvar}
-use Rattle.subsetter_instance.specs.declared.source.Metric as drawn
 use Rattle.subsetter_instance.specs.Source.{Source, source_in, variations_in, description, metric}
-use Rattle.subsetter_sfnt.specs.Fields.Hmtx.{metric_at}
 use Rattle.subsetter_variable.proofs.Unopened.{same_stored}
 
 -- ---- what was read
@@ -110,7 +108,7 @@ by_choice h n g tag found = by_glyph_names g tag (by_names n tag (by_hinting h t
 
 -- neither a program, nor maxp, nor name, nor post
 record IsAlways (tag : List ℕ) : Type 0 where
-  program : is_program tag ≡ false
+  program : is_hinting_table tag ≡ false
   profile : bytes_eq tag (codes "maxp") ≡ false
   names : bytes_eq tag (codes "name") ≡ false
   glyph_names : bytes_eq tag (codes "post") ≡ false
@@ -136,7 +134,7 @@ module _ (file : List ℕ) (x : Extras) where
   found tag bytes a h = always tag a x.hinting x.names x.glyph_names (stored (font_at file 0 x) tag) ∙ sym (same_stored (font_at file 0 x) tag) ∙ h
 
   module _ (s : Source) (r : IsRead (stored (as_font file)) 0 s) where
-    plain : {tag : List ℕ} → is_program tag ≡ false → bytes_eq tag (codes "maxp") ≡ false → bytes_eq tag (codes "name") ≡ false → bytes_eq tag (codes "post") ≡ false → IsAlways tag
+    plain : {tag : List ℕ} → is_hinting_table tag ≡ false → bytes_eq tag (codes "maxp") ≡ false → bytes_eq tag (codes "name") ≡ false → bytes_eq tag (codes "post") ≡ false → IsAlways tag
     plain p m n g = record { program = p; profile = m; names = n; glyph_names = g }
 
     pub glyf_found : table (font_at file 0 x) (codes "glyf") ≡ Some s.glyf
@@ -175,34 +173,6 @@ module _ (file : List ℕ) (x : Extras) where
 
     -- ---- metrics
 
-    -- the same numbers
-    abbrev pub as_kept : drawn.Metric → kept.Metric
-    as_kept m = record { advance = m.advance; bearing = m.bearing }
-
-    abbrev there : kept.Metric → Option kept.Metric
-    there m = Some m
-
-    abbrev of_two : ℕ → ℕ → Option kept.Metric
-    of_two advance bearing = Some (record { advance = advance; bearing = bearing })
-
-    pair : (at bearing_at : ℕ) (m : drawn.Metric) → metric_at s.hmtx at bearing_at ≡ Some m → hmtx.metric_at s.hmtx at bearing_at ≡ Some (as_kept m)
-    pair at bearing_at m h =
-        let a = bind_some (number s.hmtx at 2) (λ advance. option_and_then (λ bearing. Some (record { advance = advance; bearing = bearing })) (number s.hmtx bearing_at 2)) m h in
-        let b = bind_some (number s.hmtx bearing_at 2) (λ bearing. Some (record { advance = a.0; bearing = bearing })) m a.2 in
-        let is : record { advance = a.0; bearing = b.0 } ≡ m = just_is (record { advance = a.0; bearing = b.0 }) m b.2 in
-        ap (λ (o : Option ℕ). option_and_then (λ advance. option_and_then (of_two advance) (number s.hmtx bearing_at 2)) o) a.1 ∙ ap (λ (o : Option ℕ). option_and_then (of_two a.0) o) b.1 ∙ ap (λ (k : drawn.Metric). there (as_kept k)) is
-
-    chosen : (g : ℕ) (p q : Bool) (m : drawn.Metric)
-        → cond p (metric_at s.hmtx (4 * g) (4 * g + 2)) (cond q None (metric_at s.hmtx (4 * (s.number_of_h_metrics - 1)) (4 * s.number_of_h_metrics + 2 * (g - s.number_of_h_metrics)))) ≡ Some m
-        → cond p (hmtx.metric_at s.hmtx (4 * g) (4 * g + 2)) (cond q None (hmtx.metric_at s.hmtx (4 * (s.number_of_h_metrics - 1)) (4 * s.number_of_h_metrics + 2 * (g - s.number_of_h_metrics)))) ≡ Some (as_kept m)
-    chosen g true q m h = pair (4 * g) (4 * g + 2) m h
-    chosen g false true m h = absurd cc
-    chosen g false false m h = pair (4 * (s.number_of_h_metrics - 1)) (4 * s.number_of_h_metrics + 2 * (g - s.number_of_h_metrics)) m h
-
-    of_pairs : (g : ℕ) (m : drawn.Metric) → metric s g ≡ Some m → hmtx.metric_in s.hmtx s.number_of_h_metrics g ≡ Some (as_kept m)
-    unfolding metric hmtx.metric_in
-    of_pairs g m h = chosen g (ltb g s.number_of_h_metrics) (eqb s.number_of_h_metrics 0) m h
-
-    pub metric_found : (g : ℕ) (m : drawn.Metric) → metric s g ≡ Some m → hmtx.metric (font_at file 0 x) g ≡ Some (as_kept m)
-    unfolding hmtx.metric_of
-    metric_found g m h = rw (hhea_found, hmtx_found, r.pairs_is) (of_pairs g m h)
+    pub metric_found : (g : ℕ) (m : LongHorMetric) → metric s g ≡ Some m → hmtx.metric (font_at file 0 x) g ≡ Some m
+    unfolding metric hmtx.metric_of
+    metric_found g m h = rw (hhea_found, hmtx_found, r.pairs_is) h

@@ -18,7 +18,7 @@ pub record IsDrawnAs (source : Source) (at : List ℤ) (steps g : ℕ) (out : Fo
   -- its outline is a simple one, of even length, and reads as these points; it has no instructions
   pub bytes : outline out i ≡ Some (aligned 2 (parts_bytes it.ends it.points))
   pub reads : parts (aligned 2 (parts_bytes it.ends it.points)) ≡ Some (it.ends, it.points)
-  pub metrics : metric out i ≡ Some (record { advance = it.advance; bearing = cast_unsigned w16 it.bearing })
+  pub metrics : metric out i ≡ Some (record { advance_width = it.advance; lsb = cast_unsigned w16 it.bearing })
 
 -- a file has these glyphs and no other, in order, each as it is drawn where the settings place the font
 pub record HasGlyphsDrawn (font : Font) (settings : List (Tag × ℤ)) (glyphs out : List ℕ) : Type 0 where

@@ -1,7 +1,7 @@
 //! Subsets of variable fonts: a font with some glyphs of a font, as they are at user coordinates on its axes.
 //!
 //! [`subset_with_variations`] answers what `subset` answers for a font that is at its default, with its hints. Where it
-//! stands elsewhere, it makes the static font that `instance` answers, and subsets that. [`static_font`] answers that font
+//! is elsewhere, it makes the static font that `instance` answers, and subsets that. [`static_font`] answers that font
 //! itself, for whatever takes one, as `embed` of `cid_embed`.
 //!
 //! ```text

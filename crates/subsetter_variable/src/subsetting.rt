@@ -32,7 +32,7 @@ use subsetter::{Error, GlyphRemapper, Limits, Options, Tag, subset_with_options}
 ///
 /// # Errors
 ///
-/// Each names what is in the source (`HasFaultAt`); a font in which nothing stands is refused only when out of memory.
+/// Each names what is in the source (`HasFaultAt`); a font without a fault is refused only when out of memory.
 ///
 /// - Those of `subset`, for a font that is subset as it is.
 /// - `MalformedFont`: there is `glyf`, and `fvar` or `avar` is cut.

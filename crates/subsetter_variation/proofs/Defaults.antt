@@ -8,7 +8,7 @@ use Rattle.subsetter_variation.specs.Region.{scalar}
 use Rattle.subsetter_variation.specs.Glyphs.Tuples.{Gvar, TupleHeader, TupleHeaders, next_header, shared_numbers, tuple_headers, variations_of}
 use Rattle.subsetter_variation.specs.Glyphs.Movement.{Outline, Walk, moved_in_bytes, moved_points, next_walk, scaled_walk, spent, start, walk_all}
 use Rattle.subsetter_variation.specs.Glyphs.Varied.{in_units}
-use Rattle.subsetter_variation.specs.VariationLaws.{HaveAxes, StaysAtDefault}
+use Rattle.subsetter_variation.specs.VariationLaws.{HaveAxes, IsUnvariedAtDefault}
 use Rattle.subsetter_variation.proofs.Masters.{is_nothing_at_default}
 
 -- a tuple whose scalar is 0 is passed over
@@ -57,7 +57,7 @@ points_stay : (c : Bool) (t : Gvar) (o : Outline) (at : List ℤ) (steps : ℕ) 
 points_stay true t o at steps bytes xs ys a stay e = told xs ys xs ys steps a e refl refl
 points_stay false t o at steps bytes xs ys a stay e = stay e
 
-pub stays_at_default : StaysAtDefault
+pub stays_at_default : IsUnvariedAtDefault
 unfolding moved_points
 stays_at_default t g o at steps a zeros bound e =
     let go = λ (bytes : List ℕ). if length bytes == 0 then done (in_units o.xs, in_units o.ys, steps) else moved_in_bytes t o at steps bytes in

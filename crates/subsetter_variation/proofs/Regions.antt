@@ -1,7 +1,7 @@
 -- Regions that are read one axis after another.
 use Rattle.std.proofs.Common.{◌≡◌, ℕ, zero, suc, ◌+◌, ◌-◌, ◌<◌, Bool, false, List, ◌∷◌, drop, length, get_or, ℤ, pos, refl, ap, ◌∙◌, arith}
 use Rattle.std.proofs.lemmas.List.{drop_more}
-use Rattle.subsetter_variation.specs.Region.{counted, scalar_of}
+use Rattle.subsetter_variation.specs.Region.{times_axis_scalar, scalar_of}
 use Rattle.subsetter_variation.specs.Glyphs.Tuples.{region_axes, region_axis_of}
 use Rattle.subsetter_variation.proofs.Masters.{scalar_of_none}
 
@@ -10,7 +10,7 @@ axes_count inner zero p s e = refl
 axes_count inner (suc n) p s e = ap suc (axes_count inner n (drop 2 p) (drop 2 s) (drop 2 e))
 
 -- the scalar of what is left goes on with the next axis
-pub scalar_step : (whole : ℤ) (inner : Bool) (i : ℕ) (p s e : List ℕ) (at : List ℤ) → i < length at → scalar_of whole (region_axes inner (length at - i) p s e) (drop i at) ≡ scalar_of (counted (region_axis_of inner p s e) (get_or at i (pos 0)) whole) (region_axes inner (length at - (i + 1)) (drop 2 p) (drop 2 s) (drop 2 e)) (drop (i + 1) at)
+pub scalar_step : (whole : ℤ) (inner : Bool) (i : ℕ) (p s e : List ℕ) (at : List ℤ) → i < length at → scalar_of whole (region_axes inner (length at - i) p s e) (drop i at) ≡ scalar_of (times_axis_scalar (region_axis_of inner p s e) (get_or at i (pos 0)) whole) (region_axes inner (length at - (i + 1)) (drop 2 p) (drop 2 s) (drop 2 e)) (drop (i + 1) at)
 scalar_step whole inner i p s e at less =
     let one : length at - i ≡ suc (length at - (i + 1)) = omega (arith, less) in
     rw (one, drop_more at i (pos 0) less) refl

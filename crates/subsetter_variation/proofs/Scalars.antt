@@ -2,8 +2,8 @@
 use Rattle.std.proofs.Common.{◌≡◌, ◌<◌, ◌≤◌, Bool, true, false, cond, List, [], ◌∷◌, ℤ, pos, ◌-ℤ◌, int_lt, int_le, unsigned_abs, refl, arith}
 use Rattle.std.proofs.lemmas.Int.{ints}
 use lib.Signed.{◌<ℤ◌, ◌≤ℤ◌}
-use Rattle.subsetter_variation.specs.Nearest.{part}
-use Rattle.subsetter_variation.specs.Region.{counted, is_ignored, proportion, scalar_of, unit}
+use Rattle.subsetter_variation.specs.Nearest.{mul_div_nearest}
+use Rattle.subsetter_variation.specs.Region.{times_axis_scalar, is_ignored, proportion, scalar_of, unit}
 use Rattle.subsetter_variation.specs.VariationLaws.{IsBetweenNothingAndFull}
 use Rattle.subsetter_variation.specs.declared.region.RegionAxis.{RegionAxis}
 use Rattle.subsetter_variation.proofs.LocationsLaws.Ascent.{le_false, lt_true}
@@ -26,7 +26,7 @@ unfolding proportion
 part_of end peak at whole h apart less =
     let x = pos (unsigned_abs (at -ℤ end)) in
     let b = unsigned_abs (peak -ℤ end) in
-    (is_not_negative (part x b whole) x whole b refl (omega (arith, ints)) h, no_more (part x b whole) whole h (part_within x whole b apart less))
+    (is_not_negative (mul_div_nearest x b whole) x whole b refl (omega (arith, ints)) h, no_more (mul_div_nearest x b whole) whole h (part_within x whole b apart less))
 
 apart_below : (start at peak : ℤ) → start <ℤ at → at <ℤ peak → 0 < unsigned_abs (peak -ℤ start)
 apart_below start at peak h k = grind (arith, ints)
@@ -55,8 +55,8 @@ module _ (t : RegionAxis) (at whole : ℤ) (h : pos 0 ≤ℤ whole) where
       let over = lt_true t.peak at lt in
       part_of t.end t.peak at whole h (apart_above t.end at t.peak under over) (less_above t.end at t.peak under over)
 
-  counted_within : IsPart (counted t at whole) whole
-  unfolding counted
+  counted_within : IsPart (times_axis_scalar t at whole) whole
+  unfolding times_axis_scalar
   counted_within = by (is_ignored t) (int_lt at t.peak) (int_lt t.peak at) refl refl
     where
       by : (x y z : Bool) → int_lt at t.peak ≡ y → int_lt t.peak at ≡ z
@@ -71,8 +71,8 @@ scalar_within whole [] at h = all_of whole h
 scalar_within whole (t ∷ region) [] h = all_of whole h
 scalar_within whole (t ∷ region) (c ∷ at) h =
     let first = counted_within t c whole h in
-    let rest = scalar_within (counted t c whole) region at first.0 in
-    (rest.0, within (scalar_of (counted t c whole) region at) (counted t c whole) whole rest.1 first.1)
+    let rest = scalar_within (times_axis_scalar t c whole) region at first.0 in
+    (rest.0, within (scalar_of (times_axis_scalar t c whole) region at) (times_axis_scalar t c whole) whole rest.1 first.1)
   where
     within : (x y z : ℤ) → x ≤ℤ y → y ≤ℤ z → x ≤ℤ z
     within x y z h k = omega (arith, ints)

@@ -37,8 +37,8 @@ abbrev pub HasBoundTuples : Gvar → ℕ → Outline → ℕ → Type 0
 HasBoundTuples t g o axes = (bytes : List ℕ) (all : Bool × TupleHeaders) (shared : Option (List ℕ) × TupleHeaders) → variations_of t g ≡ Some bytes → tuple_headers bytes ≡ Some all → shared_numbers (length o.xs) all.0 all.1 ≡ Some shared → HaveAxes t axes shared.1.left shared.1
 
 -- at the default the points of a glyph stay where they are, if each of its tuples has an axis that isn't ignored
-abbrev pub StaysAtDefault : Type 0
-StaysAtDefault = (t : Gvar) (g : ℕ) (o : Outline) (at : List ℤ) (steps : ℕ) (a : List ℤ × List ℤ × ℕ) → All (λ c. c ≡ pos 0) at → HasBoundTuples t g o (length at) → moved_points t g o at steps ≡ Ok a → (a.0 ≡ in_units o.xs) × (a.1 ≡ in_units o.ys)
+abbrev pub IsUnvariedAtDefault : Type 0
+IsUnvariedAtDefault = (t : Gvar) (g : ℕ) (o : Outline) (at : List ℤ) (steps : ℕ) (a : List ℤ × List ℤ × ℕ) → All (λ c. c ≡ pos 0) at → HasBoundTuples t g o (length at) → moved_points t g o at steps ≡ Ok a → (a.0 ≡ in_units o.xs) × (a.1 ≡ in_units o.ys)
 
 -- at its peak a tuple moves each point that it gives a delta by exactly that delta
 abbrev pub IsExactAtPeak : Type 0

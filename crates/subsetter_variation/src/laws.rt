@@ -1,18 +1,18 @@
 //! The laws of variations, which name no code: how far a tuple counts, and what it moves the points of a contour by.
 
 ghost use Rattle.subsetter_variation.specs.Items.ItemLaws.{IsItemAtDefault, IsItemAtMaster, IsRoundedAsItIs};
-ghost use Rattle.subsetter_variation.specs.Locations.LocationLaws.{IsDefaultAtZero, IsGreatestAtOne, IsKept, IsLeastAtMinusOne, NeverDescends, NeverDescendsBent};
-ghost use Rattle.subsetter_variation.specs.Glyphs.Moves.{IsShift, IsStill, IsTurned, LiesBetween};
-ghost use Rattle.subsetter_variation.specs.VariationLaws.{AreAscending, AreFaultsNamed, IsBetweenNothingAndFull, IsExactAtPeak, IsFreeOfPosition, IsNothingAtDefault, IsPassedOver, IsSameAtAnySteps, StaysAtDefault};
+ghost use Rattle.subsetter_variation.specs.Locations.LocationLaws.{IsDefaultAtZero, IsGreatestAtOne, IsMappedToItself, IsLeastAtMinusOne, NeverDescends, NeverDescendsBent};
+ghost use Rattle.subsetter_variation.specs.Glyphs.Moves.{IsShift, IsZeroAtScalarZero, IsRotated, IsBetweenNeighbours};
+ghost use Rattle.subsetter_variation.specs.VariationLaws.{AreAscending, AreFaultsNamed, IsBetweenNothingAndFull, IsExactAtPeak, IsFreeOfPosition, IsNothingAtDefault, IsPassedOver, IsSameAtAnySteps, IsUnvariedAtDefault};
 
 /// At the scalar 0 nothing moves.
-pub fn is_still()
-    ensures { IsStill }
+pub fn is_zero_at_scalar_zero()
+    ensures { IsZeroAtScalarZero }
 {}
 
-/// An untouched point moves as between the last touched point and the first one of the contour turned to it.
-pub fn is_turned()
-    ensures { IsTurned }
+/// An untouched point moves as between the last touched point and the first one of the contour rotated to it.
+pub fn is_rotated()
+    ensures { IsRotated }
 {}
 
 /// One touched point moves all points of its contour by its delta.
@@ -20,9 +20,9 @@ pub fn is_shift()
     ensures { IsShift }
 {}
 
-/// An inferred delta lies between the scaled deltas of its neighbours.
-pub fn lies_between()
-    ensures { LiesBetween }
+/// An inferred delta is between the scaled deltas of its neighbours.
+pub fn is_between_neighbours()
+    ensures { IsBetweenNeighbours }
 {}
 
 /// At the default a region counts nothing.
@@ -31,8 +31,8 @@ pub fn is_nothing_at_default()
 {}
 
 /// At the default the points of a glyph stay where they are.
-pub fn stays_at_default()
-    ensures { StaysAtDefault }
+pub fn is_unvaried_at_default()
+    ensures { IsUnvariedAtDefault }
 {}
 
 /// A tuple that doesn't count moves nothing.
@@ -45,7 +45,7 @@ pub fn is_exact_at_peak()
     ensures { IsExactAtPeak }
 {}
 
-/// What moves a point that is alone in its contour, as a phantom point is, doesn't depend on where it lies.
+/// What moves a point that is alone in its contour, as a phantom point is, doesn't depend on its position.
 pub fn is_free_of_position()
     ensures { IsFreeOfPosition }
 {}
@@ -60,7 +60,7 @@ pub fn are_faults_named()
     ensures { AreFaultsNamed }
 {}
 
-/// Points go to the same places at whatever number of steps.
+/// Points move to the same positions at whatever number of steps.
 pub fn is_same_at_any_steps()
     ensures { IsSameAtAnySteps }
 {}
@@ -81,26 +81,26 @@ pub fn is_item_at_master()
 {}
 
 /// A segment map takes each number to itself that it keeps.
-pub fn is_kept()
-    ensures { IsKept }
+pub fn is_mapped_to_itself()
+    ensures { IsMappedToItself }
 {}
 
-/// The default of an axis lies at 0.
+/// The default of an axis is at 0.
 pub fn is_default_at_zero()
     ensures { IsDefaultAtZero }
 {}
 
-/// The least coordinate of an axis lies at -1, where it is below the default.
+/// The least coordinate of an axis is at -1, where it is below the default.
 pub fn is_least_at_minus_one()
     ensures { IsLeastAtMinusOne }
 {}
 
-/// The greatest coordinate of an axis lies at 1, where it is above the default.
+/// The greatest coordinate of an axis is at 1, where it is above the default.
 pub fn is_greatest_at_one()
     ensures { IsGreatestAtOne }
 {}
 
-/// Before the segments a greater coordinate lies no lower on its axis.
+/// Before the segments a greater coordinate is no lower on its axis.
 pub fn never_descends()
     ensures { NeverDescends }
 {}

@@ -4,7 +4,7 @@
 //!
 //! - `locations::coordinates::coordinates` turns user coordinates into normalized ones, by `fvar` and `avar`.
 //! - `glyphs::tuples::gvar_table` opens `gvar`, and `glyphs::movement::moved_points` says where the points of a glyph go, in a number of steps.
-//! - `items::item_variations::advance_delta` says what `HVAR` adds to an advance, and `items::font_metrics::metric_delta` what `MVAR` adds to a metric of
+//! - `items::advances::advance_delta` says what `HVAR` adds to an advance, and `items::font_metrics::metric_delta` what `MVAR` adds to a metric of
 //!   the whole font.
 //! - `laws` has what the definitions come to.
 //!

@@ -1,4 +1,4 @@
-//! Where the coordinates of a user lie on the axes of a font (OpenType, "fvar" and "avar").
+//! The coordinates of a user on the axes of a font (OpenType, "fvar" and "avar").
 
 pub mod axes;
 pub mod coordinates;

@@ -4,7 +4,7 @@
 //! within 2^57 and an inferred numerator within 2^62, so all fit 64 bits.
 
 ghost use Rattle.std.specs.Prelude.{◌≡◌, ◌<◌, ◌≤◌, ◌^◌, ◌*◌, ◌+◌, ℕ, pos, ◌≤ℤ◌, ◌+ℤ◌, ◌-ℤ◌, ◌*ℤ◌, unsigned_abs};
-ghost use Rattle.subsetter_variation.specs.Nearest.{nearest, part};
+ghost use Rattle.subsetter_variation.specs.Nearest.{nearest, mul_div_nearest};
 
 /// a / b to the nearest whole number, halves up.
 #[tactic(auto, unfolding(crate::specs::Nearest::nearest))]
@@ -63,13 +63,13 @@ fn times(a: i64, b: i64) -> i64
 }
 
 /// n of the b equal parts of m, to the nearest whole number, halves up.
-#[tactic(auto, unfolding(crate::specs::Nearest::part))]
-pub fn part(n: i64, b: u64, m: i64) -> i64
+#[tactic(auto, unfolding(crate::specs::Nearest::mul_div_nearest))]
+pub fn mul_div_nearest(n: i64, b: u64, m: i64) -> i64
     requires above { 0 < b }
     requires divisor { b < 2 ^ 32 }
     requires count { unsigned_abs n ≤ b }
     requires whole { unsigned_abs m ≤ 2 ^ 30 }
-    ensures value { result ≡ part n b m }
+    ensures value { result ≡ mul_div_nearest n b m }
     ensures within { unsigned_abs result ≤ unsigned_abs m }
     ensures sign { pos 0 ≤ℤ n → pos 0 ≤ℤ m → pos 0 ≤ℤ result }
 {
@@ -87,7 +87,7 @@ pub fn scaled(scalar: i64, delta: i64) -> i64
 }
 
 /// A product of a delta and a distance.
-pub fn weighted(delta: i64, distance: i64) -> i64
+pub fn delta_times_distance(delta: i64, distance: i64) -> i64
     requires first { unsigned_abs delta ≤ 2 ^ 15 }
     requires second { unsigned_abs distance ≤ 2 ^ 16 }
     ensures value { result ≡ delta *ℤ distance }
@@ -97,7 +97,7 @@ pub fn weighted(delta: i64, distance: i64) -> i64
 }
 
 /// A scalar, at most 2^30, times a delta.
-pub fn given(scalar: i64, delta: i16) -> i64
+pub fn scalar_times_delta(scalar: i64, delta: i16) -> i64
     requires { unsigned_abs scalar ≤ 2 ^ 30 }
     ensures value { result ≡ scalar *ℤ delta }
     ensures bound { unsigned_abs result ≤ 2 ^ 45 }

@@ -1,4 +1,4 @@
-//! Numbers and lists as the arguments of a command line write them.
+//! Numbers, tags and lists as the arguments of a command line write them.
 //!
 //! ```text
 //! u16_of("36")                  // Some(36); None for "+36", "" and "65536"
@@ -9,8 +9,10 @@
 ghost use Rattle.std.specs.Prelude.{◌≡◌, ◌==◌, map, IfOk, slice_index};
 ghost use Rattle.std.specs.List.{slice_split};
 ghost use Rattle.subsetter_words.specs.Numbers.{number_in_bits};
+ghost use Rattle.subsetter_words.specs.Tags.{tag_of};
 
 use std::alloc::{AllocError, Global};
+use subsetter_base::Tag;
 
 /// Whether a plus stands first, which `parse` lets pass.
 fn begins_with_plus(word: &str) -> bool
@@ -47,6 +49,13 @@ pub fn u8_of(word: &str) -> Option<u8>
         return None;
     }
     word.parse().ok()
+}
+
+/// The tag that a word of four bytes writes.
+pub fn tag_of(word: &str) -> Option<Tag>
+    ensures { result ≡ tag_of word.now }
+{
+    word.parse::<Tag>().ok()
 }
 
 /// The parts of a list between its commas.

@@ -1,4 +1,4 @@
-//! The parts of a glyph at a place.
+//! The parts of a glyph at a location.
 
 ghost use Rattle.std.specs.Prelude.{◌≡◌, ◌+◌, ◌≤◌, ◌<◌, ◌^◌, length, map, IfOk, IsTrue};
 ghost use Rattle.subsetter_points.specs.Simple.{are_ends};
@@ -42,28 +42,23 @@ fn ends_of(alloc: Global, outline: &subsetter_points::Outline) -> Result<Vec<usi
     Ok(ends)
 }
 
-/// The coordinates from left to right of an outline and its phantom points.
-fn xs_of(alloc: Global, outline: &subsetter_points::Outline) -> Result<Vec<i16>, Error>
-    ensures { IfOk result (λ v. length v.items ≡ length outline.now.points.items + 4) }
+/// The coordinates of an outline and its phantom points, from left to right and from below to above.
+fn coordinates_of(
+    alloc: Global,
+    outline: &subsetter_points::Outline,
+) -> Result<(Vec<i16>, Vec<i16>), Error>
+    ensures xs { IfOk result (λ p. length p.0.items ≡ length outline.now.points.items + 4) }
+    ensures ys { IfOk result (λ p. length p.1.items ≡ length outline.now.points.items + 4) }
 {
     let mut xs = Vec::new(alloc);
-    for point in &outline.points {
-        xs.push(point.x)?;
-    }
-    xs.extend_from_slice(&[0; PHANTOMS])?;
-    Ok(xs)
-}
-
-/// The coordinates from below to above of an outline and its phantom points.
-fn ys_of(alloc: Global, outline: &subsetter_points::Outline) -> Result<Vec<i16>, Error>
-    ensures { IfOk result (λ v. length v.items ≡ length outline.now.points.items + 4) }
-{
     let mut ys = Vec::new(alloc);
     for point in &outline.points {
+        xs.push(point.x)?;
         ys.push(point.y)?;
     }
+    xs.extend_from_slice(&[0; PHANTOMS])?;
     ys.extend_from_slice(&[0; PHANTOMS])?;
-    Ok(ys)
+    Ok((xs, ys))
 }
 
 /// The scalar of each tuple of a glyph of so many points, by the bytes of its variations.
@@ -105,7 +100,7 @@ fn scalars_of(
     scalars_in(alloc, gvar, bytes, count, at)
 }
 
-/// The parts of a simple glyph at a place; `MalformedFont` where it is none or can't be read.
+/// The parts of a simple glyph at a location; `MalformedFont` where it is none or can't be read.
 pub fn parts_of(
     alloc: Global,
     source: &Source<'_>,
@@ -117,8 +112,7 @@ pub fn parts_of(
 {
     let description = source.description(glyph).ok_or(Error::MalformedFont)?;
     let outline = read_simple(alloc, description)?.ok_or(Error::MalformedFont)?;
-    let xs = xs_of(alloc, &outline)?;
-    let ys = ys_of(alloc, &outline)?;
+    let (xs, ys) = coordinates_of(alloc, &outline)?;
     let ends = ends_of(alloc, &outline)?;
     let count = u32::try_from(xs.len()).map_err(|_| Error::MalformedFont)?;
     let scalars = scalars_of(alloc, gvar, glyph, count, at)?;

@@ -20,7 +20,7 @@ use subsetter_variation::glyphs::tuples::Gvar;
 const STEPS: u32 = 1_000_000;
 
 /// Prints normalized coordinates.
-fn print_place<R: Print>(rt: &R, alloc: Global, at: &[i32]) -> Result<(), Failure> {
+fn print_coordinates<R: Print>(rt: &R, alloc: Global, at: &[i32]) -> Result<(), Failure> {
     let mut numbers = Vec::new(alloc);
     for coordinate in at {
         numbers.push(i64::from(*coordinate))?;
@@ -85,7 +85,7 @@ fn print_font<R: Print>(
     let at = normalized_coordinates(alloc, &face, &request.settings)?;
     let source = source_in(&face, at.len()).ok_or(Error::MalformedFont)?;
     let gvar = source.gvar().ok_or(Error::MalformedFont)?;
-    print_place(rt, alloc, &at)?;
+    print_coordinates(rt, alloc, &at)?;
     for glyph in &request.glyphs {
         print_glyph(rt, alloc, &source, gvar, &at, *glyph)?;
     }

@@ -43,14 +43,14 @@ fn first_tuple<'a>(gvar: &Gvar<'a>, glyph: u16) -> Result<Option<FirstTuple<'a>>
 }
 
 /// Where on the one axis it is said how far a tuple counts, in 16384ths.
-const PLACES: [i32; 4] = [-1, 4096, 16384, 16385];
+const COORDINATES: [i32; 4] = [-1, 4096, 16384, 16385];
 
 /// How far a tuple of a table of one axis counts there, in parts of 2^30.
 fn scalars_of(alloc: Global, header: &TupleHeader<'_>) -> Result<Vec<i64>, Failure>
     requires { length header.now.region ≡ 1 }
 {
     let mut scalars = Vec::new(alloc);
-    for place in PLACES {
+    for place in COORDINATES {
         scalars.push(header.scalar(&[place]))?;
     }
     Ok(scalars)
@@ -84,7 +84,7 @@ fn tuple_of(alloc: Global, points: u32, tuple: &FirstTuple<'_>) -> Result<Answer
 
 /// The first tuple of a glyph of so many points, of a table of one axis: whether point numbers are shared (1, else 0), how many
 /// tuples there are, whether it has point numbers of its own, and how many tuples are behind it; how far it counts at each of
-/// `PLACES`; its point numbers, none for all; its deltas.
+/// `COORDINATES`; its point numbers, none for all; its deltas.
 pub fn tuple(alloc: Global, gvar: &[u8], word: &str, points: &str) -> Result<Answer, Failure> {
     let Some(table) = gvar_table(gvar) else {
         return Ok(Answer::Nothing);

@@ -6,7 +6,7 @@ use crate::instances::fonts::{Instance, instance_by_words};
 use crate::instances::movement::{Moved, moved_by_words, tuple};
 use crate::instances::outlines::{is_fit, read, read_and_written};
 use crate::instances::tables::{
-    advance, axis_count, deltas, place, point_numbers, quotient, region_scalar,
+    advance, axis_count, deltas, normalized_settings, point_numbers, quotient, region_scalar,
 };
 use dev_base::failure::Failure;
 use std::alloc::Global;
@@ -77,7 +77,7 @@ fn answer_of_three(
     }
     let table = bytes_named(all, first)?;
     match kind {
-        "coordinates" => place(alloc, table, named_if_any(all, second)?, third),
+        "coordinates" => normalized_settings(alloc, table, named_if_any(all, second)?, third),
         "tuple" => tuple(alloc, table, second, third),
         "advance" => advance(alloc, table, second, third),
         _ => Err(Failure::Row),

@@ -4,7 +4,7 @@ use crate::instances::answer::{Answer, list, lists, one};
 use crate::instances::words::{coordinates, count, glyph, number, numbers, settings};
 use dev_base::failure::Failure;
 use std::alloc::Global;
-use subsetter_variation::items::item_variations::advance_delta;
+use subsetter_variation::items::advances::advance_delta;
 use subsetter_variation::locations::{axes, coordinates as normalized};
 use subsetter_variation::packing::packed;
 use subsetter_variation::region::{RegionAxis, scalar};
@@ -31,7 +31,7 @@ pub fn axis_count(alloc: Global, fvar: &[u8]) -> Result<Answer, Failure> {
 }
 
 /// The normalized coordinates of settings.
-pub fn place(
+pub fn normalized_settings(
     alloc: Global,
     fvar: &[u8],
     avar: Option<&[u8]>,

@@ -99,12 +99,12 @@ pub enum Difference {
 impl fmt::Display for Difference {
     fn fmt<W: fmt::Write>(&self, f: &mut fmt::Formatter<W>) -> fmt::Result {
         match self {
-            Difference::Status(answered, wanted) => {
-                write!(f, "status {answered} in place of {wanted}")
+            Difference::Status(answered, expected) => {
+                write!(f, "status {answered} in place of {expected}")
             }
-            Difference::Font(answered, wanted, place) => write!(
+            Difference::Font(answered, expected, place) => write!(
                 f,
-                "{answered} bytes in place of {wanted}, which differ from byte {place} on"
+                "{answered} bytes in place of {expected}, which differ from byte {place} on"
             ),
             Difference::Cids => f.write_str("other CIDs"),
             Difference::Widths => f.write_str("other widths"),
@@ -122,21 +122,21 @@ fn first_difference(one: &[u8], other: &[u8]) -> usize {
     one.len().min(other.len())
 }
 
-/// In what an answer first isn't the wanted one; none only where they are the same to the byte.
-pub fn compare(answered: &Answer, wanted: &Answer) -> Option<Difference>
-    ensures { IfNone result (IsSame answered.now wanted.now) }
+/// In what an answer first isn't the expected one; none only where they are the same to the byte.
+pub fn compare(answered: &Answer, expected: &Answer) -> Option<Difference>
+    ensures { IfNone result (IsSame answered.now expected.now) }
 {
-    if answered.status != wanted.status {
-        return Some(Difference::Status(answered.status, wanted.status));
+    if answered.status != expected.status {
+        return Some(Difference::Status(answered.status, expected.status));
     }
-    if answered.font.as_slice() != wanted.font.as_slice() {
-        let place = first_difference(&answered.font, &wanted.font);
-        return Some(Difference::Font(answered.font.len(), wanted.font.len(), place));
+    if answered.font.as_slice() != expected.font.as_slice() {
+        let place = first_difference(&answered.font, &expected.font);
+        return Some(Difference::Font(answered.font.len(), expected.font.len(), place));
     }
-    if answered.cids.as_slice() != wanted.cids.as_slice() {
+    if answered.cids.as_slice() != expected.cids.as_slice() {
         return Some(Difference::Cids);
     }
-    if answered.widths.as_slice() != wanted.widths.as_slice() {
+    if answered.widths.as_slice() != expected.widths.as_slice() {
         return Some(Difference::Widths);
     }
     None

@@ -104,7 +104,7 @@ fn miss_by_kind(alloc: Global, font: &[u8], row: &Row<'_>, limits: &Limits) -> O
         | Kind::EmbedAt => return None,
     };
     let answered = by_kind(alloc, font, row, limits);
-    let difference = compare(&answered, &row.wanted)?;
+    let difference = compare(&answered, &row.expected)?;
     Some(Miss { call, difference })
 }
 
@@ -112,7 +112,7 @@ fn miss_by_kind(alloc: Global, font: &[u8], row: &Row<'_>, limits: &Limits) -> O
 /// than the row says.
 pub fn miss_of(alloc: Global, font: &[u8], row: &Row<'_>, options: &Options) -> Option<Miss>
     // A row of status 0 is as expected only where its very bytes are a subset of the font.
-    ensures { IfNone result (row.now.wanted.status ≡ 0 → IsSubset options.now.limits.tokens options.now.limits.depth (record { bytes = font.now; index = row.now.index; extras = options.now.extras }) (with_glyphs (0 ∷ []) row.now.glyphs.items) row.now.wanted.font.items) }
+    ensures { IfNone result (row.now.expected.status ≡ 0 → IsSubset options.now.limits.tokens options.now.limits.depth (record { bytes = font.now; index = row.now.index; extras = options.now.extras }) (with_glyphs (0 ∷ []) row.now.glyphs.items) row.now.expected.font.items) }
 {
     let call = if row.kind.embeds() {
         "embed_with_options"
@@ -120,7 +120,7 @@ pub fn miss_of(alloc: Global, font: &[u8], row: &Row<'_>, options: &Options) -> 
         "subset_with_options"
     };
     let answered = by_options(alloc, font, row, options);
-    match compare(&answered, &row.wanted) {
+    match compare(&answered, &row.expected) {
         Some(difference) => return Some(Miss { call, difference }),
         None => {}
     }
@@ -168,7 +168,7 @@ fn by_coordinates(alloc: Global, font: &[u8], row: &Row<'_>, options: &Options) 
 /// How the call with coordinates and options answers something else than the row says.
 pub fn miss_at(alloc: Global, font: &[u8], row: &Row<'_>, options: &Options) -> Option<Miss>
     // A row of status 0 is as expected only where its very bytes are a subset of the font at these coordinates.
-    ensures { IfNone result (row.now.wanted.status ≡ 0 → IsSubsetAt options.now.limits.tokens options.now.limits.depth (font_at font.now row.now.index options.now.extras) row.now.coordinates.items (with_glyphs (0 ∷ []) row.now.glyphs.items) row.now.wanted.font.items) }
+    ensures { IfNone result (row.now.expected.status ≡ 0 → IsSubsetAt options.now.limits.tokens options.now.limits.depth (font_at font.now row.now.index options.now.extras) row.now.coordinates.items (with_glyphs (0 ∷ []) row.now.glyphs.items) row.now.expected.font.items) }
 {
     let call = if row.kind.embeds() {
         "embed_with_variations_and_options"
@@ -176,7 +176,7 @@ pub fn miss_at(alloc: Global, font: &[u8], row: &Row<'_>, options: &Options) -> 
         "subset_with_variations_and_options"
     };
     let answered = by_coordinates(alloc, font, row, options);
-    match compare(&answered, &row.wanted) {
+    match compare(&answered, &row.expected) {
         Some(difference) => return Some(Miss { call, difference }),
         None => {}
     }

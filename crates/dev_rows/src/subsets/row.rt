@@ -75,7 +75,7 @@ pub struct Row<'a> {
     pub coordinates: Vec<(Tag, i32)>,
     /// The limits and what is kept, or the status of a choice that can't be passed to these calls.
     pub options: Result<Options, u32>,
-    pub wanted: Answer,
+    pub expected: Answer,
 }
 
 /// The status of a depth of 0.
@@ -171,7 +171,7 @@ fn choices<'a, 'b>(
 }
 
 /// The answer of a row by its kind.
-fn wanted(alloc: Global, kind: Kind, words: &[&str]) -> Result<Answer, Failure> {
+fn expected(alloc: Global, kind: Kind, words: &[&str]) -> Result<Answer, Failure> {
     let (status, font, cids, widths) = match (kind, words) {
         (
             Kind::Embed | Kind::EmbedOptions | Kind::EmbedBoundedOptions | Kind::EmbedAt,
@@ -237,6 +237,6 @@ pub fn read_row<'a>(alloc: Global, kind: Kind, words: &[&'a str]) -> Result<Row<
         glyphs: word_short_numbers(alloc, glyphs)?,
         coordinates,
         options,
-        wanted: wanted(alloc, kind, behind)?,
+        expected: expected(alloc, kind, behind)?,
     })
 }

@@ -59,11 +59,11 @@ const ERRORS: [Error; 7] = [
 /// Whether the error of a status has this text.
 fn run_text<'a>(alloc: Global, status: &'a str, text: &str) -> Result<Outcome<'a>, Failure> {
     let number = u32_of(status).ok_or(Failure::Row)?;
-    let wanted = word_bytes(alloc, text)?;
+    let expected = word_bytes(alloc, text)?;
     for error in ERRORS {
         if status_of(error) == number {
             let told = format!(in alloc; "{error}")?;
-            return Ok(Outcome::Text(status, told.as_bytes() == wanted.as_slice()));
+            return Ok(Outcome::Text(status, told.as_bytes() == expected.as_slice()));
         }
     }
     Ok(Outcome::Nothing)
@@ -89,7 +89,7 @@ fn run_row<'a>(
     let row = read_row(alloc, kind, words)?;
     let font = font_named(fonts, row.font).ok_or(Failure::Font)?;
     Ok(match &row.options {
-        Err(status) if row.wanted.status == *status => Outcome::AsExpected(row.name),
+        Err(status) if row.expected.status == *status => Outcome::AsExpected(row.name),
         Err(status) => Outcome::NotAsked(row.name, *status),
         Ok(options) => {
             let miss = if kind.varies() {

@@ -45,7 +45,7 @@ fn counted(ascent: i32, descent: i32) -> Option<Line>
 }
 
 /// The line of two signed fields.
-fn line_in(ascent: Option<i16>, descent: Option<i16>) -> Option<Line>
+pub fn line_in(ascent: Option<i16>, descent: Option<i16>) -> Option<Line>
     ensures value { result ≡ line ascent descent }
     ensures small { IfSome result IsSmall }
 {
@@ -55,7 +55,7 @@ fn line_in(ascent: Option<i16>, descent: Option<i16>) -> Option<Line>
 }
 
 /// The line that Windows clips to: usWinAscent, and usWinDescent, which is counted downwards.
-fn windows_line(os2: Option<&[u8]>) -> Option<Line>
+pub fn windows_line(os2: Option<&[u8]>) -> Option<Line>
     ensures value { result ≡ windows_line (option_copied os2.entry) }
     ensures small { IfSome result IsSmall }
 {
@@ -65,7 +65,7 @@ fn windows_line(os2: Option<&[u8]>) -> Option<Line>
 }
 
 /// The line of `hhea`, unless the typographic one is to be used (fsSelection, bit 7, USE_TYPO_METRICS).
-fn first_line(hhea: Option<&[u8]>, os2: Option<&[u8]>) -> Option<Line>
+pub fn first_line(hhea: Option<&[u8]>, os2: Option<&[u8]>) -> Option<Line>
     ensures value { result ≡ first_line (option_copied hhea.entry) (option_copied os2.entry) }
     ensures small { IfSome result IsSmall }
 {
@@ -99,7 +99,7 @@ fn line_of(hhea: Option<&[u8]>, os2: Option<&[u8]>, head: Option<&[u8]>) -> Line
 }
 
 /// A height, if it is above 0.
-fn above_0(height: Option<i16>) -> Option<i32>
+pub fn above_0(height: Option<i16>) -> Option<i32>
     ensures value { result ≡ option_and_then above_0 height }
     ensures small { IfSome result (λ v. unsigned_abs v ≤ 2 ^ 16) }
 {
@@ -131,8 +131,8 @@ fn descent_of(line: Line) -> i32
     -line.descent.abs()
 }
 
-/// The height of capitals: what is said, else Ascent.
-fn cap_height(height: Option<i32>, line: Line) -> i32
+/// The height of capitals: what is stated, else Ascent.
+pub fn cap_height(height: Option<i32>, line: Line) -> i32
     requires line { IsSmall line }
     requires height { IfSome height (λ v. unsigned_abs v ≤ 2 ^ 16) }
     ensures value { result ≡ unwrap_or height line.ascent }
@@ -145,7 +145,7 @@ fn cap_height(height: Option<i32>, line: Line) -> i32
 }
 
 /// A height in thousandths.
-fn in_thousandths(height: Option<i32>, units: u16) -> Option<i32>
+pub fn in_thousandths(height: Option<i32>, units: u16) -> Option<i32>
     requires above { 0 < units }
     requires small { IfSome height (λ v. unsigned_abs v ≤ 2 ^ 16) }
     ensures { result ≡ option_map (λ v. thousandths v units) height }
@@ -156,7 +156,7 @@ fn in_thousandths(height: Option<i32>, units: u16) -> Option<i32>
 
 /// Descent in thousandths.
 #[tactic(auto, using(crate::proofs::Nearest::not_above_0))]
-fn descent_in_thousandths(line: Line, units: u16) -> i32
+pub fn descent_in_thousandths(line: Line, units: u16) -> i32
     requires above { 0 < units }
     requires small { IsSmall line }
     ensures value { result ≡ thousandths (descent_of line) units }

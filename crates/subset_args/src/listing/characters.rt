@@ -8,9 +8,9 @@ ghost use Rattle.subset_args.specs.Listing.Lists.{counting, as_comma, in_order, 
 ghost use Rattle.subset_args.specs.Listing.Characters.{hex_in_32, hex_in, is_mark, marked, code_in, codes_in, codes_descend, characters_between, part_characters, parts_characters, argument_characters, file_characters, is_line_end, without_line_ends};
 ghost use Rattle.subsetter_base.specs.Texts.{is_scalar};
 ghost use Rattle.subset_args.specs.Listing.ListView.{codes_view, list_view};
-ghost use Rattle.subset_args.specs.declared.jobs.ArgsError.TheVariants.{Usage, OutOfMemory};
+ghost use Rattle.subset_args.specs.declared.jobs.command.ArgsError.TheVariants.{Usage, OutOfMemory};
 
-use crate::jobs::ArgsError;
+use crate::jobs::command::ArgsError;
 use crate::listing::lists::{GlyphList, is_blank, is_less, with_commas};
 use std::alloc::{AllocError, Global};
 use subsetter_words::parts_of;

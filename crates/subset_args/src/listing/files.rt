@@ -4,9 +4,9 @@ ghost use Rattle.std.specs.Prelude.{◌≡◌, ◌⊎◌, map, not, filter, IfOk
 ghost use Rattle.std.specs.Str.{IsUtf8};
 ghost use Rattle.subset_args.specs.Listing.Files.{list_in, IsNotText, IsWrongIn};
 ghost use Rattle.subset_args.specs.Listing.ListView.{list_view};
-ghost use Rattle.subset_args.specs.declared.jobs.ArgsError.TheVariants.{Usage, OutOfMemory};
+ghost use Rattle.subset_args.specs.declared.jobs.command.ArgsError.TheVariants.{Usage, OutOfMemory};
 
-use crate::jobs::ArgsError;
+use crate::jobs::command::ArgsError;
 use crate::listing::characters::{characters_in_file, find_wrong_codes, text_of_file};
 use crate::listing::lists::{FileKind, GlyphList, find_wrong_part, glyphs_in_file};
 use std::alloc::Global;

@@ -6,9 +6,9 @@ ghost use Rattle.std.specs.List.{slice_split};
 ghost use Rattle.std.specs.Str.{IsUtf8};
 ghost use Rattle.subset_args.specs.Listing.Lists.{counting, is_blank, as_comma, is_star, in_order, ends_of_range, ends_in, is_less, descends, between, part_glyphs, parts_glyphs, parts, argument_list, glyphs_in_file};
 ghost use Rattle.subset_args.specs.Listing.ListView.{ends_view, list_view};
-ghost use Rattle.subset_args.specs.declared.jobs.ArgsError.TheVariants.{Usage, OutOfMemory};
+ghost use Rattle.subset_args.specs.declared.jobs.command.ArgsError.TheVariants.{Usage, OutOfMemory};
 
-use crate::jobs::ArgsError;
+use crate::jobs::command::ArgsError;
 use std::alloc::{AllocError, Global};
 use subsetter_words::{parts_of, u16_of};
 

@@ -6,7 +6,7 @@ use Rattle.subsetter_sfnt.specs.declared.face.TableRecord.{TableRecord}
 use Rattle.subsetter_sfnt.specs.Read.{record_of, directory_records}
 use Rattle.subsetter_sfnt.proofs.Laws.LayingLaws.Records.{reads, reads_none}
 use Rattle.subset_font.specs.Faces.Broken.{is_cut, cut_hint, first_cut}
-use Rattle.subset_font.specs.declared.refusals.hint.Hint.{Hint}
+use Rattle.subset_font.specs.declared.refusals.hint.text.Hint.{Hint}
 use Rattle.subset_font.specs.Faces.Tables.{new_row, new_rows}
 use Rattle.subset_lines.specs.declared.faces.sizes.TableSize.{TableSize}
 

@@ -5,7 +5,7 @@ use Rattle.std.specs.Option.{option_copied}
 use Rattle.subsetter_base.specs.declared.error.Error.TheVariants.{OutOfMemory, UnknownKind, MalformedFont}
 use Rattle.subset_font.specs.Making.Made.{face_of, IsMade, IsUnmade}
 use Rattle.subset_font.specs.Faces.Named.{face_settings}
-use Rattle.subset_font.specs.Making.Outcome.{more_text, names_for, IsPlaced, IsOutcome, IsNoOutcome}
+use Rattle.subset_font.specs.Making.Outcome.{more_text, names_for, IsTaskOfPlan, IsOutcome, IsNoOutcome}
 use Rattle.subset_font.specs.Making.Sheet.{IsSheetIf, IsUnshownIf}
 use Rattle.subset_font.specs.declared.task.Task.{Task}
 use Rattle.subset_font.specs.declared.task.Plan.{Plan}
@@ -15,7 +15,7 @@ use Rattle.subset_font.specs.declared.refusals.failure.Failure.{Failure}
 use Rattle.subset_font.specs.declared.refusals.failure.Failure.TheVariants.{Error, NoInstance}
 
 module _ (plan : Plan) (bytes : List ℕ) where
-  pub outcome_of : (task : Task) → IsPlaced plan bytes task → (made : Made) → IsMade task bytes made → (r : Result Outcome Failure) → IfOk r (λ o. o.made ≡ made) → IfOk r (λ o. IsSheetIf plan.pdf task bytes made o.sheet) → IfOk r (λ o. o.more.items ≡ more_text plan bytes made o.sheet) → IfOk r (λ o. map (λ name. name.items) o.names.items ≡ names_for plan bytes made.picked.glyphs.items) → IfOk r (IsOutcome plan bytes)
+  pub outcome_of : (task : Task) → IsTaskOfPlan plan bytes task → (made : Made) → IsMade task bytes made → (r : Result Outcome Failure) → IfOk r (λ o. o.made ≡ made) → IfOk r (λ o. IsSheetIf plan.pdf task bytes made o.sheet) → IfOk r (λ o. o.more.items ≡ more_text plan bytes made o.sheet) → IfOk r (λ o. map (λ name. name.items) o.names.items ≡ names_for plan bytes made.picked.glyphs.items) → IfOk r (IsOutcome plan bytes)
   outcome_of task placed made is (Ok o) kept sheet more names = record {
     task = task;
     is_placed = placed;
@@ -26,15 +26,15 @@ module _ (plan : Plan) (bytes : List ℕ) where
   }
   outcome_of task placed made is (Err e) kept sheet more names = tt
 
-  no_sheet : (task : Task) → IsPlaced plan bytes task → (made : Made) → IsMade task bytes made → (failure : Failure) → (failure ≡ Error OutOfMemory) ⊎ IsUnshownIf plan.pdf task bytes made failure → IsNoOutcome plan bytes failure
+  no_sheet : (task : Task) → IsTaskOfPlan plan bytes task → (made : Made) → IsMade task bytes made → (failure : Failure) → (failure ≡ Error OutOfMemory) ⊎ IsUnshownIf plan.pdf task bytes made failure → IsNoOutcome plan bytes failure
   no_sheet task placed made is failure (inl memory) = inl memory
   no_sheet task placed made is failure (inr unshown) = inr (inr (inr (record { task = task; is_placed = placed; made = made; is_made = is; is_unshown = unshown })))
 
-  pub unshown_of : (task : Task) → IsPlaced plan bytes task → (made : Made) → IsMade task bytes made → (r : Result Outcome Failure) → IfErr r (λ e. (e ≡ Error OutOfMemory) ⊎ IsUnshownIf plan.pdf task bytes made e) → IfErr r (IsNoOutcome plan bytes)
+  pub unshown_of : (task : Task) → IsTaskOfPlan plan bytes task → (made : Made) → IsMade task bytes made → (r : Result Outcome Failure) → IfErr r (λ e. (e ≡ Error OutOfMemory) ⊎ IsUnshownIf plan.pdf task bytes made e) → IfErr r (IsNoOutcome plan bytes)
   unshown_of task placed made is (Ok o) h = tt
   unshown_of task placed made is (Err e) h = no_sheet task placed made is e h
 
-  pub unmade_of : (task : Task) → IsPlaced plan bytes task → (failure : Failure) → IsUnmade task bytes failure → IsNoOutcome plan bytes failure
+  pub unmade_of : (task : Task) → IsTaskOfPlan plan bytes task → (failure : Failure) → IsUnmade task bytes failure → IsNoOutcome plan bytes failure
   unmade_of task placed failure h = inr (inr (inl (record { task = task; is_placed = placed; is_unmade = h })))
 
   pub unplaced_of : (name : List ℕ) (failure : Failure) → option_copied plan.instance ≡ Some name → (failure ≡ Error OutOfMemory) ⊎ (((failure ≡ Error UnknownKind) ⊎ ((failure ≡ Error MalformedFont) ⊎ (failure ≡ NoInstance))) × (face_settings (face_of plan.task bytes) name ≡ None)) → IsNoOutcome plan bytes failure

@@ -1,7 +1,7 @@
 -- The PDF that is made beside the font.
 use Rattle.std.proofs.Common.{◌≡◌, ◌⊎◌, inl, inr, ℕ, List, [], ◌++◌, append-nil, refl, sym, ap, subst}
 use Rattle.subsetter_base.specs.declared.error.Error.TheVariants.{OutOfMemory}
-use Rattle.subset_args.specs.declared.options.PdfChoice.{PdfChoice}
+use Rattle.subset_args.specs.declared.options.chosen.PdfChoice.{PdfChoice}
 use Rattle.subset_pdf.specs.Sheet.{HasSheetFault, IsSheetFor}
 use Rattle.subset_pdf.specs.declared.options.PdfRequest.{PdfRequest}
 use Rattle.subset_pdf.specs.declared.sheet.Sheet.{Sheet}

@@ -10,7 +10,7 @@ use Rattle.subset_font.specs.Making.Carried.{IsOfMaking, IsFailureOf, IsBeforeWr
 use Rattle.subset_font.specs.declared.task.Task.{Task}
 use Rattle.subset_font.specs.declared.task.RequestedGlyphs.{RequestedGlyphs}
 use Rattle.subset_font.specs.declared.task.RequestedGlyphs.TheVariants.{These, Every, ByText, ByCharacters}
-use Rattle.subset_args.specs.declared.options.PdfChoice.{PdfChoice}
+use Rattle.subset_args.specs.declared.options.chosen.PdfChoice.{PdfChoice}
 use Rattle.subset_pdf.specs.declared.sheet.SheetError.{SheetError}
 use Rattle.subset_pdf.specs.declared.sheet.SheetError.TheVariants.{Font as RefusedFont, NotPermitted as Forbidden}
 use Rattle.subset_font.specs.Making.Sheet.{failure_of, IsUnshownIf}

@@ -6,11 +6,11 @@ use Rattle.subsetter_base.specs.declared.tag.Tag.{Tag}
 use Rattle.subsetter_sfnt.specs.Read.{Font, kind_at, header_offset, find_record, records}
 use Rattle.subsetter_sfnt.specs.declared.face.FontKind.{FontKind}
 use Rattle.subsetter_sfnt.specs.declared.face.TableRecord.{TableRecord}
-use Rattle.subset_font.specs.Faces.FaceView.{place_view}
+use Rattle.subset_font.specs.Faces.FaceView.{range_view}
 use Rattle.subset_font.specs.Faces.Tables.{bytes_or_none, records_in}
-use Rattle.subset_font.specs.declared.faces.face.Place.{Place}
-use Rattle.subset_font.specs.declared.refusals.hint.Hint.{Hint}
-use Rattle.subset_font.specs.declared.refusals.hint.Hint.TheVariants.{Woff, Woff2, NotFont, Empty, NoFace, NoHeader, CutDirectory, Cut, NoTable}
+use Rattle.subset_font.specs.declared.faces.face.TableRange.{TableRange}
+use Rattle.subset_font.specs.declared.refusals.hint.text.Hint.{Hint}
+use Rattle.subset_font.specs.declared.refusals.hint.text.Hint.TheVariants.{Woff, Woff2, NotFont, Empty, NoFace, NoHeader, CutDirectory, Cut, NoTable}
 
 -- the first that is there
 abbrev pub or_else : Option Hint → Option Hint → Option Hint
@@ -73,9 +73,9 @@ abbrev pub cut_table : Font → Option Hint
 cut_table font = first_cut (length font.bytes) (records_in (bytes_or_none (records font)))
 
 -- why a table isn't found: the directory has its record, and it is cut, or has none
-abbrev pub missing_by : ℕ → Tag → Option Place → Hint
+abbrev pub missing_by : ℕ → Tag → Option TableRange → Hint
 missing_by size tag None = NoTable tag
 missing_by size tag (Some place) = Cut tag (place.offset + place.length) size
 
 abbrev pub missing_table : Font → Tag → Hint
-missing_table font tag = missing_by (length font.bytes) tag (option_map place_view (find_record tag.0 (records_in (bytes_or_none (records font)))))
+missing_table font tag = missing_by (length font.bytes) tag (option_map range_view (find_record tag.0 (records_in (bytes_or_none (records font)))))

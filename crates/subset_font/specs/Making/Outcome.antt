@@ -64,13 +64,13 @@ names_for plan bytes glyphs = names_by plan.task.form (face_of plan.task bytes) 
 -- ---- what is made
 
 -- the task of a plan: as it is given, or at the coordinates of the named instance
-pub data IsPlaced (plan : Plan) (bytes : List ℕ) : Task → Type 0 where
-  as_given : option_copied plan.instance ≡ None → IsPlaced plan bytes plan.task
-  at_instance : (name : List ℕ) (at : Bor (List (Tag × ℤ))) → option_copied plan.instance ≡ Some name → face_settings (face_of plan.task bytes) name ≡ Some at.now → IsPlaced plan bytes (record plan.task { at = Some at })
+pub data IsTaskOfPlan (plan : Plan) (bytes : List ℕ) : Task → Type 0 where
+  as_given : option_copied plan.instance ≡ None → IsTaskOfPlan plan bytes plan.task
+  at_instance : (name : List ℕ) (at : Bor (List (Tag × ℤ))) → option_copied plan.instance ≡ Some name → face_settings (face_of plan.task bytes) name ≡ Some at.now → IsTaskOfPlan plan bytes (record plan.task { at = Some at })
 
 pub record IsOutcome (plan : Plan) (bytes : List ℕ) (outcome : Outcome) : Type 0 where
   pub task : Task
-  pub is_placed : IsPlaced plan bytes task
+  pub is_placed : IsTaskOfPlan plan bytes task
   pub is_made : IsMade task bytes outcome.made
   -- with the PDF, if one is requested
   pub sheet_is : IsSheetIf plan.pdf task bytes outcome.made outcome.sheet
@@ -87,13 +87,13 @@ pub record IsUnplaced (plan : Plan) (bytes : List ℕ) (failure : Failure) : Typ
 -- or the task is refused
 pub record IsUnmadePlan (plan : Plan) (bytes : List ℕ) (failure : Failure) : Type 0 where
   pub task : Task
-  pub is_placed : IsPlaced plan bytes task
+  pub is_placed : IsTaskOfPlan plan bytes task
   pub is_unmade : IsUnmade task bytes failure
 
 -- or the PDF of what the task makes
 pub record IsUnshownPlan (plan : Plan) (bytes : List ℕ) (failure : Failure) : Type 0 where
   pub task : Task
-  pub is_placed : IsPlaced plan bytes task
+  pub is_placed : IsTaskOfPlan plan bytes task
   pub made : Made
   pub is_made : IsMade task bytes made
   pub is_unshown : IsUnshownIf plan.pdf task bytes made failure

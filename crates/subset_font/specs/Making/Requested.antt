@@ -5,7 +5,8 @@ use Rattle.std.specs.Str.{encode_utf8_all}
 use Rattle.subsetter_base.specs.declared.error.Error.TheVariants.{MalformedFont}
 use Rattle.subsetter_sfnt.specs.Read.{Font, stored}
 use Rattle.subsetter_sfnt.specs.Fields.Maxp.{num_glyphs}
-use Rattle.cmap.specs.Subtable.{Mapping, mapping, glyph_of}
+use Rattle.cmap.specs.Faces.{face_mapping}
+use Rattle.cmap.specs.Subtable.{glyph_of}
 use Rattle.subset_args.specs.Listing.Lists.{counting}
 use Rattle.subset_font.specs.declared.task.RequestedGlyphs.{RequestedGlyphs}
 use Rattle.subset_font.specs.declared.task.RequestedGlyphs.TheVariants.{These, Every, ByText, ByCharacters}
@@ -15,10 +16,6 @@ use Rattle.subset_font.specs.declared.refusals.failure.Failure.TheVariants.{Erro
 -- how many glyphs a face has, as its `maxp` says
 abbrev pub face_glyphs : Font → Option ℕ
 face_glyphs font = option_and_then num_glyphs (stored font (codes "maxp"))
-
--- the table of a face's `cmap` by which Unicode characters have glyphs
-abbrev pub face_mapping : Font → Option Mapping
-face_mapping font = option_and_then mapping (stored font (codes "cmap"))
 
 -- these glyphs are asked for, with the characters that they stand for, where a text or characters are given
 abbrev pub IsRequested : Font → RequestedGlyphs → List ℕ → List ℕ → Type 0

@@ -2,7 +2,7 @@
 use Rattle.std.specs.Prelude.{◌≡◌, ℕ, ℤ, List, [], length, Option, Some, None, unwrap_or, IsSome, IfSome}
 use Rattle.std.specs.Option.{option_copied}
 use Rattle.subsetter_base.specs.declared.tag.Tag.{Tag}
-use Rattle.subset_args.specs.declared.options.PdfChoice.{PdfChoice}
+use Rattle.subset_args.specs.declared.options.chosen.PdfChoice.{PdfChoice}
 use Rattle.subset_lines.specs.Objects.Pdf.{pdf_member}
 use Rattle.pdf_sheet.specs.declared.frame.Layout.{Layout}
 use Rattle.pdf_sheet.specs.declared.frame.Layout.TheVariants.{Line, Grid}

@@ -7,15 +7,15 @@ use Rattle.subsetter_base.specs.declared.error.Error.TheVariants.{UnknownKind, M
 use Rattle.subsetter_base.specs.declared.tag.Tag.{Tag}
 use Rattle.subsetter_sfnt.specs.Extras.{all_extras}
 use Rattle.subsetter_sfnt.specs.Read.{Font, find_record, records, stored}
-use Rattle.subset_lines.specs.declared.faces.info.Outlines.{Outlines}
-use Rattle.subset_lines.specs.declared.faces.info.Outlines.TheVariants.{TrueType, Cff, Cff2 as HasCff2, Missing}
+use Rattle.subset_lines.specs.declared.faces.info.face.Outlines.{Outlines}
+use Rattle.subset_lines.specs.declared.faces.info.face.Outlines.TheVariants.{TrueType, Cff, Cff2 as HasCff2, Missing}
 use Rattle.subset_font.specs.Making.Requested.{face_glyphs}
 use Rattle.subset_font.specs.Faces.Broken.{or_else, no_font, cut_table, missing_table}
 use Rattle.subset_font.specs.Faces.Info.{outlines_of}
-use Rattle.subset_font.specs.Faces.FaceView.{place_view}
+use Rattle.subset_font.specs.Faces.FaceView.{range_view}
 use Rattle.subset_font.specs.Making.Made.{face_of}
 use Rattle.subset_font.specs.Faces.Tables.{bytes_or_none, records_in}
-use Rattle.subset_font.specs.declared.faces.face.Place.{Place}
+use Rattle.subset_font.specs.declared.faces.face.TableRange.{TableRange}
 use Rattle.subset_font.specs.declared.task.RequestedGlyphs.{RequestedGlyphs}
 use Rattle.subset_font.specs.declared.task.RequestedGlyphs.TheVariants.{These, Every, ByText, ByCharacters}
 use Rattle.subset_font.specs.declared.task.Task.{Task}
@@ -23,8 +23,8 @@ use Rattle.pdf_values.specs.Permission.{is_usable}
 use Rattle.pdf_values.specs.declared.permission.Permission.{Permission}
 use Rattle.subset_font.specs.declared.refusals.failure.Failure.{Failure}
 use Rattle.subset_font.specs.declared.refusals.failure.Failure.TheVariants.{Error, NoMapping, NoInstance, NotPermitted, Usage, List as WrongList, Read, ReadList, Write, WritePdf, Output}
-use Rattle.subset_font.specs.declared.refusals.hint.Hint.{Hint}
-use Rattle.subset_font.specs.declared.refusals.hint.Hint.TheVariants.{NoGlyph, NoEntries, Descends, Outside, Cff2, NoUnicode, WrongAxes, NoAxes, NoOutlines, NoMetrics, FewMetrics, Forbidden}
+use Rattle.subset_font.specs.declared.refusals.hint.text.Hint.{Hint}
+use Rattle.subset_font.specs.declared.refusals.hint.text.Hint.TheVariants.{NoGlyph, NoEntries, Descends, Outside, Cff2, NoUnicode, WrongAxes, NoAxes, NoOutlines, NoMetrics, FewMetrics, Forbidden}
 
 -- the first of the glyphs that a face of so many doesn't have
 abbrev pub first_past : ℕ → List ℕ → Option ℕ
@@ -186,13 +186,13 @@ axes_hint_of_error CFFError bytes index = None
 axes_hint_of_error OutOfMemory bytes index = None
 
 -- a face without axes: it has no `fvar`, or the file is cut before its end
-abbrev pub no_axes_by : Font → Option (List ℕ) → Option Place → Option Hint
+abbrev pub no_axes_by : Font → Option (List ℕ) → Option TableRange → Option Hint
 no_axes_by font (Some fvar) place = None
 no_axes_by font None None = Some NoAxes
 no_axes_by font None (Some place) = Some (missing_table font (record { 0 = codes "fvar" }))
 
 abbrev pub no_axes : Font → Option Hint
-no_axes font = no_axes_by font (stored font (codes "fvar")) (option_map place_view (find_record (codes "fvar") (records_in (bytes_or_none (records font)))))
+no_axes font = no_axes_by font (stored font (codes "fvar")) (option_map range_view (find_record (codes "fvar") (records_in (bytes_or_none (records font)))))
 
 abbrev pub axes_hint : Failure → List ℕ → ℕ → Option Hint
 axes_hint (Error e) bytes index = axes_hint_of_error e bytes index

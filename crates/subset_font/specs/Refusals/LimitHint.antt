@@ -3,8 +3,8 @@ use Rattle.std.specs.Prelude.{◌≡◌, ◌<◌, ℕ, List, length, Option, Som
 use Rattle.subsetter.specs.Limits.{token_limit, depth_limit}
 use Rattle.subsetter_type2.specs.declared.limits.Limits.{Limits}
 use Rattle.subset_font.specs.Making.Outcome.{IsOutcome}
-use Rattle.subset_font.specs.declared.refusals.hint.Hint.{Hint}
-use Rattle.subset_font.specs.declared.refusals.hint.Hint.TheVariants.{MoreBytes, LittleLimits}
+use Rattle.subset_font.specs.declared.refusals.hint.text.Hint.{Hint}
+use Rattle.subset_font.specs.declared.refusals.hint.text.Hint.TheVariants.{MoreBytes, LittleLimits}
 use Rattle.subset_font.specs.declared.making.outcome.Outcome.{Outcome}
 use Rattle.subset_font.specs.declared.task.Plan.{Plan}
 

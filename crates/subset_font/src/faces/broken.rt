@@ -5,9 +5,9 @@ ghost use Rattle.subsetter_sfnt.specs.Extras.{all_extras};
 ghost use Rattle.subset_font.specs.Faces.Broken.{packed, not_font, face_count, no_face, no_directory, no_font, is_cut, cut_hint, first_cut, cut_table, missing_table};
 ghost use Rattle.subset_font.specs.Faces.Tables.{records_in};
 
-use crate::faces::face::{Place, place_of};
+use crate::faces::face::{TableRange, range_of};
 use crate::faces::tables::directory_of;
-use crate::refusals::hint::Hint;
+use crate::refusals::hint::text::Hint;
 use subsetter::Tag;
 use subsetter_base::read::Reader;
 use subsetter_sfnt::directory::{find_record, header_offset, kind_at, records};
@@ -84,7 +84,7 @@ pub fn no_font(font: &[u8], index: u32) -> Option<Hint>
 }
 
 /// Where a table ends.
-fn end_of(place: Place) -> u64
+fn end_of(place: TableRange) -> u64
     ensures { result ≡ place.offset + place.length }
 {
     u64::from(place.offset) + u64::from(place.length)
@@ -94,14 +94,14 @@ fn end_of(place: Place) -> u64
 fn is_cut(one: TableRecord, size: u64) -> bool
     ensures { result ≡ is_cut size one }
 {
-    end_of(place_of(one)) > size
+    end_of(range_of(one)) > size
 }
 
 /// That it does so.
 fn cut_hint(one: TableRecord, size: u64) -> Hint
     ensures { result ≡ cut_hint size one }
 {
-    Hint::Cut(one.tag, end_of(place_of(one)), size)
+    Hint::Cut(one.tag, end_of(range_of(one)), size)
 }
 
 /// The first table of a directory that ends behind a file of so many bytes.
@@ -129,7 +129,7 @@ pub fn missing_table(font: &[u8], index: u32, tag: Tag) -> Hint
     ensures { result ≡ missing_table (record { bytes = font.now; index = index; extras = all_extras }) tag }
 {
     match find_record(directory_of(font, index), tag) {
-        Some(found) => Hint::Cut(tag, end_of(place_of(found)), font.len() as u64),
+        Some(found) => Hint::Cut(tag, end_of(range_of(found)), font.len() as u64),
         None => Hint::NoTable(tag),
     }
 }

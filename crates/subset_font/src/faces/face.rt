@@ -4,8 +4,9 @@ ghost use Rattle.std.specs.Prelude.{◌≡◌};
 ghost use Rattle.std.specs.Option.{option_map};
 ghost use Rattle.subsetter_sfnt.specs.Extras.{all_extras};
 ghost use Rattle.cmap.specs.View.{mapping_view};
-ghost use Rattle.subset_font.specs.Making.Requested.{face_glyphs, face_mapping};
-ghost use Rattle.subset_font.specs.Faces.FaceView.{place_view};
+ghost use Rattle.subset_font.specs.Making.Requested.{face_glyphs};
+ghost use Rattle.cmap.specs.Faces.{face_mapping};
+ghost use Rattle.subset_font.specs.Faces.FaceView.{range_view};
 
 use cmap::{Subtable, find_subtable};
 use subsetter_base::Tag;
@@ -15,16 +16,16 @@ use subsetter_sfnt::fields::maxp::num_glyphs;
 
 /// Where a table is, in bytes.
 #[derive(Clone, Copy)]
-pub struct Place {
+pub struct TableRange {
     pub offset: u32,
     pub length: u32,
 }
 
 /// Where the table of a record is.
-pub fn place_of(one: TableRecord) -> Place
-    ensures { result ≡ place_view one }
+pub fn range_of(one: TableRecord) -> TableRange
+    ensures { result ≡ range_view one }
 {
-    Place {
+    TableRange {
         offset: one.offset,
         length: one.length,
     }

@@ -12,7 +12,7 @@ use crate::making::carried::read_whole;
 use crate::making::requested::first_glyphs;
 use crate::making::subset::make_of;
 use crate::refusals::failure::Failure;
-use crate::refusals::hint::find_hint;
+use crate::refusals::hint::found::find_hint;
 use crate::task::{Form, RequestedGlyphs, Task};
 use std::alloc::{AllocError, Global};
 use std::io::{Read, Write};

@@ -16,7 +16,8 @@ use crate::refusals::failure::Failure;
 use std::alloc::{AllocError, Global};
 use subset_lines::{FontAxes, name_of, read_axes, text_of_name};
 use subsetter::{Error, Tag};
-use subsetter_base::read::{Reader, after_four};
+use subsetter_base::fields::long_signed_in;
+use subsetter_base::read::after_four;
 use subsetter_sfnt::directory::{header_offset, table};
 use subsetter_variation::locations::axes::Axis;
 
@@ -57,12 +58,12 @@ fn find_named<'a>(
     Ok(None)
 }
 
-/// The coordinate of four bytes, in 65536ths.
-fn coordinate_in(bytes: &[u8]) -> i32
+/// The coordinate of four bytes, in 65536ths, and 0 where they aren't there.
+fn coordinate_of(bytes: &[u8]) -> i32
     ensures { result ≡ coordinate_in bytes.now }
 {
-    match Reader::new(bytes).read::<u32>() {
-        Some(bits) => bits.cast_signed(),
+    match long_signed_in(Some(bytes), 0) {
+        Some(coordinate) => coordinate,
         None => 0,
     }
 }
@@ -74,7 +75,7 @@ fn settings_of(alloc: Global, axes: &[Axis], bytes: &[u8]) -> Result<Vec<(Tag, i
     let mut settings = Vec::new(alloc);
     let mut rest = bytes;
     for axis in axes {
-        settings.push((axis.tag, coordinate_in(rest)))?;
+        settings.push((axis.tag, coordinate_of(rest)))?;
         rest = after_four(rest);
     }
     Ok(settings)

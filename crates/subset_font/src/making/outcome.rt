@@ -207,7 +207,7 @@ fn with_more(
 }
 
 /// The task of a plan at coordinates.
-fn placed<'a>(task: &Task<'a>, at: &'a [(Tag, i32)]) -> Task<'a>
+fn task_at<'a>(task: &Task<'a>, at: &'a [(Tag, i32)]) -> Task<'a>
     ensures { result ≡ record task.now { at = Some at.entry } }
 {
     Task {
@@ -221,7 +221,7 @@ fn placed<'a>(task: &Task<'a>, at: &'a [(Tag, i32)]) -> Task<'a>
 }
 
 /// What a plan makes of a font at the coordinates of the named instance.
-fn make_placed(
+fn make_instance(
     alloc: Global,
     font: &[u8],
     plan: &Plan<'_>,
@@ -233,7 +233,7 @@ fn make_placed(
     ensures ok { IfOk result (IsOutcome plan.now font.now) }
     ensures err { IfErr result (IsNoOutcome plan.now font.now) }
 {
-    let task = placed(&plan.task, at);
+    let task = task_at(&plan.task, at);
     match make_of(alloc, font, &task) {
         Ok(made) => with_more(alloc, font, plan, &task, made),
         Err(failure) => Err(failure),
@@ -252,7 +252,7 @@ fn make_at_instance(
     ensures err { IfErr result (IsNoOutcome plan.now font.now) }
 {
     match face_settings(alloc, font, plan.task.index, name) {
-        Ok(at) => make_placed(alloc, font, plan, name, &at),
+        Ok(at) => make_instance(alloc, font, plan, name, &at),
         Err(failure) => Err(failure),
     }
 }

@@ -5,7 +5,7 @@ ghost use Rattle.subset_font.specs.Refusals.LimitHint.{within, IsLimitHint};
 
 use crate::making::outcome::make_planned;
 use crate::refusals::failure::Failure;
-use crate::refusals::hint::Hint;
+use crate::refusals::hint::text::Hint;
 use crate::task::{Plan, Task};
 use std::alloc::Global;
 use subsetter::{Error, Limits, Options};

@@ -5,9 +5,9 @@ use Rattle.subsetter_base.specs.declared.tag.Tag.{Tag}
 use Rattle.subset_lines.specs.Faces.Axes.{shown}
 use Rattle.subset_lines.specs.Objects.Json.{number_or_null}
 use Rattle.subset_lines.specs.Objects.Quoted.{quoted}
-use Rattle.subset_lines.specs.declared.faces.info.Outlines.{Outlines}
-use Rattle.subset_lines.specs.declared.faces.info.Outlines.TheVariants.{TrueType, Cff, Cff2, Missing}
-use Rattle.subset_lines.specs.declared.faces.info.Info.{Info}
+use Rattle.subset_lines.specs.declared.faces.info.face.Outlines.{Outlines}
+use Rattle.subset_lines.specs.declared.faces.info.face.Outlines.TheVariants.{TrueType, Cff, Cff2, Missing}
+use Rattle.subset_lines.specs.declared.faces.info.face.Info.{Info}
 
 -- ---- what its maker permits (OpenType, "OS/2", "fsType")
 

@@ -1,6 +1,6 @@
 //! The axes of a variable font and its named instances (OpenType, "fvar"), as lines.
 
-ghost use Rattle.std.specs.Prelude.{◌≡◌, ◌⊎◌, ◌++◌, [], codes, map, OnOk, IfOk, IfErr, Some, None};
+ghost use Rattle.std.specs.Prelude.{◌≡◌, ◌⊎◌, ◌++◌, [], map, OnOk, IfOk, IfErr, Some, None};
 ghost use Rattle.std.specs.Io.KnownBytes.{Appends};
 ghost use Rattle.std.specs.Option.{ok_or, option_copied};
 ghost use Rattle.subset_lines.specs.Faces.Names.{name_of};
@@ -13,6 +13,7 @@ ghost use Rattle.subsetter_base.specs.Bytes.{number};
 
 use crate::entry::Unwritten;
 use crate::faces::names::{string_for, write_behind};
+use crate::faces::settings::{SettingForm, write_each};
 use crate::fixed::write_fixed;
 use crate::plain::flush;
 use crate::text::write_text;
@@ -186,35 +187,12 @@ pub fn write_coordinate<W: Write>(bytes: &[u8], out: &mut W) -> Result<(), Unwri
     }
 }
 
-/// Writes an axis with the coordinate that four bytes say, behind a text.
-#[tactic(auto, using(crate::proofs::Written::both))]
-fn write_setting<W: Write>(
-    before: &[u8],
-    tag: Tag,
-    bytes: &[u8],
-    out: &mut W,
-) -> Result<(), Unwritten>
-    ensures { OnOk result (Appends (W.contents out.old) (W.contents out.new) (before.now ++ map shown tag.0 ++ codes "=" ++ coordinate_text (number bytes.now 0 4))) }
-{
-    write_text(before, out)?;
-    write_tag(tag, out)?;
-    write_text(b"=", out)?;
-    write_coordinate(bytes, out)
-}
-
 /// Writes each axis with its coordinate, as `--at` takes them.
-#[tactic(auto, using(crate::proofs::Written::at_first, crate::proofs::Written::after_part, crate::proofs::Written::at_last))]
+#[tactic(auto, using(crate::proofs::Settings::line_written))]
 fn write_settings<W: Write>(axes: &[Axis], bytes: &[u8], out: &mut W) -> Result<(), Unwritten>
     ensures { OnOk result (Appends (W.contents out.old) (W.contents out.new) (settings_text [] axes.now bytes.now)) }
 {
-    let mut before = b"".as_slice();
-    let mut rest = bytes;
-    for axis in axes {
-        write_setting(before, axis.tag, rest, out)?;
-        before = b",".as_slice();
-        rest = after_four(rest);
-    }
-    Ok(())
+    write_each(SettingForm::Line, axes, bytes, out)
 }
 
 /// The name of a named instance, if there is one.

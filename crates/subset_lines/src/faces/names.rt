@@ -4,12 +4,16 @@ ghost use Rattle.std.specs.Prelude.{◌≡◌, ◌≤◌, ◌<◌, ◌^◌, ◌+
 ghost use Rattle.std.specs.Char.{encode_utf8};
 ghost use Rattle.std.specs.Io.KnownBytes.{Appends};
 ghost use Rattle.std.specs.Option.{option_copied};
-ghost use Rattle.subset_lines.specs.Faces.Names.{word, is_windows, serves, is_name, first_name, best_name, string_of, string_for, is_text, character_of, text_of_units, behind_instance};
+ghost use Rattle.subsetter_sfnt.specs.Fields.Name.{name_record_of};
+ghost use Rattle.subset_lines.specs.Faces.Names.{is_windows, serves, is_name, first_name, best_name, string_of, string_for, is_text, character_of, text_of_units, behind_instance};
 
 use crate::entry::Unwritten;
 use crate::text::write_text;
 use std::io::Write;
-use subsetter_base::read::{Reader, u16_at};
+use subsetter_base::read::Reader;
+use subsetter_sfnt::fields::name::{
+    COUNT, HEADER_SIZE, NAME_RECORD_SIZE, NameRecord, STORAGE_OFFSET,
+};
 
 /// Which records serve.
 #[derive(Clone, Copy)]
@@ -22,12 +26,22 @@ pub enum Kind {
     Unicode,
 }
 
+/// The record that twelve bytes are.
+#[tactic(auto, using(crate::proofs::Listed::whole_record))]
+fn record_of(bytes: &[u8]) -> NameRecord
+    requires { length bytes.now ≡ 12 }
+    ensures { result ≡ name_record_of bytes.now }
+{
+    Reader::new(bytes).read::<NameRecord>().unwrap()
+}
+
 /// Whether a record is of Windows, in UTF-16.
 fn is_windows(bytes: &[u8]) -> bool
     requires { length bytes.now ≡ 12 }
     ensures { result ≡ is_windows bytes.now }
 {
-    u16_at(bytes, 0) == 3 && (u16_at(bytes, 2) == 1 || u16_at(bytes, 2) == 10)
+    let record = record_of(bytes);
+    record.platform_id == 3 && (record.encoding_id == 1 || record.encoding_id == 10)
 }
 
 /// Whether a record is of a kind.
@@ -36,9 +50,9 @@ fn serves(kind: Kind, bytes: &[u8]) -> bool
     ensures { result ≡ serves kind bytes.now }
 {
     match kind {
-        Kind::English => is_windows(bytes) && u16_at(bytes, 4) == 0x0409,
+        Kind::English => is_windows(bytes) && record_of(bytes).language_id == 0x0409,
         Kind::Windows => is_windows(bytes),
-        Kind::Unicode => u16_at(bytes, 0) == 0,
+        Kind::Unicode => record_of(bytes).platform_id == 0,
     }
 }
 
@@ -47,7 +61,7 @@ fn is_name(kind: Kind, id: u16, bytes: &[u8]) -> bool
     requires { length bytes.now ≡ 12 }
     ensures { result ≡ is_name kind id bytes.now }
 {
-    u16_at(bytes, 6) == id && serves(kind, bytes)
+    record_of(bytes).name_id == id && serves(kind, bytes)
 }
 
 /// The first of so many records that has a name of a kind.
@@ -56,9 +70,9 @@ fn first_name(kind: Kind, id: u16, count: u16, table: &[u8]) -> Option<&[u8]>
     ensures value { option_copied result ≡ first_name kind id count table.now 6 }
     ensures size { IfSome result (λ bytes. length bytes.now ≡ 12) }
 {
-    let mut r = Reader::new_at(table, 6);
+    let mut r = Reader::new_at(table, HEADER_SIZE);
     for i in 0..count {
-        let bytes = r.read_bytes(12)?;
+        let bytes = r.read_bytes(NAME_RECORD_SIZE)?;
         if is_name(kind, id, bytes) {
             return Some(bytes);
         }
@@ -85,8 +99,9 @@ fn string_of<'a>(table: &'a [u8], storage: u16, bytes: &[u8]) -> Option<&'a [u8]
     requires { length bytes.now ≡ 12 }
     ensures { option_copied result ≡ string_of table.now storage bytes.now }
 {
-    let at = storage as usize + u16_at(bytes, 10) as usize;
-    Reader::new_at(table, at).read_bytes(u16_at(bytes, 8) as usize)
+    let record = record_of(bytes);
+    let at = storage as usize + record.string_offset as usize;
+    Reader::new_at(table, at).read_bytes(record.length as usize)
 }
 
 /// A name, if the table has it.
@@ -94,8 +109,8 @@ fn string_of<'a>(table: &'a [u8], storage: u16, bytes: &[u8]) -> Option<&'a [u8]
 pub fn string_for(table: &[u8], id: u16) -> Option<&[u8]>
     ensures { option_copied result ≡ string_for table.now id }
 {
-    let count = Reader::new_at(table, 2).read::<u16>()?;
-    let storage = Reader::new_at(table, 4).read::<u16>()?;
+    let count = Reader::new_at(table, COUNT).read::<u16>()?;
+    let storage = Reader::new_at(table, STORAGE_OFFSET).read::<u16>()?;
     let bytes = best_name(id, count, table)?;
     string_of(table, storage, bytes)
 }

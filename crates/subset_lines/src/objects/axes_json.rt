@@ -3,16 +3,16 @@
 ghost use Rattle.std.specs.Prelude.{◌≡◌, ◌++◌, [], OnOk, IfOk, codes, map, drop};
 ghost use Rattle.std.specs.Io.KnownBytes.{Appends};
 ghost use Rattle.std.specs.Option.{option_copied};
-ghost use Rattle.subset_lines.specs.Faces.Axes.{shown, coordinate_text};
-ghost use Rattle.subset_lines.specs.Objects.AxesJson.{tag_open, greatest_member, axis_numbers, instance_name, instance_settings, axes_member, instances_member, axis_object, axis_objects, setting_member, settings_members, name_or_null, instance_object, instance_objects, axes_json};
+ghost use Rattle.subset_lines.specs.Objects.AxesJson.{tag_open, greatest_member, axis_numbers, instance_name, instance_settings, axes_member, instances_member, axis_object, axis_objects, settings_members, name_or_null, instance_object, instance_objects, axes_json};
 ghost use Rattle.subset_lines.specs.Fixed.{fixed_text};
 ghost use Rattle.subset_lines.specs.Faces.Names.{name_of, text_of_units};
 ghost use Rattle.subset_lines.specs.Objects.Quoted.{quoted};
 ghost use Rattle.subsetter_base.specs.Bytes.{number};
 
 use crate::entry::Unwritten;
-use crate::faces::axes::{FontAxes, name_of, tag_bytes, write_coordinate};
+use crate::faces::axes::{FontAxes, name_of, tag_bytes};
 use crate::faces::names::write_units;
+use crate::faces::settings::{SettingForm, write_each};
 use crate::fixed::write_labelled;
 use crate::objects::quoted::write_quoted;
 use crate::plain::flush;
@@ -82,35 +82,12 @@ fn write_axis_objects<W: Write>(axes: &[Axis], out: &mut W) -> Result<(), Unwrit
     Ok(())
 }
 
-/// Writes an axis with the coordinate of four bytes, behind a text.
-#[tactic(auto, using(crate::proofs::Written::both))]
-fn write_setting<W: Write>(
-    before: &[u8],
-    tag: Tag,
-    bytes: &[u8],
-    out: &mut W,
-) -> Result<(), Unwritten>
-    ensures { OnOk result (Appends (W.contents out.old) (W.contents out.new) (before.now ++ setting_member tag bytes.now)) }
-{
-    write_text(before, out)?;
-    write_quoted(&tag_bytes(tag), out)?;
-    write_text(b":", out)?;
-    write_coordinate(bytes, out)
-}
-
 /// Writes each axis with its coordinate.
-#[tactic(auto, using(crate::proofs::Written::at_first, crate::proofs::Written::after_part, crate::proofs::Written::at_last))]
+#[tactic(auto, using(crate::proofs::Settings::members_written))]
 fn write_settings<W: Write>(axes: &[Axis], bytes: &[u8], out: &mut W) -> Result<(), Unwritten>
     ensures { OnOk result (Appends (W.contents out.old) (W.contents out.new) (settings_members [] axes.now bytes.now)) }
 {
-    let mut before = b"".as_slice();
-    let mut rest = bytes;
-    for axis in axes {
-        write_setting(before, axis.tag, rest, out)?;
-        before = b",".as_slice();
-        rest = after_four(rest);
-    }
-    Ok(())
+    write_each(SettingForm::Member, axes, bytes, out)
 }
 
 /// The text of a name.

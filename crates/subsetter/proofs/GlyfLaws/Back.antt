@@ -12,7 +12,8 @@ use Rattle.subsetter_base.proofs.ByteLemmas.{be-u16, be-u32, range-middle, numbe
 use Rattle.subsetter_base.proofs.Options.{bind_some}
 use Rattle.subsetter.specs.Glyf.Read.{Outlines, entry_size, offset, outline_in}
 use Rattle.subsetter.specs.Glyf.Reaching.Unfold.{padded}
-use Rattle.subsetter.specs.Glyf.Written.{even_size, is_long, glyf_bytes, offset_bytes, loca_bytes}
+use Rattle.subsetter_sfnt.specs.Fields.Loca.{offset_bytes}
+use Rattle.subsetter.specs.Glyf.Written.{even_size, is_long, glyf_bytes, loca_bytes}
 
 -- ---- lengths
 

@@ -1,7 +1,7 @@
 -- `glyf` and `loca` of a subset, from the outlines that it holds (OpenType, "glyf", "loca").
-use Rattle.std.specs.Prelude.{ℕ, ◌+◌, ◌/◌, ◌%◌, Bool, List, [], ◌∷◌, ◌++◌, length, nat_lt, if◌then◌else◌, sum_by}
+use Rattle.std.specs.Prelude.{ℕ, ◌+◌, ◌%◌, Bool, List, [], ◌∷◌, ◌++◌, length, nat_lt, sum_by}
 use Rattle.std.specs.List.{flat_map}
-use Rattle.std.specs.Int.{w16, w32, to_be_bytes}
+use Rattle.subsetter_sfnt.specs.Fields.Loca.{offset_bytes}
 use Rattle.subsetter.specs.Glyf.Reaching.Unfold.{padded}
 
 -- the length of the outlines, each rounded up to even
@@ -14,9 +14,6 @@ is_long bs = nat_lt 131070 (even_size bs)
 
 abbrev pub glyf_bytes : Bool → List (List ℕ) → List ℕ
 glyf_bytes long bs = flat_map (padded long) bs
-
-abbrev pub offset_bytes : Bool → ℕ → List ℕ
-offset_bytes long at = if long then to_be_bytes w32 at else to_be_bytes w16 (at / 2)
 
 -- where each of the outlines from a place on begins, and where the last one ends
 abbrev pub loca_bytes : Bool → ℕ → List (List ℕ) → List ℕ

@@ -6,23 +6,11 @@
 ghost use Rattle.std.specs.Prelude.{◌≡◌, ◌≤◌, ◌+◌, ◌++◌, length, vec_capacity};
 ghost use Rattle.std.specs.Option.{option_copied};
 ghost use Rattle.subsetter_base.specs.Gives.{Gives};
-ghost use Rattle.subsetter.specs.Common.Head.Written.{format_bytes, head_in};
+ghost use Rattle.subsetter.specs.Common.Head.Written.{head_in};
 
 use std::marker::Model;
 use subsetter_base::Error;
-use subsetter_sfnt::fields::head::{
-    CHECKSUM_ADJUSTMENT, GLYPH_DATA_FORMAT, INDEX_TO_LOC_FORMAT, MAGIC_NUMBER,
-};
-use subsetter_sfnt::laying::room::put;
-
-/// Writes indexToLocFormat: 0 for halves of offsets, 1 for offsets.
-fn write_format(out: &mut Vec<u8>, long: bool)
-    requires { length out.old.items + 2 ≤ vec_capacity out.old }
-    ensures items { out.new.items ≡ out.old.items ++ format_bytes long }
-    ensures capacity { vec_capacity out.old ≤ vec_capacity out.new }
-{
-    put(out, &[0, u8::from(long)]);
-}
+use subsetter_sfnt::fields::head::{GLYPH_DATA_FORMAT, MAC_STYLE, X_MIN, write_head};
 
 /// The new table: a copy of the source's with zeros in checksumAdjustment, until the sum of the file is known, and with
 /// the format of the new `loca`.
@@ -58,16 +46,12 @@ impl<'a> NewHead<'a> {
         ensures capacity { vec_capacity out.old ≤ vec_capacity out.new }
     {
         let source = self.source;
-        put(out, &source[..CHECKSUM_ADJUSTMENT]);
-        put(out, &[0, 0, 0, 0]);
-        put(out, &source[MAGIC_NUMBER..INDEX_TO_LOC_FORMAT]);
-        write_format(out, self.long);
-        put(out, &source[GLYPH_DATA_FORMAT..]);
+        write_head(out, source, self.long, &source[X_MIN..MAC_STYLE]);
     }
 }
 
 /// `head` of a subset, where the source has it: with zeros in checksumAdjustment, and with the format of `loca`, which is
-/// the short one in a font without `loca`. Under 52 bytes, where that format would stand, it is `MalformedFont`.
+/// the short one in a font without `loca`. Under 52 bytes, where that format would be, it is `MalformedFont`.
 pub fn subset<'a>(head: Option<&'a [u8]>, long: bool) -> Result<Option<NewHead<'a>>, Error>
     ensures { Gives (λ new. new) result (head_in (option_copied head.entry) long) }
 {

@@ -4,19 +4,22 @@
 //! alone for the glyphs after these, which share the last advance. The new `hmtx` has the metrics of the new glyphs by the
 //! least number of pairs, and `hhea` is the source's but for that number.
 //!
-//! That the number of pairs is the least is said without the trimming: no bytes whatever give the glyphs' metrics by a
+//! That the number of pairs is the least is stated without the trimming: no bytes whatever give the glyphs' metrics by a
 //! lesser count. A bearing is two bytes that are kept and never computed with.
 
 ghost use Rattle.std.specs.Prelude.{◌≡◌, ◌+◌, ◌++◌, ◌≤◌, ◌<◌, ◌^◌, length, vec_capacity, IfOk, OnOk};
 ghost use Rattle.std.specs.Option.{option_copied};
 ghost use Rattle.std.specs.List.{flat_map};
 ghost use Rattle.subsetter_base.specs.Gives.{Gives};
-ghost use Rattle.subsetter.specs.Common.Hmtx.Written.{least_count, pair_bytes, bearing_bytes, metrics_all, source_count, tables_of, metrics_in};
+ghost use Rattle.subsetter.specs.Common.Hmtx.Written.{least_count, metrics_all, source_count, tables_of, metrics_in};
+ghost use Rattle.subsetter_sfnt.specs.Fields.Hmtx.{metric_bytes, bearing_bytes};
 
 use std::alloc::Global;
 use std::marker::Model;
 use subsetter_base::{Error, GlyphRemapper};
-use subsetter_sfnt::fields::hhea::{NUMBER_OF_H_METRICS, SIZE as HHEA_SIZE, number_of_h_metrics};
+use subsetter_sfnt::fields::hhea::{
+    ADVANCE_WIDTH_MAX, CARET_SLOPE_RISE, number_of_h_metrics, write_hhea,
+};
 use subsetter_sfnt::fields::hmtx::{LongHorMetric, glyph_metric, last_advance};
 use subsetter_sfnt::laying::room::put;
 
@@ -59,13 +62,13 @@ fn least_count(metrics: &[LongHorMetric]) -> usize
     let [first, rest @ ..] = metrics else {
         return 0;
     };
-    let mut advance = first.advance;
+    let mut advance = first.advance_width;
     let mut count = 1;
     let mut seen = 1;
     for metric in rest {
         seen += 1;
-        if metric.advance != advance {
-            advance = metric.advance;
+        if metric.advance_width != advance {
+            advance = metric.advance_width;
             count = seen;
         }
     }
@@ -74,14 +77,12 @@ fn least_count(metrics: &[LongHorMetric]) -> usize
 
 /// Writes pairs of advance and bearing.
 fn write_pairs(out: &mut Vec<u8>, metrics: &[LongHorMetric])
-    requires { length out.old.items + length (flat_map pair_bytes metrics.now) ≤ vec_capacity out.old }
-    ensures items { out.new.items ≡ out.old.items ++ flat_map pair_bytes metrics.now }
+    requires { length out.old.items + length (flat_map metric_bytes metrics.now) ≤ vec_capacity out.old }
+    ensures items { out.new.items ≡ out.old.items ++ flat_map metric_bytes metrics.now }
     ensures capacity { vec_capacity out.old ≤ vec_capacity out.new }
 {
     for metric in metrics {
-        let [a, b] = metric.advance.to_be_bytes();
-        let [c, d] = metric.bearing.to_be_bytes();
-        put(out, &[a, b, c, d]);
+        put(out, &metric.to_bytes());
     }
 }
 
@@ -92,7 +93,7 @@ fn write_bearings(out: &mut Vec<u8>, metrics: &[LongHorMetric])
     ensures capacity { vec_capacity out.old ≤ vec_capacity out.new }
 {
     for metric in metrics {
-        put(out, &metric.bearing.to_be_bytes());
+        put(out, &metric.lsb.to_be_bytes());
     }
 }
 
@@ -108,7 +109,8 @@ pub struct NewMetrics<'a> {
 
 impl<'a> Model for NewMetrics<'a> {
     ghost use Rattle.std.specs.Prelude.{◌≤◌, ◌<◌, ◌^◌, length};
-    ghost use Rattle.subsetter.specs.Common.Hmtx.Written.{MetricBytes, hhea_bytes, hmtx_bytes};
+    ghost use Rattle.subsetter.specs.Common.Hmtx.Written.{MetricBytes, hhea_bytes};
+    ghost use Rattle.subsetter_sfnt.specs.Fields.Hmtx.{hmtx_bytes};
 
     ghost Value = { MetricBytes };
 
@@ -144,13 +146,12 @@ impl<'a> NewMetrics<'a> {
         ensures capacity { vec_capacity out.old ≤ vec_capacity out.new }
     {
         let header = self.header;
-        put(out, &header[..NUMBER_OF_H_METRICS]);
-        put(out, &self.number_of_h_metrics.to_be_bytes());
-        put(out, &header[HHEA_SIZE..]);
+        let extremes = &header[ADVANCE_WIDTH_MAX..CARET_SLOPE_RISE];
+        write_hhea(out, header, extremes, self.number_of_h_metrics);
     }
 
     /// Writes `hmtx`.
-    #[tactic(auto, unfolding(crate::specs::Common::Hmtx::Written::hmtx_bytes))]
+    #[tactic(auto, unfolding(subsetter_sfnt::specs::Fields::Hmtx::hmtx_bytes))]
     pub fn write_hmtx(&self, out: &mut Vec<u8>)
         requires { length out.old.items + length self.now.hmtx ≤ vec_capacity out.old }
         ensures items { out.new.items ≡ out.old.items ++ self.now.hmtx }

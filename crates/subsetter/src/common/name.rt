@@ -1,7 +1,7 @@
 //! `name`, the names of a font (OpenType, "name").
 //!
-//! Version 0 has records, each of which says for a platform, an encoding, a language and a name where in the storage behind
-//! the records its string stands. The new table keeps the Unicode records of the names 0 to 14 but the description, and
+//! Version 0 has records, each of which has for a platform, an encoding, a language and a name the offset of its string in the
+//! storage behind the records. The new table keeps the Unicode records of the names 0 to 14 but the description, and
 //! stores each string once. A table of another version is copied.
 //!
 //! The source's table is read without copying (`Table`). What a subset keeps of it is `NewNames`, which is written into
@@ -28,14 +28,21 @@ use std::marker::Model;
 use subsetter_base::Error;
 use subsetter_base::read::{LazyArray16, Reader};
 use subsetter_base::write::{Writeable, Writer};
-use subsetter_sfnt::fields::name::{COUNT, NameRecord};
+use subsetter_sfnt::fields::name::{COUNT, HEADER_SIZE, NAME_RECORD_SIZE, NameRecord};
 use subsetter_sfnt::laying::room::put;
+
+/// The names below this one are kept: 15 is reserved, and those behind it are of families.
+const KEPT_NAMES: u16 = 15;
+/// The name that describes the typeface.
+const DESCRIPTION: u16 = 10;
+/// The most bytes of records before storageOffset passes 16 bits.
+const RECORDS_MAX: usize = 65520;
 
 /// Whether a subset keeps a record: its string is Unicode, and it isn't the description.
 fn is_kept(one: &NameRecord) -> bool
     ensures { result ≡ is_kept_record one.now }
 {
-    one.is_unicode() && one.name_id < 15 && one.name_id != 10
+    one.is_unicode() && one.name_id < KEPT_NAMES && one.name_id != DESCRIPTION
 }
 
 /// How many strings are looked through one by one.
@@ -45,7 +52,7 @@ const LINEAR_MAX: usize = 32;
 #[derive(Drop)]
 struct Strings<'a> {
     strings: Vec<&'a [u8]>,
-    /// Where the strings begin that stand behind the first 32, and of these none.
+    /// The offsets of the strings after the first 32.
     hashed: HashMap<Text<'a>, u16>,
     size: usize,
 }
@@ -242,7 +249,7 @@ impl Writeable for Table<'_> {
         let count = count_records(self);
         w.write(&0u16)?;
         w.write(&count)?;
-        w.write(&(((6 + 12 * count as usize) % 65536) as u16))?;
+        w.write(&(((HEADER_SIZE + NAME_RECORD_SIZE * count as usize) % 65536) as u16))?;
         write_records(w, self)?;
         w.extend(self.storage)?;
         Ok(())
@@ -275,7 +282,7 @@ impl<'a> NewNames<'a> {
         ensures exact { length self.now < 2 ^ 32 → result ≡ length self.now }
         ensures past { 2 ^ 32 ≤ length self.now → 2 ^ 32 ≤ result }
     {
-        (6 + self.records.len()).saturating_add(self.strings.len())
+        (HEADER_SIZE + self.records.len()).saturating_add(self.strings.len())
     }
 
     /// Writes the table.
@@ -284,7 +291,7 @@ impl<'a> NewNames<'a> {
         ensures items { out.new.items ≡ out.old.items ++ self.now }
         ensures capacity { vec_capacity out.old ≤ vec_capacity out.new }
     {
-        write_header(out, self.records.len() / 12);
+        write_header(out, self.records.len() / NAME_RECORD_SIZE);
         put(out, &self.records);
         self.strings.write(out);
     }
@@ -299,7 +306,7 @@ fn write_header(out: &mut Vec<u8>, count: usize)
     ensures capacity { vec_capacity out.old ≤ vec_capacity out.new }
 {
     let [a, b] = (count as u16).to_be_bytes();
-    let [c, d] = ((6 + 12 * count) as u16).to_be_bytes();
+    let [c, d] = ((HEADER_SIZE + NAME_RECORD_SIZE * count) as u16).to_be_bytes();
     put(out, &[0, 0, a, b, c, d]);
 }
 
@@ -340,7 +347,7 @@ fn no_bytes(alloc: Global, count: usize) -> Result<Writer, Error>
 fn few_names<'a>(records: Vec<u8>, strings: Strings<'a>) -> Result<NewNames<'a>, Error>
     ensures { Gives (λ names. names) result (few_laid (record { bytes = records.items; strings = strings.entry })) }
 {
-    if records.len() > 65520 {
+    if records.len() > RECORDS_MAX {
         return Err(Error::SubsetError);
     }
     Ok(NewNames { records, strings })
@@ -351,7 +358,7 @@ fn laid_names<'a>(alloc: Global, table: &Table<'a>) -> Result<NewNames<'a>, Erro
     ensures { Gives (λ names. names) result (laid_bytes (seen_table table.now)) }
 {
     let count = usize::from(table.records.len()).min(LINEAR_MAX);
-    let mut front = no_bytes(alloc, 12 * count)?;
+    let mut front = no_bytes(alloc, NAME_RECORD_SIZE * count)?;
     let mut strings = Strings::with_capacity(alloc, count)?;
     collect_names(table, &mut front, &mut strings)?;
     few_names(front.finish(), strings)

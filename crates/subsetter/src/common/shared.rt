@@ -45,9 +45,9 @@ fn glyph_names<'a>(
 {
     let post = face.stored(Tag::POST);
     if face.extras.glyph_names {
-        post::subset(alloc, post, order)
+        post::write::subset(alloc, post, order)
     } else {
-        post::subset_without_names(alloc, post, order)
+        post::write::subset_without_names(alloc, post, order)
     }
 }
 

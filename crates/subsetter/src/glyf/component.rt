@@ -20,9 +20,10 @@ ghost use Rattle.subsetter.specs.Glyf.Plain.{rewritten_composite};
 use subsetter_base::read::u16_at;
 use subsetter_base::{Error, GlyphRemapper};
 use subsetter_points::component::{
-    ARG_1_AND_2_ARE_WORDS, MORE_COMPONENTS, WE_HAVE_A_SCALE, WE_HAVE_A_TWO_BY_TWO,
-    WE_HAVE_AN_X_AND_Y_SCALE, WE_HAVE_INSTRUCTIONS,
+    ARG_1_AND_2_ARE_WORDS, ARGUMENTS, GLYPH_INDEX, MORE_COMPONENTS, WE_HAVE_A_SCALE,
+    WE_HAVE_A_TWO_BY_TWO, WE_HAVE_AN_X_AND_Y_SCALE, WE_HAVE_INSTRUCTIONS,
 };
+use subsetter_points::header::HEADER_SIZE;
 
 /// All flags but WE_HAVE_INSTRUCTIONS.
 const WITHOUT_INSTRUCTIONS: u16 = 0xFEFF;
@@ -74,12 +75,12 @@ fn has_instructions(flags: u16) -> bool
 fn read_component(bytes: &[u8]) -> Option<Component<'_>>
     ensures { option_map component_seen result ≡ component_at bytes.now }
 {
-    if bytes.len() < 4 {
+    if bytes.len() < ARGUMENTS {
         return None;
     }
     let flags = u16_at(bytes, 0);
-    let glyph = u16_at(bytes, 2);
-    let rest = bytes.get(4..4 + rest_size(flags))?;
+    let glyph = u16_at(bytes, GLYPH_INDEX);
+    let rest = bytes.get(ARGUMENTS..ARGUMENTS + rest_size(flags))?;
     Some(Component { flags, glyph, rest })
 }
 
@@ -95,7 +96,7 @@ fn rest_after<'a>(bytes: &'a [u8], component: Component<'_>) -> &'a [u8]
     requires { component_at bytes.now ≡ Some (component_seen component) }
     ensures { result.now ≡ drop (4 + rest_size component.entry.flags) bytes.now }
 {
-    &bytes[4 + component.rest.len()..]
+    &bytes[ARGUMENTS + component.rest.len()..]
 }
 
 /// How many of the bytes behind the last component, which has these flags, are its instructions, if they are asked for.
@@ -127,10 +128,10 @@ fn push_cut(bytes: &[u8], order: &GlyphRemapper, waiting: &mut Vec<u16>) -> Resu
     ensures ok { OnOk result (waiting.new.items ≡ waiting.old.items ++ others_in order.now (numbers_at (length bytes.now) bytes.now)) }
     ensures err { IfErr result (λ e. e ≡ OutOfMemory) }
 {
-    if bytes.len() < 4 {
+    if bytes.len() < ARGUMENTS {
         return Ok(());
     }
-    push_new(order, waiting, u16_at(bytes, 2))?;
+    push_new(order, waiting, u16_at(bytes, GLYPH_INDEX))?;
     Ok(())
 }
 
@@ -156,10 +157,10 @@ pub fn push_components(
     ensures cut { IfOk result (λ n. n.cut ≡ true → outline_parts outline.now ≡ None) }
     ensures err { IfErr result (λ e. (e ≡ OutOfMemory) ⊎ ((e ≡ MalformedFont) × (outline_parts outline.now ≡ None))) }
 {
-    if outline.len() < 10 {
+    if outline.len() < HEADER_SIZE {
         return Err(Error::MalformedFont);
     }
-    let mut rest = &outline[10..];
+    let mut rest = &outline[HEADER_SIZE..];
     loop {
         let Some(component) = read_component(rest) else {
             push_cut(rest, order, waiting)?;
@@ -212,10 +213,10 @@ fn renumber(
 {
     let number = order.get(component.glyph).unwrap_or(0);
     put_number(out, at, requested_flags(hinting, component.flags));
-    put_number(out, at + 2, number);
+    put_number(out, at + GLYPH_INDEX, number);
 }
 
-/// Leaves out as many bytes behind the last component, unless these are its instructions, and asked for.
+/// Removes the last `size` bytes, unless they are instructions, and requested.
 fn cut_tail(out: &mut Vec<u8>, flags: u16, size: usize, hinting: bool)
     requires { size ≤ length out.old.items }
     ensures { out.new.items ≡ (if hinting && has_instructions flags then out.old.items else take (length out.old.items - size) out.old.items) }
@@ -237,12 +238,12 @@ pub fn rewrite_composite(
     ensures err { IfErr result (λ e. Fails e (behind out.old.items (rewritten_composite hinting order.now outline.now))) }
     ensures unchanged { OnErr result (out.new.items ≡ out.old.items) }
 {
-    if outline.len() < 10 {
+    if outline.len() < HEADER_SIZE {
         return Err(Error::MalformedFont);
     }
     let start = out.len();
     out.extend_from_slice(outline)?;
-    let mut rest = &outline[10..];
+    let mut rest = &outline[HEADER_SIZE..];
     loop {
         let Some(component) = read_component(rest) else {
             out.truncate(start);

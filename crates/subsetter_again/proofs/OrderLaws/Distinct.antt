@@ -7,7 +7,7 @@ use Rattle.std.proofs.lemmas.List.Sums.{sum_by-cons, sum_by-set}
 use Rattle.subsetter_again.proofs.Basics.{one_found}
 use Rattle.subsetter_base.proofs.Options.{just}
 use Rattle.subsetter_base.specs.Indexes.{index_of, IsWithoutRepeats}
-use Rattle.subsetter_base.proofs.GlyphLemmas.{place-finds, Contains-place, length-le_small}
+use Rattle.subsetter_base.proofs.GlyphLemmas.{index-finds, Contains-index, length-le_small}
 
 -- equal members stand at one place
 abbrev pub AreApart : List ℕ → Type 0
@@ -17,11 +17,11 @@ pub apart : (xs : List ℕ) → IsWithoutRepeats xs → AreApart xs
 apart xs once i j li lj same = one_found (index_of xs (get_or xs i 0)) i j (once i li) (ap (index_of xs) same ∙ once j lj)
 
 pub place_at : (xs : List ℕ) (g i : ℕ) → AreApart xs → i < length xs → get_or xs i 0 ≡ g → index_of xs g ≡ Some i
-place_at xs g i h li is = by (index_of xs g) refl (Contains-place xs g (i, li, get_or_default xs i g 0 li ∙ is))
+place_at xs g i h li is = by (index_of xs g) refl (Contains-index xs g (i, li, get_or_default xs i g 0 li ∙ is))
   where
     by : (o : Option ℕ) → index_of xs g ≡ o → is_some o ≡ true → index_of xs g ≡ Some i
     by None e some = absurd cc
-    by (Some k) e some = let f = place-finds xs g k e in e ∙ ap just (h k i f.0 li (f.1 ∙ sym is))
+    by (Some k) e some = let f = index-finds xs g k e in e ∙ ap just (h k i f.0 li (f.1 ∙ sym is))
 
 pub without_repeats : (xs : List ℕ) → AreApart xs → IsWithoutRepeats xs
 without_repeats xs h i li = place_at xs (get_or xs i 0) i h li refl

@@ -2,7 +2,7 @@
 use Rattle.std.proofs.Common.{◌≡◌, ℕ, suc, Bool, cond, List, [], ◌∷◌, ◌++◌, length, Option, Some, None, refl, sym, ap, subst, ◌∙◌, append_assoc, arith}
 use Rattle.std.specs.Prelude.{Contains, not}
 use Rattle.std.proofs.lemmas.List.{append-nil}
-use Rattle.subsetter_base.proofs.GlyphLemmas.{Contains-place}
+use Rattle.subsetter_base.proofs.GlyphLemmas.{Contains-index}
 use Rattle.subsetter_sfnt.specs.Read.{Font, as_font}
 use Rattle.subsetter.specs.Glyf.Reaching.Closure.{components_in, others_in, Finds, all_found, follows}
 use Rattle.subsetter.specs.Glyf.Read.{Outlines, outlines, outline_in}
@@ -16,7 +16,7 @@ use Rattle.subsetter_again.proofs.OrderLaws.OneOrder.{among_all, below_all}
 none_other : (order numbers : List ℕ) → ((h : ℕ) → Contains numbers h → Contains order h) → others_in order numbers ≡ []
 none_other order [] among = refl
 none_other order (h ∷ numbers) among =
-    let here = Contains-place order h (among h (0, omega arith, refl)) in
+    let here = Contains-index order h (among h (0, omega arith, refl)) in
     ap (λ (b : Bool). cond (not b) (h ∷ others_in order numbers) (others_in order numbers)) here
     ∙ none_other order numbers (λ k c. among k (suc c.0, omega (arith, c.1), c.2))
 

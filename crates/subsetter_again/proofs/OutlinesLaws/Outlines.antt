@@ -15,7 +15,8 @@ use Rattle.subsetter.specs.Glyf.Plain.{renumbered_component, renumbered, rewritt
 use Rattle.subsetter_base.specs.Indexes.{new_index}
 use Rattle.subsetter.specs.Glyf.Read.{Outlines, outline_in}
 use Rattle.subsetter.specs.Glyf.Reaching.Unfold.{padded}
-use Rattle.subsetter.specs.Glyf.Written.{even_size, is_long, glyf_bytes, offset_bytes, loca_bytes}
+use Rattle.subsetter_sfnt.specs.Fields.Loca.{offset_bytes}
+use Rattle.subsetter.specs.Glyf.Written.{even_size, is_long, glyf_bytes, loca_bytes}
 use Rattle.subsetter.specs.Truetype.Plain.{located}
 use Rattle.subsetter.proofs.GlyfLaws.Back.{length-even}
 use Rattle.subsetter.proofs.GlyfLaws.Parts.{padded-append, padded-nil, chain_is, chain-even, length-spelled}

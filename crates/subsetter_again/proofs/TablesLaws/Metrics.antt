@@ -11,16 +11,17 @@ use Rattle.subsetter_base.specs.declared.error.Error.TheVariants.{MalformedFont,
 use Rattle.subsetter_base.proofs.ByteLemmas.{range-take_drop, number-fits}
 use Rattle.subsetter_base.proofs.Options.{just}
 use Rattle.subsetter_sfnt.specs.declared.fields.hmtx.LongHorMetric.{LongHorMetric}
-use Rattle.subsetter_sfnt.specs.Fields.Hmtx.{metric_in}
+use Rattle.subsetter_sfnt.specs.Fields.Hmtx.{metric_in, hmtx_bytes}
 use Rattle.subsetter_sfnt.specs.Fields.Hhea.{number_of_h_metrics}
-use Rattle.subsetter.specs.Common.Hmtx.Written.{MetricBytes, least_count, hmtx_bytes, hhea_bytes, if_pairs, metrics_all, source_count, tables_of, metrics_in, metrics_of}
-use Rattle.subsetter.proofs.CommonLaws.HmtxLaws.Back.{metric_small, metric_back, length-hmtx, count_back, header_before, header_after}
+use Rattle.subsetter_sfnt.proofs.Laws.FieldsLaws.HmtxLaws.{metric_small, metric_back, length-hmtx}
+use Rattle.subsetter.specs.Common.Hmtx.Written.{MetricBytes, least_count, hhea_bytes, if_pairs, metrics_all, source_count, tables_of, metrics_in, metrics_of}
+use Rattle.subsetter.proofs.CommonLaws.HmtxLaws.Back.{count_back, header_before, header_after}
 use Rattle.subsetter.proofs.CommonLaws.HmtxLaws.Kept.{Steps, steps, no_metrics}
 use Rattle.subsetter.proofs.CommonLaws.HmtxLaws.Written.{metrics-length, metrics_at, least_count-le, least_count_pos, advances_agree}
 use Rattle.subsetter_again.proofs.OrderLaws.Places.{AreAt}
 
 abbrev zeros : LongHorMetric
-zeros = record { advance = 0; bearing = 0 }
+zeros = record { advance_width = 0; lsb = 0 }
 
 -- metrics, one by one
 all_metrics : (hmtx : List ℕ) (count : ℕ) (gs : List ℕ) (ms : List LongHorMetric) → length ms ≡ length gs → ((i : ℕ) → i < length gs → metric_in hmtx count (get_or gs i 0) ≡ Some (get_or ms i zeros)) → metrics_all hmtx count gs ≡ Ok ms
@@ -77,7 +78,7 @@ module _ (find : List ℕ → Option (List ℕ)) (L M order : List ℕ) (t : Met
   metric_at_place i lt =
       let within : i < length s.metrics = omega (arith, lt, as_many) in
       let fits = metric_small s.hmtx s.count (get_or L i 0) (get_or s.metrics i zeros) fit (metrics_at s.hmtx s.count L s.metrics i zeros s.all lt) in
-      let agree : n ≤ i → (get_or s.metrics i zeros).advance ≡ (get_or s.metrics (n - 1) zeros).advance = λ le. advances_agree s.metrics (n - 1) i zeros (omega (arith, positive)) (omega (arith, positive, le)) within in
+      let agree : n ≤ i → (get_or s.metrics i zeros).advance_width ≡ (get_or s.metrics (n - 1) zeros).advance_width = λ le. advances_agree s.metrics (n - 1) i zeros (omega (arith, positive)) (omega (arith, positive, le)) within in
       metric_back s.metrics n i zeros positive at_most within fits agree
 
   -- the metrics of the glyphs, either way
@@ -104,7 +105,7 @@ module _ (find : List ℕ → Option (List ℕ)) (L M order : List ℕ) (t : Met
   tables_again =
       let last = number_there hmtx (4 * (n - 1)) 2 (omega (arith, length-hmtx s.metrics n at_most, positive, at_most)) in
       let count = count_there hhea hmtx n last.0 (count_back n s.hhea (omega (arith, at_most, as_many, few)) long) positive last.1 in
-      let source = count_there s.hhea s.hmtx s.count s.number_of_h_metrics.advance s.number_of_h_metrics.count_is (omega (arith, s.number_of_h_metrics.positive)) s.number_of_h_metrics.last in
+      let source = count_there s.hhea s.hmtx s.count s.number_of_h_metrics.advance_width s.number_of_h_metrics.count_is (omega (arith, s.number_of_h_metrics.positive)) s.number_of_h_metrics.last in
       let k = least_count ms in
       ap (λ r. r >>= λ c. metrics_all hmtx c M >>= whole hhea) count
       ∙ ap (λ r. r >>= whole hhea) by_subset

@@ -10,7 +10,8 @@ use Rattle.subsetter_base.proofs.Results.{done_is}
 use Rattle.subsetter_sfnt.specs.declared.flavor.FontFlavor.{FontFlavor}
 use Rattle.subsetter_sfnt.specs.declared.flavor.FontFlavor.TheVariants.{TrueType, Cff}
 use Rattle.subsetter_sfnt.specs.Laying.Written.{with_adjustment}
-use Rattle.subsetter.specs.Common.Head.Written.{format_bytes, head_bytes, head_in}
+use Rattle.subsetter_sfnt.specs.Fields.Head.{format_bytes}
+use Rattle.subsetter.specs.Common.Head.Written.{head_bytes, head_in}
 use Rattle.subsetter.specs.Common.Maxp.Read.{version_of, further_fields}
 use Rattle.subsetter.specs.Common.Maxp.Written.{maxp_bytes, maxp_in}
 use Rattle.subsetter.proofs.CommonLaws.HeadLaws.Back.{head_length, head_front, head_middle, head_end}

@@ -10,7 +10,7 @@ use Rattle.subsetter_cffdata.specs.declared.numerals.charstring_number.CharStrin
 use Rattle.subsetter_blend.specs.declared.axes.Along.{Along}
 use Rattle.subsetter_blend.specs.declared.writing.placing.Position.{Position}
 use Rattle.subsetter_blend.specs.Runs.Number.{is_within, whole}
-use Rattle.subsetter_blend.specs.Writing.Placed.{Placed, is_short, short, step, gone, number_of, moved, placed}
+use Rattle.subsetter_blend.specs.Writing.Placed.{Placed, is_short, short, step, position_after, number_of, moved, placed}
 
 abbrev pub Small : ℤ → Type 0
 Small z = unsigned_abs z ≤ 2 ^ 48
@@ -35,7 +35,7 @@ step_is old new e o w n within end fits start way number =
 
 -- one move more
 pub place_more : (operator : Operator) (n i : ℕ) (operands : List ℤ) (at to : Position) (numbers now : List CharStringNumber) (a : Along) (v : ℤ) (m : CharStringNumber) → i < length operands
-    → a ≡ along operator n i → v ≡ get_or operands i (pos 0) → to ≡ gone a v at → number_of a v at ≡ Some m → now ≡ numbers ++ m ∷ []
+    → a ≡ along operator n i → v ≡ get_or operands i (pos 0) → to ≡ position_after a v at → number_of a v at ≡ Some m → now ≡ numbers ++ m ∷ []
     → placed operator n i (drop i operands) (record { at = at; numbers = numbers }) ≡ placed operator n (i + 1) (drop (i + 1) operands) (record { at = to; numbers = now })
 unfolding moved
 place_more operator n i operands at to numbers now a v m h along_is operand_is to_is some now_is =
@@ -44,7 +44,7 @@ place_more operator n i operands at to numbers now a v m h along_is operand_is t
     let is : moved (along operator n i) (get_or operands i (pos 0)) p ≡ Some (record { at = to; numbers = now }) =
     ap (λ (x : Along). moved x (get_or operands i (pos 0)) p) (sym along_is)
     ∙ ap (λ (z : ℤ). moved a z p) (sym operand_is)
-    ∙ ap (λ (o : Option CharStringNumber). option_map {U = Placed} (λ k. record { at = gone a v at; numbers = numbers ++ k ∷ [] }) o) some
+    ∙ ap (λ (o : Option CharStringNumber). option_map {U = Placed} (λ k. record { at = position_after a v at; numbers = numbers ++ k ∷ [] }) o) some
     ∙ ap (λ (t : Position). Some (record { at = t; numbers = numbers ++ m ∷ [] })) (sym to_is)
     ∙ ap (λ (l : List CharStringNumber). Some (record { at = to; numbers = l })) (sym now_is) in
     placed_step operator n i operands p h ∙ ap go is
@@ -59,5 +59,5 @@ place_none operator n i operands at numbers a v h along_is operand_is none =
     let is : moved (along operator n i) (get_or operands i (pos 0)) p ≡ None =
     ap (λ (x : Along). moved x (get_or operands i (pos 0)) p) (sym along_is)
     ∙ ap (λ (z : ℤ). moved a z p) (sym operand_is)
-    ∙ ap (λ (o : Option CharStringNumber). option_map {U = Placed} (λ k. record { at = gone a v at; numbers = numbers ++ k ∷ [] }) o) none in
+    ∙ ap (λ (o : Option CharStringNumber). option_map {U = Placed} (λ k. record { at = position_after a v at; numbers = numbers ++ k ∷ [] }) o) none in
     placed_step operator n i operands p h ∙ ap (λ (o : Option Placed). option_and_then (placed operator n (i + 1) (drop (i + 1) operands)) o) is

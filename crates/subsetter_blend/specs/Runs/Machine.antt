@@ -6,7 +6,7 @@ use Rattle.subsetter_base.specs.declared.error.Error.TheVariants.{CFFError, Over
 use Rattle.subsetter_cffdata.specs.declared.numerals.charstring_number.CharStringNumber.{CharStringNumber}
 use Rattle.subsetter_cffdata.specs.declared.dicts.operator.Operator.{Operator}
 use Rattle.subsetter_cffdata.specs.Numerals.CharStringNumber.{number_at}
-use Rattle.subsetter_type2.specs.Runs.Machine.{Library, Lead, On, Into, rests_after, unended}
+use Rattle.subsetter_type2.specs.Runs.Machine.{Library, Continuation, On, Into, rests_after, unended}
 use Rattle.subsetter_type2.specs.Subroutines.{biased_entry}
 use Rattle.subsetter_type2.specs.Token.{Token, Operand, Operation, token_of}
 use Rattle.subsetter_blend.specs.declared.runs.kind.Kind.{Kind}
@@ -35,9 +35,9 @@ pub record State : Type 0 where
   pub rests : List (List ℕ)
   pub registers : Registers
 
--- what a token does: perhaps an event, new registers and where it leads; or a fault
+-- what a token does: perhaps an event, new registers and what runs next; or a fault
 pub data Act : Type 0 where
-  Does : (said : Option Event) (next : Registers) (lead : Lead) → Act
+  Does : (said : Option Event) (next : Registers) (lead : Continuation) → Act
   Fails : (error : Error) → Act
 
 abbrev pub last_operand : List ℤ → Option ℤ
@@ -46,9 +46,9 @@ last_operand operands = slice_get operands (length operands - 1)
 abbrev pub but_last : List ℤ → List ℤ
 but_last operands = take (length operands - 1) operands
 
--- In what follows `rest` is what stands after the token in its charstring.
+-- In what follows `rest` is what is after the token in its charstring.
 
--- a number goes onto the stack, which holds 513
+-- a number is put onto the stack, which holds 513
 abbrev pub push : CharStringNumber → List ℕ → Registers → Act
 push number rest r =
     if nat_lt (length r.operands) 513
@@ -62,7 +62,7 @@ emit operator mask rest r =
     then Does (Some (record { operator = operator; operands = r.operands; mask = mask })) (record r { operands = [] }) (On rest)
     else Fails CFFError
 
--- the stems with those that the operands stand for, two for each
+-- the stems with those of the operands, two for each
 abbrev pub stems_after : Registers → ℕ
 stems_after r = r.stems + length r.operands / 2
 
@@ -170,17 +170,17 @@ unfoldable pub act_at : Setting → List ℕ → Registers → Act
 act_at setting bytes r = act_on setting (token_of bytes) r
 
 -- ---- the run, whose events something takes, one after the other
--- what an act leaves: the registers, what has taken its event, and where it leads
+-- what an act leaves: the registers, what has taken its event, and what runs next
 pub record Done (S : Type 0) : Type 0 where
   pub registers : Registers
   pub taken : S
-  pub lead : Lead
+  pub lead : Continuation
 
 abbrev pub taken_also : {S : Type 0} → (Event → S → Result S Error) → Option Event → S → Result S Error
 taken_also take None s = Ok s
 taken_also take (Some event) s = take event s
 
-abbrev pub done_with : {S : Type 0} → Registers → Lead → Result S Error → Result (Done S) Error
+abbrev pub done_with : {S : Type 0} → Registers → Continuation → Result S Error → Result (Done S) Error
 done_with next lead (Ok s) = Ok (record { registers = next; taken = s; lead = lead })
 done_with next lead (Err e) = Err e
 
@@ -188,7 +188,7 @@ abbrev pub done : {S : Type 0} → (Event → S → Result S Error) → Act → 
 done take (Does said next lead) s = done_with next lead (taken_also take said s)
 done take (Fails error) s = Err error
 
--- goes on from an act, no deeper than the limit
+-- continues from an act, no deeper than the limit
 abbrev pub follow : {S : Type 0} → ℕ → List (List ℕ) → Result (Done S) Error → (S → State → Result S Error) → Result S Error
 follow depth callers (Err error) go = Err error
 follow depth callers (Ok d) go =
@@ -196,10 +196,10 @@ follow depth callers (Ok d) go =
     then go d.taken (record { rests = rests_after d.lead callers; registers = d.registers })
     else Err CFFError
 
--- the run is over where nothing is left to run, and else it wants a token
-abbrev pub want : {S : Type 0} → List (List ℕ) → Result S Error → (List ℕ → List (List ℕ) → Result S Error) → Result S Error
-want [] over go = over
-want (bytes ∷ callers) over go = go bytes callers
+-- the run is over where nothing is left to run, and else it needs a token
+abbrev pub ended_or : {S : Type 0} → List (List ℕ) → Result S Error → (List ℕ → List (List ℕ) → Result S Error) → Result S Error
+ended_or [] over go = over
+ended_or (bytes ∷ callers) over go = go bytes callers
 
 -- no operand is left at the end
 abbrev pub ended : {S : Type 0} → S → List ℤ → Result S Error
@@ -208,9 +208,9 @@ ended s (z ∷ zs) = Err CFFError
 
 -- a run from a state, with so many tokens at most
 unfoldable pub run : {S : Type 0} → (Event → S → Result S Error) → Setting → ℕ → ℕ → S → State → Result S Error
-run take setting depth zero s state = want (unended state.rests) (ended s state.registers.operands) (λ bytes callers. Err CFFError)
+run take setting depth zero s state = ended_or (unended state.rests) (ended s state.registers.operands) (λ bytes callers. Err CFFError)
 run take setting depth (suc tokens) s state =
-    want (unended state.rests) (ended s state.registers.operands)
+    ended_or (unended state.rests) (ended s state.registers.operands)
     (λ bytes callers. follow depth callers (done take (act_at setting bytes state.registers) s) (run take setting depth tokens))
 
 -- before the first token, where these item variation data count

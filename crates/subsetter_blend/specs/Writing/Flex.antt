@@ -1,4 +1,4 @@
--- The short forms of flex as flex: six places and the depth 50 (Technical Note 5177, section 4.2 "hflex", "flex", "hflex1" and "flex1").
+-- The short forms of flex as flex: six positions and the depth 50 (Technical Note 5177, section 4.2 "hflex", "flex", "hflex1" and "flex1").
 use Rattle.std.specs.Prelude.{ℕ, ◌==◌, ℤ, pos, ◌+ℤ◌, neg_ℤ, unsigned_abs, nat_lt, if◌then◌else◌, List, [], ◌∷◌, slice_index_or}
 use Rattle.subsetter_cffdata.specs.declared.dicts.operator.OperatorType.{OperatorType}
 use Rattle.subsetter_cffdata.specs.declared.dicts.operator.OperatorType.TheVariants.{OneByteOperator, TwoByteOperator}

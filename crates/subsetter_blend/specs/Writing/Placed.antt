@@ -1,4 +1,4 @@
--- Exact operands as whole ones: each place of the path, and each edge of a stem, is rounded once.
+-- Exact operands as whole ones: each position of the path, and each edge of a stem, is rounded once.
 use Rattle.std.specs.Prelude.{ℕ, ◌+◌, ℤ, pos, negsuc, ◌+ℤ◌, ◌-ℤ◌, int_le, Bool, ◌&&◌, if◌then◌else◌, List, [], ◌∷◌, ◌++◌, Option, Some, None, option_map}
 use Rattle.std.specs.Option.{option_and_then}
 use Rattle.subsetter_cffdata.specs.declared.dicts.operator.Operator.{Operator}
@@ -14,7 +14,7 @@ use Rattle.subsetter_blend.specs.Runs.Number.{IsWithin, is_within, whole}
 abbrev pub is_short : ℤ → Bool
 is_short v = int_le (negsuc 32767) v && int_le v (pos 32767)
 
--- an exact place, in parts, lies within 32768 units
+-- an exact position, in parts, is within 32768 units
 pub record IsPosition (at : Position) : Type 0 where
   pub x : IsWithin at.x
   pub y : IsWithin at.y
@@ -35,23 +35,23 @@ unfoldable pub step : ℤ → ℤ → Option CharStringNumber
 step old new = if is_within new then (if is_short (whole new) then short (whole new -ℤ whole old) else None) else None
 
 -- what is no move, as a whole number
-unfoldable pub still : ℤ → Option CharStringNumber
-still v = if is_within v then short (whole v) else None
+unfoldable pub whole_operand : ℤ → Option CharStringNumber
+whole_operand v = if is_within v then short (whole v) else None
 
 -- where a move by so many parts goes
-abbrev pub gone : Along → ℤ → Position → Position
-gone X v at = record { x = at.x +ℤ v; y = at.y }
-gone Y v at = record { x = at.x; y = at.y +ℤ v }
-gone Still v at = at
+abbrev pub position_after : Along → ℤ → Position → Position
+position_after X v at = record { x = at.x +ℤ v; y = at.y }
+position_after Y v at = record { x = at.x; y = at.y +ℤ v }
+position_after Still v at = at
 
 -- its whole operand, if it fits
 abbrev pub number_of : Along → ℤ → Position → Option CharStringNumber
 number_of X v at = step at.x (at.x +ℤ v)
 number_of Y v at = step at.y (at.y +ℤ v)
-number_of Still v at = still v
+number_of Still v at = whole_operand v
 
 unfoldable pub moved : Along → ℤ → Placed → Option Placed
-moved along v p = option_map (λ n. record { at = gone along v p.at; numbers = p.numbers ++ n ∷ [] }) (number_of along v p.at)
+moved along v p = option_map (λ n. record { at = position_after along v p.at; numbers = p.numbers ++ n ∷ [] }) (number_of along v p.at)
 
 -- the moves of an operator with n operands, from the operand numbered i on; none where a number doesn't fit
 abbrev pub placed : Operator → ℕ → ℕ → List ℤ → Placed → Option Placed

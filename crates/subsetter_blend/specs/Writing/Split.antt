@@ -39,7 +39,7 @@ abbrev pub moved_by : ℤ → List ℤ → List ℤ
 moved_by sum [] = []
 moved_by sum (v ∷ vs) = (sum +ℤ v) ∷ vs
 
--- the stems of an operator begin at 0 again, so those of a further piece begin with the sum of all before; a path goes on
+-- the stems of an operator begin at 0 again, so those of a further piece begin with the sum of all before; a path continues
 abbrev pub sum_before : Bool → List ℤ → ℤ
 sum_before true vs = sum_of vs
 sum_before false vs = pos 0
@@ -53,7 +53,7 @@ rest_of k e = record { operator = e.operator; operands = moved_by (sum_before (i
 abbrev pub next_cut : Event → ℕ
 next_cut e = cut e.operator.0 (length e.operands)
 
--- at most 48 operands each, of which so many stand in front of the first piece's; so many further pieces at most
+-- at most 48 operands each, of which so many are in front of the first piece's; so many further pieces at most
 unfoldable pub pieces : ℕ → ℕ → Event → List Event
 pieces zero width e = e ∷ []
 pieces (suc more) width e =

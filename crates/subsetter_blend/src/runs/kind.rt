@@ -5,7 +5,13 @@ ghost use Rattle.subsetter_type2.specs.Token.{two_byte_effect};
 ghost use Rattle.subsetter_blend.specs.Runs.Kind.{kind_of, one_byte_kind, accepts, one_byte_accepts, two_byte_accepts};
 
 use subsetter_cffdata::dicts::operator::{Operator, OperatorType};
+use subsetter_type2::operators::{first_byte, second_byte};
 use subsetter_type2::token::{Effect, one_byte_effect};
+
+/// vsindex, of CFF2 alone.
+const VSINDEX: u8 = 15;
+/// blend, of CFF2 alone.
+const BLEND: u8 = 16;
 
 /// What an operator does.
 #[derive(Clone, Copy, PartialEq, Eq, Debug)]
@@ -39,8 +45,8 @@ pub fn one_byte_kind(first: u8) -> Option<Kind>
     ensures { result ≡ one_byte_kind first }
 {
     match first {
-        15 => Some(Kind::ChoosesData),
-        16 => Some(Kind::Blends),
+        VSINDEX => Some(Kind::ChoosesData),
+        BLEND => Some(Kind::Blends),
         _ => kind_of(one_byte_effect(first)),
     }
 }
@@ -50,24 +56,22 @@ fn one_byte_accepts(first: u8, count: usize) -> bool
     ensures { result ≡ one_byte_accepts first count }
 {
     match first {
-        // hstem, vstem, rlineto, hstemhm, vstemhm
-        1 | 3 | 5 | 18 | 23 => count >= 2 && count % 2 == 0,
-        // hintmask, cntrmask
-        19 | 20 => count % 2 == 0,
-        // vmoveto, hmoveto
-        4 | 22 => count == 1,
-        // rmoveto
-        21 => count == 2,
-        // hlineto, vlineto
-        6 | 7 => count >= 1,
-        // rrcurveto
-        8 => count >= 6 && count % 6 == 0,
-        // rcurveline
-        24 => count >= 8 && count % 6 == 2,
-        // rlinecurve
-        25 => count >= 8 && count % 2 == 0,
-        // vvcurveto, hhcurveto, vhcurveto, hvcurveto
-        26 | 27 | 30 | 31 => count >= 4 && count % 4 < 2,
+        first_byte::HORIZONTAL_STEM
+        | first_byte::VERTICAL_STEM
+        | first_byte::LINE_TO
+        | first_byte::HORIZONTAL_STEM_HINT_MASK
+        | first_byte::VERTICAL_STEM_HINT_MASK => count >= 2 && count % 2 == 0,
+        first_byte::HINT_MASK | first_byte::COUNTER_MASK => count % 2 == 0,
+        first_byte::VERTICAL_MOVE_TO | first_byte::HORIZONTAL_MOVE_TO => count == 1,
+        first_byte::MOVE_TO => count == 2,
+        first_byte::HORIZONTAL_LINE_TO | first_byte::VERTICAL_LINE_TO => count >= 1,
+        first_byte::CURVE_TO => count >= 6 && count % 6 == 0,
+        first_byte::CURVE_LINE => count >= 8 && count % 6 == 2,
+        first_byte::LINE_CURVE => count >= 8 && count % 2 == 0,
+        first_byte::VV_CURVE_TO
+        | first_byte::HH_CURVE_TO
+        | first_byte::VH_CURVE_TO
+        | first_byte::HV_CURVE_TO => count >= 4 && count % 4 < 2,
         _ => false,
     }
 }
@@ -77,11 +81,10 @@ fn two_byte_accepts(second: u8, count: usize) -> bool
     ensures { result ≡ two_byte_accepts second count }
 {
     match second {
-        // hflex, flex, hflex1, flex1
-        34 => count == 7,
-        35 => count == 13,
-        36 => count == 9,
-        37 => count == 11,
+        second_byte::HFLEX => count == 7,
+        second_byte::FLEX => count == 13,
+        second_byte::HFLEX1 => count == 9,
+        second_byte::FLEX1 => count == 11,
         _ => false,
     }
 }

@@ -1,4 +1,4 @@
-//! What a token does to the stack, the stems and the data, which event it says, and where it leads (OpenType, "CFF2
+//! What a token does to the stack, the stems and the data, which event it has, and what runs next (OpenType, "CFF2
 //! CharString Format"; Technical Note 5177, section 4).
 
 ghost use Rattle.std.specs.Prelude.{◌≡◌, ◌<◌, ◌≤◌, ◌^◌, [], false, IfOk, IfErr, unsigned_abs};
@@ -27,7 +27,7 @@ pub struct Subroutines<'a> {
     pub local: SubroutineHandler<'a>,
 }
 
-/// Where a token leads.
+/// What runs after a token.
 #[derive(Clone, Copy)]
 pub enum Flow<'a> {
     /// On in the same charstring, with this rest.
@@ -69,7 +69,7 @@ impl Machine {
         }
     }
 
-    /// A number goes onto the stack.
+    /// A number is put onto the stack.
     fn push<'a>(&mut self, number: CharStringNumber, rest: &'a [u8]) -> Result<Flow<'a>, Error>
         requires { NumberFits number }
         ensures { Silently (push number rest.now (registers_of self.old)) self.new result }
@@ -99,13 +99,13 @@ impl Machine {
         Ok(Flow::GoesOn(rest))
     }
 
-    /// The stems with those that the operands stand for.
+    /// The stems with those of the operands.
     fn stems_after(&self) -> Result<u16, Error>
         ensures ok { IfOk result (λ stems. (stems ≡ stems_after (registers_of self.now)) × (stems ≤ 65535)) }
         ensures err { IfErr result (λ e. (e ≡ Error.CFFError) × (65535 < stems_after (registers_of self.now))) }
     {
         let stems = self.stems as usize + self.operands.len() / 2;
-        if stems > 65535 {
+        if stems > MAX_STEMS {
             return Err(Error::CFFError);
         }
         Ok(stems as u16)
@@ -191,7 +191,7 @@ impl Machine {
 }
 
 impl Machine {
-    /// An operator of this kind, with what stands after it in its charstring.
+    /// An operator of this kind, with what follows it in its charstring.
     fn operate<'a, S: Takes, R: Regions>(
         &mut self,
         sink: &mut S,
@@ -248,7 +248,7 @@ impl Machine {
         self.push(read.number, read.rest)
     }
 
-    /// The token at the front of these bytes, which the first byte tells.
+    /// The token at the front of these bytes, by the first byte.
     #[tactic(auto, unfolding(crate::specs::Runs::Machine::act_at, crate::specs::Runs::Machine::push_at, subsetter_type2::specs::Token::token_of, crate::specs::Runs::Kind::operator_kind))]
     pub fn act_at<'a, S: Takes, R: Regions>(
         &mut self,

@@ -4,7 +4,7 @@ ghost use Rattle.std.specs.Prelude.{◌≡◌, ◌∷◌, ◌<◌, ◌≤◌, le
 ghost use Rattle.subsetter_type2.specs.Runs.Machine.{rests_after};
 ghost use Rattle.subsetter_type2.specs.View.{rests_of};
 ghost use Rattle.subsetter_blend.specs.Runs.Machine.{run_all};
-ghost use Rattle.subsetter_blend.specs.Runs.MachineView.{setting_of, lead_of};
+ghost use Rattle.subsetter_blend.specs.Runs.MachineView.{setting_of, continuation_of};
 ghost use Rattle.subsetter_blend.specs.Writing.Taking.{Did};
 
 use crate::runs::machine::{Flow, Machine, Subroutines};
@@ -18,13 +18,13 @@ use subsetter_type2::runs::fixed_stack::FixedStack;
 /// The rests of the callers, at most 255.
 type Rests<'a> = FixedStack<&'a [u8], 255>;
 
-/// What runs after a token that leads there.
+/// What runs after a token of this flow.
 fn follow<'a>(rests: &mut Rests<'a>, flow: Flow<'a>, depth: u8) -> Result<&'a [u8], Error>
     requires fits { length rests.old < depth }
-    ensures ok { IfOk result (λ running. running.now ∷ rests_of rests.new ≡ rests_after (lead_of flow.entry) (rests_of rests.old)) }
-    ensures deep { OnOk result (length (rests_after (lead_of flow.entry) (rests_of rests.old)) ≤ depth) }
+    ensures ok { IfOk result (λ running. running.now ∷ rests_of rests.new ≡ rests_after (continuation_of flow.entry) (rests_of rests.old)) }
+    ensures deep { OnOk result (length (rests_after (continuation_of flow.entry) (rests_of rests.old)) ≤ depth) }
     ensures room { OnOk result (length rests.new < depth) }
-    ensures err { IfErr result (λ e. (e ≡ Error.CFFError) × (depth < length (rests_after (lead_of flow.entry) (rests_of rests.old)))) }
+    ensures err { IfErr result (λ e. (e ≡ Error.CFFError) × (depth < length (rests_after (continuation_of flow.entry) (rests_of rests.old)))) }
 {
     match flow {
         Flow::GoesOn(rest) => Ok(rest),

@@ -94,7 +94,7 @@ fn vary_each<R: Regions>(
     Ok(())
 }
 
-/// The first n of these are defaults, which give way to their results; behind them stand their deltas.
+/// The first n of these are defaults, which are replaced by their results; behind them are their deltas.
 pub fn vary_front<R: Regions>(
     all: &mut [i64],
     n: usize,

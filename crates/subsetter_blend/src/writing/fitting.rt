@@ -21,7 +21,8 @@ use std::marker::Model;
 use subsetter_base::error::Error;
 use subsetter_cffdata::dicts::operator::{Operator, OperatorType};
 use subsetter_cffdata::numerals::charstring_number::CharStringNumber;
-use subsetter_type2::operators::FLEX;
+use subsetter_type2::argstack::MAX_OPERANDS;
+use subsetter_type2::operators::{FLEX, first_byte, second_byte};
 use subsetter_type2::runs::fixed_stack::FixedStack;
 
 /// The bytes so far, where the path has come, and the advance as long as it isn't written.
@@ -49,7 +50,15 @@ fn is_hint(operator: OperatorType) -> bool
 {
     match operator {
         OperatorType::OneByteOperator(code) => match code {
-            [first] => matches!(first, 1 | 3 | 18 | 19 | 20 | 23),
+            [first] => matches!(
+                first,
+                first_byte::HORIZONTAL_STEM
+                    | first_byte::VERTICAL_STEM
+                    | first_byte::HORIZONTAL_STEM_HINT_MASK
+                    | first_byte::HINT_MASK
+                    | first_byte::COUNTER_MASK
+                    | first_byte::VERTICAL_STEM_HINT_MASK
+            ),
         },
         OperatorType::TwoByteOperator(_) => false,
     }
@@ -61,13 +70,24 @@ fn begins(operator: OperatorType) -> bool
 {
     match operator {
         OperatorType::OneByteOperator(code) => match code {
-            [first] => matches!(first, 1 | 3 | 18 | 19 | 20 | 23 | 4 | 21 | 22),
+            [first] => matches!(
+                first,
+                first_byte::HORIZONTAL_STEM
+                    | first_byte::VERTICAL_STEM
+                    | first_byte::HORIZONTAL_STEM_HINT_MASK
+                    | first_byte::HINT_MASK
+                    | first_byte::COUNTER_MASK
+                    | first_byte::VERTICAL_STEM_HINT_MASK
+                    | first_byte::VERTICAL_MOVE_TO
+                    | first_byte::MOVE_TO
+                    | first_byte::HORIZONTAL_MOVE_TO
+            ),
         },
         OperatorType::TwoByteOperator(_) => false,
     }
 }
 
-/// The operator may stand here.
+/// The operator may be here.
 fn may_begin(advance: Option<i16>, operator: OperatorType) -> bool
     ensures { result ≡ may_begin advance operator }
 {
@@ -116,7 +136,7 @@ fn append_event(
     Ok(())
 }
 
-/// The place that an operator begins at.
+/// The position that an operator begins at.
 fn start_point(hint: bool, at: Position) -> Position
     requires { IsPosition at }
     ensures value { result ≡ start_point hint at }
@@ -125,7 +145,7 @@ fn start_point(hint: bool, at: Position) -> Position
     if hint { Position { x: 0, y: 0 } } else { at }
 }
 
-/// The place behind an operator.
+/// The position behind an operator.
 fn end_point(hint: bool, old: Position, new: Position) -> Position
     requires old { IsPosition old }
     requires new { IsPosition new }
@@ -147,7 +167,7 @@ impl Fitting {
         }
     }
 
-    /// How many numbers stand in front of the next operands.
+    /// How many numbers are in front of the next operands.
     fn front(&self) -> usize
         ensures value { result ≡ length (width self.now.pen.advance) }
         ensures few { result ≤ 1 }
@@ -184,7 +204,7 @@ impl Fitting {
         let hint = is_hint(operator.0);
         let mut start = 0;
         let mut before = 0;
-        while self.front() + (operands.len() - start) > 48 {
+        while self.front() + (operands.len() - start) > MAX_OPERANDS {
             let len = cut(operator.0, operands.len() - start);
             let part = &operands[start..start + len];
             self.draw_piece(
@@ -209,9 +229,9 @@ impl Fitting {
         ensures { Did (λ f. all_taken fitted_piece (split (length (width f.pen.advance)) (record { operator = record { 0 = OperatorType.TwoByteOperator (12 ∷ 35 ∷ []) }; operands = opened_by second operands.now; mask = mask.now })) f) self.old self.new result }
     {
         match second {
-            34 => self.draw(FLEX, &open_hflex(operands), mask),
-            36 => self.draw(FLEX, &open_hflex1(operands), mask),
-            37 => self.draw(FLEX, &open_flex1(operands), mask),
+            second_byte::HFLEX => self.draw(FLEX, &open_hflex(operands), mask),
+            second_byte::HFLEX1 => self.draw(FLEX, &open_hflex1(operands), mask),
+            second_byte::FLEX1 => self.draw(FLEX, &open_flex1(operands), mask),
             _ => self.draw(FLEX, operands, mask),
         }
     }
@@ -223,7 +243,7 @@ impl Fitting {
     {
         let mut bytes = self.bytes;
         append_numbers(&mut bytes, width(self.advance).as_slice())?;
-        bytes.push(14)?;
+        bytes.push(first_byte::ENDCHAR)?;
         Ok(bytes)
     }
 }

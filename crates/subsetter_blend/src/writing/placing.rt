@@ -1,7 +1,7 @@
 //! Exact operands as whole ones.
 
 ghost use Rattle.std.specs.Prelude.{◌≡◌, ◌≤◌, ◌+◌, ◌^◌, All, None, Some, IfSome, MatchOption, length, unsigned_abs};
-ghost use Rattle.subsetter_blend.specs.Writing.Placed.{IsPosition, gone, number_of, is_short, step, still, placed, short};
+ghost use Rattle.subsetter_blend.specs.Writing.Placed.{IsPosition, position_after, number_of, is_short, step, whole_operand, placed, short};
 
 use crate::axes::{Along, moves_along};
 use crate::runs::parts::{is_within, whole};
@@ -10,7 +10,7 @@ use subsetter_cffdata::numerals::charstring_number::CharStringNumber;
 use subsetter_type2::runs::fixed_stack::FixedStack;
 use subsetter_variation::rounding::minus;
 
-/// An exact place, in parts.
+/// An exact position, in parts.
 #[derive(Clone, Copy, Debug)]
 pub struct Position {
     pub x: i64,
@@ -55,11 +55,11 @@ fn step(old: i64, new: i64) -> Option<CharStringNumber>
     short(minus(end, whole(old)))
 }
 
-/// What is no move.
-#[tactic(auto, unfolding(crate::specs::Writing::Placed::still))]
-fn still(value: i64) -> Option<CharStringNumber>
+/// An operand that is no move.
+#[tactic(auto, unfolding(crate::specs::Writing::Placed::whole_operand))]
+fn whole_operand(value: i64) -> Option<CharStringNumber>
     requires { unsigned_abs value ≤ 2 ^ 60 }
-    ensures { result ≡ still value }
+    ensures { result ≡ whole_operand value }
 {
     if !is_within(value) {
         return None;
@@ -67,11 +67,11 @@ fn still(value: i64) -> Option<CharStringNumber>
     short(whole(value))
 }
 
-/// Where a move goes.
-fn goes(along: Along, by: i64, at: Position) -> Position
+/// The position after a move.
+fn position_after(along: Along, by: i64, at: Position) -> Position
     requires at { IsPosition at }
     requires by { unsigned_abs by ≤ 2 ^ 59 }
-    ensures value { result ≡ gone along by at }
+    ensures value { result ≡ position_after along by at }
     ensures x { unsigned_abs result.x ≤ 2 ^ 60 }
     ensures y { unsigned_abs result.y ≤ 2 ^ 60 }
 {
@@ -92,18 +92,18 @@ fn goes(along: Along, by: i64, at: Position) -> Position
 fn number_of(along: Along, by: i64, at: Position, to: Position) -> Option<CharStringNumber>
     requires at { IsPosition at }
     requires by { unsigned_abs by ≤ 2 ^ 59 }
-    requires to { to ≡ gone along by at }
+    requires to { to ≡ position_after along by at }
     ensures value { result ≡ number_of along by at }
     ensures within { IfSome result (λ _. IsPosition to) }
 {
     match along {
         Along::X => step(at.x, to.x),
         Along::Y => step(at.y, to.y),
-        Along::Still => still(by),
+        Along::Still => whole_operand(by),
     }
 }
 
-/// All moves of an operator: where they go, if all numbers fit. The whole operands are behind those that there are.
+/// All moves of an operator: the position after them, if all numbers fit. The whole operands are behind those that there are.
 pub fn place_all(
     operator: Operator,
     operands: &[i64],
@@ -119,7 +119,7 @@ pub fn place_all(
     let mut at = start;
     for i in 0..operands.len() {
         let along = moves_along(operator, operands.len(), i);
-        let to = goes(along, operands[i], at);
+        let to = position_after(along, operands[i], at);
         numbers.push(number_of(along, operands[i], at, to)?);
         at = to;
     }

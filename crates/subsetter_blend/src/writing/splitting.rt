@@ -4,6 +4,7 @@ ghost use Rattle.std.specs.Prelude.{◌≡◌, ◌≤◌, ◌+◌, ◌*◌, ◌^
 ghost use Rattle.subsetter_blend.specs.Writing.Split.{one_byte_cut, cut, one_byte_piece, piece_type, sum_of, moved_by, sum_before};
 
 use subsetter_cffdata::dicts::operator::{Operator, OperatorType};
+use subsetter_type2::operators::first_byte;
 use subsetter_type2::runs::fixed_stack::FixedStack;
 
 /// The operands of a piece.
@@ -16,12 +17,9 @@ fn one_byte_cut(first: u8, count: usize) -> usize
     ensures high { result ≤ 47 }
 {
     match first {
-        // rrcurveto, rcurveline
-        8 | 24 => 42,
-        // rlinecurve, vhcurveto, hvcurveto
-        25 | 30 | 31 => 40,
-        // vvcurveto, hhcurveto
-        26 | 27 => count % 4 + 44,
+        first_byte::CURVE_TO | first_byte::CURVE_LINE => 42,
+        first_byte::LINE_CURVE | first_byte::VH_CURVE_TO | first_byte::HV_CURVE_TO => 40,
+        first_byte::VV_CURVE_TO | first_byte::HH_CURVE_TO => count % 4 + 44,
         _ => 46,
     }
 }
@@ -45,9 +43,9 @@ fn one_byte_piece(first: u8) -> u8
     ensures { result ≡ one_byte_piece first }
 {
     match first {
-        19 | 20 => 23,
-        24 => 8,
-        25 => 5,
+        first_byte::HINT_MASK | first_byte::COUNTER_MASK => first_byte::VERTICAL_STEM_HINT_MASK,
+        first_byte::CURVE_LINE => first_byte::CURVE_TO,
+        first_byte::LINE_CURVE => first_byte::LINE_TO,
         _ => first,
     }
 }

@@ -13,7 +13,7 @@ use Rattle.subsetter_sfnt.specs.Fault.{HasOpeningFault}
 use Rattle.subsetter.specs.Bound.{IsWithin, HasFaultWithin, HasNoAnswerWithin, in_font}
 use Rattle.subsetter.specs.Fault.{in_opening}
 use Rattle.cid_embed.specs.Embed.{numbering, HasMapperFault, all_asked, unopened}
-use Rattle.subsetter_c.specs.Answers.Handed.{begun_with, IsHandedOver, whole, short, refused, IsAnswered, IsSoundSubset, IsWantOfMemory, IsRefusal, in_numbering, in_subset}
+use Rattle.subsetter_c.specs.Answers.Handed.{begun_with, IsHandedOver, whole, short, refused, IsAnswered, IsSoundSubset, IsOutOfMemory, IsRefusal, in_numbering, in_subset}
 use Rattle.subsetter_c.specs.Answers.Status.{too_small}
 
 -- bytes are there as a whole, or they are longer than the buffer
@@ -40,7 +40,7 @@ abbrev pub failed : {X : Type 0} → Error → Result X Error
 failed e = Err e
 
 -- want of memory, where no fault stands that is found before memory is taken
-pub wanting : {X : Type 0} (font : Font) (e : Error) → e ≡ OutOfMemory → ((why : Error) → HasOpeningFault font why → failed {X = X} e ≡ Err OutOfMemory → ⊥) → IsWantOfMemory font e
+pub wanting : {X : Type 0} (font : Font) (e : Error) → e ≡ OutOfMemory → ((why : Error) → HasOpeningFault font why → failed {X = X} e ≡ Err OutOfMemory → ⊥) → IsOutOfMemory font e
 wanting {X = X} font e memory before = record { is = memory; opens = λ why fault. before why fault (ap (failed {X = X}) memory) }
 
 module _ (bound : Option ℕ) (tokens depth : ℕ) (font : Font) (glyphs : List ℕ) where

@@ -10,11 +10,12 @@ use Rattle.subsetter_sfnt.specs.Read.{Font, table_in}
 use Rattle.subsetter_sfnt.specs.declared.face.Face.{Face}
 use Rattle.subsetter_sfnt.proofs.Laws.Fault.{opened_refused}
 use Rattle.subsetter_variable.proofs.Stands.{find_is}
+use Rattle.cmap.specs.Faces.{face_mapping}
 use Rattle.cmap.specs.Subtable.{Mapping, glyph_of, mapping}
 use Rattle.cmap.specs.View.{mapping_view}
 use Rattle.cmap.specs.declared.mapping.Subtable.{Subtable}
 use Rattle.pdf_font.specs.Opened.{IsOpened}
-use Rattle.subsetter_c.specs.Documents.PdfGlyphs.{AreGlyphsOf, HasNoMapping, IsGlyphRefusal, mapping_in}
+use Rattle.subsetter_c.specs.Documents.PdfGlyphs.{AreGlyphsOf, HasNoMapping, IsGlyphRefusal}
 
 pub opened_ok : (font : Font) → ((e : Error) → HasOpeningFault font e → ⊥) → (r : Result Face Error) → IfOk r (λ face. (face.«data».now ≡ font.bytes) × (opened font ≡ Ok face.records.now)) → IfOk r (λ face. IsOpened font face)
 opened_ok font clean (Ok face) h = record { find = find_is font face.records.now face.«data».now h.1 h.0; clean = clean }
@@ -25,14 +26,14 @@ opened_err font (Ok face) h = tt
 opened_err font (Err e) h = opened_refused font e h
 
 -- what an opened face finds is what its font has
-pub found : (font : Font) (face : Face) → IsOpened font face → (r : Option Subtable) → option_map mapping_view r ≡ option_and_then mapping (table_in face.«data».now face.records.now (codes "cmap")) → mapping_in font ≡ option_map mapping_view r
+pub found : (font : Font) (face : Face) → IsOpened font face → (r : Option Subtable) → option_map mapping_view r ≡ option_and_then mapping (table_in face.«data».now face.records.now (codes "cmap")) → face_mapping font ≡ option_map mapping_view r
 found font face o r h = sym (h ∙ ap (λ (find : List ℕ → Option (List ℕ)). option_and_then mapping (find (codes "cmap"))) o.find)
 
 module _ (font : Font) (clean : (e : Error) → HasOpeningFault font e → ⊥) where
-  pub none : mapping_in font ≡ None → HasNoMapping font MalformedFont
+  pub none : face_mapping font ≡ None → HasNoMapping font MalformedFont
   none h = record { is = cc; opens = clean; none = h }
 
-  module _ (text : List ℕ) (table : Mapping) (found : mapping_in font ≡ Some table) where
+  module _ (text : List ℕ) (table : Mapping) (found : face_mapping font ≡ Some table) where
     pub answered : (r : Result (Vec ℕ Global) Error) → IfOk r (λ v. v.items ≡ map (glyph_of table) text) → IfOk r (λ v. AreGlyphsOf font text v.items)
     answered (Ok v) h = record { opens = clean; table = table; found = found; are = h }
     answered (Err e) h = tt

@@ -5,7 +5,7 @@ use Rattle.subsetter_sfnt.specs.Read.{Font}
 use Rattle.cid_embed.specs.Embed.{HasEmbedFaultWithin, IsEmbeddingAnswer, HasNoEmbeddingWithin}
 use Rattle.subsetter.specs.Bound.{IsWithin}
 use Rattle.cid_embed.specs.declared.embedding.Embedded.{Embedded}
-use Rattle.subsetter_c.specs.Answers.Handed.{begun_with, IsWantOfMemory}
+use Rattle.subsetter_c.specs.Answers.Handed.{begun_with, IsOutOfMemory}
 use Rattle.subsetter_c.specs.Answers.Status.{status_of, too_small}
 use Rattle.subsetter_c.specs.declared.answers.handing.Sizes.{Sizes}
 
@@ -52,7 +52,7 @@ pub record IsSoundEmbedding (bound : Option ℕ) (tokens depth : ℕ) (font : Fo
 
 -- why nothing is answered: memory ran out, or a fault stands, and then no call answers anything
 abbrev pub IsEmbeddingRefusal : Option ℕ → ℕ → ℕ → Font → List ℕ → Error → Type 0
-IsEmbeddingRefusal bound tokens depth font glyphs why = IsWantOfMemory font why ⊎ (((order : List ℕ) × HasEmbedFaultWithin bound tokens depth font glyphs order why) × HasNoEmbeddingWithin bound tokens depth font glyphs)
+IsEmbeddingRefusal bound tokens depth font glyphs why = IsOutOfMemory font why ⊎ (((order : List ℕ) × HasEmbedFaultWithin bound tokens depth font glyphs order why) × HasNoEmbeddingWithin bound tokens depth font glyphs)
 
 -- nothing is handed over, for the reason of a status
 pub record AreNoneHanded (why : ℕ) (before after : Buffers) (told : Sizes) (status : ℕ) : Type 0 where

@@ -38,7 +38,7 @@ fn begin_with<T: Copy>(buffer: &mut [T], items: &[T])
     buffer[..items.len()].copy_from_slice(items);
 }
 
-/// Hands bytes over: the status. Their size is told also where the buffer is too small.
+/// Hands bytes over: the status. Their size is reported also where the buffer is too small.
 pub fn hand_bytes(bytes: &[u8], buffer: &mut [u8], told: &mut usize) -> u32
     ensures size { told.new ≡ length bytes.now }
     ensures whole { length bytes.now ≤ length buffer.old → (buffer.new ≡ begun_with bytes.now buffer.old) × (result ≡ 0) }
@@ -103,7 +103,7 @@ fn sizes_of(embedded: &Embedded) -> Sizes
     }
 }
 
-/// Hands a font with its CIDs and widths over: the status. The sizes are told also where a buffer is too small.
+/// Hands a font with its CIDs and widths over: the status. The sizes are reported also where a buffer is too small.
 pub fn hand_embedded(
     answer: Result<Embedded, Error>,
     font: &mut [u8],

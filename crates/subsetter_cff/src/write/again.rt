@@ -34,7 +34,7 @@ pub fn given_back()
     ensures { IsGivenBack }
 {}
 
-/// No fault stands in a subset of a CID-keyed font, for all its glyphs.
+/// A subset of a CID-keyed font, for all its glyphs, has no fault.
 #[tactic(auto, using(crate::proofs::WriteLaws::AgainLaws::Faults::has_no_fault_again))]
 pub fn no_fault_again()
     ensures { HasNoFaultAgain }

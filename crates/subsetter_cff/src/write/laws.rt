@@ -42,7 +42,7 @@ pub fn refused_has_fault()
     ensures { RefusedHasFault }
 {}
 
-/// Where a table is answered, no fault stands in its source.
+/// Where a table is answered, its source has no fault.
 #[tactic(auto, using(crate::proofs::WriteLaws::RefusalsLaws::Excluded::answered_excludes))]
 pub fn answered_excludes()
     ensures { AnsweredExcludes }

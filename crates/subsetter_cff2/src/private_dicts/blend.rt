@@ -123,7 +123,7 @@ fn vary_front(
     vary_each(defaults, variation, outer, count, deltas);
 }
 
-/// The operands from a location to another give way to n results, which are behind the first place.
+/// The operands from an index to another are replaced by n results, which are from the first index on.
 pub fn blend_from(
     all: &mut [Option<i64>],
     base: usize,

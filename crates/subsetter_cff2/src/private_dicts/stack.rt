@@ -170,7 +170,7 @@ impl PrivateStack {
         Some(())
     }
 
-    /// Results take the place of defaults and deltas, by the last operand; None where there are too few, or no data.
+    /// Results replace defaults and deltas, by the last operand; None where there are too few, or no data.
     #[tactic(auto, unfolding(crate::specs::PrivateDicts::PrivateAt::blended_by, crate::specs::PrivateDicts::Blend::blended))]
     pub fn blend(&mut self, variation: &Option<Variation<'_>>) -> Option<()>
         ensures { blended_by variation.now self.old ≡ option_map (λ _. self.new) result }

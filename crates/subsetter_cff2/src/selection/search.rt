@@ -8,18 +8,20 @@ ghost use Rattle.subsetter_cff2.specs.Selection.Select.{in_ranges, selected};
 ghost use Rattle.subsetter_cff2.specs.Selection.SelectSearch.{AreInOrder};
 ghost use Rattle.subsetter_cff2.specs.Selection.SelectSearchView.{IsRangeList, IsSearchableIf};
 
-use crate::selection::select::{font_dict_number, range_at, range_offset};
+use crate::selection::select::{
+    COUNT, FORMAT_3, FORMAT_4, RANGES, WIDE_RANGES, font_dict_number, range_at, range_offset,
+};
 use std::alloc::Global;
 use std::marker::Model;
 use subsetter_base::error::Error;
 use subsetter_base::read::Reader;
 
-/// Ranges of format 3 or 4, from a location on.
+/// Ranges of format 3 or 4, from an offset on.
 #[derive(Clone, Copy, Debug)]
 pub struct RangeList {
     /// They are of format 4.
     pub is_wide: bool,
-    /// Where they stand.
+    /// Their offset.
     pub at: usize,
     /// How many there are stated to be.
     pub count: u32,
@@ -51,19 +53,19 @@ fn range_list(bytes: &[u8], at: u32) -> Option<RangeList>
 {
     let at = at as usize;
     match Reader::new_at(bytes, at).read::<u8>()? {
-        3 => {
-            let count = Reader::new_at(bytes, at + 1).read::<u16>()?;
+        FORMAT_3 => {
+            let count = Reader::new_at(bytes, at + COUNT).read::<u16>()?;
             Some(RangeList {
                 is_wide: false,
-                at: at + 3,
+                at: at + RANGES,
                 count: u32::from(count),
             })
         }
-        4 => {
-            let count = Reader::new_at(bytes, at + 1).read::<u32>()?;
+        FORMAT_4 => {
+            let count = Reader::new_at(bytes, at + COUNT).read::<u32>()?;
             Some(RangeList {
                 is_wide: true,
-                at: at + 5,
+                at: at + WIDE_RANGES,
                 count,
             })
         }

@@ -7,6 +7,29 @@ ghost use Rattle.subsetter_cff2.specs.Selection.SelectView.{range_view};
 
 use subsetter_base::read::Reader;
 
+/// The formats: a font dict for each glyph, ranges, and ranges of wide numbers.
+const FORMAT_0: u8 = 0;
+
+pub(crate) const FORMAT_3: u8 = 3;
+
+pub(crate) const FORMAT_4: u8 = 4;
+/// fds of format 0, behind the format.
+const FDS: usize = 1;
+/// nRanges of formats 3 and 4, two bytes and four.
+pub(crate) const COUNT: usize = 1;
+/// The ranges of format 3, and of format 4.
+pub(crate) const RANGES: usize = 3;
+
+pub(crate) const WIDE_RANGES: usize = 5;
+/// How many bytes a range has; the next one's first glyph is behind it.
+const RANGE_SIZE: usize = 3;
+
+const WIDE_RANGE_SIZE: usize = 6;
+/// fd of a range, behind its first glyph.
+const FD: usize = 2;
+
+const WIDE_FD: usize = 4;
+
 /// A range of glyphs that have one font dict.
 #[derive(Clone, Copy, Debug)]
 pub struct Range {
@@ -37,8 +60,8 @@ fn wide_range(bytes: &[u8], place: usize) -> Option<Range>
     ensures { option_map range_view result ≡ range_by 4 2 bytes.now place }
 {
     let first = Reader::new_at(bytes, place).read::<u32>()?;
-    let dict = Reader::new_at(bytes, place + 4).read::<u16>()?;
-    let next = Reader::new_at(bytes, place + 6).read::<u32>()?;
+    let dict = Reader::new_at(bytes, place + WIDE_FD).read::<u16>()?;
+    let next = Reader::new_at(bytes, place + WIDE_RANGE_SIZE).read::<u32>()?;
     Some(Range { first, dict, next })
 }
 
@@ -48,8 +71,8 @@ fn short_range(bytes: &[u8], place: usize) -> Option<Range>
     ensures { option_map range_view result ≡ range_by 2 1 bytes.now place }
 {
     let first = Reader::new_at(bytes, place).read::<u16>()?;
-    let dict = Reader::new_at(bytes, place + 2).read::<u8>()?;
-    let next = Reader::new_at(bytes, place + 3).read::<u16>()?;
+    let dict = Reader::new_at(bytes, place + FD).read::<u8>()?;
+    let next = Reader::new_at(bytes, place + RANGE_SIZE).read::<u16>()?;
     Some(Range {
         first: u32::from(first),
         dict: u16::from(dict),
@@ -70,7 +93,7 @@ pub(crate) fn range_offset(at: usize, i: u32, is_wide: bool) -> usize
     ensures value { result ≡ at + i * width_of is_wide }
     ensures bound { result ≤ 2 ^ 60 }
 {
-    at + i as usize * (if is_wide { 6 } else { 3 })
+    at + i as usize * (if is_wide { WIDE_RANGE_SIZE } else { RANGE_SIZE })
 }
 
 /// The font dict of the first of so many ranges that has a glyph.
@@ -95,17 +118,17 @@ fn in_format(bytes: &[u8], at: usize, format: u8, glyph: u16) -> Option<u16>
     ensures { result ≡ in_format bytes.now at format glyph }
 {
     match format {
-        0 => {
-            let dict = Reader::new_at(bytes, at + 1 + glyph as usize).read::<u8>()?;
+        FORMAT_0 => {
+            let dict = Reader::new_at(bytes, at + FDS + glyph as usize).read::<u8>()?;
             Some(u16::from(dict))
         }
-        3 => {
-            let count = Reader::new_at(bytes, at + 1).read::<u16>()?;
-            in_ranges(bytes, false, at + 3, u32::from(count), glyph)
+        FORMAT_3 => {
+            let count = Reader::new_at(bytes, at + COUNT).read::<u16>()?;
+            in_ranges(bytes, false, at + RANGES, u32::from(count), glyph)
         }
-        4 => {
-            let count = Reader::new_at(bytes, at + 1).read::<u32>()?;
-            in_ranges(bytes, true, at + 5, count, glyph)
+        FORMAT_4 => {
+            let count = Reader::new_at(bytes, at + COUNT).read::<u32>()?;
+            in_ranges(bytes, true, at + WIDE_RANGES, count, glyph)
         }
         _ => None,
     }

@@ -9,7 +9,7 @@ use Rattle.subsetter_cffdata.specs.Bytes.{ReadAgain}
 use Rattle.subsetter_base.specs.Bytes.{byte}
 use Rattle.subsetter_cffdata.specs.Reals.Decimals.{Decimal, real_at, real_text, packed}
 use Rattle.subsetter_cffdata.specs.Numerals.Numbers.{Number, Integer, Real, Fixed, integer, offset, short_integer, integer_from, integer_at, dict_number_from, dict_number_at, number, FitsDict}
-use Rattle.subsetter_cffdata.specs.Dicts.Dict.{Entry, is_operator, entry_in, entry_at, kept, entries_in, entries, operand_limit, Written, Plain, Long, operand, value, NewEntry, entry_bytes, dict, meaning, IsOperator, FitsOperand, FitsNewEntry}
+use Rattle.subsetter_cffdata.specs.Dicts.Dict.{Entry, is_operator, entry_in, entry_at, limited, entries_in, entries, operand_limit, Written, Plain, Long, operand, value, NewEntry, entry_bytes, dict, meaning, IsOperator, FitsOperand, FitsNewEntry}
 use Rattle.subsetter_cffdata.proofs.NumeralsLaws.Cards.{byte_again}
 use Rattle.subsetter_cffdata.proofs.NumeralsLaws.Integers.{integer_again, offset_again}
 use Rattle.subsetter_cffdata.proofs.RealsLaws.Reals.{real_again}
@@ -122,7 +122,7 @@ entry_again l fits rest =
     ap (λ (n : ℕ). entry_in n (entry_bytes l ++ rest)) steps ∙ entry_in_again l.operands l.operator (length (entry_bytes l ++ rest) - 1) rest fits.operands fits.operator (omega arith)
 
 -- ---- a whole DICT
-kept_all : (l : NewEntry) → FitsNewEntry l → kept (meaning l) ≡ meaning l
+kept_all : (l : NewEntry) → FitsNewEntry l → limited (meaning l) ≡ meaning l
 kept_all l fits = ap (λ (xs : List Number). record { operator = l.operator; operands = xs }) (take_all operand_limit (map value l.operands) (omega (arith, length-map l.operands value, fits.few)))
 
 no_entries : (steps : ℕ) → entries_in steps [] ≡ []

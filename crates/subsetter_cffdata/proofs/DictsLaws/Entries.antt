@@ -2,7 +2,7 @@
 use Rattle.std.proofs.Common.{◌≡◌, ℕ, zero, suc, ◌<◌, ◌≤◌, List, [], ◌∷◌, length, Option, Some, None, refl, ap, arith, ◌∙◌, sym}
 use Rattle.std.specs.Option.{option_map_or}
 use Rattle.std.proofs.lemmas.Option.{none-some, same_Some}
-use Rattle.subsetter_cffdata.specs.Dicts.Dict.{Token, Operand, Operator, token_at, Entry, entry_in, entry_at, kept, entries_in, entries}
+use Rattle.subsetter_cffdata.specs.Dicts.Dict.{Token, Operand, Operator, token_at, Entry, entry_in, entry_at, limited, entries_in, entries}
 use Rattle.subsetter_cffdata.specs.Dicts.Tokens.{with_operands}
 use Rattle.subsetter_cffdata.specs.Numerals.Numbers.{Number}
 use Rattle.subsetter_cffdata.proofs.DictsLaws.Shorter.{at_no_token, at_operator, at_operand, token_shorter}
@@ -30,7 +30,7 @@ pub entry_shorter : (bytes : List ℕ) (e : Entry × List ℕ) → entry_at byte
 entry_shorter bytes e h = by_token (length bytes) bytes e (omega arith) h (token_at bytes) refl
 
 abbrev step_of : ℕ → Option (Entry × List ℕ) → List Entry
-step_of steps o = option_map_or (λ e. kept e.0 ∷ entries_in steps e.1) o []
+step_of steps o = option_map_or (λ e. limited e.0 ∷ entries_in steps e.1) o []
 
 no_bytes : entry_at [] ≡ None
 unfolding entry_at entry_in
@@ -39,7 +39,7 @@ no_bytes = refl
 same_steps : (m n : ℕ) (bytes : List ℕ) (o : Option (Entry × List ℕ)) → entry_at bytes ≡ o → length bytes ≤ suc m → length bytes ≤ suc n
     → ((rest : List ℕ) → length rest ≤ m → length rest ≤ n → entries_in m rest ≡ entries_in n rest) → step_of m o ≡ step_of n o
 same_steps m n bytes None e le le' more = refl
-same_steps m n bytes (Some d) e le le' more = let less = entry_shorter bytes d e in ap (λ (es : List Entry). kept d.0 ∷ es) (more d.1 (omega (arith, less)) (omega (arith, less)))
+same_steps m n bytes (Some d) e le le' more = let less = entry_shorter bytes d e in ap (λ (es : List Entry). limited d.0 ∷ es) (more d.1 (omega (arith, less)) (omega (arith, less)))
 
 -- as many steps as bytes are enough
 enough : (m n : ℕ) (bytes : List ℕ) → length bytes ≤ m → length bytes ≤ n → entries_in m bytes ≡ entries_in n bytes
@@ -51,12 +51,12 @@ enough (suc m) zero [] le le' = rw no_bytes refl
 enough (suc m) zero (b ∷ bytes) le le' = absurd (omega arith)
 enough (suc m) (suc n) bytes le le' = same_steps m n bytes (entry_at bytes) refl le le' (λ rest a b. enough m n rest a b)
 
-step_is : (n : ℕ) (bytes : List ℕ) (o : Option (Entry × List ℕ)) → entry_at bytes ≡ o → length bytes ≡ suc n → step_of n o ≡ option_map_or (λ e. kept e.0 ∷ entries e.1) o []
+step_is : (n : ℕ) (bytes : List ℕ) (o : Option (Entry × List ℕ)) → entry_at bytes ≡ o → length bytes ≡ suc n → step_of n o ≡ option_map_or (λ e. limited e.0 ∷ entries e.1) o []
 unfolding entries
 step_is n bytes None e len = refl
-step_is n bytes (Some d) e len = let less = entry_shorter bytes d e in ap (λ (es : List Entry). kept d.0 ∷ es) (enough n (length d.1) d.1 (omega (arith, less, len)) (omega arith))
+step_is n bytes (Some d) e len = let less = entry_shorter bytes d e in ap (λ (es : List Entry). limited d.0 ∷ es) (enough n (length d.1) d.1 (omega (arith, less, len)) (omega arith))
 
-pub entries_step : (bytes : List ℕ) → entries bytes ≡ option_map_or (λ e. kept e.0 ∷ entries e.1) (entry_at bytes) []
+pub entries_step : (bytes : List ℕ) → entries bytes ≡ option_map_or (λ e. limited e.0 ∷ entries e.1) (entry_at bytes) []
 unfolding entries entries_in
 entries_step [] = rw no_bytes refl
 entries_step (b ∷ bytes) = step_is (length bytes) (b ∷ bytes) (entry_at (b ∷ bytes)) refl refl

@@ -15,7 +15,7 @@ use Rattle.subsetter_cffdata.specs.Reals.Decimals.{Decimal, real_at}
 use Rattle.subsetter_cffdata.specs.Numerals.Numbers.{Number, Integer, Real, Fixed, in_i32, signed16, signed32, short_integer, integer_from, dict_number_from}
 use Rattle.subsetter_cffdata.specs.Numerals.ReadNumbers.{Within, IsBounded, HasBounded}
 use Rattle.subsetter_cffdata.specs.Numerals.Values.{value, thousandfold, thousand}
-use Rattle.subsetter_cffdata.specs.Dicts.Dict.{Entry, is_operator, operator_from, entry_in, entry_at, kept, entries_in, entries, operand_limit}
+use Rattle.subsetter_cffdata.specs.Dicts.Dict.{Entry, is_operator, operator_from, entry_in, entry_at, limited, entries_in, entries, operand_limit}
 use Rattle.subsetter_cffdata.proofs.Options.{step, unless, when}
 use Rattle.subsetter_cffdata.proofs.RealsLaws.Powers.{decimal_within, real_within, thousandfold_within, within_i32}
 use Rattle.subsetter_cffdata.proofs.RealsLaws.Reals.{all_take}
@@ -99,7 +99,7 @@ entry_in_bounded (suc steps) (b ∷ bytes) e h =
     ]
 
 one_more : (steps : ℕ) (o : Option (Entry × List ℕ)) → ((e : Entry × List ℕ) → o ≡ Some e → HasBounded e.0) → ((rest : List ℕ) → AllByRecursion HasBounded (entries_in steps rest))
-    → AllByRecursion HasBounded (option_map_or (λ e. kept e.0 ∷ entries_in steps e.1) o [])
+    → AllByRecursion HasBounded (option_map_or (λ e. limited e.0 ∷ entries_in steps e.1) o [])
 one_more steps None read more = tt
 one_more steps (Some e) read more = (all_take IsBounded operand_limit e.0.operands (read e refl), more e.1)
 

@@ -42,13 +42,13 @@ entry_at bytes = entry_in (length bytes) bytes
 abbrev pub operand_limit : ℕ
 operand_limit = 48
 
-abbrev pub kept : Entry → Entry
-kept e = record { operator = e.operator; operands = take operand_limit e.operands }
+abbrev pub limited : Entry → Entry
+limited e = record { operator = e.operator; operands = take operand_limit e.operands }
 
 -- the entries before the first place that can't be read
 unfoldable pub entries_in : ℕ → List ℕ → List Entry
 entries_in zero bytes = []
-entries_in (suc steps) bytes = option_map_or (λ e. kept e.0 ∷ entries_in steps e.1) (entry_at bytes) []
+entries_in (suc steps) bytes = option_map_or (λ e. limited e.0 ∷ entries_in steps e.1) (entry_at bytes) []
 
 unfoldable pub entries : List ℕ → List Entry
 entries bytes = entries_in (length bytes) bytes

@@ -1,4 +1,4 @@
--- What a token in memory shows, whose operand stands apart.
+-- What a token in memory shows, whose operand is apart.
 use Rattle.subsetter_cffdata.specs.Dicts.Dict.{Token, Operand, Operator}
 use Rattle.subsetter_cffdata.specs.Views.{number_of, operator_of}
 use Rattle.subsetter_cffdata.specs.declared.numerals.number.Number.{Number}

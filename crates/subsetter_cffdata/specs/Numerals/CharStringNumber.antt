@@ -32,7 +32,7 @@ middle_number first (second ∷ rest) =
     else if nat_lt first 251 then Some (Integer (pos ((first - 247) * 256 + second + 108)), rest)
     else Some (Integer (pos 0 -ℤ pos ((first - 251) * 256 + second + 108)), rest)
 
--- the number at the front, and the bytes after it; none where no number stands there or it is cut short
+-- the number at the front, and the bytes after it; none where no number is there or it is cut short
 unfoldable pub number_at : List ℕ → Option (CharStringNumber × List ℕ)
 number_at [] = None
 number_at (first ∷ rest) =

@@ -42,7 +42,7 @@ after_digits (c ∷ text) = if is_digit c then after_digits text else c ∷ text
 abbrev pub number : List ℕ → ℕ
 number ds = number_from_digits 10 ds
 
--- whether a minus stands in front, and what follows
+-- whether a minus is in front, and what follows
 abbrev pub sign : List ℕ → Bool × List ℕ
 sign [] = (false, [])
 sign (c ∷ text) = if c == minus then (true, text) else (false, c ∷ text)
@@ -138,7 +138,7 @@ unsigned_text [] power = 0 ∷ []
 unsigned_text (d ∷ ds) (pos k) = (d ∷ ds) ++ replicate k 0
 unsigned_text (d ∷ ds) (negsuc k) = pointed (d ∷ ds) (suc k)
 
--- The digits of n, the highest first, none for 0. A text has at most 64 characters, so 65 digits are as many as are asked for.
+-- The digits of n, the highest first, none for 0. A text has at most 64 characters, so 65 digits are as many as are requested.
 unfoldable pub decimal_digits : ℕ → List ℕ
 decimal_digits n = digits_with_fuel 10 65 n
 

@@ -15,7 +15,7 @@ fitting text = if nat_le (length text) text_limit then Some text else None
 unfoldable pub extended : List ℕ → ℕ → Option (List ℕ)
 extended text nibble = characters nibble >>= λ more. fitting (text ++ more)
 
--- a text with the characters of one byte more, and whether the end stands there
+-- a text with the characters of one byte more, and whether the end is there
 unfoldable pub byte_step : List ℕ → ℕ → Option (Bool × List ℕ)
 byte_step text b =
     if b / 16 == 15 then Some (true, text) else

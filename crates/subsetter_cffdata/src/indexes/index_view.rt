@@ -50,7 +50,7 @@ impl<'a> VarOffsets<'a> {
         self.len == 0
     }
 
-    /// Offset i, as it stands there.
+    /// Offset i, as it is there.
     pub(crate) fn stored(&self, i: u32) -> u32
         requires { i < self.now.len }
         ensures { result ≡ offset_at (size_of self.now.offset_size) self.now.data.now i }
@@ -60,7 +60,7 @@ impl<'a> VarOffsets<'a> {
         number_of(&self.data[start..start + size])
     }
 
-    /// Offset i and the next one, as they stand there.
+    /// Offset i and the next one, as they are there.
     #[inline]
     fn neighbours(&self, i: u32) -> TwoNumbers
         requires { i + 1 < self.now.len }
@@ -72,7 +72,7 @@ impl<'a> VarOffsets<'a> {
         two_numbers(&self.data[start..start + 2 * size], size)
     }
 
-    /// Offset i, counted from the first byte of the data; None where it isn't there or stands before that byte.
+    /// Offset i, counted from the first byte of the data; None where it isn't there or is before that byte.
     pub fn get(&self, index: u32) -> Option<u32>
         ensures { result ≡ shifted self.now index }
     {

@@ -12,7 +12,7 @@ use std::convert::AsSlice;
 use subsetter_base::error::Error;
 use subsetter_base::write::{Writeable, Writer};
 
-/// An INDEX as bytes, and how many of them stand before the data.
+/// An INDEX as bytes, and how many of them are before the data.
 #[derive(Drop)]
 pub struct OwnedIndex {
     /// The whole INDEX.

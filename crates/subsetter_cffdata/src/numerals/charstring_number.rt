@@ -4,6 +4,7 @@ ghost use Rattle.std.specs.Prelude.{◌≡◌, ◌++◌, ◌∷◌, [], OnOk, On
 ghost use Rattle.subsetter_cffdata.specs.declared.numerals.charstring_number.CharStringNumber.{CharStringNumber};
 ghost use Rattle.subsetter_cffdata.specs.Numerals.CharStringNumber.{number_at, short_number, middle_number, middle_value, fixed_number, written, whole_of, NumberFits, FitsIn, IsReadAgain};
 
+use crate::numerals::first_byte;
 use std::alloc::AllocError;
 use std::marker::Model;
 use subsetter_base::error::Error;
@@ -71,13 +72,13 @@ pub fn read_number(bytes: &[u8]) -> Option<NumberRead<'_>>
 {
     match bytes {
         [first, rest @ ..] => match *first {
-            28 => read_short(rest),
+            first_byte::SHORT_INTEGER => read_short(rest),
             32..=246 => Some(NumberRead {
                 number: CharStringNumber::Integer(*first as i16 - 139),
                 rest,
             }),
             247..=254 => read_middle(*first, rest),
-            255 => read_fixed(rest),
+            first_byte::FIXED => read_fixed(rest),
             _ => None,
         },
         [] => None,
@@ -182,7 +183,13 @@ fn integer_bytes(value: i16) -> NumberBytes
     }
     let bits = value.cast_unsigned();
     NumberBytes {
-        bytes: [28, (bits / 256) as u8, (bits % 256) as u8, 0, 0],
+        bytes: [
+            first_byte::SHORT_INTEGER,
+            (bits / 256) as u8,
+            (bits % 256) as u8,
+            0,
+            0,
+        ],
         len: 3,
     }
 }
@@ -196,7 +203,7 @@ fn fixed_bytes(value: i32) -> NumberBytes
     let bits = value.cast_unsigned();
     NumberBytes {
         bytes: [
-            255,
+            first_byte::FIXED,
             (bits / 16777216) as u8,
             (bits / 65536 % 256) as u8,
             (bits / 256 % 256) as u8,
@@ -224,7 +231,11 @@ fn append_integer(bytes: &mut Vec<u8>, value: i16) -> Result<(), AllocError>
         return bytes.extend_from_slice(&[(above / 256) as u8 + first, (above % 256) as u8]);
     }
     let bits = value.cast_unsigned();
-    bytes.extend_from_slice(&[28, (bits / 256) as u8, (bits % 256) as u8])
+    bytes.extend_from_slice(&[
+        first_byte::SHORT_INTEGER,
+        (bits / 256) as u8,
+        (bits % 256) as u8,
+    ])
 }
 
 impl CharStringNumber {

@@ -15,6 +15,7 @@ ghost use Rattle.subsetter_cffdata.specs.Numerals.Values.{value, thousand, by_10
 ghost use Rattle.subsetter_cffdata.specs.Views.{decimal_of, number_of};
 
 use crate::numerals::charstring_number::{CharStringNumber, read_number};
+use crate::numerals::first_byte;
 pub use crate::numerals::string_id::StringId;
 pub use crate::numerals::u24::U24;
 use crate::numerals::value::{real_of_fixed, real_of_integer, same_reals, thousandfold_of};
@@ -45,13 +46,13 @@ impl IntegerNumber {
         ensures same { r.new.bytes ≡ r.old.bytes }
     {
         match b0 {
-            28 => Some(IntegerNumber(i32::from(reading::next_i16(r)?))),
-            29 => Some(IntegerNumber(reading::next_i32(r)?)),
+            first_byte::SHORT_INTEGER => Some(IntegerNumber(i32::from(reading::next_i16(r)?))),
+            first_byte::LONG_INTEGER => Some(IntegerNumber(reading::next_i32(r)?)),
             _ => Self::parse_short(b0, r),
         }
     }
 
-    /// 32 to 246 stand for themselves less 139; 247 to 254 have one more byte.
+    /// 32 to 246 mean themselves less 139; 247 to 254 have one more byte.
     #[tactic(auto, unfolding(crate::specs::Numerals::Numbers::short_integer))]
     fn parse_short(b0: u8, r: &mut Reader<'_>) -> Option<IntegerNumber>
         ensures value { Takes (λ x. x.0) result r.old r.new (short_integer b0) }
@@ -79,7 +80,13 @@ impl IntegerNumber {
         ensures err { IfErr result (λ e. e ≡ OutOfMemory) }
     {
         let bytes = self.0.to_be_bytes();
-        w.extend(&[29, bytes[0], bytes[1], bytes[2], bytes[3]])
+        w.extend(&[
+            first_byte::LONG_INTEGER,
+            bytes[0],
+            bytes[1],
+            bytes[2],
+            bytes[3],
+        ])
     }
 }
 
@@ -110,7 +117,7 @@ impl Writeable for IntegerNumber {
             w.extend(&[(above / 256 + 251) as u8, (above % 256) as u8])
         } else if -32768 <= n && n <= 32767 {
             let bytes = (n as i16).to_be_bytes();
-            w.extend(&[28, bytes[0], bytes[1]])
+            w.extend(&[first_byte::SHORT_INTEGER, bytes[0], bytes[1]])
         } else {
             self.write_as_5_bytes(w)
         }
@@ -129,7 +136,7 @@ impl FixedNumber {
         ensures same { r.new.bytes ≡ r.old.bytes }
     {
         match reading::next_byte(r)? {
-            255 => Some(FixedNumber(reading::next_i32(r)?)),
+            first_byte::FIXED => Some(FixedNumber(reading::next_i32(r)?)),
             _ => None,
         }
     }
@@ -154,7 +161,7 @@ impl Writeable for FixedNumber {
 
     fn write(&self, w: &mut Writer) -> Result<(), Error> {
         let bytes = self.0.to_be_bytes();
-        w.extend(&[255, bytes[0], bytes[1], bytes[2], bytes[3]])
+        w.extend(&[first_byte::FIXED, bytes[0], bytes[1], bytes[2], bytes[3]])
     }
 }
 
@@ -217,7 +224,7 @@ impl Number {
         ensures same { r.new.bytes ≡ r.old.bytes }
     {
         match b0 {
-            30 => Some(Number::Real(RealNumber::parse_text(r)?)),
+            first_byte::REAL => Some(Number::Real(RealNumber::parse_text(r)?)),
             _ => Some(Number::Integer(IntegerNumber::parse_from(b0, r)?)),
         }
     }
@@ -230,7 +237,7 @@ impl Number {
         ensures same { r.new.bytes ≡ r.old.bytes }
     {
         match b0 {
-            30 => *self = Number::Real(RealNumber::parse_text(r)?),
+            first_byte::REAL => *self = Number::Real(RealNumber::parse_text(r)?),
             _ => *self = Number::Integer(IntegerNumber::parse_from(b0, r)?),
         }
         Some(())

@@ -3,6 +3,7 @@
 ghost use Rattle.std.specs.Prelude.{◌≤◌, take};
 ghost use Rattle.subsetter_cffdata.specs.Reals.Decimals.{IsPlain};
 
+use crate::numerals::first_byte;
 use crate::numerals::whole::whole_of;
 use crate::reading;
 use crate::reals::reading_text::text_of;
@@ -41,7 +42,7 @@ impl RealNumber {
         ensures same { r.new.bytes ≡ r.old.bytes }
     {
         match reading::next_byte(r)? {
-            30 => Self::parse_text(r),
+            first_byte::REAL => Self::parse_text(r),
             _ => None,
         }
     }

@@ -7,12 +7,12 @@ ghost use Rattle.subsetter_cffdata.specs.Reals.TextSteps.{shown};
 ghost use Rattle.subsetter_cffdata.specs.Views.{decimal_of};
 
 use crate::reals::real_number::RealNumber;
-use crate::reals::text::Text;
+use crate::reals::text::{EXPONENT, MINUS, POINT, Text};
 
 /// A sign that was read, and what follows.
 #[derive(Clone, Copy, Debug)]
 struct SignRead<'a> {
-    /// A minus stands in front.
+    /// A minus is in front.
     negative: bool,
     /// What follows.
     rest: &'a [u8],
@@ -29,20 +29,20 @@ struct DigitsRead<'a> {
 
 /// Digits without outer zeros.
 #[derive(Clone, Copy, Debug)]
-struct KeptDigits<'a> {
+struct SignificantDigits<'a> {
     /// The digits.
     digits: &'a [u8],
-    /// How many zeros stood at the end.
+    /// How many zeros were at the end.
     zeros: usize,
 }
 
-/// Whether a minus stands in front, and what follows.
+/// Whether a minus is in front, and what follows.
 fn split_sign(text: &[u8]) -> SignRead<'_>
     ensures value { (result.negative, result.rest.now) ≡ sign text.now }
     ensures len { length result.rest.now ≤ length text.now }
 {
     match text {
-        [14, rest @ ..] => SignRead {
+        [MINUS, rest @ ..] => SignRead {
             negative: true,
             rest,
         },
@@ -61,7 +61,7 @@ fn split_digits(text: &[u8]) -> DigitsRead<'_>
     ensures len { length result.digits.now + length result.rest.now ≡ length text.now }
 {
     for (i, c) in text.iter().enumerate() {
-        if *c >= 10 {
+        if *c >= POINT {
             let (digits, rest) = text.split_at(i);
             return DigitsRead { digits, rest };
         }
@@ -79,7 +79,7 @@ fn split_fraction(text: &[u8]) -> DigitsRead<'_>
     ensures len { length result.digits.now ≤ length text.now }
 {
     match text {
-        [10, rest @ ..] => split_digits(rest),
+        [POINT, rest @ ..] => split_digits(rest),
         _ => DigitsRead {
             digits: &[],
             rest: text,
@@ -119,7 +119,7 @@ fn exponent_behind(negative: bool, text: &[u8]) -> Option<i32>
     if negative { Some(-n) } else { Some(n) }
 }
 
-/// The exponent that stands behind the digits: 0 where there is none.
+/// The exponent behind the digits: 0 where there is none.
 fn exponent_of(text: &[u8]) -> Option<i32>
     ensures value { result ≡ exponent text.now }
     ensures low { IfSome result (λ z. negsuc 999 ≤ℤ z) }
@@ -127,7 +127,7 @@ fn exponent_of(text: &[u8]) -> Option<i32>
 {
     match text {
         [] => Some(0),
-        [11, rest @ ..] => {
+        [EXPONENT, rest @ ..] => {
             let read = split_sign(rest);
             exponent_behind(read.negative, read.rest)
         }
@@ -158,7 +158,7 @@ fn trimmed_len(ds: &[u8]) -> usize
     len
 }
 
-/// How many zeros stand in front.
+/// How many zeros are in front.
 fn zeros_in_front(ds: &[u8]) -> usize
     ensures within { result ≤ length ds.now }
     ensures left { drop result ds.now ≡ stripped ds.now }
@@ -171,15 +171,15 @@ fn zeros_in_front(ds: &[u8]) -> usize
     ds.len()
 }
 
-/// The digits without the zeros in front and at the end, and how many stood at the end.
-fn without_outer_zeros(ds: &[u8]) -> KeptDigits<'_>
+/// The digits without the zeros in front and at the end, and how many were at the end.
+fn without_outer_zeros(ds: &[u8]) -> SignificantDigits<'_>
     ensures kept { result.digits.now ≡ stripped (trimmed ds.now) }
     ensures zeros { result.zeros ≡ length ds.now - length (trimmed ds.now) }
     ensures within { length result.digits.now + result.zeros ≤ length ds.now }
 {
     let end = trimmed_len(ds);
     let start = zeros_in_front(&ds[..end]);
-    KeptDigits {
+    SignificantDigits {
         digits: &ds[start..end],
         zeros: ds.len() - end,
     }

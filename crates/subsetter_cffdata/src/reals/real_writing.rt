@@ -6,8 +6,9 @@ ghost use Rattle.std.specs.List.{AllByRecursion};
 ghost use Rattle.subsetter_cffdata.specs.Reals.Decimals.{signs, unsigned_text, packed};
 ghost use Rattle.subsetter_cffdata.specs.Reals.TextSteps.{shown, fitting};
 
+use crate::numerals::first_byte;
 use crate::reals::real_text::put_all;
-use crate::reals::text::Text;
+use crate::reals::text::{END, MINUS, POINT, TWO_ENDS, Text};
 
 /// Zeros behind a text.
 fn put_zeros(text: &mut Text, count: usize)
@@ -34,7 +35,7 @@ fn joined(negative: bool, front: &[u8], middle: &[u8], zeros: usize, back: &[u8]
         return None;
     }
     if negative {
-        text.put(14);
+        text.put(MINUS);
     }
     put_all(&mut text, front);
     put_all(&mut text, middle);
@@ -57,9 +58,9 @@ pub fn text_of_digits(negative: bool, ds: &[u8], power: i32) -> Option<Text>
     }
     if size < ds.len() {
         let (front, back) = ds.split_at(ds.len() - size);
-        return joined(negative, front, &[10], 0, back);
+        return joined(negative, front, &[POINT], 0, back);
     }
-    joined(negative, &[0], &[10], size - ds.len(), ds)
+    joined(negative, &[0], &[POINT], size - ds.len(), ds)
 }
 
 /// The bytes of a text: 30, then two characters a byte, then the end.
@@ -69,16 +70,16 @@ pub fn pack(text: &[u8]) -> Text
     ensures { shown result ≡ 30 ∷ packed text.now }
 {
     let mut bytes = Text::empty();
-    bytes.put(30);
+    bytes.put(first_byte::REAL);
     let mut rest = text;
     while rest.len() >= 2 {
         bytes.put(16 * rest[0] + rest[1]);
         rest = &rest[2..];
     }
     if rest.len() == 1 {
-        bytes.put(16 * rest[0] + 15);
+        bytes.put(16 * rest[0] + END);
     } else {
-        bytes.put(255);
+        bytes.put(TWO_ENDS);
     }
     bytes
 }

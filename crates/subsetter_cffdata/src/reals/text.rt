@@ -3,6 +3,21 @@
 ghost use Rattle.std.specs.Prelude.{◌≡◌, ◌+◌, ◌<◌, ◌≤◌, ◌++◌, ◌∷◌, [], length, drop, OnSome, IfNone};
 ghost use Rattle.std.specs.Option.{option_map};
 
+/// The characters of a real by their nibbles (Technical Note 5176, table 5): `.`, which stands between digits.
+pub(crate) const POINT: u8 = 10;
+/// `E`, before an exponent.
+pub(crate) const EXPONENT: u8 = 11;
+/// `E-`, before an exponent below 0.
+const NEGATIVE_EXPONENT: u8 = 12;
+/// No character.
+const RESERVED: u8 = 13;
+/// `-`
+pub(crate) const MINUS: u8 = 14;
+/// The end of a number.
+pub(crate) const END: u8 = 15;
+/// The end in both nibbles of a byte.
+pub(crate) const TWO_ENDS: u8 = 255;
+
 /// At most 64 characters.
 #[derive(Clone, Copy)]
 pub struct Text {
@@ -55,10 +70,10 @@ impl Text {
         ensures { option_map (λ x. shown self.new) result ≡ extended (shown self.old) nibble }
     {
         match nibble {
-            13 => None,
-            12 => {
-                self.push(11)?;
-                self.push(14)
+            RESERVED => None,
+            NEGATIVE_EXPONENT => {
+                self.push(EXPONENT)?;
+                self.push(MINUS)
             }
             _ => self.push(nibble),
         }
@@ -70,12 +85,12 @@ impl Text {
         ensures { option_map (λ x. (x, shown self.new)) result ≡ byte_step (shown self.old) b }
     {
         let high = b / 16;
-        if high == 15 {
+        if high == END {
             return Some(true);
         }
         self.push_nibble(high)?;
         let low = b % 16;
-        if low == 15 {
+        if low == END {
             return Some(true);
         }
         self.push_nibble(low)?;

@@ -18,7 +18,7 @@ use Rattle.subsetter_instance.specs.Glyphs.Drawn.{Drawn, advance, bearing, point
 use Rattle.subsetter_instance.specs.Plain.{drawn_if, drawn_all}
 use Rattle.subsetter_instance.proofs.FaultLaws.Tables.{hmtx_missing, hmtx_refused}
 use Rattle.subsetter_instance.specs.Fault.{HasGlyphFault, no_glyph, no_metric, in_walk, in_advance, far_point, large_outline}
-use Rattle.subsetter_instance.proofs.FaultLaws.Walk.{walk_refused, walk_stops}
+use Rattle.subsetter_instance.proofs.FaultLaws.WalkLaws.Walk.{walk_refused, walk_stops}
 use Rattle.subsetter_instance.proofs.FaultLaws.Rounded.{advance_refused, advance_stops, points_refused, points_stop}
 
 -- ---- what isn't drawn
@@ -34,8 +34,8 @@ module _ (s : Source) (at : List ℤ) (steps g : ℕ) where
   unrounded : (m : LongHorMetric) (u : Unfolded × ℕ) (e : Error) → metric s g ≡ Some m → unfolded levels s at steps g ≡ Ok u → rounded s at g m u.0 ≡ Err e → HasGlyphFault s at steps g e
   unfolding rounded
   unrounded m u e is there h =
-      elim (bind_err (advance s.hvar at g m.advance (u.0.right -ℤ u.0.left)) (λ width. points_or_fault u.0.left u.0.on u.0.xs u.0.ys >>= λ points. drawn_if_fit u.0.ends points width) e h) [
-        | inl k ↦ in_advance m u is there (advance_refused s.hvar at g m.advance (u.0.right -ℤ u.0.left) e k)
+      elim (bind_err (advance s.hvar at g m.advance_width (u.0.right -ℤ u.0.left)) (λ width. points_or_fault u.0.left u.0.on u.0.xs u.0.ys >>= λ points. drawn_if_fit u.0.ends points width) e h) [
+        | inl k ↦ in_advance m u is there (advance_refused s.hvar at g m.advance_width (u.0.right -ℤ u.0.left) e k)
         | inr k ↦ elim (bind_err (points_or_fault u.0.left u.0.on u.0.xs u.0.ys) (λ points. drawn_if_fit u.0.ends points k.0) e k.2) [
           | inl l ↦ let f = points_refused u.0.left u.0.on u.0.xs u.0.ys e l in subst (HasGlyphFault s at steps g) f.1 (far_point u there f.0)
           | inr l ↦ let f = unfit u.0.ends l.0 k.0 e l.2 in subst (HasGlyphFault s at steps g) f.1 (large_outline u l.0 there l.1 f.0)
@@ -88,7 +88,7 @@ record DrawnSteps (s : Source) (at : List ℤ) (steps g : ℕ) : Type 0 where
   u : Unfolded × ℕ
   u_is : unfolded levels s at steps g ≡ Ok u
   width : ℕ
-  width_is : advance s.hvar at g m.advance (u.0.right -ℤ u.0.left) ≡ Ok width
+  width_is : advance s.hvar at g m.advance_width (u.0.right -ℤ u.0.left) ≡ Ok width
   points : List Point
   points_is : points_or_fault u.0.left u.0.on u.0.xs u.0.ys ≡ Ok points
   fits : parts_fit u.0.ends points ≡ true
@@ -99,7 +99,7 @@ drawn_steps s at steps g d lt h =
     let a = bind_ok (ok_or (metric s g) MalformedFont) (λ m. unfolded levels s at steps g >>= λ u. rounded s at g m u.0) d h in
     let b = bind_ok (unfolded levels s at steps g) (λ u. rounded s at g a.0 u.0) d a.2 in
     let u = b.0.0 in
-    let c = bind_ok (advance s.hvar at g a.0.advance (u.right -ℤ u.left)) (λ width. points_or_fault u.left u.on u.xs u.ys >>= λ points. drawn_if_fit u.ends points width) d b.2 in
+    let c = bind_ok (advance s.hvar at g a.0.advance_width (u.right -ℤ u.left)) (λ width. points_or_fault u.left u.on u.xs u.ys >>= λ points. drawn_if_fit u.ends points width) d b.2 in
     let p = bind_ok (points_or_fault u.left u.on u.xs u.ys) (λ points. drawn_if_fit u.ends points c.0) d c.2 in
     record { counted = lt; m = a.0; m_is = named_ok (metric s g) MalformedFont a.0 a.1; u = b.0; u_is = b.1; width = c.0; width_is = c.1; points = p.0; points_is = p.1; fits = fit u.ends p.0 c.0 (parts_fit u.ends p.0) p.2 }
   where
@@ -115,8 +115,8 @@ no_glyph_fault s at steps g e t (no_glyph le) = let lt = t.counted in omega arit
 no_glyph_fault s at steps g e t (no_metric f) = some_not_none (metric s g) t.m t.m_is (hmtx_missing s g f)
 no_glyph_fault s at steps g e t (in_walk f) = ok_not_err (unfolded levels s at steps g) t.u e t.u_is (walk_stops s at levels steps g e f)
 no_glyph_fault s at steps g e t (in_advance m u m_is u_is f) =
-    ok_not_err (advance s.hvar at g m.advance (u.0.right -ℤ u.0.left)) t.width e
-    (ap (λ (x : Unfolded × ℕ). advance s.hvar at g m.advance (x.0.right -ℤ x.0.left)) (sym (same_unfolded s at steps g t u u_is)) ∙ ap (λ (k : LongHorMetric). advance s.hvar at g k.advance (t.u.0.right -ℤ t.u.0.left)) (just_is m t.m (sym m_is ∙ t.m_is)) ∙ t.width_is) (advance_stops s.hvar at g m.advance (u.0.right -ℤ u.0.left) e f)
+    ok_not_err (advance s.hvar at g m.advance_width (u.0.right -ℤ u.0.left)) t.width e
+    (ap (λ (x : Unfolded × ℕ). advance s.hvar at g m.advance_width (x.0.right -ℤ x.0.left)) (sym (same_unfolded s at steps g t u u_is)) ∙ ap (λ (k : LongHorMetric). advance s.hvar at g k.advance_width (t.u.0.right -ℤ t.u.0.left)) (just_is m t.m (sym m_is ∙ t.m_is)) ∙ t.width_is) (advance_stops s.hvar at g m.advance_width (u.0.right -ℤ u.0.left) e f)
 no_glyph_fault s at steps g e t (far_point u u_is f) =
     ok_not_err (points_or_fault u.0.left u.0.on u.0.xs u.0.ys) t.points e (ap (λ (x : Unfolded × ℕ). points_or_fault x.0.left x.0.on x.0.xs x.0.ys) (sym (same_unfolded s at steps g t u u_is)) ∙ t.points_is) (points_stop u.0.left u.0.on u.0.xs u.0.ys f)
 no_glyph_fault s at steps g e t (large_outline u points u_is points_is h) =

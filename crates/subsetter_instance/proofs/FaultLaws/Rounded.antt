@@ -9,11 +9,12 @@ use Rattle.subsetter_base.proofs.Results.{done, failed_is, bind_err}
 use Rattle.subsetter_points.specs.declared.outline.Point.{Point}
 use Rattle.subsetter_points.specs.Simple.{has_16_bits}
 use Rattle.subsetter_variation.specs.Nearest.{nearest}
-use Rattle.subsetter_variation.specs.Items.ItemVariations.{advance_delta, in_whole_units, whole_or_fault}
+use Rattle.subsetter_variation.specs.Items.ItemVariations.{in_whole_units, whole_or_fault}
+use Rattle.subsetter_variation.specs.Items.Advances.{advance_delta}
 use Rattle.subsetter_variation.proofs.GlyphsLaws.GvarFaults.{behind, behind_error}
 use Rattle.subsetter_instance.specs.Glyphs.Drawn.{advance, advance_or_fault, point_or_fault, points_or_fault, whole}
 use Rattle.subsetter_instance.proofs.FaultLaws.ItemLaws.Hvar.{hvar_refused, hvar_clean}
-use Rattle.subsetter_instance.specs.Faults.RoundedFault.{HasAdvanceFault, HasFarPoint, IsWide, in_hvar, large_item, wide_by_item, wide, far_first, far_later}
+use Rattle.subsetter_instance.specs.Faults.RoundedFault.{HasAdvanceFault, HasPointOutOfRange, IsWide, in_hvar, large_item, wide_by_item, wide, far_first, far_later}
 
 -- ---- advances
 
@@ -91,7 +92,7 @@ both_or true true x y on = inl (record { x = x; y = y; on_curve = on }, refl)
 both_or true false x y on = inr refl
 both_or false b x y on = inr refl
 
-pub points_refused : (left : ℤ) (on : List Bool) (xs ys : List ℤ) (e : Error) → points_or_fault left on xs ys ≡ Err e → HasFarPoint left on xs ys × (OverflowError ≡ e)
+pub points_refused : (left : ℤ) (on : List Bool) (xs ys : List ℤ) (e : Error) → points_or_fault left on xs ys ≡ Err e → HasPointOutOfRange left on xs ys × (OverflowError ≡ e)
 unfolding points_or_fault
 points_refused left [] xs ys e h = absurd cc
 points_refused left (on ∷ more) [] ys e h = absurd cc
@@ -102,12 +103,12 @@ points_refused left (on ∷ more) (x ∷ xs) (y ∷ ys) e h =
       | inr k ↦ later k.0 (λ r. points_refused left more xs ys e r) (bind_err (points_or_fault left more xs ys) (λ rest. Ok (k.0 ∷ rest)) e k.2)
     ]
   where
-    later : (p : Point) → (points_or_fault left more xs ys ≡ Err e → HasFarPoint left more xs ys × (OverflowError ≡ e)) → (points_or_fault left more xs ys ≡ Err e) ⊎ ((rest : List Point) × (points_or_fault left more xs ys ≡ Ok rest) × (Ok (p ∷ rest) ≡ Err e))
-        → HasFarPoint left (on ∷ more) (x ∷ xs) (y ∷ ys) × (OverflowError ≡ e)
+    later : (p : Point) → (points_or_fault left more xs ys ≡ Err e → HasPointOutOfRange left more xs ys × (OverflowError ≡ e)) → (points_or_fault left more xs ys ≡ Err e) ⊎ ((rest : List Point) × (points_or_fault left more xs ys ≡ Ok rest) × (Ok (p ∷ rest) ≡ Err e))
+        → HasPointOutOfRange left (on ∷ more) (x ∷ xs) (y ∷ ys) × (OverflowError ≡ e)
     later p deeper (inl k) = let f = deeper k in (far_later on more x y xs ys f.0, f.1)
     later p deeper (inr k) = let z = k.2 in absurd cc
 
-pub points_stop : (left : ℤ) (on : List Bool) (xs ys : List ℤ) → HasFarPoint left on xs ys → points_or_fault left on xs ys ≡ Err OverflowError
+pub points_stop : (left : ℤ) (on : List Bool) (xs ys : List ℤ) → HasPointOutOfRange left on xs ys → points_or_fault left on xs ys ≡ Err OverflowError
 unfolding points_or_fault
 points_stop left _ _ _ (far_first on more x y xs ys h) =
     behind_error (point_or_fault left on x y) (λ p. points_or_fault left more xs ys >>= λ rest. Ok (p ∷ rest)) OverflowError (both_stop (has_16_bits (whole (x -ℤ left))) (has_16_bits (whole y)) (whole (x -ℤ left)) (whole y) on h)

@@ -10,7 +10,7 @@ use Rattle.subsetter_base.proofs.ByteLemmas.{number-fits, number-short, range-fi
 use Rattle.subsetter_base.proofs.Options.{bind_some, just_is, map_none, map_some}
 use Rattle.subsetter_sfnt.specs.declared.fields.hmtx.LongHorMetric.{LongHorMetric}
 use Rattle.subsetter_instance.specs.Source.{Source, description, metric, offset}
-use Rattle.subsetter_sfnt.specs.Fields.Hmtx.{metric_at}
+use Rattle.subsetter_sfnt.specs.Fields.Hmtx.{metric_at, metric_in}
 use Rattle.subsetter_instance.specs.Glyphs.Unfolded.{counted_description}
 use Rattle.subsetter_base.specs.Options.{◌>>=◌}
 use Rattle.subsetter_instance.specs.Faults.GlyphFault.{HasDescriptionFault, HasHmtxFault, past_count, cut_loca, descending, past_glyf, no_pairs, cut_pair, cut_bearing}
@@ -106,13 +106,13 @@ module _ (s : Source) (g : ℕ) where
   -- ---- metrics
 
   abbrev with_bearing : ℕ → ℕ → Option LongHorMetric
-  with_bearing at advance = number s.hmtx at 2 >>= λ bearing. Some (record { advance = advance; bearing = bearing })
+  with_bearing at advance = number s.hmtx at 2 >>= λ bearing. Some (record { advance_width = advance; lsb = bearing })
 
   pair_none : (a b : ℕ) → a ≤ b → metric_at s.hmtx a b ≡ None → length s.hmtx < b + 2
   pair_none a b le h =
       elim (bind_none (number s.hmtx a 2) (with_bearing b) h) [
         | inl k ↦ let less = number-short s.hmtx a 2 k in omega arith
-        | inr x ↦ elim (bind_none (number s.hmtx b 2) (λ bearing. let m : LongHorMetric = record { advance = x.0; bearing = bearing } in Some m) x.2) [
+        | inr x ↦ elim (bind_none (number s.hmtx b 2) (λ bearing. let m : LongHorMetric = record { advance_width = x.0; lsb = bearing } in Some m) x.2) [
           | inl k ↦ number-short s.hmtx b 2 k
           | inr k ↦ absurd cc
         ]
@@ -121,7 +121,7 @@ module _ (s : Source) (g : ℕ) where
   pair_some : (a b : ℕ) (m : LongHorMetric) → metric_at s.hmtx a b ≡ Some m → b + 2 ≤ length s.hmtx
   pair_some a b m h =
       let x = bind_some (number s.hmtx a 2) (with_bearing b) m h in
-      let y = bind_some (number s.hmtx b 2) (λ bearing. let m : LongHorMetric = record { advance = x.0; bearing = bearing } in Some m) m x.2 in
+      let y = bind_some (number s.hmtx b 2) (λ bearing. let m : LongHorMetric = record { advance_width = x.0; lsb = bearing } in Some m) m x.2 in
       number-fits s.hmtx b 2 y.0 y.1
 
   abbrev own_pair : Option LongHorMetric
@@ -131,7 +131,7 @@ module _ (s : Source) (g : ℕ) where
   last_pair = metric_at s.hmtx (4 * (s.number_of_h_metrics - 1)) (4 * s.number_of_h_metrics + 2 * (g - s.number_of_h_metrics))
 
   pub hmtx_refused : metric s g ≡ None → HasHmtxFault s g
-  unfolding metric
+  unfolding metric metric_in
   hmtx_refused h = by (nat_lt g s.number_of_h_metrics) (s.number_of_h_metrics == 0) refl refl h
     where
       by : (b c : Bool) → nat_lt g s.number_of_h_metrics ≡ b → (s.number_of_h_metrics == 0) ≡ c → cond b own_pair (cond c None last_pair) ≡ None → HasHmtxFault s g
@@ -140,7 +140,7 @@ module _ (s : Source) (g : ℕ) where
       by false false t u k = cut_bearing (ltb-false g s.number_of_h_metrics t) (pair_none (4 * (s.number_of_h_metrics - 1)) (4 * s.number_of_h_metrics + 2 * (g - s.number_of_h_metrics)) (omega arith) k)
 
   pub hmtx_missing : HasHmtxFault s g → metric s g ≡ None
-  unfolding metric
+  unfolding metric metric_in
   hmtx_missing f = missing (metric s g) (λ m h. by m (nat_lt g s.number_of_h_metrics) (s.number_of_h_metrics == 0) refl refl h f)
     where
       by : (m : LongHorMetric) (b c : Bool) → nat_lt g s.number_of_h_metrics ≡ b → (s.number_of_h_metrics == 0) ≡ c → cond b own_pair (cond c None last_pair) ≡ Some m → HasHmtxFault s g → ⊥

@@ -21,10 +21,12 @@ use Rattle.subsetter_instance.specs.Glyphs.Drawn.{Drawn}
 use Rattle.subsetter_instance.specs.Tables.Extremes.{all_extents, box_bytes, extreme_bytes}
 use Rattle.subsetter_instance.specs.Tables.Lines.{with_lines}
 use Rattle.subsetter_instance.specs.Instance.{tags_with, HasBytes, IsDrawn, KeepsBytes, KeepsTable, KeepsHeader}
-use Rattle.subsetter_instance.specs.Tables.Written.{by_glyph, outline_bytes, glyf_bytes, is_long, offsets_from, loca_bytes, hmtx_bytes, head_bytes, hhea_bytes, maxp_bytes, tables}
+use Rattle.subsetter_sfnt.specs.Fields.Loca.{loca_bytes}
+use Rattle.subsetter_instance.specs.Tables.Written.{by_glyph, outline_bytes, glyf_bytes, is_long, offsets_from, hmtx_of, head_bytes, hhea_bytes, maxp_bytes, tables}
 use Rattle.subsetter_instance.proofs.FileLaws.Among.{drawn_one, is_among, not_among, by_glyph_at, by_glyph_length}
 use Rattle.subsetter_instance.proofs.FileLaws.Fitting.{reads, drawn_fits}
-use Rattle.subsetter_instance.proofs.FileLaws.Head.{format_bytes, head_length, head_front, head_middle, head_box, head_style, head_end, head_format, format_back}
+use Rattle.subsetter_sfnt.specs.Fields.Head.{format_bytes}
+use Rattle.subsetter_instance.proofs.FileLaws.Head.{head_length, head_front, head_middle, head_box, head_style, head_end, head_format, format_back}
 use Rattle.subsetter_instance.proofs.FileLaws.Laid.{has_room}
 use Rattle.subsetter_instance.proofs.FileLaws.Lines.{lines_long}
 use Rattle.subsetter_instance.proofs.FileLaws.Metrics.{metric_back, pairs_back, hhea_length, hhea_front, hhea_extremes, hhea_middle, hhea_end, count_back}
@@ -96,13 +98,13 @@ module _ (font : Font) (settings : List (Tag × ℤ)) (glyphs : List ℕ) (steps
 
   -- the file's own tables
   abbrev pub afresh : Source
-  afresh = record { glyf = glyf_bytes all; loca = loca_bytes long (offsets_from 0 all); long = long; count = count; number_of_h_metrics = count; hmtx = hmtx_bytes all; gvar = None; hvar = None }
+  afresh = record { glyf = glyf_bytes all; loca = loca_bytes long (offsets_from 0 all); long = long; count = count; number_of_h_metrics = count; hmtx = hmtx_of all; gvar = None; hvar = None }
 
   pub read_back : source_in (stored (as_font made)) 0 ≡ Some afresh
   read_back =
-      source_by (stored (as_font made)) (glyf_bytes all) (loca_bytes long (offsets_from 0 all)) new_head (be (format_bytes long)) (maxp_bytes count i.ds) count (hhea_bytes count i.ds hhea) count (hmtx_bytes all) (back (codes "glyf") refl) (back (codes "loca") refl) head_back (head_format word long i.ds i.head long_head)
+      source_by (stored (as_font made)) (glyf_bytes all) (loca_bytes long (offsets_from 0 all)) new_head (be (format_bytes long)) (maxp_bytes count i.ds) count (hhea_bytes count i.ds hhea) count (hmtx_of all) (back (codes "glyf") refl) (back (codes "loca") refl) head_back (head_format word long i.ds i.head long_head)
       (back (codes "maxp") refl) (count_back count i.ds few) (back (codes "hhea") refl) (pairs_back count i.ds hhea long_hhea few) (back (codes "hmtx") refl) (back (codes "gvar") refl) (back (codes "HVAR") refl)
-      ∙ ap (λ (l : Bool). Some (record { glyf = glyf_bytes all; loca = loca_bytes long (offsets_from 0 all); long = l; count = count; number_of_h_metrics = count; hmtx = hmtx_bytes all; gvar = None; hvar = None })) (format_back long)
+      ∙ ap (λ (l : Bool). Some (record { glyf = glyf_bytes all; loca = loca_bytes long (offsets_from 0 all); long = l; count = count; number_of_h_metrics = count; hmtx = hmtx_of all; gvar = None; hvar = None })) (format_back long)
 
   -- ---- glyphs
 

@@ -12,7 +12,8 @@ use Rattle.subsetter_base.proofs.Results.{done_is, bind_ok}
 use Rattle.subsetter_points.specs.declared.outline.Point.{Point}
 use Rattle.subsetter_points.specs.Simple.{has_16_bits, deltas_fit, points_fit, parts_fit, are_ends, xs_of, ys_of, parts, parts_bytes}
 use Rattle.subsetter_points.proofs.Back.{parts_back}
-use Rattle.subsetter_variation.specs.Items.ItemVariations.{advance_delta, whole_or_fault}
+use Rattle.subsetter_variation.specs.Items.ItemVariations.{whole_or_fault}
+use Rattle.subsetter_variation.specs.Items.Advances.{advance_delta}
 use Rattle.subsetter_sfnt.specs.declared.fields.hmtx.LongHorMetric.{LongHorMetric}
 use Rattle.subsetter_instance.specs.Source.{Source, metric}
 use Rattle.subsetter_instance.specs.Glyphs.Unfolded.{Unfolded, unfolded}
@@ -106,9 +107,9 @@ if_fits es ps width d small h = by (parts_fit es ps) refl h
 rounded_fits : (s : Source) (at : List ℤ) (g : ℕ) (m : LongHorMetric) (u : Unfolded) (d : Drawn) → rounded s at g m u ≡ Ok d → CanBeWritten d
 unfolding rounded
 rounded_fits s at g m u d h =
-    let a = bind_ok (advance s.hvar at g m.advance (u.right -ℤ u.left)) (λ width. points_or_fault u.left u.on u.xs u.ys >>= λ points. drawn_if_fit u.ends points width) d h in
+    let a = bind_ok (advance s.hvar at g m.advance_width (u.right -ℤ u.left)) (λ width. points_or_fault u.left u.on u.xs u.ys >>= λ points. drawn_if_fit u.ends points width) d h in
     let b = bind_ok (points_or_fault u.left u.on u.xs u.ys) (λ points. drawn_if_fit u.ends points a.0) d a.2 in
-    if_fits u.ends b.0 a.0 d (small_width s.hvar at g m.advance (u.right -ℤ u.left) a.0 a.1) b.2
+    if_fits u.ends b.0 a.0 d (small_width s.hvar at g m.advance_width (u.right -ℤ u.left) a.0 a.1) b.2
 
 -- what is drawn of a glyph can be written
 pub drawn_fits : (s : Source) (at : List ℤ) (steps g : ℕ) (d : Drawn) → drawn s at steps g ≡ Ok d → CanBeWritten d

@@ -1,25 +1,22 @@
 -- `head` of an instance, read afresh.
 use Rattle.std.proofs.Common.{◌≡◌, ℕ, ◌+◌, ◌≤◌, Bool, true, false, eqb, List, [], ◌∷◌, ◌++◌, length, take, drop, Option, Some, None, refl, sym, ap, ◌∙◌, append_assoc, arith}
-use Rattle.std.specs.Prelude.{slice_range, not, if◌then◌else◌}
+use Rattle.std.specs.Prelude.{slice_range, not}
 use Rattle.std.specs.Int.{w32, to_be_bytes}
 use Rattle.std.proofs.lemmas.List.{take_at, drop_at, length-append, length-take, length-drop}
 use Rattle.subsetter_base.specs.Bytes.{be, number}
 use Rattle.subsetter_base.proofs.ByteLemmas.{number_at}
+use Rattle.subsetter_sfnt.specs.Fields.Head.{format_bytes}
 use Rattle.subsetter_sfnt.specs.Laying.Written.{with_adjustment}
 use Rattle.subsetter_instance.specs.declared.tables.extremes.Extents.{Extents}
 use Rattle.subsetter_instance.specs.Glyphs.Drawn.{Drawn}
 use Rattle.subsetter_instance.specs.Tables.Extremes.{all_extents, box_bytes}
 use Rattle.subsetter_instance.specs.Tables.Written.{head_bytes}
 
--- indexToLocFormat
-abbrev pub format_bytes : Bool → List ℕ
-format_bytes long = 0 ∷ (if long then 1 else 0) ∷ []
-
 -- what stands between checksumAdjustment and indexToLocFormat
 abbrev pub middle_bytes : List Drawn → List ℕ → List ℕ
 middle_bytes ds head = slice_range head 12 36 ++ box_bytes (all_extents ds) ++ slice_range head 44 50
 
-eight_bytes : (e : Option Extents) → length (box_bytes e) ≡ 8
+pub eight_bytes : (e : Option Extents) → length (box_bytes e) ≡ 8
 eight_bytes None = refl
 eight_bytes (Some e) = refl
 

@@ -1,62 +1,52 @@
 -- `hmtx`, `hhea` and `maxp` that were written are read back.
-use Rattle.std.proofs.Common.{◌≡◌, ℕ, zero, suc, ◌+◌, ◌*◌, ◌^◌, ◌<◌, ◌≤◌, Bool, true, List, [], ◌∷◌, ◌++◌, length, get_or, take, drop, Option, Some, None, refl, sym, ap, ◌∙◌, append_assoc, cond, arith}
+use Rattle.std.proofs.Common.{◌≡◌, ℕ, zero, suc, ◌+◌, ◌*◌, ◌^◌, ◌<◌, ◌≤◌, Bool, true, List, [], ◌∷◌, ◌++◌, length, get_or, map, take, drop, Option, Some, None, refl, sym, ap, subst, ◌∙◌, append_assoc, cond, arith}
 use Rattle.std.specs.Prelude.{slice_range}
 use Rattle.std.specs.List.{flat_map}
 use Rattle.std.specs.Int.{w16, w32, to_be_bytes, cast_unsigned}
 use Rattle.std.proofs.lemmas.Bool.{lt-ltb}
-use Rattle.std.proofs.lemmas.List.{length-append, length-take, length-take-le, length-drop, take_at, drop_at}
+use Rattle.std.proofs.lemmas.List.{length-append, length-map, length-take, length-take-le, length-drop, take_at, drop_at}
 use Rattle.subsetter_base.specs.Bytes.{number}
 use Rattle.subsetter_base.proofs.ByteLemmas.{be-u16, number_at}
 use Rattle.subsetter_sfnt.specs.declared.fields.hmtx.LongHorMetric.{LongHorMetric}
+use Rattle.subsetter_sfnt.specs.Fields.Hmtx.{metric_at, metric_in, metric_bytes}
+use Rattle.subsetter_sfnt.proofs.Laws.FieldsLaws.HmtxLaws.{IsSmall, metric_in_pairs, all_pairs}
 use Rattle.subsetter_instance.specs.Source.{Source, metric}
-use Rattle.subsetter_sfnt.specs.Fields.Hmtx.{metric_at}
 use Rattle.subsetter_instance.specs.declared.tables.extremes.Extents.{Extents}
 use Rattle.subsetter_instance.specs.Glyphs.Drawn.{Drawn}
 use Rattle.subsetter_instance.specs.Tables.Extremes.{all_extents, widest, side_bytes, extreme_bytes}
-use Rattle.subsetter_instance.specs.Tables.Written.{metric_bytes, hmtx_bytes, hhea_bytes, most_points, most_contours, maxp_bytes}
+use Rattle.subsetter_instance.specs.Tables.Written.{drawn_metric, hmtx_of, hhea_bytes, most_points, most_contours, maxp_bytes}
 use Rattle.subsetter_instance.proofs.FileLaws.Head.{slice_at}
 
 -- ---- hmtx
 
-four_bytes : (d : Option Drawn) → length (metric_bytes d) ≡ 4
-four_bytes None = refl
-four_bytes (Some d) = refl
+-- the table of the metrics, one behind another
+pub flat_is : (all : List (Option Drawn)) → flat_map metric_bytes (map drawn_metric all) ≡ hmtx_of all
+flat_is all = all_pairs (map drawn_metric all) (length all) (omega (arith, length-map all drawn_metric))
 
-pub record IsFound (bytes : List ℕ) (p : ℕ) (d : Drawn) : Type 0 where
-  pub advance : number bytes p 2 ≡ Some d.advance
-  pub bearing : number bytes (p + 2) 2 ≡ Some (cast_unsigned w16 d.bearing)
+drawn_at : (all : List (Option Drawn)) (i : ℕ) (d : Drawn) (m : LongHorMetric) → get_or all i None ≡ Some d → get_or (map drawn_metric all) i m ≡ drawn_metric (Some d)
+drawn_at [] i d m h = absurd cc
+drawn_at (e ∷ all) zero d m h = ap drawn_metric h
+drawn_at (e ∷ all) (suc i) d m h = drawn_at all i d m h
 
-found_first : (d : Drawn) (rest pre bytes : List ℕ) (p : ℕ) → d.advance < 2 ^ 16 → cast_unsigned w16 d.bearing < 2 ^ 16 → bytes ≡ pre ++ ((to_be_bytes w16 d.advance ++ to_be_bytes w16 (cast_unsigned w16 d.bearing)) ++ rest) → p ≡ length pre → IsFound bytes p d
-found_first d rest pre bytes p small_a small_b is at =
-    let a = to_be_bytes w16 d.advance in
-    let b = to_be_bytes w16 (cast_unsigned w16 d.bearing) in
-    let first : bytes ≡ pre ++ (a ++ (b ++ rest)) = is ∙ ap (λ (l : List ℕ). pre ++ l) (append_assoc a b rest) in
-    let second : bytes ≡ (pre ++ a) ++ (b ++ rest) = first ∙ sym (append_assoc pre a (b ++ rest)) in
-    record {
-      advance = number_at bytes pre a (b ++ rest) p 2 d.advance first at refl (be-u16 d.advance small_a);
-      bearing = number_at bytes (pre ++ a) b rest (p + 2) 2 (cast_unsigned w16 d.bearing) second (omega (arith, length-append pre a)) refl (be-u16 (cast_unsigned w16 d.bearing) small_b);
-    }
-
--- the metric that stands at a place of the list
-found_at : (all : List (Option Drawn)) (i : ℕ) (d : Drawn) (pre bytes : List ℕ) (p : ℕ) → get_or all i None ≡ Some d → d.advance < 2 ^ 16 → cast_unsigned w16 d.bearing < 2 ^ 16 → bytes ≡ pre ++ hmtx_bytes all → p ≡ length pre + 4 * i → IsFound bytes p d
-found_at [] i d pre bytes p at small_a small_b is place = absurd cc
-found_at (e ∷ all) zero d pre bytes p at small_a small_b is place =
-    found_first d (hmtx_bytes all) pre bytes p small_a small_b (is ∙ ap (λ o. pre ++ (metric_bytes o ++ hmtx_bytes all)) at) (omega arith)
-found_at (e ∷ all) (suc i) d pre bytes p at small_a small_b is place =
-    found_at all i d (pre ++ metric_bytes e) bytes p at small_a small_b (is ∙ sym (append_assoc pre (metric_bytes e) (hmtx_bytes all))) (omega (arith, length-append pre (metric_bytes e), four_bytes e))
-
-two_numbers : (hmtx : List ℕ) (p q a b : ℕ) → number hmtx p 2 ≡ Some a → number hmtx q 2 ≡ Some b → metric_at hmtx p q ≡ Some (record { advance = a; bearing = b })
-two_numbers hmtx p q a b x y = rw (x, y) refl
+some_within : (all : List (Option Drawn)) (i : ℕ) (d : Drawn) → get_or all i None ≡ Some d → i < length all
+some_within [] i d h = absurd cc
+some_within (e ∷ all) zero d h = omega arith
+some_within (e ∷ all) (suc i) d h = let rest = some_within all i d h in omega arith
 
 first : (b : Bool) (x y z : Option LongHorMetric) → b ≡ true → x ≡ z → cond b x y ≡ z
 first b x y z e is = ap (λ t. cond t x y) e ∙ is
 
 -- the metric of a glyph that was asked for
-pub metric_back : (t : Source) (all : List (Option Drawn)) (i : ℕ) (d : Drawn) → t.hmtx ≡ hmtx_bytes all → i < t.number_of_h_metrics → get_or all i None ≡ Some d → d.advance < 2 ^ 16 → cast_unsigned w16 d.bearing < 2 ^ 16 → metric t i ≡ Some (record { advance = d.advance; bearing = cast_unsigned w16 d.bearing })
-unfolding metric
+pub metric_back : (t : Source) (all : List (Option Drawn)) (i : ℕ) (d : Drawn) → t.hmtx ≡ hmtx_of all → i < t.number_of_h_metrics → get_or all i None ≡ Some d → d.advance < 2 ^ 16 → cast_unsigned w16 d.bearing < 2 ^ 16 → metric t i ≡ Some (record { advance_width = d.advance; lsb = cast_unsigned w16 d.bearing })
+unfolding metric metric_in
 metric_back t all i d is lt at small_a small_b =
-    let f = found_at all i d [] t.hmtx (4 * i) at small_a small_b is (omega arith) in
-    first _ _ _ _ (lt-ltb i t.number_of_h_metrics lt) (two_numbers t.hmtx (4 * i) (4 * i + 2) d.advance (cast_unsigned w16 d.bearing) f.advance f.bearing)
+    let ms = map drawn_metric all in
+    let m = drawn_metric (Some d) in
+    let within : i < length all = some_within all i d at in
+    let same : get_or ms i m ≡ m = drawn_at all i d m at in
+    let small : IsSmall m = record { advance_width = small_a; lsb = small_b } in
+    let found : metric_at (hmtx_of all) (4 * i) (4 * i + 2) ≡ Some m = metric_in_pairs ms (length all) i m (omega (arith, length-map all drawn_metric)) within (subst IsSmall (sym same) small) ∙ ap Some same in
+    first _ _ _ _ (lt-ltb i t.number_of_h_metrics lt) (ap (λ (l : List ℕ). metric_at l (4 * i) (4 * i + 2)) is ∙ found)
 
 -- ---- hhea
 
@@ -64,7 +54,7 @@ six_bytes : (e : Option Extents) → length (side_bytes e) ≡ 6
 six_bytes None = refl
 six_bytes (Some e) = refl
 
-eight_bytes : (ds : List Drawn) → length (extreme_bytes ds) ≡ 8
+pub eight_bytes : (ds : List Drawn) → length (extreme_bytes ds) ≡ 8
 eight_bytes ds = omega (arith, length-append (to_be_bytes w16 (widest ds)) (side_bytes (all_extents ds)), six_bytes (all_extents ds))
 
 -- what stands before numberOfHMetrics

@@ -10,7 +10,8 @@ use Rattle.subsetter_base.proofs.ByteLemmas.{be-u16, be-u32, range-middle}
 use Rattle.subsetter_points.specs.Simple.{parts_bytes}
 use Rattle.subsetter_instance.specs.Source.{Source, offset, description}
 use Rattle.subsetter_instance.specs.Glyphs.Drawn.{Drawn}
-use Rattle.subsetter_instance.specs.Tables.Written.{outline_bytes, glyf_bytes, is_long, offset_bytes, offsets_from, loca_bytes}
+use Rattle.subsetter_sfnt.specs.Fields.Loca.{offset_bytes, loca_bytes}
+use Rattle.subsetter_instance.specs.Tables.Written.{outline_bytes, glyf_bytes, is_long, offsets_from}
 
 -- ---- lengths
 

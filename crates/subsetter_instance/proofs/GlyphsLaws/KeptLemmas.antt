@@ -2,7 +2,7 @@
 use Rattle.std.proofs.Common.{◌≡◌, ◌≤◌, ◌+◌, ◌-◌, ◌<◌, ℕ, zero, suc, List, ℤ, Some, Option, Ok, false, arith, sym, ap, ◌∙◌}
 use Rattle.std.specs.Prelude.{IfSome, slice_set}
 use Rattle.std.proofs.lemmas.List.Elements.{All-set}
-use Rattle.subsetter_instance.specs.Glyphs.Kept.{AreKept, IsKept, KeptGlyph}
+use Rattle.subsetter_instance.specs.Glyphs.Cache.{AreKept, IsKept, KeptGlyph}
 use Rattle.subsetter_instance.specs.Source.{Source}
 use Rattle.subsetter_instance.specs.Glyphs.Unfolded.{IsInReach, Unfolded, counted_description, is_composite, unfolded}
 use Rattle.subsetter_instance.proofs.SameLaws.Costs.{unfolded_cost}

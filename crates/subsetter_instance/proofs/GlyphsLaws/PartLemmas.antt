@@ -5,7 +5,7 @@ use Rattle.subsetter_base.specs.Bytes.{◌>>=◌}
 use Rattle.subsetter_base.specs.declared.error.Error.{Error}
 use Rattle.subsetter_instance.specs.declared.glyphs.components.Component.{Component}
 use Rattle.subsetter_instance.specs.declared.glyphs.components.Matrix.{Matrix}
-use Rattle.subsetter_instance.specs.Glyphs.Unfolded.{Unfolded, is_scaled, joined_moved, joined_or_fault, moved_part, near_or_fault, placed, shift_by, transformed_x, transformed_xs, transformed_y, transformed_ys, with_part, with_points}
+use Rattle.subsetter_instance.specs.Glyphs.Unfolded.{Unfolded, is_scaled, joined_moved, joined_or_fault, moved_part, in_range_or_fault, placed, shift_by, transformed_x, transformed_xs, transformed_y, transformed_ys, with_part, with_points}
 
 in_turn : (r : Result (ℤ × ℤ) Error) (part : Unfolded) (xs ys : List ℤ) (k : Unfolded → Result (Unfolded × ℕ) Error)
     → ((r >>= λ by. Ok (moved_part part by.0 by.1 xs ys)) >>= k) ≡ (r >>= λ by. k (moved_part part by.0 by.1 xs ys))
@@ -15,7 +15,7 @@ in_turn (Err e) part xs ys k = refl
 by_points : (c : Component) (x y : ℤ) (before part : Unfolded) (steps : ℕ) → with_part c x y before part steps ≡ with_points c x y before part (transformed_xs c.matrix part.xs part.ys) (transformed_ys c.matrix part.xs part.ys) steps
 unfolding with_part placed with_points joined_moved
 by_points c x y before part steps =
-    in_turn (shift_by c.arguments (is_scaled c.flags c.matrix) x y before (transformed_xs c.matrix part.xs part.ys) (transformed_ys c.matrix part.xs part.ys)) part (transformed_xs c.matrix part.xs part.ys) (transformed_ys c.matrix part.xs part.ys) (λ p. near_or_fault p steps >>= λ near. joined_or_fault before near.0 near.1)
+    in_turn (shift_by c.arguments (is_scaled c.flags c.matrix) x y before (transformed_xs c.matrix part.xs part.ys) (transformed_ys c.matrix part.xs part.ys)) part (transformed_xs c.matrix part.xs part.ys) (transformed_ys c.matrix part.xs part.ys) (λ p. in_range_or_fault p steps >>= λ near. joined_or_fault before near.0 near.1)
 
 -- without a matrix
 pub plain_part : (c : Component) (x y : ℤ) (before part : Unfolded) (steps : ℕ) → c.matrix ≡ None → with_part c x y before part steps ≡ with_points c x y before part part.xs part.ys steps

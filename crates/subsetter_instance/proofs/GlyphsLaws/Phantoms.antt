@@ -19,7 +19,7 @@ use Rattle.subsetter_sfnt.specs.declared.fields.hmtx.LongHorMetric.{LongHorMetri
 use Rattle.subsetter_instance.specs.Glyphs.Drawn.{Drawn, advance, advance_or_fault, bearing, drawn_if_fit, points_or_fault, rounded, whole}
 use Rattle.subsetter_instance.specs.MetricLaws.{IsSimpleAdvanceAtDefault}
 use Rattle.subsetter_instance.specs.Source.{Source, metric}
-use Rattle.subsetter_instance.specs.Glyphs.Unfolded.{Unfolded, counted_description, is_composite, left_point, left_side, moved, near_or_fault, right_point, simple_outline, unfolded, unfolded_composite, unfolded_simple, with_phantoms}
+use Rattle.subsetter_instance.specs.Glyphs.Unfolded.{Unfolded, counted_description, is_composite, left_point, left_side, moved, in_range_or_fault, right_point, simple_outline, unfolded, unfolded_composite, unfolded_simple, with_phantoms}
 use Rattle.subsetter_instance.proofs.Defaults.{drawn_parts, stays}
 use Rattle.subsetter_instance.proofs.MetricLaws.{advance_is}
 use Rattle.subsetter_instance.proofs.SameLaws.Simple.{near_is}
@@ -51,16 +51,16 @@ fit_advance d es ps n h = by (parts_fit es ps) h
     by true k = ap (λ (x : Drawn). x.advance) (sym (done_is (record { ends = es; points = ps; advance = n; bearing = bearing ps }) d k))
     by false k = absurd cc
 
-rounded_advance : (s : Source) (at : List ℤ) (g : ℕ) (m : LongHorMetric) (u : Unfolded) (d : Drawn) → rounded s at g m u ≡ Ok d → advance s.hvar at g m.advance (u.right -ℤ u.left) ≡ Ok d.advance
+rounded_advance : (s : Source) (at : List ℤ) (g : ℕ) (m : LongHorMetric) (u : Unfolded) (d : Drawn) → rounded s at g m u ≡ Ok d → advance s.hvar at g m.advance_width (u.right -ℤ u.left) ≡ Ok d.advance
 unfolding rounded
 rounded_advance s at g m u d h =
-    let a = bind_ok (advance s.hvar at g m.advance (u.right -ℤ u.left)) (λ w. points_or_fault u.left u.on u.xs u.ys >>= λ ps. drawn_if_fit u.ends ps w) d h in
+    let a = bind_ok (advance s.hvar at g m.advance_width (u.right -ℤ u.left)) (λ w. points_or_fault u.left u.on u.xs u.ys >>= λ ps. drawn_if_fit u.ends ps w) d h in
     let b = bind_ok (points_or_fault u.left u.on u.xs u.ys) (λ ps. drawn_if_fit u.ends ps a.0) d a.2 in
     a.1 ∙ ap (λ (n : ℕ). Ok n) (sym (fit_advance d u.ends b.0 a.0 b.2))
 
 module _ (s : Source) (at : List ℤ) (g : ℕ) (bytes : List ℕ) (m : LongHorMetric) where
   abbrev outlined : List ℕ × List Point → List ℤ × List ℤ × ℕ → Result (Unfolded × ℕ) Error
-  outlined o to = near_or_fault (simple_outline bytes m o.0 o.1 to.0 to.1) to.2
+  outlined o to = in_range_or_fault (simple_outline bytes m o.0 o.1 to.0 to.1) to.2
 
   abbrev move : List ℕ × List Point → ℕ → Result (Unfolded × ℕ) Error
   move o left = moved s.gvar g (with_phantoms o.0 (xs_of o.1) (ys_of o.1)) at left >>= outlined o
@@ -72,7 +72,7 @@ module _ (s : Source) (at : List ℤ) (g : ℕ) (bytes : List ℕ) (m : LongHorM
   abbrev AreStill : Type 0
   AreStill = (o : List ℕ × List Point) (left : ℕ) (to : List ℤ × List ℤ × ℕ) → moved s.gvar g (with_phantoms o.0 (xs_of o.1) (ys_of o.1)) at left ≡ Ok to → to.0 ≡ in_units (xs_of o.1 ++ pos 0 ∷ pos 0 ∷ pos 0 ∷ pos 0 ∷ [])
 
-  simple_width : (steps : ℕ) (u : Unfolded × ℕ) → AreStill → unfolded_simple s at steps g bytes m ≡ Ok u → u.0.right -ℤ u.0.left ≡ pos (2 ^ 30) *ℤ pos m.advance
+  simple_width : (steps : ℕ) (u : Unfolded × ℕ) → AreStill → unfolded_simple s at steps g bytes m ≡ Ok u → u.0.right -ℤ u.0.left ≡ pos (2 ^ 30) *ℤ pos m.advance_width
   unfolding unfolded_simple
   simple_width steps u still h =
       let a = bind_ok (ok_or (parts bytes) MalformedFont) (λ o. spent (length o.1 + 5) steps >>= move o) u h in
@@ -84,9 +84,9 @@ module _ (s : Source) (at : List ℤ) (g : ℕ) (bytes : List ℕ) (m : LongHorM
       let outline = near_is (simple_outline bytes m a.0.0 a.0.1 c.0.0 c.0.1) c.0.2 u c.2 in
       ap (λ (v : Unfolded). v.right -ℤ v.left) outline
       ∙ ap (λ (l : List ℤ). right_point bytes m n l -ℤ left_point bytes m n l) is
-      ∙ width_is (left_side bytes m) (slice_index_or xs n (pos 0)) (slice_index_or xs (n + 1) (pos 0)) m.advance (left_phantom (xs_of a.0.1) n (length-map a.0.1 (λ p. p.x))) (right_phantom (xs_of a.0.1) n (length-map a.0.1 (λ p. p.x)))
+      ∙ width_is (left_side bytes m) (slice_index_or xs n (pos 0)) (slice_index_or xs (n + 1) (pos 0)) m.advance_width (left_phantom (xs_of a.0.1) n (length-map a.0.1 (λ p. p.x))) (right_phantom (xs_of a.0.1) n (length-map a.0.1 (λ p. p.x)))
 
-  glyph_width : (depth steps : ℕ) (u : Unfolded × ℕ) → AreStill → counted_description s g ≡ Some bytes → metric s g ≡ Some m → is_composite bytes ≡ false → unfolded (suc depth) s at steps g ≡ Ok u → u.0.right -ℤ u.0.left ≡ pos (2 ^ 30) *ℤ pos m.advance
+  glyph_width : (depth steps : ℕ) (u : Unfolded × ℕ) → AreStill → counted_description s g ≡ Some bytes → metric s g ≡ Some m → is_composite bytes ≡ false → unfolded (suc depth) s at steps g ≡ Ok u → u.0.right -ℤ u.0.left ≡ pos (2 ^ 30) *ℤ pos m.advance_width
   unfolding unfolded
   glyph_width depth steps u still described measured simple h =
       let go = λ (b : List ℕ) (k : LongHorMetric). cond (is_composite b) (unfolded_composite (unfolded depth s at) s at steps g b k) (unfolded_simple s at steps g b k) in
@@ -102,6 +102,6 @@ is_simple_advance_at_default s at steps g bytes m d zeros bound none described s
     let same : p.m ≡ m = just_is p.m m (sym p.m_is ∙ measured) in
     let width = glyph_width s at g bytes m 64 steps p.u (λ o left to moves. (stays s.gvar g (with_phantoms o.0 (xs_of o.1) (ys_of o.1)) at left to zeros (λ t is. bound t g (with_phantoms o.0 (xs_of o.1) (ys_of o.1)) is) moves).0) described measured simple p.u_is in
     let drawn_is = rounded_advance s at g p.m p.u.0 d p.d_is in
-    let by_width : advance_or_fault (whole (pos (2 ^ 30) *ℤ pos m.advance)) ≡ Ok d.advance = ap (λ (v : ℤ). advance_or_fault (whole v)) (sym width) ∙ ap (λ (o : Option (List ℕ)). advance o at g p.m.advance (p.u.0.right -ℤ p.u.0.left)) (sym none) ∙ drawn_is in
-    let is : pos d.advance ≡ pos m.advance = advance_is (pos m.advance) d.advance (omega (arith, ints)) (ap advance_or_fault (sym (nearest_is (pos m.advance))) ∙ by_width) in
+    let by_width : advance_or_fault (whole (pos (2 ^ 30) *ℤ pos m.advance_width)) ≡ Ok d.advance = ap (λ (v : ℤ). advance_or_fault (whole v)) (sym width) ∙ ap (λ (o : Option (List ℕ)). advance o at g p.m.advance_width (p.u.0.right -ℤ p.u.0.left)) (sym none) ∙ drawn_is in
+    let is : pos d.advance ≡ pos m.advance_width = advance_is (pos m.advance_width) d.advance (omega (arith, ints)) (ap advance_or_fault (sym (nearest_is (pos m.advance_width))) ∙ by_width) in
     omega (arith, ints)

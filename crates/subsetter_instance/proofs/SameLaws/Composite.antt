@@ -13,7 +13,7 @@ use Rattle.subsetter_instance.specs.declared.glyphs.components.Component.{Compon
 use Rattle.subsetter_sfnt.specs.declared.fields.hmtx.LongHorMetric.{LongHorMetric}
 use Rattle.subsetter_instance.specs.Glyphs.Components.{component_at, components_at, offset_xs, offset_ys}
 use Rattle.subsetter_instance.specs.Source.{Source}
-use Rattle.subsetter_instance.specs.Glyphs.Unfolded.{Child, Composite, Unfolded, composite, joined, joined_or_fault, joined_parts, left_point, moved, near_or_fault, no_points, placed, right_point, unfolded_composite, with_component, with_metrics, with_part, with_phantoms}
+use Rattle.subsetter_instance.specs.Glyphs.Unfolded.{Child, Composite, Unfolded, composite, joined, joined_or_fault, joined_parts, left_point, moved, in_range_or_fault, no_points, placed, right_point, unfolded_composite, with_component, with_metrics, with_part, with_phantoms}
 use Rattle.subsetter_instance.proofs.SameLaws.Simple.{MoveAlike, near_is, one_answer}
 
 -- the same of a glyph by two ways, whatever the steps
@@ -98,11 +98,11 @@ part_alike : (c : Component) (x y : ℤ) (before part : Unfolded) (m n : ℕ) (a
 unfolding with_part
 part_alike c x y before part m n a b e f =
     let go = λ (near : Unfolded × ℕ). joined_or_fault before near.0 near.1 in
-    let p = bind_ok (placed c x y before part) (λ z. near_or_fault z m >>= go) a e in
-    let q = bind_ok (placed c x y before part) (λ z. near_or_fault z n >>= go) b f in
+    let p = bind_ok (placed c x y before part) (λ z. in_range_or_fault z m >>= go) a e in
+    let q = bind_ok (placed c x y before part) (λ z. in_range_or_fault z n >>= go) b f in
     let same : p.0 ≡ q.0 = one_answer (placed c x y before part) p.0 q.0 p.1 q.1 in
-    let p2 = bind_ok (near_or_fault p.0 m) go a p.2 in
-    let q2 = bind_ok (near_or_fault q.0 n) go b q.2 in
+    let p2 = bind_ok (in_range_or_fault p.0 m) go a p.2 in
+    let q2 = bind_ok (in_range_or_fault q.0 n) go b q.2 in
     let near : p2.0.0 ≡ q2.0.0 = near_is p.0 m p2.0 p2.1 ∙ same ∙ sym (near_is q.0 n q2.0 q2.1) in
     joined_is before p2.0.0 p2.0.1 a p2.2 ∙ ap (joined_parts before) near ∙ sym (joined_is before q2.0.0 q2.0.1 b q2.2)
 

@@ -13,7 +13,7 @@ use Rattle.subsetter_variation.specs.Glyphs.Varied.{in_units}
 use Rattle.subsetter_variation.proofs.GlyphsLaws.StepCosts.{Costs, bind_with, costs_behind, costs_then, moved_points_cost, no_cost, spent_costs}
 use Rattle.subsetter_sfnt.specs.declared.fields.hmtx.LongHorMetric.{LongHorMetric}
 use Rattle.subsetter_instance.specs.Source.{Source, metric}
-use Rattle.subsetter_instance.specs.Glyphs.Unfolded.{Unfolded, moved, with_phantoms, are_near, near_or_fault, simple_outline, unfolded_simple, unfolded_composite, is_composite, counted_description, unfolded}
+use Rattle.subsetter_instance.specs.Glyphs.Unfolded.{Unfolded, moved, with_phantoms, are_near, in_range_or_fault, simple_outline, unfolded_simple, unfolded_composite, is_composite, counted_description, unfolded}
 
 abbrev moved_to : List ℤ × List ℤ × ℕ → ℕ → List ℤ × List ℤ × ℕ
 moved_to a n = (a.0, a.1, n)
@@ -27,7 +27,7 @@ moved_costs None g o at m a e =
     no_cost (moved_to (in_units o.xs, in_units o.ys, 0)) (moved_to a) m a.2 (ap (λ (p : List ℤ × List ℤ × ℕ). p.2) i) (λ n. ap (λ (p : List ℤ × List ℤ × ℕ). moved_to p n) i)
 moved_costs (Some t) g o at m a e = moved_points_cost t g o at m a e
 
-near_costs : (v u : Unfolded) (m r : ℕ) → near_or_fault v m ≡ Ok (u, r) → Costs (λ n. near_or_fault v n) (come_to u) m r
+near_costs : (v u : Unfolded) (m r : ℕ) → in_range_or_fault v m ≡ Ok (u, r) → Costs (λ n. in_range_or_fault v n) (come_to u) m r
 near_costs v u m r e = by (are_near v.xs && are_near v.ys) e
   where
     by : (b : Bool) → cond b (done (come_to v m)) (Err OverflowError) ≡ Ok (u, r) → Costs (λ n. cond b (done (come_to v n)) (Err OverflowError)) (come_to u) m r
@@ -41,7 +41,7 @@ pub simple_cost : (s : Source) (at : List ℤ) (m g : ℕ) (bytes : List ℕ) (m
     → (r ≤ m) × ((n : ℕ) → unfolded_simple s at ((m - r) + n) g bytes metric ≡ Ok (u, n))
 unfolding unfolded_simple
 simple_cost s at m g bytes metric u r e =
-    let near = λ (o : List ℕ × List Point) (to : List ℤ × List ℤ × ℕ). near_or_fault (simple_outline bytes metric o.0 o.1 to.0 to.1) to.2 in
+    let near = λ (o : List ℕ × List Point) (to : List ℤ × List ℤ × ℕ). in_range_or_fault (simple_outline bytes metric o.0 o.1 to.0 to.1) to.2 in
     let move = λ (o : List ℕ × List Point) (left : ℕ). moved s.gvar g (with_phantoms o.0 (xs_of o.1) (ys_of o.1)) at left >>= near o in
     let p = bind_ok (ok_or (parts bytes) MalformedFont) (λ o. spent (length o.1 + 5) m >>= move o) (come_to u r) e in
     let o = p.0 in

@@ -14,7 +14,7 @@ use Rattle.subsetter_variation.specs.Glyphs.Varied.{in_units}
 use Rattle.subsetter_variation.proofs.GlyphsLaws.StepLaws.{is_same_at_any_steps}
 use Rattle.subsetter_sfnt.specs.declared.fields.hmtx.LongHorMetric.{LongHorMetric}
 use Rattle.subsetter_instance.specs.Source.{Source}
-use Rattle.subsetter_instance.specs.Glyphs.Unfolded.{Unfolded, moved, with_phantoms, are_near, near_or_fault, simple_outline, unfolded_simple}
+use Rattle.subsetter_instance.specs.Glyphs.Unfolded.{Unfolded, moved, with_phantoms, are_near, in_range_or_fault, simple_outline, unfolded_simple}
 
 -- the same answer twice
 pub one_answer : {A : Type 0} (r : Result A Error) (x y : A) → r ≡ Ok x → r ≡ Ok y → x ≡ y
@@ -31,7 +31,7 @@ moved_alike (Some t) g o at m n a b e f = is_same_at_any_steps t g o at m n a b 
 abbrev pub MoveAlike : Source → Source → List ℤ → Type 0
 MoveAlike s z at = (g : ℕ) (o : Outline) (m n : ℕ) (a b : List ℤ × List ℤ × ℕ) → moved s.gvar g o at m ≡ Ok a → moved z.gvar g o at n ≡ Ok b → (a.0 ≡ b.0) × (a.1 ≡ b.1)
 
-pub near_is : (u : Unfolded) (steps : ℕ) (r : Unfolded × ℕ) → near_or_fault u steps ≡ Ok r → r.0 ≡ u
+pub near_is : (u : Unfolded) (steps : ℕ) (r : Unfolded × ℕ) → in_range_or_fault u steps ≡ Ok r → r.0 ≡ u
 near_is u steps r h = by (are_near u.xs && are_near u.ys) h
   where
     by : (b : Bool) → cond b (Ok (u, steps)) (Err OverflowError) ≡ Ok r → r.0 ≡ u
@@ -42,7 +42,7 @@ near_is u steps r h = by (are_near u.xs && are_near u.ys) h
 pub simple_alike : (s z : Source) (at : List ℤ) → MoveAlike s z at → (m n g : ℕ) (bytes : List ℕ) (metric : LongHorMetric) (u v : Unfolded × ℕ) → unfolded_simple s at m g bytes metric ≡ Ok u → unfolded_simple z at n g bytes metric ≡ Ok v → u.0 ≡ v.0
 unfolding unfolded_simple
 simple_alike s z at alike m n g bytes metric u v e f =
-    let near = λ (o : List ℕ × List Point) (to : List ℤ × List ℤ × ℕ). near_or_fault (simple_outline bytes metric o.0 o.1 to.0 to.1) to.2 in
+    let near = λ (o : List ℕ × List Point) (to : List ℤ × List ℤ × ℕ). in_range_or_fault (simple_outline bytes metric o.0 o.1 to.0 to.1) to.2 in
     let move = λ (o : List ℕ × List Point) (left : ℕ). moved s.gvar g (with_phantoms o.0 (xs_of o.1) (ys_of o.1)) at left >>= near o in
     let other = λ (o : List ℕ × List Point) (left : ℕ). moved z.gvar g (with_phantoms o.0 (xs_of o.1) (ys_of o.1)) at left >>= near o in
     let p = bind_ok (ok_or (parts bytes) MalformedFont) (λ o. spent (length o.1 + 5) m >>= move o) u e in

@@ -5,12 +5,14 @@ use Rattle.std.specs.Int.{int_min, int_max}
 use Rattle.std.proofs.lemmas.Int.{ints, clamps}
 use Rattle.std.proofs.lemmas.List.{append-nil, map-append}
 use Rattle.std.proofs.lemmas.List.Sums.{fold-append}
+use Rattle.subsetter_points.specs.declared.bounds.Bounds.{Bounds}
 use Rattle.subsetter_points.specs.declared.outline.Point.{Point}
+use Rattle.subsetter_points.specs.Bounds.{box_around}
 use Rattle.subsetter_points.specs.Simple.{box, signed_word, xs_of, ys_of}
-use Rattle.subsetter_instance.specs.declared.tables.extremes.Bounds.{Bounds}
+use Rattle.subsetter_points.proofs.BoundsLaws.{grown}
 use Rattle.subsetter_instance.specs.declared.tables.extremes.Extents.{Extents}
 use Rattle.subsetter_instance.specs.Glyphs.Drawn.{Drawn}
-use Rattle.subsetter_instance.specs.Tables.Extremes.{with_point, box_around, extents_of, glyph_extents, both, joined, all_extents, box_bytes}
+use Rattle.subsetter_instance.specs.Tables.Extremes.{extents_of, glyph_extents, both, joined, all_extents, box_bytes}
 
 -- ---- the least and the greatest of numbers
 
@@ -43,10 +45,6 @@ four a b c d = record { x_min = a; y_min = b; x_max = c; y_max = d }
 -- by all coordinates
 abbrev by_all : Point → List Point → Bounds
 by_all p points = record { x_min = fold int_min p.x (xs_of points); y_min = fold int_min p.y (ys_of points); x_max = fold int_max p.x (xs_of points); y_max = fold int_max p.y (ys_of points) }
-
-grown : (b : Bounds) (points : List Point) → fold with_point b points ≡ record { x_min = fold int_min b.x_min (xs_of points); y_min = fold int_min b.y_min (ys_of points); x_max = fold int_max b.x_max (xs_of points); y_max = fold int_max b.y_max (ys_of points) }
-grown b [] = refl
-grown b (p ∷ points) = grown (with_point b p) points
 
 around_is : (p : Point) (points : List Point) → box_around p points ≡ by_all p points
 around_is p points = grown (record { x_min = p.x; y_min = p.y; x_max = p.x; y_max = p.y }) points

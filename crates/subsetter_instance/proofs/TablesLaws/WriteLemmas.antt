@@ -11,7 +11,8 @@ use Rattle.subsetter_points.specs.Simple.{parts_bytes, parts_fit, simple_bytes, 
 use Rattle.subsetter_points.proofs.WriteLemmas.{bytes_of_parts}
 use Rattle.subsetter_sfnt.specs.Laying.Rows.{FontTables}
 use Rattle.subsetter_instance.specs.Glyphs.Drawn.{Drawn}
-use Rattle.subsetter_instance.specs.Tables.Written.{glyf_bytes, is_long, offsets_from, loca_bytes, hmtx_bytes, head_bytes, hhea_bytes, maxp_bytes, tables}
+use Rattle.subsetter_sfnt.specs.Fields.Loca.{loca_bytes}
+use Rattle.subsetter_instance.specs.Tables.Written.{glyf_bytes, is_long, offsets_from, hmtx_of, head_bytes, hhea_bytes, maxp_bytes, tables}
 
 -- a description of odd length gets a zero
 pub padded_odd : (out new last : List ℕ) (es : List ℕ) (ps : List Point) (start end : ℕ) → IsTrue (parts_fit es ps) → start ≡ length out → new ≡ out ++ simple_bytes (contours 0 es ps) → end ≡ length new → (end - start) % 2 ≡ 1 → last ≡ new ++ 0 ∷ []
@@ -32,10 +33,6 @@ padded_even out new es ps start end fits s is e even =
     let none : (2 - length p % 2) % 2 ≡ 0 = omega (arith, s, e, ap length written, length-append out p, same) in
     written ∙ ap (λ x. out ++ x) (sym (append-nil p)) ∙ ap (λ n. out ++ (p ++ replicate n 0)) (sym none)
 
--- `head` in seven parts
-pub seven_written : (a b c d e f g w w1 w2 w3 w4 w5 w6 w7 : List ℕ) → w ≡ [] → w1 ≡ w ++ a → w2 ≡ w1 ++ b → w3 ≡ w2 ++ c → w4 ≡ w3 ++ d → w5 ≡ w4 ++ e → w6 ≡ w5 ++ f → w7 ≡ w6 ++ g → w7 ≡ a ++ b ++ (c ++ d ++ e) ++ f ++ g
-seven_written a b c d e f g w w1 w2 w3 w4 w5 w6 w7 h0 h1 h2 h3 h4 h5 h6 h7 = rw (h7, h6, h5, h4, h3, h2, h1, h0) (simp append_assoc)
-
 -- one more of what a list is in order of its places
 pub mapped_more : {X Y : Type 0} (f : X → Y) (h : ℕ → Y) (xs : List X) (k : ℕ) (x : X) → map f xs ≡ map h (range_with_len 0 k) → f x ≡ h k → map f (xs ++ x ∷ []) ≡ map h (range_with_len 0 (k + 1))
 mapped_more f h xs k x e is = map_push f xs x ∙ ap (λ ys. ys ++ f x ∷ []) e ∙ ap (λ y. map h (range_with_len 0 k) ++ y ∷ []) is ∙ sym (map-range_with_len_more h 0 k k (omega arith))
@@ -43,6 +40,6 @@ mapped_more f h xs k x e is = map_push f xs x ∙ ap (λ ys. ys ++ f x ∷ []) e
 -- the tables, each with its bytes
 pub font_made : (find : List ℕ → Option (List ℕ)) (head hhea : List ℕ) (n : ℕ) (ds : List Drawn) (all : List (Option Drawn)) (t : FontTables) (g h hh m l p : List ℕ) (name post : Option (List ℕ))
     → t ≡ record { cff = None; cvt = None; fpgm = None; glyf = Some g; head = Some h; hhea = Some hh; hmtx = Some m; loca = Some l; maxp = Some p; name = name; post = post; prep = None }
-    → g ≡ glyf_bytes all → h ≡ head_bytes (is_long (glyf_bytes all)) ds head → hh ≡ hhea_bytes n ds hhea → m ≡ hmtx_bytes all → l ≡ loca_bytes (is_long (glyf_bytes all)) (offsets_from 0 all) → p ≡ maxp_bytes n ds → name ≡ find (codes "name") → post ≡ find (codes "post")
+    → g ≡ glyf_bytes all → h ≡ head_bytes (is_long (glyf_bytes all)) ds head → hh ≡ hhea_bytes n ds hhea → m ≡ hmtx_of all → l ≡ loca_bytes (is_long (glyf_bytes all)) (offsets_from 0 all) → p ≡ maxp_bytes n ds → name ≡ find (codes "name") → post ≡ find (codes "post")
     → t ≡ tables find head hhea n ds all
 font_made find head hhea n ds all t g h hh m l p name post is e1 e2 e3 e4 e5 e6 e7 e8 = is ∙ rw (e1, e2, e3, e4, e5, e6, e7, e8) refl

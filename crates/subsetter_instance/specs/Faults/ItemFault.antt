@@ -3,7 +3,8 @@
 use Rattle.std.specs.Prelude.{◌≡◌, ◌≢◌, ◌<◌, ◌≤◌, ℕ, suc, ◌+◌, ◌*◌, ◌/◌, ◌%◌, ◌==◌, ◌&&◌, false, List, length, take, drop, Some, nat_le}
 use Rattle.subsetter_base.specs.Bytes.{number, range}
 use Rattle.subsetter_variation.specs.Items.FontMetrics.{metric_store, value_of}
-use Rattle.subsetter_variation.specs.Items.ItemVariations.{Row, Store, advance_index, entry_index, item_row, map_head, row_size, store_of}
+use Rattle.subsetter_variation.specs.Items.ItemVariations.{Row, Store, item_row, row_size}
+use Rattle.subsetter_variation.specs.Items.Advances.{advance_index, entry_index, map_head, store_of}
 
 -- ---- item variation stores
 

@@ -4,7 +4,8 @@ use Rattle.std.specs.Prelude.{◌≡◌, ◌≤◌, ℕ, ◌^◌, Bool, false, �
 use Rattle.subsetter_base.specs.declared.error.Error.{Error}
 use Rattle.subsetter_base.specs.declared.error.Error.TheVariants.{MalformedFont, OverflowError}
 use Rattle.subsetter_points.specs.Simple.{has_16_bits}
-use Rattle.subsetter_variation.specs.Items.ItemVariations.{advance_delta, whole_or_fault}
+use Rattle.subsetter_variation.specs.Items.ItemVariations.{whole_or_fault}
+use Rattle.subsetter_variation.specs.Items.Advances.{advance_delta}
 use Rattle.subsetter_instance.specs.Glyphs.Drawn.{whole}
 use Rattle.subsetter_instance.specs.Faults.ItemFault.{HasHvarFault}
 
@@ -24,6 +25,6 @@ pub data HasAdvanceFault (hvar : Option (List ℕ)) (at : List ℤ) (g before : 
   wide : hvar ≡ None → IsWide (whole width) → HasAdvanceFault hvar at g before width OverflowError
 
 -- a point of an outline, which begins at the left phantom point, has a rounded coordinate without 16 bits
-pub data HasFarPoint (left : ℤ) : List Bool → List ℤ → List ℤ → Type 0 where
-  far_first : (on : Bool) (more : List Bool) (x y : ℤ) (xs ys : List ℤ) → (has_16_bits (whole (x -ℤ left)) && has_16_bits (whole y)) ≡ false → HasFarPoint left (on ∷ more) (x ∷ xs) (y ∷ ys)
-  far_later : (on : Bool) (more : List Bool) (x y : ℤ) (xs ys : List ℤ) → HasFarPoint left more xs ys → HasFarPoint left (on ∷ more) (x ∷ xs) (y ∷ ys)
+pub data HasPointOutOfRange (left : ℤ) : List Bool → List ℤ → List ℤ → Type 0 where
+  far_first : (on : Bool) (more : List Bool) (x y : ℤ) (xs ys : List ℤ) → (has_16_bits (whole (x -ℤ left)) && has_16_bits (whole y)) ≡ false → HasPointOutOfRange left (on ∷ more) (x ∷ xs) (y ∷ ys)
+  far_later : (on : Bool) (more : List Bool) (x y : ℤ) (xs ys : List ℤ) → HasPointOutOfRange left more xs ys → HasPointOutOfRange left (on ∷ more) (x ∷ xs) (y ∷ ys)

@@ -9,7 +9,8 @@ use Rattle.subsetter_base.specs.declared.error.Error.TheVariants.{MalformedFont,
 use Rattle.subsetter_points.specs.declared.outline.Point.{Point}
 use Rattle.subsetter_points.specs.Simple.{has_16_bits, parts_fit, xs_of}
 use Rattle.subsetter_variation.specs.Nearest.{nearest}
-use Rattle.subsetter_variation.specs.Items.ItemVariations.{advance_delta, whole_or_fault}
+use Rattle.subsetter_variation.specs.Items.ItemVariations.{whole_or_fault}
+use Rattle.subsetter_variation.specs.Items.Advances.{advance_delta}
 use Rattle.subsetter_instance.specs.Source.{Source, metric}
 use Rattle.subsetter_instance.specs.Glyphs.Unfolded.{Unfolded, unfolded}
 use Rattle.subsetter_sfnt.specs.declared.fields.hmtx.LongHorMetric.{LongHorMetric}
@@ -70,7 +71,7 @@ drawn_if_fit ends points width = if parts_fit ends points then Ok (record { ends
 -- what is drawn of an unfolded glyph
 unfoldable pub rounded : Source → List ℤ → ℕ → LongHorMetric → Unfolded → Result Drawn Error
 rounded s at g m u = do
-  width ← advance s.hvar at g m.advance (u.right -ℤ u.left)
+  width ← advance s.hvar at g m.advance_width (u.right -ℤ u.left)
   points ← points_or_fault u.left u.on u.xs u.ys
   drawn_if_fit u.ends points width
 

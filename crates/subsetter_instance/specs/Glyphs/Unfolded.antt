@@ -50,8 +50,8 @@ pub record IsInReach (u : Unfolded) : Type 0 where
 abbrev pub are_near : List ℤ → Bool
 are_near vs = list_all (λ v. nat_le (unsigned_abs v) (2 ^ 45)) vs
 
-abbrev pub near_or_fault : Unfolded → ℕ → Result (Unfolded × ℕ) Error
-near_or_fault u steps = if are_near u.xs && are_near u.ys then Ok (u, steps) else Err OverflowError
+abbrev pub in_range_or_fault : Unfolded → ℕ → Result (Unfolded × ℕ) Error
+in_range_or_fault u steps = if are_near u.xs && are_near u.ys then Ok (u, steps) else Err OverflowError
 
 -- ---- moved
 
@@ -78,14 +78,14 @@ abbrev pub x_min : List ℕ → ℤ
 x_min bytes = signed_or_zero (number bytes 2 2)
 
 abbrev pub left_side : List ℕ → LongHorMetric → ℤ
-left_side bytes m = x_min bytes -ℤ cast_signed w16 m.bearing
+left_side bytes m = x_min bytes -ℤ cast_signed w16 m.lsb
 
 -- the left phantom point, and the right one, which is an advance from it: of the default, and moved as the first two of the points behind n
 abbrev pub left_point : List ℕ → LongHorMetric → ℕ → List ℤ → ℤ
 left_point bytes m n xs = pos (2 ^ 30) *ℤ left_side bytes m +ℤ slice_index_or xs n (pos 0)
 
 abbrev pub right_point : List ℕ → LongHorMetric → ℕ → List ℤ → ℤ
-right_point bytes m n xs = pos (2 ^ 30) *ℤ (left_side bytes m +ℤ pos m.advance) +ℤ slice_index_or xs (n + 1) (pos 0)
+right_point bytes m n xs = pos (2 ^ 30) *ℤ (left_side bytes m +ℤ pos m.advance_width) +ℤ slice_index_or xs (n + 1) (pos 0)
 
 -- ---- a simple glyph
 
@@ -117,14 +117,14 @@ unfolded_simple s at steps g bytes m = do
   outline ← ok_or (parts bytes) MalformedFont
   left ← spent (length outline.1 + 5) steps
   to ← moved s.gvar g (with_phantoms outline.0 (xs_of outline.1) (ys_of outline.1)) at left
-  near_or_fault (simple_outline bytes m outline.0 outline.1 to.0 to.1) to.2
+  in_range_or_fault (simple_outline bytes m outline.0 outline.1 to.0 to.1) to.2
 
 -- the same of an outline of which flags and coordinates are known
 unfoldable pub unfolded_by_flags : Source → List ℤ → ℕ → ℕ → List ℕ → LongHorMetric → List ℕ → List ℕ → List ℤ → List ℤ → Result (Unfolded × ℕ) Error
 unfolded_by_flags s at steps g bytes m ends flags xs ys = do
   left ← spent (length flags + 5) steps
   to ← moved s.gvar g (with_phantoms ends xs ys) at left
-  near_or_fault (outline_by_flags bytes m ends flags to.0 to.1) to.2
+  in_range_or_fault (outline_by_flags bytes m ends flags to.0 to.1) to.2
 
 -- ---- a component
 
@@ -134,6 +134,10 @@ transformed_x m p = nearest (m.xx *ℤ p.0 +ℤ m.xy *ℤ p.1) 16384
 
 abbrev pub transformed_y : Matrix → ℤ × ℤ → ℤ
 transformed_y m p = nearest (m.yx *ℤ p.0 +ℤ m.yy *ℤ p.1) 16384
+
+-- the same through a row of the matrix
+abbrev pub transformed : ℤ → ℤ → ℤ × ℤ → ℤ
+transformed a b p = nearest (a *ℤ p.0 +ℤ b *ℤ p.1) 16384
 
 abbrev pub transformed_xs : Option Matrix → List ℤ → List ℤ → List ℤ
 transformed_xs None xs ys = xs
@@ -194,7 +198,7 @@ joined_or_fault before part steps = if nat_lt (length before.on + length part.on
 unfoldable pub with_part : Component → ℤ → ℤ → Unfolded → Unfolded → ℕ → Result (Unfolded × ℕ) Error
 with_part c x y before part steps = do
   p ← placed c x y before part
-  near ← near_or_fault p steps
+  near ← in_range_or_fault p steps
   joined_or_fault before near.0 near.1
 
 -- the points of a component that come out of its matrix, moved
@@ -204,7 +208,7 @@ moved_part part x y xs ys = record part { xs = shifted x xs; ys = shifted y ys }
 -- the same in two parts, for points that come out of the matrix
 unfoldable pub joined_moved : Unfolded → Unfolded → ℤ → ℤ → List ℤ → List ℤ → ℕ → Result (Unfolded × ℕ) Error
 joined_moved before part x y xs ys steps = do
-  near ← near_or_fault (moved_part part x y xs ys) steps
+  near ← in_range_or_fault (moved_part part x y xs ys) steps
   joined_or_fault before near.0 near.1
 
 unfoldable pub with_points : Component → ℤ → ℤ → Unfolded → Unfolded → List ℤ → List ℤ → ℕ → Result (Unfolded × ℕ) Error

@@ -2,21 +2,12 @@
 use Rattle.std.specs.Prelude.{ℕ, List, [], ◌∷◌, ◌++◌, map, Option, Some, None, max, ℤ, pos, ◌-ℤ◌}
 use Rattle.std.specs.List.{fold}
 use Rattle.std.specs.Int.{w16, to_be_bytes, int_min, int_max}
+use Rattle.subsetter_points.specs.declared.bounds.Bounds.{Bounds}
 use Rattle.subsetter_points.specs.declared.outline.Point.{Point}
+use Rattle.subsetter_points.specs.Bounds.{box_around, bounds_bytes}
 use Rattle.subsetter_points.specs.Simple.{signed_word}
 use Rattle.subsetter_instance.specs.Glyphs.Drawn.{Drawn}
-use Rattle.subsetter_instance.specs.declared.tables.extremes.Bounds.{Bounds}
 use Rattle.subsetter_instance.specs.declared.tables.extremes.Extents.{Extents}
-
--- ---- the box of points
-
--- the least box around a box and a point
-abbrev pub with_point : Bounds → Point → Bounds
-with_point b p = record { x_min = int_min b.x_min p.x; y_min = int_min b.y_min p.y; x_max = int_max b.x_max p.x; y_max = int_max b.y_max p.y }
-
--- the least box around a point and others, on the curve or not
-abbrev pub box_around : Point → List Point → Bounds
-box_around p points = fold with_point (record { x_min = p.x; y_min = p.y; x_max = p.x; y_max = p.y }) points
 
 -- ---- a glyph with contours, and several
 
@@ -58,7 +49,7 @@ widest drawn = fold max 0 (map (λ d. d.advance) drawn)
 -- xMin, yMin, xMax and yMax of "head": 0 where no glyph has contours
 abbrev pub box_bytes : Option Extents → List ℕ
 box_bytes None = 0 ∷ 0 ∷ 0 ∷ 0 ∷ 0 ∷ 0 ∷ 0 ∷ 0 ∷ []
-box_bytes (Some e) = signed_word e.bounds.x_min ++ signed_word e.bounds.y_min ++ signed_word e.bounds.x_max ++ signed_word e.bounds.y_max
+box_bytes (Some e) = bounds_bytes e.bounds
 
 -- minLeftSideBearing, minRightSideBearing and xMaxExtent of "hhea": 0 where no glyph has contours. The left side bearing of a glyph is
 -- its least x, so the least of them is that of the box; and the extent, which is the left side bearing and the width of the glyph's
@@ -67,6 +58,6 @@ abbrev pub side_bytes : Option Extents → List ℕ
 side_bytes None = 0 ∷ 0 ∷ 0 ∷ 0 ∷ 0 ∷ 0 ∷ []
 side_bytes (Some e) = signed_word e.bounds.x_min ++ signed_word e.right ++ signed_word e.bounds.x_max
 
--- advanceWidthMax, and what stands behind it
+-- advanceWidthMax, and what is behind it
 abbrev pub extreme_bytes : List Drawn → List ℕ
 extreme_bytes drawn = to_be_bytes w16 (widest drawn) ++ side_bytes (all_extents drawn)

@@ -1,12 +1,17 @@
 -- The tables of an instance (OpenType, "glyf", "loca", "head", "hhea", "hmtx" and "maxp").
-use Rattle.std.specs.Prelude.{ℕ, ◌+◌, ◌/◌, Bool, List, [], ◌∷◌, ◌++◌, length, take, drop, map, slice_range, slice_get, codes, Option, Some, None, max, nat_lt, if◌then◌else◌}
+use Rattle.std.specs.Prelude.{ℕ, ◌+◌, Bool, List, [], ◌∷◌, ◌++◌, length, map, slice_get, codes, Option, Some, None, max, nat_lt}
 use Rattle.std.specs.List.{flat_map, fold, range_with_len}
 use Rattle.std.specs.Option.{option_and_then}
 use Rattle.std.specs.Int.{w16, w32, to_be_bytes, cast_unsigned}
 use Rattle.subsetter_base.specs.Bytes.{aligned}
 use Rattle.subsetter_base.specs.Indexes.{index_of}
 use Rattle.subsetter_points.specs.Simple.{parts_bytes}
+use Rattle.subsetter_sfnt.specs.Fields.Head.{head_with}
+use Rattle.subsetter_sfnt.specs.Fields.Hhea.{hhea_with}
+use Rattle.subsetter_sfnt.specs.Fields.Hmtx.{hmtx_bytes}
+use Rattle.subsetter_sfnt.specs.Fields.Loca.{loca_bytes}
 use Rattle.subsetter_sfnt.specs.Laying.Rows.{FontTables}
+use Rattle.subsetter_sfnt.specs.declared.fields.hmtx.LongHorMetric.{LongHorMetric}
 use Rattle.subsetter_instance.specs.Glyphs.Drawn.{Drawn}
 use Rattle.subsetter_instance.specs.Tables.Extremes.{all_extents, box_bytes, extreme_bytes}
 
@@ -30,33 +35,28 @@ glyf_bytes all = flat_map outline_bytes all
 abbrev pub is_long : List ℕ → Bool
 is_long glyf = nat_lt 131070 (length glyf)
 
-abbrev pub offset_bytes : Bool → ℕ → List ℕ
-offset_bytes long at = if long then to_be_bytes w32 at else to_be_bytes w16 (at / 2)
-
 -- where each glyph from a place on begins, and where the last one ends
 abbrev pub offsets_from : ℕ → List (Option Drawn) → List ℕ
 offsets_from at [] = at ∷ []
 offsets_from at (d ∷ all) = at ∷ offsets_from (at + length (outline_bytes d)) all
 
-abbrev pub loca_bytes : Bool → List ℕ → List ℕ
-loca_bytes long offsets = flat_map (offset_bytes long) offsets
+-- the metric of a glyph, 0 and 0 where it wasn't asked for
+abbrev pub drawn_metric : Option Drawn → LongHorMetric
+drawn_metric None = record { advance_width = 0; lsb = 0 }
+drawn_metric (Some d) = record { advance_width = d.advance; lsb = cast_unsigned w16 d.bearing }
 
--- an advance and a left side bearing for each glyph, 0 and 0 where it wasn't asked for
-abbrev pub metric_bytes : Option Drawn → List ℕ
-metric_bytes None = 0 ∷ 0 ∷ 0 ∷ 0 ∷ []
-metric_bytes (Some d) = to_be_bytes w16 d.advance ++ to_be_bytes w16 (cast_unsigned w16 d.bearing)
-
-abbrev pub hmtx_bytes : List (Option Drawn) → List ℕ
-hmtx_bytes all = flat_map metric_bytes all
+-- each glyph has a pair
+abbrev pub hmtx_of : List (Option Drawn) → List ℕ
+hmtx_of all = hmtx_bytes (length all) (map drawn_metric all)
 
 -- advanceWidthMax, minLeftSideBearing, minRightSideBearing and xMaxExtent are those of what is drawn, and numberOfHMetrics is the number of
 -- glyphs
 abbrev pub hhea_bytes : ℕ → List Drawn → List ℕ → List ℕ
-hhea_bytes n drawn hhea = (take 10 hhea ++ extreme_bytes drawn ++ slice_range hhea 18 34) ++ to_be_bytes w16 n ++ drop 36 hhea
+hhea_bytes n drawn hhea = hhea_with (extreme_bytes drawn) n hhea
 
 -- checksumAdjustment is 0 until the file is laid out, xMin, yMin, xMax and yMax are those of what is drawn, and indexToLocFormat is 0 or 1
 abbrev pub head_bytes : Bool → List Drawn → List ℕ → List ℕ
-head_bytes long drawn head = take 8 head ++ (0 ∷ 0 ∷ 0 ∷ 0 ∷ []) ++ (slice_range head 12 36 ++ box_bytes (all_extents drawn) ++ slice_range head 44 50) ++ (0 ∷ (if long then 1 else 0) ∷ []) ++ drop 52 head
+head_bytes long drawn head = head_with long (box_bytes (all_extents drawn)) head
 
 -- the most points of a glyph, and the most contours
 abbrev pub most_points : List Drawn → ℕ
@@ -79,7 +79,7 @@ tables find head hhea n drawn all = record {
   glyf = Some (glyf_bytes all);
   head = Some (head_bytes (is_long (glyf_bytes all)) drawn head);
   hhea = Some (hhea_bytes n drawn hhea);
-  hmtx = Some (hmtx_bytes all);
+  hmtx = Some (hmtx_of all);
   loca = Some (loca_bytes (is_long (glyf_bytes all)) (offsets_from 0 all));
   maxp = Some (maxp_bytes n drawn);
   name = find (codes "name");

@@ -11,8 +11,8 @@ use std::alloc::{AllocError, Global};
 use subsetter_base::Error;
 use subsetter_base::read::Reader;
 use subsetter_points::component::{
-    ARG_1_AND_2_ARE_WORDS, ARGS_ARE_XY_VALUES, MORE_COMPONENTS, WE_HAVE_A_SCALE,
-    WE_HAVE_A_TWO_BY_TWO, WE_HAVE_AN_X_AND_Y_SCALE,
+    ARG_1_AND_2_ARE_WORDS, ARGS_ARE_XY_VALUES, ARGUMENTS, GLYPH_INDEX, MORE_COMPONENTS,
+    WE_HAVE_A_SCALE, WE_HAVE_A_TWO_BY_TWO, WE_HAVE_AN_X_AND_Y_SCALE,
 };
 
 /// How a component is placed.
@@ -20,7 +20,7 @@ use subsetter_points::component::{
 pub enum Arguments {
     /// Moved by x and y, in font design units.
     Offset(i16, i16),
-    /// So that its point of the second number lies on the point of the first number of the components before it.
+    /// So that its point of the second number matches the point of the first number of the components before it.
     Points(u16, u16),
 }
 
@@ -69,8 +69,8 @@ fn signed_word(bytes: &[u8], at: usize) -> Option<i16>
 fn byte_offset(bytes: &[u8]) -> Option<Arguments>
     ensures { result ≡ byte_offset bytes.now }
 {
-    let x = signed_byte(bytes, 4)?;
-    let y = signed_byte(bytes, 5)?;
+    let x = signed_byte(bytes, ARGUMENTS)?;
+    let y = signed_byte(bytes, ARGUMENTS + 1)?;
     Some(Arguments::Offset(x, y))
 }
 
@@ -78,8 +78,8 @@ fn byte_offset(bytes: &[u8]) -> Option<Arguments>
 fn word_offset(bytes: &[u8]) -> Option<Arguments>
     ensures { result ≡ word_offset bytes.now }
 {
-    let x = signed_word(bytes, 4)?;
-    let y = signed_word(bytes, 6)?;
+    let x = signed_word(bytes, ARGUMENTS)?;
+    let y = signed_word(bytes, ARGUMENTS + 2)?;
     Some(Arguments::Offset(x, y))
 }
 
@@ -87,8 +87,8 @@ fn word_offset(bytes: &[u8]) -> Option<Arguments>
 fn byte_points(bytes: &[u8]) -> Option<Arguments>
     ensures { result ≡ byte_points bytes.now }
 {
-    let parent = Reader::new_at(bytes, 4).read::<u8>()?;
-    let child = Reader::new_at(bytes, 5).read::<u8>()?;
+    let parent = Reader::new_at(bytes, ARGUMENTS).read::<u8>()?;
+    let child = Reader::new_at(bytes, ARGUMENTS + 1).read::<u8>()?;
     Some(Arguments::Points(u16::from(parent), u16::from(child)))
 }
 
@@ -96,8 +96,8 @@ fn byte_points(bytes: &[u8]) -> Option<Arguments>
 fn word_points(bytes: &[u8]) -> Option<Arguments>
     ensures { result ≡ word_points bytes.now }
 {
-    let parent = Reader::new_at(bytes, 4).read::<u16>()?;
-    let child = Reader::new_at(bytes, 6).read::<u16>()?;
+    let parent = Reader::new_at(bytes, ARGUMENTS).read::<u16>()?;
+    let child = Reader::new_at(bytes, ARGUMENTS + 2).read::<u16>()?;
     Some(Arguments::Points(parent, child))
 }
 
@@ -122,9 +122,9 @@ fn arguments_end(flags: u16) -> usize
     ensures bound { result ≤ 8 }
 {
     if has(flags, ARG_1_AND_2_ARE_WORDS) {
-        8
+        ARGUMENTS + 4
     } else {
-        6
+        ARGUMENTS + 2
     }
 }
 
@@ -207,7 +207,7 @@ fn component_at(bytes: &[u8]) -> Option<(Component, &[u8])>
     ensures { option_map (λ r. (r.0, r.1.now)) result ≡ component_at bytes.now }
 {
     let flags = Reader::new_at(bytes, 0).read::<u16>()?;
-    let glyph = Reader::new_at(bytes, 2).read::<u16>()?;
+    let glyph = Reader::new_at(bytes, GLYPH_INDEX).read::<u16>()?;
     let at = arguments_end(flags);
     let arguments = arguments_at(flags, bytes)?;
     let matrix = matrix_at(flags, bytes, at)?;

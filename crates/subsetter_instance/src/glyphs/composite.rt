@@ -19,6 +19,7 @@ use std::alloc::{AllocError, Global};
 use std::marker::Model;
 use subsetter_base::Error;
 use subsetter_base::read::Reader;
+use subsetter_points::header::HEADER_SIZE;
 use subsetter_sfnt::fields::hmtx::LongHorMetric;
 use subsetter_variation::glyphs::movement::{Outline as DefaultOutline, spent};
 use subsetter_variation::glyphs::tuples::Gvar;
@@ -89,7 +90,7 @@ pub fn read_composite(
     ensures { Gives (λ c. c) result (composite source.now at.now steps glyph bytes.now metric) }
 {
     let steps = spent(5, steps)?;
-    let body = Reader::new_at(bytes, 10)
+    let body = Reader::new_at(bytes, HEADER_SIZE)
         .tail()
         .ok_or(Error::MalformedFont)?;
     let (components, steps) = read_components(alloc, body, steps)?;

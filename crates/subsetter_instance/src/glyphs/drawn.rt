@@ -3,13 +3,13 @@
 ghost use Rattle.std.specs.Prelude.{◌≡◌, ◌≤◌, ◌^◌, ◌-ℤ◌, All, IfOk, length, unsigned_abs};
 ghost use Rattle.std.specs.Option.{option_copied};
 ghost use Rattle.subsetter_base.specs.Gives.{Gives};
-ghost use Rattle.subsetter_instance.specs.Glyphs.Kept.{AreKept};
+ghost use Rattle.subsetter_instance.specs.Glyphs.Cache.{AreKept};
 ghost use Rattle.subsetter_instance.specs.Source.{HasAxes};
 ghost use Rattle.subsetter_instance.specs.Glyphs.Drawn.{whole, word_or_fault, point_or_fault, points_or_fault, advance_or_fault, advance, bearing, drawn_if_fit, rounded, drawn};
 ghost use Rattle.subsetter_instance.specs.Plain.{drawn_if, drawn_all};
 ghost use Rattle.subsetter_instance.specs.Glyphs.Unfolded.{IsInReach};
 
-use crate::glyphs::kept::Kept;
+use crate::glyphs::cache::GlyphCache;
 use crate::glyphs::unfolding::{Unfolded, unfold};
 use crate::source::Source;
 use std::alloc::Global;
@@ -17,7 +17,7 @@ use std::marker::Model;
 use subsetter_base::{Error, GlyphRemapper};
 use subsetter_points::{Outline, Point, fits, least_x};
 use subsetter_sfnt::fields::hmtx::LongHorMetric;
-use subsetter_variation::items::item_variations::advance_delta;
+use subsetter_variation::items::advances::advance_delta;
 
 /// The unit of unfolded coordinates.
 const UNIT: u64 = 1 << 30;
@@ -193,7 +193,7 @@ fn rounded(
     ensures { Gives (λ d. d) result (rounded source.now at.now glyph metric unfolded) }
 {
     let width = distance(unfolded.left, unfolded.right);
-    let advance = advance(source.hvar(), at, glyph, metric.advance, width)?;
+    let advance = advance(source.hvar(), at, glyph, metric.advance_width, width)?;
     let points = points_or_fault(
         alloc,
         unfolded.left,
@@ -216,8 +216,8 @@ pub fn draw(
     at: &[i32],
     steps: u32,
     glyph: u16,
-    kept: Kept,
-) -> Result<(Drawn, Kept), Error>
+    kept: GlyphCache,
+) -> Result<(Drawn, GlyphCache), Error>
     requires axes { HasAxes source.now.gvar (length at.now) }
     requires kept { AreKept source.now at.now kept }
     ensures value { Gives (λ r. r.0) result (drawn source.now at.now steps glyph) }
@@ -229,15 +229,15 @@ pub fn draw(
     Ok((drawn, kept))
 }
 
-/// What is drawn of a glyph that is asked for, and the glyphs that are kept. `MalformedFont` where it is none of the font's.
+/// What is drawn of a glyph that is requested, and the glyphs that are kept. `MalformedFont` where it is none of the font's.
 fn drawn_if(
     alloc: Global,
     source: &Source<'_>,
     at: &[i32],
     steps: u32,
     glyph: u16,
-    kept: Kept,
-) -> Result<(Drawn, Kept), Error>
+    kept: GlyphCache,
+) -> Result<(Drawn, GlyphCache), Error>
     requires axes { HasAxes source.now.gvar (length at.now) }
     requires kept { AreKept source.now at.now kept }
     ensures value { Gives (λ r. r.0) result (drawn_if source.now at.now steps glyph) }
@@ -263,7 +263,7 @@ pub fn draw_all(
     ensures { Gives (λ v. v.items) result (drawn_all source.now at.now steps mapper.now) }
 {
     let mut all = Vec::with_capacity(alloc, usize::from(mapper.num_gids()))?;
-    let mut kept = Kept::new(alloc);
+    let mut kept = GlyphCache::new(alloc);
     for glyph in mapper.remapped_gids() {
         let (drawn, others) = drawn_if(alloc, source, at, steps, glyph, kept)?;
         all.push(drawn)?;

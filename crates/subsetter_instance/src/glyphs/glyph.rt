@@ -3,12 +3,13 @@
 ghost use Rattle.std.specs.Prelude.{◌≡◌, ◌++◌, length, IfErr, Some, OnOk};
 ghost use Rattle.subsetter_base.specs.declared.error.Error.TheVariants.{OutOfMemory};
 ghost use Rattle.subsetter_instance.specs.Tables.Extremes.{glyph_extents};
-ghost use Rattle.subsetter_instance.specs.Tables.Written.{outline_bytes, metric_bytes};
+ghost use Rattle.subsetter_instance.specs.Tables.Written.{outline_bytes, drawn_metric};
 
 use crate::glyphs::drawn::Drawn;
 use crate::tables::extremes::{Extents, glyph_extents};
 use subsetter_base::Error;
 use subsetter_points::write_simple;
+use subsetter_sfnt::fields::hmtx::LongHorMetric;
 
 impl Drawn {
     /// How many points it has.
@@ -45,14 +46,13 @@ impl Drawn {
         Ok(())
     }
 
-    /// Appends its advance and its left side bearing to `hmtx`.
-    pub fn write_metric(&self, hmtx: &mut Vec<u8>) -> Result<(), Error>
-        ensures ok { OnOk result (hmtx.new.items ≡ hmtx.old.items ++ metric_bytes (Some self.now)) }
-        ensures err { IfErr result (λ e. e ≡ OutOfMemory) }
+    /// Its metric in `hmtx`.
+    pub fn metric(&self) -> LongHorMetric
+        ensures { result ≡ drawn_metric (Some self.now) }
     {
-        let [a, b] = self.advance.to_be_bytes();
-        let [c, d] = self.bearing.to_be_bytes();
-        hmtx.extend_from_slice(&[a, b, c, d])?;
-        Ok(())
+        LongHorMetric {
+            advance_width: self.advance,
+            lsb: self.bearing.cast_unsigned(),
+        }
     }
 }

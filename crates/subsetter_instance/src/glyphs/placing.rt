@@ -3,7 +3,7 @@
 ghost use Rattle.std.specs.Prelude.{◌≡◌, ◌≤◌, ◌<◌, ◌^◌, ◌+◌, ◌++◌, ◌*ℤ◌, ◌+ℤ◌, ◌&&◌, ℕ, nat_le, length, map, zip, slice_get, unsigned_abs, All, IfOk, IfSome};
 ghost use Rattle.subsetter_base.specs.Gives.{Gives};
 ghost use Rattle.subsetter_variation.specs.Nearest.{nearest};
-ghost use Rattle.subsetter_instance.specs.Glyphs.Unfolded.{IsInReach, are_near, is_identity, is_scaled, joined_moved, joined_parts, matched, moved_part, point_at, shift_by, shifted, transformed_x, transformed_y, with_metrics, with_part, with_points};
+ghost use Rattle.subsetter_instance.specs.Glyphs.Unfolded.{IsInReach, are_near, is_identity, is_scaled, joined_moved, joined_parts, matched, moved_part, point_at, shift_by, shifted, transformed, with_metrics, with_part, with_points};
 
 use crate::glyphs::components::{Arguments, Component, Matrix, has};
 use crate::glyphs::unfolding::Unfolded;
@@ -33,65 +33,49 @@ fn sum(a: i16, x: i64, b: i16, y: i64) -> i64
     plus(product(a, x), product(b, y))
 }
 
+/// 1 as an F2DOT14.
+const ONE: i16 = 16384;
+/// How many units 1 has in an F2DOT14.
+const F2DOT14_UNITS: u64 = 16384;
+
 /// A number of 16384ths, to the nearest whole number.
 fn quotient(v: i64) -> i64
     requires { unsigned_abs v ≤ 2 ^ 61 }
     ensures value { result ≡ nearest v 16384 }
     ensures bound { unsigned_abs result ≤ 2 ^ 47 }
 {
-    nearest(v, 16384)
+    nearest(v, F2DOT14_UNITS)
 }
 
-/// x of a point through a matrix.
-fn transformed_x(m: Matrix, x: i64, y: i64) -> i64
+/// A coordinate of a point through a row of a matrix.
+fn transformed(a: i16, b: i16, x: i64, y: i64) -> i64
     requires x { unsigned_abs x ≤ 2 ^ 45 }
     requires y { unsigned_abs y ≤ 2 ^ 45 }
-    ensures value { result ≡ transformed_x m (x, y) }
+    ensures value { result ≡ transformed a b (x, y) }
     ensures bound { unsigned_abs result ≤ 2 ^ 47 }
 {
-    quotient(sum(m.xx, x, m.xy, y))
+    quotient(sum(a, x, b, y))
 }
 
-/// x of points through a matrix.
+/// A column of coordinates through a row of a matrix.
 #[tactic(auto, using(crate::proofs::GlyphsLaws::Reach::zip_step, crate::proofs::GlyphsLaws::Reach::zip_end))]
-fn all_xs(alloc: Global, m: Matrix, xs: &[i64], ys: &[i64]) -> Result<Vec<i64>, AllocError>
+fn transformed_column(
+    alloc: Global,
+    a: i16,
+    b: i16,
+    xs: &[i64],
+    ys: &[i64],
+) -> Result<Vec<i64>, AllocError>
     requires same { length ys.now ≡ length xs.now }
     requires xs { All (λ v. unsigned_abs v ≤ 2 ^ 45) xs.now }
     requires ys { All (λ v. unsigned_abs v ≤ 2 ^ 45) ys.now }
     ensures len { IfOk result (λ v. length v.items ≡ length xs.now) }
-    ensures value { IfOk result (λ v. v.items ≡ map (transformed_x m) (zip xs.now ys.now)) }
+    ensures value { IfOk result (λ v. v.items ≡ map (transformed a b) (zip xs.now ys.now)) }
     ensures bound { IfOk result (λ v. All (λ z. unsigned_abs z ≤ 2 ^ 47) v.items) }
 {
     let mut all = Vec::with_capacity(alloc, xs.len())?;
     for i in 0..xs.len() {
-        all.push(transformed_x(m, xs[i], ys[i]))?;
-    }
-    Ok(all)
-}
-
-/// y of a point through a matrix.
-fn transformed_y(m: Matrix, x: i64, y: i64) -> i64
-    requires x { unsigned_abs x ≤ 2 ^ 45 }
-    requires y { unsigned_abs y ≤ 2 ^ 45 }
-    ensures value { result ≡ transformed_y m (x, y) }
-    ensures bound { unsigned_abs result ≤ 2 ^ 47 }
-{
-    quotient(sum(m.yx, x, m.yy, y))
-}
-
-/// y of points through a matrix.
-#[tactic(auto, using(crate::proofs::GlyphsLaws::Reach::zip_step, crate::proofs::GlyphsLaws::Reach::zip_end))]
-fn all_ys(alloc: Global, m: Matrix, xs: &[i64], ys: &[i64]) -> Result<Vec<i64>, AllocError>
-    requires same { length ys.now ≡ length xs.now }
-    requires xs { All (λ v. unsigned_abs v ≤ 2 ^ 45) xs.now }
-    requires ys { All (λ v. unsigned_abs v ≤ 2 ^ 45) ys.now }
-    ensures len { IfOk result (λ v. length v.items ≡ length xs.now) }
-    ensures value { IfOk result (λ v. v.items ≡ map (transformed_y m) (zip xs.now ys.now)) }
-    ensures bound { IfOk result (λ v. All (λ z. unsigned_abs z ≤ 2 ^ 47) v.items) }
-{
-    let mut all = Vec::with_capacity(alloc, xs.len())?;
-    for i in 0..xs.len() {
-        all.push(transformed_y(m, xs[i], ys[i]))?;
+        all.push(transformed(a, b, xs[i], ys[i]))?;
     }
     Ok(all)
 }
@@ -100,7 +84,7 @@ fn all_ys(alloc: Global, m: Matrix, xs: &[i64], ys: &[i64]) -> Result<Vec<i64>, 
 fn is_identity(m: Matrix) -> bool
     ensures { result ≡ is_identity m }
 {
-    m.xx == 16384 && m.yx == 0 && m.xy == 0 && m.yy == 16384
+    m.xx == ONE && m.yx == 0 && m.xy == 0 && m.yy == ONE
 }
 
 /// Whether an offset is to be scaled. Where the flags say both, it isn't, as by default.
@@ -128,7 +112,7 @@ fn point_at(xs: &[i64], ys: &[i64], number: u16) -> Option<(i64, i64)>
     Some((x, y))
 }
 
-/// How far a point of a component is from the one that it is to lie on. `MalformedFont` where one isn't there.
+/// How far a point of a component is from the one that it is to match. `MalformedFont` where one isn't there.
 #[tactic(auto, unfolding(crate::specs::Glyphs::Unfolded::matched))]
 fn matched(parent: Option<(i64, i64)>, child: Option<(i64, i64)>) -> Result<(i64, i64), Error>
     requires parent { IfSome parent (λ p. (unsigned_abs p.0 ≤ 2 ^ 47) × (unsigned_abs p.1 ≤ 2 ^ 47)) }
@@ -374,8 +358,8 @@ pub fn with_part(
     match component.matrix {
         None => with_points(component, x, y, before, part, &part.xs, &part.ys, steps),
         Some(m) => {
-            let xs = all_xs(alloc, m, &part.xs, &part.ys)?;
-            let ys = all_ys(alloc, m, &part.xs, &part.ys)?;
+            let xs = transformed_column(alloc, m.xx, m.xy, &part.xs, &part.ys)?;
+            let ys = transformed_column(alloc, m.yx, m.yy, &part.xs, &part.ys)?;
             with_points(component, x, y, before, part, &xs, &ys, steps)
         }
     }

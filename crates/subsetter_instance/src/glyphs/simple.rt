@@ -7,13 +7,14 @@ ghost use Rattle.subsetter_points.specs.Simple.{are_ends};
 ghost use Rattle.subsetter_base.specs.Bytes.{has_flag};
 ghost use Rattle.subsetter_variation.specs.Glyphs.Movement.{AreWithin, IsOutline};
 ghost use Rattle.subsetter_instance.specs.Source.{HasAxes};
-ghost use Rattle.subsetter_instance.specs.Glyphs.Unfolded.{IsInReach, are_near, left_point, left_side, moved, near_or_fault, outline_by_flags, right_point, unfolded_by_flags, unfolded_simple, with_phantoms, IsShaped, x_min};
+ghost use Rattle.subsetter_instance.specs.Glyphs.Unfolded.{IsInReach, are_near, left_point, left_side, moved, in_range_or_fault, outline_by_flags, right_point, unfolded_by_flags, unfolded_simple, with_phantoms, IsShaped, x_min};
 
 use crate::glyphs::unfolding::Unfolded;
 use crate::source::Source;
 use std::alloc::{AllocError, Global};
 use subsetter_base::Error;
 use subsetter_base::read::Reader;
+use subsetter_points::header::X_MIN;
 use subsetter_points::{Columns, read_columns};
 use subsetter_sfnt::fields::hmtx::LongHorMetric;
 use subsetter_variation::glyphs::movement::{Outline as DefaultOutline, moved_points, spent};
@@ -25,18 +26,18 @@ use subsetter_variation::rounding::plus;
 fn x_min(bytes: &[u8]) -> i16
     ensures { result ≡ x_min bytes.now }
 {
-    match Reader::new_at(bytes, 2).read::<u16>() {
+    match Reader::new_at(bytes, X_MIN).read::<u16>() {
         Some(bits) => bits.cast_signed(),
         None => 0,
     }
 }
 
-/// Where the left side of the default lies.
+/// x of the left side of the default.
 fn left_side(bytes: &[u8], metric: LongHorMetric) -> i32
     ensures value { result ≡ left_side bytes.now metric }
     ensures bound { unsigned_abs result ≤ 2 ^ 16 }
 {
-    i32::from(x_min(bytes)) - i32::from(metric.bearing.cast_signed())
+    i32::from(x_min(bytes)) - i32::from(metric.lsb.cast_signed())
 }
 
 /// Whole units in parts of 2^30.
@@ -69,12 +70,12 @@ pub fn left_point(bytes: &[u8], metric: LongHorMetric, n: usize, xs: &[i64]) -> 
     plus(in_parts(left_side(bytes, metric)), coordinate_at(xs, n))
 }
 
-/// Where the right side of the default lies.
+/// x of the right side of the default.
 fn right_side(bytes: &[u8], metric: LongHorMetric) -> i32
-    ensures value { result ≡ left_side bytes.now metric +ℤ pos metric.advance }
+    ensures value { result ≡ left_side bytes.now metric +ℤ pos metric.advance_width }
     ensures bound { unsigned_abs result ≤ 2 ^ 18 }
 {
-    left_side(bytes, metric) + i32::from(metric.advance)
+    left_side(bytes, metric) + i32::from(metric.advance_width)
 }
 
 /// x of the right phantom point behind n points.
@@ -99,9 +100,9 @@ pub fn are_near(coordinates: &[i64]) -> bool
 }
 
 /// A glyph whose points are near, else `OverflowError`.
-pub fn near_or_fault(unfolded: Unfolded, steps: u32) -> Result<(Unfolded, u32), Error>
+pub fn in_range_or_fault(unfolded: Unfolded, steps: u32) -> Result<(Unfolded, u32), Error>
     requires { IsShaped unfolded }
-    ensures value { result ≡ near_or_fault unfolded steps }
+    ensures value { result ≡ in_range_or_fault unfolded steps }
     ensures bound { IfOk result (λ r. IsInReach r.0) }
 {
     if are_near(&unfolded.xs) && are_near(&unfolded.ys) {
@@ -233,7 +234,7 @@ fn simple_outline(
     })
 }
 
-/// A simple glyph at a place, of which the description is read, and the steps that are left.
+/// A simple glyph at a location, of which the description is read, and the steps that are left.
 #[tactic(auto, unfolding(crate::specs::Glyphs::Unfolded::unfolded_by_flags))]
 fn unfold_columns(
     alloc: Global,
@@ -261,7 +262,7 @@ fn unfold_columns(
     let steps = spent(flags.len() + 5, steps)?;
     let (xs, ys, steps) = moved_simple(alloc, source.gvar(), glyph, &ends, xs, ys, at, steps)?;
     let unfolded = simple_outline(alloc, bytes, metric, ends, &flags, xs, ys)?;
-    near_or_fault(unfolded, steps)
+    in_range_or_fault(unfolded, steps)
 }
 
 /// A simple glyph at a location, and the steps that are left.

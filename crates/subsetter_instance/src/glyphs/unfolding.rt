@@ -3,24 +3,25 @@
 ghost use Rattle.std.specs.Prelude.{◌≡◌, IfOk, length};
 ghost use Rattle.std.specs.Option.{option_copied};
 ghost use Rattle.subsetter_base.specs.Gives.{Gives};
-ghost use Rattle.subsetter_instance.specs.Glyphs.Kept.{AreKept};
+ghost use Rattle.subsetter_instance.specs.Glyphs.Cache.{AreKept};
 ghost use Rattle.subsetter_instance.specs.Source.{HasAxes};
 ghost use Rattle.subsetter_instance.specs.Glyphs.Unfolded.{IsInReach, counted_description, is_composite, unfolded};
 ghost use Rattle.subsetter_instance.specs.Glyphs.Drawn.{levels};
 
+use crate::glyphs::cache::GlyphCache;
 use crate::glyphs::composite::read_composite;
-use crate::glyphs::kept::Kept;
 use crate::glyphs::simple::unfold_simple;
 use crate::source::Source;
 use std::alloc::Global;
 use std::marker::Model;
 use subsetter_base::Error;
 use subsetter_base::read::Reader;
+use subsetter_points::header::COMPOSITE;
 
-/// How deep components may lead to components: 64 levels below a glyph.
+/// How deep components may have components: 64 levels below a glyph.
 const LEVELS: u8 = 65;
 
-/// A glyph at a location: the number of each contour's last point, which points are on the curve, where they lie, and x of
+/// A glyph at a location: the number of each contour's last point, which points are on the curve, their coordinates, and x of
 /// the left and of the right phantom point. All coordinates are in parts of 2^30.
 #[derive(Drop)]
 pub struct Unfolded {
@@ -47,7 +48,7 @@ pub fn is_composite(bytes: &[u8]) -> bool
     let Some(contours) = Reader::new(bytes).read::<u16>() else {
         return false;
     };
-    contours >= 0x8000
+    contours >= COMPOSITE
 }
 
 /// The description of a glyph that `maxp` counts, if it is there.
@@ -61,7 +62,7 @@ pub fn counted_description<'a>(source: &Source<'a>, glyph: u16) -> Option<&'a [u
     }
 }
 
-/// A glyph at a place, the steps that are left, and the glyphs that are kept. It may lead to components so many levels deep.
+/// A glyph at a location, the steps that are left, and the glyphs that are kept. It may have components so many levels deep.
 #[tactic(auto, unfolding(crate::specs::Glyphs::Unfolded::unfolded))]
 fn unfold_within(
     alloc: Global,
@@ -70,8 +71,8 @@ fn unfold_within(
     at: &[i32],
     steps: u32,
     glyph: u16,
-    kept: Kept,
-) -> Result<(Unfolded, u32, Kept), Error>
+    kept: GlyphCache,
+) -> Result<(Unfolded, u32, GlyphCache), Error>
     requires axes { HasAxes source.now.gvar (length at.now) }
     requires kept { AreKept source.now at.now kept }
     ensures value { Gives (λ r. (r.0, r.1)) result (unfolded depth source.now at.now steps glyph) }
@@ -141,8 +142,8 @@ pub fn unfold(
     at: &[i32],
     steps: u32,
     glyph: u16,
-    kept: Kept,
-) -> Result<(Unfolded, u32, Kept), Error>
+    kept: GlyphCache,
+) -> Result<(Unfolded, u32, GlyphCache), Error>
     requires axes { HasAxes source.now.gvar (length at.now) }
     requires kept { AreKept source.now at.now kept }
     ensures value { Gives (λ r. (r.0, r.1)) result (unfolded levels source.now at.now steps glyph) }

@@ -1,25 +1,11 @@
 //! The extremes of the glyphs that are drawn (OpenType, "head" and "hhea").
 
-ghost use Rattle.std.specs.Prelude.{◌≡◌, ◌++◌, ◌-ℤ◌, OnOk, pos};
-ghost use Rattle.subsetter_instance.specs.Tables.Extremes.{with_point, box_around, extents_of, glyph_extents, both, joined, all_extents, widest, box_bytes, saturated, side_bytes, extreme_bytes};
+ghost use Rattle.std.specs.Prelude.{◌≡◌, ◌-ℤ◌, pos};
+ghost use Rattle.subsetter_instance.specs.Tables.Extremes.{extents_of, glyph_extents, both, joined, all_extents, widest, box_bytes, saturated, side_bytes, extreme_bytes};
 
 use crate::glyphs::drawn::Drawn;
-use std::alloc::AllocError;
 use subsetter_base::compare::{larger, smaller};
-use subsetter_points::Point;
-
-/// A box around points.
-#[derive(Clone, Copy)]
-pub struct Bounds {
-    /// The left side.
-    pub x_min: i16,
-    /// The lower side.
-    pub y_min: i16,
-    /// The right side.
-    pub x_max: i16,
-    /// The upper side.
-    pub y_max: i16,
-}
+use subsetter_points::{Bounds, Point, bounds_bytes, box_around};
 
 /// The extents of a glyph with contours, or of several.
 #[derive(Clone, Copy)]
@@ -28,34 +14,6 @@ pub struct Extents {
     pub bounds: Bounds,
     /// The least right side bearing, at most 32767.
     pub right: i16,
-}
-
-/// The least box around a box and a point.
-fn with_point(bounds: Bounds, point: Point) -> Bounds
-    ensures { result ≡ with_point bounds point }
-{
-    Bounds {
-        x_min: smaller(bounds.x_min, point.x),
-        y_min: smaller(bounds.y_min, point.y),
-        x_max: larger(bounds.x_max, point.x),
-        y_max: larger(bounds.y_max, point.y),
-    }
-}
-
-/// The least box around a point and others.
-fn box_around(first: Point, rest: &[Point]) -> Bounds
-    ensures { result ≡ box_around first rest.now }
-{
-    let mut bounds = Bounds {
-        x_min: first.x,
-        y_min: first.y,
-        x_max: first.x,
-        y_max: first.y,
-    };
-    for point in rest {
-        bounds = with_point(bounds, *point);
-    }
-    bounds
 }
 
 /// The right side bearing of a glyph, by its advance and its greatest x: 32767 where it is greater.
@@ -136,41 +94,36 @@ fn widest(drawn: &[Drawn]) -> u16
     most
 }
 
-/// Appends the box of `head`: 0 where no glyph has contours.
-pub fn write_box(out: &mut Vec<u8>, extents: Option<Extents>) -> Result<(), AllocError>
-    ensures { OnOk result (out.new.items ≡ out.old.items ++ box_bytes extents) }
+/// The box of `head`: 0 where no glyph has contours.
+pub fn box_bytes(extents: Option<Extents>) -> [u8; 8]
+    ensures { result ≡ box_bytes extents }
 {
     match extents {
-        None => out.extend_from_slice(&[0; 8]),
-        Some(e) => {
-            let [a, b] = e.bounds.x_min.to_be_bytes();
-            let [c, d] = e.bounds.y_min.to_be_bytes();
-            let [f, g] = e.bounds.x_max.to_be_bytes();
-            let [h, i] = e.bounds.y_max.to_be_bytes();
-            out.extend_from_slice(&[a, b, c, d, f, g, h, i])
-        }
+        None => [0; 8],
+        Some(e) => bounds_bytes(e.bounds),
     }
 }
 
-/// Appends the least left and the least right side bearing and the greatest extent of `hhea`: 0 where no glyph has contours.
-fn write_sides(out: &mut Vec<u8>, extents: Option<Extents>) -> Result<(), AllocError>
-    ensures { OnOk result (out.new.items ≡ out.old.items ++ side_bytes extents) }
+/// The least left and the least right side bearing and the greatest extent of `hhea`: 0 where no glyph has contours.
+fn side_bytes(extents: Option<Extents>) -> [u8; 6]
+    ensures { result ≡ side_bytes extents }
 {
     match extents {
-        None => out.extend_from_slice(&[0; 6]),
+        None => [0; 6],
         Some(e) => {
             let [a, b] = e.bounds.x_min.to_be_bytes();
             let [c, d] = e.right.to_be_bytes();
             let [f, g] = e.bounds.x_max.to_be_bytes();
-            out.extend_from_slice(&[a, b, c, d, f, g])
+            [a, b, c, d, f, g]
         }
     }
 }
 
-/// Appends the greatest advance, and what is behind it in `hhea`.
-pub fn write_extremes(out: &mut Vec<u8>, drawn: &[Drawn]) -> Result<(), AllocError>
-    ensures { OnOk result (out.new.items ≡ out.old.items ++ extreme_bytes drawn.now) }
+/// The greatest advance, and what is behind it in `hhea`.
+pub fn extreme_bytes(drawn: &[Drawn]) -> [u8; 8]
+    ensures { result ≡ extreme_bytes drawn.now }
 {
-    out.extend_from_slice(&widest(drawn).to_be_bytes())?;
-    write_sides(out, all_extents(drawn))
+    let [a, b] = widest(drawn).to_be_bytes();
+    let [c, d, e, f, g, h] = side_bytes(all_extents(drawn));
+    [a, b, c, d, e, f, g, h]
 }

@@ -11,7 +11,8 @@ ghost use Rattle.subsetter_base.specs.Gives.{Gives};
 ghost use Rattle.subsetter_sfnt.specs.Read.{table_in};
 ghost use Rattle.subsetter_sfnt.specs.View.{font_seen};
 ghost use Rattle.subsetter_instance.specs.Plain.{laid};
-ghost use Rattle.subsetter_instance.specs.Tables.Written.{by_glyph, glyf_bytes, is_long, offsets_from, loca_bytes, hmtx_bytes, head_bytes, hhea_bytes, maxp_bytes, tables};
+ghost use Rattle.subsetter_sfnt.specs.Fields.Loca.{loca_bytes};
+ghost use Rattle.subsetter_instance.specs.Tables.Written.{by_glyph, glyf_bytes, is_long, offsets_from, hmtx_of, head_bytes, hhea_bytes, maxp_bytes, tables};
 
 use crate::glyphs::drawn::Drawn;
 use crate::source::Source;
@@ -48,7 +49,7 @@ fn new_tables(
     requires hhea { 36 ≤ length hhea.now }
     ensures glyf { IfOk result (λ t. t.glyf.items ≡ glyf_bytes (by_glyph mapper.now drawn.now count)) }
     ensures loca { IfOk result (λ t. t.loca.items ≡ loca_bytes (is_long (glyf_bytes (by_glyph mapper.now drawn.now count))) (offsets_from 0 (by_glyph mapper.now drawn.now count))) }
-    ensures hmtx { IfOk result (λ t. t.hmtx.items ≡ hmtx_bytes (by_glyph mapper.now drawn.now count)) }
+    ensures hmtx { IfOk result (λ t. t.hmtx.items ≡ hmtx_of (by_glyph mapper.now drawn.now count)) }
     ensures head { IfOk result (λ t. t.head.items ≡ head_bytes (is_long (glyf_bytes (by_glyph mapper.now drawn.now count))) drawn.now head.now) }
     ensures hhea { IfOk result (λ t. t.hhea.items ≡ hhea_bytes count drawn.now hhea.now) }
     ensures maxp { IfOk result (λ t. t.maxp.items ≡ maxp_bytes count drawn.now) }
@@ -97,7 +98,7 @@ fn font_tables<'a>(
 }
 
 /// The file of glyphs that are drawn, by the mapper's order: each under its old number, and every other glyph empty. `hhea` and `post` are those of
-/// the location. `MalformedFont` where `head` is missing, and `OverflowError` where a table's place or length is 2^32 or more.
+/// the location. `MalformedFont` where `head` is missing, and `OverflowError` where a table's offset or length is 2^32 or more.
 #[tactic(auto, unfolding(crate::specs::Plain::laid))]
 pub fn laid(
     alloc: Global,

@@ -1,24 +1,13 @@
 //! The headers of an instance (OpenType, "head", "hhea" and "maxp").
 
-ghost use Rattle.std.specs.Prelude.{◌≡◌, ◌≤◌, IfOk, length, if◌then◌else◌};
+ghost use Rattle.std.specs.Prelude.{◌≡◌, ◌≤◌, IfOk, length};
 ghost use Rattle.subsetter_instance.specs.Tables.Written.{head_bytes, hhea_bytes, most_points, most_contours, maxp_bytes};
 
 use crate::glyphs::drawn::Drawn;
-use crate::tables::extremes::{all_extents, write_box, write_extremes};
+use crate::tables::extremes::{all_extents, box_bytes, extreme_bytes};
 use std::alloc::{AllocError, Global};
-use subsetter_sfnt::fields::head::{
-    CHECKSUM_ADJUSTMENT, GLYPH_DATA_FORMAT, INDEX_TO_LOC_FORMAT, MAC_STYLE, MAGIC_NUMBER, X_MIN,
-};
-use subsetter_sfnt::fields::hhea::{
-    ADVANCE_WIDTH_MAX, CARET_SLOPE_RISE, NUMBER_OF_H_METRICS, SIZE as HHEA_SIZE,
-};
-
-/// indexToLocFormat: 1 for long offsets.
-fn loca_format(long: bool) -> u8
-    ensures { result ≡ (if long then 1 else 0) }
-{
-    u8::from(long)
-}
+use subsetter_sfnt::fields::head::write_head;
+use subsetter_sfnt::fields::hhea::write_hhea;
 
 /// `head`: without its checksum, with the box around what is drawn, and with the format of the new `loca`.
 pub fn head(
@@ -31,13 +20,7 @@ pub fn head(
     ensures { IfOk result (λ v. v.items ≡ head_bytes long drawn.now source.now) }
 {
     let mut head = Vec::with_capacity(alloc, source.len())?;
-    head.extend_from_slice(&source[..CHECKSUM_ADJUSTMENT])?;
-    head.extend_from_slice(&[0; 4])?;
-    head.extend_from_slice(&source[MAGIC_NUMBER..X_MIN])?;
-    write_box(&mut head, all_extents(drawn))?;
-    head.extend_from_slice(&source[MAC_STYLE..INDEX_TO_LOC_FORMAT])?;
-    head.extend_from_slice(&[0, loca_format(long)])?;
-    head.extend_from_slice(&source[GLYPH_DATA_FORMAT..])?;
+    write_head(&mut head, source, long, &box_bytes(all_extents(drawn)));
     Ok(head)
 }
 
@@ -52,11 +35,7 @@ pub fn hhea(
     ensures { IfOk result (λ v. v.items ≡ hhea_bytes count drawn.now source.now) }
 {
     let mut hhea = Vec::with_capacity(alloc, source.len())?;
-    hhea.extend_from_slice(&source[..ADVANCE_WIDTH_MAX])?;
-    write_extremes(&mut hhea, drawn)?;
-    hhea.extend_from_slice(&source[CARET_SLOPE_RISE..NUMBER_OF_H_METRICS])?;
-    hhea.extend_from_slice(&count.to_be_bytes())?;
-    hhea.extend_from_slice(&source[HHEA_SIZE..])?;
+    write_hhea(&mut hhea, source, &extreme_bytes(drawn), count);
     Ok(hhea)
 }
 

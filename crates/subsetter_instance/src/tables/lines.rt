@@ -39,7 +39,7 @@ fn varied(mvar: &[u8], at: &[i32], tag: Tag, before: i16) -> Result<i16, Error>
     word_or_fault(i128::from(before) + i128::from(metric_delta(mvar, at, tag)?))
 }
 
-/// Three numbers of `hhea` from a place on.
+/// Three numbers of `hhea` from an offset on.
 #[tactic(auto, unfolding(crate::specs::Tables::Lines::three_lines))]
 fn three_lines(
     mvar: &[u8],
@@ -97,7 +97,7 @@ fn copied(alloc: Global, bytes: &[u8]) -> Result<Vec<u8>, AllocError>
     Ok(copy)
 }
 
-/// `hhea` at a place.
+/// `hhea` at a location.
 #[tactic(auto, unfolding(crate::specs::Tables::Lines::varied_hhea))]
 fn varied_hhea(
     alloc: Global,
@@ -140,7 +140,7 @@ fn moved_post(
     Ok(new)
 }
 
-/// `post` at a place, where it has the numbers of the underline.
+/// `post` at a location, where it has the numbers of the underline.
 #[tactic(auto, unfolding(crate::specs::Tables::Lines::varied_underline))]
 fn varied_underline(alloc: Global, mvar: &[u8], at: &[i32], post: &[u8]) -> Result<Vec<u8>, Error>
     requires { 12 ≤ length post.now }
@@ -161,7 +161,7 @@ fn varied_underline(alloc: Global, mvar: &[u8], at: &[i32], post: &[u8]) -> Resu
     Ok(moved_post(alloc, post, position, thickness)?)
 }
 
-/// `post` at a place.
+/// `post` at a location.
 fn varied_post(
     alloc: Global,
     mvar: Option<&[u8]>,
@@ -173,13 +173,13 @@ fn varied_post(
     let Some(mvar) = mvar else {
         return Ok(copied(alloc, post)?);
     };
-    if post.len() < 12 {
+    if post.len() < IS_FIXED_PITCH {
         return Ok(copied(alloc, post)?);
     }
     varied_underline(alloc, mvar, at, post)
 }
 
-/// `post` at a place, if there is one.
+/// `post` at a location, if there is one.
 fn varied_post_if(
     alloc: Global,
     mvar: Option<&[u8]>,

@@ -6,13 +6,16 @@ ghost use Rattle.std.specs.Prelude.{◌≡◌, ◌++◌, IfOk, IfErr, OnOk, leng
 ghost use Rattle.std.specs.Option.{option_copied};
 ghost use Rattle.subsetter_base.specs.declared.error.Error.TheVariants.{OutOfMemory};
 ghost use Rattle.subsetter_base.specs.Indexes.{index_of};
-ghost use Rattle.subsetter_instance.specs.Tables.Written.{by_glyph, glyph_among, outline_bytes, glyf_bytes, offset_bytes, offsets_from, is_long, loca_bytes, metric_bytes, hmtx_bytes};
+ghost use Rattle.subsetter_instance.specs.Tables.Written.{by_glyph, glyph_among, outline_bytes, glyf_bytes, offsets_from, is_long, drawn_metric, hmtx_of};
+ghost use Rattle.subsetter_sfnt.specs.Fields.Loca.{loca_bytes};
 
 use crate::glyphs::drawn::Drawn;
 use std::alloc::Global;
 use subsetter_base::{Error, GlyphRemapper};
+use subsetter_sfnt::fields::hmtx::{LONG_HOR_METRIC_SIZE, LongHorMetric};
+use subsetter_sfnt::fields::loca::{OFFSET16_MAX, OFFSET32_SIZE, write_offset};
 
-/// What is drawn of a glyph, if it was asked for.
+/// What is drawn of a glyph, if it was requested.
 fn glyph_among<'a>(mapper: &GlyphRemapper, drawn: &'a [Drawn], glyph: u16) -> Option<&'a Drawn>
     ensures { option_copied result ≡ glyph_among mapper.now drawn.now glyph }
 {
@@ -37,7 +40,7 @@ pub fn by_glyph<'a>(
     Ok(all)
 }
 
-/// Appends the description of a glyph, of even length; nothing where it wasn't asked for.
+/// Appends the description of a glyph, of even length; nothing where it wasn't requested.
 fn write_outline(glyf: &mut Vec<u8>, drawn: Option<&Drawn>) -> Result<(), Error>
     ensures ok { OnOk result (glyf.new.items ≡ glyf.old.items ++ outline_bytes (option_copied drawn.entry)) }
     ensures err { IfErr result (λ e. e ≡ OutOfMemory) }
@@ -75,22 +78,7 @@ pub fn all_outlines(alloc: Global, all: &[Option<&Drawn>]) -> Result<Outlines, E
 pub fn is_long(glyf: &[u8]) -> bool
     ensures { result ≡ is_long glyf.now }
 {
-    glyf.len() > 131_070
-}
-
-/// Appends an offset, or half of it.
-fn write_offset(loca: &mut Vec<u8>, long: bool, offset: usize) -> Result<(), Error>
-    ensures ok { OnOk result (loca.new.items ≡ loca.old.items ++ offset_bytes long offset) }
-    ensures err { IfErr result (λ e. e ≡ OutOfMemory) }
-{
-    if long {
-        let [_, _, _, _, a, b, c, d] = (offset as u64).to_be_bytes();
-        loca.extend_from_slice(&[a, b, c, d])?;
-    } else {
-        let [_, _, _, _, _, _, a, b] = ((offset / 2) as u64).to_be_bytes();
-        loca.extend_from_slice(&[a, b])?;
-    }
-    Ok(())
+    glyf.len() > OFFSET16_MAX
 }
 
 /// `loca` of offsets.
@@ -98,35 +86,34 @@ pub fn loca(alloc: Global, long: bool, offsets: &[usize]) -> Result<Vec<u8>, Err
     ensures ok { IfOk result (λ v. v.items ≡ loca_bytes long offsets.now) }
     ensures err { IfErr result (λ e. e ≡ OutOfMemory) }
 {
-    let mut loca = Vec::with_capacity(alloc, offsets.len().saturating_mul(4))?;
+    let mut loca = Vec::with_capacity(alloc, offsets.len().saturating_mul(OFFSET32_SIZE))?;
     for offset in offsets {
         write_offset(&mut loca, long, *offset)?;
     }
     Ok(loca)
 }
 
-/// Appends the metric of a glyph, 0 and 0 where it wasn't asked for.
-fn write_metric(hmtx: &mut Vec<u8>, drawn: Option<&Drawn>) -> Result<(), Error>
-    ensures ok { OnOk result (hmtx.new.items ≡ hmtx.old.items ++ metric_bytes (option_copied drawn.entry)) }
-    ensures err { IfErr result (λ e. e ≡ OutOfMemory) }
+/// The metric of a glyph, 0 and 0 where it wasn't requested.
+fn metric_of(drawn: Option<&Drawn>) -> LongHorMetric
+    ensures { result ≡ drawn_metric (option_copied drawn.entry) }
 {
     match drawn {
-        Some(drawn) => drawn.write_metric(hmtx),
-        None => {
-            hmtx.extend_from_slice(&[0, 0, 0, 0])?;
-            Ok(())
-        }
+        Some(drawn) => drawn.metric(),
+        None => LongHorMetric {
+            advance_width: 0,
+            lsb: 0,
+        },
     }
 }
 
 /// `hmtx`: an advance and a left side bearing for each glyph.
 pub fn hmtx(alloc: Global, all: &[Option<&Drawn>]) -> Result<Vec<u8>, Error>
-    ensures ok { IfOk result (λ v. v.items ≡ hmtx_bytes (map option_copied all.now)) }
+    ensures ok { IfOk result (λ v. v.items ≡ hmtx_of (map option_copied all.now)) }
     ensures err { IfErr result (λ e. e ≡ OutOfMemory) }
 {
-    let mut hmtx = Vec::with_capacity(alloc, all.len().saturating_mul(4))?;
+    let mut hmtx = Vec::with_capacity(alloc, all.len().saturating_mul(LONG_HOR_METRIC_SIZE))?;
     for drawn in all {
-        write_metric(&mut hmtx, *drawn)?;
+        hmtx.extend_from_slice(&metric_of(*drawn).to_bytes())?;
     }
     Ok(hmtx)
 }

@@ -1,13 +1,13 @@
 //! Whether an outline can be written.
 //!
-//! An outline has at most 65,535 points, which is what maxPoints of `maxp` can say, though endPtsOfContours can number
+//! An outline has at most 65,535 points, which is the greatest maxPoints of `maxp`, though endPtsOfContours can number
 //! 65,536, and at most 32,767 contours, as numberOfContours is an int16. None of its contours is empty.
 
 ghost use Rattle.std.specs.Prelude.{◌≡◌, ◌&&◌, pos};
-ghost use Rattle.subsetter_points.specs.Simple.{are_ends, deltas_fit, xs_of, ys_of, points_fit, parts_fit};
+ghost use Rattle.subsetter_points.specs.Simple.{are_ends, column_of, deltas_fit, points_fit, parts_fit};
 
 use crate::lists::deltas::delta_fits;
-use crate::outline::{Outline, Point};
+use crate::outline::{Column, Outline, Point, coordinate_in};
 
 /// The most contours of an outline (`numberOfContours`).
 const MOST_CONTOURS: usize = 0x7FFF;
@@ -36,28 +36,17 @@ fn both(one: bool, other: bool) -> bool
     one && other
 }
 
-/// Whether each delta in x has 16 bits. All are looked at, as a loop with one way out is the faster.
-fn xs_fit(points: &[Point]) -> bool
-    ensures { result ≡ deltas_fit (pos 0) (xs_of points.now) }
+/// Whether each delta in a column has 16 bits. All are looked at, as a loop with one exit is the faster.
+#[inline]
+fn column_fits(column: Column, points: &[Point]) -> bool
+    ensures { result ≡ deltas_fit (pos 0) (column_of column points.now) }
 {
-    let mut x = 0;
+    let mut before = 0;
     let mut fit = true;
     for point in points {
-        fit = both(fit, delta_fits(x, point.x));
-        x = point.x;
-    }
-    fit
-}
-
-/// Whether each delta in y has 16 bits.
-fn ys_fit(points: &[Point]) -> bool
-    ensures { result ≡ deltas_fit (pos 0) (ys_of points.now) }
-{
-    let mut y = 0;
-    let mut fit = true;
-    for point in points {
-        fit = both(fit, delta_fits(y, point.y));
-        y = point.y;
+        let coordinate = coordinate_in(column, *point);
+        fit = both(fit, delta_fits(before, coordinate));
+        before = coordinate;
     }
     fit
 }
@@ -66,7 +55,9 @@ fn ys_fit(points: &[Point]) -> bool
 fn points_fit(points: &[Point]) -> bool
     ensures { result ≡ points_fit points.now }
 {
-    points.len() <= MOST_POINTS && xs_fit(points) && ys_fit(points)
+    points.len() <= MOST_POINTS
+        && column_fits(Column::XCoordinates, points)
+        && column_fits(Column::YCoordinates, points)
 }
 
 /// Whether an outline can be written: at most 32767 contours, each with a point, at most 65535 points, and a delta of 16 bits

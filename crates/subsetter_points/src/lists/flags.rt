@@ -10,7 +10,7 @@ use crate::lists::front::read_byte;
 use std::alloc::Global;
 use subsetter_base::Error;
 
-/// The next byte says how many more times the flag is to be repeated.
+/// The next byte is the number of additional times that the flag is to be repeated.
 const REPEAT_FLAG: u8 = 0x08;
 
 /// A flag, and how many more times it is to be repeated.

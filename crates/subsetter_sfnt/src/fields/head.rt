@@ -1,16 +1,17 @@
 //! `head`, the font header (OpenType, "head").
 
-ghost use Rattle.std.specs.Prelude.{◌≡◌, ◌≤◌, length, IfSome};
+ghost use Rattle.std.specs.Prelude.{◌≡◌, ◌≤◌, ◌+◌, ◌++◌, length, vec_capacity, IfSome};
 ghost use Rattle.std.specs.Option.{option_copied};
-ghost use Rattle.subsetter_sfnt.specs.Fields.Head.{units_per_em, x_min, y_min, x_max, y_max, mac_style, index_to_loc_format};
+ghost use Rattle.subsetter_sfnt.specs.Fields.Head.{units_per_em, x_min, y_min, x_max, y_max, mac_style, index_to_loc_format, format_bytes, head_with};
 
+use crate::laying::room::put;
 use subsetter_base::fields::{number_in, signed_in};
 use subsetter_base::read::Reader;
 
 /// checksumAdjustment, four bytes.
-pub const CHECKSUM_ADJUSTMENT: usize = 8;
+pub(crate) const CHECKSUM_ADJUSTMENT: usize = 8;
 /// magicNumber, four bytes.
-pub const MAGIC_NUMBER: usize = 12;
+const MAGIC_NUMBER: usize = 12;
 /// unitsPerEm, two bytes.
 const UNITS_PER_EM: usize = 18;
 /// xMin, and behind it yMin, xMax and yMax, two bytes each.
@@ -24,7 +25,7 @@ const Y_MAX: usize = 42;
 /// macStyle, two bytes.
 pub const MAC_STYLE: usize = 44;
 /// indexToLocFormat, two bytes.
-pub const INDEX_TO_LOC_FORMAT: usize = 50;
+const INDEX_TO_LOC_FORMAT: usize = 50;
 /// glyphDataFormat, two bytes.
 pub const GLYPH_DATA_FORMAT: usize = 52;
 
@@ -76,4 +77,30 @@ pub fn index_to_loc_format(head: &[u8]) -> Option<u16>
     ensures whole { IfSome result (λ n. 52 ≤ length head.now) }
 {
     Reader::new_at(head, INDEX_TO_LOC_FORMAT).read::<u16>()
+}
+
+/// Writes indexToLocFormat: 0 for halves of offsets, 1 for offsets.
+fn write_format(out: &mut Vec<u8>, long: bool)
+    requires { length out.old.items + 2 ≤ vec_capacity out.old }
+    ensures items { out.new.items ≡ out.old.items ++ format_bytes long }
+    ensures capacity { vec_capacity out.old ≤ vec_capacity out.new }
+{
+    put(out, &[0, u8::from(long)]);
+}
+
+/// Writes a copy of `head`: with zeros in checksumAdjustment, until the sum of the file is known, with a box in xMin, yMin,
+/// xMax and yMax, and with the format of the new `loca`.
+pub fn write_head(out: &mut Vec<u8>, head: &[u8], long: bool, bounds: &[u8])
+    requires whole { 52 ≤ length head.now }
+    requires room { length out.old.items + length (head_with long bounds.now head.now) ≤ vec_capacity out.old }
+    ensures items { out.new.items ≡ out.old.items ++ head_with long bounds.now head.now }
+    ensures capacity { vec_capacity out.old ≤ vec_capacity out.new }
+{
+    put(out, &head[..CHECKSUM_ADJUSTMENT]);
+    put(out, &[0, 0, 0, 0]);
+    put(out, &head[MAGIC_NUMBER..X_MIN]);
+    put(out, bounds);
+    put(out, &head[MAC_STYLE..INDEX_TO_LOC_FORMAT]);
+    write_format(out, long);
+    put(out, &head[GLYPH_DATA_FORMAT..]);
 }

@@ -5,12 +5,12 @@
 
 ghost use Rattle.std.specs.Prelude.{◌≡◌, ◌<◌, ◌-◌, ◌*◌};
 ghost use Rattle.subsetter_base.specs.Bytes.{number};
-ghost use Rattle.subsetter_sfnt.specs.Fields.Hmtx.{metric_at, metric_in, advance_in};
+ghost use Rattle.subsetter_sfnt.specs.Fields.Hmtx.{metric_at, metric_in, advance_in, metric_bytes};
 
 use subsetter_base::read::Reader;
 
 /// How many bytes a pair of an advance and a bearing has.
-const LONG_HOR_METRIC_SIZE: usize = 4;
+pub const LONG_HOR_METRIC_SIZE: usize = 4;
 /// How many bytes a bearing has, and an advance.
 const LSB_SIZE: usize = 2;
 
@@ -18,18 +18,29 @@ const LSB_SIZE: usize = 2;
 #[derive(Clone, Copy, PartialEq, Eq)]
 pub struct LongHorMetric {
     /// advanceWidth.
-    pub advance: u16,
+    pub advance_width: u16,
     /// lsb, the left side bearing: the two bytes of an int16.
-    pub bearing: u16,
+    pub lsb: u16,
 }
 
-/// An advance and a bearing at two places of `hmtx`.
+impl LongHorMetric {
+    /// Its bytes.
+    pub fn to_bytes(self) -> [u8; 4]
+        ensures { result ≡ metric_bytes self }
+    {
+        let [a, b] = self.advance_width.to_be_bytes();
+        let [c, d] = self.lsb.to_be_bytes();
+        [a, b, c, d]
+    }
+}
+
+/// An advance and a bearing at two offsets of `hmtx`.
 fn metric_at(hmtx: &[u8], advance_at: usize, bearing_at: usize) -> Option<LongHorMetric>
     ensures { result ≡ metric_at hmtx.now advance_at bearing_at }
 {
-    let advance = Reader::new_at(hmtx, advance_at).read::<u16>()?;
-    let bearing = Reader::new_at(hmtx, bearing_at).read::<u16>()?;
-    Some(LongHorMetric { advance, bearing })
+    let advance_width = Reader::new_at(hmtx, advance_at).read::<u16>()?;
+    let lsb = Reader::new_at(hmtx, bearing_at).read::<u16>()?;
+    Some(LongHorMetric { advance_width, lsb })
 }
 
 /// The metric of a glyph: among the first `count` a pair of its own, after them the last advance with a bearing of its own.
@@ -62,7 +73,7 @@ pub fn last_advance(hmtx: &[u8], count: u16) -> Option<u16>
     Reader::new_at(hmtx, LONG_HOR_METRIC_SIZE * (count as usize - 1)).read::<u16>()
 }
 
-/// The advance of a glyph, where so many pairs are said.
+/// The advance of a glyph, by `numberOfHMetrics`.
 pub fn glyph_advance(hmtx: &[u8], count: u16, glyph: u16) -> Option<u16>
     ensures { result ≡ advance_in hmtx.now count glyph }
 {

@@ -9,8 +9,12 @@ use subsetter_base::read::Reader;
 
 /// version, four bytes.
 const VERSION: usize = 0;
+/// The version with indexes and names of glyphs.
+pub const VERSION_2_0: u32 = 0x0002_0000;
+/// The version without them.
+pub const VERSION_3_0: u32 = 0x0003_0000;
 /// italicAngle, four bytes.
-const ITALIC_ANGLE: usize = 4;
+pub const ITALIC_ANGLE: usize = 4;
 /// isFixedPitch, four bytes.
 pub const IS_FIXED_PITCH: usize = 12;
 /// underlinePosition, two bytes.

@@ -4,7 +4,7 @@ ghost use Rattle.std.specs.Prelude.{◌≡◌, ◌+◌, ◌-◌, ◌%◌, ◌^�
 ghost use Rattle.subsetter_sfnt.specs.Laying.Checksum.{checksum};
 ghost use Rattle.subsetter_sfnt.specs.Laying.Weights.{weighed, IsSummed};
 
-/// What a byte at a place counts in its word.
+/// What a byte at an offset counts in its word.
 fn weight(at: usize) -> u32
     ensures exact { result ≡ 256 ^ (3 - at % 4) }
     ensures small { result ≤ 2 ^ 24 }
@@ -17,7 +17,7 @@ fn weight(at: usize) -> u32
     }
 }
 
-/// Adds the bytes from a place on, one at a time.
+/// Adds the bytes from an offset on, one at a time.
 fn add_bytes(start: u32, at: usize, bytes: &[u8]) -> u32
     ensures { result ≡ (start + weighed at bytes.now) % 2 ^ 32 }
 {
@@ -69,7 +69,7 @@ impl Sum {
         Self { value: 0, done: 0 }
     }
 
-    /// Adds a piece of the table, if so many bytes of it stand behind those that were summed.
+    /// Adds a piece of the table, if so many bytes of it are behind those that were summed.
     pub fn go_on(self, table: &[u8]) -> Self
         requires { IsSummed table.now self.value self.done }
         ensures { IsSummed table.now result.value result.done }

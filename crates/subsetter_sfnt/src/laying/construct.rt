@@ -1,7 +1,7 @@
 //! Laying out a font file.
 //!
-//! The checksum adjustment is a patch of four bytes, the last step. That the tables' places fit 32 bits is checked by
-//! `measured`, which takes no memory and whose clause names its one error.
+//! The checksum adjustment is a patch of four bytes, the last step. That the tables' offsets fit 32 bits is checked by
+//! `file_size`, which takes no memory and whose clause names its one error.
 
 ghost use Rattle.std.specs.Prelude.{◌≡◌, ◌+◌, ◌-◌, ◌*◌, ◌<◌, ◌≤◌, ◌^◌, ◌++◌, ◌%◌, [], length, map, take, drop, true, false, vec_capacity, OnOk, IfOk, IfErr};
 ghost use Rattle.std.specs.Int.{w16, w32, to_be_bytes};
@@ -14,6 +14,8 @@ ghost use Rattle.subsetter_sfnt.specs.Laying.Checksum.{checksum};
 ghost use Rattle.subsetter_sfnt.specs.Plain.{file_of};
 ghost use Rattle.subsetter_sfnt.specs.View.{view, views};
 
+use crate::face::{TABLE_RECORD_SIZE, TABLE_RECORDS};
+use crate::fields::head::CHECKSUM_ADJUSTMENT;
 use crate::flavor::FontFlavor;
 use crate::laying::checksum::checksum;
 use crate::laying::room::{align, aligned_len, patch, put};
@@ -21,19 +23,24 @@ use crate::laying::tables::{NewTable, TableBytes};
 use std::alloc::Global;
 use subsetter_base::{Error, Tag};
 
-/// How many bytes the file has. `OverflowError` where a place or a length is 2^32 or more. No memory is taken.
-fn measured<T: TableBytes>(tables: &[NewTable<T>]) -> Result<usize, Error>
+/// The greatest offset and the greatest length, which have 32 bits.
+const MAX_OFFSET: usize = 0xffff_ffff;
+/// The sum of a whole file with its adjustment (OpenType, "head", checksumAdjustment).
+const FILE_SUM: u32 = 0xB1B0AFBA;
+
+/// How many bytes the file has. `OverflowError` where an offset or a length is 2^32 or more. No memory is taken.
+fn file_size<T: TableBytes>(tables: &[NewTable<T>]) -> Result<usize, Error>
     requires { length tables.now < 16 }
     ensures ok { IfOk result (λ n. (fits (start_of (views T.bytes_of tables.now)) (views T.bytes_of tables.now) ≡ true) × (n ≡ start_of (views T.bytes_of tables.now) + length (body (views T.bytes_of tables.now)))) }
     ensures err { IfErr result (λ e. (e ≡ OverflowError) × (fits (start_of (views T.bytes_of tables.now)) (views T.bytes_of tables.now) ≡ false)) }
 {
-    let mut at = 12 + 16 * tables.len();
+    let mut at = TABLE_RECORDS + TABLE_RECORD_SIZE * tables.len();
     for table in tables {
-        if at > 0xffff_ffff {
+        if at > MAX_OFFSET {
             return Err(Error::OverflowError);
         }
         let len = table.data.len();
-        if len > 0xffff_ffff {
+        if len > MAX_OFFSET {
             return Err(Error::OverflowError);
         }
         at = at.saturating_add(aligned_len(len));
@@ -96,7 +103,7 @@ fn write_words(out: &mut Vec<u8>, sum: u32, at: u32, len: u32)
     put(out, &[a, b, c, d, e, f, g, h, i, j, k, l]);
 }
 
-/// Writes the record of a table that stands at a place.
+/// Writes the record of a table that is at an offset.
 fn write_record<T: TableBytes>(
     out: &mut Vec<u8>,
     at: usize,
@@ -138,7 +145,7 @@ fn write_table<T: TableBytes>(
     sum
 }
 
-/// Writes tables, each with zeros up to a multiple of four, and the records of tables that stand from a place on.
+/// Writes tables, each with zeros up to a multiple of four, and the records of tables that are from an offset on.
 /// Answers the checksum of all the tables.
 fn write_tables<T: TableBytes>(
     out: &mut Vec<u8>,
@@ -164,7 +171,7 @@ fn write_tables<T: TableBytes>(
     sum
 }
 
-/// Puts the adjustment into a table that stands at a place, if it is `head`.
+/// Puts the adjustment into a table that is at an offset, if it is `head`.
 fn adjust_table<T: TableBytes>(out: &mut Vec<u8>, at: usize, word: u32, table: &NewTable<T>)
     requires is_table { IsTable (view T.bytes_of table.now) }
     requires within { at + length (view T.bytes_of table.now).bytes ≤ length out.old.items }
@@ -172,11 +179,11 @@ fn adjust_table<T: TableBytes>(out: &mut Vec<u8>, at: usize, word: u32, table: &
     ensures { out.new.items ≡ take at out.old.items ++ (adjusted word (view T.bytes_of table.now)).bytes ++ drop (at + length (view T.bytes_of table.now).bytes) out.old.items }
 {
     if table.tag == Tag::HEAD {
-        patch(out, at + 8, word);
+        patch(out, at + CHECKSUM_ADJUSTMENT, word);
     }
 }
 
-/// Puts the adjustment into `head` among the tables that stand from a place on.
+/// Puts the adjustment into `head` among the tables that are from an offset on.
 fn adjust<T: TableBytes>(out: &mut Vec<u8>, start: usize, word: u32, tables: &[NewTable<T>])
     requires tables { AllByRecursion IsTable (views T.bytes_of tables.now) }
     requires fit { fits start (views T.bytes_of tables.now) ≡ true }
@@ -191,7 +198,7 @@ fn adjust<T: TableBytes>(out: &mut Vec<u8>, start: usize, word: u32, tables: &[N
     }
 }
 
-/// Keeps room for what stands before the tables.
+/// Writes zeros for what is before the tables, which is patched later. At most 252 bytes: a header and 15 records.
 fn skip_front(out: &mut Vec<u8>, count: usize)
     requires few { count ≤ 252 }
     requires room { length out.old.items + count ≤ vec_capacity out.old }
@@ -201,7 +208,7 @@ fn skip_front(out: &mut Vec<u8>, count: usize)
     put(out, &[0; 252][..count]);
 }
 
-/// Puts bytes in the place of as many from a place on.
+/// Overwrites the bytes at an offset.
 fn patch_bytes(out: &mut Vec<u8>, at: usize, bytes: &[u8])
     requires { at + length bytes.now ≤ length out.old.items }
     ensures { out.new.items ≡ take at out.old.items ++ bytes.now ++ drop (at + length bytes.now) out.old.items }
@@ -227,14 +234,14 @@ pub fn construct<T: TableBytes>(
 {
     let mut out = out;
     let mut front = front;
-    let start = 12 + 16 * tables.len();
+    let start = TABLE_RECORDS + TABLE_RECORD_SIZE * tables.len();
     skip_front(&mut out, start);
     write_header(&mut front, flavor.kind(), tables.len() as u16);
     let tables_sum = write_tables(&mut out, &mut front, start, tables);
     patch_bytes(&mut out, 0, &front);
     // Each table begins at a multiple of four, so the sum of the file is that of its parts.
     let sum = checksum(&front).wrapping_add(tables_sum);
-    adjust(&mut out, start, 0xB1B0AFBAu32.wrapping_sub(sum), tables);
+    adjust(&mut out, start, FILE_SUM.wrapping_sub(sum), tables);
     out
 }
 
@@ -249,7 +256,7 @@ fn check_bound(size: usize, bytes: Option<u32>) -> Result<(), Error>
     }
 }
 
-/// Lays out a file. Its size is taken first: `OverflowError` where a place or a length is 2^32 or more, or where it has more
+/// Lays out a file. Its size is taken first: `OverflowError` where an offset or a length is 2^32 or more, or where it has more
 /// bytes than it may, if these have a bound. Room is reserved once.
 #[tactic(auto, unfolding(crate::specs::Plain::file_of))]
 pub fn finish<T: TableBytes>(
@@ -263,9 +270,9 @@ pub fn finish<T: TableBytes>(
     ensures gives { GivesWithin (λ v. v.items) bytes length result (file_of (kind_word flavor) (views T.bytes_of tables.now)) }
     ensures within { IfOk result (λ v. is_past bytes (length v.items) ≡ false) }
 {
-    let size = measured(tables)?;
+    let size = file_size(tables)?;
     check_bound(size, bytes)?;
-    let front = Vec::with_capacity(alloc, 12 + 16 * tables.len())?;
+    let front = Vec::with_capacity(alloc, TABLE_RECORDS + TABLE_RECORD_SIZE * tables.len())?;
     let out = Vec::with_capacity(alloc, size)?;
     Ok(construct(out, front, flavor, tables))
 }

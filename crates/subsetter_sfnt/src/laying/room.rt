@@ -35,7 +35,7 @@ pub fn align(out: &mut Vec<u8>)
     }
 }
 
-/// Puts a word in the place of four bytes.
+/// Puts a word in place of four bytes.
 pub fn patch(out: &mut Vec<u8>, at: usize, word: u32)
     requires { at + 4 ≤ length out.old.items }
     ensures { out.new.items ≡ take at out.old.items ++ to_be_bytes w32 word ++ drop (at + 4) out.old.items }

@@ -13,7 +13,7 @@ use Rattle.subsetter_type2.specs.declared.token.Effect.{Effect}
 use Rattle.subsetter_type2.specs.declared.token.Effect.TheVariants.{CountsStems, Draws, CallsLocal, CallsGlobal, Returns, Ends, Masks}
 use Rattle.subsetter_cffdata.specs.Numerals.CharStringNumber.{NumberFits, FitsIn, number_at}
 use Rattle.subsetter_type2.specs.Token.{token_of, number_token, two_byte_token, effect_of, type_effect, one_byte_effect, two_byte_effect, one_byte}
-use Rattle.subsetter_type2.specs.Runs.Machine.{Library, Registers, Event, Act, Does, Fails, Lead, On, Into, Back, Over, emit, stems_after, take_mask, mask, enter, operate, act, act_on, act_at}
+use Rattle.subsetter_type2.specs.Runs.Machine.{Library, Registers, Event, Act, Does, Fails, Continuation, On, Into, Back, Over, emit, stems_after, take_mask, mask, enter, operate, act, act_on, act_at}
 use Rattle.subsetter_cffdata.proofs.NumeralsLaws.CharStringNumbers.{number_fits}
 use Rattle.subsetter_cffdata.specs.Views.{operator_of, type_bytes}
 use Rattle.subsetter_type2.specs.Runs.OutputView.{AllFit}
@@ -30,20 +30,20 @@ pub record Silent (r r' : Registers) : Type 0 where
   pub one_more : length r'.operands ≤ length r.operands + 1
   pub sound : Sound r'
 
-abbrev pub lead_with : Lead → List ℕ → Lead
+abbrev pub lead_with : Continuation → List ℕ → Continuation
 lead_with (On rest) x = On x
 lead_with (Into body rest) x = Into body x
 lead_with Back x = Back
 lead_with Over x = Over
 
 -- no event leads into a subroutine or back
-abbrev pub IsOnward : Lead → Type 0
+abbrev pub IsOnward : Continuation → Type 0
 IsOnward (On rest) = Unit {0}
 IsOnward (Into body rest) = ⊥
 IsOnward Back = ⊥
 IsOnward Over = Unit {0}
 
-pub record Loud (r : Registers) (e : Event) (r' : Registers) (lead : Lead) : Type 0 where
+pub record Loud (r : Registers) (e : Event) (r' : Registers) (lead : Continuation) : Type 0 where
   pub operands : e.operands ≡ r.operands
   pub emptied : r'.operands ≡ []
   pub onward : IsOnward lead

@@ -10,7 +10,7 @@ use Rattle.subsetter_base.specs.declared.error.Error.{Error}
 use Rattle.subsetter_base.specs.declared.error.Error.TheVariants.{UnknownKind, MalformedFont, Unimplemented, SubsetError, OverflowError, CFFError, OutOfMemory}
 use Rattle.subsetter_type2.specs.Runs.Behind.{ReachedBehind}
 use Rattle.subsetter_type2.specs.Flat.{flat_event, flat_events, flat_operands, bytes_of}
-use Rattle.subsetter_type2.specs.Runs.Machine.{Library, Registers, State, Event, Act, Does, Fails, Lead, Step, Goes, Faults, Trace, Outcome, Finishes, Stops, unended, want, follow, with_event, move, act_at, rests_after, run, outcome}
+use Rattle.subsetter_type2.specs.Runs.Machine.{Library, Registers, State, Event, Act, Does, Fails, Continuation, Step, Goes, Faults, Trace, Outcome, Finishes, Stops, unended, ended_or, follow, with_event, move, act_at, rests_after, run, outcome}
 use Rattle.subsetter_type2.specs.Runs.Reached.{Reached}
 use Rattle.subsetter_type2.specs.View.{event_bytes, Done, done}
 use Rattle.subsetter_type2.proofs.RunsLaws.Runs.{reached_start, reached_over, reached_out, reached_fault, reached_deep, reached_more, reached_same}
@@ -69,7 +69,7 @@ module _ (front : List ℕ) (o : Outcome) (library : Library) (depth tokens : �
     pub behind_deep : (d : Done) → done (act_at library bytes s.registers) settled ≡ Ok d → depth < length (rests_after d.lead callers) → o ≡ Stops CFFError
     behind_deep d f l =
         let w = own_done (act_at library bytes s.registers) front h.own settled d h.split f in
-        reached_deep o library depth tokens s h.own h.reached bytes callers left n e w.its w.is (subst (λ (x : Lead). depth < length (rests_after x callers)) (sym w.lead) l)
+        reached_deep o library depth tokens s h.own h.reached bytes callers left n e w.its w.is (subst (λ (x : Continuation). depth < length (rests_after x callers)) (sym w.lead) l)
 
     -- an act leads on
     pub behind_more : (d : Done) (rests : List (List ℕ)) → done (act_at library bytes s.registers) settled ≡ Ok d → rests ≡ rests_after d.lead callers → length rests ≤ depth
@@ -80,7 +80,7 @@ module _ (front : List ℕ) (o : Outcome) (library : Library) (depth tokens : �
           own = w.its.settled;
           split = w.split;
           reached = subst (λ (x : Registers). Reached o library depth left (record { rests = rests; registers = x }) w.its.settled) w.registers
-              (reached_more o library depth tokens s h.own h.reached bytes callers left n e w.its rests w.is (r ∙ ap (λ (x : Lead). rests_after x callers) (sym w.lead)) l);
+              (reached_more o library depth tokens s h.own h.reached bytes callers left n e w.its rests w.is (r ∙ ap (λ (x : Continuation). rests_after x callers) (sym w.lead)) l);
         }
 
 -- ---- what is answered
@@ -107,7 +107,7 @@ said_stays : (library : Library) (depth tokens : ℕ) (said : List Event) (s : S
 unfolding run
 said_stays library depth zero said s t h = by (unended s.rests) h
   where
-    by : (rests : List (List ℕ)) → want rests (Finishes (record { events = said; left = s.registers.operands })) (λ bytes callers. Stops CFFError) ≡ Finishes t → (more : List Event) × (t.events ≡ said ++ more)
+    by : (rests : List (List ℕ)) → ended_or rests (Finishes (record { events = said; left = s.registers.operands })) (λ bytes callers. Stops CFFError) ≡ Finishes t → (more : List Event) × (t.events ≡ said ++ more)
     by [] e = let p : ◌≡◌ {A = Trace} (record { events = said; left = s.registers.operands }) t = cc in ([], sym (ap (λ (x : Trace). x.events) p) ∙ sym (append-nil said))
     by (bytes ∷ callers) e = absurd (cc)
 said_stays library depth (suc tokens) said s t h = by (λ now next e. said_stays library depth tokens now next t e) (unended s.rests) h
@@ -123,7 +123,7 @@ said_stays library depth (suc tokens) said s t h = by (λ now next e. said_stays
         (r.0, m.1 ∙ r.1)
     by_step later (Faults error) e = absurd (cc)
 
-    by : ((now : List Event) (next : State) → run library depth tokens now next ≡ Finishes t → (more : List Event) × (t.events ≡ now ++ more)) → (rests : List (List ℕ)) → want rests (Finishes (record { events = said; left = s.registers.operands })) (λ bytes callers. follow (move depth callers (act_at library bytes s.registers)) said (run library depth tokens)) ≡ Finishes t → (more : List Event) × (t.events ≡ said ++ more)
+    by : ((now : List Event) (next : State) → run library depth tokens now next ≡ Finishes t → (more : List Event) × (t.events ≡ now ++ more)) → (rests : List (List ℕ)) → ended_or rests (Finishes (record { events = said; left = s.registers.operands })) (λ bytes callers. follow (move depth callers (act_at library bytes s.registers)) said (run library depth tokens)) ≡ Finishes t → (more : List Event) × (t.events ≡ said ++ more)
     by later [] e = let p : ◌≡◌ {A = Trace} (record { events = said; left = s.registers.operands }) t = cc in ([], sym (ap (λ (x : Trace). x.events) p) ∙ sym (append-nil said))
     by later (bytes ∷ callers) e = by_step later (move depth callers (act_at library bytes s.registers)) e
 

@@ -18,7 +18,7 @@ use Rattle.subsetter_type2.specs.Runs.Behind.{ReachedBehind}
 use Rattle.subsetter_type2.specs.Flat.{flat_operands}
 use Rattle.subsetter_type2.specs.Runs.Output.{Written}
 use Rattle.subsetter_type2.specs.Runs.OutputView.{IsOutput, Holds, operands_offset, last_operand_offset, written_at}
-use Rattle.subsetter_type2.specs.Stretches.Stretch.{LeadsOn, Comes, Extends, registers_with}
+use Rattle.subsetter_type2.specs.Stretches.Stretch.{Advances, Comes, Extends, registers_with}
 use Rattle.subsetter_type2.specs.Token.{one_byte, one_byte_effect, effect_of}
 use Rattle.subsetter_type2.specs.View.{done, rests_of}
 use Rattle.subsetter_type2.specs.declared.stretches.stretch.Stretch.{Stretch}
@@ -63,7 +63,7 @@ middle_written first second low high small =
 
 -- ---- a token longer
 -- nothing is taken
-pub leads_nowhere : (charstring : List ℕ) (len tokens mask_len : ℕ) (w : Written) → len ≡ 0 → tokens ≡ 0 → LeadsOn charstring len tokens mask_len w w
+pub leads_nowhere : (charstring : List ℕ) (len tokens mask_len : ℕ) (w : Written) → len ≡ 0 → tokens ≡ 0 → Advances charstring len tokens mask_len w w
 leads_nowhere charstring len tokens mask_len w l t = rw (l, t)
     (λ front o library depth all left stems callers room e h.
     let same : all ≡ left = omega arith in
@@ -311,9 +311,9 @@ pub stretch_stands : (charstring : List ℕ) (mask_len : ℕ) (bytes all : List 
 stretch_stands charstring mask_len bytes all settled before after w s h a b p = rw (a, p, b) h.stands
 
 pub stretch_leads : (charstring : List ℕ) (mask_len : ℕ) (bytes all : List ℕ) (settled before after : ℕ) (w : Written) (s : Stretch) (h : Comes charstring mask_len bytes settled w s)
-    → all ≡ bytes ++ take s.len charstring → before ≡ length bytes → after ≡ operands_offset s.settled settled before → LeadsOn charstring s.len s.tokens mask_len w (written_at all after s.count)
+    → all ≡ bytes ++ take s.len charstring → before ≡ length bytes → after ≡ operands_offset s.settled settled before → Advances charstring s.len s.tokens mask_len w (written_at all after s.count)
 stretch_leads charstring mask_len bytes all settled before after w s h a b p =
-    subst (λ (x : Written). LeadsOn charstring s.len s.tokens mask_len w x) (sym (written_is all after s.count h.now (stretch_stands charstring mask_len bytes all settled before after w s h a b p))) h.leads
+    subst (λ (x : Written). Advances charstring s.len s.tokens mask_len w x) (sym (written_is all after s.count h.now (stretch_stands charstring mask_len bytes all settled before after w s h a b p))) h.leads
 
 pub stretch_holds : (charstring : List ℕ) (mask_len : ℕ) (bytes all : List ℕ) (settled before after last : ℕ) (w : Written) (s : Stretch) (h : Comes charstring mask_len bytes settled w s)
     → all ≡ bytes ++ take s.len charstring → before ≡ length bytes → after ≡ operands_offset s.settled settled before → last ≡ before + s.last → 1 ≤ s.tokens → Holds all after s.count last (written_at all after s.count)
@@ -343,7 +343,7 @@ rest_of : (charstring : List ℕ) (len : ℕ) → take (length charstring - len)
 rest_of charstring len = take_all (length charstring - len) (drop len charstring) (omega (arith, length-drop len charstring))
 
 pub behind_stretch : (front : List ℕ) (o : Outcome) (library : Library) (depth tokens stems mask_len : ℕ) (rests callers : List (List ℕ)) (charstring : List ℕ) (len n : ℕ) (w now : Written)
-    → ReachedBehind front o library depth tokens (record { rests = rests; registers = registers_with w stems mask_len }) w.settled → unended rests ≡ charstring ∷ callers → LeadsOn charstring len n mask_len w now → length callers < depth → n ≤ tokens
+    → ReachedBehind front o library depth tokens (record { rests = rests; registers = registers_with w stems mask_len }) w.settled → unended rests ≡ charstring ∷ callers → Advances charstring len n mask_len w now → length callers < depth → n ≤ tokens
     → ReachedBehind front o library depth (tokens - n) (record { rests = take (length charstring - len) (drop len charstring) ∷ callers; registers = registers_with now stems mask_len }) now.settled
 behind_stretch front o library depth tokens stems mask_len rests callers charstring len n w now h e leads room few =
     rw (rest_of charstring len)

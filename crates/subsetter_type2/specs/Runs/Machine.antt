@@ -34,17 +34,17 @@ pub record Event : Type 0 where
   pub operands : List CharStringNumber
   pub mask : List ℕ
 
--- where a token leads: on with the rest of its charstring, into a subroutine and then on with the rest,
+-- what runs next: on with the rest of its charstring, into a subroutine and then on with the rest,
 -- back to the caller, or to the end of the glyph
-pub data Lead : Type 0 where
-  On : (rest : List ℕ) → Lead
-  Into : (body rest : List ℕ) → Lead
-  Back : Lead
-  Over : Lead
+pub data Continuation : Type 0 where
+  On : (rest : List ℕ) → Continuation
+  Into : (body rest : List ℕ) → Continuation
+  Back : Continuation
+  Over : Continuation
 
--- what a token does: perhaps an event, new registers and where it leads; or a fault
+-- what a token does: perhaps an event, new registers and what runs next; or a fault
 pub data Act : Type 0 where
-  Does : (said : Option Event) (next : Registers) (lead : Lead) → Act
+  Does : (said : Option Event) (next : Registers) (lead : Continuation) → Act
   Fails : (error : Error) → Act
 
 -- the subroutine that this operand names; none where it names none, or an unreadable one
@@ -57,9 +57,9 @@ last_operand operands = slice_get operands (length operands - 1)
 abbrev pub but_last : List CharStringNumber → List CharStringNumber
 but_last operands = take (length operands - 1) operands
 
--- In what follows `rest` is what stands after the token in its charstring.
+-- In what follows `rest` is what is after the token in its charstring.
 
--- a number goes onto the stack, which holds 48
+-- a number is put onto the stack, which holds 48
 abbrev pub push : CharStringNumber → List ℕ → Registers → Act
 push number rest r =
     if nat_lt (length r.operands) 48
@@ -67,11 +67,11 @@ push number rest r =
     else Fails CFFError
 
 -- an operator that takes all operands, with its mask: an event
-abbrev pub emit : Operator → List ℕ → Lead → Registers → Act
+abbrev pub emit : Operator → List ℕ → Continuation → Registers → Act
 emit operator mask lead r =
     Does (Some (record { operator = operator; operands = r.operands; mask = mask })) (record r { operands = [] }) lead
 
--- the stems with those that the operands stand for, two for each
+-- the stems with those of the operands, two for each
 abbrev pub stems_after : Registers → ℕ
 stems_after r = r.stems + length r.operands / 2
 
@@ -143,7 +143,7 @@ unfoldable pub act_at : Library → List ℕ → Registers → Act
 act_at library bytes r = act_on library (token_of bytes) r
 
 -- what is left to run after a token, where the callers have these bytes left
-abbrev pub rests_after : Lead → List (List ℕ) → List (List ℕ)
+abbrev pub rests_after : Continuation → List (List ℕ) → List (List ℕ)
 rests_after (On rest) callers = rest ∷ callers
 rests_after (Into body rest) callers = body ∷ rest ∷ callers
 rests_after Back callers = callers
@@ -162,7 +162,7 @@ move depth callers (Does said next lead) =
     then Goes said (record { rests = rests_after lead callers; registers = next })
     else Faults CFFError
 
--- the end of a charstring goes back to its caller
+-- the end of a charstring returns to its caller
 abbrev pub unended : List (List ℕ) → List (List ℕ)
 unended [] = []
 unended ([] ∷ callers) = unended callers
@@ -181,22 +181,22 @@ abbrev pub with_event : List Event → Option Event → List Event
 with_event said None = said
 with_event said (Some event) = said ++ event ∷ []
 
--- goes on from a step
+-- continues from a step
 abbrev pub follow : Step → List Event → (List Event → State → Outcome) → Outcome
 follow (Goes event next) said go = go (with_event said event) next
 follow (Faults error) said go = Stops error
 
--- the run is over where nothing is left to run, and else it wants a token
-abbrev pub want : List (List ℕ) → Outcome → (List ℕ → List (List ℕ) → Outcome) → Outcome
-want [] over go = over
-want (bytes ∷ callers) over go = go bytes callers
+-- the run is over where nothing is left to run, and else it needs a token
+abbrev pub ended_or : List (List ℕ) → Outcome → (List ℕ → List (List ℕ) → Outcome) → Outcome
+ended_or [] over go = over
+ended_or (bytes ∷ callers) over go = go bytes callers
 
--- a run from a state in which these events have been said, with so many tokens at most
+-- a run from a state in which these events have come, with so many tokens at most
 unfoldable pub run : Library → ℕ → ℕ → List Event → State → Outcome
 run library depth zero said s =
-    want (unended s.rests) (Finishes (record { events = said; left = s.registers.operands })) (λ bytes callers. Stops CFFError)
+    ended_or (unended s.rests) (Finishes (record { events = said; left = s.registers.operands })) (λ bytes callers. Stops CFFError)
 run library depth (suc tokens) said s =
-    want (unended s.rests) (Finishes (record { events = said; left = s.registers.operands }))
+    ended_or (unended s.rests) (Finishes (record { events = said; left = s.registers.operands }))
     (λ bytes callers. follow (move depth callers (act_at library bytes s.registers)) said (run library depth tokens))
 
 abbrev pub start : List ℕ → State

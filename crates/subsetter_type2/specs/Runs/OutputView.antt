@@ -40,12 +40,12 @@ pub record Holds (bytes : List ℕ) (settled count last : ℕ) (w : Written) : T
   pub stands : IsOutput bytes settled count w
   pub known : 1 ≤ count → (last ≡ 0 → ⊥) → last ≡ last_operand_offset w
 
--- where the operands begin: behind the last operator of a stretch that stands behind so many bytes; 0 where it has none
+-- where the operands begin: behind the last operator of a stretch that is behind so many bytes; 0 where it has none
 abbrev pub operands_offset : ℕ → ℕ → ℕ → ℕ
 operands_offset zero settled before = settled
 operands_offset (suc end) settled before = before + suc end
 
--- the last of these numbers, and how many bytes stand before it
+-- the last of these numbers, and how many bytes are before it
 abbrev pub IsLast : List CharStringNumber → Option LastNumber → Type 0
 IsLast numbers result =
     MatchOption result (numbers ≡ [])

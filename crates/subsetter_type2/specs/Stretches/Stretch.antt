@@ -10,8 +10,8 @@ abbrev pub registers_with : Written → ℕ → ℕ → Registers
 registers_with w stems mask_len = record { operands = w.operands; stems = stems; mask_len = mask_len }
 
 -- each run that comes to this text comes behind so many bytes of it by so many tokens, and this is written then
-abbrev pub LeadsOn : List ℕ → ℕ → ℕ → ℕ → Written → Written → Type 0
-LeadsOn charstring len tokens mask_len w now =
+abbrev pub Advances : List ℕ → ℕ → ℕ → ℕ → Written → Written → Type 0
+Advances charstring len tokens mask_len w now =
     (front : List ℕ) (o : Outcome) (library : Library) (depth all left stems : ℕ) (callers : List (List ℕ))
     → length callers < depth → all ≡ tokens + left
     → ReachedBehind front o library depth all (record { rests = charstring ∷ callers; registers = registers_with w stems mask_len }) w.settled
@@ -24,11 +24,11 @@ pub record IsSound (s : Stretch) : Type 0 where
   pub ends : s.settled ≤ s.len
   pub last : s.last ≤ s.len
 
--- what is written behind a stretch whose bytes stand behind these, of which the operands begin at this place
+-- what is written behind a stretch whose bytes are behind these, of which the operands begin at this place
 pub record Comes (charstring : List ℕ) (mask_len : ℕ) (bytes : List ℕ) (settled : ℕ) (w : Written) (s : Stretch) : Type 0 where
   pub now : Written
   pub stands : IsOutput (bytes ++ take s.len charstring) (operands_offset s.settled settled (length bytes)) s.count now
-  pub leads : LeadsOn charstring s.len s.tokens mask_len w now
+  pub leads : Advances charstring s.len s.tokens mask_len w now
   pub last : 1 ≤ s.tokens → 1 ≤ s.count → length bytes + s.last ≡ last_operand_offset now
 
 -- a stretch that goes further

@@ -3,7 +3,7 @@
 ghost use Rattle.std.specs.Prelude.{◌≡◌, ◌∷◌, ◌<◌, ◌≤◌, [], length, OnOk, IfOk, IfErr};
 ghost use Rattle.subsetter_type2.specs.Runs.Machine.{unended, rests_after};
 ghost use Rattle.subsetter_type2.specs.View.{rests_of};
-ghost use Rattle.subsetter_type2.specs.Runs.MachineView.{library_of, lead_of};
+ghost use Rattle.subsetter_type2.specs.Runs.MachineView.{library_of, continuation_of};
 ghost use Rattle.subsetter_base.specs.Gives.{behind};
 ghost use Rattle.subsetter_type2.specs.Flat.{flat_form};
 ghost use Rattle.subsetter_base.specs.Within.{GivesWithin};
@@ -16,7 +16,7 @@ use crate::runs::machine::{Flow, Machine, Subroutines};
 use crate::runs::output::Output;
 use subsetter_base::error::Error;
 
-/// What runs after a token that leads there; nothing, where a charstring is at its end.
+/// What runs after a token of this flow; nothing, where a charstring is at its end.
 #[inline(always)]
 fn follow<'a, const N: usize>(
     rests: &mut FixedStack<&'a [u8], N>,
@@ -25,10 +25,10 @@ fn follow<'a, const N: usize>(
 ) -> Result<&'a [u8], Error>
     requires room { depth ≤ N }
     requires fits { length rests.old < depth }
-    ensures ok { IfOk result (λ running. unended (running.now ∷ rests_of rests.new) ≡ unended (rests_after (lead_of flow.entry) (rests_of rests.old))) }
-    ensures deep { OnOk result (length (rests_after (lead_of flow.entry) (rests_of rests.old)) ≤ depth) }
+    ensures ok { IfOk result (λ running. unended (running.now ∷ rests_of rests.new) ≡ unended (rests_after (continuation_of flow.entry) (rests_of rests.old))) }
+    ensures deep { OnOk result (length (rests_after (continuation_of flow.entry) (rests_of rests.old)) ≤ depth) }
     ensures room { OnOk result (length rests.new < depth) }
-    ensures err { IfErr result (λ e. (e ≡ CFFError) × (depth < length (rests_after (lead_of flow.entry) (rests_of rests.old)))) }
+    ensures err { IfErr result (λ e. (e ≡ CFFError) × (depth < length (rests_after (continuation_of flow.entry) (rests_of rests.old)))) }
 {
     match flow {
         Flow::GoesOn(rest) => Ok(rest),

@@ -7,7 +7,7 @@ ghost use Rattle.subsetter_type2.specs.Runs.OutputView.{AllFit, IsLast};
 
 use subsetter_cffdata::numerals::charstring_number::{CharStringNumber, read_number};
 
-/// What stands behind so many numbers.
+/// What is behind so many numbers.
 #[inline(always)]
 fn skip_numbers(bytes: &[u8], count: usize) -> Option<&[u8]>
     ensures inside { IfSome result (λ rest. length rest.now ≤ length bytes.now) }

@@ -1,4 +1,4 @@
-//! What a token does to the stack, the stems and the output, and where it leads (Technical Note 5177, section 4).
+//! What a token does to the stack, the stems and the output, and what runs next (Technical Note 5177, section 4).
 
 ghost use Rattle.std.specs.Prelude.{◌≡◌, ◌<◌, ◌≤◌, [], IfOk, IfErr};
 ghost use Rattle.std.specs.Option.{option_copied};
@@ -16,6 +16,9 @@ use subsetter_base::error::Error;
 use subsetter_cffdata::dicts::operator::{Operator, OperatorType, TWO_BYTE_OPERATOR_MARK};
 use subsetter_cffdata::numerals::charstring_number::{CharStringNumber, read_number};
 
+/// The most stems, whose number has 16 bits.
+pub const MAX_STEMS: usize = 65535;
+
 /// The subroutines that a charstring may call.
 #[derive(Drop)]
 pub struct Subroutines<'a> {
@@ -23,7 +26,7 @@ pub struct Subroutines<'a> {
     pub local: SubroutineHandler<'a>,
 }
 
-/// Where a token leads.
+/// What runs after a token.
 #[derive(Clone, Copy)]
 pub enum Flow<'a> {
     /// On in the same charstring, with this rest.
@@ -64,7 +67,7 @@ impl<'a, S: Sink<'a>> Machine<S> {
         }
     }
 
-    /// A number goes onto the stack.
+    /// A number is put onto the stack.
     #[inline(always)]
     fn push(&mut self, number: CharStringNumber, rest: &'a [u8]) -> Result<Flow<'a>, Error>
         requires { NumberFits number }
@@ -97,13 +100,13 @@ impl<'a, S: Sink<'a>> Machine<S> {
         Ok(Flow::Ends)
     }
 
-    /// The stems with those that the operands stand for.
+    /// The stems with those of the operands.
     fn stems_after(&self) -> Result<u16, Error>
         ensures ok { IfOk result (λ stems. (stems ≡ stems_after (registers_of S.written self.now)) × (stems ≤ 65535)) }
         ensures err { IfErr result (λ e. (e ≡ Error.CFFError) × (65535 < stems_after (registers_of S.written self.now))) }
     {
         let stems = self.stems as usize + self.output.count() / 2;
-        if stems > 65535 {
+        if stems > MAX_STEMS {
             return Err(Error::CFFError);
         }
         Ok(stems as u16)
@@ -147,7 +150,7 @@ impl<'a, S: Sink<'a>> Machine<S> {
         Ok(Flow::Calls(body, rest))
     }
 
-    /// An operator of this effect, with what stands after it in its charstring.
+    /// An operator of this effect, with what follows it in its charstring.
     fn operate(
         &mut self,
         subroutines: &Subroutines<'a>,
@@ -196,7 +199,7 @@ impl<'a, S: Sink<'a>> Machine<S> {
         self.push(read.number, read.rest)
     }
 
-    /// The token at the front of these bytes, which the first byte tells.
+    /// The token at the front of these bytes, by the first byte.
     #[tactic(auto, unfolding(crate::specs::Runs::Machine::act_at, crate::specs::Runs::Machine::push_at, crate::specs::Token::token_of, crate::specs::Token::effect_of))]
     fn act_on_any(
         &mut self,
@@ -221,7 +224,7 @@ impl<'a, S: Sink<'a>> Machine<S> {
         self.operate(subroutines, operator, one_byte_effect(*first), rest)
     }
 
-    /// The token at the front of these bytes. Calls and returns, which are frequent, are told first.
+    /// The token at the front of these bytes. Calls and returns, which are frequent, come first.
     #[inline(always)]
     #[tactic(auto, unfolding(crate::specs::Runs::Machine::act_at, crate::specs::Token::token_of))]
     pub fn act_at(

@@ -8,7 +8,7 @@ ghost use Rattle.subsetter_base.specs.declared.error.Error.TheVariants.{OutOfMem
 ghost use Rattle.subsetter_cffdata.specs.Views.{operator_of};
 ghost use Rattle.subsetter_type2.specs.Flat.{flat_operands};
 ghost use Rattle.subsetter_type2.specs.Runs.OutputView.{last_operand_offset};
-ghost use Rattle.subsetter_type2.specs.Stretches.Stretch.{LeadsOn};
+ghost use Rattle.subsetter_type2.specs.Stretches.Stretch.{Advances};
 
 use crate::runs::last_number::find_last_number;
 use crate::runs::sink::Sink;
@@ -19,7 +19,7 @@ use subsetter_base::error::Error;
 use subsetter_cffdata::dicts::operator::{Operator, OperatorType};
 use subsetter_cffdata::numerals::charstring_number::{CharStringNumber, read_number};
 
-/// The output, whose end is the operands on the stack: they are read there where they are wanted.
+/// The output, whose end is the operands on the stack: they are read there where they are needed.
 #[derive(Drop)]
 pub struct Output {
     bytes: Vec<u8>,
@@ -115,7 +115,7 @@ impl Output {
         tokens: u32,
         mask_len: u16,
     ) -> Result<Stretch, Error>
-        ensures leads { IfOk result (λ s. LeadsOn charstring.now s.len s.tokens mask_len self.old self.new) }
+        ensures leads { IfOk result (λ s. Advances charstring.now s.len s.tokens mask_len self.old self.new) }
         ensures moves { IfOk result (λ s. s.tokens ≡ 0 → s.len ≡ 0) }
         ensures inside { IfOk result (λ s. s.len ≤ length charstring.now) }
         ensures few { IfOk result (λ s. s.tokens ≤ tokens) }

@@ -22,7 +22,7 @@ pub trait Sink<'a> {
     fn count(&self) -> usize
         ensures { result ≡ length (written self.now).operands };
 
-    /// A number, which goes onto the stack.
+    /// A number, which is put onto the stack.
     fn push(&mut self, value: CharStringNumber) -> Result<(), Error>
         requires room { length (written self.old).operands < 48 }
         requires fits { NumberFits value }

@@ -7,6 +7,13 @@ ghost use Rattle.subsetter_type2.specs.declared.token.Effect.TheVariants.{Masks}
 
 use crate::operators::first_byte;
 
+/// The least first byte of a number of two bytes.
+const TWO_BYTE_NUMBERS: u8 = 247;
+/// The least whole number of three bytes above 0, and the greatest below 0, as 16 bits.
+const LEAST_LONG: u16 = 1132;
+
+const GREATEST_LONG: u16 = 64404;
+
 /// Whether such a token begins with this byte: a number of one or two bytes, or an operator that takes all operands.
 static PLAIN: [bool; 256] = [
     false, false, false, false, true, true, true, true, true, false, false, false, false, false,
@@ -43,7 +50,7 @@ pub fn plain_size(first: u8) -> usize
     ensures few { result ≤ 2 }
     ensures some { 1 ≤ result }
 {
-    1 + (first >= 247) as usize
+    1 + (first >= TWO_BYTE_NUMBERS) as usize
 }
 
 /// The whole number of these two bytes has no form of one or two bytes.
@@ -52,7 +59,7 @@ pub fn is_shortest(high: u8, low: u8) -> bool
     ensures { MatchBool result ((1132 ≤ high * 256 + low) × (high * 256 + low ≤ 64404)) (Unit {0}) }
 {
     let bits = high as u16 * 256 + low as u16;
-    bits >= 1132 && bits <= 64404
+    bits >= LEAST_LONG && bits <= GREATEST_LONG
 }
 
 /// The operator of this byte has a mask.

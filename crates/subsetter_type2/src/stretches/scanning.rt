@@ -1,7 +1,7 @@
 //! The stretch at the front of a charstring.
 //!
-//! Numbers in their shortest form, operators that take all operands, and masks whose length is known stand in the flat
-//! form as they are in the source. So a stretch of them is appended at once, and all else goes token by token. A
+//! Numbers in their shortest form, operators that take all operands, and masks whose length is known are in the flat
+//! form as they are in the source. So a stretch of them is appended at once, and all else token by token. A
 //! stretch has at most as many bytes as tokens are left, so its tokens needn't be counted down one by one.
 
 ghost use Rattle.std.specs.Prelude.{◌≡◌, ◌≤◌, ◌<◌, length, IfSome, ℕ, List};
@@ -68,7 +68,7 @@ fn longer_by_mask(
     Some(stretch.with_operator(stretch.len + 1 + size))
 }
 
-/// One token longer, where a token follows that may stand in a stretch, though few of its kind do.
+/// One token longer, where a token follows that may be in a stretch, though few of its kind are.
 #[inline(always)]
 fn longer_by_rare(
     stretch: Stretch,
@@ -87,7 +87,7 @@ fn longer_by_rare(
     longer_by_mask(stretch, charstring, most, mask_len)
 }
 
-/// One token longer, where a token follows that may stand in a stretch.
+/// One token longer, where a token follows that may be in a stretch.
 #[inline(always)]
 fn longer(stretch: Stretch, charstring: &[u8], most: usize, mask_len: u16) -> Option<Stretch>
     requires most { most ≤ length charstring.now }

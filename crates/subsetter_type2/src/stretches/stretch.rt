@@ -1,9 +1,9 @@
-//! How far a stretch of a charstring goes.
+//! How long a stretch of a charstring is.
 
 ghost use Rattle.std.specs.Prelude.{◌≡◌, ◌≤◌, ◌<◌, ◌+◌, if◌then◌else◌};
 ghost use Rattle.subsetter_type2.specs.Runs.OutputView.{operands_offset};
 
-/// How far a stretch goes.
+/// How long a stretch is.
 #[derive(Clone, Copy)]
 pub struct Stretch {
     /// How many bytes it has.

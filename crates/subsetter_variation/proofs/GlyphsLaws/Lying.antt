@@ -6,7 +6,7 @@ use Rattle.std.proofs.lemmas.Int.{by_lt_z, ints}
 use Rattle.subsetter_variation.specs.declared.glyphs.inference.Touched.{Touched}
 use Rattle.subsetter_variation.specs.Nearest.{nearest}
 use Rattle.subsetter_variation.specs.Glyphs.Inferred.{between, between_ordered, interpolated}
-use Rattle.subsetter_variation.specs.Glyphs.Moves.{IsBetween, LiesBetween}
+use Rattle.subsetter_variation.specs.Glyphs.Moves.{IsBetween, IsBetweenNeighbours}
 use Rattle.subsetter_variation.proofs.LocationsLaws.Bounds.{unequal}
 use Rattle.subsetter_variation.proofs.Quotients.{above_within, half_within}
 
@@ -129,6 +129,6 @@ either : (x : ℤ) (one other : Touched) (s : ℤ) (b : Bool) → int_eq one.at 
 either x one other s true e f = ordered_between x one other s e
 either x one other s false e f = swapped (between_ordered x other one s) (s *ℤ other.delta) (s *ℤ one.delta) (ordered_between x other one s f)
 
-pub lies_between : LiesBetween
+pub lies_between : IsBetweenNeighbours
 unfolding between
 lies_between x one other s h = either x one other s (int_le one.at other.at) (unequal one.at other.at h) (unequal other.at one.at (λ e. h (sym e)))

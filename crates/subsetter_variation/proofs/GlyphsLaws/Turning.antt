@@ -10,7 +10,7 @@ use Rattle.subsetter_variation.specs.declared.glyphs.inference.Point.{Point}
 use Rattle.subsetter_variation.specs.declared.glyphs.inference.Touched.{Touched}
 use Rattle.subsetter_variation.specs.Nearest.{nearest}
 use Rattle.subsetter_variation.specs.Glyphs.Inferred.{after, before, between, between_ordered, delta_or, first_touched, inferred, interpolated, last_touched, moved, moved_at, touched}
-use Rattle.subsetter_variation.specs.Glyphs.Moves.{IsOnly, IsShift, IsStill, IsTurned, turned}
+use Rattle.subsetter_variation.specs.Glyphs.Moves.{IsOnly, IsShift, IsZeroAtScalarZero, IsRotated, rotated}
 use Rattle.subsetter_variation.proofs.Quotients.{half_within}
 use Rattle.subsetter_variation.proofs.GlyphsLaws.Walk.{first_touched-drop, or_assoc, or_none}
 
@@ -28,14 +28,14 @@ or_again : (a b : Option Touched) → option_or a (option_or b a) ≡ option_or 
 or_again None b = or_none b
 or_again (Some x) b = refl
 
-before_turned : (c : List Point) (k : ℕ) → before c k ≡ last_touched (turned c k)
+before_turned : (c : List Point) (k : ℕ) → before c k ≡ last_touched (rotated c k)
 before_turned c k =
     ap (λ xs. option_or (last_touched (take k c)) (last_touched xs)) (sym (take-append-drop k c))
     ∙ ap (λ o. option_or (last_touched (take k c)) o) (last_touched-append (take k c) (drop k c))
     ∙ or_again (last_touched (take k c)) (last_touched (drop k c))
     ∙ sym (last_touched-append (drop k c) (take k c))
 
-after_turned : (c : List Point) (k : ℕ) → first_touched (drop k c) ≡ first_touched (drop (k + 1) c) → after c k ≡ first_touched (turned c k)
+after_turned : (c : List Point) (k : ℕ) → first_touched (drop k c) ≡ first_touched (drop (k + 1) c) → after c k ≡ first_touched (rotated c k)
 after_turned c k e =
     ap (λ o. option_or o (first_touched c)) (sym e)
     ∙ ap (λ xs. option_or (first_touched (drop k c)) (first_touched xs)) (sym (take-append-drop k c))
@@ -43,7 +43,7 @@ after_turned c k e =
     ∙ or_again (first_touched (drop k c)) (first_touched (take k c))
     ∙ sym (first_touched-append (drop k c) (take k c))
 
-pub is_turned : IsTurned
+pub is_turned : IsRotated
 unfolding moved
 is_turned c k p s e n =
     let g = get_or_from_slice_get c k p p e in
@@ -51,7 +51,7 @@ is_turned c k p s e n =
     ap (λ o. moved_at o (before c k) (after c k) s) e
     ∙ ap (λ d. delta_or d p.at (before c k) (after c k) s) n
     ∙ ap (λ o. inferred p.at o (after c k) s) (before_turned c k)
-    ∙ ap (λ o. inferred p.at (last_touched (turned c k)) o s) (after_turned c k f)
+    ∙ ap (λ o. inferred p.at (last_touched (rotated c k)) o s) (after_turned c k f)
 
 -- ---- the scalar 0
 
@@ -92,7 +92,7 @@ moved_at_still : (o : Option Point) (one other : Option Touched) → moved_at o 
 moved_at_still None one other = refl
 moved_at_still (Some p) one other = delta_or_still p.delta p.at one other
 
-pub is_still : IsStill
+pub is_still : IsZeroAtScalarZero
 unfolding moved
 is_still c k = moved_at_still (slice_get c k) (before c k) (after c k)
 

@@ -4,7 +4,7 @@ use Rattle.std.proofs.lemmas.Int.{ints}
 use Rattle.std.proofs.Math.Nat.{div-lt_iff_lt-mul}
 use lib.Signed.{◌<ℤ◌, ◌≤ℤ◌}
 use Rattle.subsetter_variation.specs.Locations.Axes.{above_default, below_default, default_normalized, toward}
-use Rattle.subsetter_variation.specs.Nearest.{nearest, part}
+use Rattle.subsetter_variation.specs.Nearest.{nearest, mul_div_nearest}
 use Rattle.subsetter_variation.specs.Locations.LocationLaws.{NeverDescends}
 use Rattle.subsetter_variation.specs.declared.locations.axes.Axis.{Axis}
 use Rattle.subsetter_variation.proofs.Quotients.{part_within}
@@ -37,11 +37,11 @@ times_up : (x y : ℤ) → x ≤ℤ y → (x *ℤ pos 65536) ≤ℤ (y *ℤ pos 
 times_up x y h = omega (arith, ints)
 
 toward_up : (end default c d : ℤ) → 0 < unsigned_abs (end -ℤ default) → c ≤ℤ d → toward end default c ≤ℤ toward end default d
-unfolding toward part
+unfolding toward mul_div_nearest
 toward_up end default c d apart h = nearest_up ((c -ℤ default) *ℤ pos 65536) ((d -ℤ default) *ℤ pos 65536) (unsigned_abs (end -ℤ default)) apart (times_up (c -ℤ default) (d -ℤ default) (omega (arith, ints)))
 
 toward_default : (end default c : ℤ) → c ≡ default → toward end default c ≡ pos 0
-unfolding toward part
+unfolding toward mul_div_nearest
 toward_default end default c h = nearest_zero ((c -ℤ default) *ℤ pos 65536) (unsigned_abs (end -ℤ default)) (omega (arith, ints))
 
 pub toward_within : (end default c : ℤ) → 0 < unsigned_abs (end -ℤ default) → unsigned_abs (c -ℤ default) ≤ unsigned_abs (end -ℤ default) → unsigned_abs (toward end default c) ≤ 65536

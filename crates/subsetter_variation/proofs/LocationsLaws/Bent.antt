@@ -6,9 +6,9 @@ use Rattle.std.proofs.lemmas.Int.{ints}
 use lib.Signed.{◌<ℤ◌, ◌≤ℤ◌}
 use Rattle.subsetter_variation.specs.Locations.Axes.{above_default, below_default, default_normalized, toward, user_coordinate}
 use Rattle.subsetter_variation.specs.Locations.Coordinates.{coordinate}
-use Rattle.subsetter_variation.specs.Nearest.{part}
+use Rattle.subsetter_variation.specs.Nearest.{mul_div_nearest}
 use Rattle.subsetter_variation.specs.Locations.LocationLaws.{NeverDescendsBent}
-use Rattle.subsetter_variation.specs.Locations.Segments.{ascends, ascends_from, by_segments, fine, follows, is_on, is_segment_map, keeps, mapped, mapped_from, on_segment, passed}
+use Rattle.subsetter_variation.specs.Locations.Segments.{ascends, ascends_from, by_segments, f2dot14_to_fixed, follows, is_on, is_segment_map, keeps, mapped, mapped_from, on_segment, interpolated}
 use Rattle.subsetter_variation.specs.declared.locations.axes.Axis.{Axis}
 use Rattle.subsetter_variation.specs.declared.locations.segments.AxisValueMap.{AxisValueMap}
 use Rattle.subsetter_variation.proofs.LocationsLaws.Ascent.{apart_is, apart_too, closer_above, closer_below, le_false, le_true, lt_false, lt_true, nearest_up, never_descends, through, toward_within}
@@ -24,43 +24,43 @@ times_up (pos a) (negsuc b) w low h up = absurd (omega (arith, ints))
 times_up (pos a) (pos b) (negsuc k) low h up = absurd (omega (arith, ints))
 
 module _ (p q : AxisValueMap) (from : p.from <ℤ q.from) (to : p.to ≤ℤ q.to) where
-  apart : 0 < unsigned_abs (fine q.from -ℤ fine p.from)
+  apart : 0 < unsigned_abs (f2dot14_to_fixed q.from -ℤ f2dot14_to_fixed p.from)
   apart = grind (arith, ints)
 
-  rise : pos 0 ≤ℤ (fine q.to -ℤ fine p.to)
+  rise : pos 0 ≤ℤ (f2dot14_to_fixed q.to -ℤ f2dot14_to_fixed p.to)
   rise = omega (arith, ints)
 
-  segment_up : (m n : ℤ) → fine p.from ≤ℤ m → m ≤ℤ n → on_segment p q m ≤ℤ on_segment p q n
-  unfolding on_segment passed part
+  segment_up : (m n : ℤ) → f2dot14_to_fixed p.from ≤ℤ m → m ≤ℤ n → on_segment p q m ≤ℤ on_segment p q n
+  unfolding on_segment interpolated mul_div_nearest
   segment_up m n low h =
-      let w = fine q.to -ℤ fine p.to in
-      let x = m -ℤ fine p.from in
-      let y = n -ℤ fine p.from in
-      let up = nearest_up (x *ℤ w) (y *ℤ w) (unsigned_abs (fine q.from -ℤ fine p.from)) apart (times_up x y w (omega (arith, ints)) (omega (arith, ints)) rise) in
+      let w = f2dot14_to_fixed q.to -ℤ f2dot14_to_fixed p.to in
+      let x = m -ℤ f2dot14_to_fixed p.from in
+      let y = n -ℤ f2dot14_to_fixed p.from in
+      let up = nearest_up (x *ℤ w) (y *ℤ w) (unsigned_abs (f2dot14_to_fixed q.from -ℤ f2dot14_to_fixed p.from)) apart (times_up x y w (omega (arith, ints)) (omega (arith, ints)) rise) in
       omega (arith, ints)
 
-  segment_low : (n : ℤ) → fine p.from ≤ℤ n → fine p.to ≤ℤ on_segment p q n
-  unfolding on_segment passed
+  segment_low : (n : ℤ) → f2dot14_to_fixed p.from ≤ℤ n → f2dot14_to_fixed p.to ≤ℤ on_segment p q n
+  unfolding on_segment interpolated
   segment_low n low =
-      let w = fine q.to -ℤ fine p.to in
-      let x = n -ℤ fine p.from in
-      let b = unsigned_abs (fine q.from -ℤ fine p.from) in
-      let least = is_not_negative (part x b w) x w b refl (omega (arith, ints)) rise in
+      let w = f2dot14_to_fixed q.to -ℤ f2dot14_to_fixed p.to in
+      let x = n -ℤ f2dot14_to_fixed p.from in
+      let b = unsigned_abs (f2dot14_to_fixed q.from -ℤ f2dot14_to_fixed p.from) in
+      let least = is_not_negative (mul_div_nearest x b w) x w b refl (omega (arith, ints)) rise in
       omega (arith, ints)
 
-  not_wider : (n : ℤ) → fine p.from ≤ℤ n → n <ℤ fine q.from → unsigned_abs (n -ℤ fine p.from) ≤ unsigned_abs (fine q.from -ℤ fine p.from)
+  not_wider : (n : ℤ) → f2dot14_to_fixed p.from ≤ℤ n → n <ℤ f2dot14_to_fixed q.from → unsigned_abs (n -ℤ f2dot14_to_fixed p.from) ≤ unsigned_abs (f2dot14_to_fixed q.from -ℤ f2dot14_to_fixed p.from)
   not_wider n low high = grind (arith, ints)
 
   no_more : (z w v : ℤ) → unsigned_abs z ≤ unsigned_abs (w -ℤ v) → v ≤ℤ w → (v +ℤ z) ≤ℤ w
   no_more z w v h le = grind (arith, ints)
 
-  segment_high : (n : ℤ) → fine p.from ≤ℤ n → n <ℤ fine q.from → on_segment p q n ≤ℤ fine q.to
-  unfolding on_segment passed
+  segment_high : (n : ℤ) → f2dot14_to_fixed p.from ≤ℤ n → n <ℤ f2dot14_to_fixed q.from → on_segment p q n ≤ℤ f2dot14_to_fixed q.to
+  unfolding on_segment interpolated
   segment_high n low high =
-      let w = fine q.to -ℤ fine p.to in
-      let x = n -ℤ fine p.from in
-      let b = unsigned_abs (fine q.from -ℤ fine p.from) in
-      no_more (part x b w) (fine q.to) (fine p.to) (part_within x w b apart (not_wider n low high)) (fine_le p.to q.to to)
+      let w = f2dot14_to_fixed q.to -ℤ f2dot14_to_fixed p.to in
+      let x = n -ℤ f2dot14_to_fixed p.from in
+      let b = unsigned_abs (f2dot14_to_fixed q.from -ℤ f2dot14_to_fixed p.from) in
+      no_more (mul_div_nearest x b w) (f2dot14_to_fixed q.to) (f2dot14_to_fixed p.to) (part_within x w b apart (not_wider n low high)) (fine_le p.to q.to to)
 
 -- ---- by segments
 
@@ -69,14 +69,14 @@ behind : (a b : Bool) → (a && b) ≡ false → a ≡ true → b ≡ false
 behind true b h k = h
 behind false b h k = absurd cc
 
-behind_first : (p q : AxisValueMap) (n : ℤ) → is_on p q n ≡ false → fine p.from ≤ℤ n → fine q.from ≤ℤ n
-behind_first p q n off low = lt_false n (fine q.from) (behind (int_le (fine p.from) n) (int_lt n (fine q.from)) off (grind (arith, ints)))
+behind_first : (p q : AxisValueMap) (n : ℤ) → is_on p q n ≡ false → f2dot14_to_fixed p.from ≤ℤ n → f2dot14_to_fixed q.from ≤ℤ n
+behind_first p q n off low = lt_false n (f2dot14_to_fixed q.from) (behind (int_le (f2dot14_to_fixed p.from) n) (int_lt n (f2dot14_to_fixed q.from)) off (grind (arith, ints)))
 
-before_second : (p q : AxisValueMap) (n : ℤ) → is_on p q n ≡ true → n <ℤ fine q.from
-before_second p q n on = lt_true n (fine q.from) (both_of (int_le (fine p.from) n) (int_lt n (fine q.from)) on).1
+before_second : (p q : AxisValueMap) (n : ℤ) → is_on p q n ≡ true → n <ℤ f2dot14_to_fixed q.from
+before_second p q n on = lt_true n (f2dot14_to_fixed q.from) (both_of (int_le (f2dot14_to_fixed p.from) n) (int_lt n (f2dot14_to_fixed q.from)) on).1
 
 -- a greatest number that is kept, and that no number passes, is kept by an end further on
-kept_behind : (p q : AxisValueMap) (ends : List AxisValueMap) (n : ℤ) → keeps (pos 16384) (p ∷ q ∷ ends) ≡ true → p.from <ℤ q.from → fine q.from ≤ℤ n → n ≤ℤ pos 65536 → keeps (pos 16384) (q ∷ ends) ≡ true
+kept_behind : (p q : AxisValueMap) (ends : List AxisValueMap) (n : ℤ) → keeps (pos 16384) (p ∷ q ∷ ends) ≡ true → p.from <ℤ q.from → f2dot14_to_fixed q.from ≤ℤ n → n ≤ℤ pos 65536 → keeps (pos 16384) (q ∷ ends) ≡ true
 kept_behind p q ends n h from low high = either (int_eq p.from (pos 16384) && int_eq p.to (pos 16384)) (keeps (pos 16384) (q ∷ ends)) h (λ k. let same : p.from ≡ pos 16384 = (Decides-int_eq p.from (pos 16384)).0 (both_of (int_eq p.from (pos 16384)) (int_eq p.to (pos 16384)) k).0 in absurd (omega (arith, ints))) (λ k. k)
 
 record Follows (p q : AxisValueMap) (ends : List AxisValueMap) : Type 0 where
@@ -90,7 +90,7 @@ follow p q ends up =
     let b = both_of (int_lt p.from q.from) (int_le p.to q.to) a.0 in
     record { from = lt_true p.from q.from b.0; to = le_true p.to q.to b.1; up = a.1 }
 
-low_from : (p : AxisValueMap) (ends : List AxisValueMap) (n : ℤ) → ascends_from p ends ≡ true → keeps (pos 16384) (p ∷ ends) ≡ true → fine p.from ≤ℤ n → n ≤ℤ pos 65536 → fine p.to ≤ℤ mapped_from p ends n
+low_from : (p : AxisValueMap) (ends : List AxisValueMap) (n : ℤ) → ascends_from p ends ≡ true → keeps (pos 16384) (p ∷ ends) ≡ true → f2dot14_to_fixed p.from ≤ℤ n → n ≤ℤ pos 65536 → f2dot14_to_fixed p.to ≤ℤ mapped_from p ends n
 low_from p [] n up h low high =
     either (int_eq p.from (pos 16384) && int_eq p.to (pos 16384)) false h
     (λ k.
@@ -101,30 +101,30 @@ low_from p [] n up h low high =
     (λ k. absurd cc)
 low_from p (q ∷ ends) n up h low high = by (λ u k l. low_from q ends n u k l high) (is_on p q n) refl
   where
-    by : (ascends_from q ends ≡ true → keeps (pos 16384) (q ∷ ends) ≡ true → fine q.from ≤ℤ n → fine q.to ≤ℤ mapped_from q ends n) → (b : Bool) → is_on p q n ≡ b → fine p.to ≤ℤ cond b (on_segment p q n) (mapped_from q ends n)
+    by : (ascends_from q ends ≡ true → keeps (pos 16384) (q ∷ ends) ≡ true → f2dot14_to_fixed q.from ≤ℤ n → f2dot14_to_fixed q.to ≤ℤ mapped_from q ends n) → (b : Bool) → is_on p q n ≡ b → f2dot14_to_fixed p.to ≤ℤ cond b (on_segment p q n) (mapped_from q ends n)
     by later true on = let f = follow p q ends up in segment_low p q f.from f.to n low
     by later false off =
         let f = follow p q ends up in
         let l = behind_first p q n off low in
-        through (fine p.to) (fine q.to) (mapped_from q ends n) (fine_le p.to q.to f.to) (later f.up (kept_behind p q ends n h f.from l high) l)
+        through (f2dot14_to_fixed p.to) (f2dot14_to_fixed q.to) (mapped_from q ends n) (fine_le p.to q.to f.to) (later f.up (kept_behind p q ends n h f.from l high) l)
 
-up_from : (p : AxisValueMap) (ends : List AxisValueMap) (m n : ℤ) → ascends_from p ends ≡ true → keeps (pos 16384) (p ∷ ends) ≡ true → fine p.from ≤ℤ m → m ≤ℤ n → n ≤ℤ pos 65536 → mapped_from p ends m ≤ℤ mapped_from p ends n
+up_from : (p : AxisValueMap) (ends : List AxisValueMap) (m n : ℤ) → ascends_from p ends ≡ true → keeps (pos 16384) (p ∷ ends) ≡ true → f2dot14_to_fixed p.from ≤ℤ m → m ≤ℤ n → n ≤ℤ pos 65536 → mapped_from p ends m ≤ℤ mapped_from p ends n
 up_from p [] m n up h low le high = le
 up_from p (q ∷ ends) m n up h low le high = by (λ u k l. up_from q ends m n u k l le high) (is_on p q m) (is_on p q n) refl refl
   where
     f : Follows p q ends
     f = follow p q ends up
 
-    by : (ascends_from q ends ≡ true → keeps (pos 16384) (q ∷ ends) ≡ true → fine q.from ≤ℤ m → mapped_from q ends m ≤ℤ mapped_from q ends n) → (a b : Bool) → is_on p q m ≡ a → is_on p q n ≡ b
+    by : (ascends_from q ends ≡ true → keeps (pos 16384) (q ∷ ends) ≡ true → f2dot14_to_fixed q.from ≤ℤ m → mapped_from q ends m ≤ℤ mapped_from q ends n) → (a b : Bool) → is_on p q m ≡ a → is_on p q n ≡ b
         → cond a (on_segment p q m) (mapped_from q ends m) ≤ℤ cond b (on_segment p q n) (mapped_from q ends n)
     by later true true x y = segment_up p q f.from f.to m n low le
     by later true false x y =
-        let l = behind_first p q n y (through (fine p.from) m n low le) in
-        through (on_segment p q m) (fine q.to) (mapped_from q ends n) (segment_high p q f.from f.to m low (before_second p q m x)) (low_from q ends n f.up (kept_behind p q ends n h f.from l high) l high)
+        let l = behind_first p q n y (through (f2dot14_to_fixed p.from) m n low le) in
+        through (on_segment p q m) (f2dot14_to_fixed q.to) (mapped_from q ends n) (segment_high p q f.from f.to m low (before_second p q m x)) (low_from q ends n f.up (kept_behind p q ends n h f.from l high) l high)
     by later false true x y = let l = behind_first p q m x low in let g = before_second p q n y in absurd (omega (arith, ints))
     by later false false x y =
         let l = behind_first p q m x low in
-        later f.up (kept_behind p q ends n h f.from (through (fine q.from) m n l le) high) l
+        later f.up (kept_behind p q ends n h f.from (through (f2dot14_to_fixed q.from) m n l le) high) l
 
 segments_up : (ends : List AxisValueMap) (m n : ℤ) → is_segment_map ends ≡ true → neg_ℤ (pos 65536) ≤ℤ m → m ≤ℤ n → n ≤ℤ pos 65536 → by_segments ends m ≤ℤ by_segments ends n
 segments_up [] m n h low le high = le

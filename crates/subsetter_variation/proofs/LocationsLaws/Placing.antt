@@ -7,9 +7,9 @@ use lib.Signed.{◌<ℤ◌, ◌≤ℤ◌}
 use Rattle.std.proofs.Math.IntN.{zero-*ℤ}
 use Rattle.subsetter_variation.specs.Locations.Axes.{default_normalized, user_coordinate}
 use Rattle.subsetter_variation.specs.Locations.Coordinates.{coordinate}
-use Rattle.subsetter_variation.specs.Nearest.{nearest, part}
-use Rattle.subsetter_variation.specs.Locations.Segments.{ascends, ascends_from, by_segments, fine, follows, is_on, is_segment_map, keeps, mapped, mapped_from, on_segment, passed}
-use Rattle.subsetter_variation.specs.Locations.LocationLaws.{IsDefaultAtZero, IsGreatestAtOne, IsKept, IsLeastAtMinusOne}
+use Rattle.subsetter_variation.specs.Nearest.{nearest, mul_div_nearest}
+use Rattle.subsetter_variation.specs.Locations.Segments.{ascends, ascends_from, by_segments, f2dot14_to_fixed, follows, is_on, is_segment_map, keeps, mapped, mapped_from, on_segment, interpolated}
+use Rattle.subsetter_variation.specs.Locations.LocationLaws.{IsDefaultAtZero, IsGreatestAtOne, IsMappedToItself, IsLeastAtMinusOne}
 use Rattle.subsetter_variation.specs.declared.locations.axes.Axis.{Axis}
 use Rattle.subsetter_variation.specs.declared.locations.segments.AxisValueMap.{AxisValueMap}
 use Rattle.subsetter_variation.proofs.GlyphsLaws.Turning.{nearest_zero}
@@ -38,10 +38,10 @@ le_is x y h = grind (arith, ints)
 le_not : (x y : ℤ) → y <ℤ x → int_le x y ≡ false
 le_not x y h = grind (arith, ints)
 
-pub fine_lt : (x y : ℤ) → x <ℤ y → fine x <ℤ fine y
+pub fine_lt : (x y : ℤ) → x <ℤ y → f2dot14_to_fixed x <ℤ f2dot14_to_fixed y
 fine_lt x y h = omega (arith, ints)
 
-pub fine_le : (x y : ℤ) → x ≤ℤ y → fine x ≤ℤ fine y
+pub fine_le : (x y : ℤ) → x ≤ℤ y → f2dot14_to_fixed x ≤ℤ f2dot14_to_fixed y
 fine_le x y h = omega (arith, ints)
 
 -- ---- segments
@@ -63,35 +63,35 @@ at_least z p (q ∷ rest) up h =
     either (int_eq p.from z && int_eq p.to z) (keeps z (q ∷ rest)) h (at_itself z p) (λ k. let d : q.from ≤ℤ z = at_least z q rest a.1 k in omega (arith, ints))
 
 -- at the first end of a segment the new number is that end's
-on_first : (p q : AxisValueMap) (n : ℤ) → fine p.from ≡ n → on_segment p q n ≡ fine p.to
-unfolding on_segment passed part
+on_first : (p q : AxisValueMap) (n : ℤ) → f2dot14_to_fixed p.from ≡ n → on_segment p q n ≡ f2dot14_to_fixed p.to
+unfolding on_segment interpolated mul_div_nearest
 on_first p q n h =
-    let none : n -ℤ fine p.from ≡ pos 0 = omega (arith, ints) in
-    let whole = fine q.to -ℤ fine p.to in
-    let rest : nearest ((n -ℤ fine p.from) *ℤ whole) (unsigned_abs (fine q.from -ℤ fine p.from)) ≡ pos 0 = nearest_zero ((n -ℤ fine p.from) *ℤ whole) (unsigned_abs (fine q.from -ℤ fine p.from)) (ap (λ z. z *ℤ whole) none ∙ zero-*ℤ whole) in
+    let none : n -ℤ f2dot14_to_fixed p.from ≡ pos 0 = omega (arith, ints) in
+    let whole = f2dot14_to_fixed q.to -ℤ f2dot14_to_fixed p.to in
+    let rest : nearest ((n -ℤ f2dot14_to_fixed p.from) *ℤ whole) (unsigned_abs (f2dot14_to_fixed q.from -ℤ f2dot14_to_fixed p.from)) ≡ pos 0 = nearest_zero ((n -ℤ f2dot14_to_fixed p.from) *ℤ whole) (unsigned_abs (f2dot14_to_fixed q.from -ℤ f2dot14_to_fixed p.from)) (ap (λ z. z *ℤ whole) none ∙ zero-*ℤ whole) in
     omega (arith, ints, rest)
 
-on_true : (p q : AxisValueMap) (ends : List AxisValueMap) (z : ℤ) → is_on p q (fine z) ≡ true → p.from ≡ z → p.to ≡ z → mapped_from p (q ∷ ends) (fine z) ≡ fine z
-on_true p q ends z on e f = ap (λ b. cond b (on_segment p q (fine z)) (mapped_from q ends (fine z))) on ∙ on_first p q (fine z) (ap fine e) ∙ ap fine f
+on_true : (p q : AxisValueMap) (ends : List AxisValueMap) (z : ℤ) → is_on p q (f2dot14_to_fixed z) ≡ true → p.from ≡ z → p.to ≡ z → mapped_from p (q ∷ ends) (f2dot14_to_fixed z) ≡ f2dot14_to_fixed z
+on_true p q ends z on e f = ap (λ b. cond b (on_segment p q (f2dot14_to_fixed z)) (mapped_from q ends (f2dot14_to_fixed z))) on ∙ on_first p q (f2dot14_to_fixed z) (ap f2dot14_to_fixed e) ∙ ap f2dot14_to_fixed f
 
-on_false : (p q : AxisValueMap) (ends : List AxisValueMap) (z : ℤ) → is_on p q (fine z) ≡ false → mapped_from q ends (fine z) ≡ fine z → mapped_from p (q ∷ ends) (fine z) ≡ fine z
-on_false p q ends z off h = ap (λ b. cond b (on_segment p q (fine z)) (mapped_from q ends (fine z))) off ∙ h
+on_false : (p q : AxisValueMap) (ends : List AxisValueMap) (z : ℤ) → is_on p q (f2dot14_to_fixed z) ≡ false → mapped_from q ends (f2dot14_to_fixed z) ≡ f2dot14_to_fixed z → mapped_from p (q ∷ ends) (f2dot14_to_fixed z) ≡ f2dot14_to_fixed z
+on_false p q ends z off h = ap (λ b. cond b (on_segment p q (f2dot14_to_fixed z)) (mapped_from q ends (f2dot14_to_fixed z))) off ∙ h
 
-is_on_first : (p q : AxisValueMap) (z : ℤ) → p.from ≡ z → p.from <ℤ q.from → is_on p q (fine z) ≡ true
+is_on_first : (p q : AxisValueMap) (z : ℤ) → p.from ≡ z → p.from <ℤ q.from → is_on p q (f2dot14_to_fixed z) ≡ true
 is_on_first p q z e lt =
-    let low : fine p.from ≤ℤ fine z = fine_le p.from z (omega (arith, ints)) in
-    let high : fine z <ℤ fine q.from = fine_lt z q.from (omega (arith, ints)) in
-    rw (le_is (fine p.from) (fine z) low, lt_is (fine z) (fine q.from) high) refl
+    let low : f2dot14_to_fixed p.from ≤ℤ f2dot14_to_fixed z = fine_le p.from z (omega (arith, ints)) in
+    let high : f2dot14_to_fixed z <ℤ f2dot14_to_fixed q.from = fine_lt z q.from (omega (arith, ints)) in
+    rw (le_is (f2dot14_to_fixed p.from) (f2dot14_to_fixed z) low, lt_is (f2dot14_to_fixed z) (f2dot14_to_fixed q.from) high) refl
 
 not_on : (a b : Bool) → b ≡ false → (a && b) ≡ false
 not_on true b h = h
 not_on false b h = refl
 
-kept_from : (z : ℤ) (p : AxisValueMap) (ends : List AxisValueMap) → ascends_from p ends ≡ true → keeps z (p ∷ ends) ≡ true → mapped_from p ends (fine z) ≡ fine z
+kept_from : (z : ℤ) (p : AxisValueMap) (ends : List AxisValueMap) → ascends_from p ends ≡ true → keeps z (p ∷ ends) ≡ true → mapped_from p ends (f2dot14_to_fixed z) ≡ f2dot14_to_fixed z
 kept_from z p [] up h = refl
 kept_from z p (q ∷ rest) up h = by (λ e k. kept_from z q rest e k) (int_eq p.from z && int_eq p.to z) refl h
   where
-    by : (ascends_from q rest ≡ true → keeps z (q ∷ rest) ≡ true → mapped_from q rest (fine z) ≡ fine z) → (t : Bool) → (int_eq p.from z && int_eq p.to z) ≡ t → (t || keeps z (q ∷ rest)) ≡ true → mapped_from p (q ∷ rest) (fine z) ≡ fine z
+    by : (ascends_from q rest ≡ true → keeps z (q ∷ rest) ≡ true → mapped_from q rest (f2dot14_to_fixed z) ≡ f2dot14_to_fixed z) → (t : Bool) → (int_eq p.from z && int_eq p.to z) ≡ t → (t || keeps z (q ∷ rest)) ≡ true → mapped_from p (q ∷ rest) (f2dot14_to_fixed z) ≡ f2dot14_to_fixed z
     by later true e k =
         let a = both_of (follows p q) (ascends_from q rest) up in
         let b = both_of (int_lt p.from q.from) (int_le p.to q.to) a.0 in
@@ -101,16 +101,16 @@ kept_from z p (q ∷ rest) up h = by (λ e k. kept_from z q rest e k) (int_eq p.
     by later false e k =
         let a = both_of (follows p q) (ascends_from q rest) up in
         let low = at_least z q rest a.1 k in
-        on_false p q rest z (not_on (int_le (fine p.from) (fine z)) (int_lt (fine z) (fine q.from)) (lt_not (fine z) (fine q.from) (fine_le q.from z low))) (later a.1 k)
+        on_false p q rest z (not_on (int_le (f2dot14_to_fixed p.from) (f2dot14_to_fixed z)) (int_lt (f2dot14_to_fixed z) (f2dot14_to_fixed q.from)) (lt_not (f2dot14_to_fixed z) (f2dot14_to_fixed q.from) (fine_le q.from z low))) (later a.1 k)
 
-kept_by : (z : ℤ) (ends : List AxisValueMap) → ascends ends ≡ true → keeps z ends ≡ true → by_segments ends (fine z) ≡ fine z
+kept_by : (z : ℤ) (ends : List AxisValueMap) → ascends ends ≡ true → keeps z ends ≡ true → by_segments ends (f2dot14_to_fixed z) ≡ f2dot14_to_fixed z
 kept_by z [] up h = refl
 kept_by z (p ∷ ends) up h = kept_from z p ends up h
 
-pub is_kept : IsKept
+pub is_kept : IsMappedToItself
 is_kept ends z h = by (is_segment_map ends) refl
   where
-    by : (b : Bool) → is_segment_map ends ≡ b → cond b (by_segments ends (fine z)) (fine z) ≡ fine z
+    by : (b : Bool) → is_segment_map ends ≡ b → cond b (by_segments ends (f2dot14_to_fixed z)) (f2dot14_to_fixed z) ≡ f2dot14_to_fixed z
     by false e = refl
     by true e =
         let a = both_of (keeps (neg_ℤ (pos 16384)) ends) (keeps (pos 0) ends && (keeps (pos 16384) ends && ascends ends)) e in
@@ -119,12 +119,12 @@ is_kept ends z h = by (is_segment_map ends) refl
         kept_by z ends c.1 h
 
 -- each of -1, 0 and 1 stays, whatever the segments
-stays : (ends : List AxisValueMap) (z : ℤ) → (is_segment_map ends ≡ true → keeps z ends ≡ true) → mapped ends (fine z) ≡ fine z
+stays : (ends : List AxisValueMap) (z : ℤ) → (is_segment_map ends ≡ true → keeps z ends ≡ true) → mapped ends (f2dot14_to_fixed z) ≡ f2dot14_to_fixed z
 stays ends z h = by (is_segment_map ends) refl
   where
-    by : (b : Bool) → is_segment_map ends ≡ b → cond b (by_segments ends (fine z)) (fine z) ≡ fine z
+    by : (b : Bool) → is_segment_map ends ≡ b → cond b (by_segments ends (f2dot14_to_fixed z)) (f2dot14_to_fixed z) ≡ f2dot14_to_fixed z
     by false e = refl
-    by true e = ap (λ b. cond b (by_segments ends (fine z)) (fine z)) (sym e) ∙ is_kept ends z (h e)
+    by true e = ap (λ b. cond b (by_segments ends (f2dot14_to_fixed z)) (f2dot14_to_fixed z)) (sym e) ∙ is_kept ends z (h e)
 
 parts_of : (ends : List AxisValueMap) → is_segment_map ends ≡ true → (keeps (neg_ℤ (pos 16384)) ends ≡ true) × (keeps (pos 0) ends ≡ true) × (keeps (pos 16384) ends ≡ true)
 parts_of ends e =

@@ -13,10 +13,10 @@ pub data HasTupleFault (t : Gvar) (o : Outline) (shared : Option (List ℕ)) (at
   no_step : (n : ℕ) (w : Walk) → w.steps < 1 → HasTupleFault t o shared at (suc n) w OverflowError
   -- its header is cut, its data end behind those of the glyph, or there is no shared tuple of its index
   no_header : (n left : ℕ) (w : Walk) → spent 1 w.steps ≡ Ok left → next_header t w.headers ≡ None → HasTupleFault t o shared at (suc n) w MalformedFont
-  -- it counts at the place, and fewer steps are left than the glyph has points
+  -- it counts at the location, and fewer steps are left than the glyph has points
   few_steps : (n left : ℕ) (w : Walk) (h : TupleHeader) (rest : TupleHeaders) → spent 1 w.steps ≡ Ok left → next_header t w.headers ≡ Some (h, rest) → int_eq (scalar h.region at) (pos 0) ≡ false
       → left < length o.xs → HasTupleFault t o shared at (suc n) w OverflowError
-  -- it counts at the place, and its point numbers or its deltas are cut, go past their count, or don't ascend within the glyph's points
+  -- it counts at the location, and its point numbers or its deltas are cut, go past their count, or don't ascend within the glyph's points
   no_deltas : (n left more : ℕ) (w : Walk) (h : TupleHeader) (rest : TupleHeaders) → spent 1 w.steps ≡ Ok left → next_header t w.headers ≡ Some (h, rest) → int_eq (scalar h.region at) (pos 0) ≡ false
       → spent (length o.xs) left ≡ Ok more → tuple_of (length o.xs) shared h ≡ None → HasTupleFault t o shared at (suc n) w MalformedFont
   -- one behind it

@@ -11,7 +11,7 @@ use Rattle.subsetter_variation.specs.Nearest.{nearest}
 unfoldable pub interpolated : ℤ → Touched → Touched → ℤ → ℤ
 interpolated x low high scalar = nearest (scalar *ℤ (low.delta *ℤ (high.at -ℤ x) +ℤ high.delta *ℤ (x -ℤ low.at))) (unsigned_abs (high.at -ℤ low.at))
 
--- the same of an untouched point anywhere, from two touched points of which the first isn't higher than the second. Where they lie at
+-- the same of an untouched point anywhere, from two touched points of which the first isn't higher than the second. Where they are at
 -- one coordinate it is their common delta, or 0 if their deltas differ; a point that isn't above the low one takes that one's delta, and
 -- one that isn't below the high one takes that one's
 unfoldable pub between_ordered : ℤ → Touched → Touched → ℤ → ℤ

@@ -81,7 +81,7 @@ moved_in_bytes t o at steps bytes = do
   w ← walk_all t o shared.0 at shared.1.left (start o steps shared.1)
   Ok (w.xs, w.ys, w.steps)
 
--- where the points of a glyph go at a place, in parts of 2^30, and the steps that are left; they stay where it has no variations
+-- where the points of a glyph go at a location, in parts of 2^30, and the steps that are left; they are unmoved where it has no variations
 unfoldable pub moved_points : Gvar → ℕ → Outline → List ℤ → ℕ → Result (List ℤ × List ℤ × ℕ) Error
 moved_points t g o at steps = do
   bytes ← ok_or (variations_of t g) MalformedFont

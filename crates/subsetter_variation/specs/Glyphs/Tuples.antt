@@ -88,13 +88,13 @@ abbrev pub region_axes : Bool → ℕ → List ℕ → List ℕ → List ℕ →
 region_axes inner zero peaks starts ends = []
 region_axes inner (suc n) peaks starts ends = region_axis_of inner peaks starts ends ∷ region_axes inner n (drop 2 peaks) (drop 2 starts) (drop 2 ends)
 
--- the peaks: bit 0x8000, they stand in the header, else among the shared tuples, at the index in the low twelve bits
+-- the peaks: bit 0x8000, they are in the header, else among the shared tuples, at the index in the low twelve bits
 abbrev pub peaks_in : Gvar → ℕ → List ℕ → Option (List ℕ × List ℕ)
 peaks_in t flags bytes =
     if nat_le 32768 flags then split (tuple_size t.axis_count) bytes
     else option_map (λ peaks. (peaks, bytes)) (range t.shared (flags % 4096 * tuple_size t.axis_count) (tuple_size t.axis_count))
 
--- bit 0x4000: starts and ends stand behind
+-- bit 0x4000: starts and ends are behind
 abbrev pub ends_in : ℕ → ℕ → List ℕ → List ℕ → Option (List RegionAxis × List ℕ)
 ends_in axis_count flags peaks bytes =
     if nat_le 16384 (flags % 32768) then (do
@@ -152,7 +152,7 @@ pub record Tuple : Type 0 where
   pub dx : List ℤ
   pub dy : List ℤ
 
--- the point numbers that the tuples of a glyph share, none for all, and the tuples, whose data stand behind them
+-- the point numbers that the tuples of a glyph share, none for all, and the tuples, whose data are behind them
 unfoldable pub shared_numbers : ℕ → Bool → TupleHeaders → Option (Option (List ℕ) × TupleHeaders)
 shared_numbers limit is_shared r =
     if is_shared then option_map (λ n. (n.0, record r { serialized = n.1 })) (point_numbers limit r.serialized)

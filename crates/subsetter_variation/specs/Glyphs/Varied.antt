@@ -10,7 +10,7 @@ abbrev pub AreEnds : ℕ → List ℕ → ℕ → Type 0
 AreEnds start [] n = start ≡ n
 AreEnds start (end ∷ ends) n = (start ≤ end) × (end < n) × AreEnds (end + 1) ends n
 
--- what a tuple moves the point k of a glyph by, where it doesn't lie before start: its contour goes to the first end that isn't below k
+-- what a tuple moves the point k of a glyph by, where it isn't before start: its contour goes to the first end that isn't below k
 abbrev pub moved_in : List Point → ℕ → List ℕ → ℕ → ℤ → ℤ
 moved_in points start [] k scalar = pos 0
 moved_in points start (end ∷ ends) k scalar =

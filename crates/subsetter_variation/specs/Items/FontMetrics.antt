@@ -5,7 +5,7 @@ use Rattle.subsetter_base.specs.Bytes.{be, range, number, from_offset}
 use Rattle.subsetter_base.specs.Options.{◌>>=◌}
 use Rattle.subsetter_variation.specs.Items.ItemVariations.{Store, item_delta, item_store}
 
--- the outer and the inner index of a value record, which stand behind its tag
+-- the outer and the inner index of a value record, which are behind its tag
 abbrev pub value_indexes : List ℕ → ℕ × ℕ
 value_indexes bytes = (be (take 2 (drop 4 bytes)), be (take 2 (drop 6 bytes)))
 
@@ -40,6 +40,6 @@ abbrev pub value_delta : List ℕ → List ℤ → Option (ℕ × ℕ) → Optio
 value_delta mvar at None = Some (pos 0)
 value_delta mvar at (Some indexes) = metric_store mvar (length at) >>= λ s. item_delta s at indexes.0 indexes.1
 
--- what the metric of a tag varies by at a place, in parts of 2^30
+-- what the metric of a tag varies by at a location, in parts of 2^30
 unfoldable pub metric_delta : List ℕ → List ℤ → List ℕ → Option ℤ
 metric_delta mvar at tag = value_of mvar tag >>= value_delta mvar at

@@ -20,7 +20,7 @@ HasBoundRegions s r axes = (k : ℕ) (region : Items) → IsRegion s r k region 
 abbrev pub IsItemAtDefault : Type 0
 IsItemAtDefault = (s : Store) (at : List ℤ) (outer inner : ℕ) (r : Row) (v : ℤ) → All (λ c. c ≡ pos 0) at → item_row s outer inner ≡ Some r → HasBoundRegions s r (length at) → item_delta s at outer inner ≡ Some v → v ≡ pos 0
 
--- at a place the region numbered k counts in full, and no other one counts
+-- at a location the region numbered k counts in full, and no other one counts
 pub record IsMaster (s : Store) (at : List ℤ) (r : Row) (k : ℕ) : Type 0 where
   pub there : k < r.count
   pub full : (region : Items) → IsRegion s r k region → scalar (region_of region) at ≡ unit

@@ -1,9 +1,9 @@
--- Item variation stores, and the advances of `HVAR` (OpenType, "Item Variation Store", "Associating Target Items to Variation Data" and "HVAR").
+-- Item variation stores (OpenType, "Item Variation Store").
 use Rattle.std.specs.Prelude.{ℕ, zero, suc, ◌+◌, ◌-◌, ◌*◌, ◌/◌, ◌%◌, ◌^◌, ◌==◌, ◌&&◌, Bool, List, length, map, drop, take, Option, Some, None, Result, Ok, Err, nat_lt, nat_le, if◌then◌else◌, ℤ, pos, ◌+ℤ◌, ◌*ℤ◌, unsigned_abs}
 use Rattle.std.specs.Int.{w8, w16, w32, cast_signed}
 use Rattle.std.specs.List.{range_with_len}
 use Rattle.std.specs.Option.{option_map}
-use Rattle.subsetter_base.specs.Bytes.{be, range, number, from_offset, signed_at}
+use Rattle.subsetter_base.specs.Bytes.{be, range, number, signed_at}
 use Rattle.subsetter_base.specs.Items.{Items, values}
 use Rattle.subsetter_base.specs.declared.error.Error.{Error}
 use Rattle.subsetter_base.specs.declared.error.Error.TheVariants.{MalformedFont, OverflowError}
@@ -13,8 +13,8 @@ use Rattle.subsetter_variation.specs.Region.{scalar}
 use Rattle.subsetter_variation.specs.declared.region.RegionAxis.{RegionAxis}
 
 -- an offset of 32 bits, unless it is 0, which stands for no table (OpenType, "Data Types")
-abbrev pub offset_at : List ℕ → ℕ → Option ℕ
-offset_at bytes at = do
+abbrev pub nullable_offset : List ℕ → ℕ → Option ℕ
+nullable_offset bytes at = do
   offset ← number bytes at 4
   if offset == 0 then None else Some offset
 
@@ -30,7 +30,7 @@ pub record Store : Type 0 where
 unfoldable pub item_store : List ℕ → Option Store
 item_store bytes = do
   format ← number bytes 0 2
-  at ← offset_at bytes 2
+  at ← nullable_offset bytes 2
   axis_count ← number bytes at 2
   region_count ← number bytes (at + 2) 2
   regions ← range bytes (at + 4) (region_count * (axis_count * 6))
@@ -81,14 +81,14 @@ row_in bytes at inner = do
 unfoldable pub item_row : Store → ℕ → ℕ → Option Row
 item_row s outer inner = do
   data_count ← number s.bytes 6 2
-  at ← if nat_lt outer data_count then offset_at s.bytes (8 + outer * 4) else None
+  at ← if nat_lt outer data_count then nullable_offset s.bytes (8 + outer * 4) else None
   row_in s.bytes at inner
 
--- where item variation data stand in the store
+-- where item variation data are in the store
 abbrev pub data_offset : Store → ℕ → Option ℕ
 data_offset s outer = do
   data_count ← number s.bytes 6 2
-  if nat_lt outer data_count then offset_at s.bytes (8 + outer * 4) else None
+  if nat_lt outer data_count then nullable_offset s.bytes (8 + outer * 4) else None
 
 -- the bytes that spell the indexes of the regions of item variation data: regionIndexCount, and two bytes for each
 unfoldable pub data_regions : Store → ℕ → Option (List ℕ)
@@ -129,57 +129,13 @@ terms s at r (suc n) k = do
   rest ← terms s at r n (k + 1)
   Some (first +ℤ rest)
 
--- what an item varies by at a place, in parts of 2^30; the indexes 0xFFFF and 0xFFFF stand for no variation
+-- what an item varies by at a location, in parts of 2^30; the indexes 0xFFFF and 0xFFFF stand for no variation
 unfoldable pub item_delta : Store → List ℤ → ℕ → ℕ → Option ℤ
 item_delta s at outer inner =
     if outer == 65535 && inner == 65535 then Some (pos 0)
     else item_row s outer inner >>= λ r. terms s at r r.count 0
 
--- ---- from a glyph to its item
--- how many entries a map of indexes has, by its format, and where they stand
-abbrev pub map_head : List ℕ → Option (ℕ × ℕ)
-map_head map = do
-  format ← number map 0 1
-  if format == 0 then option_map (λ n. (n, 4)) (number map 2 2) else if format == 1 then option_map (λ n. (n, 6)) (number map 2 4) else None
-
--- an entry: its low bits are the inner index, the others the outer one
-abbrev pub split_index : ℕ → ℕ → ℕ × ℕ
-split_index bits entry = (entry / 2 ^ bits, entry % 2 ^ bits)
-
--- the entry of a glyph, past the end the last one
-abbrev pub entry_index : ℕ → ℕ → ℕ
-entry_index count g = if nat_lt g count then g else count - 1
-
--- entryFormat says the size of an entry, less one, in the bits 0x30, and how many bits the inner index has, less one, in 0x0F
-unfoldable pub mapped_index : List ℕ → ℕ → Option (ℕ × ℕ)
-mapped_index map g = do
-  head ← map_head map
-  form ← number map 1 1
-  entry ← if head.0 == 0 then None else number map (head.1 + entry_index head.0 g * (form / 16 % 4 + 1)) (form / 16 % 4 + 1)
-  Some (split_index (form % 16 + 1) entry)
-
--- the outer and the inner index of a glyph's advance: without a map 0 and the glyph
-unfoldable pub advance_index : List ℕ → ℕ → Option (ℕ × ℕ)
-advance_index hvar g = do
-  at ← number hvar 8 4
-  if at == 0 then Some (0, g) else from_offset hvar at >>= λ map. mapped_index map g
-
--- the store of HVAR, whose regions have as many axes as the font
-unfoldable pub store_of : List ℕ → ℕ → Option Store
-store_of hvar axis_count = do
-  at ← offset_at hvar 4
-  bytes ← from_offset hvar at
-  s ← item_store bytes
-  if s.axis_count == axis_count then Some s else None
-
--- what the advance of a glyph varies by at a place, in parts of 2^30
-unfoldable pub advance_delta : List ℕ → List ℤ → ℕ → Option ℤ
-advance_delta hvar at g = do
-  s ← store_of hvar (length at)
-  index ← advance_index hvar g
-  item_delta s at index.0 index.1
-
--- the same in whole units, or the name of what is wrong: a table without a reading, or 2^32 units or more
+-- parts of 2^30 in whole units, or the name of what is wrong: a table without a reading, or 2^32 units or more
 abbrev pub in_whole_units : ℤ → Result ℤ Error
 in_whole_units d = if nat_lt (unsigned_abs d) (2 ^ 62) then Ok (nearest d (2 ^ 30)) else Err OverflowError
 

@@ -1,10 +1,10 @@
--- The axes of a variable font (OpenType, "fvar"), and where a coordinate lies on one. Coordinates are in 65536ths.
+-- The axes of a variable font (OpenType, "fvar"), and where a coordinate is on one. Coordinates are in 65536ths.
 use Rattle.std.specs.Prelude.{ℕ, zero, suc, ◌+◌, List, [], ◌∷◌, take, find, Option, Some, None, nat_lt, int_lt, int_le, if◌then◌else◌, ℤ, pos, neg_ℤ, ◌-ℤ◌, unsigned_abs}
 use Rattle.std.specs.Str.{bytes_eq}
 use Rattle.subsetter_base.specs.Bytes.{range, number, long_signed_at}
 use Rattle.subsetter_base.specs.declared.tag.Tag.{Tag}
 use Rattle.subsetter_base.specs.Options.{◌>>=◌}
-use Rattle.subsetter_variation.specs.Nearest.{part}
+use Rattle.subsetter_variation.specs.Nearest.{mul_div_nearest}
 use Rattle.subsetter_variation.specs.declared.locations.axes.Axis.{Axis}
 
 -- the record of an axis begins with its tag, and its least, its default and its greatest coordinate
@@ -42,7 +42,7 @@ user_coordinate a settings = user_coordinate_from a.default a.tag.0 settings
 
 -- how far a coordinate is from the default, in 65536ths of the way from it to an end
 unfoldable pub toward : ℤ → ℤ → ℤ → ℤ
-toward end default c = part (c -ℤ default) (unsigned_abs (end -ℤ default)) (pos 65536)
+toward end default c = mul_div_nearest (c -ℤ default) (unsigned_abs (end -ℤ default)) (pos 65536)
 
 -- a coordinate below the default, and one above it: no further than the end of the axis, which is the default itself where there is nothing on that side
 abbrev pub below_default : Axis → ℤ → ℤ

@@ -5,7 +5,7 @@ use Rattle.std.specs.Ordering.{int_eq}
 use Rattle.subsetter_base.specs.Bytes.{be, range, number}
 use Rattle.subsetter_base.specs.Items.{Items, values}
 use Rattle.subsetter_base.specs.Options.{◌>>=◌}
-use Rattle.subsetter_variation.specs.Nearest.{part}
+use Rattle.subsetter_variation.specs.Nearest.{mul_div_nearest}
 use Rattle.subsetter_variation.specs.declared.locations.segments.AxisValueMap.{AxisValueMap}
 
 -- the end of a segment: two numbers in 16384ths
@@ -23,22 +23,22 @@ abbrev pub axis_value_maps : Items → List AxisValueMap
 axis_value_maps items = values 4 (λ bytes. Some (axis_value_map_of bytes)) items
 
 -- 16384ths as 65536ths
-abbrev pub fine : ℤ → ℤ
-fine z = pos 4 *ℤ z
+abbrev pub f2dot14_to_fixed : ℤ → ℤ
+f2dot14_to_fixed z = pos 4 *ℤ z
 
 -- of a whole as great a part as a number has passed of the way from one end to another
-unfoldable pub passed : ℤ → ℤ → ℤ → ℤ → ℤ
-passed from to n whole = part (n -ℤ from) (unsigned_abs (to -ℤ from)) whole
+unfoldable pub interpolated : ℤ → ℤ → ℤ → ℤ → ℤ
+interpolated from to n whole = mul_div_nearest (n -ℤ from) (unsigned_abs (to -ℤ from)) whole
 
--- a number that lies between two ends, at the same part of the way between their new numbers
+-- a number that is between two ends, at the same part of the way between their new numbers
 unfoldable pub on_segment : AxisValueMap → AxisValueMap → ℤ → ℤ
-on_segment p q n = fine p.to +ℤ passed (fine p.from) (fine q.from) n (fine q.to -ℤ fine p.to)
+on_segment p q n = f2dot14_to_fixed p.to +ℤ interpolated (f2dot14_to_fixed p.from) (f2dot14_to_fixed q.from) n (f2dot14_to_fixed q.to -ℤ f2dot14_to_fixed p.to)
 
--- the number lies between two ends, and not on the second
+-- the number is between two ends, and not on the second
 abbrev pub is_on : AxisValueMap → AxisValueMap → ℤ → Bool
-is_on p q n = int_le (fine p.from) n && int_lt n (fine q.from)
+is_on p q n = int_le (f2dot14_to_fixed p.from) n && int_lt n (f2dot14_to_fixed q.from)
 
--- by the first segment in which the number lies; one that lies in none stays
+-- by the first segment in which the number lies; one that is in none stays
 abbrev pub mapped_from : AxisValueMap → List AxisValueMap → ℤ → ℤ
 mapped_from p [] n = n
 mapped_from p (q ∷ ends) n = if is_on p q n then on_segment p q n else mapped_from q ends n

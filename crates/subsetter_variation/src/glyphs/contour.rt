@@ -4,7 +4,7 @@ ghost use Rattle.std.specs.Prelude.{◌≡◌, ◌≤◌, ◌^◌, ◌+ℤ◌, p
 ghost use Rattle.subsetter_variation.specs.Glyphs.Inferred.{touched, first_touched, last_touched, delta_or, moved};
 
 use crate::glyphs::inference::{Point, Touched, between};
-use crate::rounding::given;
+use crate::rounding::scalar_times_delta;
 
 /// A point as a touched one, if the tuple gives it a delta.
 fn touched(point: Point) -> Option<Touched>
@@ -49,7 +49,7 @@ fn delta_or(point: Point, before: Option<Touched>, after: Option<Touched>, scala
     ensures bound { unsigned_abs result ≤ 2 ^ 45 }
 {
     if let Some(delta) = point.delta {
-        return given(scalar, delta);
+        return scalar_times_delta(scalar, delta);
     }
     match (before, after) {
         (Some(one), Some(other)) => between(point.at, one, other, scalar),

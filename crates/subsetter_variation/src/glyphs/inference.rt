@@ -3,7 +3,7 @@
 ghost use Rattle.std.specs.Prelude.{◌≡◌, ◌<◌, ◌≤◌, ◌<ℤ◌, ◌-ℤ◌, ◌^◌, ◌*ℤ◌, ◌+ℤ◌, unsigned_abs};
 ghost use Rattle.subsetter_variation.specs.Glyphs.Inferred.{between, between_ordered, interpolated};
 
-use crate::rounding::{given, nearest, scaled, weighted};
+use crate::rounding::{delta_times_distance, nearest, scalar_times_delta, scaled};
 
 /// A point of a contour, and its delta if the tuple gives it one.
 #[derive(Clone, Copy)]
@@ -47,8 +47,8 @@ fn blend(low: i64, over: i64, high: i64, under: i64) -> i64
     ensures value { result ≡ low *ℤ over +ℤ high *ℤ under }
     ensures bound { unsigned_abs result ≤ 2 ^ 32 }
 {
-    let first = weighted(low, over);
-    let second = weighted(high, under);
+    let first = delta_times_distance(low, over);
+    let second = delta_times_distance(high, under);
     first + second
 }
 
@@ -79,16 +79,16 @@ fn between_ordered(x: i16, low: Touched, high: Touched, scalar: i64) -> i64
 {
     if low.at == high.at {
         return if low.delta == high.delta {
-            given(scalar, low.delta)
+            scalar_times_delta(scalar, low.delta)
         } else {
             0
         };
     }
     if x <= low.at {
-        return given(scalar, low.delta);
+        return scalar_times_delta(scalar, low.delta);
     }
     if high.at <= x {
-        return given(scalar, high.delta);
+        return scalar_times_delta(scalar, high.delta);
     }
     interpolated(x, low, high, scalar)
 }

@@ -4,7 +4,7 @@
 //! what it is for is read. Where the steps end the answer is `OverflowError`. They decide whether points move and not
 //! where to (`laws::is_same_at_any_steps`). The axes of a region aren't counted: a tuple costs its axes besides, so
 //! that whoever opens the font should bound their number. The phantom points are handed over at 0: each is a contour of
-//! its own, and what moves it doesn't depend on where it lies (`laws::is_free_of_position`).
+//! its own, and what moves it doesn't depend on its position (`laws::is_free_of_position`).
 
 ghost use Rattle.std.specs.Prelude.{◌≡◌, ◌+◌, ◌<◌, ◌≤◌, ◌^◌, ℕ, None, Ok, IfOk, IfSome, length, unsigned_abs, All};
 ghost use Rattle.std.specs.Option.{ok_or, option_map};

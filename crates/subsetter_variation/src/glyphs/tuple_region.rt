@@ -4,7 +4,7 @@ ghost use Rattle.std.specs.Prelude.{◌≡◌, ◌≤◌, ◌+◌, ◌^◌, pos,
 ghost use Rattle.subsetter_variation.specs.Region.{scalar};
 ghost use Rattle.subsetter_variation.specs.Glyphs.Tuples.{short, plain_region_axis, region_axis_of, region_axes, tuple_size};
 
-use crate::region::{RegionAxis, counted};
+use crate::region::{ONE, RegionAxis, times_axis_scalar};
 use std::marker::Model;
 use subsetter_base::read::signed_at;
 
@@ -104,18 +104,18 @@ pub(crate) fn tuple_region<'a>(
     }
 }
 
-/// The scalar at a place of a region without ends of its own. The axes behind one that makes it 0 aren't read.
+/// The scalar at a location of a region without ends of its own. The axes behind one that makes it 0 aren't read.
 #[tactic(auto, using(crate::proofs::Regions::scalar_step, crate::proofs::Regions::scalar_end))]
-fn plain_scalar(peaks: &[u8], at: &[i32]) -> i64
+fn peak_scalar(peaks: &[u8], at: &[i32]) -> i64
     requires { length peaks.now ≡ tuple_size (length at.now) }
     ensures value { result ≡ scalar (region_axes false (length at.now) peaks.now peaks.now peaks.now) at.now }
     ensures low { pos 0 ≤ℤ result }
     ensures high { result ≤ℤ pos (2 ^ 30) }
 {
-    let mut whole = 1073741824;
+    let mut whole = ONE;
     let mut rest = peaks;
     for i in 0..at.len() {
-        whole = counted(plain_region_axis(short(rest)), at[i], whole);
+        whole = times_axis_scalar(plain_region_axis(short(rest)), at[i], whole);
         if whole == 0 {
             return 0;
         }
@@ -126,7 +126,7 @@ fn plain_scalar(peaks: &[u8], at: &[i32]) -> i64
 
 /// The same of a region with ends of its own.
 #[tactic(auto, using(crate::proofs::Regions::scalar_step, crate::proofs::Regions::scalar_end))]
-fn inner_scalar(peaks: &[u8], starts: &[u8], ends: &[u8], at: &[i32]) -> i64
+fn intermediate_scalar(peaks: &[u8], starts: &[u8], ends: &[u8], at: &[i32]) -> i64
     requires peak { length peaks.now ≡ tuple_size (length at.now) }
     requires start { length starts.now ≡ tuple_size (length at.now) }
     requires end { length ends.now ≡ tuple_size (length at.now) }
@@ -134,12 +134,12 @@ fn inner_scalar(peaks: &[u8], starts: &[u8], ends: &[u8], at: &[i32]) -> i64
     ensures low { pos 0 ≤ℤ result }
     ensures high { result ≤ℤ pos (2 ^ 30) }
 {
-    let mut whole = 1073741824;
+    let mut whole = ONE;
     let mut p = peaks;
     let mut s = starts;
     let mut e = ends;
     for i in 0..at.len() {
-        whole = counted(inner_region_axis(p, s, e), at[i], whole);
+        whole = times_axis_scalar(inner_region_axis(p, s, e), at[i], whole);
         if whole == 0 {
             return 0;
         }
@@ -160,9 +160,9 @@ impl<'a> TupleRegion<'a> {
         ensures high { result ≤ℤ pos (2 ^ 30) }
     {
         if self.inner {
-            inner_scalar(self.peaks, self.starts, self.ends, at)
+            intermediate_scalar(self.peaks, self.starts, self.ends, at)
         } else {
-            plain_scalar(self.peaks, at)
+            peak_scalar(self.peaks, at)
         }
     }
 }

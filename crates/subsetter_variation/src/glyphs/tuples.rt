@@ -18,6 +18,43 @@ use std::marker::Model;
 use subsetter_base::Error;
 use subsetter_base::read::{Reader, between_offsets, from_offset};
 
+/// axisCount, two bytes.
+const AXIS_COUNT: usize = 4;
+/// sharedTupleCount, two bytes.
+const SHARED_TUPLE_COUNT: usize = 6;
+/// sharedTuplesOffset, four bytes.
+const SHARED_TUPLES_OFFSET: usize = 8;
+/// glyphCount, two bytes.
+const GLYPH_COUNT: usize = 12;
+/// flags, two bytes.
+const FLAGS: usize = 14;
+/// glyphVariationDataArrayOffset, four bytes.
+const GLYPH_VARIATION_DATA_ARRAY_OFFSET: usize = 16;
+/// glyphVariationDataOffsets.
+const GLYPH_VARIATION_DATA_OFFSETS: usize = 20;
+/// How many bytes an offset has in the long format, and in the short one, which has it by half.
+const OFFSET32_SIZE: usize = 4;
+
+const OFFSET16_SIZE: usize = 2;
+
+/// dataOffset of a glyph's variations, two bytes, behind tupleVariationCount.
+const DATA_OFFSET: usize = 2;
+/// tupleVariationHeaders.
+const TUPLE_VARIATION_HEADERS: usize = 4;
+/// The flag of tupleVariationCount: the tuples share point numbers.
+const SHARED_POINT_NUMBERS: u16 = 0x8000;
+/// So many values are below the flags: one more than COUNT_MASK.
+const COUNTS: u16 = 0x1000;
+
+/// The flags of tupleIndex: a peak of its own is in the header.
+const EMBEDDED_PEAK_TUPLE: u16 = 0x8000;
+/// The ends of the region are in the header.
+const INTERMEDIATE_REGION: u16 = 0x4000;
+/// The tuple has point numbers of its own.
+const PRIVATE_POINT_NUMBERS: u16 = 0x2000;
+/// So many values are below the flags: one more than TUPLE_INDEX_MASK.
+const TUPLE_INDEXES: u16 = 0x1000;
+
 /// The table `gvar`.
 #[derive(Drop)]
 pub struct Gvar<'a> {
@@ -69,13 +106,15 @@ fn split(n: usize, bytes: &[u8]) -> Option<(&[u8], &[u8])>
 fn parts(gvar: &[u8], axis_count: u16, glyph_count: u16, long: bool) -> Option<Gvar<'_>>
     ensures { result ≡ parts gvar.now axis_count glyph_count long }
 {
-    let shared_count = Reader::new_at(gvar, 6).read::<u16>()?;
-    let shared_at = Reader::new_at(gvar, 8).read::<u32>()?;
-    let from = Reader::new_at(gvar, 16).read::<u32>()?;
+    let shared_count = Reader::new_at(gvar, SHARED_TUPLE_COUNT).read::<u16>()?;
+    let shared_at = Reader::new_at(gvar, SHARED_TUPLES_OFFSET).read::<u32>()?;
+    let from = Reader::new_at(gvar, GLYPH_VARIATION_DATA_ARRAY_OFFSET).read::<u32>()?;
     let size = (shared_count as usize).saturating_mul(axis_count as usize * 2);
     let shared = Reader::new_at(gvar, shared_at as usize).read_bytes(size)?;
-    let entry = if long { 4 } else { 2 };
-    let offsets = Reader::new_at(gvar, 20).read_bytes((glyph_count as usize + 1) * entry)?;
+    let entry = if long { OFFSET32_SIZE } else { OFFSET16_SIZE };
+    let offsets = Reader::new_at(gvar, GLYPH_VARIATION_DATA_OFFSETS).read_bytes(
+        (glyph_count as usize + 1) * entry,
+    )?;
     let variations = from_offset(gvar, from as usize)?;
     Some(Gvar {
         axis_count,
@@ -92,9 +131,9 @@ fn parts(gvar: &[u8], axis_count: u16, glyph_count: u16, long: bool) -> Option<G
 pub fn gvar_table(gvar: &[u8]) -> Option<Gvar<'_>>
     ensures { result ≡ gvar_table gvar.now }
 {
-    let axis_count = Reader::new_at(gvar, 4).read::<u16>()?;
-    let glyph_count = Reader::new_at(gvar, 12).read::<u16>()?;
-    let flags = Reader::new_at(gvar, 14).read::<u16>()?;
+    let axis_count = Reader::new_at(gvar, AXIS_COUNT).read::<u16>()?;
+    let glyph_count = Reader::new_at(gvar, GLYPH_COUNT).read::<u16>()?;
+    let flags = Reader::new_at(gvar, FLAGS).read::<u16>()?;
     parts(gvar, axis_count, glyph_count, flags % 2 == 1)
 }
 
@@ -112,9 +151,9 @@ impl<'a> Gvar<'a> {
         ensures { result ≡ offset self.now glyph }
     {
         if self.long {
-            Some(Reader::new_at(self.offsets, glyph * 4).read::<u32>()? as usize)
+            Some(Reader::new_at(self.offsets, glyph * OFFSET32_SIZE).read::<u32>()? as usize)
         } else {
-            Some(2 * Reader::new_at(self.offsets, glyph * 2).read::<u16>()? as usize)
+            Some(2 * Reader::new_at(self.offsets, glyph * OFFSET16_SIZE).read::<u16>()? as usize)
         }
     }
 
@@ -139,13 +178,13 @@ pub fn tuple_headers(bytes: &[u8]) -> Option<(bool, TupleHeaders<'_>)>
     ensures few { IfSome result (λ r. r.1.left < 4096) }
 {
     let count = Reader::new(bytes).read::<u16>()?;
-    let at = Reader::new_at(bytes, 2).read::<u16>()?;
+    let at = Reader::new_at(bytes, DATA_OFFSET).read::<u16>()?;
     let serialized = from_offset(bytes, at as usize)?;
     Some((
-        count >= 32768,
+        count >= SHARED_POINT_NUMBERS,
         TupleHeaders {
-            left: count % 4096,
-            headers: &bytes[4..],
+            left: count % COUNTS,
+            headers: &bytes[TUPLE_VARIATION_HEADERS..],
             serialized,
         },
     ))
@@ -157,10 +196,10 @@ fn peaks_in<'a>(t: &Gvar<'a>, flags: u16, bytes: &'a [u8]) -> Option<(&'a [u8], 
     ensures len { IfSome result (λ r. length r.0.now ≡ tuple_size t.now.axis_count) }
 {
     let size = t.axis_count as usize * 2;
-    if flags >= 32768 {
+    if flags >= EMBEDDED_PEAK_TUPLE {
         split(size, bytes)
     } else {
-        let at = (flags % 4096) as usize * size;
+        let at = (flags % TUPLE_INDEXES) as usize * size;
         let peaks = Reader::new_at(t.shared, at).read_bytes(size)?;
         Some((peaks, bytes))
     }
@@ -178,7 +217,7 @@ fn ends_in<'a>(
     ensures value { MatchOption result (ends_in axis_count flags peaks.now bytes.now ≡ None) (λ r. ends_in axis_count flags peaks.now bytes.now ≡ Some (r.0, r.1.now)) }
 {
     let size = axis_count as usize * 2;
-    if flags % 32768 >= 16384 {
+    if flags % EMBEDDED_PEAK_TUPLE >= INTERMEDIATE_REGION {
         let (starts, rest) = split(size, bytes)?;
         let (ends, rest) = split(size, rest)?;
         Some((tuple_region(true, axis_count, peaks, starts, ends), rest))
@@ -275,7 +314,7 @@ pub fn next_header<'a>(
     let (flags, rest) = word_in(rest)?;
     let (region, headers) = region_in(t, flags, rest)?;
     let (packed, serialized) = split(size as usize, r.serialized)?;
-    let private_numbers = flags % 16384 >= 8192;
+    let private_numbers = flags % INTERMEDIATE_REGION >= PRIVATE_POINT_NUMBERS;
     let left = r.left.saturating_sub(1);
     Some((
         TupleHeader {

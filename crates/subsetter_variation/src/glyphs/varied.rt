@@ -8,7 +8,7 @@ ghost use Rattle.subsetter_variation.specs.Glyphs.Varied.{AreEnds, added, added_
 use crate::glyphs::glyph::add_tuple;
 use crate::glyphs::inference::Point;
 use crate::packing::packed_sums::add_deltas;
-use crate::rounding::given;
+use crate::rounding::scalar_times_delta;
 use std::alloc::{AllocError, Global};
 use subsetter_base::Error;
 
@@ -102,7 +102,7 @@ fn write_units(sums: &mut [i64], coordinates: &[i16])
     ensures bound { EachIndex coordinates.now (λ k. unsigned_abs (slice_index_or sums.new k (pos 0)) ≤ 2 ^ 45) }
 {
     for (k, x) in coordinates.iter().enumerate() {
-        sums[k] = given(UNIT, *x);
+        sums[k] = scalar_times_delta(UNIT, *x);
     }
 }
 

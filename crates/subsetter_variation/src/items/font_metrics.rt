@@ -1,6 +1,6 @@
 //! Metrics of a whole font that vary (OpenType, "MVAR").
 //!
-//! The records are looked through in turn, and the first one with a tag counts. A metric without a record doesn't vary, and a
+//! The records are searched in order, and the first one with a tag counts. A metric without a record doesn't vary, and a
 //! table without records needs no store. The version has to be 1.
 
 ghost use Rattle.std.specs.Prelude.{◌≡◌, ◌≤◌, bytes_eq, length, take};
@@ -12,12 +12,30 @@ use crate::items::item_variations::{Store, in_whole_units, item_delta, item_stor
 use subsetter_base::read::{Reader, from_offset, u16_at};
 use subsetter_base::{Error, Tag};
 
+/// valueRecordSize, two bytes.
+const VALUE_RECORD_SIZE: usize = 6;
+/// valueRecordCount, two bytes.
+const VALUE_RECORD_COUNT: usize = 8;
+/// itemVariationStoreOffset, two bytes.
+const ITEM_VARIATION_STORE_OFFSET: usize = 10;
+/// valueRecords.
+const VALUE_RECORDS: usize = 12;
+/// How many bytes a value record has, or more where valueRecordSize says so.
+const VALUE_RECORD_LEN: usize = 8;
+/// deltaSetOuterIndex of a value record, two bytes.
+const DELTA_SET_OUTER_INDEX: usize = 4;
+/// deltaSetInnerIndex of a value record, two bytes.
+const DELTA_SET_INNER_INDEX: usize = 6;
+
 /// The indexes of a value record.
 fn value_indexes(bytes: &[u8]) -> (u16, u16)
     requires { 8 ≤ length bytes.now }
     ensures { result ≡ value_indexes bytes.now }
 {
-    (u16_at(bytes, 4), u16_at(bytes, 6))
+    (
+        u16_at(bytes, DELTA_SET_OUTER_INDEX),
+        u16_at(bytes, DELTA_SET_INNER_INDEX),
+    )
 }
 
 /// Whether a value record has a tag.
@@ -34,7 +52,9 @@ fn value_from(mvar: &[u8], count: u16, size: u16, tag: Tag) -> Option<Option<(u1
     ensures { result ≡ value_from count 0 size mvar.now tag.0 }
 {
     for k in 0..count {
-        let bytes = Reader::new_at(mvar, 12 + k as usize * size as usize).read_bytes(8)?;
+        let bytes = Reader::new_at(mvar, VALUE_RECORDS + k as usize * size as usize).read_bytes(
+            VALUE_RECORD_LEN,
+        )?;
         if has_tag(bytes, tag) {
             return Some(Some(value_indexes(bytes)));
         }
@@ -47,9 +67,9 @@ fn value_from(mvar: &[u8], count: u16, size: u16, tag: Tag) -> Option<Option<(u1
 fn value_of(mvar: &[u8], tag: Tag) -> Option<Option<(u16, u16)>>
     ensures { result ≡ value_of mvar.now tag.0 }
 {
-    let size = Reader::new_at(mvar, 6).read::<u16>()?;
-    let count = Reader::new_at(mvar, 8).read::<u16>()?;
-    if size < 8 {
+    let size = Reader::new_at(mvar, VALUE_RECORD_SIZE).read::<u16>()?;
+    let count = Reader::new_at(mvar, VALUE_RECORD_COUNT).read::<u16>()?;
+    if (size as usize) < VALUE_RECORD_LEN {
         return None;
     }
     value_from(mvar, count, size, tag)
@@ -71,7 +91,7 @@ fn store_for(axis_count: usize, store: Store<'_>) -> Option<Store<'_>>
 fn metric_store(mvar: &[u8], axis_count: usize) -> Option<Store<'_>>
     ensures { result ≡ metric_store mvar.now axis_count }
 {
-    let at = Reader::new_at(mvar, 10).read::<u16>()?;
+    let at = Reader::new_at(mvar, ITEM_VARIATION_STORE_OFFSET).read::<u16>()?;
     if at == 0 {
         return None;
     }
@@ -91,7 +111,7 @@ fn value_delta(mvar: &[u8], at: &[i32], indexes: Option<(u16, u16)>) -> Option<i
     }
 }
 
-/// What the metric of a tag varies by at a place, in parts of 2^30.
+/// What the metric of a tag varies by at a location, in parts of 2^30.
 #[tactic(auto, unfolding(crate::specs::Items::FontMetrics::metric_delta))]
 fn varied_metric(mvar: &[u8], at: &[i32], tag: Tag) -> Option<i128>
     ensures { result ≡ metric_delta mvar.now at.now tag.0 }

@@ -1,28 +1,31 @@
-//! Item variation stores, and the advances of `HVAR` (OpenType, "Item Variation Store" and "HVAR").
+//! Item variation stores (OpenType, "Item Variation Store").
 //!
-//! An item, a region or item variation data that aren't there have no reading, nor has a map of indexes without entries
-//! (FreeType and HarfBuzz take 0 there). The indexes 0xFFFF, 0xFFFF are 0, as OpenType says; an offset of 0 is no
-//! table. The sum of an item's deltas is taken in 128 bits, as 65,535 long words don't fit 64; where an advance changes
-//! by 2^32 units or more the answer is `OverflowError`. The version of the store has to be 1, that of `HVAR` isn't
-//! looked at.
+//! An item, a region or item variation data that aren't there have no reading (FreeType and HarfBuzz take 0 there). The
+//! indexes 0xFFFF, 0xFFFF are 0, as OpenType says; an offset of 0 is no table. The sum of an item's deltas is taken in
+//! 128 bits, as 65,535 long words don't fit 64; where what varies changes by 2^32 units or more the answer is
+//! `OverflowError`. The version of the store has to be 1.
 
 ghost use Rattle.std.specs.Prelude.{[], ◌∷◌, MatchOption, ◌≡◌, ◌+◌, ◌*◌, ◌<◌, ◌≤◌, ◌^◌, Some, IfSome, length, pos, ◌*ℤ◌, ◌≤ℤ◌, unsigned_abs};
-ghost use Rattle.std.specs.Option.{ok_or, option_copied};
+ghost use Rattle.std.specs.Option.{option_copied};
 ghost use Rattle.subsetter_base.specs.Bytes.{signed_at};
-ghost use Rattle.subsetter_base.specs.declared.error.Error.TheVariants.{MalformedFont};
 ghost use Rattle.subsetter_variation.specs.Region.{scalar};
-ghost use Rattle.subsetter_variation.specs.Items.ItemVariations.{offset_at, item_store, region_axis_in, region_items, region_of, data_offset, data_regions, row_size, row_at, row_in, item_row, word_delta, byte_delta, delta, term, terms, item_delta, map_head, split_index, mapped_index, advance_index, store_of, advance_delta, in_whole_units, whole_or_fault, entry_index};
+ghost use Rattle.subsetter_variation.specs.Items.ItemVariations.{nullable_offset, item_store, region_axis_in, region_items, region_of, data_offset, data_regions, row_size, row_at, row_in, item_row, word_delta, byte_delta, delta, term, terms, item_delta, in_whole_units};
 
-use crate::region::{RegionAxis, counted};
+use crate::items::layout::{
+    DELTA16_SIZE, DELTA32_SIZE, ITEM_VARIATION_DATA_COUNT, ITEM_VARIATION_DATA_OFFSETS, LONG_WORDS,
+    NO_VARIATION_INDEX, OFFSET32_SIZE, REGION_AXIS_COORDINATES_SIZE, REGION_COUNT,
+    REGION_INDEX_COUNT, REGION_INDEX_SIZE, REGION_INDEXES, VARIATION_REGION_LIST_OFFSET,
+    VARIATION_REGIONS, WORD_DELTA_COUNT,
+};
+use crate::region::{ONE, RegionAxis, times_axis_scalar};
 use crate::rounding::{nearest, scaled, wide_plus};
 use std::marker::Model;
 use subsetter_base::Error;
-use subsetter_base::numbers::number_of;
-use subsetter_base::read::{LazyArray16, Readable, Reader, from_offset, signed_at};
+use subsetter_base::read::{LazyArray16, Readable, Reader, signed_at};
 
 /// An offset of 32 bits, unless it is 0, which stands for no table.
-fn offset_at(bytes: &[u8], at: usize) -> Option<u32>
-    ensures { result ≡ offset_at bytes.now at }
+pub(crate) fn nullable_offset(bytes: &[u8], at: usize) -> Option<u32>
+    ensures { result ≡ nullable_offset bytes.now at }
 {
     let offset = Reader::new_at(bytes, at).read::<u32>()?;
     if offset == 0 { None } else { Some(offset) }
@@ -99,7 +102,7 @@ impl Readable<'_> for RegionAxis {
     ghost value_of = { λ bytes. Some (region_axis_in bytes) };
 
     fn read(r: &mut Reader<'_>) -> Option<Self> {
-        Some(region_axis_in(r.read_bytes(6)?))
+        Some(region_axis_in(r.read_bytes(REGION_AXIS_COORDINATES_SIZE)?))
     }
 }
 
@@ -109,11 +112,13 @@ pub fn item_store(bytes: &[u8]) -> Option<Store<'_>>
     ensures { result ≡ item_store bytes.now }
 {
     let format = Reader::new(bytes).read::<u16>()?;
-    let at = offset_at(bytes, 2)? as usize;
+    let at = nullable_offset(bytes, VARIATION_REGION_LIST_OFFSET)? as usize;
     let axis_count = Reader::new_at(bytes, at).read::<u16>()?;
-    let region_count = Reader::new_at(bytes, at + 2).read::<u16>()?;
-    let size = (region_count as usize).saturating_mul(axis_count as usize * 6);
-    let regions = Reader::new_at(bytes, at + 4).read_bytes(size)?;
+    let region_count = Reader::new_at(bytes, at + REGION_COUNT).read::<u16>()?;
+    let size = (region_count as usize).saturating_mul(
+        axis_count as usize * REGION_AXIS_COORDINATES_SIZE,
+    );
+    let regions = Reader::new_at(bytes, at + VARIATION_REGIONS).read_bytes(size)?;
     if format == 1 {
         Some(Store {
             axis_count,
@@ -134,7 +139,7 @@ pub fn region_items<'a>(s: &Store<'a>, index: u16) -> Option<LazyArray16<'a, Reg
     if index >= s.region_count {
         return None;
     }
-    let size = s.axis_count as usize * 6;
+    let size = s.axis_count as usize * REGION_AXIS_COORDINATES_SIZE;
     Reader::new_at(s.regions, index as usize * size).read_array16(s.axis_count)
 }
 
@@ -155,13 +160,13 @@ pub fn region_scalar(region: LazyArray16<'_, RegionAxis>, at: &[i32]) -> i64
     ensures low { pos 0 ≤ℤ result }
     ensures high { result ≤ℤ pos (2 ^ 30) }
 {
-    let mut whole = 1073741824;
+    let mut whole = ONE;
     let mut rest = at;
     for axis in region.iter() {
         let Some((first, others)) = coordinate_in(rest) else {
             return whole;
         };
-        whole = counted(axis, first, whole);
+        whole = times_axis_scalar(axis, first, whole);
         if whole == 0 {
             return 0;
         }
@@ -184,8 +189,12 @@ fn row_at(
     ensures { result ≡ row_at bytes.now at inner count words long }
 {
     let size = (count as usize + words as usize) * (if long { 2 } else { 1 });
-    let indexes = Reader::new_at(bytes, at + 6).read_bytes(count as usize * 2)?;
-    let from = (at + 6 + count as usize * 2).saturating_add((inner as usize).saturating_mul(size));
+    let indexes = Reader::new_at(bytes, at + REGION_INDEXES).read_bytes(
+        count as usize * REGION_INDEX_SIZE,
+    )?;
+    let from = (at + REGION_INDEXES + count as usize * REGION_INDEX_SIZE).saturating_add(
+        (inner as usize).saturating_mul(size),
+    );
     let deltas = Reader::new_at(bytes, from).read_bytes(size)?;
     Some(Row {
         count,
@@ -196,17 +205,24 @@ fn row_at(
     })
 }
 
-/// The row of an item, by the place of its data.
+/// The row of an item, by the offset of its data.
 #[tactic(auto, unfolding(crate::specs::Items::ItemVariations::row_in))]
 fn row_in(bytes: &[u8], at: usize, inner: u32) -> Option<Row<'_>>
     requires { at < 2 ^ 32 }
     ensures { result ≡ row_in bytes.now at inner }
 {
     let items = Reader::new_at(bytes, at).read::<u16>()?;
-    let words = Reader::new_at(bytes, at + 2).read::<u16>()?;
-    let count = Reader::new_at(bytes, at + 4).read::<u16>()?;
-    if inner < u32::from(items) && words % 32768 <= count {
-        row_at(bytes, at, inner, count, words % 32768, words >= 32768)
+    let words = Reader::new_at(bytes, at + WORD_DELTA_COUNT).read::<u16>()?;
+    let count = Reader::new_at(bytes, at + REGION_INDEX_COUNT).read::<u16>()?;
+    if inner < u32::from(items) && words % LONG_WORDS <= count {
+        row_at(
+            bytes,
+            at,
+            inner,
+            count,
+            words % LONG_WORDS,
+            words >= LONG_WORDS,
+        )
     } else {
         None
     }
@@ -217,24 +233,30 @@ fn row_in(bytes: &[u8], at: usize, inner: u32) -> Option<Row<'_>>
 fn item_row<'a>(s: &Store<'a>, outer: u32, inner: u32) -> Option<Row<'a>>
     ensures { result ≡ item_row s.now outer inner }
 {
-    let data_count = Reader::new_at(s.bytes, 6).read::<u16>()?;
+    let data_count = Reader::new_at(s.bytes, ITEM_VARIATION_DATA_COUNT).read::<u16>()?;
     if outer >= u32::from(data_count) {
         return None;
     }
-    let at = offset_at(s.bytes, 8 + outer as usize * 4)?;
+    let at = nullable_offset(
+        s.bytes,
+        ITEM_VARIATION_DATA_OFFSETS + outer as usize * OFFSET32_SIZE,
+    )?;
     row_in(s.bytes, at as usize, inner)
 }
 
-/// Where item variation data stand in the store.
+/// The offset of item variation data in the store.
 fn data_offset(s: &Store<'_>, outer: u32) -> Option<u32>
     ensures value { result ≡ data_offset s.now outer }
     ensures few { IfSome result (λ _. outer < 65536) }
 {
-    let data_count = Reader::new_at(s.bytes, 6).read::<u16>()?;
+    let data_count = Reader::new_at(s.bytes, ITEM_VARIATION_DATA_COUNT).read::<u16>()?;
     if outer >= u32::from(data_count) {
         return None;
     }
-    offset_at(s.bytes, 8 + outer as usize * 4)
+    nullable_offset(
+        s.bytes,
+        ITEM_VARIATION_DATA_OFFSETS + outer as usize * OFFSET32_SIZE,
+    )
 }
 
 /// The bytes that spell the indexes of the regions of item variation data, two for each.
@@ -245,8 +267,8 @@ pub fn data_regions<'a>(s: &Store<'a>, outer: u32) -> Option<&'a [u8]>
     ensures data_count { IfSome result (λ _. outer < 65536) }
 {
     let at = data_offset(s, outer)? as usize;
-    let count = Reader::new_at(s.bytes, at + 4).read::<u16>()?;
-    Reader::new_at(s.bytes, at + 6).read_bytes(count as usize * 2)
+    let count = Reader::new_at(s.bytes, at + REGION_INDEX_COUNT).read::<u16>()?;
+    Reader::new_at(s.bytes, at + REGION_INDEXES).read_bytes(count as usize * REGION_INDEX_SIZE)
 }
 
 /// A delta that is a word.
@@ -254,10 +276,10 @@ fn word_delta(r: &Row<'_>, k: u16) -> Option<i32>
     ensures { result ≡ word_delta r.now k }
 {
     if r.long {
-        let word = Reader::new_at(r.deltas, k as usize * 4).read::<u32>()?;
+        let word = Reader::new_at(r.deltas, k as usize * DELTA32_SIZE).read::<u32>()?;
         Some(word.cast_signed())
     } else {
-        let word = Reader::new_at(r.deltas, k as usize * 2).read::<u16>()?;
+        let word = Reader::new_at(r.deltas, k as usize * DELTA16_SIZE).read::<u16>()?;
         Some(i32::from(word.cast_signed()))
     }
 }
@@ -268,7 +290,7 @@ fn byte_delta(r: &Row<'_>, k: u16) -> Option<i32>
 {
     let place = r.words as usize + k as usize;
     if r.long {
-        let word = Reader::new_at(r.deltas, place * 2).read::<u16>()?;
+        let word = Reader::new_at(r.deltas, place * DELTA16_SIZE).read::<u16>()?;
         Some(i32::from(word.cast_signed()))
     } else {
         let byte = Reader::new_at(r.deltas, place).read::<u8>()?;
@@ -293,7 +315,7 @@ fn term(s: &Store<'_>, at: &[i32], r: &Row<'_>, k: u16) -> Option<i64>
     ensures value { result ≡ term s.now at.now r.now k }
     ensures bound { IfSome result (λ x. unsigned_abs x ≤ 2 ^ 62) }
 {
-    let index = Reader::new_at(r.indexes, k as usize * 2).read::<u16>()?;
+    let index = Reader::new_at(r.indexes, k as usize * REGION_INDEX_SIZE).read::<u16>()?;
     let region = region_items(s, index)?;
     let d = delta(r, k)?;
     Some(scaled(region_scalar(region, at), i64::from(d)))
@@ -327,95 +349,10 @@ fn terms(s: &Store<'_>, at: &[i32], r: &Row<'_>) -> Option<i128>
 pub fn item_delta(s: &Store<'_>, at: &[i32], outer: u32, inner: u32) -> Option<i128>
     ensures { result ≡ item_delta s.now at.now outer inner }
 {
-    if outer == 65535 && inner == 65535 {
+    if outer == NO_VARIATION_INDEX && inner == NO_VARIATION_INDEX {
         return Some(0);
     }
     terms(s, at, &item_row(s, outer, inner)?)
-}
-
-/// How many entries a map of indexes has, and where they stand.
-fn map_head(map: &[u8]) -> Option<(u32, usize)>
-    ensures value { result ≡ map_head map.now }
-    ensures offset { IfSome result (λ h. h.1 ≤ 6) }
-{
-    match Reader::new(map).read::<u8>()? {
-        0 => Some((u32::from(Reader::new_at(map, 2).read::<u16>()?), 4)),
-        1 => Some((Reader::new_at(map, 2).read::<u32>()?, 6)),
-        _ => None,
-    }
-}
-
-/// An entry's outer and inner index.
-fn split_index(bits: u8, entry: u32) -> (u32, u32)
-    requires { bits ≤ 16 }
-    ensures { result ≡ split_index bits entry }
-{
-    (entry >> bits, entry % (1 << bits))
-}
-
-/// The entry of a glyph, past the end the last one.
-fn entry_index(count: u32, glyph: u16) -> u32
-    requires { 0 < count }
-    ensures value { result ≡ entry_index count glyph }
-    ensures bound { result < 65536 }
-{
-    if u32::from(glyph) < count {
-        u32::from(glyph)
-    } else {
-        count - 1
-    }
-}
-
-/// The indexes of a glyph by a map, past the end the last ones.
-#[tactic(auto, unfolding(crate::specs::Items::ItemVariations::mapped_index))]
-fn mapped_index(map: &[u8], glyph: u16) -> Option<(u32, u32)>
-    ensures { result ≡ mapped_index map.now glyph }
-{
-    let (count, from) = map_head(map)?;
-    let form = Reader::new_at(map, 1).read::<u8>()?;
-    if count == 0 {
-        return None;
-    }
-    let size = (form / 16 % 4 + 1) as usize;
-    let place = entry_index(count, glyph);
-    let bytes = Reader::new_at(map, from + place as usize * size).read_bytes(size)?;
-    Some(split_index(form % 16 + 1, number_of(bytes)))
-}
-
-/// The indexes of a glyph's advance.
-#[tactic(auto, unfolding(crate::specs::Items::ItemVariations::advance_index))]
-fn advance_index(hvar: &[u8], glyph: u16) -> Option<(u32, u32)>
-    ensures { result ≡ advance_index hvar.now glyph }
-{
-    let at = Reader::new_at(hvar, 8).read::<u32>()?;
-    if at == 0 {
-        return Some((0, u32::from(glyph)));
-    }
-    mapped_index(from_offset(hvar, at as usize)?, glyph)
-}
-
-/// The store of `HVAR`, if its regions have as many axes as the font.
-#[tactic(auto, unfolding(crate::specs::Items::ItemVariations::store_of))]
-fn store_of(hvar: &[u8], axis_count: usize) -> Option<Store<'_>>
-    ensures { result ≡ store_of hvar.now axis_count }
-{
-    let at = offset_at(hvar, 4)?;
-    let s = item_store(from_offset(hvar, at as usize)?)?;
-    if s.axis_count as usize == axis_count {
-        Some(s)
-    } else {
-        None
-    }
-}
-
-/// What the advance of a glyph varies by at a place, in parts of 2^30.
-#[tactic(auto, unfolding(crate::specs::Items::ItemVariations::advance_delta))]
-fn varied_advance(hvar: &[u8], at: &[i32], glyph: u16) -> Option<i128>
-    ensures { result ≡ advance_delta hvar.now at.now glyph }
-{
-    let s = store_of(hvar, at.len())?;
-    let (outer, inner) = advance_index(hvar, glyph)?;
-    item_delta(&s, at, outer, inner)
 }
 
 /// Parts of 2^30 as whole units, unless there are too many.
@@ -427,12 +364,4 @@ pub(crate) fn in_whole_units(d: i128) -> Result<i64, Error>
     } else {
         Err(Error::OverflowError)
     }
-}
-
-/// What the advance of a glyph varies by at a location, in whole units. A table that is cut, or has no item for the glyph, is
-/// `MalformedFont`, 2^32 units or more `OverflowError`.
-pub fn advance_delta(hvar: &[u8], at: &[i32], glyph: u16) -> Result<i64, Error>
-    ensures { result ≡ whole_or_fault (advance_delta hvar.now at.now glyph) }
-{
-    in_whole_units(varied_advance(hvar, at, glyph).ok_or(Error::MalformedFont)?)
 }

@@ -1,6 +1,6 @@
 //! The axes of a variable font (OpenType, "fvar").
 //!
-//! An axis whose least coordinate lies above its default, which OpenType doesn't allow, has nothing below its default.
+//! An axis whose least coordinate is above its default, which OpenType doesn't allow, has nothing below its default.
 
 ghost use Rattle.std.specs.Prelude.{◌≡◌, ◌<◌, ◌≤◌, ◌-ℤ◌, ◌<ℤ◌, length, unsigned_abs};
 ghost use Rattle.std.specs.Option.{ok_or};
@@ -10,10 +10,15 @@ ghost use Rattle.subsetter_variation.specs.Locations.Axes.{axis_of, find_axis, a
 ghost use Rattle.subsetter_base.specs.Bytes.{long_signed_at};
 
 use crate::fvar::{axes_array_offset, axis_count, axis_size};
-use crate::rounding::part;
+use crate::rounding::mul_div_nearest;
 use std::alloc::Global;
 use subsetter_base::read::{Reader, long_signed_at};
 use subsetter_base::{Error, Tag};
+
+/// How many bytes an axis record has, or more where axisSize says so.
+const VARIATION_AXIS_RECORD_SIZE: u16 = 20;
+/// 1 in 65536ths.
+const ONE: i64 = 65536;
 
 /// An axis: its name, and its coordinates in 65536ths.
 #[derive(Clone, Copy, PartialEq, Eq)]
@@ -79,7 +84,7 @@ pub fn axes(alloc: Global, fvar: &[u8]) -> Result<Vec<Axis>, Error>
     let at = axes_array_offset(fvar).ok_or(Error::MalformedFont)?;
     let count = axis_count(fvar).ok_or(Error::MalformedFont)?;
     let size = axis_size(fvar).ok_or(Error::MalformedFont)?;
-    if size < 20 {
+    if size < VARIATION_AXIS_RECORD_SIZE {
         return Err(Error::MalformedFont);
     }
     axes_at(alloc, count, size as usize, fvar, at as usize)
@@ -105,14 +110,14 @@ fn toward(end: i32, default: i32, coordinate: i32) -> i64
     ensures value { result ≡ toward end default coordinate }
     ensures bound { unsigned_abs result ≤ 65536 }
 {
-    part(
+    mul_div_nearest(
         i64::from(coordinate) - i64::from(default),
         u64::from(end.abs_diff(default)),
-        65536,
+        ONE,
     )
 }
 
-/// The place of a coordinate below the default.
+/// The normalized coordinate of one below the default.
 fn below_default(axis: &Axis, coordinate: i32) -> i64
     requires { coordinate <ℤ axis.now.default }
     ensures value { result ≡ below_default axis.now coordinate }
@@ -121,13 +126,13 @@ fn below_default(axis: &Axis, coordinate: i32) -> i64
     if axis.default <= axis.minimum {
         0
     } else if coordinate <= axis.minimum {
-        -65536
+        -ONE
     } else {
         toward(axis.minimum, axis.default, coordinate)
     }
 }
 
-/// The place of a coordinate above the default.
+/// The normalized coordinate of one above the default.
 fn above_default(axis: &Axis, coordinate: i32) -> i64
     requires { axis.now.default <ℤ coordinate }
     ensures value { result ≡ above_default axis.now coordinate }
@@ -136,13 +141,13 @@ fn above_default(axis: &Axis, coordinate: i32) -> i64
     if axis.maximum <= axis.default {
         0
     } else if axis.maximum <= coordinate {
-        65536
+        ONE
     } else {
         toward(axis.maximum, axis.default, coordinate)
     }
 }
 
-/// The place of a user coordinate on an axis: from -65536 at its least one to 65536 at its greatest one.
+/// The normalized coordinate of a user coordinate on an axis: from -65536 at its least one to 65536 at its greatest one.
 #[tactic(auto, unfolding(crate::specs::Locations::Axes::default_normalized))]
 pub fn default_normalized(axis: &Axis, coordinate: i32) -> i64
     ensures value { result ≡ default_normalized axis.now coordinate }

@@ -1,7 +1,7 @@
 //! The coordinates of an instance on the axes of its font.
 //!
-//! A user coordinate is clamped to its axis first, goes to 16.16, through `avar` in 16.16, and then to F2Dot14, each
-//! rounded by `nearest`. Below the default of an axis that has nothing below it the place is 0, as in HarfBuzz and
+//! A user coordinate is clamped to its axis first, normalized in 16.16, mapped by `avar` in 16.16, and then in F2Dot14, each
+//! rounded by `nearest`. Below the default of an axis that has nothing below it the coordinate is 0, as in HarfBuzz and
 //! fontTools.
 
 ghost use Rattle.std.specs.Prelude.{◌≡◌, ◌≤◌, ◌^◌, length, map, Some, None, Ok, unsigned_abs};
@@ -19,8 +19,13 @@ use std::alloc::{AllocError, Global};
 use subsetter_base::read::{LazyArray16, Reader};
 use subsetter_base::{Error, Tag};
 
+/// axisCount of `avar`, two bytes.
+const AXIS_COUNT: usize = 6;
+/// axisSegmentMaps of `avar`.
+const AXIS_SEGMENT_MAPS: usize = 8;
+
 /// 65536ths as 16384ths.
-fn coarse(n: i64) -> i32
+fn fixed_to_f2dot14(n: i64) -> i32
     requires { unsigned_abs n ≤ 2 ^ 19 }
     ensures value { result ≡ nearest n 4 }
     ensures bound { unsigned_abs result ≤ 2 ^ 17 }
@@ -34,7 +39,7 @@ fn coordinate(axis: &Axis, ends: LazyArray16<'_, AxisValueMap>, settings: &[(Tag
     ensures { result ≡ coordinate axis.now (axis_value_maps ends.entry) settings.now }
 {
     let place = default_normalized(axis, user_coordinate(axis, settings));
-    coarse(mapped(ends, place))
+    fixed_to_f2dot14(mapped(ends, place))
 }
 
 /// On each axis, where none is mapped.
@@ -52,7 +57,7 @@ fn unmapped_coordinates(
     Ok(coordinates)
 }
 
-/// On each axis, whose segments stand behind those of the axis before.
+/// On each axis, whose segments are behind those of the axis before.
 #[tactic(auto, using(crate::proofs::PackingLaws::Listed::coordinates_cut))]
 fn coordinates_at(
     alloc: Global,
@@ -62,7 +67,7 @@ fn coordinates_at(
 ) -> Result<Vec<i32>, Error>
     ensures { Gives (λ v. v.items) result (ok_or (coordinates_at axes.now settings.now avar.now 8) MalformedFont) }
 {
-    let mut r = Reader::new_at(avar, 8);
+    let mut r = Reader::new_at(avar, AXIS_SEGMENT_MAPS);
     let mut coordinates = Vec::with_capacity(alloc, axes.len())?;
     for axis in axes {
         let ends = next_segment_map(&mut r).ok_or(Error::MalformedFont)?;
@@ -81,7 +86,7 @@ fn mapped_coordinates(
 ) -> Result<Vec<i32>, Error>
     ensures { Gives (λ v. v.items) result (ok_or (mapped_coordinates axes.now settings.now avar.now) MalformedFont) }
 {
-    let count = Reader::new_at(avar, 6)
+    let count = Reader::new_at(avar, AXIS_COUNT)
         .read::<u16>()
         .ok_or(Error::MalformedFont)?;
     if count as usize != axes.len() {

@@ -1,13 +1,18 @@
 //! The segments that bend an axis (OpenType, "avar").
 //!
-//! OpenType requests the pairs of -1, 0 and 1, past which no number lies, for numbers that ascend, and for new numbers that
+//! OpenType requests the pairs of -1, 0 and 1, past which there is no number, for numbers that ascend, and for new numbers that
 //! don't descend. Where an axis has anything else, its coordinate isn't modified. The major version has to be 1.
 
 ghost use Rattle.std.specs.Prelude.{◌≡◌, ◌+◌, ◌*◌, ◌<◌, ◌≤◌, ◌^◌, Some, true, ◌-ℤ◌, ◌≤ℤ◌, ◌<ℤ◌, IfSome, true, unsigned_abs};
-ghost use Rattle.subsetter_variation.specs.Locations.Segments.{axis_value_map_of, segment_map_at, axis_value_maps, fine, passed, on_segment, is_on, by_segments, keeps, follows, ascends, is_segment_map, mapped};
+ghost use Rattle.subsetter_variation.specs.Locations.Segments.{axis_value_map_of, segment_map_at, axis_value_maps, f2dot14_to_fixed, interpolated, on_segment, is_on, by_segments, keeps, follows, ascends, is_segment_map, mapped};
 
-use crate::rounding::{minus, part, plus};
+use crate::rounding::{minus, mul_div_nearest, plus};
 use subsetter_base::read::{LazyArray16, Readable, Reader, signed_at};
+
+/// How many bytes the end of a segment has.
+const AXIS_VALUE_MAP_SIZE: usize = 4;
+/// 1 in 16384ths.
+const ONE: i16 = 16384;
 
 /// The end of a segment: a number and its new one, in 16384ths.
 #[derive(Clone, Copy, PartialEq, Eq)]
@@ -24,7 +29,7 @@ impl Readable<'_> for AxisValueMap {
     ghost value_of = { λ bytes. Some (axis_value_map_of bytes) };
 
     fn read(r: &mut Reader<'_>) -> Option<Self> {
-        let b = r.read_bytes(4)?;
+        let b = r.read_bytes(AXIS_VALUE_MAP_SIZE)?;
         Some(AxisValueMap {
             from: signed_at(b, 0),
             to: signed_at(b, 2),
@@ -33,48 +38,48 @@ impl Readable<'_> for AxisValueMap {
 }
 
 /// 16384ths as 65536ths.
-fn fine(z: i16) -> i64
-    ensures value { result ≡ fine z }
+fn f2dot14_to_fixed(z: i16) -> i64
+    ensures value { result ≡ f2dot14_to_fixed z }
     ensures bound { unsigned_abs result ≤ 2 ^ 17 }
 {
     4 * i64::from(z)
 }
 
 /// Of a whole as great a part as a number has passed of the way from one end to another.
-fn passed(from: i64, to: i64, n: i64, whole: i64) -> i64
+fn interpolated(from: i64, to: i64, n: i64, whole: i64) -> i64
     requires behind { from ≤ℤ n }
     requires before { n <ℤ to }
     requires start { unsigned_abs from ≤ 2 ^ 20 }
     requires end { unsigned_abs to ≤ 2 ^ 20 }
     requires small { unsigned_abs whole ≤ 2 ^ 20 }
-    ensures value { result ≡ passed from to n whole }
+    ensures value { result ≡ interpolated from to n whole }
     ensures bound { unsigned_abs result ≤ unsigned_abs whole }
 {
     let way = (to - from).unsigned_abs();
-    part(n - from, way, whole)
+    mul_div_nearest(n - from, way, whole)
 }
 
-/// A number that lies between two ends, at the same part of the way between their new numbers.
+/// A number between two ends, at the same part of the distance between their new numbers.
 #[tactic(auto, unfolding(crate::specs::Locations::Segments::on_segment))]
 fn on_segment(p: AxisValueMap, q: AxisValueMap, n: i64) -> i64
-    requires behind { fine p.from ≤ℤ n }
-    requires before { n <ℤ fine q.from }
+    requires behind { f2dot14_to_fixed p.from ≤ℤ n }
+    requires before { n <ℤ f2dot14_to_fixed q.from }
     ensures value { result ≡ on_segment p q n }
     ensures bound { unsigned_abs result ≤ 2 ^ 19 }
 {
-    let to = fine(p.to);
-    let whole = minus(fine(q.to), to);
-    let more = passed(fine(p.from), fine(q.from), n, whole);
+    let to = f2dot14_to_fixed(p.to);
+    let whole = minus(f2dot14_to_fixed(q.to), to);
+    let more = interpolated(f2dot14_to_fixed(p.from), f2dot14_to_fixed(q.from), n, whole);
     plus(to, more)
 }
 
-/// The number lies between two ends, and not on the second.
+/// The number is between two ends, and isn't the second.
 fn is_on(p: AxisValueMap, q: AxisValueMap, n: i64) -> bool
     ensures value { result ≡ is_on p q n }
-    ensures behind { result ≡ true → fine p.from ≤ℤ n }
-    ensures before { result ≡ true → n <ℤ fine q.from }
+    ensures behind { result ≡ true → f2dot14_to_fixed p.from ≤ℤ n }
+    ensures before { result ≡ true → n <ℤ f2dot14_to_fixed q.from }
 {
-    fine(p.from) <= n && n < fine(q.from)
+    f2dot14_to_fixed(p.from) <= n && n < f2dot14_to_fixed(q.from)
 }
 
 /// The ends of the segments of the next axis.
@@ -128,10 +133,10 @@ fn ascends(ends: &LazyArray16<'_, AxisValueMap>) -> bool
 fn is_segment_map(ends: &LazyArray16<'_, AxisValueMap>) -> bool
     ensures { result ≡ is_segment_map (axis_value_maps ends.now) }
 {
-    keeps(ends, -16384) && keeps(ends, 0) && keeps(ends, 16384) && ascends(ends)
+    keeps(ends, -ONE) && keeps(ends, 0) && keeps(ends, ONE) && ascends(ends)
 }
 
-/// A number by the segments of an axis; one that lies in none stays, and so does each where the ends aren't those of segments.
+/// A number by the segments of an axis; one that is in none is unchanged, and so is each where the ends aren't those of segments.
 pub fn mapped(ends: LazyArray16<'_, AxisValueMap>, n: i64) -> i64
     requires { unsigned_abs n ≤ 2 ^ 19 }
     ensures value { result ≡ mapped (axis_value_maps ends.entry) n }
@@ -144,7 +149,7 @@ pub fn mapped(ends: LazyArray16<'_, AxisValueMap>, n: i64) -> i64
     }
 }
 
-/// A number by the first segment in which it lies; one that lies in none stays.
+/// A number by the first segment in which it is; one that is in none is unchanged.
 fn by_segments(ends: LazyArray16<'_, AxisValueMap>, n: i64) -> i64
     requires { unsigned_abs n ≤ 2 ^ 19 }
     ensures value { result ≡ by_segments (axis_value_maps ends.entry) n }

@@ -1,7 +1,7 @@
 //! Packed point numbers and packed deltas (OpenType, "Tuple Variation Store").
 //!
-//! The reading is strict: a run that goes on past its count, data past the glyph's, and a point number that isn't above
-//! the one before it, or not below the count of points, have no reading. A count of 0 point numbers stands for all points,
+//! The reading is strict: a run that is longer than its count, data past the glyph's, and a point number that isn't above
+//! the one before it, or not below the count of points, have no reading. A count of 0 point numbers means all points,
 //! in one byte or in two (`80 00`), as in HarfBuzz and fontTools: OpenType says so of a first byte of 0 alone, and leaves the
 //! other open, which FreeType reads as no points.
 
@@ -17,10 +17,23 @@ use std::alloc::Global;
 use std::marker::Model;
 use subsetter_base::Error;
 
+/// The flags of a run of deltas: all are 0, and it has no bytes.
+pub(crate) const DELTAS_ARE_ZERO: u8 = 0x80;
+/// Each has two bytes.
+pub(crate) const DELTAS_ARE_WORDS: u8 = 0x40;
+/// So many values are below these flags: one more than DELTA_RUN_COUNT_MASK.
+pub(crate) const DELTA_RUN_COUNTS: u8 = 0x40;
+/// The flag of a run of point numbers: each has two bytes.
+const POINTS_ARE_WORDS: u8 = 0x80;
+/// So many values are below this flag: one more than POINT_RUN_COUNT_MASK.
+const POINT_RUN_COUNTS: u8 = 0x80;
+/// The flag of a count of point numbers that has two bytes.
+const COUNT_IS_WORD: u8 = 0x80;
+
 /// A run that is being read.
 #[derive(Drop)]
 struct Run<'a> {
-    /// How many numbers it still has.
+    /// How many numbers are left of it.
     left: u8,
     /// Its first byte.
     control: u8,
@@ -111,10 +124,10 @@ fn behind<'a>(r: Run<'a>, bytes: &'a [u8]) -> Run<'a>
 fn delta_in<'a>(r: Run<'a>) -> Option<(i16, Run<'a>)>
     ensures { result ≡ delta_in r.entry }
 {
-    if r.control >= 128 {
+    if r.control >= DELTAS_ARE_ZERO {
         let rest = r.bytes;
         Some((0, behind(r, rest)))
-    } else if r.control >= 64 {
+    } else if r.control >= DELTAS_ARE_WORDS {
         let (word, rest) = word_in(r.bytes)?;
         Some((word.cast_signed(), behind(r, rest)))
     } else {
@@ -128,14 +141,14 @@ fn delta_in<'a>(r: Run<'a>) -> Option<(i16, Run<'a>)>
 fn next_delta<'a>(r: Run<'a>) -> Option<(i16, Run<'a>)>
     ensures { result ≡ next_delta r.entry }
 {
-    delta_in(begun(64, r)?)
+    delta_in(begun(DELTA_RUN_COUNTS, r)?)
 }
 
 /// The next step of a run.
 fn step_in<'a>(r: Run<'a>) -> Option<(u16, Run<'a>)>
     ensures { result ≡ step_in r.entry }
 {
-    if r.control >= 128 {
+    if r.control >= POINTS_ARE_WORDS {
         let (word, rest) = word_in(r.bytes)?;
         Some((word, behind(r, rest)))
     } else {
@@ -150,7 +163,7 @@ fn next_point<'a>(limit: u32, before: u32, least: u32, r: Run<'a>) -> Option<(u3
     ensures value { result ≡ next_point limit before least r.entry }
     ensures below { MatchOption result (Unit {0}) (λ p. p.0 < limit) }
 {
-    let (step, rest) = step_in(begun(128, r)?)?;
+    let (step, rest) = step_in(begun(POINT_RUN_COUNTS, r)?)?;
     let number = u64::from(before) + u64::from(step);
     if number < u64::from(least) {
         return None;
@@ -167,11 +180,14 @@ fn count_in(bytes: &[u8]) -> Option<(u16, &[u8])>
     ensures { MatchOption result (count_in bytes.now ≡ None) (λ r. count_in bytes.now ≡ Some (r.0, r.1.now)) }
 {
     let (first, rest) = byte_in(bytes)?;
-    if first < 128 {
+    if first < COUNT_IS_WORD {
         return Some((u16::from(first), rest));
     }
     let (low, rest) = byte_in(rest)?;
-    Some((u16::from(first - 128) * 256 + u16::from(low), rest))
+    Some((
+        u16::from(first - COUNT_IS_WORD) * 256 + u16::from(low),
+        rest,
+    ))
 }
 
 /// The bytes behind the last run.
@@ -181,7 +197,7 @@ fn ended<'a>(r: Run<'a>) -> Option<&'a [u8]>
     if r.left == 0 { Some(r.bytes) } else { None }
 }
 
-/// That many deltas, and the bytes behind them. A cut list, or a run that goes on past its end, is `MalformedFont`.
+/// That many deltas, and the bytes behind them. A cut list, or a run that is longer than it, is `MalformedFont`.
 #[tactic(auto, using(crate::proofs::PackingLaws::Runs::deltas_step, crate::proofs::PackingLaws::Runs::deltas_cut, crate::proofs::PackingLaws::Runs::deltas_end), unfolding(crate::specs::Packing::Packed::deltas))]
 pub fn deltas(alloc: Global, n: usize, bytes: &[u8]) -> Result<(Vec<i16>, &[u8]), Error>
     ensures exact { Gives (λ r. (r.0.items, r.1.now)) result (ok_or (deltas n bytes.now) MalformedFont) }
@@ -224,7 +240,7 @@ fn points_from(
     Ok((list, rest))
 }
 
-/// The points that deltas are given for, none for all, and the bytes behind them. A cut list, a run that goes on past its end,
+/// The points that deltas are given for, none for all, and the bytes behind them. A cut list, a run that is longer than it,
 /// or a number that is given twice or isn't below the limit is `MalformedFont`.
 #[tactic(auto, unfolding(crate::specs::Packing::Packed::point_numbers))]
 pub fn point_numbers(

@@ -6,10 +6,10 @@ ghost use Rattle.std.specs.Int.{w8, w16, cast_signed};
 ghost use Rattle.std.specs.Option.{option_copied};
 ghost use Rattle.subsetter_variation.specs.Packing.Packed.{deltas, deltas_from};
 
-use crate::packing::packed::byte_in;
-use crate::rounding::given;
+use crate::packing::packed::{DELTA_RUN_COUNTS, DELTAS_ARE_WORDS, DELTAS_ARE_ZERO, byte_in};
+use crate::rounding::scalar_times_delta;
 
-/// The signed number of the byte at a place.
+/// The signed number of the byte at an offset.
 fn byte_at(bytes: &[u8], at: usize) -> i16
     requires { at < length bytes.now }
     ensures { result ≡ cast_signed w8 (slice_index_or bytes.now at 0) }
@@ -26,11 +26,11 @@ fn add_bytes(sums: &mut [i64], bytes: &[u8], scalar: i64)
     ensures bound { EachIndex sums.old (λ k. unsigned_abs (scalar *ℤ cast_signed w8 (slice_index_or bytes.now k 0)) ≤ 2 ^ 45) }
 {
     for k in 0..sums.len() {
-        sums[k] += given(scalar, byte_at(bytes, k));
+        sums[k] += scalar_times_delta(scalar, byte_at(bytes, k));
     }
 }
 
-/// The signed number of the two bytes at a place.
+/// The signed number of the two bytes at an offset.
 fn word_at(bytes: &[u8], at: usize) -> i16
     requires { at + 1 < length bytes.now }
     ensures { result ≡ cast_signed w16 (slice_index_or bytes.now at 0 * 256 + slice_index_or bytes.now (at + 1) 0) }
@@ -47,7 +47,7 @@ fn add_words(sums: &mut [i64], bytes: &[u8], scalar: i64)
     ensures bound { EachIndex sums.old (λ k. unsigned_abs (scalar *ℤ cast_signed w16 (slice_index_or bytes.now (k * 2) 0 * 256 + slice_index_or bytes.now (k * 2 + 1) 0)) ≤ 2 ^ 45) }
 {
     for k in 0..sums.len() {
-        sums[k] += given(scalar, word_at(bytes, k * 2));
+        sums[k] += scalar_times_delta(scalar, word_at(bytes, k * 2));
     }
 }
 
@@ -63,10 +63,10 @@ fn add_run<'a>(sums: &mut [i64], control: u8, bytes: &'a [u8], scalar: i64) -> O
     ensures bound { IfSome (deltas_from (length sums.old) (record { left = length sums.old; control = control; bytes = bytes.now })) (λ d. EachIndex sums.old (λ k. unsigned_abs (scalar *ℤ slice_index_or d.0 k (pos 0)) ≤ 2 ^ 45)) }
 {
     let count = sums.len();
-    if control >= 128 {
+    if control >= DELTAS_ARE_ZERO {
         return Some(bytes);
     }
-    if control >= 64 {
+    if control >= DELTAS_ARE_WORDS {
         if bytes.len() < count * 2 {
             return None;
         }
@@ -80,7 +80,7 @@ fn add_run<'a>(sums: &mut [i64], control: u8, bytes: &'a [u8], scalar: i64) -> O
     Some(&bytes[count..])
 }
 
-/// Adds to each sum its delta times the scalar. The bytes behind the deltas, unless they are cut or a run goes on past their end.
+/// Adds to each sum its delta times the scalar. The bytes behind the deltas, unless they are cut or a run is longer than they.
 #[tactic(auto, unfolding(crate::specs::Packing::Packed::deltas))]
 pub fn add_deltas<'a>(sums: &mut [i64], bytes: &'a [u8], scalar: i64) -> Option<&'a [u8]>
     requires scalar { unsigned_abs scalar ≤ 2 ^ 30 }
@@ -93,7 +93,7 @@ pub fn add_deltas<'a>(sums: &mut [i64], bytes: &'a [u8], scalar: i64) -> Option<
     let mut rest = bytes;
     while at < sums.len() {
         let (control, behind) = byte_in(rest)?;
-        let past = at + usize::from(control % 64) + 1;
+        let past = at + usize::from(control % DELTA_RUN_COUNTS) + 1;
         if past > sums.len() {
             return None;
         }

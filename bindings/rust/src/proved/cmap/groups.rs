@@ -3,6 +3,13 @@
 
 use crate::proved::subsetter_base::read::{u32_at, Reader};
 
+/// numGroups, four bytes.
+const NUM_GROUPS: usize = 12;
+/// groups.
+const GROUPS: usize = 16;
+/// How many bytes a group has.
+const SEQUENTIAL_MAP_GROUP_SIZE: usize = 12;
+
 /// A range of characters, and the glyph of its first.
 #[derive(Clone, Copy)]
 struct Group {
@@ -35,14 +42,15 @@ impl Group {
 
 /// The glyph of a character, by a table of format 12.
 pub fn glyph_by_groups(table: &[u8], character: u32) -> Option<u16> {
-    let count = Reader::new_at(table, 12).read::<u32>()?;
+    let count = Reader::new_at(table, NUM_GROUPS).read::<u32>()?;
     find_glyph(table, count, character)
 }
 
 /// The glyph of a character, by at most so many groups.
 fn find_glyph(table: &[u8], count: u32, character: u32) -> Option<u16> {
     for place in 0..count {
-        let bytes = Reader::new_at(table, 16 + 12 * (place as usize)).read_bytes(12)?;
+        let bytes = Reader::new_at(table, GROUPS + SEQUENTIAL_MAP_GROUP_SIZE * (place as usize))
+            .read_bytes(SEQUENTIAL_MAP_GROUP_SIZE)?;
         let group = group_of(bytes);
         if group.has(character) {
             return group.glyph_of(character);

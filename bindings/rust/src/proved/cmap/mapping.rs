@@ -32,6 +32,21 @@ impl Subtable<'_> {
     }
 }
 
+/// numTables, two bytes.
+const NUM_TABLES: usize = 2;
+/// encodingRecords.
+const ENCODING_RECORDS: usize = 4;
+/// How many bytes an encoding record has.
+const ENCODING_RECORD_SIZE: usize = 8;
+/// encodingID of a record, two bytes, behind platformID.
+const ENCODING_ID: usize = 2;
+/// subtableOffset of a record, four bytes.
+const SUBTABLE_OFFSET: usize = 4;
+/// The formats that are read.
+const SEGMENT_MAPPING: u16 = 4;
+
+const SEGMENTED_COVERAGE: u16 = 12;
+
 /// Whether a platform and its encoding are Unicode.
 fn is_unicode(platform: u16, encoding: u16) -> bool {
     platform == 0 || (platform == 3 && (encoding == 1 || encoding == 10))
@@ -49,8 +64,8 @@ fn of_format(table: &[u8], format: u16) -> Option<&[u8]> {
 /// The table of a format that the encoding record at a place leads to, if the record is a Unicode one.
 fn unicode_table(cmap: &[u8], at: usize, format: u16) -> Option<&[u8]> {
     let platform = Reader::new_at(cmap, at).read::<u16>()?;
-    let encoding = Reader::new_at(cmap, at + 2).read::<u16>()?;
-    let offset = Reader::new_at(cmap, at + 4).read::<u32>()?;
+    let encoding = Reader::new_at(cmap, at + ENCODING_ID).read::<u16>()?;
+    let offset = Reader::new_at(cmap, at + SUBTABLE_OFFSET).read::<u32>()?;
     if !is_unicode(platform, encoding) {
         return None;
     }
@@ -61,7 +76,11 @@ fn unicode_table(cmap: &[u8], at: usize, format: u16) -> Option<&[u8]> {
 /// The first such table of that many encoding records.
 fn find_of_format(cmap: &[u8], count: u16, format: u16) -> Option<&[u8]> {
     for record in 0..count {
-        if let Some(table) = unicode_table(cmap, 4 + 8 * usize::from(record), format) {
+        if let Some(table) = unicode_table(
+            cmap,
+            ENCODING_RECORDS + ENCODING_RECORD_SIZE * usize::from(record),
+            format,
+        ) {
             return Some(table);
         }
     }
@@ -70,16 +89,16 @@ fn find_of_format(cmap: &[u8], count: u16, format: u16) -> Option<&[u8]> {
 
 /// The first Unicode table of a format.
 fn table_of_format(cmap: &[u8], format: u16) -> Option<&[u8]> {
-    let count = Reader::new_at(cmap, 2).read::<u16>()?;
+    let count = Reader::new_at(cmap, NUM_TABLES).read::<u16>()?;
     find_of_format(cmap, count, format)
 }
 
 /// The table of a `cmap` by which the glyphs of Unicode characters are found: the first of format 12, which has all
 /// characters, else the first of format 4, which has those of 16 bits.
 pub fn find_subtable(cmap: &[u8]) -> Option<Subtable<'_>> {
-    if let Some(table) = table_of_format(cmap, 12) {
+    if let Some(table) = table_of_format(cmap, SEGMENTED_COVERAGE) {
         return Some(Subtable::Groups(table));
     }
-    let table = table_of_format(cmap, 4)?;
+    let table = table_of_format(cmap, SEGMENT_MAPPING)?;
     Some(Subtable::Segments(table))
 }

@@ -18,7 +18,7 @@ fn lacks_call(error: &io::Error) -> bool {
     )
 }
 
-/// A file that is made by its first write, so that nothing is touched before. It is written beside the place of its name,
+/// A file that is made by its first write, so that nothing is touched before. It is written beside the file of its name,
 /// where a file can be made there, and is given the name by `flush`. A file that isn't flushed is gone with its value.
 pub struct LateFile<'a, R: Files> {
     rt: &'a R,

@@ -2,7 +2,7 @@
 //! What a PDF takes of a `CFF ` table (Technical Note 5176): its first name, and its first vertical stem.
 //!
 //! ```text
-//! let said = said_in(alloc, cff, units)?;     // said.name: "Made-Bold", said.stem: 83
+//! let values = cff_values_in(alloc, cff, units)?;     // values.name: "Made-Bold", values.stem: 83
 //! ```
 
 mod stems;

@@ -29,6 +29,17 @@ fn is_short(head: Option<&[u8]>) -> bool {
     }
 }
 
+/// The box in the header of a glyph description, two bytes each.
+const X_MIN: usize = 2;
+
+const Y_MIN: usize = 4;
+
+const X_MAX: usize = 6;
+
+const Y_MAX: usize = 8;
+/// How many bytes the header has.
+const HEADER_SIZE: usize = 10;
+
 /// An entry of `loca`.
 fn entry(tables: OutlineTables<'_>, index: usize) -> Option<usize> {
     let loca = tables.loca?;
@@ -40,10 +51,10 @@ fn entry(tables: OutlineTables<'_>, index: usize) -> Option<usize> {
 
 /// The box of the header at an offset of `glyf`.
 fn box_at(glyf: Option<&[u8]>, at: usize) -> Option<GlyphBox> {
-    let x_min = signed_in(glyf, at + 2)?;
-    let y_min = signed_in(glyf, at + 4)?;
-    let x_max = signed_in(glyf, at + 6)?;
-    let y_max = signed_in(glyf, at + 8)?;
+    let x_min = signed_in(glyf, at + X_MIN)?;
+    let y_min = signed_in(glyf, at + Y_MIN)?;
+    let x_max = signed_in(glyf, at + X_MAX)?;
+    let y_max = signed_in(glyf, at + Y_MAX)?;
     Some(GlyphBox {
         x_min,
         y_min,
@@ -56,7 +67,7 @@ fn box_at(glyf: Option<&[u8]>, at: usize) -> Option<GlyphBox> {
 pub fn glyph_box(tables: OutlineTables<'_>, glyph: u16) -> Option<GlyphBox> {
     let from = entry(tables, usize::from(glyph))?;
     let to = entry(tables, usize::from(glyph) + 1)?;
-    if from <= to && 10 <= to - from {
+    if from <= to && HEADER_SIZE <= to - from {
         return box_at(tables.glyf, from);
     }
     None

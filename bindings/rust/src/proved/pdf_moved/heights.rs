@@ -2,52 +2,16 @@
 //! Ascent, Descent, CapHeight and XHeight (ISO 32000-1, Table 122) of a font that is moved (OpenType, "MVAR").
 
 use crate::proved::pdf_moved::movement::{varied, Movement};
-use crate::proved::pdf_values::fields::sets_bit;
+use crate::proved::pdf_values::looks::heights::{
+    above_0, cap_height, descent_in_thousandths, first_line, in_thousandths, line_in, windows_line,
+    Line,
+};
 use crate::proved::pdf_values::{thousandths, Heights};
 use crate::proved::subsetter_base::Tag;
 use crate::proved::subsetter_sfnt::fields::head::{y_max, y_min};
-use crate::proved::subsetter_sfnt::fields::hhea::{ascender, descender};
 use crate::proved::subsetter_sfnt::fields::os2::{
-    fs_selection, s_cap_height, s_typo_ascender, s_typo_descender, sx_height, us_win_ascent,
-    us_win_descent,
+    s_cap_height, s_typo_ascender, s_typo_descender, sx_height,
 };
-
-/// How far a line of text reaches above the baseline, and, as a number below 0, below it, in the font's units.
-#[derive(Clone, Copy)]
-pub struct Line {
-    pub ascent: i32,
-    pub descent: i32,
-}
-
-/// A line, unless its numbers are 0 and 0.
-fn counted(ascent: i32, descent: i32) -> Option<Line> {
-    if ascent == 0 && descent == 0 {
-        return None;
-    }
-    Some(Line { ascent, descent })
-}
-
-/// The line of two signed fields.
-fn line_in(ascent: Option<i16>, descent: Option<i16>) -> Option<Line> {
-    let above = ascent?;
-    let below = descent?;
-    counted(i32::from(above), i32::from(below))
-}
-
-/// The line that Windows clips to: usWinAscent, and usWinDescent, which is counted downwards.
-fn windows_line(os2: Option<&[u8]>) -> Option<Line> {
-    let above = us_win_ascent(os2)?;
-    let below = us_win_descent(os2)?;
-    counted(i32::from(above), -i32::from(below))
-}
-
-/// The line of `hhea`, unless the typographic one is to be used (fsSelection, bit 7, USE_TYPO_METRICS).
-fn first_line(hhea: Option<&[u8]>, os2: Option<&[u8]>) -> Option<Line> {
-    if sets_bit(fs_selection(os2), 7) {
-        return None;
-    }
-    line_in(ascender(hhea), descender(hhea))
-}
 
 /// The line of `hhea` or the typographic one, with what it varies by.
 fn text_line(movement: Movement<'_>, line: Line) -> Line {
@@ -110,15 +74,6 @@ fn moved_line(
     }
 }
 
-/// A height, if it is above 0.
-fn above_0(height: Option<i16>) -> Option<i32> {
-    let height = height?;
-    if height > 0 {
-        return Some(i32::from(height));
-    }
-    None
-}
-
 /// A height that is said, with what it varies by, else the top of a glyph.
 fn moved_height(
     movement: Movement<'_>,
@@ -132,33 +87,9 @@ fn moved_height(
     above_0(top)
 }
 
-/// How far below the baseline a line reaches, as a number that isn't above 0.
-fn descent_of(line: Line) -> i32 {
-    -line.descent.abs()
-}
-
-/// The height of capitals: what is said, else Ascent.
-fn cap_height(height: Option<i32>, line: Line) -> i32 {
-    match height {
-        Some(height) => height,
-        None => line.ascent,
-    }
-}
-
-/// A height in thousandths.
-fn in_thousandths(height: Option<i32>, units: u16) -> Option<i32> {
-    let height = height?;
-    Some(thousandths(height, u32::from(units)))
-}
-
 /// Ascent in thousandths.
 fn ascent_in(line: Line, units: u16) -> i32 {
     thousandths(line.ascent, u32::from(units))
-}
-
-/// Descent in thousandths.
-fn descent_in(line: Line, units: u16) -> i32 {
-    thousandths(descent_of(line), u32::from(units))
 }
 
 /// The height of capitals in thousandths.
@@ -170,7 +101,7 @@ fn cap_in(cap: Option<i32>, line: Line, units: u16) -> i32 {
 fn heights_by(line: Line, cap: Option<i32>, x: Option<i32>, units: u16) -> Heights {
     Heights {
         ascent: ascent_in(line, units),
-        descent: descent_in(line, units),
+        descent: descent_in_thousandths(line, units),
         cap_height: cap_in(cap, line, units),
         x_height: in_thousandths(x, units),
     }

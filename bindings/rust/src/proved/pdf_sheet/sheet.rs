@@ -37,8 +37,8 @@ fn sheet_body(
 }
 
 /// A whole PDF that shows glyphs of a font in 36 points, in a line or in a grid of as many pages as they need, at least one.
-/// The text runs as the font's values say. An em of a line and its margins are 36 points; its page has at most 14,400 points,
-/// and what is longer stands outside of it.
+/// The text runs as the font's values have it. An em of a line and its margins are 36 points; its page has at most 14,400 points,
+/// and what is longer is outside of it.
 ///
 /// # Errors
 ///

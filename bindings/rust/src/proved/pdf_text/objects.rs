@@ -4,9 +4,10 @@
 use crate::rattle::prelude::Vec;
 
 use crate::proved::pdf_text::cmaps::lines::write_count;
-use crate::proved::pdf_text::dictionaries::{
-    write_cid_font, write_cmap, write_descriptor, write_font, write_program, write_size,
-};
+use crate::proved::pdf_text::dictionaries::descriptor::write_descriptor;
+use crate::proved::pdf_text::dictionaries::entries::write_size;
+use crate::proved::pdf_text::dictionaries::fonts::{write_cid_font, write_font};
+use crate::proved::pdf_text::dictionaries::streams::{write_cmap, write_program};
 use crate::proved::pdf_text::values::{FontValues, OwnCmap, References};
 use crate::proved::subsetter_base::Error;
 use crate::rattle::alloc::Global;

@@ -5,10 +5,10 @@
 
 use crate::rattle::prelude::Vec;
 
-use crate::proved::subset_args::jobs::ArgsError;
+use crate::proved::subset_args::jobs::command::ArgsError;
 use crate::proved::subsetter_base::Tag;
 use crate::proved::subsetter_variation::rounding::nearest;
-use crate::proved::subsetter_words::{parts_of, u16_of};
+use crate::proved::subsetter_words::{parts_of, tag_of, u16_of};
 use crate::rattle::alloc::{AllocError, Global};
 
 /// A number without a sign: so many halves of a 65536th, and whether there is more.
@@ -133,15 +133,6 @@ fn value_of(word: &str) -> Option<i32> {
         Some((front, behind)) => with_minus(front, behind),
         None => above_zero(word),
     }
-}
-
-/// The tag that a text of four bytes is.
-fn tag_of(name: &str) -> Option<Tag> {
-    let bytes = name.as_bytes();
-    if bytes.len() != 4 {
-        return None;
-    }
-    Some(Tag::new(&[bytes[0], bytes[1], bytes[2], bytes[3]]))
 }
 
 /// The coordinate that a name and a value say.

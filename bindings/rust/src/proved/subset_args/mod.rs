@@ -19,11 +19,14 @@ mod nearest;
 mod options;
 mod texts;
 
-pub use jobs::{is_stream, read_words, ArgsError, Command, Glyphs, Job, PdfJob, Position, Topic};
+pub use jobs::command::{ArgsError, Command, Glyphs, Job, PdfJob, Position, Topic};
+pub use jobs::parts::is_stream;
+pub use jobs::reading::read_words;
 pub use limits::RunLimits;
 pub use listing::characters::codes_descend;
 pub use listing::files::{find_wrong, read_list};
 pub use listing::lists::{descends, FileKind, GlyphList};
-pub use mistakes::find_mistake;
-pub use options::{Coding, PdfChoice, Switches};
+pub use mistakes::free::find_mistake;
+pub use options::chosen::{PdfChoice, Switches};
+pub use options::names::Coding;
 pub use texts::{Advice, Shown, CODES_WANTED, ORDER_WANTED, PARTS_WANTED};

@@ -17,8 +17,8 @@ mod run;
 mod streams;
 mod task;
 
-use run::Ended;
+use run::program::Ended;
 
 pub fn main(rt: HostRuntime) -> Ended {
-    run::run(&rt)
+    run::program::run(&rt)
 }

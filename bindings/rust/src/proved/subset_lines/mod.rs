@@ -20,7 +20,9 @@ mod text;
 
 pub use entry::{take_first, Numbering};
 pub use faces::axes::{name_of, read_axes, write_axes, FontAxes};
-pub use faces::info::{write_info, write_info_json, Info, Outlines};
+pub use faces::info::face::{Info, Outlines};
+pub use faces::info::json::write_info_json;
+pub use faces::info::lines::write_info;
 pub use faces::sizes::{size_lines, TableSize};
 pub use notes::{note_lines, Note};
 pub use objects::axes_json::{text_of_name, write_axes_json};

@@ -4,7 +4,7 @@
 use crate::proved::subsetter_sfnt::extras::Extras;
 use crate::proved::subsetter_type2::limits::Limits;
 
-/// How far a charstring may run, and what is kept.
+/// How much work and how large a font is allowed, and what is kept.
 #[derive(Clone, Copy, PartialEq, Eq, Debug)]
 pub struct Options {
     pub limits: Limits,

@@ -77,7 +77,8 @@ pub fn subset_with_options(
     }
 }
 
-/// Whether a font can be opened: what `subset` looks at before it takes memory. This takes none.
+/// Whether a font can be opened: the file, its directory and the kind of its outlines. `subset` looks at these first, and takes no
+/// memory for it.
 ///
 /// # Errors
 ///

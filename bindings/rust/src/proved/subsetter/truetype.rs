@@ -13,6 +13,7 @@ use crate::proved::subsetter::loca;
 use crate::proved::subsetter::tables::{borrowed, TableData};
 use crate::proved::subsetter_base::{Error, GlyphRemapper, Tag};
 use crate::proved::subsetter_sfnt::face::Face;
+use crate::proved::subsetter_sfnt::fields::loca::OFFSET32_MAX;
 use crate::proved::subsetter_sfnt::flavor::FontFlavor;
 use crate::proved::subsetter_sfnt::laying::tables::FontTables;
 use crate::rattle::alloc::Global;
@@ -28,7 +29,7 @@ pub struct TrueTypeTables<'a> {
 
 /// `OverflowError` where `glyf` has 2^32 bytes or more. No memory is taken.
 fn check_len(outlines: &OutlineList<'_>, long: bool) -> Result<(), Error> {
-    if outlines_len(outlines, long) > 0xffff_ffff {
+    if outlines_len(outlines, long) > OFFSET32_MAX {
         return Err(Error::OverflowError);
     }
     Ok(())

@@ -15,7 +15,7 @@ pub enum Error {
     Unimplemented,
     /// A string can't be read, or the strings to be kept don't fit their table.
     SubsetError,
-    /// A number doesn't fit where it has to stand.
+    /// A number doesn't fit its field.
     OverflowError,
     /// The major version of a CFF table isn't 1, or a charstring is wrong or passes a limit.
     CFFError,

@@ -3,31 +3,35 @@
 
 use crate::proved::subsetter_base::read::Reader;
 
-/// The byte at a place of a table, if the table has it.
+/// The byte at an offset of a table, if the table has it.
 pub fn byte_in(table: Option<&[u8]>, at: usize) -> Option<u8> {
     let bytes = table?;
     Reader::new_at(bytes, at).read::<u8>()
 }
 
-/// The number of 16 bits at a place of a table, if the table has it.
+/// The number of 16 bits at an offset of a table, if the table has it.
+#[cfg(feature = "variable-fonts")]
 pub fn number_in(table: Option<&[u8]>, at: usize) -> Option<u16> {
     let bytes = table?;
     Reader::new_at(bytes, at).read::<u16>()
 }
 
-/// The number of 32 bits at a place of a table, if the table has it.
+/// The number of 32 bits at an offset of a table, if the table has it.
+#[cfg(feature = "variable-fonts")]
 pub fn long_in(table: Option<&[u8]>, at: usize) -> Option<u32> {
     let bytes = table?;
     Reader::new_at(bytes, at).read::<u32>()
 }
 
-/// The signed number of 16 bits at a place of a table, if the table has it.
+/// The signed number of 16 bits at an offset of a table, if the table has it.
+#[cfg(feature = "variable-fonts")]
 pub fn signed_in(table: Option<&[u8]>, at: usize) -> Option<i16> {
     let bytes = table?;
     Reader::new_at(bytes, at).read::<i16>()
 }
 
-/// The signed number of 32 bits at a place of a table, if the table has it.
+/// The signed number of 32 bits at an offset of a table, if the table has it.
+#[cfg(feature = "variable-fonts")]
 pub fn long_signed_in(table: Option<&[u8]>, at: usize) -> Option<i32> {
     let bytes = table?;
     Reader::new_at(bytes, at).read::<i32>()

@@ -24,7 +24,7 @@ pub struct GlyphRemapper {
     backward: Vec<u16>,
 }
 
-/// Where the entry of a glyph stands.
+/// The index of a glyph's entry.
 fn entry_index(pages: &[u16], glyph: u16) -> usize {
     64 * usize::from(pages[usize::from(glyph / 64)]) + usize::from(glyph % 64)
 }
@@ -53,8 +53,8 @@ impl GlyphRemapper {
         let mut entries = vec![in alloc; 0; 64]?;
         let mut backward = Vec::with_capacity(alloc, count)?;
         add_page(&mut pages, &mut entries, 0)?;
-        let place = entry_index(&pages, 0);
-        entries[place] = 1;
+        let index = entry_index(&pages, 0);
+        entries[index] = 1;
         backward.push(0)?;
         Ok(Self {
             pages,
@@ -84,8 +84,8 @@ impl GlyphRemapper {
         let new = self.backward.len() as u16;
         self.backward.reserve(1)?;
         add_page(&mut self.pages, &mut self.entries, old)?;
-        let place = entry_index(&self.pages, old);
-        self.entries[place] = new + 1;
+        let index = entry_index(&self.pages, old);
+        self.entries[index] = new + 1;
         // (room for one more was asked for above)
         self.backward.push(old).unwrap();
         Ok(new)

@@ -16,7 +16,6 @@ pub mod compare;
 #[cfg(feature = "variable-fonts")]
 pub mod decimals;
 pub mod error;
-#[cfg(feature = "variable-fonts")]
 pub mod fields;
 pub mod glyph_remapper;
 pub mod lazy_array;

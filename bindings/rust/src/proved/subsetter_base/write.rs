@@ -84,7 +84,7 @@ impl<'a, T: Writeable> Writeable for &'a [T] {
     }
 }
 
-/// A reference is the value that it leads to.
+/// A reference is the value that it refers to.
 impl<'a, T: Writeable> Writeable for &'a T {
     fn write(&self, w: &mut Writer) -> Result<(), Error> {
         let value = *self;

@@ -11,7 +11,7 @@
 //!
 //! - Private dicts are slices of the source until they are written: their entries are read once to find their
 //!   subroutines, and once to be written.
-//! - The number of a font dict is a byte, as FDSelect has it. The used ones are found by marking 256 places, so they
+//! - The number of a font dict is a byte, as FDSelect has it. The used ones are found by marking 256 flags, so they
 //!   are in ascending order without sorting. 256 of them are refused at once, before a string is read.
 //! - FDSelect of format 3 is searched by halves where no range begins before the one in front of it, which is looked at
 //!   once; else from the front. Either way it is the first range that has the glyph.

@@ -45,13 +45,12 @@ fn make(
 ///
 /// `data` is a font file or a collection, of which `index` names a face (it is ignored for a single font). A coordinate is the
 /// tag of an axis and a value in 65536ths; where a tag comes twice the last value counts, and an axis without a value stays at
-/// its default. A font without `fvar` has no axes. Each glyph may take so many `steps`: one for each glyph that it leads
-/// to, each point, each tuple, and each point again of a tuple that counts.
+/// its default. A font without `fvar` has no axes. Each glyph may take so many `steps`: one for each component at
+/// any depth, each point, each tuple, and each point again of a tuple that counts.
 ///
 /// # Errors
 ///
-/// Each names what is in the source (`HasInstanceFault`); a font in which nothing stands is refused only when out of
-/// memory.
+/// Each names what is in the source (`HasInstanceFault`); a font without a fault is refused only when out of memory.
 ///
 /// - `UnknownKind`: the file doesn't begin with a known kind of font, or has none of `glyf`, `CFF ` and `CFF2`.
 /// - `Unimplemented`: the outlines aren't those of `glyf`; `fvar`, `avar`, `gvar`, `HVAR` or `MVAR` has a major version

@@ -6,6 +6,45 @@ use crate::rattle::prelude::Vec;
 use crate::proved::subsetter_base::compare::{larger, smaller};
 use crate::proved::subsetter_base::Error;
 use crate::proved::subsetter_points::outline::Point;
+use crate::rattle::alloc::AllocError;
+
+/// A box around points.
+#[derive(Clone, Copy)]
+pub struct Bounds {
+    /// The left side.
+    pub x_min: i16,
+    /// The lower side.
+    pub y_min: i16,
+    /// The right side.
+    pub x_max: i16,
+    /// The upper side.
+    pub y_max: i16,
+}
+
+/// The least box around a box and a point.
+#[inline]
+fn with_point(bounds: Bounds, point: Point) -> Bounds {
+    Bounds {
+        x_min: smaller(bounds.x_min, point.x),
+        y_min: smaller(bounds.y_min, point.y),
+        x_max: larger(bounds.x_max, point.x),
+        y_max: larger(bounds.y_max, point.y),
+    }
+}
+
+/// The least box around a point and others.
+pub fn box_around(first: Point, rest: &[Point]) -> Bounds {
+    let mut bounds = Bounds {
+        x_min: first.x,
+        y_min: first.y,
+        x_max: first.x,
+        y_max: first.y,
+    };
+    for point in rest {
+        bounds = with_point(bounds, *point);
+    }
+    bounds
+}
 
 /// The least x of a point's, `first`, and of others.
 pub fn least_x(first: i16, rest: &[Point]) -> i16 {
@@ -16,44 +55,22 @@ pub fn least_x(first: i16, rest: &[Point]) -> i16 {
     least
 }
 
-/// The least y of a point's, `first`, and of others.
-fn least_y(first: i16, rest: &[Point]) -> i16 {
-    let mut least = first;
-    for point in rest {
-        least = smaller(least, point.y);
-    }
-    least
+/// xMin, yMin, xMax and yMax.
+pub fn bounds_bytes(bounds: Bounds) -> [u8; 8] {
+    let [a, b] = bounds.x_min.to_be_bytes();
+    let [c, d] = bounds.y_min.to_be_bytes();
+    let [e, f] = bounds.x_max.to_be_bytes();
+    let [g, h] = bounds.y_max.to_be_bytes();
+    [a, b, c, d, e, f, g, h]
 }
 
-/// The greatest x of a point's, `first`, and of others.
-fn greatest_x(first: i16, rest: &[Point]) -> i16 {
-    let mut greatest = first;
-    for point in rest {
-        greatest = larger(greatest, point.x);
-    }
-    greatest
-}
-
-/// The greatest y of a point's, `first`, and of others.
-fn greatest_y(first: i16, rest: &[Point]) -> i16 {
-    let mut greatest = first;
-    for point in rest {
-        greatest = larger(greatest, point.y);
-    }
-    greatest
-}
-
-/// Writes an int16.
-fn write_signed(out: &mut Vec<u8>, value: i16) -> Result<(), Error> {
-    out.extend_from_slice(&value.to_be_bytes())?;
-    Ok(())
+/// Appends xMin, yMin, xMax and yMax.
+fn write_bounds(out: &mut Vec<u8>, bounds: Bounds) -> Result<(), AllocError> {
+    out.extend_from_slice(&bounds_bytes(bounds))
 }
 
 /// Writes the bounding box of a point and others.
 pub fn write_box(out: &mut Vec<u8>, first: Point, rest: &[Point]) -> Result<(), Error> {
-    write_signed(out, least_x(first.x, rest))?;
-    write_signed(out, least_y(first.y, rest))?;
-    write_signed(out, greatest_x(first.x, rest))?;
-    write_signed(out, greatest_y(first.y, rest))?;
+    write_bounds(out, box_around(first, rest))?;
     Ok(())
 }

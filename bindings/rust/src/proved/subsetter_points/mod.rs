@@ -4,7 +4,7 @@
 //!
 //! - `read_simple` reads the [`Outline`] of a simple glyph: its points, and the last point of each contour.
 //! - [`read_columns`] reads the same as [`Columns`]: the flags and the coordinates, not joined.
-//! - [`fits`] says whether an outline can be written, and [`write_simple`] appends its bytes.
+//! - [`fits`] is whether an outline can be written, and [`write_simple`] appends its bytes.
 //!
 //! ```text
 //! let Some(mut outline) = read_simple(alloc, glyph)? else { return Err(Error::MalformedFont) };
@@ -16,6 +16,7 @@
 #[cfg(feature = "variable-fonts")]
 mod bounds;
 pub mod component;
+pub mod header;
 #[cfg(feature = "variable-fonts")]
 mod list_bytes;
 #[cfg(feature = "variable-fonts")]
@@ -28,7 +29,7 @@ mod reading;
 mod writing;
 
 #[cfg(feature = "variable-fonts")]
-pub use bounds::least_x;
+pub use bounds::{bounds_bytes, box_around, least_x, Bounds};
 #[cfg(feature = "variable-fonts")]
 pub use list_bytes::fitting::fits;
 #[cfg(feature = "variable-fonts")]

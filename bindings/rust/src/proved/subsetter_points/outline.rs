@@ -16,6 +16,24 @@ pub struct Point {
     pub on_curve: bool,
 }
 
+/// One of the two columns of coordinates of a simple glyph description.
+#[derive(Clone, Copy)]
+pub enum Column {
+    /// From left to right.
+    XCoordinates,
+    /// From below to above.
+    YCoordinates,
+}
+
+/// The coordinate of a point in a column.
+#[inline]
+pub fn coordinate_in(column: Column, point: Point) -> i16 {
+    match column {
+        Column::XCoordinates => point.x,
+        Column::YCoordinates => point.y,
+    }
+}
+
 /// An outline: the points of its contours one after the other, and for each contour the number of its last point, from 0.
 #[derive(Debug)]
 pub struct Outline {
@@ -25,7 +43,7 @@ pub struct Outline {
     pub ends: Vec<u16>,
 }
 
-/// An outline before its points are joined: of each point its flag, of which bit 0 says whether it is on the curve, and its
+/// An outline before its points are joined: of each point its flag, of which bit 0 is set where it is on the curve, and its
 /// coordinates, and for each contour the number of its last point.
 #[derive(Debug)]
 pub struct Columns {

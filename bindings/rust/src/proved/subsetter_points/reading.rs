@@ -5,31 +5,26 @@
 //! in FreeType, HarfBuzz and fontTools. Bytes after the last y coordinate are padding, as `loca` may count them to a
 //! glyph. Bytes that are missing are a fault: no coordinate is made up. A flag that is repeated past the last point
 //! makes the glyph unreadable. A coordinate has 16 bits, as each side of a glyph's bounding box has; a glyph whose
-//! deltas lead beyond has no reading. The bounding box that a glyph states is passed over.
+//! deltas pass beyond has no reading. The bounding box of the header is passed over.
 
 use crate::rattle::prelude::Vec;
 
 use crate::proved::subsetter_base::read::Reader;
 use crate::proved::subsetter_base::Error;
+use crate::proved::subsetter_points::header::HEADER_SIZE;
 use crate::proved::subsetter_points::lists::coordinates::read_coordinates;
+use crate::proved::subsetter_points::lists::deltas::{
+    X_IS_SAME_OR_POSITIVE_X_SHORT_VECTOR, X_SHORT_VECTOR, Y_IS_SAME_OR_POSITIVE_Y_SHORT_VECTOR,
+    Y_SHORT_VECTOR,
+};
 use crate::proved::subsetter_points::lists::ends::{count, read_ends};
 use crate::proved::subsetter_points::lists::flags::read_flags;
 use crate::proved::subsetter_points::lists::front::{read_after, read_word};
 use crate::proved::subsetter_points::outline::Columns;
 use crate::rattle::alloc::Global;
 
-/// The size of the header: the number of contours and the bounding box.
-const HEADER_SIZE: usize = 10;
 /// The most contours of a simple glyph: `numberOfContours` is an int16, and below 0 for a composite glyph.
 const MOST_CONTOURS: u16 = 0x7FFF;
-/// The delta in x is one byte.
-const X_SHORT_VECTOR: u8 = 0x02;
-/// That byte is added; without it x is the same as before.
-const X_IS_SAME_OR_POSITIVE_X_SHORT_VECTOR: u8 = 0x10;
-/// The delta in y is one byte.
-const Y_SHORT_VECTOR: u8 = 0x04;
-/// That byte is added; without it y is the same as before.
-const Y_IS_SAME_OR_POSITIVE_Y_SHORT_VECTOR: u8 = 0x20;
 
 /// The flags, the x coordinates and the y coordinates of so many points.
 fn read_points(

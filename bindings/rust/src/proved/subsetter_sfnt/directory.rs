@@ -3,7 +3,9 @@
 
 use crate::proved::subsetter_base::read::Reader;
 use crate::proved::subsetter_base::Tag;
-use crate::proved::subsetter_sfnt::face::{FontKind, TableRecord};
+use crate::proved::subsetter_sfnt::face::{
+    FontKind, TableRecord, NUM_TABLES, TABLE_DIRECTORY_OFFSETS, TABLE_RECORDS, TABLE_RECORD_SIZE,
+};
 
 /// What the bytes from an offset on begin with.
 pub fn kind_at(file: &[u8], at: usize) -> Option<FontKind> {
@@ -14,7 +16,7 @@ pub fn kind_at(file: &[u8], at: usize) -> Option<FontKind> {
 fn offset_in_collection(file: &[u8], index: u32) -> Option<usize> {
     let at = Reader::new_at(
         file,
-        12usize.saturating_add(4usize.saturating_mul(index as usize)),
+        TABLE_DIRECTORY_OFFSETS.saturating_add(4usize.saturating_mul(index as usize)),
     )
     .read::<u32>()?;
     match kind_at(file, at as usize)? {
@@ -33,10 +35,10 @@ pub fn header_offset(file: &[u8], index: u32) -> Option<usize> {
 
 /// The bytes of the records of the directory at an offset.
 pub fn records_at(file: &[u8], at: usize) -> Option<&[u8]> {
-    let mut r = Reader::new_at(file, at + 4);
+    let mut r = Reader::new_at(file, at + NUM_TABLES);
     let count = r.read::<u16>()?;
-    let mut r = Reader::new_at(file, at + 12);
-    r.read_bytes(16 * (count as usize))
+    let mut r = Reader::new_at(file, at + TABLE_RECORDS);
+    r.read_bytes(TABLE_RECORD_SIZE * (count as usize))
 }
 
 /// The bytes of the records of the font's directory.
@@ -45,7 +47,7 @@ pub fn records(file: &[u8], index: u32) -> Option<&[u8]> {
     records_at(file, at)
 }
 
-/// The first record that bears a tag.
+/// The first record that has a tag.
 pub fn find_record(records: &[u8], tag: Tag) -> Option<TableRecord> {
     let mut r = Reader::new(records);
     while let Some(record) = r.read::<TableRecord>() {

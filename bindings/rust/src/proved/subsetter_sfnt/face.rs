@@ -14,6 +14,16 @@ pub const TRUE: u32 = 0x74727565;
 pub const OTTO: u32 = 0x4F54544F;
 /// What a collection begins with: `ttcf`.
 pub const TTC_TAG: u32 = 0x74746366;
+/// How many bytes such a word has.
+const SFNT_VERSION_SIZE: usize = 4;
+/// tableDirectoryOffsets of a collection's header, four bytes each.
+pub(crate) const TABLE_DIRECTORY_OFFSETS: usize = 12;
+/// numTables of a table directory, two bytes.
+pub(crate) const NUM_TABLES: usize = 4;
+/// tableRecords of a table directory.
+pub(crate) const TABLE_RECORDS: usize = 12;
+/// How many bytes a record has.
+pub(crate) const TABLE_RECORD_SIZE: usize = 16;
 
 /// What a file or a part of it begins with.
 #[derive(Clone, Copy, Debug, PartialEq, Eq)]
@@ -34,7 +44,7 @@ impl Readable<'_> for FontKind {
             TTC_TAG => FontKind::Collection,
             _ => return None,
         };
-        r.skip_bytes(4);
+        r.skip_bytes(SFNT_VERSION_SIZE);
         Some(kind)
     }
 }
@@ -52,7 +62,7 @@ impl Readable<'_> for TableRecord {
     const SIZE: usize = 16;
 
     fn read(r: &mut Reader<'_>) -> Option<Self> {
-        let b = r.read_bytes(16)?;
+        let b = r.read_bytes(TABLE_RECORD_SIZE)?;
         Some(TableRecord {
             tag: Tag::new(&[b[0], b[1], b[2], b[3]]),
             checksum: u32_at(b, 4),

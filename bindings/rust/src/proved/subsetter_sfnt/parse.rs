@@ -5,9 +5,9 @@ use crate::proved::subsetter_base::read::Reader;
 use crate::proved::subsetter_base::{Error, Tag};
 use crate::proved::subsetter_sfnt::directory::{records_at, table_in};
 use crate::proved::subsetter_sfnt::extras::Extras;
-use crate::proved::subsetter_sfnt::face::{Face, FontKind};
+use crate::proved::subsetter_sfnt::face::{Face, FontKind, TABLE_DIRECTORY_OFFSETS};
 
-/// Where the font's header stands.
+/// The offset of the font's header.
 fn header(file: &[u8], index: u32, _extras: Extras) -> Result<usize, Error> {
     let mut r = Reader::new(file);
     let kind = r.read::<FontKind>().ok_or(Error::UnknownKind)?;
@@ -16,7 +16,7 @@ fn header(file: &[u8], index: u32, _extras: Extras) -> Result<usize, Error> {
     }
     let mut r = Reader::new_at(
         file,
-        12usize.saturating_add(4usize.saturating_mul(index as usize)),
+        TABLE_DIRECTORY_OFFSETS.saturating_add(4usize.saturating_mul(index as usize)),
     );
     let offset = r.read::<u32>().ok_or(Error::MalformedFont)?;
     let mut r = Reader::new_at(file, offset as usize);
@@ -38,14 +38,15 @@ pub fn parse(file: &[u8], index: u32, extras: Extras) -> Result<Face<'_>, Error>
 }
 
 impl<'a> Face<'a> {
-    /// Whether a table isn't asked for.
+    /// Whether a table isn't requested.
     fn leaves_out(&self, tag: Tag) -> bool {
         let extras = self.extras;
         (!extras.hinting && (tag == Tag::CVT || (tag == Tag::FPGM || tag == Tag::PREP)))
             || (!extras.names && tag == Tag::NAME)
     }
 
-    /// The bytes of a table other than `maxp` and `post`, if it is requested.
+    /// The bytes of a table other than `maxp` and `post`, if it is requested: of these two a part is kept whatever is requested, by
+    /// [`Face::stored`].
     pub fn table(&self, tag: Tag) -> Option<&'a [u8]> {
         if self.leaves_out(tag) {
             return None;
@@ -53,7 +54,7 @@ impl<'a> Face<'a> {
         self.stored(tag)
     }
 
-    /// The bytes of a table.
+    /// The bytes of a table as they are in the file, whatever is requested.
     pub fn stored(&self, tag: Tag) -> Option<&'a [u8]> {
         table_in(self.data, self.records, tag)
     }

@@ -54,3 +54,11 @@ pub mod first_byte {
     /// The least first byte of a number in one or two bytes.
     pub const LEAST_NUMBER: u8 = 32;
 }
+
+/// The second bytes of the operators of two bytes.
+pub mod second_byte {
+    /// hflex.
+    pub const HFLEX: u8 = 34;
+    /// flex1.
+    pub const FLEX1: u8 = 37;
+}

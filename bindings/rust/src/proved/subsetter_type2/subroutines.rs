@@ -21,24 +21,35 @@ impl<'a> SubroutineHandler<'a> {
         self.get_with_unbiased(unbiased)
     }
 
-    /// The entry at this place; none where there is none, or it cannot be read.
+    /// The entry at this index; none where there is none, or it cannot be read.
     pub fn get_with_unbiased(&self, index: u32) -> Option<CharString<'a>> {
         self.index.get(index)
     }
 }
 
+/// Below so many subroutines the bias is the least one (Technical Note 5176, section 16 "Local/Global Subrs INDEXes").
+const FEW_SUBROUTINES: u32 = 1240;
+/// From so many on it is the greatest one.
+const MANY_SUBROUTINES: u32 = 33900;
+
+const LEAST_BIAS: u16 = 107;
+
+const MIDDLE_BIAS: u16 = 1131;
+
+const GREATEST_BIAS: u16 = 32768;
+
 /// What is added to an operand, by how many subroutines there are.
 fn bias(count: u32) -> u16 {
-    if count < 1240 {
-        107
-    } else if count < 33900 {
-        1131
+    if count < FEW_SUBROUTINES {
+        LEAST_BIAS
+    } else if count < MANY_SUBROUTINES {
+        MIDDLE_BIAS
     } else {
-        32768
+        GREATEST_BIAS
     }
 }
 
-/// The place in the INDEX that an operand names; none where the sum with the bias is below 0.
+/// The index in the INDEX that an operand names; none where the sum with the bias is below 0.
 pub fn unapply_bias(index: i32, bias: u16) -> Option<u32> {
     let sum = index as i64 + bias as i64;
     if sum < 0 {

@@ -4,7 +4,7 @@
 use crate::proved::subsetter_cffdata::dicts::operator::{
     Operator, OperatorType, TWO_BYTE_OPERATOR_MARK,
 };
-use crate::proved::subsetter_type2::operators::first_byte;
+use crate::proved::subsetter_type2::operators::{first_byte, second_byte};
 
 /// What an operator does.
 #[derive(Clone, Copy, PartialEq, Eq, Debug)]
@@ -72,8 +72,7 @@ pub fn one_byte_effect(first: u8) -> Option<Effect> {
 #[inline(always)]
 fn two_byte_effect(mark: u8, second: u8) -> Option<Effect> {
     match (mark, second) {
-        // hflex, flex, hflex1, flex1
-        (TWO_BYTE_OPERATOR_MARK, 34..=37) => Some(Effect::Draws),
+        (TWO_BYTE_OPERATOR_MARK, second_byte::HFLEX..=second_byte::FLEX1) => Some(Effect::Draws),
         _ => None,
     }
 }

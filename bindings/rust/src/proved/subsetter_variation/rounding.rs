@@ -35,7 +35,7 @@ fn times(a: i64, b: i64) -> i64 {
 }
 
 /// n of the b equal parts of m, to the nearest whole number, halves up.
-pub fn part(n: i64, b: u64, m: i64) -> i64 {
+pub fn mul_div_nearest(n: i64, b: u64, m: i64) -> i64 {
     nearest(times(n, m), b)
 }
 
@@ -45,11 +45,11 @@ pub fn scaled(scalar: i64, delta: i64) -> i64 {
 }
 
 /// A product of a delta and a distance.
-pub fn weighted(delta: i64, distance: i64) -> i64 {
+pub fn delta_times_distance(delta: i64, distance: i64) -> i64 {
     delta * distance
 }
 
 /// A scalar, at most 2^30, times a delta.
-pub fn given(scalar: i64, delta: i16) -> i64 {
+pub fn scalar_times_delta(scalar: i64, delta: i16) -> i64 {
     scalar * i64::from(delta)
 }

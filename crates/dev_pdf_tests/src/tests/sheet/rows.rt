@@ -43,7 +43,7 @@ pub fn values(vertical: bool) -> FontValues<'static> {
     }
 }
 
-/// Three glyphs: a text that is said, one that isn't, and none.
+/// Three glyphs: a text that is stated, one that isn't, and none.
 pub fn three() -> [SheetGlyph<'static>; 3] {
     [
         SheetGlyph {

@@ -8,6 +8,6 @@ pub returns : goal.returns
 unfolding heights_by
 returns c =
     let ascent : SFits w32 c.ascent_in.result = search rules in
-    let descent : SFits w32 c.descent_in.result = search rules in
+    let descent : SFits w32 c.descent_in_thousandths.result = search rules in
     let cap : SFits w32 c.cap_in.result = search rules in
     simp to_z-of_z (cc)

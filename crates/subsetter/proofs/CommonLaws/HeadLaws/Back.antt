@@ -6,8 +6,10 @@ use Rattle.std.proofs.lemmas.List.{take_at, drop_at, length-append, length-take,
 use Rattle.subsetter_base.specs.Bytes.{be, number}
 use Rattle.subsetter_base.proofs.ByteLemmas.{number_at}
 use Rattle.subsetter.specs.Glyf.Read.{outlines_in}
+use Rattle.subsetter_sfnt.specs.Fields.Head.{format_bytes}
 use Rattle.subsetter_sfnt.specs.Laying.Written.{with_adjustment}
-use Rattle.subsetter.specs.Common.Head.Written.{format_bytes, head_bytes}
+use Rattle.subsetter_sfnt.proofs.Laws.FieldsLaws.HeadLaws.{own_head}
+use Rattle.subsetter.specs.Common.Head.Written.{head_bytes}
 
 module _ (w : ℕ) (long : Bool) (head : List ℕ) (le : 52 ≤ length head) where
   abbrev front : List ℕ
@@ -39,7 +41,7 @@ module _ (w : ℕ) (long : Bool) (head : List ℕ) (le : 52 ≤ length head) whe
   copy = with_adjustment w (head_bytes long head)
 
   pub head_is : with_adjustment w (head_bytes long head) ≡ front ++ word ++ (middle ++ (format_bytes long ++ end))
-  head_is = replaced front (0 ∷ 0 ∷ 0 ∷ 0 ∷ []) middle (format_bytes long) end word length-front refl
+  head_is = ap (with_adjustment w) (own_head long head) ∙ replaced front (0 ∷ 0 ∷ 0 ∷ 0 ∷ []) middle (format_bytes long) end word length-front refl
 
   length-end : length end + 52 ≡ length head
   length-end = omega (arith, length-drop 52 head)
@@ -94,7 +96,7 @@ regroup A Z M F E = simp append_assoc
 
 -- a new head has zeros for the adjustment
 pub head_zeros : (long : Bool) (head : List ℕ) → 52 ≤ length head → with_adjustment 0 (head_bytes long head) ≡ head_bytes long head
-head_zeros long head le = head_is 0 long head le ∙ regroup (take 8 head) (0 ∷ 0 ∷ 0 ∷ 0 ∷ []) (slice_range head 12 50) (format_bytes long) (drop 52 head)
+head_zeros long head le = head_is 0 long head le ∙ regroup (take 8 head) (0 ∷ 0 ∷ 0 ∷ 0 ∷ []) (slice_range head 12 50) (format_bytes long) (drop 52 head) ∙ sym (own_head long head)
 
 -- and room for it
 pub head_room : (long : Bool) (head : List ℕ) → 52 ≤ length head → 12 ≤ length (head_bytes long head)

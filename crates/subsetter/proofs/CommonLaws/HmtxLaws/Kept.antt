@@ -12,11 +12,12 @@ use Rattle.subsetter_base.proofs.Results.{done, done_is, failed_is, bind_ok, bin
 use Rattle.subsetter_base.proofs.Options.{some_not_none, just_is, is_some_of}
 use Rattle.subsetter_sfnt.specs.declared.fields.hmtx.LongHorMetric.{LongHorMetric}
 use Rattle.subsetter.specs.Common.Hmtx.Read.{metric_of, KeepsMetrics, HasMetricsFault, no_hhea, short_hhea, no_pairs, last_advance_outside, metric_outside}
-use Rattle.subsetter_sfnt.specs.Fields.Hmtx.{metric_at, metric_in}
+use Rattle.subsetter_sfnt.specs.Fields.Hmtx.{metric_at, metric_in, hmtx_bytes}
 use Rattle.subsetter_sfnt.specs.Fields.Hhea.{number_of_h_metrics}
-use Rattle.subsetter.specs.Common.Hmtx.Written.{MetricBytes, least_count, hmtx_bytes, hhea_bytes, if_pairs, metrics_all, source_count, tables_of, metrics_in, metrics_of}
-use Rattle.subsetter.proofs.CommonLaws.HmtxLaws.Written.{metrics-length, metrics_at, metrics_missing, least_count-le, least_count_pos, advances_agree, least_count_least}
-use Rattle.subsetter.proofs.CommonLaws.HmtxLaws.Back.{metric_small, metric_back, length-hmtx, count_back, header_length, header_before, header_after, metric_by}
+use Rattle.subsetter_sfnt.proofs.Laws.FieldsLaws.HmtxLaws.{metric_small, metric_back, length-hmtx, metric_by}
+use Rattle.subsetter.specs.Common.Hmtx.Written.{MetricBytes, least_count, hhea_bytes, if_pairs, metrics_all, source_count, tables_of, metrics_in, metrics_of}
+use Rattle.subsetter.proofs.CommonLaws.HmtxLaws.Written.{length-hhea, metrics-length, metrics_at, metrics_missing, least_count-le, least_count_pos, advances_agree, least_count_least}
+use Rattle.subsetter.proofs.CommonLaws.HmtxLaws.Back.{count_back, header_before, header_after}
 
 -- ---- the steps of what was answered
 
@@ -41,8 +42,8 @@ last_pair hmtx count = ok_or (number hmtx (4 * (count - 1)) 2) MalformedFont >>=
 pub record HasPairs (hhea hmtx : List ℕ) (count : ℕ) : Type 0 where
   pub count_is : number_of_h_metrics hhea ≡ Some count
   pub positive : 0 < count
-  pub advance : ℕ
-  pub last : number hmtx (4 * (count - 1)) 2 ≡ Some advance
+  pub advance_width : ℕ
+  pub last : number hmtx (4 * (count - 1)) 2 ≡ Some advance_width
 
 has_pairs : (hhea hmtx : List ℕ) (count : ℕ) → source_count hhea hmtx ≡ Ok count → HasPairs hhea hmtx count
 unfolding source_count
@@ -55,7 +56,7 @@ has_pairs hhea hmtx count h =
     record {
       count_is = named_ok (number_of_h_metrics hhea) MalformedFont a.0 a.1 ∙ ap Some (p.0 ∙ same);
       positive = omega (arith, p.0, p.1, same);
-      advance = c.0;
+      advance_width = c.0;
       last = ap (λ k. number hmtx (4 * (k - 1)) 2) (sym same) ∙ named_ok (number hmtx (4 * (b.0 - 1)) 2) MalformedFont c.0 c.1;
     }
 
@@ -114,27 +115,27 @@ no_metrics find order h = by (find (codes "hmtx")) refl h
 
 -- ---- advances of tables
 
-advance_there : (hmtx : List ℕ) (p q : ℕ) (m : LongHorMetric) → metric_at hmtx p q ≡ Some m → number hmtx p 2 ≡ Some m.advance
+advance_there : (hmtx : List ℕ) (p q : ℕ) (m : LongHorMetric) → metric_at hmtx p q ≡ Some m → number hmtx p 2 ≡ Some m.advance_width
 advance_there hmtx p q m h = by (number hmtx p 2) (number hmtx q 2) h
   where
-    by : (a b : Option ℕ) → metric_by a b ≡ Some m → a ≡ Some m.advance
+    by : (a b : Option ℕ) → metric_by a b ≡ Some m → a ≡ Some m.advance_width
     by None b k = absurd cc
     by (Some a) None k = absurd cc
-    by (Some a) (Some b) k = ap (λ (x : LongHorMetric). Some x.advance) (just_is (record { advance = a; bearing = b }) m k)
+    by (Some a) (Some b) k = ap (λ (x : LongHorMetric). Some x.advance_width) (just_is (record { advance_width = a; lsb = b }) m k)
 
 -- a pair has its own advance
-own_advance : (hmtx : List ℕ) (count g : ℕ) (m : LongHorMetric) → metric_in hmtx count g ≡ Some m → g < count → number hmtx (4 * g) 2 ≡ Some m.advance
+own_advance : (hmtx : List ℕ) (count g : ℕ) (m : LongHorMetric) → metric_in hmtx count g ≡ Some m → g < count → number hmtx (4 * g) 2 ≡ Some m.advance_width
 unfolding metric_in
 own_advance hmtx count g m h lt =
     advance_there hmtx (4 * g) (4 * g + 2) m (sym (ap (λ b. cond b (metric_at hmtx (4 * g) (4 * g + 2)) (cond (count == 0) None (metric_at hmtx (4 * (count - 1)) (4 * count + 2 * (g - count))))) (lt-ltb g count lt)) ∙ h)
 
 -- and what comes after the pairs has the last one's
-shared_advance : (hmtx : List ℕ) (count g : ℕ) (m : LongHorMetric) → metric_in hmtx count g ≡ Some m → count ≤ g → number hmtx (4 * (count - 1)) 2 ≡ Some m.advance
+shared_advance : (hmtx : List ℕ) (count g : ℕ) (m : LongHorMetric) → metric_in hmtx count g ≡ Some m → count ≤ g → number hmtx (4 * (count - 1)) 2 ≡ Some m.advance_width
 unfolding metric_in
 shared_advance hmtx count g m h le =
     by (count == 0) (sym (ap (λ b. cond b (metric_at hmtx (4 * g) (4 * g + 2)) (cond (count == 0) None (metric_at hmtx (4 * (count - 1)) (4 * count + 2 * (g - count))))) (le-ltb g count le)) ∙ h)
   where
-    by : (b : Bool) → cond b None (metric_at hmtx (4 * (count - 1)) (4 * count + 2 * (g - count))) ≡ Some m → number hmtx (4 * (count - 1)) 2 ≡ Some m.advance
+    by : (b : Bool) → cond b None (metric_at hmtx (4 * (count - 1)) (4 * count + 2 * (g - count))) ≡ Some m → number hmtx (4 * (count - 1)) 2 ≡ Some m.advance_width
     by true k = absurd cc
     by false k = advance_there hmtx (4 * (count - 1)) (4 * count + 2 * (g - count)) m k
 
@@ -143,19 +144,19 @@ unfolding metric_in
 no_pairs_no_metric hmtx g = ap (λ b. cond b (metric_at hmtx (4 * g) (4 * g + 2)) None) (le-ltb g 0 (omega arith))
 
 abbrev zeros : LongHorMetric
-zeros = record { advance = 0; bearing = 0 }
+zeros = record { advance_width = 0; lsb = 0 }
 
 -- tables with these metrics have at least the least number of pairs
 no_fewer : (ms : List LongHorMetric) (bytes : List ℕ) (c : ℕ) → 0 < length ms → ((i : ℕ) → i < length ms → metric_in bytes c i ≡ Some (get_or ms i zeros)) → least_count ms ≤ c
 no_fewer ms bytes zero some h = absurd (some_not_none (metric_in bytes 0 0) (get_or ms 0 zeros) (h 0 some) (no_pairs_no_metric bytes 0))
 no_fewer ms bytes (suc k) some h = least_count_least ms k zeros agree
   where
-    agree : (i : ℕ) → suc k ≤ i → i < length ms → (get_or ms i zeros).advance ≡ (get_or ms k zeros).advance
+    agree : (i : ℕ) → suc k ≤ i → i < length ms → (get_or ms i zeros).advance_width ≡ (get_or ms k zeros).advance_width
     agree i le lt =
         let a = shared_advance bytes (suc k) i (get_or ms i zeros) (h i lt) le in
         let b = own_advance bytes (suc k) k (get_or ms k zeros) (h k (omega arith)) (omega arith) in
         let place : 4 * (suc k - 1) ≡ 4 * k = omega arith in
-        just_is (get_or ms i zeros).advance (get_or ms k zeros).advance (sym a ∙ ap (λ p. number bytes p 2) place ∙ b)
+        just_is (get_or ms i zeros).advance_width (get_or ms k zeros).advance_width (sym a ∙ ap (λ p. number bytes p 2) place ∙ b)
 
 -- ---- what is answered
 
@@ -174,7 +175,7 @@ module _ (find out : List ℕ → Option (List ℕ)) (order : List ℕ) (t : Met
       let pos : 1 ≤ n = omega (arith, is, least_count_pos s.metrics (omega arith)) in
       let few : n ≤ length s.metrics = omega (arith, is, least_count-le s.metrics) in
       let fits = metric_small s.hmtx s.count (slice_index order i) (get_or s.metrics i zeros) all_bytes (metrics_at s.hmtx s.count order s.metrics i zeros s.all lt) in
-      let agree : n ≤ i → (get_or s.metrics i zeros).advance ≡ (get_or s.metrics (n - 1) zeros).advance = λ le. advances_agree s.metrics (n - 1) i zeros (omega (arith, is, pos)) (omega (arith, pos, le)) within in
+      let agree : n ≤ i → (get_or s.metrics i zeros).advance_width ≡ (get_or s.metrics (n - 1) zeros).advance_width = λ le. advances_agree s.metrics (n - 1) i zeros (omega (arith, is, pos)) (omega (arith, pos, le)) within in
       rw (a, b, count_back n s.hhea small long) (metric_back s.metrics n i zeros pos few within fits agree)
 
   keeps : ((hmtx : List ℕ) → find (codes "hmtx") ≡ Some hmtx → IsBytes hmtx) → 0 < length order → length order < 2 ^ 16 → out (codes "hhea") ≡ Some t.hhea → out (codes "hmtx") ≡ Some t.hmtx → KeepsMetrics find order out
@@ -199,7 +200,7 @@ module _ (find out : List ℕ → Option (List ℕ)) (order : List ℕ) (t : Met
         at_most = omega (arith, len, least_count-le s.metrics);
         least = λ bytes c same. no_fewer s.metrics bytes c (omega (arith, len)) (λ i lt. same i (omega (arith, len)) ∙ source_metric i (omega (arith, len)));
         size = length-hmtx s.metrics n (least_count-le s.metrics) ∙ ap (λ k. 4 * n + 2 * (k - n)) len;
-        same_length = header_length n s.hhea long;
+        same_length = length-hhea n s.hhea long;
         before = header_before n s.hhea long;
         after = header_after n s.hhea long;
       }
@@ -289,7 +290,7 @@ module _ (find : List ℕ → Option (List ℕ)) (order : List ℕ) where
   some_clean t e s (short_hhea hhea a b c) = omega (arith, ap length (same_header t s hhea b), number-fits s.hhea 34 2 s.count s.number_of_h_metrics.count_is, c)
   some_clean t e s (no_pairs hhea a b c) = omega (arith, same_count t s hhea 0 b c, s.number_of_h_metrics.positive)
   some_clean t e s (last_advance_outside hhea hmtx count a b c d f) =
-      some_not_none (number s.hmtx (4 * (s.count - 1)) 2) s.number_of_h_metrics.advance s.number_of_h_metrics.last (ap (λ k. number s.hmtx (4 * (k - 1)) 2) (same_count t s hhea count b c) ∙ ap (λ (l : List ℕ). number l (4 * (count - 1)) 2) (same_hmtx t s hmtx a) ∙ f)
+      some_not_none (number s.hmtx (4 * (s.count - 1)) 2) s.number_of_h_metrics.advance_width s.number_of_h_metrics.last (ap (λ k. number s.hmtx (4 * (k - 1)) 2) (same_count t s hhea count b c) ∙ ap (λ (l : List ℕ). number l (4 * (count - 1)) 2) (same_hmtx t s hmtx a) ∙ f)
   some_clean t e s (metric_outside g hhea hmtx count r a b c d f) =
       let is_g : slice_index order r.0 ≡ g = get_or_default order r.0 0 g r.1 ∙ r.2 in
       let found = metrics_at s.hmtx s.count order s.metrics r.0 zeros s.all r.1 in

@@ -1,10 +1,8 @@
 -- Metrics of a list of glyphs: read in turn, and the least number of pairs.
-use Rattle.std.proofs.Common.{◌≡◌, ℕ, zero, suc, ◌+◌, ◌*◌, ◌<◌, ◌≤◌, Bool, true, false, cond, List, [], ◌∷◌, ◌++◌, length, get_or, take, drop, append_assoc, Some, None, Result, Ok, Err, refl, sym, ap, ◌∙◌, inl, inr, ◌⊎◌, arith}
-use Rattle.std.specs.Prelude.{Contains, ◌==◌}
+use Rattle.std.proofs.Common.{◌≡◌, ℕ, zero, suc, ◌+◌, ◌<◌, ◌≤◌, Bool, true, false, cond, List, [], ◌∷◌, length, get_or, drop, Some, None, Result, Ok, Err, refl, sym, ap, ◌∙◌, inl, inr, ◌⊎◌, arith}
+use Rattle.std.specs.Prelude.{Contains, slice_range, ◌==◌}
 use Rattle.std.specs.Option.{ok_or}
-use Rattle.std.specs.List.{flat_map}
-use Rattle.std.specs.Int.{w16, to_be_bytes}
-use Rattle.std.proofs.lemmas.List.{length-append, length-take, length-drop}
+use Rattle.std.proofs.lemmas.List.{length-take, length-drop}
 use Rattle.subsetter_base.specs.Bytes.{◌>>=◌}
 use Rattle.subsetter_base.specs.declared.error.Error.{Error}
 use Rattle.subsetter_base.specs.declared.error.Error.TheVariants.{MalformedFont}
@@ -12,29 +10,13 @@ use Rattle.subsetter_base.proofs.Results.{done_is, bind_ok, bind_err, named_ok, 
 use Rattle.subsetter_base.proofs.Lists.{and_parts}
 use Rattle.subsetter_sfnt.specs.declared.fields.hmtx.LongHorMetric.{LongHorMetric}
 use Rattle.subsetter_sfnt.specs.Fields.Hmtx.{metric_in}
-use Rattle.subsetter.specs.Common.Hmtx.Written.{pair_bytes, bearing_bytes, hhea_bytes, hmtx_bytes, all_advance, least_count, metrics_all}
+use Rattle.subsetter_sfnt.proofs.Laws.FieldsLaws.HheaLaws.{length-hhea as length-with}
+use Rattle.subsetter.specs.Common.Hmtx.Written.{hhea_bytes, all_advance, least_count, metrics_all}
 
--- `hhea`, written in three parts
-pub header_written : (count : ℕ) (hhea w w1 w2 w3 : List ℕ) → w1 ≡ w ++ take 34 hhea → w2 ≡ w1 ++ to_be_bytes w16 count → w3 ≡ w2 ++ drop 36 hhea → w3 ≡ w ++ hhea_bytes count hhea
-unfolding hhea_bytes
-header_written count hhea w w1 w2 w3 h1 h2 h3 = rw (h3, h2, h1) (simp append_assoc)
-
--- how long the tables are
+-- how long `hhea` is
 pub length-hhea : (count : ℕ) (hhea : List ℕ) → 36 ≤ length hhea → length (hhea_bytes count hhea) ≡ length hhea
 unfolding hhea_bytes
-length-hhea count hhea h = omega (arith, length-append (take 34 hhea ++ to_be_bytes w16 count) (drop 36 hhea), length-append (take 34 hhea) (to_be_bytes w16 count), length-take 34 hhea, length-drop 36 hhea)
-
-pub length-pairs : (ms : List LongHorMetric) → length (flat_map pair_bytes ms) ≡ 4 * length ms
-length-pairs [] = refl
-length-pairs (m ∷ ms) = omega (arith, length-append (pair_bytes m) (flat_map pair_bytes ms), length-pairs ms)
-
-pub length-bearings : (ms : List LongHorMetric) → length (flat_map bearing_bytes ms) ≡ 2 * length ms
-length-bearings [] = refl
-length-bearings (m ∷ ms) = omega (arith, length-append (bearing_bytes m) (flat_map bearing_bytes ms), length-bearings ms)
-
-pub length-hmtx : (count : ℕ) (ms : List LongHorMetric) → count ≤ length ms → length (hmtx_bytes count ms) ≡ 2 * length ms + 2 * count
-unfolding hmtx_bytes
-length-hmtx count ms h = omega (arith, length-append (flat_map pair_bytes (take count ms)) (flat_map bearing_bytes (drop count ms)), length-pairs (take count ms), length-bearings (drop count ms), length-take count ms, length-drop count ms)
+length-hhea count hhea h = length-with count (slice_range hhea 10 18) hhea h (omega (arith, length-take 8 (drop 10 hhea), length-drop 10 hhea))
 
 -- ---- steps that answer, and the one that failed
 
@@ -78,21 +60,21 @@ metrics_missing hmtx count (g ∷ gs) e h =
 -- ---- the least number of pairs
 
 -- each has the advance
-pub all_advance_at : (a : ℕ) (ms : List LongHorMetric) (i : ℕ) (d : LongHorMetric) → all_advance a ms ≡ true → i < length ms → (get_or ms i d).advance ≡ a
+pub all_advance_at : (a : ℕ) (ms : List LongHorMetric) (i : ℕ) (d : LongHorMetric) → all_advance a ms ≡ true → i < length ms → (get_or ms i d).advance_width ≡ a
 all_advance_at a [] i d h lt = absurd (omega arith)
-all_advance_at a (m ∷ ms) zero d h lt = let t = (and_parts (m.advance == a) (all_advance a ms) h).0 in grind arith
-all_advance_at a (m ∷ ms) (suc i) d h lt = all_advance_at a ms i d (and_parts (m.advance == a) (all_advance a ms) h).1 (omega arith)
+all_advance_at a (m ∷ ms) zero d h lt = let t = (and_parts (m.advance_width == a) (all_advance a ms) h).0 in grind arith
+all_advance_at a (m ∷ ms) (suc i) d h lt = all_advance_at a ms i d (and_parts (m.advance_width == a) (all_advance a ms) h).1 (omega arith)
 
-pub all_advance_from : (a : ℕ) (ms : List LongHorMetric) (d : LongHorMetric) → ((i : ℕ) → i < length ms → (get_or ms i d).advance ≡ a) → all_advance a ms ≡ true
+pub all_advance_from : (a : ℕ) (ms : List LongHorMetric) (d : LongHorMetric) → ((i : ℕ) → i < length ms → (get_or ms i d).advance_width ≡ a) → all_advance a ms ≡ true
 all_advance_from a [] d h = refl
 all_advance_from a (m ∷ ms) d h =
-    let first : m.advance ≡ a = h 0 (omega arith) in
+    let first : m.advance_width ≡ a = h 0 (omega arith) in
     let rest : all_advance a ms ≡ true = all_advance_from a ms d (λ i lt. h (suc i) (omega arith)) in
     grind arith
 
 pub least_count-le : (ms : List LongHorMetric) → least_count ms ≤ length ms
 least_count-le [] = omega arith
-least_count-le (m ∷ ms) = by (all_advance m.advance ms) (least_count-le ms)
+least_count-le (m ∷ ms) = by (all_advance m.advance_width ms) (least_count-le ms)
   where
     by : (b : Bool) → least_count ms ≤ length ms → cond b 1 (1 + least_count ms) ≤ length (m ∷ ms)
     by true h = omega arith
@@ -100,32 +82,32 @@ least_count-le (m ∷ ms) = by (all_advance m.advance ms) (least_count-le ms)
 
 pub least_count_pos : (ms : List LongHorMetric) → 0 < length ms → 1 ≤ least_count ms
 least_count_pos [] lt = absurd (omega arith)
-least_count_pos (m ∷ ms) lt = by (all_advance m.advance ms)
+least_count_pos (m ∷ ms) lt = by (all_advance m.advance_width ms)
   where
     by : (b : Bool) → 1 ≤ cond b 1 (1 + least_count ms)
     by true = omega arith
     by false = omega arith
 
 -- from there on all share the last pair's advance
-pub advances_agree : (ms : List LongHorMetric) (k i : ℕ) (d : LongHorMetric) → least_count ms ≡ suc k → suc k ≤ i → i < length ms → (get_or ms i d).advance ≡ (get_or ms k d).advance
+pub advances_agree : (ms : List LongHorMetric) (k i : ℕ) (d : LongHorMetric) → least_count ms ≡ suc k → suc k ≤ i → i < length ms → (get_or ms i d).advance_width ≡ (get_or ms k d).advance_width
 advances_agree [] k i d h le lt = absurd (omega arith)
 advances_agree (m ∷ ms) k zero d h le lt = absurd (omega arith)
-advances_agree (m ∷ ms) k (suc i) d h le lt = by (λ k h le. advances_agree ms k i d h le (omega arith)) (all_advance m.advance ms) k refl h le
+advances_agree (m ∷ ms) k (suc i) d h le lt = by (λ k h le. advances_agree ms k i d h le (omega arith)) (all_advance m.advance_width ms) k refl h le
   where
-    by : ((k : ℕ) → least_count ms ≡ suc k → suc k ≤ i → (get_or ms i d).advance ≡ (get_or ms k d).advance) → (b : Bool) (k : ℕ) → all_advance m.advance ms ≡ b → cond b 1 (1 + least_count ms) ≡ suc k → suc k ≤ suc i → (get_or ms i d).advance ≡ (get_or (m ∷ ms) k d).advance
-    by rest true zero t e le = all_advance_at m.advance ms i d t (omega arith)
+    by : ((k : ℕ) → least_count ms ≡ suc k → suc k ≤ i → (get_or ms i d).advance_width ≡ (get_or ms k d).advance_width) → (b : Bool) (k : ℕ) → all_advance m.advance_width ms ≡ b → cond b 1 (1 + least_count ms) ≡ suc k → suc k ≤ suc i → (get_or ms i d).advance_width ≡ (get_or (m ∷ ms) k d).advance_width
+    by rest true zero t e le = all_advance_at m.advance_width ms i d t (omega arith)
     by rest true (suc k) t e le = absurd (omega arith)
     by rest false zero t e le = absurd (omega (arith, least_count_pos ms (omega arith)))
     by rest false (suc k) t e le = rest k (omega arith) (omega arith)
 
 -- a lesser number would not do
-pub least_count_least : (ms : List LongHorMetric) (k : ℕ) (d : LongHorMetric) → ((i : ℕ) → suc k ≤ i → i < length ms → (get_or ms i d).advance ≡ (get_or ms k d).advance) → least_count ms ≤ suc k
+pub least_count_least : (ms : List LongHorMetric) (k : ℕ) (d : LongHorMetric) → ((i : ℕ) → suc k ≤ i → i < length ms → (get_or ms i d).advance_width ≡ (get_or ms k d).advance_width) → least_count ms ≤ suc k
 least_count_least [] k d h = omega arith
 least_count_least (m ∷ ms) zero d h =
-    let t : all_advance m.advance ms ≡ true = all_advance_from m.advance ms d (λ i lt. h (suc i) (omega arith) (omega arith)) in
+    let t : all_advance m.advance_width ms ≡ true = all_advance_from m.advance_width ms d (λ i lt. h (suc i) (omega arith) (omega arith)) in
     let n : least_count (m ∷ ms) ≡ 1 = ap (λ b. cond b 1 (1 + least_count ms)) t in
     omega arith
-least_count_least (m ∷ ms) (suc k) d h = by (all_advance m.advance ms) (least_count_least ms k d (λ i le lt. h (suc i) (omega arith) (omega arith)))
+least_count_least (m ∷ ms) (suc k) d h = by (all_advance m.advance_width ms) (least_count_least ms k d (λ i le lt. h (suc i) (omega arith) (omega arith)))
   where
     by : (b : Bool) → least_count ms ≤ suc k → cond b 1 (1 + least_count ms) ≤ suc (suc k)
     by true h = omega arith

@@ -8,7 +8,7 @@ use Rattle.subsetter_base.specs.Bytes.{be, range, number, ◌>>=◌, from_offset
 use Rattle.subsetter_base.specs.Indexes.{IsWithoutRepeats}
 use Rattle.subsetter_base.specs.declared.error.Error.{Error}
 use Rattle.subsetter_base.specs.declared.error.Error.TheVariants.{MalformedFont, OverflowError}
-use Rattle.subsetter_base.proofs.GlyphLemmas.{IsDistinct-places}
+use Rattle.subsetter_base.proofs.GlyphLemmas.{IsDistinct-indexes}
 use Rattle.subsetter_base.proofs.ByteLemmas.{range-fits, range-length, range-take_drop, number-short, range-short}
 use Rattle.subsetter_base.proofs.Results.{bind_err, named_ok, named_err}
 use Rattle.subsetter.specs.Common.Post.Read.{PostTable, names_in, post_parts, post_table, glyph_index, name_of_index, post_bytes}
@@ -121,7 +121,7 @@ each_member (x ∷ xs) P h g (suc k, lt, e) = each_member xs P h.1 g (k, omega a
 -- too many names
 too_many : (find : List ℕ → Option (List ℕ)) (bytes order is : List ℕ) (t : PostTable) → find (codes "post") ≡ Some bytes → number bytes 0 4 ≡ Some 0x00020000 → IsWithoutRepeats order → post_table bytes ≡ Some t → indexes_of t order ≡ Ok is → 65278 < custom_count is → HasGlyphNameFault find (Contains order) OverflowError
 too_many find bytes order is t there v once read are lt =
-    faults.many_own_names bytes (owned order is) there v (owned_distinct order is (IsDistinct-places order once))
+    faults.many_own_names bytes (owned order is) there v (owned_distinct order is (IsDistinct-indexes order once))
     (both_all (owned order is) (all_owned (Contains order) order is (all_members order (Contains order) (λ g c. c))) (all_named (owned order is) (each_own t order is are)))
     (omega (arith, lt, owned_counted t order is are))
   where

@@ -7,8 +7,8 @@ use Rattle.std.proofs.lemmas.Bool.{leb-false}
 use Rattle.std.proofs.lemmas.List.{append-nil, length_push, length-append}
 use Rattle.std.proofs.lemmas.List.Elements.{Contains-append_left, Contains-append_right, Contains-append_cases, Contains-push, Contains-push_cases}
 use Rattle.subsetter_base.specs.Indexes.{index_of, with_glyph, IsWithoutRepeats}
-use Rattle.subsetter_base.proofs.PlaceLemmas.{IsWithoutRepeats-push}
-use Rattle.subsetter_base.proofs.GlyphLemmas.{place-Contains, length-le_small, small-push}
+use Rattle.subsetter_base.proofs.IndexLemmas.{IsWithoutRepeats-push}
+use Rattle.subsetter_base.proofs.GlyphLemmas.{index-Contains, length-le_small, small-push}
 use Rattle.subsetter.specs.Glyf.Read.{Outlines, outline_in}
 use Rattle.subsetter.specs.Glyf.Parts.{component_numbers}
 use Rattle.subsetter.specs.Glyf.Reaching.Reach.{IsReachableBy, given, step, IsGlyphOrderBy}
@@ -46,7 +46,7 @@ others_have order [] h c = inr c
 others_have order (n ∷ ns) h c = by (λ d. others_have order ns h d) (is_some (index_of order n)) refl
   where
     by : (Contains ns h → Contains order h ⊎ Contains (others_in order ns) h) → (b : Bool) → is_some (index_of order n) ≡ b → Contains order h ⊎ Contains (cond (not b) (n ∷ others_in order ns) (others_in order ns)) h
-    by again true known = elim (cons_cases n h ns c) [ inl is ↦ inl (subst (Contains order) is (place-Contains order n known)) | inr later ↦ again later ]
+    by again true known = elim (cons_cases n h ns c) [ inl is ↦ inl (subst (Contains order) is (index-Contains order n known)) | inr later ↦ again later ]
     by again false known = elim (cons_cases n h ns c) [
       | inl is ↦ inr (here n h (others_in order ns) is)
       | inr later ↦ elim (again later) [ inl d ↦ inl d | inr d ↦ inr (Contains-later n h (others_in order ns) d) ]
@@ -136,7 +136,7 @@ known_glyph t glyphs left waiting order g known f = record {
     | inl k ↦ inl k
     | inr k ↦ elim k [
       | inl d ↦ inr (inl d)
-      | inr d ↦ elim (Contains-push_cases waiting g h d) [ inl w ↦ inr (inr w) | inr e ↦ inr (inl (subst (Contains order) e (place-Contains order g known))) ]
+      | inr d ↦ elim (Contains-push_cases waiting g h d) [ inl w ↦ inr (inr w) | inr e ↦ inr (inl (subst (Contains order) e (index-Contains order g known))) ]
     ]
   ];
 }
@@ -212,7 +212,7 @@ pub all_numbers : (order : List ℕ) (g : ℕ) → IsWithoutRepeats order → Is
 all_numbers order g once full q lt = by (is_some (index_of (order ++ g ∷ []) q)) refl
   where
     by : (b : Bool) → is_some (index_of (order ++ g ∷ []) q) ≡ b → Contains (order ++ g ∷ []) q
-    by true known = place-Contains (order ++ g ∷ []) q known
+    by true known = index-Contains (order ++ g ∷ []) q known
     by false absent =
         let once_more = IsWithoutRepeats-push order g full.further once in
         let all_once = IsWithoutRepeats-push (order ++ g ∷ []) q (none_of (index_of (order ++ g ∷ []) q) absent) once_more in

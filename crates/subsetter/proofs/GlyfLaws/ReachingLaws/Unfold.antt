@@ -8,7 +8,7 @@ use Rattle.std.proofs.lemmas.List.{get_or-take, get_or_append_left, get_or_defau
 use Rattle.subsetter_base.specs.Bytes.{range, number, IsBytes, between_offsets, from_offset}
 use Rattle.subsetter_base.specs.Indexes.{index_of, new_index}
 use Rattle.subsetter_base.proofs.ByteLemmas.{range-middle, range-fits, range-length, range-take_drop, IsBytes-drop, IsBytes-range}
-use Rattle.subsetter_base.proofs.GlyphLemmas.{place-finds, Contains-place}
+use Rattle.subsetter_base.proofs.GlyphLemmas.{index-finds, Contains-index}
 use Rattle.subsetter_base.proofs.Options.{just, just_is, some_of, bind_some}
 use Rattle.subsetter_base.proofs.Lists.{Contains-later}
 use Rattle.subsetter_sfnt.specs.Read.{Font}
@@ -272,8 +272,8 @@ outline_is font t g read = ap (λ (o : Option Outlines). option_and_then (λ u. 
 -- the new number of a glyph of the order is its place
 pub has_number : (order : List ℕ) (g : ℕ) → Contains order g → (k : ℕ) × (k < length order) × (get_or order k 0 ≡ g) × (new_index order g ≡ k)
 has_number order g at =
-    let k = some_of (index_of order g) (Contains-place order g at) in
-    let f = place-finds order g k.0 k.1 in
+    let k = some_of (index_of order g) (Contains-index order g at) in
+    let f = index-finds order g k.0 k.1 in
     (k.0, f.0, f.1, ap (λ (o : Option ℕ). unwrap_or o 0) k.1)
 
 pub small_numbers : (order : List ℕ) → length order < 2 ^ 16 → (g : ℕ) → new_index order g < 2 ^ 16
@@ -281,7 +281,7 @@ small_numbers order few g = by (index_of order g) refl
   where
     by : (o : Option ℕ) → index_of order g ≡ o → unwrap_or o 0 < 2 ^ 16
     by None e = omega arith
-    by (Some k) e = omega (arith, (place-finds order g k e).0, few)
+    by (Some k) e = omega (arith, (index-finds order g k e).0, few)
 
 -- ---- the law
 
@@ -319,4 +319,4 @@ module _ (font out : Font) (glyphs order : List ℕ) (t u : Outlines) (bs : List
 
   -- the new number of a component is the place of its glyph
   pub numbered_alike : (i : ℕ) → i < length order → HaveSameParts font out (λ g h. index_of order g ≡ Some h) (get_or order i 0) i
-  numbered_alike i lt = parts_alike (λ g h. index_of order g ≡ Some h) (λ h c. let k = some_of (index_of order h) (Contains-place order h c) in k.1 ∙ ap (λ (n : ℕ). Some n) (sym (ap (λ (o : Option ℕ). unwrap_or o 0) k.1))) i lt
+  numbered_alike i lt = parts_alike (λ g h. index_of order g ≡ Some h) (λ h c. let k = some_of (index_of order h) (Contains-index order h c) in k.1 ∙ ap (λ (n : ℕ). Some n) (sym (ap (λ (o : Option ℕ). unwrap_or o 0) k.1))) i lt

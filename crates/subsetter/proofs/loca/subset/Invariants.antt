@@ -4,6 +4,6 @@ use Rattle.subsetter.proofs.loca.subset.Given as goal
 
 abbrev pub invariant-loop-outline : goal.invariant-loop-outline
 invariant-loop-outline l = record {
-  written : l.w ++ loca_bytes l.long l.offset l.outline-iterator ≡ loca_bytes l.long 0 l.outlines.items;
+  written : l.loca.items ++ loca_bytes l.long l.offset l.outline-iterator ≡ loca_bytes l.long 0 l.outlines.items;
   rest : l.offset + length (glyf_bytes l.long l.outline-iterator) ≡ length (glyf_bytes l.long l.outlines.items);
 }

@@ -1,15 +1,12 @@
 -- `head` of a subset (OpenType, "head"), and the plain way to it.
-use Rattle.std.specs.Prelude.{ℕ, Bool, List, [], ◌∷◌, ◌++◌, length, take, drop, slice_range, codes, Option, Some, None, Result, Ok, Err, nat_lt, if◌then◌else◌}
+use Rattle.std.specs.Prelude.{ℕ, Bool, List, length, slice_range, codes, Option, Some, None, Result, Ok, Err, nat_lt, if◌then◌else◌}
 use Rattle.subsetter_base.specs.declared.error.Error.{Error}
 use Rattle.subsetter_base.specs.declared.error.Error.TheVariants.{MalformedFont}
+use Rattle.subsetter_sfnt.specs.Fields.Head.{head_with}
 
--- indexToLocFormat: 0 for halves of offsets, 1 for offsets
-abbrev pub format_bytes : Bool → List ℕ
-format_bytes long = 0 ∷ (if long then 1 else 0) ∷ []
-
--- `head` with zeros in checksumAdjustment (bytes 8..12), and the format of loca in bytes 50..52
+-- `head` with the box that it has (bytes 36 to 44)
 abbrev pub head_bytes : Bool → List ℕ → List ℕ
-head_bytes long head = take 8 head ++ (0 ∷ 0 ∷ 0 ∷ 0 ∷ []) ++ slice_range head 12 50 ++ format_bytes long ++ drop 52 head
+head_bytes long head = head_with long (slice_range head 36 44) head
 
 -- nothing without `head`, which under 52 bytes has no indexToLocFormat
 abbrev pub head_in : Option (List ℕ) → Bool → Result (Option (List ℕ)) Error

@@ -1,13 +1,11 @@
 -- `hhea` and `hmtx` of a subset, from the metrics of its glyphs (OpenType, "hhea" and "hmtx"), and the plain way to them.
-use Rattle.std.specs.Prelude.{ℕ, ◌+◌, ◌-◌, ◌*◌, Bool, true, ◌&&◌, List, [], ◌∷◌, ◌++◌, take, drop, codes, Option, Some, None, Result, Ok, Err, ◌==◌, if◌then◌else◌}
+use Rattle.std.specs.Prelude.{ℕ, ◌+◌, ◌-◌, ◌*◌, Bool, true, ◌&&◌, List, [], ◌∷◌, slice_range, codes, Option, Some, None, Result, Ok, Err, ◌==◌, if◌then◌else◌}
 use Rattle.std.specs.Option.{ok_or}
-use Rattle.std.specs.List.{flat_map}
-use Rattle.std.specs.Int.{w16, to_be_bytes}
 use Rattle.subsetter_base.specs.Bytes.{number, ◌>>=◌}
 use Rattle.subsetter_base.specs.declared.error.Error.{Error}
 use Rattle.subsetter_base.specs.declared.error.Error.TheVariants.{MalformedFont, OverflowError}
-use Rattle.subsetter_sfnt.specs.Fields.Hmtx.{metric_in}
-use Rattle.subsetter_sfnt.specs.Fields.Hhea.{number_of_h_metrics}
+use Rattle.subsetter_sfnt.specs.Fields.Hmtx.{metric_in, hmtx_bytes}
+use Rattle.subsetter_sfnt.specs.Fields.Hhea.{number_of_h_metrics, hhea_with}
 use Rattle.subsetter_sfnt.specs.declared.fields.hmtx.LongHorMetric.{LongHorMetric}
 
 -- the bytes of the two tables
@@ -18,26 +16,16 @@ pub record MetricBytes : Type 0 where
 -- each has that advance
 abbrev pub all_advance : ℕ → List LongHorMetric → Bool
 all_advance advance [] = true
-all_advance advance (m ∷ ms) = (m.advance == advance) && all_advance advance ms
+all_advance advance (m ∷ ms) = (m.advance_width == advance) && all_advance advance ms
 
 -- the glyphs up to the first after which all share its advance need a pair
 abbrev pub least_count : List LongHorMetric → ℕ
 least_count [] = 0
-least_count (m ∷ ms) = if all_advance m.advance ms then 1 else 1 + least_count ms
+least_count (m ∷ ms) = if all_advance m.advance_width ms then 1 else 1 + least_count ms
 
-abbrev pub pair_bytes : LongHorMetric → List ℕ
-pair_bytes m = to_be_bytes w16 m.advance ++ to_be_bytes w16 m.bearing
-
-abbrev pub bearing_bytes : LongHorMetric → List ℕ
-bearing_bytes m = to_be_bytes w16 m.bearing
-
--- pairs, then bearings alone
-unfoldable pub hmtx_bytes : ℕ → List LongHorMetric → List ℕ
-hmtx_bytes count ms = flat_map pair_bytes (take count ms) ++ flat_map bearing_bytes (drop count ms)
-
--- `hhea` with numberOfHMetrics in bytes 34..36
+-- `hhea` with the extremes that it has (bytes 10 to 18)
 unfoldable pub hhea_bytes : ℕ → List ℕ → List ℕ
-hhea_bytes count hhea = take 34 hhea ++ to_be_bytes w16 count ++ drop 36 hhea
+hhea_bytes count hhea = hhea_with (slice_range hhea 10 18) count hhea
 
 -- ---- from the source's tables
 

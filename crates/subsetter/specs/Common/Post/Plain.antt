@@ -5,7 +5,7 @@ use Rattle.std.specs.Int.{w16, to_be_bytes}
 use Rattle.subsetter_base.specs.Bytes.{◌>>=◌, number}
 use Rattle.subsetter_base.specs.declared.error.Error.{Error}
 use Rattle.subsetter_base.specs.declared.error.Error.TheVariants.{MalformedFont, OverflowError}
-use Rattle.subsetter.specs.declared.common.post.Version2Table.{Version2Table}
+use Rattle.subsetter.specs.declared.common.post.read.Version2Table.{Version2Table}
 use Rattle.subsetter.specs.Common.Post.Read.{PostTable, post_table, glyph_index, name_of_index, names_in, pascal_bytes, post_bytes}
 
 -- what the code's table stands for

@@ -16,7 +16,7 @@ use Rattle.subsetter_blend.specs.declared.writing.placing.Position.{Position}
 use Rattle.subsetter_blend.specs.Axes.{along}
 use Rattle.subsetter_blend.specs.Hint.{is_hint}
 use Rattle.subsetter_blend.specs.Runs.Number.{is_within, whole}
-use Rattle.subsetter_blend.specs.Writing.Placed.{is_short, short, step, still, number_of, gone, moved, Placed, placed}
+use Rattle.subsetter_blend.specs.Writing.Placed.{is_short, short, step, whole_operand, number_of, position_after, moved, Placed, placed}
 use Rattle.subsetter_blend.specs.Writing.Taking.{Event}
 use Rattle.subsetter_blend.specs.Writing.Written.{Pen, Inked, width, start_point, end_point, inked, whole_piece}
 
@@ -40,8 +40,8 @@ step_fits : (old new : ℤ) (m : CharStringNumber) → step old new ≡ Some m �
 unfolding step
 step_fits old new m e = short_fits (whole new -ℤ whole old) m (if_some (is_short (whole new)) _ m (if_some (is_within new) _ m e))
 
-still_fits : (v : ℤ) (m : CharStringNumber) → still v ≡ Some m → NumberFits m
-unfolding still
+still_fits : (v : ℤ) (m : CharStringNumber) → whole_operand v ≡ Some m → NumberFits m
+unfolding whole_operand
 still_fits v m e = short_fits (whole v) m (if_some (is_within v) _ m e)
 
 number_fits : (a : Along) (v : ℤ) (at : Position) (m : CharStringNumber) → number_of a v at ≡ Some m → NumberFits m
@@ -54,10 +54,10 @@ record AreMore (numbers now : List CharStringNumber) (n : ℕ) : Type 0 where
   many : length now ≡ length numbers + n
   fit : AllFit numbers → AllFit now
 
-one_of : (a : Along) (v : ℤ) (p q : Placed) (o : Option CharStringNumber) → number_of a v p.at ≡ o → option_map {U = Placed} (λ n. record { at = gone a v p.at; numbers = p.numbers ++ n ∷ [] }) o ≡ Some q → AreMore p.numbers q.numbers 1
+one_of : (a : Along) (v : ℤ) (p q : Placed) (o : Option CharStringNumber) → number_of a v p.at ≡ o → option_map {U = Placed} (λ n. record { at = position_after a v p.at; numbers = p.numbers ++ n ∷ [] }) o ≡ Some q → AreMore p.numbers q.numbers 1
 one_of a v p q None e h = absurd (cc)
 one_of a v p q (Some m) e h =
-    let same : ◌≡◌ {A = Placed} (record { at = gone a v p.at; numbers = p.numbers ++ m ∷ [] }) q = cc in
+    let same : ◌≡◌ {A = Placed} (record { at = position_after a v p.at; numbers = p.numbers ++ m ∷ [] }) q = cc in
     subst (λ (x : Placed). AreMore p.numbers x.numbers 1) same (record {
       many = length-append p.numbers (m ∷ []);
       fit = λ f. fit_more p.numbers m f (number_fits a v p.at m e);

@@ -9,7 +9,7 @@ use Rattle.subsetter_blend.specs.Drawing.{flex_drawn, event_drawn, IsAccepted}
 use Rattle.subsetter_blend.specs.Drawn.{Segment, Flex, code, curves}
 use Rattle.subsetter_blend.specs.Writing.Flex.{opened, opened_by, opened_operator, operand_at}
 use Rattle.subsetter_blend.specs.Runs.Kind.{type_accepts, two_byte_accepts, accepts}
-use Rattle.subsetter_blend.specs.Writing.Says.{marks, event_marks}
+use Rattle.subsetter_blend.specs.Writing.Marks.{marks, event_marks}
 use Rattle.subsetter_blend.specs.Writing.Stems.{stems_of}
 use Rattle.subsetter_blend.specs.Writing.Taking.{Event}
 use Rattle.subsetter_blend.proofs.DrawnLaws.Opened.{opens_flex}

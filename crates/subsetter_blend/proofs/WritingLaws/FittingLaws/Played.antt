@@ -37,7 +37,7 @@ use Rattle.subsetter_blend.proofs.WritingLaws.SplitLaws.Cuts.{hint_effect, cut_i
 use Rattle.subsetter_blend.proofs.WritingLaws.SplitLaws.Pieces.{is_cut, length_rest}
 
 -- ---- one event
-some_bytes : (library : type2.Library) (bytes : List ℕ) (r next : type2.Registers) (said : Option type2.Event) (lead : type2.Lead) → type2.act_at library bytes r ≡ type2.Does said next lead → 0 < length bytes
+some_bytes : (library : type2.Library) (bytes : List ℕ) (r next : type2.Registers) (said : Option type2.Event) (lead : type2.Continuation) → type2.act_at library bytes r ≡ type2.Does said next lead → 0 < length bytes
 unfolding type2.act_at token_of
 some_bytes library [] r next said lead e = absurd (cc)
 some_bytes library (b ∷ bytes) r next said lead e = omega arith
@@ -46,7 +46,7 @@ event_bytes : (e : type2.Event) (x : List ℕ) → flat_event e ++ x ≡ flat_op
 event_bytes e x = append_assoc (flat_operands e.operands) (operator_of e.operator ++ e.mask) x ∙ ap (λ (y : List ℕ). flat_operands e.operands ++ y) (append_assoc (operator_of e.operator) e.mask x)
 
 -- its operands and its operator
-event_run : (library : type2.Library) (depth m stems mask_len : ℕ) (said : List type2.Event) (e : type2.Event) (next : type2.Registers) (lead : type2.Lead) (x : List ℕ) → 1 ≤ depth → length e.operands ≤ 48 → AllFit e.operands
+event_run : (library : type2.Library) (depth m stems mask_len : ℕ) (said : List type2.Event) (e : type2.Event) (next : type2.Registers) (lead : type2.Continuation) (x : List ℕ) → 1 ≤ depth → length e.operands ≤ 48 → AllFit e.operands
     → type2.act_at library (operator_of e.operator ++ (e.mask ++ x)) (at stems mask_len e.operands) ≡ type2.Does (Some e) next lead
     → type2.run library depth (length e.operands + suc m) said (one (flat_event e ++ x) (at stems mask_len [])) ≡ type2.follow (type2.move depth [] (type2.Does (Some e) next lead)) said (type2.run library depth m)
 event_run library depth m stems mask_len said e next lead x d few fit act =
@@ -300,7 +300,7 @@ module _ (setting : Setting) (depth : ℕ) where
   over_ahead w now r (z ∷ zs) fit h = absurd (cc)
 
   module _ (n : ℕ) (ih : (w now : Whole) (state : State) → AllFit (width w.pen.advance) → run whole_also setting depth n w state ≡ Ok now → Ahead w now state.registers.stems state.registers.mask_len) where
-    said_ahead : (r next : Registers) (e : Event) (lead : type2.Lead) (callers : List (List ℕ)) (w now : Whole) (o : Result Whole Error) → whole_also e w ≡ o → Loud r e next → AllFit (width w.pen.advance)
+    said_ahead : (r next : Registers) (e : Event) (lead : type2.Continuation) (callers : List (List ℕ)) (w now : Whole) (o : Result Whole Error) → whole_also e w ≡ o → Loud r e next → AllFit (width w.pen.advance)
         → follow depth callers (done_with next lead o) (run whole_also setting depth n) ≡ Ok now → Ahead w now r.stems r.mask_len
     said_ahead r next e lead callers w now (Err x) i loud fit h = absurd (cc)
     said_ahead r next e lead callers w now (Ok v) i loud fit h =

@@ -3,7 +3,7 @@ use Rattle.std.proofs.Common.{◌≡◌, ℕ, zero, suc, List, [], ◌∷◌, �
 use Rattle.std.specs.Prelude.{Result, nat_le, if◌then◌else◌}
 use Rattle.subsetter_base.specs.declared.error.Error.{Error}
 use Rattle.subsetter_base.specs.declared.error.Error.TheVariants.{CFFError}
-use Rattle.subsetter_type2.specs.Runs.Machine.{Lead, unended, rests_after}
+use Rattle.subsetter_type2.specs.Runs.Machine.{Continuation, unended, rests_after}
 use Rattle.subsetter_blend.specs.Drawing.{IsAccepted}
 use Rattle.subsetter_blend.specs.Runs.Machine.{Setting, Registers, State, Act, Does, Fails, done_with, taken_also, done, act_at, follow, ended, run}
 use Rattle.subsetter_blend.specs.Writing.Taking.{Event}
@@ -43,7 +43,7 @@ module _ {S T : Type 0} (take : Event → S → Result S Error) (too : Event →
   ended_too (z ∷ zs) s now t r h = absurd (cc)
 
   module _ (n : ℕ) (ih : (s now : S) (t : T) (state : State) → R s t → run take setting depth n s state ≡ Ok now → Too (run too setting depth n t state) (R now)) where
-    does_too : (said : Option Event) (next : Registers) (lead : Lead) (callers : List (List ℕ)) (s now : S) (t : T) (o : Result S Error) → SaidAccepted said → taken_also take said s ≡ o → R s t
+    does_too : (said : Option Event) (next : Registers) (lead : Continuation) (callers : List (List ℕ)) (s now : S) (t : T) (o : Result S Error) → SaidAccepted said → taken_also take said s ≡ o → R s t
         → follow depth callers (done_with next lead o) (run take setting depth n) ≡ Ok now → Too (follow depth callers (done_with next lead (taken_also too said t)) (run too setting depth n)) (R now)
     does_too said next lead callers s now t (Err x) a e r h = absurd (cc)
     does_too said next lead callers s now t (Ok s1) a e r h =

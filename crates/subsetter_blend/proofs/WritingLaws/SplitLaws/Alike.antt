@@ -7,7 +7,7 @@ use Rattle.subsetter_blend.specs.declared.writing.placing.Position.{Position}
 use Rattle.subsetter_blend.specs.Drawing.{IsAccepted, AreAccepted, event_drawn, events_drawn}
 use Rattle.subsetter_blend.specs.Drawn.{Segment, point_behind}
 use Rattle.subsetter_blend.specs.Laws.{SplitsAlike}
-use Rattle.subsetter_blend.specs.Writing.Says.{Mark, event_marks, all_marks}
+use Rattle.subsetter_blend.specs.Writing.Marks.{Mark, event_marks, all_marks}
 use Rattle.subsetter_blend.specs.Writing.Split.{front_of, rest_of, next_cut, pieces}
 use Rattle.subsetter_blend.specs.Writing.Stems.{AreFew, stems_of, all_stems}
 use Rattle.subsetter_blend.specs.Writing.Taking.{Event}

@@ -11,7 +11,7 @@ use Rattle.subsetter_type2.specs.declared.token.Effect.TheVariants as effect
 use Rattle.subsetter_type2.specs.Token.{one_byte_effect, effect_of}
 use Rattle.subsetter_blend.specs.declared.writing.placing.Position.{Position}
 use Rattle.subsetter_blend.specs.Drawing.{path_of, path_drawn, event_drawn, IsAccepted}
-use Rattle.subsetter_blend.specs.Drawn.{Segment, Path, lines, turning_lines, curves, curves_line, lines_curve, horizontal_curves, vertical_curves, odd_horizontal, odd_vertical, turning_curves, point_behind}
+use Rattle.subsetter_blend.specs.Drawn.{Segment, Path, lines, alternating_lines, curves, curves_line, lines_curve, horizontal_curves, vertical_curves, odd_horizontal, odd_vertical, alternating_curves, point_behind}
 use Rattle.subsetter_blend.specs.Hint.{is_hint}
 use Rattle.subsetter_blend.specs.Runs.Kind.{one_byte_accepts, two_byte_accepts, type_accepts, accepts}
 use Rattle.subsetter_blend.specs.Writing.Split.{one_byte_cut, one_byte_piece, moved_by, sum_before, front_of, rest_of, next_cut}
@@ -87,10 +87,10 @@ module _ (vs : List ℤ) (long : 48 ≤ length vs) where
   some_left n l = grind (arith, nat_tests)
 
   parted_6 : one_byte_accepts 6 (length vs) ≡ true → IsParted vs 6
-  parted_6 a = record { draws = λ at. parted (turning_lines false) (turning_lines false) (turning_lines false) at vs 46 (turning_lines_split false at (take 46 vs) (drop 46 vs) even_46); front = refl; rest = some_left (length vs) long; effect_is = refl; even = λ h. absurd (false≢true h); still = λ h. absurd (false≢true h) }
+  parted_6 a = record { draws = λ at. parted (alternating_lines false) (alternating_lines false) (alternating_lines false) at vs 46 (turning_lines_split false at (take 46 vs) (drop 46 vs) even_46); front = refl; rest = some_left (length vs) long; effect_is = refl; even = λ h. absurd (false≢true h); still = λ h. absurd (false≢true h) }
 
   parted_7 : one_byte_accepts 7 (length vs) ≡ true → IsParted vs 7
-  parted_7 a = record { draws = λ at. parted (turning_lines true) (turning_lines true) (turning_lines true) at vs 46 (turning_lines_split true at (take 46 vs) (drop 46 vs) even_46); front = refl; rest = some_left (length vs) long; effect_is = refl; even = λ h. absurd (false≢true h); still = λ h. absurd (false≢true h) }
+  parted_7 a = record { draws = λ at. parted (alternating_lines true) (alternating_lines true) (alternating_lines true) at vs 46 (turning_lines_split true at (take 46 vs) (drop 46 vs) even_46); front = refl; rest = some_left (length vs) long; effect_is = refl; even = λ h. absurd (false≢true h); still = λ h. absurd (false≢true h) }
 
   six_42 : length (take 42 vs) % 6 ≡ 0
   six_42 = ap (λ (n : ℕ). n % 6) (taken 42 (omega arith))
@@ -126,10 +126,10 @@ module _ (vs : List ℤ) (long : 48 ≤ length vs) where
   more_left e = absurd (omega (arith, e, left 40, long))
 
   parted_30 : one_byte_accepts 30 (length vs) ≡ true → IsParted vs 30
-  parted_30 a = record { draws = λ at. parted (turning_curves true) (turning_curves true) (turning_curves true) at vs 40 (turning_split true at (take 40 vs) (drop 40 vs) eight_40 more_left); front = refl; rest = turn_left (length vs) long a; effect_is = refl; even = λ h. absurd (false≢true h); still = λ h. absurd (false≢true h) }
+  parted_30 a = record { draws = λ at. parted (alternating_curves true) (alternating_curves true) (alternating_curves true) at vs 40 (turning_split true at (take 40 vs) (drop 40 vs) eight_40 more_left); front = refl; rest = turn_left (length vs) long a; effect_is = refl; even = λ h. absurd (false≢true h); still = λ h. absurd (false≢true h) }
 
   parted_31 : one_byte_accepts 31 (length vs) ≡ true → IsParted vs 31
-  parted_31 a = record { draws = λ at. parted (turning_curves false) (turning_curves false) (turning_curves false) at vs 40 (turning_split false at (take 40 vs) (drop 40 vs) eight_40 more_left); front = refl; rest = turn_left (length vs) long a; effect_is = refl; even = λ h. absurd (false≢true h); still = λ h. absurd (false≢true h) }
+  parted_31 a = record { draws = λ at. parted (alternating_curves false) (alternating_curves false) (alternating_curves false) at vs 40 (turning_split false at (take 40 vs) (drop 40 vs) eight_40 more_left); front = refl; rest = turn_left (length vs) long a; effect_is = refl; even = λ h. absurd (false≢true h); still = λ h. absurd (false≢true h) }
 
   -- ---- an odd operand in front of the first part
   abbrev odd : ℕ

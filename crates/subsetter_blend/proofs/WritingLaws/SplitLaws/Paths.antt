@@ -2,21 +2,21 @@
 use Rattle.std.proofs.Common.{◌≡◌, ◌%◌, ◌≤◌, ℤ, Bool, true, false, List, [], ◌∷◌, ◌++◌, length, refl, sym, ap, ◌∙◌, arith, length-append}
 use Rattle.subsetter_blend.specs.declared.axes.Along.TheVariants.{X, Y}
 use Rattle.subsetter_blend.specs.declared.writing.placing.Position.{Position}
-use Rattle.subsetter_blend.specs.Drawn.{Segment, Line, Curve, by, lines, turning_lines, curves, curves_line, lines_curve, horizontal_curves, vertical_curves, odd_horizontal, odd_vertical, turning_curves, point_behind}
-use Rattle.subsetter_blend.specs.Writing.Placed.{gone}
+use Rattle.subsetter_blend.specs.Drawn.{Segment, Line, Curve, by, lines, alternating_lines, curves, curves_line, lines_curve, horizontal_curves, vertical_curves, odd_horizontal, odd_vertical, alternating_curves, point_behind}
+use Rattle.subsetter_blend.specs.Writing.Placed.{position_after}
 
 pub lines_split : (at : Position) (xs ys : List ℤ) → length xs % 2 ≡ 0 → lines at (xs ++ ys) ≡ lines at xs ++ lines (point_behind at (lines at xs)) ys
 lines_split at [] ys e = refl
 lines_split at (a ∷ []) ys e = absurd (omega (arith, e))
 lines_split at (a ∷ b ∷ xs) ys e = ap (λ (l : List Segment). Line (by a b at) ∷ l) (lines_split (by a b at) xs ys (omega (arith, e)))
 
-pub turning_lines_split : (v : Bool) (at : Position) (xs ys : List ℤ) → length xs % 2 ≡ 0 → turning_lines v at (xs ++ ys) ≡ turning_lines v at xs ++ turning_lines v (point_behind at (turning_lines v at xs)) ys
+pub turning_lines_split : (v : Bool) (at : Position) (xs ys : List ℤ) → length xs % 2 ≡ 0 → alternating_lines v at (xs ++ ys) ≡ alternating_lines v at xs ++ alternating_lines v (point_behind at (alternating_lines v at xs)) ys
 turning_lines_split true at [] ys e = refl
 turning_lines_split false at [] ys e = refl
 turning_lines_split true at (a ∷ []) ys e = absurd (omega (arith, e))
 turning_lines_split false at (a ∷ []) ys e = absurd (omega (arith, e))
-turning_lines_split true at (a ∷ b ∷ xs) ys e = ap (λ (l : List Segment). Line (gone Y a at) ∷ Line (gone X b (gone Y a at)) ∷ l) (turning_lines_split true (gone X b (gone Y a at)) xs ys (omega (arith, e)))
-turning_lines_split false at (a ∷ b ∷ xs) ys e = ap (λ (l : List Segment). Line (gone X a at) ∷ Line (gone Y b (gone X a at)) ∷ l) (turning_lines_split false (gone Y b (gone X a at)) xs ys (omega (arith, e)))
+turning_lines_split true at (a ∷ b ∷ xs) ys e = ap (λ (l : List Segment). Line (position_after Y a at) ∷ Line (position_after X b (position_after Y a at)) ∷ l) (turning_lines_split true (position_after X b (position_after Y a at)) xs ys (omega (arith, e)))
+turning_lines_split false at (a ∷ b ∷ xs) ys e = ap (λ (l : List Segment). Line (position_after X a at) ∷ Line (position_after Y b (position_after X a at)) ∷ l) (turning_lines_split false (position_after Y b (position_after X a at)) xs ys (omega (arith, e)))
 
 pub curves_split : (at : Position) (xs ys : List ℤ) → length xs % 6 ≡ 0 → curves at (xs ++ ys) ≡ curves at xs ++ curves (point_behind at (curves at xs)) ys
 curves_split at [] ys e = refl
@@ -61,8 +61,8 @@ horizontal_split at (a ∷ []) ys e = absurd (omega (arith, e))
 horizontal_split at (a ∷ b ∷ []) ys e = absurd (omega (arith, e))
 horizontal_split at (a ∷ b ∷ c ∷ []) ys e = absurd (omega (arith, e))
 horizontal_split at (a ∷ b ∷ c ∷ d ∷ xs) ys e =
-    let end = gone X d (by b c (gone X a at)) in
-    ap (λ (l : List Segment). Curve (gone X a at) (by b c (gone X a at)) end ∷ l) (horizontal_split end xs ys (omega (arith, e)))
+    let end = position_after X d (by b c (position_after X a at)) in
+    ap (λ (l : List Segment). Curve (position_after X a at) (by b c (position_after X a at)) end ∷ l) (horizontal_split end xs ys (omega (arith, e)))
 
 pub vertical_split : (at : Position) (xs ys : List ℤ) → length xs % 4 ≡ 0 → vertical_curves at (xs ++ ys) ≡ vertical_curves at xs ++ vertical_curves (point_behind at (vertical_curves at xs)) ys
 vertical_split at [] ys e = refl
@@ -70,8 +70,8 @@ vertical_split at (a ∷ []) ys e = absurd (omega (arith, e))
 vertical_split at (a ∷ b ∷ []) ys e = absurd (omega (arith, e))
 vertical_split at (a ∷ b ∷ c ∷ []) ys e = absurd (omega (arith, e))
 vertical_split at (a ∷ b ∷ c ∷ d ∷ xs) ys e =
-    let end = gone Y d (by b c (gone Y a at)) in
-    ap (λ (l : List Segment). Curve (gone Y a at) (by b c (gone Y a at)) end ∷ l) (vertical_split end xs ys (omega (arith, e)))
+    let end = position_after Y d (by b c (position_after Y a at)) in
+    ap (λ (l : List Segment). Curve (position_after Y a at) (by b c (position_after Y a at)) end ∷ l) (vertical_split end xs ys (omega (arith, e)))
 
 -- an odd operand in front, in the first part alone
 -- the place that a drawing of no curve leaves is not moved, so there is one
@@ -82,7 +82,7 @@ odd_horizontal_split true at (v ∷ []) ys odd even h = absurd (omega (arith, h)
 odd_horizontal_split true at (v ∷ a ∷ []) ys odd even h = absurd (omega (arith, h))
 odd_horizontal_split true at (v ∷ a ∷ b ∷ []) ys odd even h = absurd (omega (arith, h))
 odd_horizontal_split true at (v ∷ a ∷ b ∷ c ∷ []) ys odd even h = absurd (omega (arith, odd refl))
-odd_horizontal_split true at (v ∷ a ∷ b ∷ c ∷ d ∷ xs) ys odd even h = horizontal_split (gone Y v at) (a ∷ b ∷ c ∷ d ∷ xs) ys (omega (arith, odd refl))
+odd_horizontal_split true at (v ∷ a ∷ b ∷ c ∷ d ∷ xs) ys odd even h = horizontal_split (position_after Y v at) (a ∷ b ∷ c ∷ d ∷ xs) ys (omega (arith, odd refl))
 odd_horizontal_split false at xs ys odd even h = horizontal_split at xs ys (even refl)
 
 pub odd_vertical_split : (b : Bool) (at : Position) (xs ys : List ℤ) → (b ≡ true → length xs % 4 ≡ 1) → (b ≡ false → length xs % 4 ≡ 0) → 4 ≤ length xs
@@ -92,18 +92,18 @@ odd_vertical_split true at (v ∷ []) ys odd even h = absurd (omega (arith, h))
 odd_vertical_split true at (v ∷ a ∷ []) ys odd even h = absurd (omega (arith, h))
 odd_vertical_split true at (v ∷ a ∷ b ∷ []) ys odd even h = absurd (omega (arith, h))
 odd_vertical_split true at (v ∷ a ∷ b ∷ c ∷ []) ys odd even h = absurd (omega (arith, odd refl))
-odd_vertical_split true at (v ∷ a ∷ b ∷ c ∷ d ∷ xs) ys odd even h = vertical_split (gone X v at) (a ∷ b ∷ c ∷ d ∷ xs) ys (omega (arith, odd refl))
+odd_vertical_split true at (v ∷ a ∷ b ∷ c ∷ d ∷ xs) ys odd even h = vertical_split (position_after X v at) (a ∷ b ∷ c ∷ d ∷ xs) ys (omega (arith, odd refl))
 odd_vertical_split false at xs ys odd even h = vertical_split at xs ys (even refl)
 
 -- ---- curves that turn, two at a time
-false_more : (at : Position) (a b c d : ℤ) (rest : List ℤ) → (length rest ≡ 1 → ⊥) → turning_curves false at (a ∷ b ∷ c ∷ d ∷ rest)
-    ≡ Curve (gone X a at) (by b c (gone X a at)) (gone Y d (by b c (gone X a at))) ∷ turning_curves true (gone Y d (by b c (gone X a at))) rest
+false_more : (at : Position) (a b c d : ℤ) (rest : List ℤ) → (length rest ≡ 1 → ⊥) → alternating_curves false at (a ∷ b ∷ c ∷ d ∷ rest)
+    ≡ Curve (position_after X a at) (by b c (position_after X a at)) (position_after Y d (by b c (position_after X a at))) ∷ alternating_curves true (position_after Y d (by b c (position_after X a at))) rest
 false_more at a b c d [] h = refl
 false_more at a b c d (e ∷ []) h = absurd (h refl)
 false_more at a b c d (e ∷ f ∷ rest) h = refl
 
-true_more : (at : Position) (a b c d : ℤ) (rest : List ℤ) → (length rest ≡ 1 → ⊥) → turning_curves true at (a ∷ b ∷ c ∷ d ∷ rest)
-    ≡ Curve (gone Y a at) (by b c (gone Y a at)) (gone X d (by b c (gone Y a at))) ∷ turning_curves false (gone X d (by b c (gone Y a at))) rest
+true_more : (at : Position) (a b c d : ℤ) (rest : List ℤ) → (length rest ≡ 1 → ⊥) → alternating_curves true at (a ∷ b ∷ c ∷ d ∷ rest)
+    ≡ Curve (position_after Y a at) (by b c (position_after Y a at)) (position_after X d (by b c (position_after Y a at))) ∷ alternating_curves false (position_after X d (by b c (position_after Y a at))) rest
 true_more at a b c d [] h = refl
 true_more at a b c d (e ∷ []) h = absurd (h refl)
 true_more at a b c d (e ∷ f ∷ rest) h = refl
@@ -115,15 +115,15 @@ alone : (xs : List ℤ) → length xs % 8 ≡ 0 → length xs ≡ 1 → ⊥
 alone xs e l = absurd (omega (arith, e, l))
 
 two_parts : (at next : Position) (v : Bool) (ys : List ℤ) (first second : Segment) (all front tail tail_front : List Segment) → all ≡ first ∷ second ∷ tail → front ≡ first ∷ second ∷ tail_front
-    → point_behind at (first ∷ second ∷ tail_front) ≡ point_behind next tail_front → tail ≡ tail_front ++ turning_curves v (point_behind next tail_front) ys
-    → all ≡ front ++ turning_curves v (point_behind at front) ys
+    → point_behind at (first ∷ second ∷ tail_front) ≡ point_behind next tail_front → tail ≡ tail_front ++ alternating_curves v (point_behind next tail_front) ys
+    → all ≡ front ++ alternating_curves v (point_behind at front) ys
 two_parts at next v ys first second all front tail tail_front is front_is ends h =
     is
     ∙ ap (λ (l : List Segment). first ∷ second ∷ l) h
-    ∙ ap (λ (p : Position). first ∷ second ∷ (tail_front ++ turning_curves v p ys)) (sym ends)
-    ∙ ap (λ (l : List Segment). l ++ turning_curves v (point_behind at l) ys) (sym front_is)
+    ∙ ap (λ (p : Position). first ∷ second ∷ (tail_front ++ alternating_curves v p ys)) (sym ends)
+    ∙ ap (λ (l : List Segment). l ++ alternating_curves v (point_behind at l) ys) (sym front_is)
 
-pub turning_split : (v : Bool) (at : Position) (xs ys : List ℤ) → length xs % 8 ≡ 0 → (length ys ≡ 1 → ⊥) → turning_curves v at (xs ++ ys) ≡ turning_curves v at xs ++ turning_curves v (point_behind at (turning_curves v at xs)) ys
+pub turning_split : (v : Bool) (at : Position) (xs ys : List ℤ) → length xs % 8 ≡ 0 → (length ys ≡ 1 → ⊥) → alternating_curves v at (xs ++ ys) ≡ alternating_curves v at xs ++ alternating_curves v (point_behind at (alternating_curves v at xs)) ys
 turning_split true at [] ys e h = refl
 turning_split false at [] ys e h = refl
 turning_split true at (a ∷ []) ys e h = absurd (omega (arith, e))
@@ -142,22 +142,22 @@ turning_split true at (a ∷ b ∷ c ∷ d ∷ f ∷ g ∷ i ∷ []) ys e h = ab
 turning_split false at (a ∷ b ∷ c ∷ d ∷ f ∷ g ∷ i ∷ []) ys e h = absurd (omega (arith, e))
 turning_split false at (a ∷ b ∷ c ∷ d ∷ f ∷ g ∷ i ∷ j ∷ xs) ys e h =
     let more : length xs % 8 ≡ 0 = omega (arith, e) in
-    let mid = gone Y d (by b c (gone X a at)) in
-    let end = gone X j (by g i (gone Y f mid)) in
-    let first = Curve (gone X a at) (by b c (gone X a at)) mid in
-    let second = Curve (gone Y f mid) (by g i (gone Y f mid)) end in
-    two_parts at end false ys first second _ _ (turning_curves false end (xs ++ ys)) (turning_curves false end xs)
+    let mid = position_after Y d (by b c (position_after X a at)) in
+    let end = position_after X j (by g i (position_after Y f mid)) in
+    let first = Curve (position_after X a at) (by b c (position_after X a at)) mid in
+    let second = Curve (position_after Y f mid) (by g i (position_after Y f mid)) end in
+    two_parts at end false ys first second _ _ (alternating_curves false end (xs ++ ys)) (alternating_curves false end xs)
     (ap (λ (l : List Segment). first ∷ l) (true_more mid f g i j (xs ++ ys) (no_one xs ys more h)))
     (ap (λ (l : List Segment). first ∷ l) (true_more mid f g i j xs (alone xs more)))
     refl
     (turning_split false end xs ys more h)
 turning_split true at (a ∷ b ∷ c ∷ d ∷ f ∷ g ∷ i ∷ j ∷ xs) ys e h =
     let more : length xs % 8 ≡ 0 = omega (arith, e) in
-    let mid = gone X d (by b c (gone Y a at)) in
-    let end = gone Y j (by g i (gone X f mid)) in
-    let first = Curve (gone Y a at) (by b c (gone Y a at)) mid in
-    let second = Curve (gone X f mid) (by g i (gone X f mid)) end in
-    two_parts at end true ys first second _ _ (turning_curves true end (xs ++ ys)) (turning_curves true end xs)
+    let mid = position_after X d (by b c (position_after Y a at)) in
+    let end = position_after Y j (by g i (position_after X f mid)) in
+    let first = Curve (position_after Y a at) (by b c (position_after Y a at)) mid in
+    let second = Curve (position_after X f mid) (by g i (position_after X f mid)) end in
+    two_parts at end true ys first second _ _ (alternating_curves true end (xs ++ ys)) (alternating_curves true end xs)
     (ap (λ (l : List Segment). first ∷ l) (false_more mid f g i j (xs ++ ys) (no_one xs ys more h)))
     (ap (λ (l : List Segment). first ∷ l) (false_more mid f g i j xs (alone xs more)))
     refl

@@ -9,7 +9,7 @@ use Rattle.subsetter_blend.specs.declared.writing.placing.Position.{Position}
 use Rattle.subsetter_blend.specs.Drawing.{event_drawn}
 use Rattle.subsetter_blend.specs.Drawn.{Segment, point_behind}
 use Rattle.subsetter_blend.specs.Hint.{is_hint}
-use Rattle.subsetter_blend.specs.Writing.Says.{Mark, Edge, Masked, Draws, type_masks, marks, event_marks}
+use Rattle.subsetter_blend.specs.Writing.Marks.{Mark, Edge, Masked, Draws, type_masks, marks, event_marks}
 use Rattle.subsetter_blend.specs.Writing.Split.{one_byte_piece, piece_type, moved_by, sum_before, front_of, rest_of}
 use Rattle.subsetter_blend.specs.Writing.Stems.{edges_from, has_stems, type_stems, stems_of}
 use Rattle.subsetter_blend.specs.Writing.Taking.{Event}

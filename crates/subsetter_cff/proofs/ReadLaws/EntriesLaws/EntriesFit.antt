@@ -7,7 +7,7 @@ use Rattle.std.proofs.lemmas.Bool.{eqb-false}
 use Rattle.subsetter_base.specs.Options.{◌>>=◌}
 use Rattle.subsetter_base.specs.Bytes.{byte}
 use Rattle.subsetter_cffdata.specs.Numerals.Numbers.{dict_number_from}
-use Rattle.subsetter_cffdata.specs.Dicts.Dict.{Entry, is_operator, operator_from, entry_in, entry_at, kept, entries_in, entries, IsOperator, operand_limit}
+use Rattle.subsetter_cffdata.specs.Dicts.Dict.{Entry, is_operator, operator_from, entry_in, entry_at, limited, entries_in, entries, IsOperator, operand_limit}
 use Rattle.subsetter_cffdata.proofs.RealsLaws.Reals.{all_take}
 use Rattle.subsetter_cff.proofs.ReadLaws.EntriesLaws.ReadNumbers.{FitsNumber, FitsEntry}
 use Rattle.subsetter_cff.proofs.ReadLaws.EntriesLaws.ReadFits.{Reads, nothing, found, choice, then, behind, number_reads}
@@ -34,14 +34,14 @@ entry_reads (suc steps) (b ∷ bytes) =
     (λ x p. then Whole Whole (entry_in steps x.1) (λ e. Some (record { operator = e.0.operator; operands = x.0 ∷ e.0.operands }, e.1)) (entry_reads steps x.1)
     (λ e r. found Whole (record { operator = e.0.operator; operands = x.0 ∷ e.0.operands }) e.1 (record { operator = r.operator; operands = (p, r.operands) }))))
 
-kept_fits : (e : Entry) → Whole e → FitsEntry (kept e)
+kept_fits : (e : Entry) → Whole e → FitsEntry (limited e)
 kept_fits e w = record {
   operator = w.operator;
   operands = all_take FitsNumber operand_limit e.operands w.operands;
   few = omega (arith, length-take operand_limit e.operands);
 }
 
-with_more : (steps : ℕ) (o : Option (Entry × List ℕ)) → Reads Whole o → ((rest : List ℕ) → AllByRecursion FitsEntry (entries_in steps rest)) → AllByRecursion FitsEntry (option_map_or (λ e. kept e.0 ∷ entries_in steps e.1) o [])
+with_more : (steps : ℕ) (o : Option (Entry × List ℕ)) → Reads Whole o → ((rest : List ℕ) → AllByRecursion FitsEntry (entries_in steps rest)) → AllByRecursion FitsEntry (option_map_or (λ e. limited e.0 ∷ entries_in steps e.1) o [])
 with_more steps None r more = tt
 with_more steps (Some e) r more = (kept_fits e.0 (r.each e refl), more e.1)
 

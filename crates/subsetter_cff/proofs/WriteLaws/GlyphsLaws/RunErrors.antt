@@ -7,7 +7,7 @@ use Rattle.subsetter_cffdata.specs.declared.dicts.operator.Operator.{Operator}
 use Rattle.subsetter_type2.specs.declared.token.Effect.{Effect}
 use Rattle.subsetter_type2.specs.declared.token.Effect.TheVariants.{CountsStems, Draws, CallsLocal, CallsGlobal, Returns, Ends, Masks}
 use Rattle.subsetter_type2.specs.Token.{Token, Operand, Operation, token_of, effect_of}
-use Rattle.subsetter_type2.specs.Runs.Machine.{Library, Registers, State, Event, Act, Does, Fails, Step, Goes, Faults, Outcome, Finishes, Stops, subroutine, last_operand, stems_after, take_mask, enter, operate, act, act_on, act_at, rests_after, move, unended, with_event, follow, want, run, start, outcome}
+use Rattle.subsetter_type2.specs.Runs.Machine.{Library, Registers, State, Event, Act, Does, Fails, Step, Goes, Faults, Outcome, Finishes, Stops, subroutine, last_operand, stems_after, take_mask, enter, operate, act, act_on, act_at, rests_after, move, unended, with_event, follow, ended_or, run, start, outcome}
 
 -- a fault that charstrings have: the two errors
 abbrev pub IsRunError : Error → Type 0
@@ -79,7 +79,7 @@ follow_good : (s : Step) (said : List Event) (go : List Event → State → Outc
 follow_good (Goes event next) said go good on = on (with_event said event) next
 follow_good (Faults e) said go good on = good
 
-want_good : (rests : List (List ℕ)) (over : Outcome) (go : List ℕ → List (List ℕ) → Outcome) → GoodOutcome over → ((bytes : List ℕ) (callers : List (List ℕ)) → GoodOutcome (go bytes callers)) → GoodOutcome (want rests over go)
+want_good : (rests : List (List ℕ)) (over : Outcome) (go : List ℕ → List (List ℕ) → Outcome) → GoodOutcome over → ((bytes : List ℕ) (callers : List (List ℕ)) → GoodOutcome (go bytes callers)) → GoodOutcome (ended_or rests over go)
 want_good [] over go good on = good
 want_good (bytes ∷ callers) over go good on = on bytes callers
 

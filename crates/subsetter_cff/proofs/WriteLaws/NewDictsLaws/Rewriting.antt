@@ -11,7 +11,7 @@ use Rattle.subsetter_base.specs.declared.error.Error.{Error}
 use Rattle.subsetter_base.specs.declared.error.Error.TheVariants.{OverflowError}
 use Rattle.subsetter_cffdata.specs.declared.numerals.number.Number.{Number as StoredNumber}
 use Rattle.subsetter_cffdata.specs.Numerals.Numbers.{Number, is_too_long}
-use Rattle.subsetter_cffdata.specs.Dicts.Dict.{Entry, entry_bytes, dict, entry_at, entries, kept, operand_limit}
+use Rattle.subsetter_cffdata.specs.Dicts.Dict.{Entry, entry_bytes, dict, entry_at, entries, limited, operand_limit}
 use Rattle.subsetter_cffdata.specs.Dicts.Operands.{operands_at}
 use Rattle.subsetter_cffdata.specs.Dicts.Tokens.{operator_part}
 use Rattle.subsetter_cffdata.specs.Views.{number_of}
@@ -68,10 +68,10 @@ found bytes operator rest h = found_by bytes operator rest (entry_at bytes) refl
 pub shorter : (bytes operator rest : List ℕ) → operator_part (entry_at bytes) ≡ Some (operator, rest) → length rest < length bytes
 shorter bytes operator rest h = let f = found bytes operator rest h in entry_shorter bytes (f.entry, rest) f.is
 
-pub entries_are : (bytes rest : List ℕ) (e : Entry) → entry_at bytes ≡ Some (e, rest) → entries bytes ≡ kept e ∷ entries rest
-entries_are bytes rest e is = entries_step bytes ∙ ap (λ (o : Option (Entry × List ℕ)). option_map_or (λ e. kept e.0 ∷ entries e.1) o []) is
+pub entries_are : (bytes rest : List ℕ) (e : Entry) → entry_at bytes ≡ Some (e, rest) → entries bytes ≡ limited e ∷ entries rest
+entries_are bytes rest e is = entries_step bytes ∙ ap (λ (o : Option (Entry × List ℕ)). option_map_or (λ e. limited e.0 ∷ entries e.1) o []) is
 
-pub none_left : (o : Option (Entry × List ℕ)) → operator_part o ≡ None → option_map_or (λ e. kept e.0 ∷ entries e.1) o [] ≡ []
+pub none_left : (o : Option (Entry × List ℕ)) → operator_part o ≡ None → option_map_or (λ e. limited e.0 ∷ entries e.1) o [] ≡ []
 none_left None h = refl
 none_left (Some e) h = absurd (none-some (e.0.operator, e.1) (sym h))
 
@@ -87,7 +87,7 @@ taken_as : (front bytes rest : List ℕ) (e : Entry) → entry_at bytes ≡ Some
     ≡ behind front (written_entries (without subroutines_operator (entries bytes)))
 unfolding operands_at
 taken_as front bytes rest e is out =
-    rw (entries_are bytes rest e is, is, out) (sym (entry_in_front front (kept e) (without subroutines_operator (entries rest))))
+    rw (entries_are bytes rest e is, is, out) (sym (entry_in_front front (limited e) (without subroutines_operator (entries rest))))
 
 -- any other is written
 pub taken : (front bytes operator rest : List ℕ) → operator_part (entry_at bytes) ≡ Some (operator, rest) → bytes_eq operator subroutines_operator ≡ false

@@ -12,7 +12,7 @@ use Rattle.std.proofs.lemmas.Map.Keys.{IsDistinct-push}
 use Rattle.std.proofs.lemmas.Slice.Eq.{bytes_eq-Decides}
 use Rattle.subsetter_base.specs.Remap.{index_by, with_value}
 use Rattle.subsetter_base.proofs.Lists.{bytes_eq_is, bytes_eq_self}
-use Rattle.subsetter_base.proofs.RemapLemmas.{any-is_placed}
+use Rattle.subsetter_base.proofs.RemapLemmas.{any-has_index}
 use Rattle.subsetter_cff.specs.Write.Strings.SidRemapping.{Remapped, number_in, known_number, new_number, with_old}
 use Rattle.subsetter_base.specs.Texts.{views}
 use Rattle.subsetter_cff.specs.Read.Strings.{standard_strings}
@@ -87,7 +87,7 @@ bytes_eq_equiv = record {
 
 with_once : (o : Option ℕ) (xs : List (List ℕ)) (x : List ℕ) → index_by bytes_eq xs x ≡ o → IsDistinct bytes_eq xs → IsDistinct bytes_eq (cond (is_some o) xs (xs ++ x ∷ []))
 with_once (Some i) xs x e once = once
-with_once None xs x e once = IsDistinct-push bytes_eq_equiv xs x once (any-is_placed bytes_eq_equiv xs x ∙ ap is_some e)
+with_once None xs x e once = IsDistinct-push bytes_eq_equiv xs x once (any-has_index bytes_eq_equiv xs x ∙ ap is_some e)
 
 pub once_after : (b : Bool) (xs new : List (List ℕ)) (x : List ℕ) → IsDistinct bytes_eq xs → new ≡ cond b (with_value bytes_eq xs x) xs → IsDistinct bytes_eq new
 once_after true xs new x once e = rw e (with_once (index_by bytes_eq xs x) xs x refl once)

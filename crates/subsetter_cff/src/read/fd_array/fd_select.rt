@@ -48,6 +48,11 @@ impl<'a> FDSelect<'a> {
     }
 }
 
+/// The format that lists the font dict of each glyph.
+const FORMAT_0: u8 = 0;
+/// The format of ranges.
+const FORMAT_3: u8 = 3;
+
 /// Reads an FDSelect for so many glyphs; None where its format is missing or unknown, or a format 0 is cut.
 #[tactic(auto, unfolding(crate::specs::Read::FdArray::FontDicts::select_at))]
 pub fn parse_fd_select(glyphs: u32, bytes: &[u8]) -> Option<FDSelect<'_>>
@@ -55,8 +60,8 @@ pub fn parse_fd_select(glyphs: u32, bytes: &[u8]) -> Option<FDSelect<'_>>
 {
     let mut r = Reader::new(bytes);
     match reading::next_byte(&mut r)? {
-        0 => Some(FDSelect::Format0(reading::next_bytes(&mut r, glyphs as usize)?)),
-        3 => Some(FDSelect::Format3(Ranges::new(reading::tail(&r)))),
+        FORMAT_0 => Some(FDSelect::Format0(reading::next_bytes(&mut r, glyphs as usize)?)),
+        FORMAT_3 => Some(FDSelect::Format3(Ranges::new(reading::tail(&r)))),
         _ => None,
     }
 }
@@ -68,7 +73,7 @@ pub fn generate_fd_index(count: u16, w: &mut Writer) -> Result<(), Error>
     ensures err { IfErr result (λ e. e ≡ OutOfMemory) }
 {
     let end = count.to_be_bytes();
-    w.extend(&[3, 0, 1, 0, 0, 0, end[0], end[1]])
+    w.extend(&[FORMAT_3, 0, 1, 0, 0, 0, end[0], end[1]])
 }
 
 /// Writes the FDSelect that gives each glyph the font dict of a number.
@@ -77,6 +82,6 @@ pub fn rewrite_fd_index(numbers: &[u8], w: &mut Writer) -> Result<(), Error>
     ensures ok { OnOk result (w.new ≡ w.old ++ select_bytes (length numbers.now) (Numbers numbers.now)) }
     ensures err { IfErr result (λ e. e ≡ OutOfMemory) }
 {
-    w.extend(&[0])?;
+    w.extend(&[FORMAT_0])?;
     w.extend(numbers)
 }

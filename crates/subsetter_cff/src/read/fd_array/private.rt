@@ -29,8 +29,8 @@ pub struct PrivateDict<'a> {
     pub subroutines: Index<'a>,
 }
 
-/// The offset of the local subroutines, from the private dict's start; with wrong operands it means none. Two operands tell
-/// whether there is just one.
+/// The offset of the local subroutines, from the private dict's start; with wrong operands it means none. Two operands
+/// are enough to know whether there is just one.
 pub fn parse_subr_offset(dict: &[u8]) -> Option<usize>
     ensures { result ≡ first_offset subroutines_operator (entries dict.now) }
 {

@@ -30,6 +30,13 @@ impl<'a> Model for Ranges<'a> {
     } };
 }
 
+/// Where the ranges begin, behind their number.
+const RANGES: usize = 2;
+/// How many bytes a range has.
+const RANGE3_SIZE: usize = 3;
+/// Where the font dict of the first range is, one byte, behind its first glyph.
+const FDS: usize = 4;
+
 /// How many ranges are there, each with the first glyph of the next.
 #[tactic(auto, using(crate::proofs::ReadLaws::FdArrayLaws::RangeLookups::readable))]
 fn count_ranges(bytes: &[u8]) -> usize
@@ -43,7 +50,7 @@ fn count_ranges(bytes: &[u8]) -> usize
     if count == 0 || count == 65535 {
         return 0;
     }
-    usize::from(count).min((bytes.len().saturating_sub(4)) / 3)
+    usize::from(count).min((bytes.len().saturating_sub(4)) / RANGE3_SIZE)
 }
 
 /// The first glyph of a range.
@@ -51,7 +58,7 @@ fn first_of(bytes: &[u8], i: usize) -> u16
     requires { 3 * i + 4 ≤ length bytes.now }
     ensures { result ≡ first_of_range bytes.now i }
 {
-    u16_at(bytes, 3 * i + 2)
+    u16_at(bytes, RANGE3_SIZE * i + RANGES)
 }
 
 fn ascend(bytes: &[u8], count: usize) -> bool
@@ -71,7 +78,7 @@ fn number_of(bytes: &[u8], i: usize) -> u8
     requires { 3 * i + 5 ≤ length bytes.now }
     ensures { result ≡ number_of_range bytes.now i }
 {
-    bytes[3 * i + 4]
+    bytes[RANGE3_SIZE * i + FDS]
 }
 
 /// Whether a range has a glyph.

@@ -23,13 +23,16 @@ fn put_ends(size: u8, ends: &[usize], w: &mut Writer) -> Result<(), Error>
     Ok(())
 }
 
+/// So many bytes of data are too many: the offset behind them has 32 bits.
+const MAX_DATA: usize = 4294967295;
+
 /// The length of data together with one. Data of 4 GiB is `OverflowError`. It takes no memory.
 fn total_of(size_of_data: usize) -> Result<u32, Error>
     ensures value { IfOk result (λ n. n ≡ size_of_data + 1) }
     ensures checked { Gives (λ _. tt) result (limit (nat_lt (size_of_data + 1) (2 ^ 32))) }
     ensures err { IfErr result (λ e. e ≡ OverflowError) }
 {
-    if size_of_data >= 4294967295 {
+    if size_of_data >= MAX_DATA {
         return Err(Error::OverflowError);
     }
     Ok(size_of_data as u32 + 1)

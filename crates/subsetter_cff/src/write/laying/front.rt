@@ -117,6 +117,9 @@ fn rewrite_top_dict_index(named: &Writer, offsets: &Offsets, w: &mut Writer) -> 
     write_offsets(offsets, w)
 }
 
+/// major and minor, hdrSize, and offSize, which readers pass over.
+const HEADER: [u8; 4] = [1, 0, 4, 4];
+
 /// Writes a front with known offsets.
 pub fn write_front(
     names: &[u8],
@@ -129,7 +132,7 @@ pub fn write_front(
     ensures ok { OnOk result (w.new ≡ w.old ++ front_of_draft names.now draft.now.named draft.now.tail (offsets_of offsets.now)) }
     ensures err { IfErr result (λ e. e ≡ OutOfMemory) }
 {
-    w.extend(&[1, 0, 4, 4])?;
+    w.extend(&HEADER)?;
     w.extend(names)?;
     rewrite_top_dict_index(&draft.named, offsets, w)?;
     w.extend(draft.tail.as_slice())

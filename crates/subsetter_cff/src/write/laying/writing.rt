@@ -1,4 +1,4 @@
-//! A new table is written: first the pieces, then their places are known.
+//! A new table is written: first the pieces, then their offsets are known.
 
 ghost use Rattle.std.specs.Prelude.{◌≡◌, ◌<◌, [], length, IfOk};
 ghost use Rattle.subsetter_base.specs.Gives.{Gives};

@@ -32,6 +32,9 @@ const FONT_DICT_ROOM: usize = 64;
 /// Room for a few private dicts, in bytes.
 const PRIVATES_ROOM: usize = 256;
 
+/// Offsets, as numbers of a dict, are below this.
+const OFFSETS: usize = 2147483648;
+
 /// Font dicts and their private dicts.
 #[derive(Drop)]
 pub struct WrittenDicts {
@@ -41,7 +44,7 @@ pub struct WrittenDicts {
     pub dicts: Vec<Vec<u8>>,
 }
 
-/// The place behind a piece. An offset is at most 2147483647: a greater one is `OverflowError`.
+/// The offset behind a piece. An offset is at most 2147483647: a greater one is `OverflowError`.
 #[tactic(auto, using(crate::proofs::WriteLaws::LayingLaws::Offsets::offset_kept, crate::proofs::WriteLaws::LayingLaws::Offsets::offset_broken))]
 pub fn offset_behind(place: usize, size: usize) -> Result<usize, Error>
     ensures value { IfOk result (λ n. n ≡ place + size) }
@@ -53,7 +56,7 @@ pub fn offset_behind(place: usize, size: usize) -> Result<usize, Error>
     let Some(end) = place.checked_add(size) else {
         return Err(Error::OverflowError);
     };
-    if end >= 2147483648 {
+    if end >= OFFSETS {
         return Err(Error::OverflowError);
     }
     Ok(end)
@@ -114,7 +117,7 @@ fn put_dict(
     Ok(())
 }
 
-/// The font dicts, whose private dicts are from a place on. A real that is too long, or a private dict that ends past
+/// The font dicts, whose private dicts are from an offset on. A real that is too long, or a private dict that ends past
 /// 2147483647, is `OverflowError`.
 pub fn write_dicts(
     alloc: Global,

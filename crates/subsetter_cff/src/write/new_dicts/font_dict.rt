@@ -14,7 +14,7 @@ use subsetter_base::write::Writer;
 use subsetter_cffdata::dicts::dict::operators::{FONT_MATRIX, FONT_NAME, PRIVATE};
 use subsetter_cffdata::numerals::number::{Number, StringId};
 
-/// Writes a font dict whose private dict of a size stands at a place. A real that is too long is `OverflowError`.
+/// Writes a font dict whose private dict of a size is at an offset. A real that is too long is `OverflowError`.
 #[tactic(auto, using(crate::proofs::WriteLaws::NewDictsLaws::WrittenEntries::font_dict_is))]
 pub fn write_font_dict(
     matrix: &[Number; 6],

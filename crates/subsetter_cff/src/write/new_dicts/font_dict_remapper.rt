@@ -11,7 +11,7 @@ use std::alloc::{AllocError, Global};
 use std::marker::Model;
 use subsetter_base::error::Error;
 
-/// The used font dicts, ascending, and the place of each among them.
+/// The used font dicts, ascending, and the index of each among them.
 #[derive(Drop)]
 pub struct FontDictRemapper {
     numbers: Vec<u8>,

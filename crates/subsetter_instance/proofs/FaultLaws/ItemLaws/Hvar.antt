@@ -6,7 +6,8 @@ use Rattle.subsetter_base.specs.Bytes.{number, from_offset}
 use Rattle.subsetter_base.proofs.ByteLemmas.{number-short}
 use Rattle.subsetter_base.proofs.Options.{bind_some, just_is}
 use Rattle.subsetter_base.specs.Options.{◌>>=◌}
-use Rattle.subsetter_variation.specs.Items.ItemVariations.{Store, advance_delta, advance_index, item_delta, item_store, mapped_index, offset_at, store_of}
+use Rattle.subsetter_variation.specs.Items.ItemVariations.{Store, item_delta, item_store, nullable_offset}
+use Rattle.subsetter_variation.specs.Items.Advances.{advance_delta, advance_index, mapped_index, store_of}
 use Rattle.subsetter_instance.specs.Faults.ItemFault.{HasStoreFault, HasIndexedFault, HasMapFault, HasHvarFault, cut_hvar, no_store, far_store, in_store, far_map, in_map, in_item}
 use Rattle.subsetter_instance.proofs.FaultLaws.Parts.{bind_none, if_none, if_some, not_long, some_is_not}
 use Rattle.subsetter_instance.proofs.FaultLaws.ItemLaws.Stores.{offset_none, offset_some, other_store, store_clean, store_refused, tail_none, tail_some}
@@ -25,13 +26,13 @@ module _ (hvar : List ℕ) (axes : ℕ) where
   abbrev after_store_at : ℕ → Option Store
   after_store_at at = from_offset hvar at >>= after_store_bytes
 
-  hvar_in_turn : store_of hvar axes ≡ (offset_at hvar 4 >>= after_store_at)
+  hvar_in_turn : store_of hvar axes ≡ (nullable_offset hvar 4 >>= after_store_at)
   unfolding store_of
   hvar_in_turn = refl
 
   no_store_of : (g : ℕ) → store_of hvar axes ≡ None → HasHvarFault hvar axes g
   no_store_of g h =
-      elim (bind_none (offset_at hvar 4) after_store_at (sym hvar_in_turn ∙ h)) [
+      elim (bind_none (nullable_offset hvar 4) after_store_at (sym hvar_in_turn ∙ h)) [
         | inl k ↦ elim (offset_none hvar 4 k) [ inl less ↦ cut_hvar (omega arith) | inr null ↦ no_store null ]
         | inr a ↦ let o = offset_some hvar 4 a.0 a.1 in elim (bind_none (from_offset hvar a.0) after_store_bytes a.2) [
           | inl k ↦ far_store a.0 o.0 (tail_none hvar a.0 k)
@@ -58,7 +59,7 @@ module _ (hvar : List ℕ) (axes : ℕ) where
 
   hvar_steps : (s : Store) → store_of hvar axes ≡ Some s → HvarSteps s
   hvar_steps s h =
-      let a = bind_some (offset_at hvar 4) after_store_at s (sym hvar_in_turn ∙ h) in
+      let a = bind_some (nullable_offset hvar 4) after_store_at s (sym hvar_in_turn ∙ h) in
       let o = offset_some hvar 4 a.0 a.1 in
       let b = bind_some (from_offset hvar a.0) after_store_bytes s a.2 in
       let t = tail_some hvar b.0 a.0 b.1 in

@@ -7,7 +7,7 @@ use Rattle.subsetter_base.specs.Bytes.{number}
 use Rattle.subsetter_base.proofs.ByteLemmas.{number-fits, number-short}
 use Rattle.subsetter_base.proofs.Options.{bind_some, just_is, map_none, map_some}
 use Rattle.subsetter_base.specs.Options.{◌>>=◌}
-use Rattle.subsetter_variation.specs.Items.ItemVariations.{entry_index, map_head, mapped_index, split_index}
+use Rattle.subsetter_variation.specs.Items.Advances.{entry_index, map_head, mapped_index, split_index}
 use Rattle.subsetter_instance.specs.Faults.ItemFault.{HasMapFault, cut_map_head, other_map_format, cut_map_count, cut_long_map_count, no_entries, cut_entry}
 use Rattle.subsetter_instance.proofs.FaultLaws.Parts.{bind_none, not_long, unless_none, unless_some}
 

@@ -12,7 +12,7 @@ use Rattle.subsetter_base.specs.Items.{Items}
 use Rattle.subsetter_base.proofs.ByteLemmas.{number-fits, number-short, range-fits, range-length, range-short}
 use Rattle.subsetter_base.proofs.Options.{bind_some, just, just_is, map_none}
 use Rattle.subsetter_base.specs.Options.{◌>>=◌}
-use Rattle.subsetter_variation.specs.Items.ItemVariations.{Row, Store, byte_delta, delta, item_delta, item_row, item_store, offset_at, region_items, region_of, row_in, row_size, term, terms, word_delta}
+use Rattle.subsetter_variation.specs.Items.ItemVariations.{Row, Store, byte_delta, delta, item_delta, item_row, item_store, nullable_offset, region_items, region_of, row_in, row_size, term, terms, word_delta}
 use Rattle.subsetter_variation.specs.Region.{scalar}
 use Rattle.subsetter_instance.specs.Faults.ItemFault.{HasRowFault, HasItemFault, HasIndexedFault, cut_counts, no_row, many_words, cut_indexes, cut_row, cut_data_count, no_data, cut_data_offset, null_data, in_row, no_region}
 use Rattle.subsetter_instance.proofs.FaultLaws.Parts.{bind_none, if_none, if_some, not_long, not_short, some_is_not}
@@ -149,7 +149,7 @@ module _ (bytes : List ℕ) (at inner : ℕ) where
 -- where the data of an outer index stand in a store
 module _ (s : Store) (outer inner : ℕ) where
   abbrev data_at : ℕ → Option ℕ
-  data_at count = cond (nat_lt outer count) (offset_at s.bytes (8 + outer * 4)) None
+  data_at count = cond (nat_lt outer count) (nullable_offset s.bytes (8 + outer * 4)) None
 
   abbrev row_behind : ℕ → Option Row
   row_behind at = row_in s.bytes at inner
@@ -174,7 +174,7 @@ module _ (s : Store) (outer inner : ℕ) where
   item_steps r h =
       let a = bind_some (number s.bytes 6 2) after_data_count r (sym item_in_turn ∙ h) in
       let b = bind_some (data_at a.0) row_behind r a.2 in
-      let c = if_some (nat_lt outer a.0) (offset_at s.bytes (8 + outer * 4)) b.0 b.1 in
+      let c = if_some (nat_lt outer a.0) (nullable_offset s.bytes (8 + outer * 4)) b.0 b.1 in
       let o = offset_some s.bytes (8 + outer * 4) b.0 c.1 in
       record { count = a.0; count_is = a.1; there = ltb-true outer a.0 c.0; at = b.0; at_is = o.0; not_null = o.1; row_is = b.2 }
 
@@ -183,7 +183,7 @@ module _ (s : Store) (outer inner : ℕ) where
       elim (bind_none (number s.bytes 6 2) after_data_count (sym item_in_turn ∙ h)) [
         | inl k ↦ cut_data_count (number-short s.bytes 6 2 k)
         | inr a ↦ elim (bind_none (data_at a.0) row_behind a.2) [
-          | inl k ↦ elim (if_none (nat_lt outer a.0) (offset_at s.bytes (8 + outer * 4)) k) [
+          | inl k ↦ elim (if_none (nat_lt outer a.0) (nullable_offset s.bytes (8 + outer * 4)) k) [
             | inl l ↦ no_data a.0 a.1 (ltb-false outer a.0 l)
             | inr l ↦ elim (offset_none s.bytes (8 + outer * 4) l.1) [
               | inl less ↦ cut_data_offset a.0 a.1 (ltb-true outer a.0 l.0) less
@@ -191,7 +191,7 @@ module _ (s : Store) (outer inner : ℕ) where
             ]
           ]
           | inr b ↦
-              let c = if_some (nat_lt outer a.0) (offset_at s.bytes (8 + outer * 4)) b.0 b.1 in
+              let c = if_some (nat_lt outer a.0) (nullable_offset s.bytes (8 + outer * 4)) b.0 b.1 in
               let o = offset_some s.bytes (8 + outer * 4) b.0 c.1 in
               in_row a.0 b.0 a.1 (ltb-true outer a.0 c.0) o.0 (row_refused s.bytes b.0 inner b.2)
         ]

@@ -8,21 +8,21 @@ use Rattle.subsetter_base.specs.Bytes.{number, range, from_offset}
 use Rattle.subsetter_base.proofs.ByteLemmas.{number-fits, number-short, range-fits, range-length, range-short}
 use Rattle.subsetter_base.proofs.Options.{bind_some, just_is}
 use Rattle.subsetter_base.specs.Options.{◌>>=◌}
-use Rattle.subsetter_variation.specs.Items.ItemVariations.{Store, item_store, offset_at}
+use Rattle.subsetter_variation.specs.Items.ItemVariations.{Store, item_store, nullable_offset}
 use Rattle.subsetter_instance.specs.Faults.ItemFault.{HasStoreFault, cut_store, other_format, no_regions, cut_region_counts, cut_regions, other_region_axes}
 use Rattle.subsetter_instance.proofs.FaultLaws.Parts.{bind_none, if_none, if_some, not_long, some_is_not, unless_none, unless_some}
 
 -- ---- offsets
 
 -- an offset that isn't 0
-pub offset_some : (bytes : List ℕ) (at n : ℕ) → offset_at bytes at ≡ Some n → (number bytes at 4 ≡ Some n) × (n ≢ 0)
+pub offset_some : (bytes : List ℕ) (at n : ℕ) → nullable_offset bytes at ≡ Some n → (number bytes at 4 ≡ Some n) × (n ≢ 0)
 offset_some bytes at n h =
     let a = bind_some (number bytes at 4) (λ offset. cond (offset == 0) None (Some offset)) n h in
     let b = unless_some (a.0 == 0) (Some a.0) n a.2 in
     let same : a.0 ≡ n = just_is a.0 n b.1 in
     (a.1 ∙ ap (λ (k : ℕ). Some k) same, λ z. eqb-false a.0 0 b.0 (same ∙ z))
 
-pub offset_none : (bytes : List ℕ) (at : ℕ) → offset_at bytes at ≡ None → (length bytes < at + 4) ⊎ (number bytes at 4 ≡ Some 0)
+pub offset_none : (bytes : List ℕ) (at : ℕ) → nullable_offset bytes at ≡ None → (length bytes < at + 4) ⊎ (number bytes at 4 ≡ Some 0)
 offset_none bytes at h =
     elim (bind_none (number bytes at 4) (λ offset. cond (offset == 0) None (Some offset)) h) [
       | inl k ↦ inl (number-short bytes at 4 k)
@@ -57,7 +57,7 @@ module _ (bytes : List ℕ) where
   after_at format at = number bytes at 2 >>= after_axes format at
 
   abbrev after_format : ℕ → Option Store
-  after_format format = offset_at bytes 2 >>= after_at format
+  after_format format = nullable_offset bytes 2 >>= after_at format
 
   store_in_turn : item_store bytes ≡ (number bytes 0 2 >>= after_format)
   unfolding item_store
@@ -77,7 +77,7 @@ module _ (bytes : List ℕ) where
   pub store_steps : (s : Store) → item_store bytes ≡ Some s → StoreSteps s
   store_steps s h =
       let a = bind_some (number bytes 0 2) after_format s (sym store_in_turn ∙ h) in
-      let b = bind_some (offset_at bytes 2) (after_at a.0) s a.2 in
+      let b = bind_some (nullable_offset bytes 2) (after_at a.0) s a.2 in
       let c = bind_some (number bytes b.0 2) (after_axes a.0 b.0) s b.2 in
       let d = bind_some (number bytes (b.0 + 2) 2) (after_count a.0 b.0 c.0) s c.2 in
       let e = bind_some (range bytes (b.0 + 4) (d.0 * (c.0 * 6))) (made_store a.0 c.0 d.0) s d.2 in
@@ -103,7 +103,7 @@ module _ (bytes : List ℕ) where
     store_refused h =
         elim (bind_none (number bytes 0 2) after_format (sym store_in_turn ∙ h)) [
           | inl k ↦ cut_store (let less = number-short bytes 0 2 k in omega arith)
-          | inr a ↦ elim (bind_none (offset_at bytes 2) (after_at a.0) a.2) [
+          | inr a ↦ elim (bind_none (nullable_offset bytes 2) (after_at a.0) a.2) [
             | inl k ↦ elim (offset_none bytes 2 k) [ inl less ↦ cut_store less | inr null ↦ no_regions null ]
             | inr b ↦ let o = offset_some bytes 2 b.0 b.1 in elim (bind_none (number bytes b.0 2) (after_axes a.0 b.0) b.2) [
               | inl k ↦ cut_region_counts b.0 o.0 (let less = number-short bytes b.0 2 k in omega arith)

@@ -1,5 +1,5 @@
 -- Both ways.
-use Rattle.subsetter_instance.proofs.FaultLaws.Walk.{walk_refused, walk_stops}
+use Rattle.subsetter_instance.proofs.FaultLaws.WalkLaws.Walk.{walk_refused, walk_stops}
 use Rattle.subsetter_instance.proofs.laws.are_faults_named.Goals as goal
 
 pub returns : goal.returns

@@ -27,6 +27,6 @@ returns-clause-ok c =
     let h2 : c.write_box.new.out.items ≡ c.extend_from_slice.new.self.items ++ box p (drop 1 all) = c.in_ok-write_box.ensures.ok ∙ ap (λ l. c.extend_from_slice.new.self.items ++ box p l) (take_rest all 1) in
     let h4 : c.extend_from_slice-2.new.self.items ≡ c.write_ends.new.out.items ++ 0 ∷ 0 ∷ [] = c.in_ok-extend_from_slice-2.ensures.items in
     seven_written out (to_be_bytes w16 (length es)) (box p (drop 1 all)) (end_bytes es) (0 ∷ 0 ∷ []) (flag_bytes true (pos 0) (pos 0) all) (delta_bytes (pos 0) (xs_of all)) (delta_bytes (pos 0) (ys_of all))
-    c.extend_from_slice.new.self.items c.write_box.new.out.items c.write_ends.new.out.items c.extend_from_slice-2.new.self.items c.write_flags.new.out.items c.write_xs.new.out.items c.write_ys.new.out.items
-    h1 h2 c.in_ok-write_ends.ensures.ok h4 c.in_ok-write_flags.ensures.ok c.in_ok-write_xs.ensures.ok c.in_ok-write_ys.ensures.ok
+    c.extend_from_slice.new.self.items c.write_box.new.out.items c.write_ends.new.out.items c.extend_from_slice-2.new.self.items c.write_flags.new.out.items c.write_deltas.new.out.items c.write_deltas-2.new.out.items
+    h1 h2 c.in_ok-write_ends.ensures.ok h4 c.in_ok-write_flags.ensures.ok c.in_ok-write_deltas.ensures.ok c.in_ok-write_deltas-2.ensures.ok
     ∙ ap (λ l. out ++ l) (sym (parts_bytes_cons es all (drop 1 all) p d))

@@ -8,7 +8,7 @@ use Rattle.subsetter_base.specs.Bytes.{range, IsBytes}
 use Rattle.subsetter_base.proofs.ByteLemmas.{IsBytes-range, IsBytes-take, IsBytes-drop}
 use Rattle.subsetter_sfnt.specs.declared.face.TableRecord.{TableRecord}
 use Rattle.subsetter_base.proofs.Options.{just_is}
-use Rattle.subsetter_sfnt.specs.Extras.{bare_fields, is_program, no_instructions, without_glyph_names, without_instructions, by_hinting, by_names, by_glyph_names}
+use Rattle.subsetter_sfnt.specs.Extras.{bare_fields, is_hinting_table, no_instructions, without_glyph_names, without_instructions, by_hinting, by_names, by_glyph_names}
 use Rattle.subsetter_sfnt.specs.Read.{Font, records, directory_records, find_record, table_in, stored, table}
 
 pub table_in_bytes : (bytes directory tag found : List ℕ) → IsBytes bytes → table_in bytes directory tag ≡ Some found → IsBytes found
@@ -69,7 +69,7 @@ profile_of (Some maxp) h found e =
 
 by_hinting_bytes : (b : Bool) (tag : List ℕ) (o : Option (List ℕ)) → Holds o → Holds (by_hinting b tag o)
 by_hinting_bytes true tag o h = h
-by_hinting_bytes false tag o h = left_out (is_program tag) (cond (bytes_eq tag (codes "maxp")) (option_map without_instructions o) o) (by (bytes_eq tag (codes "maxp")))
+by_hinting_bytes false tag o h = left_out (is_hinting_table tag) (cond (bytes_eq tag (codes "maxp")) (option_map without_instructions o) o) (by (bytes_eq tag (codes "maxp")))
   where
     by : (b : Bool) → Holds (cond b (option_map without_instructions o) o)
     by true = profile_of o h

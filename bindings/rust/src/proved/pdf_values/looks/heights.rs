@@ -36,21 +36,21 @@ fn counted(ascent: i32, descent: i32) -> Option<Line> {
 }
 
 /// The line of two signed fields.
-fn line_in(ascent: Option<i16>, descent: Option<i16>) -> Option<Line> {
+pub fn line_in(ascent: Option<i16>, descent: Option<i16>) -> Option<Line> {
     let above = ascent?;
     let below = descent?;
     counted(i32::from(above), i32::from(below))
 }
 
 /// The line that Windows clips to: usWinAscent, and usWinDescent, which is counted downwards.
-fn windows_line(os2: Option<&[u8]>) -> Option<Line> {
+pub fn windows_line(os2: Option<&[u8]>) -> Option<Line> {
     let above = us_win_ascent(os2)?;
     let below = us_win_descent(os2)?;
     counted(i32::from(above), -i32::from(below))
 }
 
 /// The line of `hhea`, unless the typographic one is to be used (fsSelection, bit 7, USE_TYPO_METRICS).
-fn first_line(hhea: Option<&[u8]>, os2: Option<&[u8]>) -> Option<Line> {
+pub fn first_line(hhea: Option<&[u8]>, os2: Option<&[u8]>) -> Option<Line> {
     if sets_bit(fs_selection(os2), 7) {
         return None;
     }
@@ -78,7 +78,7 @@ fn line_of(hhea: Option<&[u8]>, os2: Option<&[u8]>, head: Option<&[u8]>) -> Line
 }
 
 /// A height, if it is above 0.
-fn above_0(height: Option<i16>) -> Option<i32> {
+pub fn above_0(height: Option<i16>) -> Option<i32> {
     let height = height?;
     if height > 0 {
         return Some(i32::from(height));
@@ -99,8 +99,8 @@ fn descent_of(line: Line) -> i32 {
     -line.descent.abs()
 }
 
-/// The height of capitals: what is said, else Ascent.
-fn cap_height(height: Option<i32>, line: Line) -> i32 {
+/// The height of capitals: what is stated, else Ascent.
+pub fn cap_height(height: Option<i32>, line: Line) -> i32 {
     match height {
         Some(height) => height,
         None => line.ascent,
@@ -108,13 +108,13 @@ fn cap_height(height: Option<i32>, line: Line) -> i32 {
 }
 
 /// A height in thousandths.
-fn in_thousandths(height: Option<i32>, units: u16) -> Option<i32> {
+pub fn in_thousandths(height: Option<i32>, units: u16) -> Option<i32> {
     let height = height?;
     Some(thousandths(height, u32::from(units)))
 }
 
 /// Descent in thousandths.
-fn descent_in_thousandths(line: Line, units: u16) -> i32 {
+pub fn descent_in_thousandths(line: Line, units: u16) -> i32 {
     thousandths(descent_of(line), u32::from(units))
 }
 

@@ -3,7 +3,7 @@
 
 use crate::rattle::prelude::{IteratorExt, String, Vec};
 
-use crate::proved::subset_args::jobs::ArgsError;
+use crate::proved::subset_args::jobs::command::ArgsError;
 use crate::proved::subsetter_words::{parts_of, u16_of};
 use crate::rattle::alloc::{AllocError, Global};
 

@@ -3,7 +3,7 @@
 
 use crate::proved::subset_font::faces::face::{place_of, Place};
 use crate::proved::subset_font::faces::tables::directory_of;
-use crate::proved::subset_font::refusals::hint::Hint;
+use crate::proved::subset_font::refusals::hint::text::Hint;
 use crate::proved::subsetter::Tag;
 use crate::proved::subsetter_base::read::Reader;
 use crate::proved::subsetter_sfnt::directory::{find_record, header_offset, kind_at, records};

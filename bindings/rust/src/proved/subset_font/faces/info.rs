@@ -10,7 +10,7 @@ use crate::proved::subset_font::making::carried::read_whole;
 use crate::proved::subset_font::making::requested::first_glyphs;
 use crate::proved::subset_font::making::subset::make_of;
 use crate::proved::subset_font::refusals::failure::Failure;
-use crate::proved::subset_font::refusals::hint::find_hint;
+use crate::proved::subset_font::refusals::hint::found::find_hint;
 use crate::proved::subset_font::task::{Form, RequestedGlyphs, Task};
 use crate::proved::subset_lines::{write_info, write_info_json, Info, Outlines};
 use crate::proved::subsetter::{Error, Extras, Limits, Options, Tag};

@@ -5,6 +5,7 @@ use crate::rattle::prelude::{Cast, Vec};
 
 use crate::proved::subset_lines::entry::Unwritten;
 use crate::proved::subset_lines::faces::names::{string_for, write_behind};
+use crate::proved::subset_lines::faces::settings::{write_each, SettingForm};
 use crate::proved::subset_lines::fixed::write_fixed;
 use crate::proved::subset_lines::plain::flush;
 use crate::proved::subset_lines::text::write_text;
@@ -152,29 +153,9 @@ pub fn write_coordinate<W: Write>(bytes: &[u8], out: &mut W) -> Result<(), Unwri
     }
 }
 
-/// Writes an axis with the coordinate that four bytes say, behind a text.
-fn write_setting<W: Write>(
-    before: &[u8],
-    tag: Tag,
-    bytes: &[u8],
-    out: &mut W,
-) -> Result<(), Unwritten> {
-    write_text(before, out)?;
-    write_tag(tag, out)?;
-    write_text(b"=", out)?;
-    write_coordinate(bytes, out)
-}
-
 /// Writes each axis with its coordinate, as `--at` takes them.
 fn write_settings<W: Write>(axes: &[Axis], bytes: &[u8], out: &mut W) -> Result<(), Unwritten> {
-    let mut before = b"".as_slice();
-    let mut rest = bytes;
-    for axis in axes {
-        write_setting(before, axis.tag, rest, out)?;
-        before = b",".as_slice();
-        rest = after_four(rest);
-    }
-    Ok(())
+    write_each(SettingForm::Line, axes, bytes, out)
 }
 
 /// The name of a named instance, if there is one.

@@ -3,7 +3,10 @@
 
 use crate::proved::subset_lines::entry::Unwritten;
 use crate::proved::subset_lines::text::write_text;
-use crate::proved::subsetter_base::read::{u16_at, Reader};
+use crate::proved::subsetter_base::read::Reader;
+use crate::proved::subsetter_sfnt::fields::name::{
+    NameRecord, COUNT, HEADER_SIZE, NAME_RECORD_SIZE, STORAGE_OFFSET,
+};
 use crate::rattle::io::Write;
 
 /// Which records serve.
@@ -17,30 +20,38 @@ pub enum Kind {
     Unicode,
 }
 
+/// The record that twelve bytes are.
+fn record_of(bytes: &[u8]) -> NameRecord {
+    // (each caller has twelve bytes)
+    // (each caller has twelve bytes)
+    Reader::new(bytes).read::<NameRecord>().unwrap()
+}
+
 /// Whether a record is of Windows, in UTF-16.
 fn is_windows(bytes: &[u8]) -> bool {
-    u16_at(bytes, 0) == 3 && (u16_at(bytes, 2) == 1 || u16_at(bytes, 2) == 10)
+    let record = record_of(bytes);
+    record.platform_id == 3 && (record.encoding_id == 1 || record.encoding_id == 10)
 }
 
 /// Whether a record is of a kind.
 fn serves(kind: Kind, bytes: &[u8]) -> bool {
     match kind {
-        Kind::English => is_windows(bytes) && u16_at(bytes, 4) == 0x0409,
+        Kind::English => is_windows(bytes) && record_of(bytes).language_id == 0x0409,
         Kind::Windows => is_windows(bytes),
-        Kind::Unicode => u16_at(bytes, 0) == 0,
+        Kind::Unicode => record_of(bytes).platform_id == 0,
     }
 }
 
 /// Whether a record has a name of a kind.
 fn is_name(kind: Kind, id: u16, bytes: &[u8]) -> bool {
-    u16_at(bytes, 6) == id && serves(kind, bytes)
+    record_of(bytes).name_id == id && serves(kind, bytes)
 }
 
 /// The first of so many records that has a name of a kind.
 fn first_name(kind: Kind, id: u16, count: u16, table: &[u8]) -> Option<&[u8]> {
-    let mut r = Reader::new_at(table, 6);
+    let mut r = Reader::new_at(table, HEADER_SIZE);
     for _ in 0..count {
-        let bytes = r.read_bytes(12)?;
+        let bytes = r.read_bytes(NAME_RECORD_SIZE)?;
         if is_name(kind, id, bytes) {
             return Some(bytes);
         }
@@ -61,14 +72,15 @@ fn best_name(id: u16, count: u16, table: &[u8]) -> Option<&[u8]> {
 
 /// The string of a record, in the storage.
 fn string_of<'a>(table: &'a [u8], storage: u16, bytes: &[u8]) -> Option<&'a [u8]> {
-    let at = storage as usize + u16_at(bytes, 10) as usize;
-    Reader::new_at(table, at).read_bytes(u16_at(bytes, 8) as usize)
+    let record = record_of(bytes);
+    let at = storage as usize + record.string_offset as usize;
+    Reader::new_at(table, at).read_bytes(record.length as usize)
 }
 
 /// A name, if the table has it.
 pub fn string_for(table: &[u8], id: u16) -> Option<&[u8]> {
-    let count = Reader::new_at(table, 2).read::<u16>()?;
-    let storage = Reader::new_at(table, 4).read::<u16>()?;
+    let count = Reader::new_at(table, COUNT).read::<u16>()?;
+    let storage = Reader::new_at(table, STORAGE_OFFSET).read::<u16>()?;
     let bytes = best_name(id, count, table)?;
     string_of(table, storage, bytes)
 }

@@ -4,8 +4,9 @@
 use crate::rattle::prelude::Vec;
 
 use crate::proved::subset_lines::entry::Unwritten;
-use crate::proved::subset_lines::faces::axes::{name_of, tag_bytes, write_coordinate, FontAxes};
+use crate::proved::subset_lines::faces::axes::{name_of, tag_bytes, FontAxes};
 use crate::proved::subset_lines::faces::names::write_units;
+use crate::proved::subset_lines::faces::settings::{write_each, SettingForm};
 use crate::proved::subset_lines::fixed::write_labelled;
 use crate::proved::subset_lines::objects::quoted::write_quoted;
 use crate::proved::subset_lines::plain::flush;
@@ -57,29 +58,9 @@ fn write_axis_objects<W: Write>(axes: &[Axis], out: &mut W) -> Result<(), Unwrit
     Ok(())
 }
 
-/// Writes an axis with the coordinate of four bytes, behind a text.
-fn write_setting<W: Write>(
-    before: &[u8],
-    tag: Tag,
-    bytes: &[u8],
-    out: &mut W,
-) -> Result<(), Unwritten> {
-    write_text(before, out)?;
-    write_quoted(&tag_bytes(tag), out)?;
-    write_text(b":", out)?;
-    write_coordinate(bytes, out)
-}
-
 /// Writes each axis with its coordinate.
 fn write_settings<W: Write>(axes: &[Axis], bytes: &[u8], out: &mut W) -> Result<(), Unwritten> {
-    let mut before = b"".as_slice();
-    let mut rest = bytes;
-    for axis in axes {
-        write_setting(before, axis.tag, rest, out)?;
-        before = b",".as_slice();
-        rest = after_four(rest);
-    }
-    Ok(())
+    write_each(SettingForm::Member, axes, bytes, out)
 }
 
 /// The text of a name.

@@ -8,14 +8,8 @@ use crate::rattle::prelude::Vec;
 
 use crate::proved::subsetter_base::Error;
 use crate::proved::subsetter_sfnt::fields::head::{
-    CHECKSUM_ADJUSTMENT, GLYPH_DATA_FORMAT, INDEX_TO_LOC_FORMAT, MAGIC_NUMBER,
+    write_head, GLYPH_DATA_FORMAT, MAC_STYLE, X_MIN,
 };
-use crate::proved::subsetter_sfnt::laying::room::put;
-
-/// Writes indexToLocFormat: 0 for halves of offsets, 1 for offsets.
-fn write_format(out: &mut Vec<u8>, long: bool) {
-    put(out, &[0, u8::from(long)]);
-}
 
 /// The new table: a copy of the source's with zeros in checksumAdjustment, until the sum of the file is known, and with
 /// the format of the new `loca`.
@@ -33,16 +27,12 @@ impl<'a> NewHead<'a> {
     /// Writes it.
     pub fn write(&self, out: &mut Vec<u8>) {
         let source = self.source;
-        put(out, &source[..CHECKSUM_ADJUSTMENT]);
-        put(out, &[0, 0, 0, 0]);
-        put(out, &source[MAGIC_NUMBER..INDEX_TO_LOC_FORMAT]);
-        write_format(out, self.long);
-        put(out, &source[GLYPH_DATA_FORMAT..]);
+        write_head(out, source, self.long, &source[X_MIN..MAC_STYLE]);
     }
 }
 
 /// `head` of a subset, where the source has it: with zeros in checksumAdjustment, and with the format of `loca`, which is
-/// the short one in a font without `loca`. Under 52 bytes, where that format would stand, it is `MalformedFont`.
+/// the short one in a font without `loca`. Under 52 bytes, where that format would be, it is `MalformedFont`.
 pub fn subset<'a>(head: Option<&'a [u8]>, long: bool) -> Result<Option<NewHead<'a>>, Error> {
     let head = match head {
         Some(head) => head,

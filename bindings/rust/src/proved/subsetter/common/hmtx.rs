@@ -5,14 +5,14 @@
 //! alone for the glyphs after these, which share the last advance. The new `hmtx` has the metrics of the new glyphs by the
 //! least number of pairs, and `hhea` is the source's but for that number.
 //!
-//! That the number of pairs is the least is said without the trimming: no bytes whatever give the glyphs' metrics by a
+//! That the number of pairs is the least is stated without the trimming: no bytes whatever give the glyphs' metrics by a
 //! lesser count. A bearing is two bytes that are kept and never computed with.
 
 use crate::rattle::prelude::Vec;
 
 use crate::proved::subsetter_base::{Error, GlyphRemapper};
 use crate::proved::subsetter_sfnt::fields::hhea::{
-    number_of_h_metrics, NUMBER_OF_H_METRICS, SIZE as HHEA_SIZE,
+    number_of_h_metrics, write_hhea, ADVANCE_WIDTH_MAX, CARET_SLOPE_RISE,
 };
 use crate::proved::subsetter_sfnt::fields::hmtx::{glyph_metric, last_advance, LongHorMetric};
 use crate::proved::subsetter_sfnt::laying::room::put;
@@ -50,13 +50,13 @@ fn least_count(metrics: &[LongHorMetric]) -> usize {
             return 0;
         }
     };
-    let mut advance = first.advance;
+    let mut advance = first.advance_width;
     let mut count = 1;
     let mut seen = 1;
     for metric in rest {
         seen += 1;
-        if metric.advance != advance {
-            advance = metric.advance;
+        if metric.advance_width != advance {
+            advance = metric.advance_width;
             count = seen;
         }
     }
@@ -66,16 +66,14 @@ fn least_count(metrics: &[LongHorMetric]) -> usize {
 /// Writes pairs of advance and bearing.
 fn write_pairs(out: &mut Vec<u8>, metrics: &[LongHorMetric]) {
     for metric in metrics {
-        let [a, b] = metric.advance.to_be_bytes();
-        let [c, d] = metric.bearing.to_be_bytes();
-        put(out, &[a, b, c, d]);
+        put(out, &metric.to_bytes());
     }
 }
 
 /// Writes bearings alone.
 fn write_bearings(out: &mut Vec<u8>, metrics: &[LongHorMetric]) {
     for metric in metrics {
-        put(out, &metric.bearing.to_be_bytes());
+        put(out, &metric.lsb.to_be_bytes());
     }
 }
 
@@ -102,9 +100,8 @@ impl<'a> NewMetrics<'a> {
     /// Writes `hhea`.
     pub fn write_hhea(&self, out: &mut Vec<u8>) {
         let header = self.header;
-        put(out, &header[..NUMBER_OF_H_METRICS]);
-        put(out, &self.number_of_h_metrics.to_be_bytes());
-        put(out, &header[HHEA_SIZE..]);
+        let extremes = &header[ADVANCE_WIDTH_MAX..CARET_SLOPE_RISE];
+        write_hhea(out, header, extremes, self.number_of_h_metrics);
     }
 
     /// Writes `hmtx`.

@@ -12,11 +12,20 @@ use crate::proved::subsetter_sfnt::fields::maxp::NUM_GLYPHS_END;
 use crate::proved::subsetter_sfnt::flavor::FontFlavor;
 use crate::proved::subsetter_sfnt::laying::room::put;
 
+/// The version with further fields.
+const VERSION_1_0: u32 = 0x00010000;
+/// The version without them.
+const VERSION_0_5: u32 = 0x00005000;
+/// maxZones, two bytes, behind numGlyphs; the fields up to maxSizeOfInstructions bound instructions.
+const MAX_ZONES: usize = 8;
+/// maxComponentElements, behind numGlyphs.
+const MAX_COMPONENT_ELEMENTS: usize = 22;
+
 /// Version 1.0 for TrueType outlines, 0.5 for CFF ones.
 fn version(flavor: FontFlavor) -> u32 {
     match flavor {
-        FontFlavor::TrueType => 0x00010000,
-        FontFlavor::Cff => 0x00005000,
+        FontFlavor::TrueType => VERSION_1_0,
+        FontFlavor::Cff => VERSION_0_5,
     }
 }
 
@@ -33,12 +42,12 @@ const NO_INSTRUCTIONS: [u8; 14] = [0, 1, 0, 0, 0, 0, 0, 0, 0, 0, 0, 0, 0, 0];
 
 /// Writes the fields after numGlyphs, for outlines without instructions.
 fn write_bare(out: &mut Vec<u8>, fields: &[u8]) {
-    if fields.len() < 22 {
+    if fields.len() < MAX_COMPONENT_ELEMENTS {
         put(out, fields);
     } else {
-        put(out, &fields[..8]);
+        put(out, &fields[..MAX_ZONES]);
         put(out, &NO_INSTRUCTIONS);
-        put(out, &fields[22..]);
+        put(out, &fields[MAX_COMPONENT_ELEMENTS..]);
     }
 }
 

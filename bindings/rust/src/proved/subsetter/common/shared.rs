@@ -31,9 +31,9 @@ fn glyph_names<'a>(
 ) -> Result<Option<CowSlice<'a, u8>>, Error> {
     let post = face.stored(Tag::POST);
     if face.extras.glyph_names {
-        post::subset(alloc, post, order)
+        post::write::subset(alloc, post, order)
     } else {
-        post::subset_without_names(alloc, post, order)
+        post::write::subset_without_names(alloc, post, order)
     }
 }
 

@@ -9,9 +9,10 @@ use crate::rattle::prelude::Vec;
 use crate::proved::subsetter_base::read::u16_at;
 use crate::proved::subsetter_base::{Error, GlyphRemapper};
 use crate::proved::subsetter_points::component::{
-    ARG_1_AND_2_ARE_WORDS, MORE_COMPONENTS, WE_HAVE_AN_X_AND_Y_SCALE, WE_HAVE_A_SCALE,
-    WE_HAVE_A_TWO_BY_TWO, WE_HAVE_INSTRUCTIONS,
+    ARGUMENTS, ARG_1_AND_2_ARE_WORDS, GLYPH_INDEX, MORE_COMPONENTS, WE_HAVE_AN_X_AND_Y_SCALE,
+    WE_HAVE_A_SCALE, WE_HAVE_A_TWO_BY_TWO, WE_HAVE_INSTRUCTIONS,
 };
+use crate::proved::subsetter_points::header::HEADER_SIZE;
 
 /// All flags but WE_HAVE_INSTRUCTIONS.
 const WITHOUT_INSTRUCTIONS: u16 = 0xFEFF;
@@ -55,12 +56,12 @@ fn has_instructions(flags: u16) -> bool {
 
 /// The component at the front, if it is whole.
 fn read_component(bytes: &[u8]) -> Option<Component<'_>> {
-    if bytes.len() < 4 {
+    if bytes.len() < ARGUMENTS {
         return None;
     }
     let flags = u16_at(bytes, 0);
-    let glyph = u16_at(bytes, 2);
-    let rest = bytes.get(4..4 + rest_size(flags))?;
+    let glyph = u16_at(bytes, GLYPH_INDEX);
+    let rest = bytes.get(ARGUMENTS..ARGUMENTS + rest_size(flags))?;
     Some(Component { flags, glyph, rest })
 }
 
@@ -71,7 +72,7 @@ pub fn is_composite(first: u8) -> bool {
 
 /// What stands behind a component at the front.
 fn rest_after<'a>(bytes: &'a [u8], component: Component<'_>) -> &'a [u8] {
-    &bytes[4 + component.rest.len()..]
+    &bytes[ARGUMENTS + component.rest.len()..]
 }
 
 /// How many of the bytes behind the last component, which has these flags, are its instructions, if they are asked for.
@@ -94,10 +95,10 @@ fn push_new(order: &GlyphRemapper, waiting: &mut Vec<u16>, glyph: u16) -> Result
 /// Puts the component at the front, which is cut, behind those that wait, if its flags and its number are there and it is
 /// not in the order.
 fn push_cut(bytes: &[u8], order: &GlyphRemapper, waiting: &mut Vec<u16>) -> Result<(), Error> {
-    if bytes.len() < 4 {
+    if bytes.len() < ARGUMENTS {
         return Ok(());
     }
-    push_new(order, waiting, u16_at(bytes, 2))?;
+    push_new(order, waiting, u16_at(bytes, GLYPH_INDEX))?;
     Ok(())
 }
 
@@ -117,10 +118,10 @@ pub fn push_components(
     waiting: &mut Vec<u16>,
     hinting: bool,
 ) -> Result<Count, Error> {
-    if outline.len() < 10 {
+    if outline.len() < HEADER_SIZE {
         return Err(Error::MalformedFont);
     }
-    let mut rest = &outline[10..];
+    let mut rest = &outline[HEADER_SIZE..];
     loop {
         let component = match read_component(rest) {
             Some(component) => component,
@@ -168,10 +169,10 @@ fn renumber(
 ) {
     let number = order.get(component.glyph).unwrap_or(0);
     put_number(out, at, requested_flags(hinting, component.flags));
-    put_number(out, at + 2, number);
+    put_number(out, at + GLYPH_INDEX, number);
 }
 
-/// Leaves out as many bytes behind the last component, unless these are its instructions, and asked for.
+/// Removes the last `size` bytes, unless they are instructions, and requested.
 fn cut_tail(out: &mut Vec<u8>, flags: u16, size: usize, hinting: bool) {
     if !(hinting && has_instructions(flags)) {
         out.truncate(out.len() - size);
@@ -186,12 +187,12 @@ pub fn rewrite_composite(
     order: &GlyphRemapper,
     hinting: bool,
 ) -> Result<(), Error> {
-    if outline.len() < 10 {
+    if outline.len() < HEADER_SIZE {
         return Err(Error::MalformedFont);
     }
     let start = out.len();
     out.extend_from_slice(outline)?;
-    let mut rest = &outline[10..];
+    let mut rest = &outline[HEADER_SIZE..];
     loop {
         let component = match read_component(rest) {
             Some(component) => component,

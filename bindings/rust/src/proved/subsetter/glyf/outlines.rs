@@ -17,7 +17,7 @@ use crate::proved::subsetter_sfnt::laying::room::put;
 use crate::rattle::alloc::Global;
 
 /// A list of outlines, in less room than a `CowSlice` each: borrowed ones stay in the source, and those that are made
-/// anew stand one after another.
+/// anew are one after another.
 ///
 /// A borrowed outline is whole here. Where instructions aren't requested, its pieces without them are found each time
 /// that it is looked at: when it is counted, for its entry of `loca`, and where it is written.

@@ -3,9 +3,10 @@
 //! description).
 
 use crate::proved::subsetter_base::read::u16_at;
+use crate::proved::subsetter_points::header::HEADER_SIZE;
 
 /// A simple outline without its instructions: what is before their length, and what is behind them. A length of
-/// 0 stands between the two.
+/// 0 is between the two.
 #[derive(Clone, Copy)]
 pub struct Bare<'a> {
     pub front: &'a [u8],
@@ -26,7 +27,7 @@ fn bare_pieces(outline: &[u8]) -> Option<Bare<'_>> {
     if outline.len() < 2 {
         return None;
     }
-    let at = 10 + 2 * usize::from(u16_at(outline, 0));
+    let at = HEADER_SIZE + 2 * usize::from(u16_at(outline, 0));
     if outline.len() < at + 2 {
         return None;
     }

@@ -6,7 +6,7 @@ use crate::proved::subsetter_cffdata::dicts::operator::{Operator, TWO_BYTE_OPERA
 use crate::proved::subsetter_cffdata::numerals::number::Number;
 use crate::proved::subsetter_cffdata::reading;
 
-/// Whether an operator begins with a byte, or a byte that is reserved stands there.
+/// Whether an operator begins with a byte, or is reserved.
 fn begins_operator(b: u8) -> bool {
     match b {
         0..=27 => true,
@@ -26,16 +26,16 @@ fn operator_after(b: u8, r: &mut Reader<'_>) -> Option<Operator> {
     Some(Operator::from_one_byte(b))
 }
 
-/// What stands in a DICT.
+/// What is in a DICT.
 #[derive(Clone, Copy, Debug)]
 enum Token {
-    /// An operand, which was put into a place of its own.
+    /// An operand, which was put into a variable of its own.
     Operand,
     /// An operator.
     Operator(Operator),
 }
 
-/// The next token. An operand is put into a place of its own, so that it is moved just once.
+/// The next token. An operand is put into a variable of its own, so that it is moved just once.
 #[inline(always)]
 fn next_token(r: &mut Reader<'_>, operand: &mut Number) -> Option<Token> {
     let b = reading::next_byte(r)?;

@@ -14,7 +14,7 @@ pub struct VarOffsets<'a> {
 }
 
 impl<'a> VarOffsets<'a> {
-    /// Offset i and the next one, as they stand there.
+    /// Offset i and the next one, as they are there.
     #[inline]
     fn neighbours(&self, i: u32) -> TwoNumbers {
         let size = self.offset_size.to_usize();

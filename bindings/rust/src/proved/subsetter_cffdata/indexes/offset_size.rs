@@ -32,7 +32,7 @@ impl OffsetSize {
         self.to_u32() as usize
     }
 
-    /// The size that a byte stands for.
+    /// The size that a byte means.
     pub fn from_byte(b: u8) -> Option<OffsetSize> {
         match b {
             1 => Some(OffsetSize::Size1),

@@ -8,7 +8,7 @@ use crate::proved::subsetter_base::write::{Writeable, Writer};
 use crate::rattle::alloc::Global;
 use crate::rattle::convert::AsSlice;
 
-/// An INDEX as bytes, and how many of them stand before the data.
+/// An INDEX as bytes, and how many of them are before the data.
 pub struct OwnedIndex {
     /// The whole INDEX.
     pub data: Vec<u8>,

@@ -5,6 +5,7 @@ use crate::rattle::prelude::{Cast, Vec};
 
 use crate::proved::subsetter_base::error::Error;
 use crate::proved::subsetter_base::write::{Writeable, Writer};
+use crate::proved::subsetter_cffdata::numerals::first_byte;
 use crate::rattle::alloc::AllocError;
 
 /// A number, and which of the two kinds it is.
@@ -51,13 +52,13 @@ pub struct NumberRead<'a> {
 pub fn read_number(bytes: &[u8]) -> Option<NumberRead<'_>> {
     match bytes {
         [first, rest @ ..] => match *first {
-            28 => read_short(rest),
+            first_byte::SHORT_INTEGER => read_short(rest),
             32..=246 => Some(NumberRead {
                 number: CharStringNumber::Integer(*first as i16 - 139),
                 rest,
             }),
             247..=254 => read_middle(*first, rest),
-            255 => read_fixed(rest),
+            first_byte::FIXED => read_fixed(rest),
             _ => None,
         },
         [] => None,
@@ -142,7 +143,13 @@ fn integer_bytes(value: i16) -> NumberBytes {
     }
     let bits = value.to_unsigned();
     NumberBytes {
-        bytes: [28, (bits / 256) as u8, (bits % 256) as u8, 0, 0],
+        bytes: [
+            first_byte::SHORT_INTEGER,
+            (bits / 256) as u8,
+            (bits % 256) as u8,
+            0,
+            0,
+        ],
         len: 3,
     }
 }
@@ -153,7 +160,7 @@ fn fixed_bytes(value: i32) -> NumberBytes {
     let bits = value.to_unsigned();
     NumberBytes {
         bytes: [
-            255,
+            first_byte::FIXED,
             (bits / 16777216) as u8,
             (bits / 65536 % 256) as u8,
             (bits / 256 % 256) as u8,
@@ -177,7 +184,11 @@ fn append_integer(bytes: &mut Vec<u8>, value: i16) -> Result<(), AllocError> {
         return bytes.extend_from_slice(&[(above / 256) as u8 + first, (above % 256) as u8]);
     }
     let bits = value.to_unsigned();
-    bytes.extend_from_slice(&[28, (bits / 256) as u8, (bits % 256) as u8])
+    bytes.extend_from_slice(&[
+        first_byte::SHORT_INTEGER,
+        (bits / 256) as u8,
+        (bits % 256) as u8,
+    ])
 }
 
 impl CharStringNumber {

@@ -8,6 +8,7 @@
 use crate::proved::subsetter_base::error::Error;
 use crate::proved::subsetter_base::read::Reader;
 use crate::proved::subsetter_base::write::{Writeable, Writer};
+use crate::proved::subsetter_cffdata::numerals::first_byte;
 pub use crate::proved::subsetter_cffdata::numerals::string_id::StringId;
 use crate::proved::subsetter_cffdata::numerals::value::{
     real_of_fixed, real_of_integer, thousandfold_of,
@@ -23,13 +24,13 @@ impl IntegerNumber {
     /// The integer whose first byte was read.
     fn parse_from(b0: u8, r: &mut Reader<'_>) -> Option<IntegerNumber> {
         match b0 {
-            28 => Some(IntegerNumber(i32::from(reading::next_i16(r)?))),
-            29 => Some(IntegerNumber(reading::next_i32(r)?)),
+            first_byte::SHORT_INTEGER => Some(IntegerNumber(i32::from(reading::next_i16(r)?))),
+            first_byte::LONG_INTEGER => Some(IntegerNumber(reading::next_i32(r)?)),
             _ => Self::parse_short(b0, r),
         }
     }
 
-    /// 32 to 246 stand for themselves less 139; 247 to 254 have one more byte.
+    /// 32 to 246 mean themselves less 139; 247 to 254 have one more byte.
     fn parse_short(b0: u8, r: &mut Reader<'_>) -> Option<IntegerNumber> {
         match b0 {
             32..=246 => Some(IntegerNumber(i32::from(b0) - 139)),
@@ -50,7 +51,13 @@ impl IntegerNumber {
     /// Writes an offset or a length, always in five bytes, so that its value doesn't move what follows.
     pub fn write_as_5_bytes(&self, w: &mut Writer) -> Result<(), Error> {
         let bytes = self.0.to_be_bytes();
-        w.extend(&[29, bytes[0], bytes[1], bytes[2], bytes[3]])
+        w.extend(&[
+            first_byte::LONG_INTEGER,
+            bytes[0],
+            bytes[1],
+            bytes[2],
+            bytes[3],
+        ])
     }
 }
 
@@ -75,7 +82,7 @@ impl Writeable for IntegerNumber {
             w.extend(&[(above / 256 + 251) as u8, (above % 256) as u8])
         } else if -32768 <= n && n <= 32767 {
             let bytes = (n as i16).to_be_bytes();
-            w.extend(&[28, bytes[0], bytes[1]])
+            w.extend(&[first_byte::SHORT_INTEGER, bytes[0], bytes[1]])
         } else {
             self.write_as_5_bytes(w)
         }
@@ -100,7 +107,7 @@ impl FixedNumber {
 impl Writeable for FixedNumber {
     fn write(&self, w: &mut Writer) -> Result<(), Error> {
         let bytes = self.0.to_be_bytes();
-        w.extend(&[255, bytes[0], bytes[1], bytes[2], bytes[3]])
+        w.extend(&[first_byte::FIXED, bytes[0], bytes[1], bytes[2], bytes[3]])
     }
 }
 
@@ -129,7 +136,7 @@ impl Number {
     #[inline(always)]
     pub fn read_dict_number(&mut self, b0: u8, r: &mut Reader<'_>) -> Option<()> {
         match b0 {
-            30 => *self = Number::Real(RealNumber::parse_text(r)?),
+            first_byte::REAL => *self = Number::Real(RealNumber::parse_text(r)?),
             _ => *self = Number::Integer(IntegerNumber::parse_from(b0, r)?),
         }
         Some(())

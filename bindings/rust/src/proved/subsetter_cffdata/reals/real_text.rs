@@ -2,12 +2,12 @@
 //! What the text of a real means.
 
 use crate::proved::subsetter_cffdata::reals::real_number::RealNumber;
-use crate::proved::subsetter_cffdata::reals::text::Text;
+use crate::proved::subsetter_cffdata::reals::text::{Text, EXPONENT, MINUS, POINT};
 
 /// A sign that was read, and what follows.
 #[derive(Clone, Copy, Debug)]
 struct SignRead<'a> {
-    /// A minus stands in front.
+    /// A minus is in front.
     negative: bool,
     /// What follows.
     rest: &'a [u8],
@@ -24,17 +24,17 @@ struct DigitsRead<'a> {
 
 /// Digits without outer zeros.
 #[derive(Clone, Copy, Debug)]
-struct KeptDigits<'a> {
+struct SignificantDigits<'a> {
     /// The digits.
     digits: &'a [u8],
-    /// How many zeros stood at the end.
+    /// How many zeros were at the end.
     zeros: usize,
 }
 
-/// Whether a minus stands in front, and what follows.
+/// Whether a minus is in front, and what follows.
 fn split_sign(text: &[u8]) -> SignRead<'_> {
     match text {
-        [14, rest @ ..] => SignRead {
+        [MINUS, rest @ ..] => SignRead {
             negative: true,
             rest,
         },
@@ -48,7 +48,7 @@ fn split_sign(text: &[u8]) -> SignRead<'_> {
 /// The digits in front, and what follows them.
 fn split_digits(text: &[u8]) -> DigitsRead<'_> {
     for (i, c) in text.iter().enumerate() {
-        if *c >= 10 {
+        if *c >= POINT {
             let (digits, rest) = text.split_at(i);
             return DigitsRead { digits, rest };
         }
@@ -62,7 +62,7 @@ fn split_digits(text: &[u8]) -> DigitsRead<'_> {
 /// The digits behind a point, and what follows.
 fn split_fraction(text: &[u8]) -> DigitsRead<'_> {
     match text {
-        [10, rest @ ..] => split_digits(rest),
+        [POINT, rest @ ..] => split_digits(rest),
         _ => DigitsRead {
             digits: &[],
             rest: text,
@@ -99,11 +99,11 @@ fn exponent_behind(negative: bool, text: &[u8]) -> Option<i32> {
     }
 }
 
-/// The exponent that stands behind the digits: 0 where there is none.
+/// The exponent behind the digits: 0 where there is none.
 fn exponent_of(text: &[u8]) -> Option<i32> {
     match text {
         [] => Some(0),
-        [11, rest @ ..] => {
+        [EXPONENT, rest @ ..] => {
             let read = split_sign(rest);
             exponent_behind(read.negative, read.rest)
         }
@@ -127,7 +127,7 @@ fn trimmed_len(ds: &[u8]) -> usize {
     len
 }
 
-/// How many zeros stand in front.
+/// How many zeros are in front.
 fn zeros_in_front(ds: &[u8]) -> usize {
     for (i, d) in ds.iter().enumerate() {
         if *d != 0 {
@@ -137,11 +137,11 @@ fn zeros_in_front(ds: &[u8]) -> usize {
     ds.len()
 }
 
-/// The digits without the zeros in front and at the end, and how many stood at the end.
-fn without_outer_zeros(ds: &[u8]) -> KeptDigits<'_> {
+/// The digits without the zeros in front and at the end, and how many were at the end.
+fn without_outer_zeros(ds: &[u8]) -> SignificantDigits<'_> {
     let end = trimmed_len(ds);
     let start = zeros_in_front(&ds[..end]);
-    KeptDigits {
+    SignificantDigits {
         digits: &ds[start..end],
         zeros: ds.len() - end,
     }

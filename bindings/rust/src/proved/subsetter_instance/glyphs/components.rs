@@ -6,8 +6,8 @@ use crate::rattle::prelude::{Cast, Vec};
 use crate::proved::subsetter_base::read::Reader;
 use crate::proved::subsetter_base::Error;
 use crate::proved::subsetter_points::component::{
-    ARGS_ARE_XY_VALUES, ARG_1_AND_2_ARE_WORDS, MORE_COMPONENTS, WE_HAVE_AN_X_AND_Y_SCALE,
-    WE_HAVE_A_SCALE, WE_HAVE_A_TWO_BY_TWO,
+    ARGS_ARE_XY_VALUES, ARGUMENTS, ARG_1_AND_2_ARE_WORDS, GLYPH_INDEX, MORE_COMPONENTS,
+    WE_HAVE_AN_X_AND_Y_SCALE, WE_HAVE_A_SCALE, WE_HAVE_A_TWO_BY_TWO,
 };
 use crate::rattle::alloc::{AllocError, Global};
 
@@ -16,7 +16,7 @@ use crate::rattle::alloc::{AllocError, Global};
 pub enum Arguments {
     /// Moved by x and y, in font design units.
     Offset(i16, i16),
-    /// So that its point of the second number lies on the point of the first number of the components before it.
+    /// So that its point of the second number matches the point of the first number of the components before it.
     Points(u16, u16),
 }
 
@@ -57,29 +57,29 @@ fn signed_word(bytes: &[u8], at: usize) -> Option<i16> {
 
 /// An offset of two bytes.
 fn byte_offset(bytes: &[u8]) -> Option<Arguments> {
-    let x = signed_byte(bytes, 4)?;
-    let y = signed_byte(bytes, 5)?;
+    let x = signed_byte(bytes, ARGUMENTS)?;
+    let y = signed_byte(bytes, ARGUMENTS + 1)?;
     Some(Arguments::Offset(x, y))
 }
 
 /// An offset of two words.
 fn word_offset(bytes: &[u8]) -> Option<Arguments> {
-    let x = signed_word(bytes, 4)?;
-    let y = signed_word(bytes, 6)?;
+    let x = signed_word(bytes, ARGUMENTS)?;
+    let y = signed_word(bytes, ARGUMENTS + 2)?;
     Some(Arguments::Offset(x, y))
 }
 
 /// Two points, as bytes.
 fn byte_points(bytes: &[u8]) -> Option<Arguments> {
-    let parent = Reader::new_at(bytes, 4).read::<u8>()?;
-    let child = Reader::new_at(bytes, 5).read::<u8>()?;
+    let parent = Reader::new_at(bytes, ARGUMENTS).read::<u8>()?;
+    let child = Reader::new_at(bytes, ARGUMENTS + 1).read::<u8>()?;
     Some(Arguments::Points(u16::from(parent), u16::from(child)))
 }
 
 /// Two points, as words.
 fn word_points(bytes: &[u8]) -> Option<Arguments> {
-    let parent = Reader::new_at(bytes, 4).read::<u16>()?;
-    let child = Reader::new_at(bytes, 6).read::<u16>()?;
+    let parent = Reader::new_at(bytes, ARGUMENTS).read::<u16>()?;
+    let child = Reader::new_at(bytes, ARGUMENTS + 2).read::<u16>()?;
     Some(Arguments::Points(parent, child))
 }
 
@@ -99,9 +99,9 @@ fn arguments_at(flags: u16, bytes: &[u8]) -> Option<Arguments> {
 /// Where the arguments end.
 fn arguments_end(flags: u16) -> usize {
     if has(flags, ARG_1_AND_2_ARE_WORDS) {
-        8
+        ARGUMENTS + 4
     } else {
-        6
+        ARGUMENTS + 2
     }
 }
 
@@ -167,7 +167,7 @@ fn matrix_end(flags: u16, at: usize) -> usize {
 /// The component at the front, if it is whole, and the bytes behind it.
 fn component_at(bytes: &[u8]) -> Option<(Component, &[u8])> {
     let flags = Reader::new_at(bytes, 0).read::<u16>()?;
-    let glyph = Reader::new_at(bytes, 2).read::<u16>()?;
+    let glyph = Reader::new_at(bytes, GLYPH_INDEX).read::<u16>()?;
     let at = arguments_end(flags);
     let arguments = arguments_at(flags, bytes)?;
     let matrix = matrix_at(flags, bytes, at)?;

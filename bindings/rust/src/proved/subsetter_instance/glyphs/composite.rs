@@ -14,6 +14,7 @@ use crate::proved::subsetter_instance::glyphs::simple::{
 };
 use crate::proved::subsetter_instance::glyphs::unfolding::Unfolded;
 use crate::proved::subsetter_instance::source::Source;
+use crate::proved::subsetter_points::header::HEADER_SIZE;
 use crate::proved::subsetter_sfnt::fields::hmtx::LongHorMetric;
 use crate::proved::subsetter_variation::glyphs::movement::{spent, Outline as DefaultOutline};
 use crate::proved::subsetter_variation::glyphs::tuples::Gvar;
@@ -62,7 +63,7 @@ pub fn read_composite(
     metric: LongHorMetric,
 ) -> Result<Composite, Error> {
     let steps = spent(5, steps)?;
-    let body = Reader::new_at(bytes, 10)
+    let body = Reader::new_at(bytes, HEADER_SIZE)
         .tail()
         .ok_or(Error::MalformedFont)?;
     let (components, steps) = read_components(alloc, body, steps)?;

@@ -4,12 +4,12 @@
 use crate::rattle::prelude::Vec;
 
 use crate::proved::subsetter_base::{Error, GlyphRemapper};
-use crate::proved::subsetter_instance::glyphs::kept::Kept;
+use crate::proved::subsetter_instance::glyphs::cache::GlyphCache;
 use crate::proved::subsetter_instance::glyphs::unfolding::{unfold, Unfolded};
 use crate::proved::subsetter_instance::source::Source;
 use crate::proved::subsetter_points::{fits, least_x, Outline, Point};
 use crate::proved::subsetter_sfnt::fields::hmtx::LongHorMetric;
-use crate::proved::subsetter_variation::items::item_variations::advance_delta;
+use crate::proved::subsetter_variation::items::advances::advance_delta;
 use crate::rattle::alloc::Global;
 
 /// The unit of unfolded coordinates.
@@ -135,7 +135,7 @@ fn rounded(
     unfolded: Unfolded,
 ) -> Result<Drawn, Error> {
     let width = distance(unfolded.left, unfolded.right);
-    let advance = advance(source.hvar(), at, glyph, metric.advance, width)?;
+    let advance = advance(source.hvar(), at, glyph, metric.advance_width, width)?;
     let points = points_or_fault(
         alloc,
         unfolded.left,
@@ -157,23 +157,23 @@ pub fn draw(
     at: &[i32],
     steps: u32,
     glyph: u16,
-    kept: Kept,
-) -> Result<(Drawn, Kept), Error> {
+    kept: GlyphCache,
+) -> Result<(Drawn, GlyphCache), Error> {
     let metric = source.metric(glyph).ok_or(Error::MalformedFont)?;
     let (unfolded, _, kept) = unfold(alloc, source, at, steps, glyph, kept)?;
     let drawn = rounded(alloc, source, at, glyph, metric, unfolded)?;
     Ok((drawn, kept))
 }
 
-/// What is drawn of a glyph that is asked for, and the glyphs that are kept. `MalformedFont` where it is none of the font's.
+/// What is drawn of a glyph that is requested, and the glyphs that are kept. `MalformedFont` where it is none of the font's.
 fn drawn_if(
     alloc: Global,
     source: &Source<'_>,
     at: &[i32],
     steps: u32,
     glyph: u16,
-    kept: Kept,
-) -> Result<(Drawn, Kept), Error> {
+    kept: GlyphCache,
+) -> Result<(Drawn, GlyphCache), Error> {
     if glyph < source.count() {
         draw(alloc, source, at, steps, glyph, kept)
     } else {
@@ -190,7 +190,7 @@ pub fn draw_all(
     mapper: &GlyphRemapper,
 ) -> Result<Vec<Drawn>, Error> {
     let mut all = Vec::with_capacity(alloc, usize::from(mapper.num_gids()))?;
-    let mut kept = Kept::new(alloc);
+    let mut kept = GlyphCache::new(alloc);
     for glyph in mapper.remapped_gids() {
         let (drawn, others) = drawn_if(alloc, source, at, steps, glyph, kept)?;
         all.push(drawn)?;

@@ -22,42 +22,39 @@ fn sum(a: i16, x: i64, b: i16, y: i64) -> i64 {
     plus(product(a, x), product(b, y))
 }
 
+/// 1 as an F2DOT14.
+const ONE: i16 = 16384;
+/// How many units 1 has in an F2DOT14.
+const F2DOT14_UNITS: u64 = 16384;
+
 /// A number of 16384ths, to the nearest whole number.
 fn quotient(v: i64) -> i64 {
-    nearest(v, 16384)
+    nearest(v, F2DOT14_UNITS)
 }
 
-/// x of a point through a matrix.
-fn transformed_x(m: Matrix, x: i64, y: i64) -> i64 {
-    quotient(sum(m.xx, x, m.xy, y))
+/// A coordinate of a point through a row of a matrix.
+fn transformed(a: i16, b: i16, x: i64, y: i64) -> i64 {
+    quotient(sum(a, x, b, y))
 }
 
-/// x of points through a matrix.
-fn all_xs(alloc: Global, m: Matrix, xs: &[i64], ys: &[i64]) -> Result<Vec<i64>, AllocError> {
+/// A column of coordinates through a row of a matrix.
+fn transformed_column(
+    alloc: Global,
+    a: i16,
+    b: i16,
+    xs: &[i64],
+    ys: &[i64],
+) -> Result<Vec<i64>, AllocError> {
     let mut all = Vec::with_capacity(alloc, xs.len())?;
     for i in 0..xs.len() {
-        all.push(transformed_x(m, xs[i], ys[i]))?;
-    }
-    Ok(all)
-}
-
-/// y of a point through a matrix.
-fn transformed_y(m: Matrix, x: i64, y: i64) -> i64 {
-    quotient(sum(m.yx, x, m.yy, y))
-}
-
-/// y of points through a matrix.
-fn all_ys(alloc: Global, m: Matrix, xs: &[i64], ys: &[i64]) -> Result<Vec<i64>, AllocError> {
-    let mut all = Vec::with_capacity(alloc, xs.len())?;
-    for i in 0..xs.len() {
-        all.push(transformed_y(m, xs[i], ys[i]))?;
+        all.push(transformed(a, b, xs[i], ys[i]))?;
     }
     Ok(all)
 }
 
 /// Whether a matrix changes nothing.
 fn is_identity(m: Matrix) -> bool {
-    m.xx == 16384 && m.yx == 0 && m.xy == 0 && m.yy == 16384
+    m.xx == ONE && m.yx == 0 && m.xy == 0 && m.yy == ONE
 }
 
 /// Whether an offset is to be scaled. Where the flags say both, it isn't, as by default.
@@ -78,7 +75,7 @@ fn point_at(xs: &[i64], ys: &[i64], number: u16) -> Option<(i64, i64)> {
     Some((x, y))
 }
 
-/// How far a point of a component is from the one that it is to lie on. `MalformedFont` where one isn't there.
+/// How far a point of a component is from the one that it is to match. `MalformedFont` where one isn't there.
 fn matched(parent: Option<(i64, i64)>, child: Option<(i64, i64)>) -> Result<(i64, i64), Error> {
     let (x, y) = parent.ok_or(Error::MalformedFont)?;
     let (from_x, from_y) = child.ok_or(Error::MalformedFont)?;
@@ -244,8 +241,8 @@ pub fn with_part(
     match component.matrix {
         None => with_points(component, x, y, before, part, &part.xs, &part.ys, steps),
         Some(m) => {
-            let xs = all_xs(alloc, m, &part.xs, &part.ys)?;
-            let ys = all_ys(alloc, m, &part.xs, &part.ys)?;
+            let xs = transformed_column(alloc, m.xx, m.xy, &part.xs, &part.ys)?;
+            let ys = transformed_column(alloc, m.yx, m.yy, &part.xs, &part.ys)?;
             with_points(component, x, y, before, part, &xs, &ys, steps)
         }
     }

@@ -7,6 +7,7 @@ use crate::proved::subsetter_base::read::Reader;
 use crate::proved::subsetter_base::Error;
 use crate::proved::subsetter_instance::glyphs::unfolding::Unfolded;
 use crate::proved::subsetter_instance::source::Source;
+use crate::proved::subsetter_points::header::X_MIN;
 use crate::proved::subsetter_points::{read_columns, Columns};
 use crate::proved::subsetter_sfnt::fields::hmtx::LongHorMetric;
 use crate::proved::subsetter_variation::glyphs::movement::{
@@ -19,15 +20,15 @@ use crate::rattle::alloc::{AllocError, Global};
 
 /// xMin of a description, 0 of a glyph without bytes.
 fn x_min(bytes: &[u8]) -> i16 {
-    match Reader::new_at(bytes, 2).read::<u16>() {
+    match Reader::new_at(bytes, X_MIN).read::<u16>() {
         Some(bits) => bits.to_signed(),
         None => 0,
     }
 }
 
-/// Where the left side of the default lies.
+/// x of the left side of the default.
 fn left_side(bytes: &[u8], metric: LongHorMetric) -> i32 {
-    i32::from(x_min(bytes)) - i32::from(metric.bearing.to_signed())
+    i32::from(x_min(bytes)) - i32::from(metric.lsb.to_signed())
 }
 
 /// Whole units in parts of 2^30.
@@ -48,9 +49,9 @@ pub fn left_point(bytes: &[u8], metric: LongHorMetric, n: usize, xs: &[i64]) -> 
     plus(in_parts(left_side(bytes, metric)), coordinate_at(xs, n))
 }
 
-/// Where the right side of the default lies.
+/// x of the right side of the default.
 fn right_side(bytes: &[u8], metric: LongHorMetric) -> i32 {
-    left_side(bytes, metric) + i32::from(metric.advance)
+    left_side(bytes, metric) + i32::from(metric.advance_width)
 }
 
 /// x of the right phantom point behind n points.
@@ -67,7 +68,7 @@ pub fn are_near(coordinates: &[i64]) -> bool {
 }
 
 /// A glyph whose points are near, else `OverflowError`.
-pub fn near_or_fault(unfolded: Unfolded, steps: u32) -> Result<(Unfolded, u32), Error> {
+pub fn in_range_or_fault(unfolded: Unfolded, steps: u32) -> Result<(Unfolded, u32), Error> {
     if are_near(&unfolded.xs) && are_near(&unfolded.ys) {
         Ok((unfolded, steps))
     } else {
@@ -170,7 +171,7 @@ fn simple_outline(
     })
 }
 
-/// A simple glyph at a place, of which the description is read, and the steps that are left.
+/// A simple glyph at a location, of which the description is read, and the steps that are left.
 fn unfold_columns(
     alloc: Global,
     source: &Source<'_>,
@@ -190,7 +191,7 @@ fn unfold_columns(
     let steps = spent(flags.len() + 5, steps)?;
     let (xs, ys, steps) = moved_simple(alloc, source.gvar(), glyph, &ends, xs, ys, at, steps)?;
     let unfolded = simple_outline(alloc, bytes, metric, ends, &flags, xs, ys)?;
-    near_or_fault(unfolded, steps)
+    in_range_or_fault(unfolded, steps)
 }
 
 /// A simple glyph at a location, and the steps that are left.

@@ -5,16 +5,17 @@ use crate::rattle::prelude::Vec;
 
 use crate::proved::subsetter_base::read::Reader;
 use crate::proved::subsetter_base::Error;
+use crate::proved::subsetter_instance::glyphs::cache::GlyphCache;
 use crate::proved::subsetter_instance::glyphs::composite::read_composite;
-use crate::proved::subsetter_instance::glyphs::kept::Kept;
 use crate::proved::subsetter_instance::glyphs::simple::unfold_simple;
 use crate::proved::subsetter_instance::source::Source;
+use crate::proved::subsetter_points::header::COMPOSITE;
 use crate::rattle::alloc::Global;
 
-/// How deep components may lead to components: 64 levels below a glyph.
+/// How deep components may have components: 64 levels below a glyph.
 const LEVELS: u8 = 65;
 
-/// A glyph at a location: the number of each contour's last point, which points are on the curve, where they lie, and x of
+/// A glyph at a location: the number of each contour's last point, which points are on the curve, their coordinates, and x of
 /// the left and of the right phantom point. All coordinates are in parts of 2^30.
 pub struct Unfolded {
     pub ends: Vec<u16>,
@@ -33,7 +34,7 @@ pub fn is_composite(bytes: &[u8]) -> bool {
             return false;
         }
     };
-    contours >= 0x8000
+    contours >= COMPOSITE
 }
 
 /// The description of a glyph that `maxp` counts, if it is there.
@@ -45,7 +46,7 @@ pub fn counted_description<'a>(source: &Source<'a>, glyph: u16) -> Option<&'a [u
     }
 }
 
-/// A glyph at a place, the steps that are left, and the glyphs that are kept. It may lead to components so many levels deep.
+/// A glyph at a location, the steps that are left, and the glyphs that are kept. It may have components so many levels deep.
 fn unfold_within(
     alloc: Global,
     depth: u8,
@@ -53,8 +54,8 @@ fn unfold_within(
     at: &[i32],
     steps: u32,
     glyph: u16,
-    kept: Kept,
-) -> Result<(Unfolded, u32, Kept), Error> {
+    kept: GlyphCache,
+) -> Result<(Unfolded, u32, GlyphCache), Error> {
     if depth == 0 {
         return Err(Error::MalformedFont);
     }
@@ -105,7 +106,7 @@ pub fn unfold(
     at: &[i32],
     steps: u32,
     glyph: u16,
-    kept: Kept,
-) -> Result<(Unfolded, u32, Kept), Error> {
+    kept: GlyphCache,
+) -> Result<(Unfolded, u32, GlyphCache), Error> {
     unfold_within(alloc, LEVELS, source, at, steps, glyph, kept)
 }

@@ -78,7 +78,7 @@ fn font_tables<'a>(
 }
 
 /// The file of glyphs that are drawn, by the mapper's order: each under its old number, and every other glyph empty. `hhea` and `post` are those of
-/// the location. `MalformedFont` where `head` is missing, and `OverflowError` where a table's place or length is 2^32 or more.
+/// the location. `MalformedFont` where `head` is missing, and `OverflowError` where a table's offset or length is 2^32 or more.
 pub fn laid(
     alloc: Global,
     face: &Face<'_>,

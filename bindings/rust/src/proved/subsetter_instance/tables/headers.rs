@@ -4,19 +4,10 @@
 use crate::rattle::prelude::Vec;
 
 use crate::proved::subsetter_instance::glyphs::drawn::Drawn;
-use crate::proved::subsetter_instance::tables::extremes::{all_extents, write_box, write_extremes};
-use crate::proved::subsetter_sfnt::fields::head::{
-    CHECKSUM_ADJUSTMENT, GLYPH_DATA_FORMAT, INDEX_TO_LOC_FORMAT, MAC_STYLE, MAGIC_NUMBER, X_MIN,
-};
-use crate::proved::subsetter_sfnt::fields::hhea::{
-    ADVANCE_WIDTH_MAX, CARET_SLOPE_RISE, NUMBER_OF_H_METRICS, SIZE as HHEA_SIZE,
-};
+use crate::proved::subsetter_instance::tables::extremes::{all_extents, box_bytes, extreme_bytes};
+use crate::proved::subsetter_sfnt::fields::head::write_head;
+use crate::proved::subsetter_sfnt::fields::hhea::write_hhea;
 use crate::rattle::alloc::{AllocError, Global};
-
-/// indexToLocFormat: 1 for long offsets.
-fn loca_format(long: bool) -> u8 {
-    u8::from(long)
-}
 
 /// `head`: without its checksum, with the box around what is drawn, and with the format of the new `loca`.
 pub fn head(
@@ -26,13 +17,7 @@ pub fn head(
     drawn: &[Drawn],
 ) -> Result<Vec<u8>, AllocError> {
     let mut head = Vec::with_capacity(alloc, source.len())?;
-    head.extend_from_slice(&source[..CHECKSUM_ADJUSTMENT])?;
-    head.extend_from_slice(&[0; 4])?;
-    head.extend_from_slice(&source[MAGIC_NUMBER..X_MIN])?;
-    write_box(&mut head, all_extents(drawn))?;
-    head.extend_from_slice(&source[MAC_STYLE..INDEX_TO_LOC_FORMAT])?;
-    head.extend_from_slice(&[0, loca_format(long)])?;
-    head.extend_from_slice(&source[GLYPH_DATA_FORMAT..])?;
+    write_head(&mut head, source, long, &box_bytes(all_extents(drawn)));
     Ok(head)
 }
 
@@ -44,11 +29,7 @@ pub fn hhea(
     drawn: &[Drawn],
 ) -> Result<Vec<u8>, AllocError> {
     let mut hhea = Vec::with_capacity(alloc, source.len())?;
-    hhea.extend_from_slice(&source[..ADVANCE_WIDTH_MAX])?;
-    write_extremes(&mut hhea, drawn)?;
-    hhea.extend_from_slice(&source[CARET_SLOPE_RISE..NUMBER_OF_H_METRICS])?;
-    hhea.extend_from_slice(&count.to_be_bytes())?;
-    hhea.extend_from_slice(&source[HHEA_SIZE..])?;
+    write_hhea(&mut hhea, source, &extreme_bytes(drawn), count);
     Ok(hhea)
 }
 

@@ -27,7 +27,7 @@ fn varied(mvar: &[u8], at: &[i32], tag: Tag, before: i16) -> Result<i16, Error> 
     word_or_fault(i128::from(before) + i128::from(metric_delta(mvar, at, tag)?))
 }
 
-/// Three numbers of `hhea` from a place on.
+/// Three numbers of `hhea` from an offset on.
 fn three_lines(
     mvar: &[u8],
     at: &[i32],
@@ -74,7 +74,7 @@ fn copied(alloc: Global, bytes: &[u8]) -> Result<Vec<u8>, AllocError> {
     Ok(copy)
 }
 
-/// `hhea` at a place.
+/// `hhea` at a location.
 fn varied_hhea(
     alloc: Global,
     mvar: Option<&[u8]>,
@@ -113,7 +113,7 @@ fn moved_post(
     Ok(new)
 }
 
-/// `post` at a place, where it has the numbers of the underline.
+/// `post` at a location, where it has the numbers of the underline.
 fn varied_underline(alloc: Global, mvar: &[u8], at: &[i32], post: &[u8]) -> Result<Vec<u8>, Error> {
     let position = varied(
         mvar,
@@ -130,7 +130,7 @@ fn varied_underline(alloc: Global, mvar: &[u8], at: &[i32], post: &[u8]) -> Resu
     Ok(moved_post(alloc, post, position, thickness)?)
 }
 
-/// `post` at a place.
+/// `post` at a location.
 fn varied_post(
     alloc: Global,
     mvar: Option<&[u8]>,
@@ -143,13 +143,13 @@ fn varied_post(
             return Ok(copied(alloc, post)?);
         }
     };
-    if post.len() < 12 {
+    if post.len() < IS_FIXED_PITCH {
         return Ok(copied(alloc, post)?);
     }
     varied_underline(alloc, mvar, at, post)
 }
 
-/// `post` at a place, if there is one.
+/// `post` at a location, if there is one.
 fn varied_post_if(
     alloc: Global,
     mvar: Option<&[u8]>,

@@ -7,9 +7,11 @@ use crate::rattle::prelude::Vec;
 
 use crate::proved::subsetter_base::{Error, GlyphRemapper};
 use crate::proved::subsetter_instance::glyphs::drawn::Drawn;
+use crate::proved::subsetter_sfnt::fields::hmtx::{LongHorMetric, LONG_HOR_METRIC_SIZE};
+use crate::proved::subsetter_sfnt::fields::loca::{write_offset, OFFSET16_MAX, OFFSET32_SIZE};
 use crate::rattle::alloc::Global;
 
-/// What is drawn of a glyph, if it was asked for.
+/// What is drawn of a glyph, if it was requested.
 fn glyph_among<'a>(mapper: &GlyphRemapper, drawn: &'a [Drawn], glyph: u16) -> Option<&'a Drawn> {
     let place = mapper.get(glyph)?;
     drawn.get(usize::from(place))
@@ -29,7 +31,7 @@ pub fn by_glyph<'a>(
     Ok(all)
 }
 
-/// Appends the description of a glyph, of even length; nothing where it wasn't asked for.
+/// Appends the description of a glyph, of even length; nothing where it wasn't requested.
 fn write_outline(glyf: &mut Vec<u8>, drawn: Option<&Drawn>) -> Result<(), Error> {
     match drawn {
         Some(drawn) => drawn.write_outline(glyf),
@@ -57,46 +59,34 @@ pub fn all_outlines(alloc: Global, all: &[Option<&Drawn>]) -> Result<Outlines, E
 
 /// Whether offsets are long: half of the last one doesn't fit 16 bits.
 pub fn is_long(glyf: &[u8]) -> bool {
-    glyf.len() > 131_070
-}
-
-/// Appends an offset, or half of it.
-fn write_offset(loca: &mut Vec<u8>, long: bool, offset: usize) -> Result<(), Error> {
-    if long {
-        let [_, _, _, _, a, b, c, d] = (offset as u64).to_be_bytes();
-        loca.extend_from_slice(&[a, b, c, d])?;
-    } else {
-        let [_, _, _, _, _, _, a, b] = ((offset / 2) as u64).to_be_bytes();
-        loca.extend_from_slice(&[a, b])?;
-    }
-    Ok(())
+    glyf.len() > OFFSET16_MAX
 }
 
 /// `loca` of offsets.
 pub fn loca(alloc: Global, long: bool, offsets: &[usize]) -> Result<Vec<u8>, Error> {
-    let mut loca = Vec::with_capacity(alloc, offsets.len().saturating_mul(4))?;
+    let mut loca = Vec::with_capacity(alloc, offsets.len().saturating_mul(OFFSET32_SIZE))?;
     for offset in offsets {
         write_offset(&mut loca, long, *offset)?;
     }
     Ok(loca)
 }
 
-/// Appends the metric of a glyph, 0 and 0 where it wasn't asked for.
-fn write_metric(hmtx: &mut Vec<u8>, drawn: Option<&Drawn>) -> Result<(), Error> {
+/// The metric of a glyph, 0 and 0 where it wasn't requested.
+fn metric_of(drawn: Option<&Drawn>) -> LongHorMetric {
     match drawn {
-        Some(drawn) => drawn.write_metric(hmtx),
-        None => {
-            hmtx.extend_from_slice(&[0, 0, 0, 0])?;
-            Ok(())
-        }
+        Some(drawn) => drawn.metric(),
+        None => LongHorMetric {
+            advance_width: 0,
+            lsb: 0,
+        },
     }
 }
 
 /// `hmtx`: an advance and a left side bearing for each glyph.
 pub fn hmtx(alloc: Global, all: &[Option<&Drawn>]) -> Result<Vec<u8>, Error> {
-    let mut hmtx = Vec::with_capacity(alloc, all.len().saturating_mul(4))?;
+    let mut hmtx = Vec::with_capacity(alloc, all.len().saturating_mul(LONG_HOR_METRIC_SIZE))?;
     for drawn in all {
-        write_metric(&mut hmtx, *drawn)?;
+        hmtx.extend_from_slice(&metric_of(*drawn).to_bytes())?;
     }
     Ok(hmtx)
 }

@@ -5,26 +5,17 @@ use crate::rattle::prelude::Vec;
 
 use crate::proved::subsetter_base::Error;
 use crate::proved::subsetter_points::lists::deltas::{delta_between, write_delta};
-use crate::proved::subsetter_points::outline::Point;
+use crate::proved::subsetter_points::outline::{coordinate_in, Column, Point};
 
-/// Writes the x coordinates.
-pub fn write_xs(out: &mut Vec<u8>, points: &[Point]) -> Result<(), Error> {
+/// Writes a column of coordinates.
+#[inline]
+pub fn write_deltas(out: &mut Vec<u8>, column: Column, points: &[Point]) -> Result<(), Error> {
     out.reserve(2 * points.len())?;
-    let mut x = 0;
+    let mut before = 0;
     for point in points {
-        write_delta(out, delta_between(x, point.x))?;
-        x = point.x;
-    }
-    Ok(())
-}
-
-/// Writes the y coordinates.
-pub fn write_ys(out: &mut Vec<u8>, points: &[Point]) -> Result<(), Error> {
-    out.reserve(2 * points.len())?;
-    let mut y = 0;
-    for point in points {
-        write_delta(out, delta_between(y, point.y))?;
-        y = point.y;
+        let coordinate = coordinate_in(column, *point);
+        write_delta(out, delta_between(before, coordinate))?;
+        before = coordinate;
     }
     Ok(())
 }

@@ -4,36 +4,29 @@
 use crate::rattle::prelude::Vec;
 
 use crate::proved::subsetter_base::Error;
-use crate::proved::subsetter_points::lists::deltas::delta_between;
+use crate::proved::subsetter_points::lists::deltas::{
+    delta_between, X_IS_SAME_OR_POSITIVE_X_SHORT_VECTOR, X_SHORT_VECTOR,
+    Y_IS_SAME_OR_POSITIVE_Y_SHORT_VECTOR, Y_SHORT_VECTOR,
+};
 use crate::proved::subsetter_points::outline::Point;
 
 /// Contours of the glyph may overlap.
 const OVERLAP_SIMPLE: u8 = 0x40;
 
-/// The bits of a flag that say how a delta in x is encoded, the shortest way. Each is chosen by itself, as deltas come in no
-/// order that a processor could guess.
-fn x_bits(delta: i16) -> u8 {
-    let same_or_positive = if delta >= 0 { 0x10 } else { 0 };
-    let byte = if delta != 0 { 0x02 } else { 0 };
+/// The bits of a flag that encode a delta the shortest way, by the bit for a short vector and the one for the same coordinate
+/// or the sign. Each is chosen by itself, as deltas come in no order that a processor could guess.
+#[inline]
+fn encoding_bits(short: u8, same: u8, delta: i16) -> u8 {
+    let byte = if delta != 0 { short } else { 0 };
+    let same_or_positive = if delta >= 0 { same } else { 0 };
     if delta > -256 && delta < 256 {
-        same_or_positive + byte
+        byte + same_or_positive
     } else {
         0
     }
 }
 
-/// The bits of a flag that say how a delta in y is encoded, the shortest way.
-fn y_bits(delta: i16) -> u8 {
-    let same_or_positive = if delta >= 0 { 0x20 } else { 0 };
-    let byte = if delta != 0 { 0x04 } else { 0 };
-    if delta > -256 && delta < 256 {
-        same_or_positive + byte
-    } else {
-        0
-    }
-}
-
-/// The bit of a flag that says whether contours may overlap.
+/// The bit of a flag that is set where contours may overlap.
 fn overlap_bit(overlap: bool) -> u8 {
     if overlap {
         OVERLAP_SIMPLE
@@ -42,12 +35,15 @@ fn overlap_bit(overlap: bool) -> u8 {
     }
 }
 
-/// The flag of a point, by whether it says that contours may overlap, whether the point is on the curve, and its two deltas.
+/// The flag of a point, by whether contours may overlap, whether the point is on the curve, and its two deltas.
 fn flag_of(overlap: bool, on_curve: bool, x: i16, y: i16) -> u8 {
-    overlap_bit(overlap) + u8::from(on_curve) + x_bits(x) + y_bits(y)
+    overlap_bit(overlap)
+        + u8::from(on_curve)
+        + encoding_bits(X_SHORT_VECTOR, X_IS_SAME_OR_POSITIVE_X_SHORT_VECTOR, x)
+        + encoding_bits(Y_SHORT_VECTOR, Y_IS_SAME_OR_POSITIVE_Y_SHORT_VECTOR, y)
 }
 
-/// Writes the flag of each point. The first one says that contours may overlap, as those of a variable font do at some places.
+/// Writes the flag of each point. The first one has OVERLAP_SIMPLE, as contours of a variable font overlap at some locations.
 pub fn write_flags(out: &mut Vec<u8>, points: &[Point]) -> Result<(), Error> {
     out.reserve(points.len())?;
     let mut overlap = true;

@@ -10,7 +10,7 @@ use crate::rattle::alloc::Global;
 /// Room for the coordinates of the phantom points of a glyph, which may be put behind those of its points.
 const PHANTOM_POINTS: usize = 4;
 
-/// The coordinate that each flag says, by the two bits that tell how its delta is encoded, and the bytes after them.
+/// The coordinate of each flag, by the two bits that encode its delta, and the bytes after them.
 pub fn read_coordinates<'a>(
     alloc: Global,
     short: u8,

@@ -6,6 +6,15 @@ use crate::rattle::prelude::{Cast, Vec};
 use crate::proved::subsetter_base::Error;
 use crate::proved::subsetter_points::lists::front::{read_byte, read_word};
 
+/// The delta in x is one byte.
+pub const X_SHORT_VECTOR: u8 = 0x02;
+/// That byte is added; without it x is the same as before.
+pub const X_IS_SAME_OR_POSITIVE_X_SHORT_VECTOR: u8 = 0x10;
+/// The delta in y is one byte.
+pub const Y_SHORT_VECTOR: u8 = 0x04;
+/// That byte is added; without it y is the same as before.
+pub const Y_IS_SAME_OR_POSITIVE_Y_SHORT_VECTOR: u8 = 0x20;
+
 /// How a delta is encoded.
 #[derive(Clone, Copy)]
 pub enum Encoding {
@@ -24,8 +33,8 @@ pub fn has(flag: u8, bit: u8) -> bool {
     flag & bit != 0
 }
 
-/// The delta that a flag says how it is encoded, by the bit for a short vector and the one for the same coordinate or the sign, and
-/// the bytes after it.
+/// The delta that a flag encodes, by the bit for a short vector and the one for the same coordinate or the sign, and the bytes
+/// after it.
 pub fn read_delta(short: u8, same: u8, flag: u8, bytes: &[u8]) -> Option<(i16, &[u8])> {
     if has(flag, short) {
         let (size, rest) = read_byte(bytes)?;
@@ -47,7 +56,7 @@ pub fn next_coordinate(from: i16, by: i16) -> Option<i16> {
     from.checked_add(by)
 }
 
-/// The coordinate that a flag says, a delta from the one before it, and the bytes after the delta.
+/// The coordinate of a flag, a delta from the one before it, and the bytes after the delta.
 pub fn read_coordinate(
     short: u8,
     same: u8,

@@ -8,7 +8,7 @@ use crate::proved::subsetter_points::lists::deltas::has;
 use crate::proved::subsetter_points::lists::front::read_byte;
 use crate::rattle::alloc::Global;
 
-/// The next byte says how many more times the flag is to be repeated.
+/// The next byte is the number of additional times that the flag is to be repeated.
 const REPEAT_FLAG: u8 = 0x08;
 
 /// A flag, and how many more times it is to be repeated.

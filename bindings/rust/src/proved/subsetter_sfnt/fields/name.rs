@@ -12,8 +12,6 @@ pub const COUNT: usize = 2;
 #[cfg(feature = "variable-fonts")]
 pub const STORAGE_OFFSET: usize = 4;
 /// Where the records begin.
-#[cfg(feature = "variable-fonts")]
-#[cfg(feature = "variable-fonts")]
 pub const HEADER_SIZE: usize = 6;
 /// How many bytes a record has.
 pub const NAME_RECORD_SIZE: usize = 12;

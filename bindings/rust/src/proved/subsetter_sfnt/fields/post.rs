@@ -7,10 +7,12 @@ use crate::proved::subsetter_base::read::Reader;
 
 /// version, four bytes.
 const VERSION: usize = 0;
+/// The version with indexes and names of glyphs.
+pub const VERSION_2_0: u32 = 0x0002_0000;
+/// The version without them.
+pub const VERSION_3_0: u32 = 0x0003_0000;
 /// italicAngle, four bytes.
-#[cfg(feature = "variable-fonts")]
-#[cfg(feature = "variable-fonts")]
-const ITALIC_ANGLE: usize = 4;
+pub const ITALIC_ANGLE: usize = 4;
 /// isFixedPitch, four bytes.
 #[cfg(feature = "variable-fonts")]
 #[cfg(feature = "variable-fonts")]
@@ -28,8 +30,6 @@ pub const UNDERLINE_THICKNESS: usize = 10;
 #[cfg(feature = "program")]
 const NUM_GLYPHS: usize = 32;
 /// Where the indexes of version 2.0 begin, two bytes each.
-#[cfg(feature = "program")]
-#[cfg(feature = "program")]
 pub const INDEXES: usize = 34;
 /// Where the header ends.
 pub const HEADER_SIZE: usize = 32;

@@ -6,21 +6,28 @@
 use crate::rattle::prelude::Vec;
 
 use crate::proved::subsetter_base::{Error, Tag};
+use crate::proved::subsetter_sfnt::face::{TABLE_RECORDS, TABLE_RECORD_SIZE};
+use crate::proved::subsetter_sfnt::fields::head::CHECKSUM_ADJUSTMENT;
 use crate::proved::subsetter_sfnt::flavor::FontFlavor;
 use crate::proved::subsetter_sfnt::laying::checksum::checksum;
 use crate::proved::subsetter_sfnt::laying::room::{align, aligned_len, patch, put};
 use crate::proved::subsetter_sfnt::laying::tables::{NewTable, TableBytes};
 use crate::rattle::alloc::Global;
 
-/// How many bytes the file has. `OverflowError` where a place or a length is 2^32 or more. No memory is taken.
-fn measured<T: TableBytes>(tables: &[NewTable<T>]) -> Result<usize, Error> {
-    let mut at = 12 + 16 * tables.len();
+/// The greatest offset and the greatest length, which have 32 bits.
+const MAX_OFFSET: usize = 0xffff_ffff;
+/// The sum of a whole file with its adjustment (OpenType, "head", checksumAdjustment).
+const FILE_SUM: u32 = 0xB1B0AFBA;
+
+/// How many bytes the file has. `OverflowError` where an offset or a length is 2^32 or more. No memory is taken.
+fn file_size<T: TableBytes>(tables: &[NewTable<T>]) -> Result<usize, Error> {
+    let mut at = TABLE_RECORDS + TABLE_RECORD_SIZE * tables.len();
     for table in tables {
-        if at > 0xffff_ffff {
+        if at > MAX_OFFSET {
             return Err(Error::OverflowError);
         }
         let len = table.data.len();
-        if len > 0xffff_ffff {
+        if len > MAX_OFFSET {
             return Err(Error::OverflowError);
         }
         at = at.saturating_add(aligned_len(len));
@@ -67,7 +74,7 @@ fn write_words(out: &mut Vec<u8>, sum: u32, at: u32, len: u32) {
     put(out, &[a, b, c, d, e, f, g, h, i, j, k, l]);
 }
 
-/// Writes the record of a table that stands at a place.
+/// Writes the record of a table that is at an offset.
 fn write_record<T: TableBytes>(
     out: &mut Vec<u8>,
     at: usize,
@@ -92,7 +99,7 @@ fn write_table<T: TableBytes>(
     sum
 }
 
-/// Writes tables, each with zeros up to a multiple of four, and the records of tables that stand from a place on.
+/// Writes tables, each with zeros up to a multiple of four, and the records of tables that are from an offset on.
 /// Answers the checksum of all the tables.
 fn write_tables<T: TableBytes>(
     out: &mut Vec<u8>,
@@ -109,14 +116,14 @@ fn write_tables<T: TableBytes>(
     sum
 }
 
-/// Puts the adjustment into a table that stands at a place, if it is `head`.
+/// Puts the adjustment into a table that is at an offset, if it is `head`.
 fn adjust_table<T: TableBytes>(out: &mut Vec<u8>, at: usize, word: u32, table: &NewTable<T>) {
     if table.tag == Tag::HEAD {
-        patch(out, at + 8, word);
+        patch(out, at + CHECKSUM_ADJUSTMENT, word);
     }
 }
 
-/// Puts the adjustment into `head` among the tables that stand from a place on.
+/// Puts the adjustment into `head` among the tables that are from an offset on.
 fn adjust<T: TableBytes>(out: &mut Vec<u8>, start: usize, word: u32, tables: &[NewTable<T>]) {
     let mut at = start;
     for table in tables {
@@ -125,12 +132,12 @@ fn adjust<T: TableBytes>(out: &mut Vec<u8>, start: usize, word: u32, tables: &[N
     }
 }
 
-/// Keeps room for what stands before the tables.
+/// Writes zeros for what is before the tables, which is patched later. At most 252 bytes: a header and 15 records.
 fn skip_front(out: &mut Vec<u8>, count: usize) {
     put(out, &[0; 252][..count]);
 }
 
-/// Puts bytes in the place of as many from a place on.
+/// Overwrites the bytes at an offset.
 fn patch_bytes(out: &mut Vec<u8>, at: usize, bytes: &[u8]) {
     out[at..at + bytes.len()].copy_from_slice(bytes);
 }
@@ -145,14 +152,14 @@ pub fn construct<T: TableBytes>(
 ) -> Vec<u8> {
     let mut out = out;
     let mut front = front;
-    let start = 12 + 16 * tables.len();
+    let start = TABLE_RECORDS + TABLE_RECORD_SIZE * tables.len();
     skip_front(&mut out, start);
     write_header(&mut front, flavor.kind(), tables.len() as u16);
     let tables_sum = write_tables(&mut out, &mut front, start, tables);
     patch_bytes(&mut out, 0, &front);
     // Each table begins at a multiple of four, so the sum of the file is that of its parts.
     let sum = checksum(&front).wrapping_add(tables_sum);
-    adjust(&mut out, start, 0xB1B0AFBAu32.wrapping_sub(sum), tables);
+    adjust(&mut out, start, FILE_SUM.wrapping_sub(sum), tables);
     out
 }
 
@@ -164,7 +171,7 @@ fn check_bound(size: usize, bytes: Option<u32>) -> Result<(), Error> {
     }
 }
 
-/// Lays out a file. Its size is taken first: `OverflowError` where a place or a length is 2^32 or more, or where it has more
+/// Lays out a file. Its size is taken first: `OverflowError` where an offset or a length is 2^32 or more, or where it has more
 /// bytes than it may, if these have a bound. Room is reserved once.
 pub fn finish<T: TableBytes>(
     alloc: Global,
@@ -172,9 +179,9 @@ pub fn finish<T: TableBytes>(
     tables: &[NewTable<T>],
     bytes: Option<u32>,
 ) -> Result<Vec<u8>, Error> {
-    let size = measured(tables)?;
+    let size = file_size(tables)?;
     check_bound(size, bytes)?;
-    let front = Vec::with_capacity(alloc, 12 + 16 * tables.len())?;
+    let front = Vec::with_capacity(alloc, TABLE_RECORDS + TABLE_RECORD_SIZE * tables.len())?;
     let out = Vec::with_capacity(alloc, size)?;
     Ok(construct(out, front, flavor, tables))
 }

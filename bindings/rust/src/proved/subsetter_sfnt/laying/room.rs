@@ -25,7 +25,7 @@ pub fn align(out: &mut Vec<u8>) {
     }
 }
 
-/// Puts a word in the place of four bytes.
+/// Puts a word in place of four bytes.
 pub fn patch(out: &mut Vec<u8>, at: usize, word: u32) {
     out[at..at + 4].copy_from_slice(&word.to_be_bytes());
 }

@@ -10,7 +10,7 @@ use crate::proved::subsetter_type2::runs::fixed_stack::FixedStack;
 use crate::proved::subsetter_type2::runs::machine::{Flow, Machine, Subroutines};
 use crate::proved::subsetter_type2::runs::output::Output;
 
-/// What runs after a token that leads there; nothing, where a charstring is at its end.
+/// What runs after a token of this flow; nothing, where a charstring is at its end.
 #[inline(always)]
 fn follow<'a, const N: usize>(
     rests: &mut FixedStack<&'a [u8], N>,

@@ -16,7 +16,7 @@ use crate::proved::subsetter_type2::runs::sink::Sink;
 use crate::proved::subsetter_type2::stretches::scanning::find_stretch;
 use crate::proved::subsetter_type2::stretches::stretch::Stretch;
 
-/// The output, whose end is the operands on the stack: they are read there where they are wanted.
+/// The output, whose end is the operands on the stack: they are read there where they are needed.
 pub struct Output {
     bytes: Vec<u8>,
     /// Where the operands begin.

@@ -12,7 +12,7 @@ pub trait Sink<'a> {
     /// How many operands are on the stack.
     fn count(&self) -> usize;
 
-    /// A number, which goes onto the stack.
+    /// A number, which is put onto the stack.
     fn push(&mut self, value: CharStringNumber) -> Result<(), Error>;
 
     /// Takes the last operand off the stack.

@@ -3,6 +3,13 @@
 
 use crate::proved::subsetter_type2::operators::first_byte;
 
+/// The least first byte of a number of two bytes.
+const TWO_BYTE_NUMBERS: u8 = 247;
+/// The least whole number of three bytes above 0, and the greatest below 0, as 16 bits.
+const LEAST_LONG: u16 = 1132;
+
+const GREATEST_LONG: u16 = 64404;
+
 /// Whether such a token begins with this byte: a number of one or two bytes, or an operator that takes all operands.
 static PLAIN: [bool; 256] = [
     false, false, false, false, true, true, true, true, true, false, false, false, false, false,
@@ -33,14 +40,14 @@ pub fn begins_plain(first: u8) -> bool {
 /// How many bytes such a token has.
 #[inline(always)]
 pub fn plain_size(first: u8) -> usize {
-    1 + (first >= 247) as usize
+    1 + (first >= TWO_BYTE_NUMBERS) as usize
 }
 
 /// The whole number of these two bytes has no form of one or two bytes.
 #[inline(always)]
 pub fn is_shortest(high: u8, low: u8) -> bool {
     let bits = high as u16 * 256 + low as u16;
-    bits >= 1132 && bits <= 64404
+    bits >= LEAST_LONG && bits <= GREATEST_LONG
 }
 
 /// The operator of this byte has a mask.

@@ -2,7 +2,7 @@
 //! The points of a contour, from one touched point to the next.
 
 use crate::proved::subsetter_variation::glyphs::inference::{between, Point, Touched};
-use crate::proved::subsetter_variation::rounding::given;
+use crate::proved::subsetter_variation::rounding::scalar_times_delta;
 
 /// A point as a touched one, if the tuple gives it a delta.
 fn touched(point: Point) -> Option<Touched> {
@@ -37,7 +37,7 @@ fn last_touched(points: &[Point]) -> Option<Touched> {
 /// What a tuple moves a point by: its own delta, or the inferred one.
 fn delta_or(point: Point, before: Option<Touched>, after: Option<Touched>, scalar: i64) -> i64 {
     if let Some(delta) = point.delta {
-        return given(scalar, delta);
+        return scalar_times_delta(scalar, delta);
     }
     match (before, after) {
         (Some(one), Some(other)) => between(point.at, one, other, scalar),

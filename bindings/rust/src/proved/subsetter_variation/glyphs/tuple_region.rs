@@ -2,7 +2,7 @@
 //! Where a tuple counts, read from the bytes of its header (OpenType, "gvar": "Tuple Variation Header").
 
 use crate::proved::subsetter_base::read::signed_at;
-use crate::proved::subsetter_variation::region::{counted, RegionAxis};
+use crate::proved::subsetter_variation::region::{times_axis_scalar, RegionAxis, ONE};
 
 /// Where a tuple counts: of each axis the two bytes of its peak, and those of its start and its end where the header has them.
 pub struct TupleRegion<'a> {
@@ -68,12 +68,12 @@ pub(crate) fn tuple_region<'a>(
     }
 }
 
-/// The scalar at a place of a region without ends of its own. The axes behind one that makes it 0 aren't read.
-fn plain_scalar(peaks: &[u8], at: &[i32]) -> i64 {
-    let mut whole = 1073741824;
+/// The scalar at a location of a region without ends of its own. The axes behind one that makes it 0 aren't read.
+fn peak_scalar(peaks: &[u8], at: &[i32]) -> i64 {
+    let mut whole = ONE;
     let mut rest = peaks;
     for i in 0..at.len() {
-        whole = counted(plain_region_axis(short(rest)), at[i], whole);
+        whole = times_axis_scalar(plain_region_axis(short(rest)), at[i], whole);
         if whole == 0 {
             return 0;
         }
@@ -83,13 +83,13 @@ fn plain_scalar(peaks: &[u8], at: &[i32]) -> i64 {
 }
 
 /// The same of a region with ends of its own.
-fn inner_scalar(peaks: &[u8], starts: &[u8], ends: &[u8], at: &[i32]) -> i64 {
-    let mut whole = 1073741824;
+fn intermediate_scalar(peaks: &[u8], starts: &[u8], ends: &[u8], at: &[i32]) -> i64 {
+    let mut whole = ONE;
     let mut p = peaks;
     let mut s = starts;
     let mut e = ends;
     for i in 0..at.len() {
-        whole = counted(inner_region_axis(p, s, e), at[i], whole);
+        whole = times_axis_scalar(inner_region_axis(p, s, e), at[i], whole);
         if whole == 0 {
             return 0;
         }
@@ -104,9 +104,9 @@ impl<'a> TupleRegion<'a> {
     /// The scalar at a location, in parts of 2^30.
     pub fn scalar(&self, at: &[i32]) -> i64 {
         if self.inner {
-            inner_scalar(self.peaks, self.starts, self.ends, at)
+            intermediate_scalar(self.peaks, self.starts, self.ends, at)
         } else {
-            plain_scalar(self.peaks, at)
+            peak_scalar(self.peaks, at)
         }
     }
 }

@@ -6,7 +6,7 @@ use crate::rattle::prelude::{IteratorExt, Vec};
 use crate::proved::subsetter_variation::glyphs::glyph::add_tuple;
 use crate::proved::subsetter_variation::glyphs::inference::Point;
 use crate::proved::subsetter_variation::packing::packed_sums::add_deltas;
-use crate::proved::subsetter_variation::rounding::given;
+use crate::proved::subsetter_variation::rounding::scalar_times_delta;
 use crate::rattle::alloc::{AllocError, Global};
 
 /// The unit of a scalar, and of a sum: 2^30.
@@ -82,7 +82,7 @@ fn points(
 /// Writes coordinates in parts of 2^30.
 fn write_units(sums: &mut [i64], coordinates: &[i16]) {
     for (k, x) in coordinates.iter().enumerate() {
-        sums[k] = given(UNIT, *x);
+        sums[k] = scalar_times_delta(UNIT, *x);
     }
 }
 

@@ -4,10 +4,12 @@
 
 use crate::rattle::prelude::Cast;
 
-use crate::proved::subsetter_variation::packing::packed::byte_in;
-use crate::proved::subsetter_variation::rounding::given;
+use crate::proved::subsetter_variation::packing::packed::{
+    byte_in, DELTAS_ARE_WORDS, DELTAS_ARE_ZERO, DELTA_RUN_COUNTS,
+};
+use crate::proved::subsetter_variation::rounding::scalar_times_delta;
 
-/// The signed number of the byte at a place.
+/// The signed number of the byte at an offset.
 fn byte_at(bytes: &[u8], at: usize) -> i16 {
     i16::from(bytes[at].to_signed())
 }
@@ -15,11 +17,11 @@ fn byte_at(bytes: &[u8], at: usize) -> i16 {
 /// Adds to each sum the signed number of its byte times the scalar.
 fn add_bytes(sums: &mut [i64], bytes: &[u8], scalar: i64) {
     for k in 0..sums.len() {
-        sums[k] += given(scalar, byte_at(bytes, k));
+        sums[k] += scalar_times_delta(scalar, byte_at(bytes, k));
     }
 }
 
-/// The signed number of the two bytes at a place.
+/// The signed number of the two bytes at an offset.
 fn word_at(bytes: &[u8], at: usize) -> i16 {
     (u16::from(bytes[at]) * 256 + u16::from(bytes[at + 1])).to_signed()
 }
@@ -27,7 +29,7 @@ fn word_at(bytes: &[u8], at: usize) -> i16 {
 /// Adds to each sum the signed number of its two bytes times the scalar.
 fn add_words(sums: &mut [i64], bytes: &[u8], scalar: i64) {
     for k in 0..sums.len() {
-        sums[k] += given(scalar, word_at(bytes, k * 2));
+        sums[k] += scalar_times_delta(scalar, word_at(bytes, k * 2));
     }
 }
 
@@ -35,10 +37,10 @@ fn add_words(sums: &mut [i64], bytes: &[u8], scalar: i64) {
 /// unless it is cut.
 fn add_run<'a>(sums: &mut [i64], control: u8, bytes: &'a [u8], scalar: i64) -> Option<&'a [u8]> {
     let count = sums.len();
-    if control >= 128 {
+    if control >= DELTAS_ARE_ZERO {
         return Some(bytes);
     }
-    if control >= 64 {
+    if control >= DELTAS_ARE_WORDS {
         if bytes.len() < count * 2 {
             return None;
         }
@@ -52,13 +54,13 @@ fn add_run<'a>(sums: &mut [i64], control: u8, bytes: &'a [u8], scalar: i64) -> O
     Some(&bytes[count..])
 }
 
-/// Adds to each sum its delta times the scalar. The bytes behind the deltas, unless they are cut or a run goes on past their end.
+/// Adds to each sum its delta times the scalar. The bytes behind the deltas, unless they are cut or a run is longer than they.
 pub fn add_deltas<'a>(sums: &mut [i64], bytes: &'a [u8], scalar: i64) -> Option<&'a [u8]> {
     let mut at = 0;
     let mut rest = bytes;
     while at < sums.len() {
         let (control, behind) = byte_in(rest)?;
-        let past = at + usize::from(control % 64) + 1;
+        let past = at + usize::from(control % DELTA_RUN_COUNTS) + 1;
         if past > sums.len() {
             return None;
         }

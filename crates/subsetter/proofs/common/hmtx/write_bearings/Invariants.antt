@@ -1,7 +1,7 @@
 use Rattle.std.proofs.Common.{◌≡◌, ◌+◌, ◌≤◌, ◌++◌, drop, length}
 use Rattle.std.specs.Prelude.{vec_capacity}
 use Rattle.std.specs.List.{flat_map}
-use Rattle.subsetter.specs.Common.Hmtx.Written.{bearing_bytes}
+use Rattle.subsetter_sfnt.specs.Fields.Hmtx.{bearing_bytes}
 use Rattle.subsetter.proofs.common.hmtx.write_bearings.Given as goal
 
 abbrev pub invariant-loop-metric : goal.invariant-loop-metric

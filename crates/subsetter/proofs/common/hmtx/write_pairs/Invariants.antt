@@ -1,12 +1,12 @@
 use Rattle.std.proofs.Common.{◌≡◌, ◌+◌, ◌≤◌, ◌++◌, drop, length}
 use Rattle.std.specs.Prelude.{vec_capacity}
 use Rattle.std.specs.List.{flat_map}
-use Rattle.subsetter.specs.Common.Hmtx.Written.{pair_bytes}
+use Rattle.subsetter_sfnt.specs.Fields.Hmtx.{metric_bytes}
 use Rattle.subsetter.proofs.common.hmtx.write_pairs.Given as goal
 
 abbrev pub invariant-loop-metric : goal.invariant-loop-metric
 invariant-loop-metric l = record {
-  written : l.out.items ++ flat_map pair_bytes (drop l.metric-index l.metrics) ≡ l.fn.out.items ++ flat_map pair_bytes l.metrics;
-  room : length l.out.items + length (flat_map pair_bytes (drop l.metric-index l.metrics)) ≤ vec_capacity l.out;
+  written : l.out.items ++ flat_map metric_bytes (drop l.metric-index l.metrics) ≡ l.fn.out.items ++ flat_map metric_bytes l.metrics;
+  room : length l.out.items + length (flat_map metric_bytes (drop l.metric-index l.metrics)) ≤ vec_capacity l.out;
   capacity : vec_capacity l.fn.out ≤ vec_capacity l.out;
 }

@@ -5,7 +5,7 @@ use Rattle.std.proofs.lemmas.List.{length_push}
 use Rattle.std.proofs.lemmas.Map.Keys.{IsDistinct-push}
 use Rattle.std.proofs.lemmas.Slice.{pushed}
 use Rattle.subsetter_base.specs.Remap.{index_by}
-use Rattle.subsetter_base.proofs.RemapLemmas.{place_by-push, place_by-pushed, any-is_placed, sum_is, mapped_cond}
+use Rattle.subsetter_base.proofs.RemapLemmas.{index_by-push, index_by-pushed, any-has_index, sum_is, mapped_cond}
 use Rattle.std.specs.Prelude.{is_some}
 use Rattle.subsetter_base.proofs.remapper.Remapper.remap.Goals as goal
 
@@ -16,18 +16,18 @@ invariant_of-self-2 g c =
     let laws = g.met.T.Eq.laws in
     let xs = c.self.inside.backward.items in
     let x = c.args.old in
-    let absent : index_by E xs x ≡ None = sym (c.self.invariant.forward_is_place x) ∙ ap (option_map N) (sym c.in_default.ensures.value) in
+    let absent : index_by E xs x ≡ None = sym (c.self.invariant.forward_is_index x) ∙ ap (option_map N) (sym c.in_default.ensures.value) in
     let now : c.push.new.self.items ≡ xs ++ x ∷ [] = pushed (x ∷ []) c.reserve.ensures.items c.unwrap.ensures c.push.ensures.items in
     let one : N c.from.result ≡ 1 = g.met.C.CheckedAdd.same_number 1 c.from.result c.from.ensures in
     let sum : N c.unwrap-next.result ≡ N c.self.inside.counter + N c.from.result = sum_is g.C.CheckedAdd.limit (N c.self.inside.counter) (N c.from.result) (N c.unwrap-next.result) (sym c.checked_add.ensures ∙ ap (option_map N) c.unwrap-next.ensures) in
     rw now (record {
       counted = omega (arith, sum, one, length_push xs x, c.self.invariant.counted);
-      forward_is_place = λ q.
+      forward_is_index = λ q.
           ap (option_map N) (c.in_ok-insert.ensures.updates.0 q)
           ∙ mapped_cond N (E x q) c.self.inside.counter (get E c.self.inside.forward q)
-          ∙ ap (cond (E x q) (Some (N c.self.inside.counter))) (c.self.invariant.forward_is_place q)
-          ∙ sym (place_by-push laws xs x q (N c.self.inside.counter) absent c.self.invariant.counted);
-      once = IsDistinct-push laws xs x c.self.invariant.once (any-is_placed laws xs x ∙ ap is_some absent);
+          ∙ ap (cond (E x q) (Some (N c.self.inside.counter))) (c.self.invariant.forward_is_index q)
+          ∙ sym (index_by-push laws xs x q (N c.self.inside.counter) absent c.self.invariant.counted);
+      once = IsDistinct-push laws xs x c.self.invariant.once (any-has_index laws xs x ∙ ap is_some absent);
     })
 
 pub returns-clause-number : goal.returns-clause-number
@@ -37,6 +37,6 @@ returns-clause-number g c =
     let laws = g.met.T.Eq.laws in
     let xs = c.self.inside.backward.items in
     let x = c.args.old in
-    let absent : index_by E xs x ≡ None = sym (c.self.invariant.forward_is_place x) ∙ ap (option_map N) (sym c.in_default.ensures.value) in
+    let absent : index_by E xs x ≡ None = sym (c.self.invariant.forward_is_index x) ∙ ap (option_map N) (sym c.in_default.ensures.value) in
     let now : c.push.new.self.items ≡ xs ++ x ∷ [] = pushed (x ∷ []) c.reserve.ensures.items c.unwrap.ensures c.push.ensures.items in
-    rw now (place_by-pushed laws xs x (N c.self.inside.counter) absent c.self.invariant.counted)
+    rw now (index_by-pushed laws xs x (N c.self.inside.counter) absent c.self.invariant.counted)

@@ -3,7 +3,7 @@ use Rattle.std.proofs.lemmas.Result.{err_from_is_err_and}
 use Rattle.subsetter_type2.specs.Runs.Machine.{rests_after}
 use Rattle.subsetter_type2.specs.View.{rests_of}
 use Rattle.subsetter_blend.specs.Runs.Machine.{State, run}
-use Rattle.subsetter_blend.specs.Runs.MachineView.{registers_of, setting_of, lead_of}
+use Rattle.subsetter_blend.specs.Runs.MachineView.{registers_of, setting_of, continuation_of}
 use Rattle.subsetter_blend.proofs.RunsLaws.Runs.{run_start, run_over, run_out, run_fault, run_deep, run_on, ended_none, ended_some}
 use Rattle.subsetter_blend.proofs.runs.running.run.Goals as goal
 
@@ -39,7 +39,7 @@ returns-in_err-running g c =
     let state : State = record { rests = c.loop-current.running.now ∷ rests_of c.loop-current.rests; registers = registers_of c.loop-current.machine } in
     let n : c.loop-current.tokens ≡ suc (c.loop-current.tokens - 1) = omega arith in
     let p = err_from_is_err_and c.from_residual-in_err-running.result c.from_residual-in_err-running.ensures.1 in
-    let deep : c.args.limits.now.depth < length (rests_after (lead_of c.in_ok-flow.flow) (rests_of c.innermost.new.rests)) = omega (arith, c.in_err-running.ensures.err.1, c.depth.ensures.value) in
+    let deep : c.args.limits.now.depth < length (rests_after (continuation_of c.in_ok-flow.flow) (rests_of c.innermost.new.rests)) = omega (arith, c.in_err-running.ensures.err.1, c.depth.ensures.value) in
     rw (p.1, p.2, c.in_err-running.ensures.err.0)
     (λ ne. c.loop-current.invariant.same
     ∙ run_deep g.S.Takes.taken setting c.args.limits.now.depth c.loop-current.tokens (c.loop-current.tokens - 1) c.loop-current.sink state c.in-Some.current.now (rests_of c.innermost.new.rests) _ n c.in-Some.ensures.rest c.in_ok-flow.ensures deep)
@@ -49,7 +49,7 @@ loop-current-preserved g c =
     let setting = setting_of c.args.subroutines.now (g.R.Regions.scalars c.args.regions.now) in
     let state : State = record { rests = c.loop-current.running.now ∷ rests_of c.loop-current.rests; registers = registers_of c.loop-current.machine } in
     let n : c.loop-current.tokens ≡ suc (c.loop-current.tokens - 1) = omega arith in
-    let within : length (rests_after (lead_of c.in_ok-flow.flow) (rests_of c.innermost.new.rests)) ≤ c.args.limits.now.depth = omega (arith, c.in_ok-running.ensures.deep, c.depth.ensures.value) in
+    let within : length (rests_after (continuation_of c.in_ok-flow.flow) (rests_of c.innermost.new.rests)) ≤ c.args.limits.now.depth = omega (arith, c.in_ok-running.ensures.deep, c.depth.ensures.value) in
     record {
       same = c.loop-current.invariant.same
           ∙ run_on g.S.Takes.taken setting c.args.limits.now.depth c.loop-current.tokens (c.loop-current.tokens - 1) c.loop-current.sink state c.in-Some.current.now (rests_of c.innermost.new.rests) _ n c.in-Some.ensures.rest c.in_ok-flow.ensures within

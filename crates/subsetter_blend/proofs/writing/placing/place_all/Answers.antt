@@ -17,9 +17,9 @@ loop-i-preserved c =
     let v = get_or c.args.operands.now c.loop-i.i (pos 0) in
     let f : FitsSigned w64 (get_or c.args.operands.now c.loop-i.i (pos 0)) = search rules in
     let some = sym (simp to_z-of_z at c.in_ok-number_of.ensures.value) in
-    let to_is = simp to_z-of_z at c.goes-to.ensures.value in
+    let to_is = simp to_z-of_z at c.position_after-to.ensures.value in
     record {
-      same = sym (place_more c.args.operator (length c.args.operands.now) c.loop-i.i c.args.operands.now c.loop-i.at c.goes-to.result c.loop-i.numbers c.push.new.self c.moves_along-along.result v c.in_ok-number_of.field-0 c.loop-i-test.true c.moves_along-along.ensures refl to_is some c.push.ensures)
+      same = sym (place_more c.args.operator (length c.args.operands.now) c.loop-i.i c.args.operands.now c.loop-i.at c.position_after-to.result c.loop-i.numbers c.push.new.self c.moves_along-along.result v c.in_ok-number_of.field-0 c.loop-i-test.true c.moves_along-along.ensures refl to_is some c.push.ensures)
           ∙ c.loop-i.invariant.same;
       many = ap length c.push.ensures ∙ omega (arith, length-append c.loop-i.numbers (c.in_ok-number_of.field-0 ∷ []), c.loop-i.invariant.many);
       at = c.in_ok-number_of.ensures.within;

@@ -1,6 +1,6 @@
 use Rattle.std.proofs.Common.{◌≡◌}
 use Rattle.subsetter_base.proofs.Results.{with_front}
-use Rattle.subsetter_instance.specs.Glyphs.Kept.{AreKept}
+use Rattle.subsetter_instance.specs.Glyphs.Cache.{AreKept}
 use Rattle.subsetter_instance.specs.Plain.{drawn_all}
 use Rattle.subsetter_instance.proofs.glyphs.drawn.draw_all.Given as goal
 

@@ -2,7 +2,7 @@ use Rattle.std.proofs.Common.{◌≡◌, ◌-◌, ◌+◌, ◌<◌, ◌≤◌, �
 use Rattle.std.specs.Option.{option_copied}
 use Rattle.std.proofs.lemmas.List.{drop_all}
 use Rattle.std.proofs.lemmas.Result.{err_from_is_err_and}
-use Rattle.subsetter_instance.specs.Glyphs.Kept.{AreKept, IsKept, KeptGlyph}
+use Rattle.subsetter_instance.specs.Glyphs.Cache.{AreKept, IsKept, KeptGlyph}
 use Rattle.subsetter_instance.specs.Source.{metric}
 use Rattle.subsetter_instance.specs.Glyphs.Unfolded.{IsInReach, Unfolded, counted_description, is_composite, joined, no_points, unfolded}
 use Rattle.subsetter_instance.proofs.GlyphsLaws.Joins.{as_simple, component_fails, composite_begins, composite_fails, joined_end, joined_step, placing_fails}

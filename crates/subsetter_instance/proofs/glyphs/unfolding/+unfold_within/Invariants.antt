@@ -1,5 +1,5 @@
 use Rattle.std.proofs.Common.{◌≡◌, ◌-◌, drop}
-use Rattle.subsetter_instance.specs.Glyphs.Kept.{AreKept}
+use Rattle.subsetter_instance.specs.Glyphs.Cache.{AreKept}
 use Rattle.subsetter_instance.specs.Glyphs.Unfolded.{IsInReach, joined, unfolded}
 use Rattle.subsetter_instance.proofs.glyphs.unfolding.+unfold_within.Given as goal
 

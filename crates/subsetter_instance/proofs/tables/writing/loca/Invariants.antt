@@ -1,5 +1,5 @@
 use Rattle.std.proofs.Common.{◌≡◌, ◌++◌, drop}
-use Rattle.subsetter_instance.specs.Tables.Written.{loca_bytes}
+use Rattle.subsetter_sfnt.specs.Fields.Loca.{loca_bytes}
 use Rattle.subsetter_instance.proofs.tables.writing.loca.Given as goal
 
 abbrev pub invariant-loop-offset : goal.invariant-loop-offset

@@ -10,9 +10,9 @@ returns-then-x-low-clause-value c =
     let f3 : FitsSigned w16 c.args.low.delta = search rules in
     let f5 : FitsSigned w16 c.args.x = search rules in
     let f6 : FitsSigned w64 c.args.scalar = search rules in
-    let f10 : FitsSigned w64 c.given-then-x-low.result = search rules in
+    let f10 : FitsSigned w64 c.scalar_times_delta-then-x-low.result = search rules in
     let b = simp to_z-of_z at c.if-x-low.true in
-    let s = simp to_z-of_z at c.given-then-x-low.ensures.value in
+    let s = simp to_z-of_z at c.scalar_times_delta-then-x-low.ensures.value in
     let e = below c.args.x c.args.low c.args.high c.args.scalar (apart c.args.low.at c.args.high.at c.if-low-high.false) b in
     simp to_z-of_z (s ∙ sym e)
 
@@ -23,9 +23,9 @@ returns-then-high-x-clause-value c =
     let f3 : FitsSigned w16 c.args.high.delta = search rules in
     let f5 : FitsSigned w16 c.args.x = search rules in
     let f6 : FitsSigned w64 c.args.scalar = search rules in
-    let f10 : FitsSigned w64 c.given-then-high-x.result = search rules in
+    let f10 : FitsSigned w64 c.scalar_times_delta-then-high-x.result = search rules in
     let b = simp to_z-of_z at c.if-x-low.false in
     let h = simp to_z-of_z at c.if-high-x.true in
-    let s = simp to_z-of_z at c.given-then-high-x.ensures.value in
+    let s = simp to_z-of_z at c.scalar_times_delta-then-high-x.ensures.value in
     let e = above c.args.x c.args.low c.args.high c.args.scalar (apart c.args.low.at c.args.high.at c.if-low-high.false) b h in
     simp to_z-of_z (s ∙ sym e)

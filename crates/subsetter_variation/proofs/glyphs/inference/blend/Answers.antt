@@ -9,6 +9,6 @@ returns-clause-value c =
     let o : FitsSigned w64 c.args.over = c.ranges.over in
     let h : FitsSigned w64 c.args.high = c.ranges.high in
     let u : FitsSigned w64 c.args.under = c.ranges.under in
-    let first = simp to_z-of_z at c.weighted-first.ensures.value in
-    let second = simp to_z-of_z at c.weighted-second.ensures.value in
-    sum_of _ _ _ _ c.weighted-first.ensures.bound c.weighted-second.ensures.bound first second
+    let first = simp to_z-of_z at c.delta_times_distance-first.ensures.value in
+    let second = simp to_z-of_z at c.delta_times_distance-second.ensures.value in
+    sum_of _ _ _ _ c.delta_times_distance-first.ensures.bound c.delta_times_distance-second.ensures.bound first second

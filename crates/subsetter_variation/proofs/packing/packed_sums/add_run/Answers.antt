@@ -32,46 +32,46 @@ same_sum x r s t d e a b h = h ∙ ap (λ y. x +ℤ y *ℤ d) a ∙ ap (λ y. x 
 same_bound : (s t d e : ℤ) → s ≡ t → e ≡ d → unsigned_abs (s *ℤ d) ≤ 2 ^ 45 → unsigned_abs (t *ℤ e) ≤ 2 ^ 45
 same_bound s t d e a b h = subst (λ y. unsigned_abs (t *ℤ y) ≤ 2 ^ 45) (sym b) (subst (λ y. unsigned_abs (y *ℤ d) ≤ 2 ^ 45) a h)
 
-pub returns-then-control-ge128-clause-added : goal.returns-then-control-ge128-clause-added
-returns-then-control-ge128-clause-added c =
+pub returns-then-control-ge-DELTAS_ARE_ZERO-clause-added : goal.returns-then-control-ge-DELTAS_ARE_ZERO-clause-added
+returns-then-control-ge-DELTAS_ARE_ZERO-clause-added c =
     let n = length c.args.sums.now in
-    of_read _ (deltas_from n (run_of n c.args.control c.args.bytes.now)) (zeros n, c.args.bytes.now) (zero_run n c.args.control c.args.bytes.now (le-leb 128 c.args.control c.if-control-ge128.true)) (λ k h. no_more (get_or c.args.sums.now k (pos 0)) c.args.scalar _ (zeros_at n k))
+    of_read _ (deltas_from n (run_of n c.args.control c.args.bytes.now)) (zeros n, c.args.bytes.now) (zero_run n c.args.control c.args.bytes.now (le-leb 128 c.args.control c.if-control-ge-DELTAS_ARE_ZERO.true)) (λ k h. no_more (get_or c.args.sums.now k (pos 0)) c.args.scalar _ (zeros_at n k))
 
-pub returns-then-control-ge128-clause-bound : goal.returns-then-control-ge128-clause-bound
-returns-then-control-ge128-clause-bound c =
+pub returns-then-control-ge-DELTAS_ARE_ZERO-clause-bound : goal.returns-then-control-ge-DELTAS_ARE_ZERO-clause-bound
+returns-then-control-ge-DELTAS_ARE_ZERO-clause-bound c =
     let n = length c.args.sums.now in
-    of_read _ (deltas_from n (run_of n c.args.control c.args.bytes.now)) (zeros n, c.args.bytes.now) (zero_run n c.args.control c.args.bytes.now (le-leb 128 c.args.control c.if-control-ge128.true)) (λ k h. nothing c.args.scalar _ (zeros_at n k))
+    of_read _ (deltas_from n (run_of n c.args.control c.args.bytes.now)) (zeros n, c.args.bytes.now) (zero_run n c.args.control c.args.bytes.now (le-leb 128 c.args.control c.if-control-ge-DELTAS_ARE_ZERO.true)) (λ k h. nothing c.args.scalar _ (zeros_at n k))
 
-pub returns-then-control-ge64-clause-added : goal.returns-then-control-ge64-clause-added
-returns-then-control-ge64-clause-added c =
+pub returns-then-control-ge-DELTAS_ARE_WORDS-clause-added : goal.returns-then-control-ge-DELTAS_ARE_WORDS-clause-added
+returns-then-control-ge-DELTAS_ARE_WORDS-clause-added c =
     let n = length c.args.sums.now in
     let f : FitsSigned w64 c.args.scalar = c.ranges.scalar in
-    of_read _ (deltas_from n (run_of n c.args.control c.args.bytes.now)) (words n c.args.bytes.now, drop (n * 2) c.args.bytes.now) (word_run n c.args.control c.args.bytes.now (lt-leb 128 c.args.control c.if-control-ge128.false) (le-leb 64 c.args.control c.if-control-ge64.true) (omega arith)) (λ k h. same_sum _ _ _ c.args.scalar _ _ (to_z-of_z w64 c.args.scalar f) (word_there n k c.args.bytes.now h (omega arith)) (c.add_words.ensures.added k h))
+    of_read _ (deltas_from n (run_of n c.args.control c.args.bytes.now)) (words n c.args.bytes.now, drop (n * 2) c.args.bytes.now) (word_run n c.args.control c.args.bytes.now (lt-leb 128 c.args.control c.if-control-ge-DELTAS_ARE_ZERO.false) (le-leb 64 c.args.control c.if-control-ge-DELTAS_ARE_WORDS.true) (omega arith)) (λ k h. same_sum _ _ _ c.args.scalar _ _ (to_z-of_z w64 c.args.scalar f) (word_there n k c.args.bytes.now h (omega arith)) (c.add_words.ensures.added k h))
 
-pub returns-then-control-ge64-clause-bound : goal.returns-then-control-ge64-clause-bound
-returns-then-control-ge64-clause-bound c =
+pub returns-then-control-ge-DELTAS_ARE_WORDS-clause-bound : goal.returns-then-control-ge-DELTAS_ARE_WORDS-clause-bound
+returns-then-control-ge-DELTAS_ARE_WORDS-clause-bound c =
     let n = length c.args.sums.now in
     let f : FitsSigned w64 c.args.scalar = c.ranges.scalar in
-    of_read _ (deltas_from n (run_of n c.args.control c.args.bytes.now)) (words n c.args.bytes.now, drop (n * 2) c.args.bytes.now) (word_run n c.args.control c.args.bytes.now (lt-leb 128 c.args.control c.if-control-ge128.false) (le-leb 64 c.args.control c.if-control-ge64.true) (omega arith)) (λ k h. same_bound _ c.args.scalar _ _ (to_z-of_z w64 c.args.scalar f) (word_there n k c.args.bytes.now h (omega arith)) (c.add_words.ensures.bound k h))
+    of_read _ (deltas_from n (run_of n c.args.control c.args.bytes.now)) (words n c.args.bytes.now, drop (n * 2) c.args.bytes.now) (word_run n c.args.control c.args.bytes.now (lt-leb 128 c.args.control c.if-control-ge-DELTAS_ARE_ZERO.false) (le-leb 64 c.args.control c.if-control-ge-DELTAS_ARE_WORDS.true) (omega arith)) (λ k h. same_bound _ c.args.scalar _ _ (to_z-of_z w64 c.args.scalar f) (word_there n k c.args.bytes.now h (omega arith)) (c.add_words.ensures.bound k h))
 
 pub returns-clause-added : goal.returns-clause-added
 returns-clause-added c =
     let n = length c.args.sums.now in
     let f : FitsSigned w64 c.args.scalar = c.ranges.scalar in
-    of_read _ (deltas_from n (run_of n c.args.control c.args.bytes.now)) (map (cast_signed w8) (take n c.args.bytes.now), drop n c.args.bytes.now) (byte_run n c.args.control c.args.bytes.now (lt-leb 128 c.args.control c.if-control-ge128.false) (lt-leb 64 c.args.control c.if-control-ge64.false) (omega arith)) (λ k h. same_sum _ _ _ c.args.scalar _ _ (to_z-of_z w64 c.args.scalar f) (byte_there n k c.args.bytes.now h (omega arith)) (c.add_bytes.ensures.added k h))
+    of_read _ (deltas_from n (run_of n c.args.control c.args.bytes.now)) (map (cast_signed w8) (take n c.args.bytes.now), drop n c.args.bytes.now) (byte_run n c.args.control c.args.bytes.now (lt-leb 128 c.args.control c.if-control-ge-DELTAS_ARE_ZERO.false) (lt-leb 64 c.args.control c.if-control-ge-DELTAS_ARE_WORDS.false) (omega arith)) (λ k h. same_sum _ _ _ c.args.scalar _ _ (to_z-of_z w64 c.args.scalar f) (byte_there n k c.args.bytes.now h (omega arith)) (c.add_bytes.ensures.added k h))
 
 pub returns-clause-bound : goal.returns-clause-bound
 returns-clause-bound c =
     let n = length c.args.sums.now in
     let f : FitsSigned w64 c.args.scalar = c.ranges.scalar in
-    of_read _ (deltas_from n (run_of n c.args.control c.args.bytes.now)) (map (cast_signed w8) (take n c.args.bytes.now), drop n c.args.bytes.now) (byte_run n c.args.control c.args.bytes.now (lt-leb 128 c.args.control c.if-control-ge128.false) (lt-leb 64 c.args.control c.if-control-ge64.false) (omega arith)) (λ k h. same_bound _ c.args.scalar _ _ (to_z-of_z w64 c.args.scalar f) (byte_there n k c.args.bytes.now h (omega arith)) (c.add_bytes.ensures.bound k h))
+    of_read _ (deltas_from n (run_of n c.args.control c.args.bytes.now)) (map (cast_signed w8) (take n c.args.bytes.now), drop n c.args.bytes.now) (byte_run n c.args.control c.args.bytes.now (lt-leb 128 c.args.control c.if-control-ge-DELTAS_ARE_ZERO.false) (lt-leb 64 c.args.control c.if-control-ge-DELTAS_ARE_WORDS.false) (omega arith)) (λ k h. same_bound _ c.args.scalar _ _ (to_z-of_z w64 c.args.scalar f) (byte_there n k c.args.bytes.now h (omega arith)) (c.add_bytes.ensures.bound k h))
 
-pub returns-then-control-ge64-clause-rest : goal.returns-then-control-ge64-clause-rest
-returns-then-control-ge64-clause-rest c =
+pub returns-then-control-ge-DELTAS_ARE_WORDS-clause-rest : goal.returns-then-control-ge-DELTAS_ARE_WORDS-clause-rest
+returns-then-control-ge-DELTAS_ARE_WORDS-clause-rest c =
     let n = length c.args.sums.now in
-    ap Some (take_rest c.args.bytes.now (n * 2)) ∙ sym (ap (option_map (λ d. d.1)) (word_run n c.args.control c.args.bytes.now (lt-leb 128 c.args.control c.if-control-ge128.false) (le-leb 64 c.args.control c.if-control-ge64.true) (omega arith)))
+    ap Some (take_rest c.args.bytes.now (n * 2)) ∙ sym (ap (option_map (λ d. d.1)) (word_run n c.args.control c.args.bytes.now (lt-leb 128 c.args.control c.if-control-ge-DELTAS_ARE_ZERO.false) (le-leb 64 c.args.control c.if-control-ge-DELTAS_ARE_WORDS.true) (omega arith)))
 
 pub returns-clause-rest : goal.returns-clause-rest
 returns-clause-rest c =
     let n = length c.args.sums.now in
-    ap Some (take_rest c.args.bytes.now n) ∙ sym (ap (option_map (λ d. d.1)) (byte_run n c.args.control c.args.bytes.now (lt-leb 128 c.args.control c.if-control-ge128.false) (lt-leb 64 c.args.control c.if-control-ge64.false) (omega arith)))
+    ap Some (take_rest c.args.bytes.now n) ∙ sym (ap (option_map (λ d. d.1)) (byte_run n c.args.control c.args.bytes.now (lt-leb 128 c.args.control c.if-control-ge-DELTAS_ARE_ZERO.false) (lt-leb 64 c.args.control c.if-control-ge-DELTAS_ARE_WORDS.false) (omega arith)))

@@ -12,13 +12,13 @@ loop-k-preserved c =
     let room = c.requires.room k (omega arith) in
     let small : unsigned_abs (get_or c.loop-k.sums k (pos 0)) ≤ 2 ^ 62 = omega (arith, ap unsigned_abs r, room) in
     let f : FitsSigned w16 c.word_at.result = search rules in
-    let value = c.given.ensures.value ∙ ap (λ d. s *ℤ d) (to_z-of_z w16 c.word_at.result f ∙ c.word_at.ensures) in
-    let now_added : to_z w64 (of_z w64 (to_z w64 (of_z w64 (get_or c.loop-k.sums k (pos 0))) +ℤ to_z w64 (of_z w64 c.given.result))) ≡ get_or c.args.sums.now k (pos 0) +ℤ s *ℤ cast_signed w16 (get_or c.args.bytes.now (k * 2) 0 * 256 + get_or c.args.bytes.now (k * 2 + 1) 0) = sum_kept (get_or c.loop-k.sums k (pos 0)) c.given.result small c.given.ensures.bound ∙ ap (λ a. a +ℤ c.given.result) r ∙ ap (λ b. get_or c.args.sums.now k (pos 0) +ℤ b) value in
+    let value = c.scalar_times_delta.ensures.value ∙ ap (λ d. s *ℤ d) (to_z-of_z w16 c.word_at.result f ∙ c.word_at.ensures) in
+    let now_added : to_z w64 (of_z w64 (to_z w64 (of_z w64 (get_or c.loop-k.sums k (pos 0))) +ℤ to_z w64 (of_z w64 c.scalar_times_delta.result))) ≡ get_or c.args.sums.now k (pos 0) +ℤ s *ℤ cast_signed w16 (get_or c.args.bytes.now (k * 2) 0 * 256 + get_or c.args.bytes.now (k * 2 + 1) 0) = sum_kept (get_or c.loop-k.sums k (pos 0)) c.scalar_times_delta.result small c.scalar_times_delta.ensures.bound ∙ ap (λ a. a +ℤ c.scalar_times_delta.result) r ∙ ap (λ b. get_or c.args.sums.now k (pos 0) +ℤ b) value in
     record {
       added = below_more _ _
           (λ j h. let ne : j ≢ k = omega arith in rw get_or-set_other (c.loop-k.invariant.added j h))
           (let lt : k < length c.loop-k.sums = omega arith in rw get_or-set_same now_added);
-      bound = below_more _ _ (λ j h. c.loop-k.invariant.bound j h) (subst (λ z. unsigned_abs z ≤ 2 ^ 45) value c.given.ensures.bound);
+      bound = below_more _ _ (λ j h. c.loop-k.invariant.bound j h) (subst (λ z. unsigned_abs z ≤ 2 ^ 45) value c.scalar_times_delta.ensures.bound);
       rest = λ j h. let ne : j ≢ k = omega arith in rw get_or-set_other (c.loop-k.invariant.rest j (omega arith));
     }
 
@@ -27,4 +27,4 @@ overflow_add-sums c =
     let r = c.loop-k.invariant.rest c.loop-k.k (omega arith) in
     let room = c.requires.room c.loop-k.k (omega arith) in
     let small : unsigned_abs (get_or c.loop-k.sums c.loop-k.k (pos 0)) ≤ 2 ^ 62 = omega (arith, ap unsigned_abs r, room) in
-    sum_fits (get_or c.loop-k.sums c.loop-k.k (pos 0)) c.given.result small c.given.ensures.bound
+    sum_fits (get_or c.loop-k.sums c.loop-k.k (pos 0)) c.scalar_times_delta.result small c.scalar_times_delta.ensures.bound

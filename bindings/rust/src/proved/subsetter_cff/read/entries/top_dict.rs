@@ -63,8 +63,8 @@ pub fn no_values() -> TopDictData {
     }
 }
 
-/// What the entries of a top dict or a font dict say; None where one doesn't meet all demands. Seven operands tell of each
-/// entry whether it has as many as are demanded, which are at most six.
+/// The values of the entries of a top dict or a font dict; false where one doesn't meet all demands. Seven operands of each
+/// entry are enough to know whether it has as many as are demanded, which are at most six.
 pub fn read_entries(demands: Demands, dict: &[u8], said: &mut TopDictData) -> bool {
     let mut buffer = [Number::zero(); 7];
     let mut parser = DictionaryParser::new(dict, &mut buffer);
@@ -76,7 +76,7 @@ pub fn read_entries(demands: Demands, dict: &[u8], said: &mut TopDictData) -> bo
     true
 }
 
-/// Reads a top dict into a place, so that its numbers aren't moved; false where an entry has wrong operands.
+/// Reads a top dict into a variable, so that its numbers aren't moved; false where an entry has wrong operands.
 pub fn read_top_dict(dict: &[u8], said: &mut TopDictData) -> bool {
     read_entries(Demands::TopDict, dict, said)
 }

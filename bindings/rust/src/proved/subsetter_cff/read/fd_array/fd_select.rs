@@ -32,15 +32,20 @@ impl<'a> FDSelect<'a> {
     }
 }
 
+/// The format that lists the font dict of each glyph.
+const FORMAT_0: u8 = 0;
+/// The format of ranges.
+const FORMAT_3: u8 = 3;
+
 /// Reads an FDSelect for so many glyphs; None where its format is missing or unknown, or a format 0 is cut.
 pub fn parse_fd_select(glyphs: u32, bytes: &[u8]) -> Option<FDSelect<'_>> {
     let mut r = Reader::new(bytes);
     match reading::next_byte(&mut r)? {
-        0 => Some(FDSelect::Format0(reading::next_bytes(
+        FORMAT_0 => Some(FDSelect::Format0(reading::next_bytes(
             &mut r,
             glyphs as usize,
         )?)),
-        3 => Some(FDSelect::Format3(Ranges::new(reading::tail(&r)))),
+        FORMAT_3 => Some(FDSelect::Format3(Ranges::new(reading::tail(&r)))),
         _ => None,
     }
 }
@@ -48,11 +53,11 @@ pub fn parse_fd_select(glyphs: u32, bytes: &[u8]) -> Option<FDSelect<'_>> {
 /// Writes the FDSelect that gives all glyphs the first font dict.
 pub fn generate_fd_index(count: u16, w: &mut Writer) -> Result<(), Error> {
     let end = count.to_be_bytes();
-    w.extend(&[3, 0, 1, 0, 0, 0, end[0], end[1]])
+    w.extend(&[FORMAT_3, 0, 1, 0, 0, 0, end[0], end[1]])
 }
 
 /// Writes the FDSelect that gives each glyph the font dict of a number.
 pub fn rewrite_fd_index(numbers: &[u8], w: &mut Writer) -> Result<(), Error> {
-    w.extend(&[0])?;
+    w.extend(&[FORMAT_0])?;
     w.extend(numbers)
 }

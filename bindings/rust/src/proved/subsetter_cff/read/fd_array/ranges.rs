@@ -10,6 +10,13 @@ pub struct Ranges<'a> {
     ascends: bool,
 }
 
+/// Where the ranges begin, behind their number.
+const RANGES: usize = 2;
+/// How many bytes a range has.
+const RANGE3_SIZE: usize = 3;
+/// Where the font dict of the first range is, one byte, behind its first glyph.
+const FDS: usize = 4;
+
 /// How many ranges are there, each with the first glyph of the next.
 fn count_ranges(bytes: &[u8]) -> usize {
     if bytes.len() < 2 {
@@ -19,12 +26,12 @@ fn count_ranges(bytes: &[u8]) -> usize {
     if count == 0 || count == 65535 {
         return 0;
     }
-    usize::from(count).min((bytes.len().saturating_sub(4)) / 3)
+    usize::from(count).min((bytes.len().saturating_sub(4)) / RANGE3_SIZE)
 }
 
 /// The first glyph of a range.
 fn first_of(bytes: &[u8], i: usize) -> u16 {
-    u16_at(bytes, 3 * i + 2)
+    u16_at(bytes, RANGE3_SIZE * i + RANGES)
 }
 
 fn ascend(bytes: &[u8], count: usize) -> bool {
@@ -38,7 +45,7 @@ fn ascend(bytes: &[u8], count: usize) -> bool {
 
 /// The font dict of a range.
 fn number_of(bytes: &[u8], i: usize) -> u8 {
-    bytes[3 * i + 4]
+    bytes[RANGE3_SIZE * i + FDS]
 }
 
 /// Whether a range has a glyph.

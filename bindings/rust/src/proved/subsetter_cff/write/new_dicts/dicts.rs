@@ -22,6 +22,9 @@ const FONT_DICT_ROOM: usize = 64;
 /// Room for a few private dicts, in bytes.
 const PRIVATES_ROOM: usize = 256;
 
+/// Offsets, as numbers of a dict, are below this.
+const OFFSETS: usize = 2147483648;
+
 /// Font dicts and their private dicts.
 pub struct WrittenDicts {
     /// The private dicts, one behind the other.
@@ -30,7 +33,7 @@ pub struct WrittenDicts {
     pub dicts: Vec<Vec<u8>>,
 }
 
-/// The place behind a piece. An offset is at most 2147483647: a greater one is `OverflowError`.
+/// The offset behind a piece. An offset is at most 2147483647: a greater one is `OverflowError`.
 pub fn offset_behind(place: usize, size: usize) -> Result<usize, Error> {
     let end = match place.checked_add(size) {
         Some(end) => end,
@@ -38,7 +41,7 @@ pub fn offset_behind(place: usize, size: usize) -> Result<usize, Error> {
             return Err(Error::OverflowError);
         }
     };
-    if end >= 2147483648 {
+    if end >= OFFSETS {
         return Err(Error::OverflowError);
     }
     Ok(end)
@@ -85,7 +88,7 @@ fn put_dict(
     Ok(())
 }
 
-/// The font dicts, whose private dicts are from a place on. A real that is too long, or a private dict that ends past
+/// The font dicts, whose private dicts are from an offset on. A real that is too long, or a private dict that ends past
 /// 2147483647, is `OverflowError`.
 pub fn write_dicts(
     alloc: Global,

@@ -9,7 +9,7 @@ use crate::proved::subsetter_cff::write::new_dicts::entries::{
 use crate::proved::subsetter_cffdata::dicts::dict::operators::{FONT_MATRIX, FONT_NAME, PRIVATE};
 use crate::proved::subsetter_cffdata::numerals::number::{Number, StringId};
 
-/// Writes a font dict whose private dict of a size stands at a place. A real that is too long is `OverflowError`.
+/// Writes a font dict whose private dict of a size is at an offset. A real that is too long is `OverflowError`.
 pub fn write_font_dict(
     matrix: &[Number; 6],
     size: u32,

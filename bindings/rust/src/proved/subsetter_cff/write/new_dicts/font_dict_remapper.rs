@@ -6,7 +6,7 @@ use crate::rattle::prelude::Vec;
 use crate::proved::subsetter_base::error::Error;
 use crate::rattle::alloc::{AllocError, Global};
 
-/// The used font dicts, ascending, and the place of each among them.
+/// The used font dicts, ascending, and the index of each among them.
 pub struct FontDictRemapper {
     numbers: Vec<u8>,
     places: [Option<u8>; 256],

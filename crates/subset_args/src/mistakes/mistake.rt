@@ -1,0 +1,86 @@
+//! A mistake, and what it says.
+
+ghost use Rattle.std.specs.Prelude.{IfSome};
+ghost use Rattle.subset_args.specs.Mistakes.{IsWrong};
+
+/// What is wrong with an argument, or with one of the values that it lists.
+#[derive(Clone, Copy, PartialEq, Eq, Debug)]
+pub enum Wrong {
+    /// IN is missing.
+    NoInput,
+    /// OUT is missing.
+    NoOutput,
+    /// INDEX is missing.
+    NoIndex,
+    /// GID is missing, and no option says which glyphs are requested.
+    NoGlyphs,
+    /// It is one argument too many.
+    Further,
+    /// It is one argument too many after `--axes IN INDEX` or `--info IN INDEX`.
+    BehindShown,
+    /// It is an option, and is behind IN.
+    Late,
+    /// It is `--axes` or `--info`, and isn't the first argument.
+    ShownLate,
+    /// It looks like an option, and is none.
+    Unknown,
+    /// It is an option that was given before.
+    Twice,
+    /// It is an option, and its value is missing.
+    NoValue,
+    /// It says which glyphs are requested, as one before does.
+    GlyphsTwice,
+    /// It is a GID, and an option says which glyphs are requested.
+    BesideOption,
+    /// It reads standard input, as IN does.
+    InputTwice,
+    /// INDEX isn't a number below 2^32.
+    Index,
+    /// The value of `--face-index` isn't a number below 2^32.
+    FaceIndex,
+    /// GID isn't a number below 2^16.
+    Glyph,
+    /// It isn't TOKENS,DEPTH[,BYTES].
+    Limits,
+    /// It isn't TAG=VALUE.
+    Coordinate,
+    /// It is no number and no range of glyphs.
+    Part,
+    /// It is a range of glyphs whose ends aren't in order.
+    Descends,
+    /// It is no number and no range of characters.
+    Codes,
+    /// It is a range of characters whose ends aren't in order.
+    CodesDescend,
+    /// It is a second argument beside IN, where an option says OUT or INDEX.
+    BesideInput,
+    /// No option says OUT.
+    NoOutputOption,
+    /// No option says which glyphs are requested.
+    NoSource,
+    /// The value of `--codes` is none of its words.
+    Coding,
+    /// The value of `--rights` isn't `held`.
+    Rights,
+    /// It is an option that says how a PDF is made, and there is no `--pdf`.
+    NoPdf,
+    /// It is the file of a PDF, and OUT.
+    OutputTwice,
+}
+
+/// A mistake in the arguments.
+#[derive(Clone, Copy, Debug)]
+pub struct Mistake<'a> {
+    /// What is wrong.
+    pub wrong: Wrong,
+    /// The argument, or one of the values that it lists. It is empty where one is missing.
+    pub word: &'a str,
+}
+
+/// A mistake in an argument.
+pub fn mistake_at(wrong: Wrong, word: &str) -> Option<Mistake<'_>>
+    requires { IsWrong wrong word.now }
+    ensures { IfSome result (λ m. IsWrong m.wrong m.word.now) }
+{
+    Some(Mistake { wrong, word })
+}

@@ -1,6 +1,0 @@
-use Rattle.std.proofs.Common.{◌≡◌, drop}
-use Rattle.subset_font.specs.Refusals.Hint.{first_past}
-use Rattle.subset_font.proofs.refusals.hint.first_past.Given as goal
-
-abbrev pub invariant-loop-glyph : goal.invariant-loop-glyph
-invariant-loop-glyph l = first_past l.count (drop l.glyph-index l.glyphs) ≡ first_past l.count l.glyphs

@@ -1,0 +1,241 @@
+//! What a run reports on standard error.
+
+ghost use Rattle.std.specs.Prelude.{◌≡◌};
+ghost use Rattle.subset_font.specs.Refusals.Failure.{status_of_end};
+ghost use Rattle.subset_font.specs.Report.{has_notes};
+
+use crate::faces::missing::missing_in;
+use crate::faces::named::instance_names;
+use crate::notes::{known_axes, notes_for};
+use crate::refusals::failure::{Failure, Report, file_of, status_of_run};
+use crate::refusals::hint::found::{find_axes_hint, find_hint, no_axes};
+use crate::refusals::hint::text::Hint;
+use crate::refusals::limit_hint::find_limit_hint;
+use crate::task::{Form, Plan, Task};
+use std::io;
+use subset_args::{
+    CODES_EXPECTED, FileKind, Glyphs, Job, ORDER_EXPECTED, PARTS_EXPECTED, Shown, Topic,
+    codes_descend, descends, find_wrong,
+};
+use subset_lines::note_lines;
+use subsetter::Error;
+
+/// Prints why a run failed, if it did, and answers the status.
+pub fn report<R: Eprint>(rt: &R, ended: &Result<(), Failure>, file: Option<&str>) -> u8
+    ensures { result ≡ status_of_end ended.now }
+{
+    if let Err(failure) = ended {
+        // Nobody could be told of a failure here, so the status alone tells.
+        let _ = eprintln!(rt; "{}", Report { failure, file });
+    }
+    status_of_run(ended)
+}
+
+/// Reports why the system refused to read or to write, where that is known.
+fn report_reason<R: Eprint>(rt: &R, reason: Option<io::Error>) {
+    if let Some(reason) = reason {
+        let _ = eprintln!(rt; "{reason}");
+    }
+}
+
+/// Says more of a font that is refused, where more can be seen.
+fn report_hint<R: Eprint>(rt: &R, hint: Option<Hint>) {
+    if let Some(hint) = hint {
+        let _ = eprintln!(rt; "{hint}");
+    }
+}
+
+/// Whether a part of a file's list is a range whose ends aren't in order.
+fn is_descending(kind: FileKind, part: &str) -> bool {
+    match kind {
+        FileKind::Glyphs => descends(part),
+        FileKind::Characters => codes_descend(part),
+        FileKind::Text => false,
+    }
+}
+
+/// Reports which part of a file's list is wrong, and what is expected.
+fn report_part<R: Eprint>(rt: &R, kind: FileKind, part: &[u8]) {
+    let part = str::from_utf8(part).unwrap_or("?");
+    let is_descending = is_descending(kind, part);
+    let part = Shown(part);
+    let _ = match kind {
+        FileKind::Glyphs if is_descending => {
+            let _ = eprintln!(rt; "--gids-file: the range \"{part}\" descends");
+            rt.eprintln(ORDER_EXPECTED)
+        }
+        FileKind::Characters if is_descending => {
+            let _ = eprintln!(rt; "--unicodes-file: the range \"{part}\" descends");
+            rt.eprintln(ORDER_EXPECTED)
+        }
+        FileKind::Glyphs => {
+            let _ = eprintln!(rt; "--gids-file: \"{part}\" is not a glyph number");
+            rt.eprintln(PARTS_EXPECTED)
+        }
+        FileKind::Characters => {
+            let _ = eprintln!(rt; "--unicodes-file: \"{part}\" is not a character number");
+            rt.eprintln(CODES_EXPECTED)
+        }
+        FileKind::Text => {
+            let _ = eprintln!(rt; "--text-file: the text is not UTF-8");
+            eprintln!(rt; "expected: a text in UTF-8")
+        }
+    };
+}
+
+/// Reports what is wrong in a file that lists glyphs, if that is why a run failed.
+fn report_list<R: Eprint>(rt: &R, ended: &Result<(), Failure>, glyphs: &Glyphs, text: &[u8]) {
+    if let (Err(Failure::List), Glyphs::InFile(kind, _)) = (ended, glyphs) {
+        if let Some(part) = find_wrong(*kind, text) {
+            report_part(rt, *kind, part);
+        }
+    }
+}
+
+/// Whether standard error has the notes already, in a JSON object.
+fn has_notes(form: Form, is_font_there: bool) -> bool
+    ensures { result ≡ has_notes form is_font_there }
+{
+    match form {
+        Form::Json => is_font_there,
+        Form::Lines => false,
+        Form::Silence => false,
+    }
+}
+
+/// Reports coordinates that the font doesn't have, with the axes that it has, and characters without a glyph. They are passed
+/// over where memory runs out.
+fn report_notes<R: Eprint + AllocGlobal>(rt: &R, font: &[u8], plan: &Plan<'_>) {
+    let Ok(axes) = known_axes(rt.alloc(), font, plan.task.index) else {
+        return;
+    };
+    let Ok(notes) = notes_for(rt.alloc(), &axes, plan.task.at) else {
+        return;
+    };
+    let Some(characters) = missing_in(rt.alloc(), font, plan.task.index, &plan.task.requested)
+    else {
+        return;
+    };
+    if let Ok(text) = note_lines(rt.alloc(), &axes, &notes, &characters) {
+        print_lines(rt, &text);
+    }
+}
+
+/// Prints lines on standard error.
+fn print_lines<R: Eprint>(rt: &R, text: &[u8]) {
+    if let Ok(text) = str::from_utf8(text) {
+        let _ = rt.eprint(text);
+    }
+}
+
+/// Reports the names of the named instances, where the one that is requested isn't there. They are passed over where memory
+/// runs out.
+fn report_names<R: Eprint + AllocGlobal>(rt: &R, font: &[u8], index: u32) {
+    if let Ok(text) = instance_names(rt.alloc(), font, index) {
+        print_lines(rt, &text);
+    }
+}
+
+/// The task of a plan with the widths, where they are printed, or a PDF has them.
+fn task_with_widths<'a>(plan: &Plan<'a>) -> Task<'a> {
+    let task = plan.task;
+    Task {
+        requested: task.requested,
+        index: task.index,
+        options: task.options,
+        widths: task.widths || plan.pdf.is_some(),
+        form: task.form,
+        at: task.at,
+    }
+}
+
+/// Reports more of a run that failed, as far as it can be seen in the font.
+fn report_more<R: Eprint + AllocGlobal>(rt: &R, failure: &Failure, font: &[u8], plan: &Plan<'_>) {
+    match find_hint(failure, font, &task_with_widths(plan)) {
+        Some(hint) => report_hint(rt, Some(hint)),
+        None => report_hint(rt, find_limit_hint(rt.alloc(), failure, font, plan)),
+    }
+    if let Failure::NoInstance = failure {
+        report_names(rt, font, plan.task.index);
+    }
+}
+
+/// Reports a run as `report` does, and why the system refused to read or to write, where that is known.
+pub fn report_refused<R: Eprint>(
+    rt: &R,
+    ended: &Result<(), Failure>,
+    file: Option<&str>,
+    reason: Option<io::Error>,
+) -> u8
+    ensures { result ≡ status_of_end ended.now }
+{
+    let status = report(rt, ended, file);
+    report_reason(rt, reason);
+    status
+}
+
+/// Reports a run whose file of glyphs can't be used, and what is wrong in it.
+pub fn report_unlisted<R: Eprint>(
+    rt: &R,
+    ended: &Result<(), Failure>,
+    job: &Job,
+    text: &[u8],
+    reason: Option<io::Error>,
+) -> u8
+    ensures { result ≡ status_of_end ended.now }
+{
+    let status = report_refused(rt, ended, file_of(ended, job), reason);
+    report_list(rt, ended, &job.glyphs, text);
+    status
+}
+
+/// Reports a run that made a subset, with notes on it, or one that made none, with more of why.
+pub fn report_made<R: Eprint + AllocGlobal>(
+    rt: &R,
+    ended: &Result<(), Failure>,
+    job: &Job,
+    plan: &Plan<'_>,
+    is_font_there: bool,
+    font: &[u8],
+    reason: Option<io::Error>,
+) -> u8
+    ensures { result ≡ status_of_end ended.now }
+{
+    let status = report_refused(rt, ended, file_of(ended, job), reason);
+    match ended {
+        Ok(()) if has_notes(plan.task.form, is_font_there) => {}
+        Ok(()) => report_notes(rt, font, plan),
+        Err(failure) => report_more(rt, failure, font, plan),
+    }
+    status
+}
+
+/// The name of the file of a face, if it can't be read.
+fn unread_file<'a>(ended: &Result<(), Failure>, input: &'a str) -> Option<&'a str> {
+    match ended {
+        Err(Failure::Read) => Some(input),
+        _ => None,
+    }
+}
+
+/// Reports a run that showed something of a face, and that it has no axes, or more of why nothing is shown.
+pub fn report_shown<R: Eprint>(
+    rt: &R,
+    ended: &Result<(), Failure>,
+    topic: Topic,
+    json: bool,
+    input: &str,
+    index: u32,
+    font: &[u8],
+    reason: Option<io::Error>,
+) -> u8
+    ensures { result ≡ status_of_end ended.now }
+{
+    let status = report_refused(rt, ended, unread_file(ended, input), reason);
+    match (ended, topic) {
+        (Err(failure), _) => report_hint(rt, find_axes_hint(failure, font, index)),
+        (Ok(()), Topic::Axes) if !json => report_hint(rt, no_axes(font, index)),
+        (Ok(()), _) => {}
+    }
+    status
+}

@@ -1,7 +1,0 @@
-use Rattle.std.proofs.Common.{drop, []}
-use Rattle.subset_lines.specs.Faces.Info.{table_objects}
-use Rattle.subset_lines.proofs.Written.{Reaches}
-use Rattle.subset_lines.proofs.faces.info.write_objects.Given as goal
-
-abbrev pub invariant-loop-table : goal.invariant-loop-table
-invariant-loop-table g l = Reaches (g.W.Write.contents l.fn.out) (g.W.Write.contents l.out) (table_objects l.before (drop l.table-index l.tables)) (table_objects [] l.tables)

@@ -1,0 +1,170 @@
+//! What a face is, as lines.
+
+ghost use Rattle.std.specs.Prelude.{OnOk, Some, map};
+ghost use Rattle.std.specs.Io.KnownBytes.{Appends};
+ghost use Rattle.std.specs.Option.{option_copied};
+ghost use Rattle.subset_lines.specs.Faces.Info.{line_behind, lines_behind, permission_lines, outlines_end, outlines_line, glyphs_line, counts_lines, if_any, refusal_lines, table_line, table_lines, head_lines, info_lines};
+
+use crate::entry::Unwritten;
+use crate::faces::axes::write_tag;
+use crate::faces::info::face::{Info, outlines_name, permission_words};
+use crate::plain::flush;
+use crate::text::write_text;
+use std::alloc::Global;
+use std::io::Write;
+use subsetter_base::Tag;
+
+/// Writes words as a line behind a text.
+#[tactic(auto, using(crate::proofs::Written::both))]
+fn write_line_behind<W: Write>(front: &[u8], word: &str, out: &mut W) -> Result<(), Unwritten>
+    ensures { OnOk result (Appends (W.contents out.old) (W.contents out.new) (line_behind front.now word.now)) }
+{
+    write_text(front, out)?;
+    write_text(word.as_bytes(), out)?;
+    write_text(b"\n", out)
+}
+
+/// Writes a line for each.
+#[tactic(auto, using(crate::proofs::Written::at_first, crate::proofs::Written::after_part, crate::proofs::Written::at_last))]
+fn write_lines_behind<W: Write>(front: &[u8], words: &[&str], out: &mut W) -> Result<(), Unwritten>
+    ensures { OnOk result (Appends (W.contents out.old) (W.contents out.new) (lines_behind front.now (map (λ w. w.now) words.now))) }
+{
+    for word in words {
+        write_line_behind(front, word, out)?;
+    }
+    Ok(())
+}
+
+/// Writes a line for each of the words of permission.
+fn write_permissions<W: Write>(words: &[&str], out: &mut W) -> Result<(), Unwritten>
+    ensures { OnOk result (Appends (W.contents out.old) (W.contents out.new) (permission_lines (map (λ w. w.now) words.now))) }
+{
+    write_lines_behind(b"permission ", words, out)
+}
+
+/// Writes the end of the line of the outlines.
+fn write_outlines_end<W: Write>(is_variable: bool, out: &mut W) -> Result<(), Unwritten>
+    ensures { OnOk result (Appends (W.contents out.old) (W.contents out.new) (outlines_end is_variable)) }
+{
+    if is_variable {
+        return write_text(b", variable\n", out);
+    }
+    write_text(b"\n", out)
+}
+
+/// Writes the line of the outlines.
+#[tactic(auto, using(crate::proofs::Written::both))]
+fn write_outlines<W: Write>(info: &Info<'_>, out: &mut W) -> Result<(), Unwritten>
+    ensures { OnOk result (Appends (W.contents out.old) (W.contents out.new) (outlines_line info.now)) }
+{
+    write_text(b"outlines ", out)?;
+    write_text(outlines_name(info.outlines), out)?;
+    write_outlines_end(info.is_variable, out)
+}
+
+/// Writes the line of the count of glyphs.
+fn write_glyphs<W: Write>(glyphs: Option<u16>, out: &mut W) -> Result<(), Unwritten>
+    ensures { OnOk result (Appends (W.contents out.old) (W.contents out.new) (glyphs_line glyphs)) }
+{
+    let Some(count) = glyphs else {
+        return write_text(b"glyphs not given\n", out);
+    };
+    if writeln!(out, "glyphs {count}").is_err() {
+        return Err(Unwritten);
+    }
+    Ok(())
+}
+
+/// Writes the lines of two numbers.
+fn write_counts<W: Write>(faces: u32, bytes: u64, out: &mut W) -> Result<(), Unwritten>
+    ensures { OnOk result (Appends (W.contents out.old) (W.contents out.new) (counts_lines faces bytes)) }
+{
+    if writeln!(out, "faces {faces}\nbytes {bytes}").is_err() {
+        return Err(Unwritten);
+    }
+    Ok(())
+}
+
+/// Writes a text as a line behind another, if there is one.
+#[tactic(auto, using(crate::proofs::Written::both))]
+fn write_if_any<W: Write>(front: &[u8], text: Option<&[u8]>, out: &mut W) -> Result<(), Unwritten>
+    ensures { OnOk result (Appends (W.contents out.old) (W.contents out.new) (if_any front.now (option_copied text.entry))) }
+{
+    let Some(text) = text else {
+        return Ok(());
+    };
+    write_text(front, out)?;
+    write_text(text, out)?;
+    write_text(b"\n", out)
+}
+
+/// Writes with which error `subset` refuses every glyph, and what is known of its cause.
+fn write_refused<W: Write>(text: &[u8], reason: Option<&[u8]>, out: &mut W) -> Result<(), Unwritten>
+    ensures { OnOk result (Appends (W.contents out.old) (W.contents out.new) (refusal_lines (Some text.now) (option_copied reason.entry))) }
+{
+    write_if_any(b"subset refuses: ", Some(text), out)?;
+    write_if_any(b"reason: ", reason, out)
+}
+
+/// Writes what `subset` answers for every glyph.
+fn write_refusal<W: Write>(
+    refusal: Option<&[u8]>,
+    reason: Option<&[u8]>,
+    out: &mut W,
+) -> Result<(), Unwritten>
+    ensures { OnOk result (Appends (W.contents out.old) (W.contents out.new) (refusal_lines (option_copied refusal.entry) (option_copied reason.entry))) }
+{
+    match refusal {
+        Some(text) => write_refused(text, reason, out),
+        None => write_text(b"subset accepts every glyph\n", out),
+    }
+}
+
+/// Writes the line of a table: `table glyf 46248`.
+#[tactic(auto, using(crate::proofs::Written::both))]
+fn write_table<W: Write>(tag: Tag, size: u32, out: &mut W) -> Result<(), Unwritten>
+    ensures { OnOk result (Appends (W.contents out.old) (W.contents out.new) (table_line tag size)) }
+{
+    write_text(b"table ", out)?;
+    write_tag(tag, out)?;
+    if writeln!(out, " {size}").is_err() {
+        return Err(Unwritten);
+    }
+    Ok(())
+}
+
+/// Writes a line for each table.
+#[tactic(auto, using(crate::proofs::Written::at_first, crate::proofs::Written::after_part, crate::proofs::Written::at_last))]
+fn write_tables<W: Write>(tables: &[(Tag, u32)], out: &mut W) -> Result<(), Unwritten>
+    ensures { OnOk result (Appends (W.contents out.old) (W.contents out.new) (table_lines tables.now)) }
+{
+    for table in tables {
+        write_table(table.0, table.1, out)?;
+    }
+    Ok(())
+}
+
+/// Writes the lines before those of the tables.
+#[tactic(auto, using(crate::proofs::Written::both))]
+fn write_head<W: Write>(info: &Info<'_>, words: &[&str], out: &mut W) -> Result<(), Unwritten>
+    ensures { OnOk result (Appends (W.contents out.old) (W.contents out.new) (head_lines info.now (map (λ w. w.now) words.now))) }
+{
+    write_outlines(info, out)?;
+    write_counts(info.faces, info.bytes, out)?;
+    write_glyphs(info.glyphs, out)?;
+    write_permissions(words, out)?;
+    write_refusal(info.refusal, info.reason, out)
+}
+
+/// Writes what a face is as lines of at most 60 columns. Then it passes on what the writer keeps back.
+#[tactic(auto, using(crate::proofs::Written::both, crate::proofs::Written::flushed))]
+pub fn write_info<W: Write>(alloc: Global, info: &Info<'_>, out: &mut W) -> Result<(), Unwritten>
+    ensures { OnOk result (Appends (W.contents out.old) (W.contents out.new) (info_lines info.now)) }
+{
+    let Ok(words) = permission_words(alloc, info.permission) else {
+        return Err(Unwritten);
+    };
+    write_head(info, &words, out)?;
+    write_tables(info.tables, out)?;
+    flush(out)
+}

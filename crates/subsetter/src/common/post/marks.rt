@@ -1,0 +1,238 @@
+//! The font's own names of `post` by their numbers.
+//!
+//! The names are one after another, so the offset of every eighth is kept in 32 bits, up to the greatest that is
+//! requested, and of every one where these are at most four for each kept glyph; past what 32 bits reach a name is found from
+//! the first on.
+
+ghost use Rattle.std.specs.Prelude.{◌≡◌, ◌≤◌, ◌<◌, ◌+◌, ◌*◌, ℕ, [], length, drop, get_or, IfOk, IfErr, IfSome};
+ghost use Rattle.subsetter_base.specs.declared.error.Error.TheVariants.{OutOfMemory};
+ghost use Rattle.subsetter.specs.Common.Post.Marks.{step_of};
+ghost use Rattle.subsetter.specs.Common.Post.Read.{names_in};
+
+use crate::common::post::read::Names;
+use std::alloc::Global;
+use std::marker::Model;
+use subsetter_base::Error;
+use subsetter_base::fields::byte_in;
+
+/// The place behind the name at a place; the end of the bytes where no name is there.
+#[tactic(auto, using(crate::proofs::CommonLaws::PostLaws::Marks::behind_first, crate::proofs::CommonLaws::PostLaws::Marks::behind_cut, crate::proofs::CommonLaws::PostLaws::Marks::behind_end))]
+fn behind_name(bytes: &[u8], at: usize) -> usize
+    requires { at ≤ length bytes.now }
+    ensures names { names_in (drop result bytes.now) ≡ drop 1 (names_in (drop at bytes.now)) }
+    ensures within { result ≤ length bytes.now }
+{
+    if at >= bytes.len() {
+        return at;
+    }
+    let end = at + 1 + usize::from(bytes[at]);
+    if end > bytes.len() {
+        return bytes.len();
+    }
+    end
+}
+
+/// The place behind so many names from a place on.
+fn pass(bytes: &[u8], start: usize, count: usize) -> usize
+    requires { start ≤ length bytes.now }
+    ensures names { names_in (drop result bytes.now) ≡ drop count (names_in (drop start bytes.now)) }
+    ensures within { result ≤ length bytes.now }
+{
+    let mut at = start;
+    for _ in 0..count {
+        at = behind_name(bytes, at);
+    }
+    at
+}
+
+/// How many bytes so many of eight names have, where the eight have this length, so that one look at each length byte finds it out.
+fn alike_len(bytes: &[u8], count: usize, len: u8) -> Option<usize>
+    requires { count ≤ 8 }
+    ensures names { IfSome result (λ n. names_in (drop n bytes.now) ≡ drop count (names_in bytes.now)) }
+    ensures within { IfSome result (λ n. n ≤ length bytes.now) }
+{
+    let step = usize::from(len) + 1;
+    if bytes.len() < 8 * step {
+        return None;
+    }
+    if bytes[0] == len
+        && bytes[step] == len
+        && bytes[2 * step] == len
+        && bytes[3 * step] == len
+        && bytes[4 * step] == len
+        && bytes[5 * step] == len
+        && bytes[6 * step] == len
+        && bytes[7 * step] == len
+    {
+        Some(count * step)
+    } else {
+        None
+    }
+}
+
+/// The length byte at a place, 0 behind the last one.
+fn length_byte(bytes: &[u8], at: usize) -> u8 {
+    match byte_in(Some(bytes), at) {
+        Some(len) => len,
+        None => 0,
+    }
+}
+
+/// The place behind so many names from a place on, found soon where eight names are alike.
+fn skip(bytes: &[u8], at: usize, count: usize) -> usize
+    requires { at ≤ length bytes.now }
+    ensures names { names_in (drop result bytes.now) ≡ drop count (names_in (drop at bytes.now)) }
+    ensures within { result ≤ length bytes.now }
+{
+    if count == 0 {
+        return at;
+    }
+    if count > 8 {
+        return pass(bytes, at, count);
+    }
+    match alike_len(&bytes[at..], count, length_byte(bytes, at)) {
+        Some(len) => at + len,
+        None => pass(bytes, at, count),
+    }
+}
+
+/// The place behind eight names from a place on, and a guess of the length of those that follow.
+///
+/// Names in a row often have one length. It is taken from the names before and not read here, so that the place of the
+/// next names waits for no byte.
+fn skip_eight(bytes: &[u8], at: usize, len: u8) -> (usize, u8)
+    requires { at ≤ length bytes.now }
+    ensures names { names_in (drop result.0 bytes.now) ≡ drop 8 (names_in (drop at bytes.now)) }
+    ensures within { result.0 ≤ length bytes.now }
+{
+    match alike_len(&bytes[at..], 8, len) {
+        Some(size) => (at + size, len),
+        None => {
+            let end = skip(bytes, at, 8);
+            (end, length_byte(bytes, end))
+        }
+    }
+}
+
+/// The place behind one name from a place on, or behind eight, and a guess of the length of those that follow.
+fn skip_step(bytes: &[u8], at: usize, len: u8, is_dense: bool) -> (usize, u8)
+    requires { at ≤ length bytes.now }
+    ensures names { names_in (drop result.0 bytes.now) ≡ drop (step_of is_dense) (names_in (drop at bytes.now)) }
+    ensures within { result.0 ≤ length bytes.now }
+{
+    if is_dense {
+        (behind_name(bytes, at), len)
+    } else {
+        skip_eight(bytes, at, len)
+    }
+}
+
+/// Which mark a name is found from, and how many names are passed over from there.
+fn mark_of(is_dense: bool, number: usize) -> (usize, usize)
+    ensures { step_of is_dense * result.0 + result.1 ≡ number }
+{
+    if is_dense {
+        (number, 0)
+    } else {
+        (number / 8, number % 8)
+    }
+}
+
+/// The bytes from a place on.
+fn from_offset(bytes: &[u8], at: usize) -> &[u8]
+    requires { at ≤ length bytes.now }
+    ensures { result.now ≡ drop at bytes.now }
+{
+    &bytes[at..]
+}
+
+/// The bytes from a name on, and how many names are to be passed over.
+#[derive(Clone, Copy)]
+struct Mark<'a> {
+    bytes: &'a [u8],
+    count: usize,
+}
+
+/// Names by their numbers. They stand one behind another, so the places of some are kept.
+#[derive(Drop)]
+pub(crate) struct NameList<'a> {
+    all: &'a [u8],
+    /// Where every name begins, or else every eighth, up to some number.
+    marks: Vec<u32>,
+    /// Whether there is a mark for every name.
+    is_dense: bool,
+}
+
+impl<'a> Model for NameList<'a> {
+    ghost use Rattle.std.specs.Prelude.{ℕ, List};
+    ghost use Rattle.subsetter.specs.Common.Post.Read.{names_in};
+    ghost use Rattle.subsetter.specs.Common.Post.Marks.{AreMarks, step_of};
+
+    ghost Value = { List (List ℕ) };
+
+    ghost view = { λ l. names_in l.all.now };
+
+    ghost invariant = { λ l. AreMarks (step_of l.is_dense) l.all.now (names_in l.all.now) l.marks.items };
+}
+
+impl<'a> NameList<'a> {
+    /// The names of some bytes, of which those below a number are found soon.
+    pub(crate) fn new(
+        alloc: Global,
+        all: &'a [u8],
+        limit: usize,
+        is_dense: bool,
+    ) -> Result<Self, Error>
+        ensures ok { IfOk result (λ list. list ≡ names_in all.now) }
+        ensures err { IfErr result (λ e. e ≡ OutOfMemory) }
+    {
+        let count = if is_dense { limit } else { limit / 8 }.saturating_add(1);
+        let mut marks = Vec::with_capacity(alloc, count)?;
+        let mut at: usize = 0;
+        let mut len = length_byte(all, 0);
+        for _ in 0..count {
+            if at > 0xffff_ffff {
+                break;
+            }
+            marks.push(at as u32)?;
+            let (next, next_len) = skip_step(all, at, len, is_dense);
+            at = next;
+            len = next_len;
+        }
+        Ok(Self {
+            all,
+            marks,
+            is_dense,
+        })
+    }
+
+    /// The mark from which the name with a number is found.
+    fn from_mark(&self, number: usize) -> Mark<'a>
+        ensures { drop result.count (names_in result.bytes.now) ≡ drop number self.now }
+    {
+        let (place, count) = mark_of(self.is_dense, number);
+        match self.marks.get(place) {
+            Some(mark) => Mark {
+                bytes: from_offset(self.all, *mark as usize),
+                count,
+            },
+            None => Mark {
+                bytes: self.all,
+                count: number,
+            },
+        }
+    }
+
+    /// The name with a number, an empty one where none is there.
+    pub(crate) fn name(&self, number: usize) -> &'a [u8]
+        ensures { result.now ≡ get_or self.now number [] }
+    {
+        let Mark { bytes, count } = self.from_mark(number);
+        let at = skip(bytes, 0, count);
+        let mut names = Names::new(&bytes[at..]);
+        match names.next() {
+            Some(name) => name,
+            None => &[],
+        }
+    }
+}

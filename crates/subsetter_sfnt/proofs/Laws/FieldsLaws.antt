@@ -1,0 +1,4 @@
+-- Tables that are written from their fields.
+pub mod HeadLaws
+pub mod HheaLaws
+pub mod HmtxLaws

@@ -1,5 +1,0 @@
-use Rattle.subsetter_variation.proofs.GlyphsLaws.Lying.{lies_between}
-use Rattle.subsetter_variation.proofs.laws.lies_between.Goals as goal
-
-pub returns : goal.returns
-returns c = lies_between

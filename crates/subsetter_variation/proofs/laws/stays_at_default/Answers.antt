@@ -1,5 +1,0 @@
-use Rattle.subsetter_variation.proofs.Defaults.{stays_at_default}
-use Rattle.subsetter_variation.proofs.laws.stays_at_default.Goals as goal
-
-pub returns : goal.returns
-returns c = stays_at_default

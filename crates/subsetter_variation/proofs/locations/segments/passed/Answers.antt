@@ -1,8 +1,0 @@
-use Rattle.std.proofs.Common.{arith}
-use Rattle.std.proofs.lemmas.Int.{to_z-of_z}
-use Rattle.subsetter_variation.specs.Locations.Segments.{passed}
-use Rattle.subsetter_variation.proofs.locations.segments.passed.Goals as goal
-
-pub returns-clause-value : goal.returns-clause-value
-unfolding passed
-returns-clause-value c = grind (arith, to_z-of_z)

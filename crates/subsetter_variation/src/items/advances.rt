@@ -1,0 +1,128 @@
+//! The advances of `HVAR`, and the maps that lead from a glyph to its item (OpenType, "HVAR" and "Associating Target Items
+//! to Variation Data").
+//!
+//! A map of indexes without entries has no reading (FreeType and HarfBuzz take 0 there). The version of `HVAR` isn't
+//! looked at.
+
+ghost use Rattle.std.specs.Prelude.{[], ◌≡◌, ◌+◌, ◌*◌, ◌<◌, ◌≤◌, ◌^◌, Some, IfSome};
+ghost use Rattle.std.specs.Option.{ok_or};
+ghost use Rattle.subsetter_base.specs.declared.error.Error.TheVariants.{MalformedFont};
+ghost use Rattle.subsetter_variation.specs.Items.ItemVariations.{nullable_offset, item_store, item_delta, in_whole_units, whole_or_fault};
+ghost use Rattle.subsetter_variation.specs.Items.Advances.{map_head, split_index, mapped_index, advance_index, store_of, advance_delta, entry_index};
+
+use crate::items::item_variations::{
+    Store, in_whole_units, item_delta, item_store, nullable_offset,
+};
+use subsetter_base::Error;
+use subsetter_base::numbers::number_of;
+use subsetter_base::read::{Reader, from_offset};
+
+/// itemVariationStoreOffset of `HVAR`, four bytes.
+const ITEM_VARIATION_STORE_OFFSET: usize = 4;
+/// advanceWidthMappingOffset of `HVAR`, four bytes.
+const ADVANCE_WIDTH_MAPPING_OFFSET: usize = 8;
+
+/// entryFormat of a map, one byte, behind format.
+const ENTRY_FORMAT: usize = 1;
+/// mapCount, two bytes in format 0, and four in format 1.
+const MAP_COUNT: usize = 2;
+/// mapData in format 0, and in format 1.
+const MAP_DATA_0: usize = 4;
+
+const MAP_DATA_1: usize = 6;
+
+/// How many entries a map of indexes has, and where they stand.
+fn map_head(map: &[u8]) -> Option<(u32, usize)>
+    ensures value { result ≡ map_head map.now }
+    ensures offset { IfSome result (λ h. h.1 ≤ 6) }
+{
+    match Reader::new(map).read::<u8>()? {
+        0 => Some((
+            u32::from(Reader::new_at(map, MAP_COUNT).read::<u16>()?),
+            MAP_DATA_0,
+        )),
+        1 => Some((Reader::new_at(map, MAP_COUNT).read::<u32>()?, MAP_DATA_1)),
+        _ => None,
+    }
+}
+
+/// An entry's outer and inner index.
+fn split_index(bits: u8, entry: u32) -> (u32, u32)
+    requires { bits ≤ 16 }
+    ensures { result ≡ split_index bits entry }
+{
+    (entry >> bits, entry % (1 << bits))
+}
+
+/// The entry of a glyph, past the end the last one.
+fn entry_index(count: u32, glyph: u16) -> u32
+    requires { 0 < count }
+    ensures value { result ≡ entry_index count glyph }
+    ensures bound { result < 65536 }
+{
+    if u32::from(glyph) < count {
+        u32::from(glyph)
+    } else {
+        count - 1
+    }
+}
+
+/// The indexes of a glyph by a map, past the end the last ones.
+#[tactic(auto, unfolding(crate::specs::Items::Advances::mapped_index))]
+fn mapped_index(map: &[u8], glyph: u16) -> Option<(u32, u32)>
+    ensures { result ≡ mapped_index map.now glyph }
+{
+    let (count, from) = map_head(map)?;
+    let form = Reader::new_at(map, ENTRY_FORMAT).read::<u8>()?;
+    if count == 0 {
+        return None;
+    }
+    let size = (form / 16 % 4 + 1) as usize;
+    let place = entry_index(count, glyph);
+    let bytes = Reader::new_at(map, from + place as usize * size).read_bytes(size)?;
+    Some(split_index(form % 16 + 1, number_of(bytes)))
+}
+
+/// The indexes of a glyph's advance.
+#[tactic(auto, unfolding(crate::specs::Items::Advances::advance_index))]
+fn advance_index(hvar: &[u8], glyph: u16) -> Option<(u32, u32)>
+    ensures { result ≡ advance_index hvar.now glyph }
+{
+    let at = Reader::new_at(hvar, ADVANCE_WIDTH_MAPPING_OFFSET).read::<u32>()?;
+    if at == 0 {
+        return Some((0, u32::from(glyph)));
+    }
+    mapped_index(from_offset(hvar, at as usize)?, glyph)
+}
+
+/// The store of `HVAR`, if its regions have as many axes as the font.
+#[tactic(auto, unfolding(crate::specs::Items::Advances::store_of))]
+fn store_of(hvar: &[u8], axis_count: usize) -> Option<Store<'_>>
+    ensures { result ≡ store_of hvar.now axis_count }
+{
+    let at = nullable_offset(hvar, ITEM_VARIATION_STORE_OFFSET)?;
+    let s = item_store(from_offset(hvar, at as usize)?)?;
+    if s.axis_count() as usize == axis_count {
+        Some(s)
+    } else {
+        None
+    }
+}
+
+/// What the advance of a glyph varies by at a place, in parts of 2^30.
+#[tactic(auto, unfolding(crate::specs::Items::Advances::advance_delta))]
+fn varied_advance(hvar: &[u8], at: &[i32], glyph: u16) -> Option<i128>
+    ensures { result ≡ advance_delta hvar.now at.now glyph }
+{
+    let s = store_of(hvar, at.len())?;
+    let (outer, inner) = advance_index(hvar, glyph)?;
+    item_delta(&s, at, outer, inner)
+}
+
+/// What the advance of a glyph varies by at a location, in whole units. A table that is cut, or has no item for the glyph, is
+/// `MalformedFont`, 2^32 units or more `OverflowError`.
+pub fn advance_delta(hvar: &[u8], at: &[i32], glyph: u16) -> Result<i64, Error>
+    ensures { result ≡ whole_or_fault (advance_delta hvar.now at.now glyph) }
+{
+    in_whole_units(varied_advance(hvar, at, glyph).ok_or(Error::MalformedFont)?)
+}
