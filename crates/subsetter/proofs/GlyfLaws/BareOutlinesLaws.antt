@@ -1,6 +1,6 @@
 -- Outlines without their instructions.
 pub mod Bare
-pub mod BareRows
+mod BareRows
 pub mod Counted
 pub mod Counts
 pub mod NoInstructions
