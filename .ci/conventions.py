@@ -5,11 +5,12 @@
 - a crate stands on crates of its own layer or of one below it (.ci/conventions/layers.txt);
 - a record or a field of a table is read by one module (.ci/conventions/tables.txt);
 - no definition and no function stands twice (`compare/contracts.py --twins`), nor once for x and once for y, or for width and height;
+- no number without a name is an offset or a size of a read or a slice, but in a record that is read in order, and none is hexadecimal;
 - each public function, but of the developers' crates, has an `ensures`, or docs/GUARANTEES.md lists it with the test in its place.
 
 .ci/conventions/exceptions.txt lists what isn't so yet, each kind with its number, which may only fall: a new fault fails the
 check, and so does an exception that isn't needed. `--list` prints all that isn't so; `--shrink` takes from the exceptions those
-that aren't needed, and adds none. A file over 400 lines may stay for a reason, which stands behind a `|`."""
+that aren't needed, and adds none. A file over 400 lines and a number without a name may stay for a reason, which stands behind a `|`."""
 import argparse
 import os
 import re
@@ -24,8 +25,21 @@ import twins  # noqa: E402
 from rattle_text import Trouble  # noqa: E402
 
 FILES, LINES, FOLDER = 12, 400, ".ci/conventions"
-KINDS = ("folder", "file", "layer", "reader", "definition", "function")
+KINDS = ("folder", "file", "layer", "reader", "definition", "function", "number")
 COMMENTS = re.compile(r"//[^\n]*")
+CLAUSE = re.compile(r"^ *(?:requires|ensures|ghost)\b.*$", re.M)
+CONSTANT = re.compile(r"^ *(?:pub(?:\([a-z]+\))? )?(?:const|static) \w+:[^;]*(?:;[^;=]*)?= [^;]*;", re.M)
+QUOTED = re.compile(r"b?\"(?:\\.|[^\"\\])*\"|b?'(?:\\.|[^'\\])'")
+# Reads at an offset, but for a field of a record that is read in order: `length: u16_at(bytes, 8)`; and the greatest number that needs no name.
+READS = (
+    (re.compile(r"(?<!: )(?<!fn )\b(?:new_at|nullable_offset|\w*(?:number|signed|u16|u32|byte|word)_(?:at|in))\((?:[^()]|\([^()]*\))*\)"), 1),
+    (re.compile(r"\b(?:read|skip)_bytes\((?:[^()]|\([^()]*\))*\)"), 4),
+    (re.compile(r"\[\d*\.\.\d*\]"), 3),
+)
+# What lies behind a field that has a name, as `ARGUMENTS + 2`, and how many bytes each of several has, as `2 * index`, need none.
+NAMED = re.compile(r"\b[A-Z][A-Z\d_]+\b")
+NUMBER = re.compile(r"(?<![\w.])(?<!\* )\d+\b(?! \*)")
+HEXADECIMAL = re.compile(r"\b0x[\dA-Fa-f_]*[2-9A-Fa-f][\dA-Fa-f_]*")
 TOOLS = "developers"
 DOCUMENT, SECTION = "docs/GUARANTEES.md", "Public functions without a contract"
 
@@ -126,6 +140,28 @@ def doubles(tree):
     return found
 
 
+def bare_numbers(text):
+    """The reads and slices at a number without a name, and hexadecimal numbers that are no power of two, of a source."""
+    for pattern in (COMMENTS, CLAUSE, QUOTED, CONSTANT):
+        text = pattern.sub('""' if pattern is QUOTED else "", text)
+    for pattern, most in READS:
+        for read in pattern.findall(text):
+            if not NAMED.search(read) and any(int(it) > most for it in NUMBER.findall(read.replace("..", " .. "))):
+                yield " ".join(read.split())
+    yield from HEXADECIMAL.findall(text)
+
+
+def numbers(root, listed):
+    """The product's sources with numbers that have no name."""
+    tools, found = {crate for name, crates in crates_by_layer(root) if name == TOOLS for crate in crates}, {}
+    for place, files in listed:
+        for path in (f"{place}/{it}" for it in files if it.endswith(".rt") and place.split("/")[1] not in tools):
+            bare = [] if "tests" in re.split(r"[/._]", path) else sorted(set(bare_numbers(rattle_tree.read(os.path.join(root, path)))))
+            if bare:
+                found[f"number {path}"] = ", ".join(f"`{it}`" for it in bare)
+    return found
+
+
 def without_ensures(root, tree):
     """The public functions of which no clause says what they answer. A method of an instance has its trait's clauses."""
     tools = {crate for name, crates in crates_by_layer(root) if name == TOOLS for crate in crates}
@@ -169,7 +205,7 @@ def faults(root):
     if not any(files for _, files in listed):
         raise Trouble(f"{root} has no sources")
     tree = rattle_tree.Tree(root)
-    return {**heaps(listed), **long_files(root, listed), **layers(root), **readers(root, listed), **doubles(tree), **contracts(root, tree)}
+    return {**heaps(listed), **long_files(root, listed), **layers(root), **readers(root, listed), **doubles(tree), **numbers(root, listed), **contracts(root, tree)}
 
 
 class Exceptions:
@@ -197,7 +233,7 @@ class Exceptions:
         for kind in KINDS:
             if self.count(kind) != self.most.get(kind):
                 found.append(f"exceptions.txt: it has {self.count(kind)} of {kind}, and says that there are at most {self.most.get(kind)}; the number may only fall")
-        return found + [f"{it}: an exception without its reason" for it, reason in self.reasons.items() if it.startswith("file ") and not reason]
+        return found + [f"{it}: an exception without its reason" for it, reason in self.reasons.items() if it.startswith(("file ", "number ")) and not reason]
 
     def shrink(self, needed):
         """Writes the list without what isn't needed."""

@@ -54,6 +54,7 @@ GREATEST = "fn greatest_{0}(points: &[Point]) -> i16 {{\n    let mut {0} = point
 WIDEST = "fn {0}_of(boxes: &[Page]) -> u16 {{\n    let mut {0} = boxes[0].{0};\n    for page in boxes {{\n        {0} = {0}.max(page.{0} + page.{0}_unit);\n    }}\n    {0}\n}}\n"
 COLUMN = add("crates/low/src/read.rt", GREATEST.format("x") + GREATEST.format("y"))
 READER = add("crates/high/src/lib.rt", "fn units(head: &[u8]) -> Option<u16> {\n    Reader::new_at(head, 18).read::<u16>()\n}\n")
+NUMBER = "fn count(hhea: &[u8]) -> Option<u16> {\n    Reader::new_at(hhea, 34).read::<u16>()\n}\n"
 LIST = "# Guarantees\n\n### Public functions without a contract\n\n| Function | Its request | Tests |\n|---|---|---|\n"
 BARE = add("crates/low/src/read.rt", "\npub fn opened(name: &str) -> bool {\n    name.is_empty()\n}\n")
 CHECKS = add("tests/files.py", "def check_files():\n    pass\n")
@@ -84,7 +85,7 @@ PLANTS = [
     ("a library of the kit", at("crates.txt", "high: low", "high: low thiserror"), 0, "0 faults"),
     ("a second reader", READER, 1, "reader crates/high/src/lib.rt of head.unitsPerEm: it belongs to crates/low/src/head.rt"),
     ("a reader in a comment", add("crates/high/src/lib.rt", "// Reader::new_at(head, 18)\n"), 0, "0 faults"),
-    ("the one reader", add("crates/low/src/head.rt", "fn units(head: &[u8]) -> Option<u16> {\n    Reader::new_at(head, 18).read::<u16>()\n}\n"), 0, "0 faults"),
+    ("the one reader", both(add("crates/low/src/head.rt", "fn units(head: &[u8]) -> Option<u16> {\n    Reader::new_at(head, 18).read::<u16>()\n}\n"), excepted("number crates/low/src/head.rt | one field")), 0, "1 number"),
     ("a definition that stands twice", TWIN, 1, "definition high.specs.Own.many = low.specs.Bytes.scaled"),
     ("one that is excepted", both(TWIN, excepted("definition high.specs.Own.many = low.specs.Bytes.scaled")), 0, "1 definition"),
     ("a third one beside two that are excepted", both(TWIN, excepted("definition high.specs.Own.many = low.specs.Bytes.scaled"),
@@ -99,6 +100,23 @@ PLANTS = [
     ("a number that is too high", at(EXCEPTIONS, "at most 0 of file", "at most 1 of file"), 1, "the number may only fall"),
     ("an exception without its number", both(READER, add(EXCEPTIONS, "reader crates/high/src/lib.rt of head.unitsPerEm\n")), 1, "the number may only fall"),
     ("an exception of no kind", add(EXCEPTIONS, "house crates/low\n"), 1, "has no such kind"),
+    ("a read at a number", add("crates/high/src/lib.rt", NUMBER), 1, "number crates/high/src/lib.rt: `new_at(hhea, 34)`"),
+    ("the same for a reason", both(add("crates/high/src/lib.rt", NUMBER), excepted("number crates/high/src/lib.rt | one field")), 0, "1 number"),
+    ("the same without a reason", both(add("crates/high/src/lib.rt", NUMBER), excepted("number crates/high/src/lib.rt")), 1, "without its reason"),
+    ("a read at a constant", add("crates/high/src/lib.rt", "const COUNT: usize = 34;\n" + NUMBER.replace("34", "COUNT")), 0, "0 faults"),
+    ("a read behind a constant", add("crates/high/src/lib.rt", "const COUNT: usize = 34;\n" + NUMBER.replace("34", "COUNT + 2")), 0, "0 faults"),
+    ("a read at a sum with a number", add("crates/high/src/lib.rt", NUMBER.replace("34", "at + 2")), 1, "`new_at(hhea, at + 2)`"),
+    ("a read at an index of two bytes each", add("crates/high/src/lib.rt", NUMBER.replace("34", "2 * index")), 0, "0 faults"),
+    ("a read at a number in a comment", add("crates/high/src/lib.rt", "// new_at(hhea, 34)\n"), 0, "0 faults"),
+    ("a read at a number in a clause", add("crates/high/src/lib.rt", NUMBER.replace(" {\n", "\n    requires { 34 ≤ new_at(hhea, 34) }\n{\n", 1).replace("hhea, 34).read", "hhea, COUNT).read")), 0, "0 faults"),
+    ("a record that is read in order", add("crates/high/src/lib.rt", "fn pair(b: &[u8]) -> Pair {\n    Pair {\n        first: u16_at(b, 0),\n        second: u16_at(b, 2),\n    }\n}\n"), 0, "0 faults"),
+    ("a field by its place", add("crates/high/src/lib.rt", "fn second(b: &[u8]) -> u16 {\n    u16_at(b, 2)\n}\n"), 1, "`u16_at(b, 2)`"),
+    ("a size by a number", add("crates/high/src/lib.rt", "fn twelve(r: &mut Reader<'_>) -> Option<&[u8]> {\n    r.read_bytes(12)\n}\n"), 1, "`read_bytes(12)`"),
+    ("a slice by a number", add("crates/high/src/lib.rt", "fn body(b: &[u8]) -> &[u8] {\n    &b[10..]\n}\n"), 1, "`[10..]`"),
+    ("a flag", add("crates/high/src/lib.rt", "fn more(flags: u16) -> bool {\n    flags & 0x0020 != 0\n}\n"), 1, "`0x0020`"),
+    ("a flag by its constant", add("crates/high/src/lib.rt", "/// Another follows.\npub(crate) const MORE: u16 = 0x0020;\n\nfn more(flags: u16) -> bool {\n    flags & MORE != 0\n}\n"), 0, "0 faults"),
+    ("a power of 256", add("crates/high/src/lib.rt", "fn weight() -> u32 {\n    0x0100_0000\n}\n"), 0, "0 faults"),
+    ("a number of a developers' crate", both(add("crates/low/src/read.rt", NUMBER), at(".ci/conventions/layers.txt", "bytes: low\nfonts: high", "developers: low high")), 0, "0 faults"),
     ("a public function without a contract", BARE, 1, "contract low.read.opened: it has no `ensures`"),
     ("one with a `requires` alone", add("crates/low/src/read.rt", "\npub fn opened(size: usize) -> usize\n    requires { size < 2 }\n{\n    size\n}\n"), 1, "contract low.read.opened: it has no"),
     ("a method without one", at("crates/low/src/shapes.rt", "    pub fn width(&self) -> u8\n        ensures { result ≡ self.now }\n    {", "    pub fn width(&self) -> u8 {"), 1, "contract low.shapes.Strip.width"),
@@ -141,7 +159,7 @@ def asked(root, *options):
 
 def shrinks(root):
     """Whether --shrink takes out what isn't needed, keeps what is, and adds nothing."""
-    needed = both(READER, excepted("reader crates/high/src/lib.rt of head.unitsPerEm"), excepted("folder crates/low/specs"), FUNCTIONS)
+    needed = both(READER, excepted("reader crates/high/src/lib.rt of head.unitsPerEm"), excepted("number crates/high/src/lib.rt | one field"), excepted("folder crates/low/specs"), FUNCTIONS)
     outcome(root, needed, "--shrink")
     status, printed = asked(root)
     return status == 1 and "function high.two = low.read.one" in printed and printed.count("\n") == 2

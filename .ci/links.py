@@ -2,7 +2,7 @@
 """Checks that what the documents name is there:
 
 - links: files, folders, and the sections behind `#`, in the same document or another;
-- paths in code marks, and the modules, definitions and laws of the tables in docs/MODULES.md;
+- paths in code marks (`src/..`, `specs/..` and `proofs/..` in some crate or binding), and the modules, definitions and laws of the tables in docs/MODULES.md;
 - in blocks of code: folders that are entered, scripts that are run, their options, and those of `subset_font` (by its help);
 - targets of `make`, in blocks and in code marks;
 - options in code marks: those of `subset_font` in docs/CLI.md, elsewhere ones that some program here has.
@@ -101,12 +101,14 @@ def paths(document, text):
             ask(document, path, os.path.join("crates", path), os.path.join("crates", path) + ".rt", os.path.join("crates", path) + ".antt")
         elif os.path.isdir(os.path.join(ROOT, top)):
             ask(document, path, path)
+        elif top in ("src", "specs", "proofs"):
+            ask(document, path, below(document, path), *(f"{folder}/*/{path}{end}" for folder in ("crates", "bindings") for end in ("", ".rt", ".antt")))
 
 
 def rows_of_sections(text):
     """The cells of the tables, with the crate and the folders that the tables of MODULES name for them."""
-    for section in re.split(r"^## ", text, flags=re.M)[1:]:
-        crate = (re.match(r"Where is what in `(crates/\w+)`", section) or [None, None])[1]
+    for section in re.split(r"^###? ", text, flags=re.M)[1:]:
+        crate = (re.match(r"(?:Where is what in )?`(crates/\w+)`", section) or [None, None])[1]
         folders = []
         for line in section.split("\n"):
             cells = [it.strip() for it in line.strip("|").split("|")]

@@ -25,6 +25,7 @@ PLANTS = [
     ("a second heading that isn't there", "docs/WALK.md", None, "\n## Twice\n\n## Twice\n\n[it](#twice-1) [it](#twice-2)\n", r"no section #twice-2"),
     ("a path in code", "docs/DECISIONS.md", None, "\n`compare/gone.c`\n", r"compare/gone\.c isn't there"),
     ("a path of a crate in code", "docs/DECISIONS.md", None, "\n`subsetter/src/gone.rt`\n", r"subsetter/src/gone\.rt isn't there"),
+    ("a path in some crate", "docs/GUARANTEES.md", None, "\n`specs/Gone.antt`\n", r"GUARANTEES\.md: specs/Gone\.antt isn't there"),
     ("a path whose name has what isn't looked at in it", "docs/DECISIONS.md", None, "\n`compare/layout.py`\n", r"compare/layout\.py isn't there"),
     ("the second name of a row", "docs/MODULES.md", "`parse`, `face`, `flavor`", "`parse`, `facet`, `flavor`", r"subsetter_sfnt/src/facet isn't there"),
     ("a target of make in code", "docs/PACKAGES.md", None, "\n`make nothing`\n", r"make has no target nothing"),

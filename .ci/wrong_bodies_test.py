@@ -1,6 +1,6 @@
 #!/usr/bin/env python3
 """Tests compare/wrong_bodies.py on a small repository, with a program in the place of `rt` that answers as it is told and notes what it
-tried. Then it plants bugs in the script, one at a time: each has to fail one of these tests."""
+tried. Then it plants bugs in the script and in compare/lib/wrong_body.py, one at a time: each has to fail one of these tests."""
 import json
 import os
 import shutil
@@ -9,30 +9,80 @@ import sys
 import tempfile
 
 ROOT = os.path.dirname(os.path.dirname(os.path.realpath(__file__)))
-SCRIPT = "compare/wrong_bodies.py"
+SCRIPT, JUDGE = "compare/wrong_bodies.py", "compare/lib/wrong_body.py"
+OTHERS = [f"compare/lib/{it}.py" for it in ("rattle_code", "rattle_text", "rattle_antt", "build", "results_of", "comparisons", "repository")]
 GOOD = "refused, as it must be: src/lib.rt:1:1: error: top::f: not proved"
 WEAK = "refused, as it must be (only because a proof file names what the edit took away, so this says little): proofs/A.antt:1:1: error"
+IN_PROOF = "refused, as it must be: ./proofs/a/f/Answers.antt:3:1: error: `returns`: not this type"
 LATE = "refused, as it must be (only by a limit of the prover, which gave no verdict): src/lib.rt:1:1: error"
 SURVIVES = "NOT REFUSED: the crate is still proved with this edit"
 BAD = "BAD EDIT: an 'old:' text is in src/lib.rt 0 times, and not once"
 NOT_TRIED = "NOT TRIED: its check was killed, most likely for memory"
 UNPROVED = "rt: top: the check that its must-fail edits begin with did not end well, most likely for memory, so each was tried from nothing"
 NAMES = [f"e{it:02}" for it in range(10)]
+# What a check of one function prints where a goal of the code is open.
+NOTE = "note: src/a.rt:7:5: it is not proved that what the function ensures holds when it returns (`returns-clause-one`); `search` gave up\n"
+LOST = "fn top::a::f: no proof: expected answers in ./proofs/a/f/Answers.antt; `search` did not prove `returns-clause-one`\n"
+END = "crate top: modules loaded=9 checked=2\nonly=2 proved=1\nrt: rt lemma WORD.. finds a lemma\n"
+OPEN = [1, NOTE + LOST + "fn top::a::g: proved\n" + END]
+PROVES = [0, "fn top::a::f: proved\nfn top::a::g: proved\nonly=2 proved=2\n"]
+CODE = """pub fn f(x: u8) -> u8
+ensures {
+    result ≡ x
+}
+{
+    let one = 1;
+    x * one
+}
 
-# What stands in the place of rt. answers.json has the kit, the status of `rt check`, what is said of an edit, a line that comes first,
-# and the group of edits at which the caller is killed.
+pub struct Box {
+    pub side: u8,
+}
+
+impl Box {
+    fn g(&self) -> u8 {
+        self.side
+    }
+}
+"""
+
+# What stands in the place of rt. answers.json has the kit, the status of `rt check`, what `rt check --only` answers, what is said of an
+# edit, a line that comes first, the group of edits at which the caller is killed, and a file that `rt check` writes.
 RT = f"#!{sys.executable} -SE\n" + """import json, os, signal, sys
 room = os.environ["TOLD"]
 told = json.load(open(f"{room}/answers.json"))
+def note(crate, words):
+    with open(f"{room}/tried", "a") as file:
+        file.write("".join(f"{crate}/{it}\\n" for it in words))
+def code(folder):
+    return open(f"{folder}/src/a.rt").read()
+def kept(folder, text=None):
+    if text is None:
+        return open(f"{folder}/out/incremental/f.oantt").read()
+    os.makedirs(f"{folder}/out/incremental", exist_ok=True)
+    open(f"{folder}/out/incremental/new", "w").write(text)
+    os.replace(f"{folder}/out/incremental/new", f"{folder}/out/incremental/f.oantt")
 if sys.argv[1] == "version":
     print(told.get("kit", "kit 1"))
+elif sys.argv[1] == "check" and "--only" in sys.argv:
+    note("top", ["only=" + it for at, it in enumerate(sys.argv) if sys.argv[at - 1] == "--only"])
+    if code(".") == code(f"{room}/crates/top") or kept(".") != "whole":
+        note("top", ["wrong"])
+    kept(".", "of an edit")
+    print(told["only"][1], end="")
+    sys.exit(told["only"][0])
 elif sys.argv[1] == "check":
+    kept(".", "whole")
+    print("checked top::a::f, 1 of 2\\nfn top::a::f: proved\\nfn top::a::Box::g: proved\\nlogic=proved functions=2")
+    if told.get("writes"):
+        open(f"{room}/{told['writes']}", "a").write("more")
     sys.exit(told.get("check", 0))
 else:
     crate = sys.argv[2]
     names = sorted(os.listdir(f"crates/{crate}/must-fail"))
-    with open(f"{room}/tried", "a") as file:
-        file.write("".join(f"{crate}/{it}\\n" for it in names))
+    note(crate, names)
+    if code(f"crates/{crate}") != code(f"{room}/crates/{crate}") or kept(f"crates/{crate}") != "whole" or os.environ.get("RT_JOBS") != "1":
+        note(crate, ["wrong"])
     if told.get("kills") in [it.split(".")[0] for it in names]:
         os.kill(os.getppid(), signal.SIGKILL)
     print(told.get("first", "rt: nothing"))
@@ -45,17 +95,19 @@ else:
 class Room:
     """A repository of three crates, of which `top` stands on `low`, and has ten edits."""
 
-    def __init__(self, folder, script):
+    def __init__(self, folder, texts):
         self.folder = folder
         self.write("HANDLES", "Handles allowed: none.\n")
         self.write("crates.txt", "low:\ntop: low\nother:\n")
         for crate in ("low", "top", "other"):
             for part in ("src/lib.rt", "specs/Lib.antt", "proofs/f/Answers.antt", "data/font"):
                 self.write(f"crates/{crate}/{part}", f"{crate} {part}\n")
+            self.write(f"crates/{crate}/src/a.rt", CODE)
             self.write(f"crates/{crate}/must-fail/of_the_gate.edit", "file: src/lib.rt\n")
         for name in NAMES:
             self.write(f"compare/wrong_bodies/top/{name}.edit", f"file: src/lib.rt\nold: top\nnew: {name}\n")
-        self.write(SCRIPT, script)
+        for path, text in texts.items():
+            self.write(path, text)
         self.write("bin/rt", RT)
         os.chmod(os.path.join(folder, "bin/rt"), 0o755)
 
@@ -66,18 +118,21 @@ class Room:
             file.write(text)
 
     def run(self, *words, **answers):
-        """The status of the script, the last line that it prints, and the edits that it had rt try."""
+        """The status of the script, the line with its counts, and what it had rt try."""
         self.write("answers.json", json.dumps({"all": GOOD, **answers}))
         self.write("tried", "")
-        environment = {**os.environ, "PATH": f"{self.folder}/bin:{os.environ['PATH']}", "TOLD": self.folder}
+        environment = {**{it: text for it, text in os.environ.items() if it != "RT_JOBS"}, "PATH": f"{self.folder}/bin:{os.environ['PATH']}", "TOLD": self.folder, "TMPDIR": self.folder}
         ran = subprocess.run([sys.executable, os.path.join(self.folder, SCRIPT), *words], env=environment, capture_output=True, text=True, timeout=60)
+        self.printed = ran.stdout
         with open(os.path.join(self.folder, "tried"), encoding="utf-8") as file:
             names = file.read().split()
-        return ran.returncode, (ran.stdout.splitlines() or [""])[-1], [os.path.basename(it).split(".")[0] for it in names]
+        return ran.returncode, next((it for it in ran.stdout.splitlines() if " wrong bodies of " in it), ""), [os.path.basename(it).split(".")[0] for it in names]
 
 
-def wanted(refused, weak=0, earlier=0, of=10):
-    return f"{of} wrong bodies of 1 crates, {refused} refused, {weak} of them not by a contract; {earlier} in earlier runs"
+def wanted(refused, weak=0, earlier=0, of=10, at=None, survive=0):
+    at = refused - weak if at is None else at
+    return (f"{of} wrong bodies of 1 crates, {refused} refused, {at} of them at a goal of the code, {weak} not by a contract; "
+            f"{survive} survive, {of - refused - survive} bad or not tried; {earlier} in earlier runs")
 
 
 # Each test yields what was found and what is wanted, in turn.
@@ -91,9 +146,9 @@ def all_refused(room):
 
 
 def survives(room):
-    yield room.run(e04=SURVIVES), (1, wanted(9), NAMES)
+    yield room.run(e04=SURVIVES), (1, wanted(9, survive=1), NAMES)
     # (it stays so, and the run that doesn't try it says so again)
-    yield room.run(), (1, wanted(9, earlier=10), [])
+    yield room.run(), (1, wanted(9, earlier=10, survive=1), [])
 
 
 def bad_edit(room):
@@ -159,27 +214,127 @@ def cut_off(room):
     yield room.run(), (0, wanted(10, earlier=10), [])
 
 
+def in_code(room, *pairs, path="src/a.rt"):
+    """Has the edit e04 change the code, by pairs of texts."""
+    room.write("compare/wrong_bodies/top/e04.edit", f"file: {path}\n" + "".join(f"old: {old}\nnew: {new}\n" for old, new in pairs))
+
+
+def after(*only):
+    """What is tried where a check of these functions doesn't refuse e04, and so rt must-fail tries it with the others."""
+    return [*[f"only={it}" for it in only], *NAMES]
+
+
+def open_goal(room):
+    in_code(room, ("let one = 1;", "let one = 2;"))
+    left = [it for it in NAMES if it != "e04"]
+    yield room.run(only=OPEN, e04=SURVIVES), (0, wanted(10), ["only=top::a::f", *left])
+    yield "must-fail top/e04.edit: refused at src/a.rt:7:5 in a::f: returns-clause-one" in room.printed, True
+    yield room.run(), (0, wanted(10, earlier=10), [])
+    room.write("crates/top/src/more.rt", "more\n")
+    yield room.run(only=PROVES, e04=SURVIVES), (1, wanted(9, survive=1), after("top::a::f"))
+
+
+def proves(room):
+    in_code(room, ("let one = 1;", "let one = 2;"))
+    yield room.run(only=PROVES, e04=SURVIVES), (1, wanted(9, survive=1), after("top::a::f"))
+    yield room.printed.splitlines()[-3], f"must-fail top/e04.edit: {SURVIVES}"
+
+
+def not_sure(*only, said=BAD):
+    """A check of some functions that is no refusal: rt must-fail decides."""
+    def test(room):
+        in_code(room, ("let one = 1;", "let one = 2;"))
+        refused = said != BAD
+        yield room.run(only=only, e04=said), (0 if refused else 1, wanted(9 + refused, at=9, weak=said.count("(only ")), after("top::a::f"))
+    return test
+
+
+def method(room):
+    in_code(room, ("self.side", "1"))
+    yield room.run(only=PROVES), (0, wanted(10), after("top::a::Box::g"))
+
+
+def two_functions(room):
+    in_code(room, ("self.side", "1"), ("x * one", "x"))
+    yield room.run(only=PROVES), (0, wanted(10), after("top::a::Box::g", "top::a::f"))
+
+
+def no_body(room):
+    in_code(room, ("result ≡ x", "result ≡ 1"))
+    yield room.run(only=PROVES), (0, wanted(10), after("a"))
+    in_code(room, ("pub side: u8,", "pub side: u16,"))
+    yield room.run(only=PROVES), (0, wanted(10, earlier=9), ["only=a", "e04"])
+
+
+def no_code(room):
+    in_code(room, ("top", "other"), path="proofs/f/Answers.antt")
+    yield room.run(), (0, wanted(10), NAMES)
+
+
+def not_applied(room):
+    in_code(room, ("x", "1"))
+    yield room.run(e04=BAD), (1, wanted(9), NAMES)
+
+
+def changed_meanwhile(room):
+    yield room.run(writes="crates/top/src/lib.rt"), (1, wanted(0), [])
+    yield room.run(), (0, wanted(10), NAMES)
+
+
+def results(room):
+    in_code(room, ("let one = 1;", "let one = 2;"))
+    path = os.path.join(room.folder, "out/rows.csv")
+    os.makedirs(os.path.dirname(path))
+    yield room.run("--results", path, only=OPEN, e05=SURVIVES)[0], 1
+    with open(path, encoding="utf-8") as file:
+        rows = [line.rsplit(",", 1)[0] for line in file][1:]
+    yield rows[:2] + rows[5:7], ["Crate,Wrong body,Came to", f"top,e00.edit,\"{GOOD}\"", "top,e04.edit,refused at src/a.rt:7:5 in a::f: returns-clause-one", f"top,e05.edit,{SURVIVES}"]
+    yield [it for it in room.printed.splitlines() if it[:1] != "|"][0], f"must-fail top/e05.edit: {SURVIVES}"
+    yield "| top | 10 | 9 | 9 | 0 | 1 |" in room.printed, True
+
+
+def jobs(room):
+    for name in NAMES:
+        room.write(f"compare/wrong_bodies/other/{name}.edit", f"file: src/lib.rt\nold: other\nnew: {name}\n")
+    status, last, names = room.run("--jobs", "2")
+    yield (status, last, sorted(names)), (0, wanted(20, of=20).replace("1 crates", "2 crates"), sorted(NAMES + NAMES))
+    yield room.run("--jobs", "2")[2], []
+
+
 TESTS = {
     "all are refused": all_refused, "one survives": survives, "one can't be applied": bad_edit, "one isn't tried": not_tried,
     "rt has no line for one": nothing_said, "one is refused by a proof's names, one by a limit": weakly_refused, "the crate isn't proved": unproved_crate,
     "a source": changed("crates/top/src/lib.rt"), "a definition": changed("crates/top/specs/Lib.antt"), "a proof": changed("crates/top/proofs/f/Answers.antt"),
     "a new file": changed("crates/top/src/more.rt"), "a source below": changed("crates/low/src/lib.rt"), "a definition below": changed("crates/low/specs/Lib.antt"),
     "HANDLES": changed("HANDLES"), "another kit": another_kit, "another line of crates.txt": another_line, "a change elsewhere": changed_elsewhere,
-    "a run that is cut off": cut_off,
+    "a run that is cut off": cut_off, "a goal is open": open_goal, "an edit that proves": proves, "a method": method, "two functions": two_functions,
+    "a clause, a type": no_body, "a proof's text": no_code, "an old text that stands there twice": not_applied, "a source that changes meanwhile": changed_meanwhile,
+    "two crates side by side": jobs, "rows are written": results,
+    "a proof fails, and no goal is open": not_sure(1, "./proofs/a/f/Answers.antt:3:1: error: `returns-clause-one`: not this type\n" + LOST + END, said=IN_PROOF),
+    "a proof names what is gone": not_sure(1, "./proofs/a/f/Answers.antt:3:1: error: `returns-clause-one` has no field `now`\n" + LOST + END, said=WEAK),
+    "it isn't compiled": not_sure(1, "src/a.rt:6:5: error[E0308]: mismatched types\n" + NOTE + LOST + END),
+    "a text isn't read": not_sure(1, "src/a.rt:6:5: error: `two` is not in scope\n" + NOTE + LOST + END),
+    "the prover could not tell": not_sure(3, NOTE + LOST + END),
+    "the check doesn't end": not_sure(1, NOTE + LOST),
+    "all are proved": not_sure(1, NOTE + LOST + END.replace("proved=1", "proved=2")),
+    "another function's goal": not_sure(1, NOTE + LOST.replace("::f:", "::h:") + END),
+    "a goal that no function lacks": not_sure(1, NOTE + LOST.replace("clause-one", "clause-two") + END),
 }
 
 # Name, the test that has to fail, the text in the script, and what stands in its place.
-REFUSED = 're.match("refused", outcome(it))'
+COUNTED = 'for pattern in ("refused", AT_GOAL, WEAKLY, "NOT REFUSED")'
 ALL_PARTS = 'PARTS = ("src", "specs", "proofs")'
 EACH_CRATE = "for name in lines:\n        for part"
 PLANTS = [
-    ("a survivor is refused", "one survives", REFUSED, 're.search("refused|REFUSED", outcome(it))'),
-    ("a bad edit is refused", "one can't be applied", REFUSED, 're.match("refused|BAD", outcome(it))'),
-    ("what isn't tried is refused", "one isn't tried", REFUSED, 're.match("refused|NOT TRIED", outcome(it))'),
-    ("the status is always 0", "one survives", "sys.exit(0 if len(refused) == count else 1)", "sys.exit(0)"),
+    ("a survivor is refused", "one survives", COUNTED, COUNTED.replace('"refused"', '"refused|NOT REFUSED"')),
+    ("a bad edit is refused", "one can't be applied", COUNTED, COUNTED.replace('"refused"', '"refused|BAD"')),
+    ("what isn't tried is refused", "one isn't tried", COUNTED, COUNTED.replace('"refused"', '"refused|NOT TRIED"')),
+    ("the status is always 0", "one survives", "sys.exit(0 if refused == count else 1)", "sys.exit(0)"),
     ("what isn't tried is kept", "one isn't tried", 'SETTLED = r"refused|', 'SETTLED = r"NOT TRIED|refused|'),
     ("a survivor isn't kept", "one survives", 'SETTLED = r"refused|NOT REFUSED|', 'SETTLED = r"refused|'),
-    ("weak ones aren't counted", "one is refused by a proof's names, one by a limit", "weak = sum(", "weak = 0 * sum("),
+    ("weak ones aren't counted", "one is refused by a proof's names, one by a limit", COUNTED, COUNTED.replace("WEAKLY", '"none"')),
+    ("weak ones are at a goal", "one is refused by a proof's names, one by a limit", 'AT_GOAL = r"refused at src/|', 'AT_GOAL = r"refused|refused at src/|'),
+    ("survivors aren't counted", "one survives", COUNTED, COUNTED.replace("NOT REFUSED", "none")),
     ("sources don't count", "a source", ALL_PARTS, 'PARTS = ("specs", "proofs")'),
     ("definitions don't count", "a definition", ALL_PARTS, 'PARTS = ("src", "proofs")'),
     ("proofs don't count", "a proof", ALL_PARTS, 'PARTS = ("src", "specs")'),
@@ -190,33 +345,64 @@ PLANTS = [
     ("crates.txt doesn't count", "another line of crates.txt", "repr((kit, lines))", "repr(kit)"),
     ("HANDLES doesn't count", "HANDLES", 'add_file(total, os.path.join(ROOT, "HANDLES"))', "pass"),
     ("the edit doesn't count", "one can't be applied", "add_file(total, os.path.join(EDITS, crate, name))", "total.update(name.encode())"),
-    ("an unproved crate is tried", "the crate isn't proved", "if not is_proved(room, crate):", "if False:"),
-    ("refusals of an unproved crate count", "the crate isn't proved", "if not re.search(UNPROVED, printed) else {}", ""),
-    ("results come at the end", "a run that is cut off", "            keep(sums, said)\n", "            if at + AT_ONCE >= len(names):\n                keep(sums, said)\n"),
+    ("an unproved crate is tried", "the crate isn't proved", "if ran.status == 0 else None", ""),
+    ("refusals of an unproved crate count", "the crate isn't proved", "if not re.search(UNPROVED, ran.printed) else {}", ""),
+    ("results come at the end", "a run that is cut off", "    keep(sums, said)\n    tell(said)", "    tell(said)"),
     ("half a line goes on", "a run that is cut off", '"\\n" + json.dumps(', "json.dumps("),
     ("--anew takes what is kept", "all are refused", "{} if given.anew else kept()", "kept()"),
-    ("earlier survivors aren't counted", "one survives", "if len(refused) == count else", "if len(refused) == count or not left else"),
+    ("earlier survivors aren't counted", "one survives", "if refused == count else", "if refused == count or old == count else"),
     ("a group's edits stay for the next", "all are refused", "    shutil.rmtree(folder, ignore_errors=True)\n    os.makedirs(folder)", "    os.makedirs(folder, exist_ok=True)"),
+    ("an open goal isn't looked for", "a goal is open", "    if not only:", "    if True:"),
+    ("the edit stays in the copy", "an edit that proves", "for path, text in was.items():", "for path, text in {}.items():"),
+    ("the edit isn't in the copy", "an edit that proves", "        write(os.path.join(folder, path), text)\n    ran", "    ran"),
+    ("what an edit's check keeps goes on", "an edit that proves", "    begin(room, crate)\n    ran = run", "    ran = run"),
+    ("an open goal is looked for from nothing", "a goal is open", "    begin(room, crate)\n    was", "    shutil.rmtree(begun_with(room, crate))\n    os.makedirs(begun_with(room, crate))\n    write(begun_with(room, crate) + '/f.oantt', '')\n    was"),
+    ("a check that proves refuses", "an edit that proves", "    if said:\n", "    if said or not said:\n"),
+    ("rt must-fail takes all processors", "all are refused", ', env=ENVIRONMENT)', ")"),
+    ("changes meanwhile don't count", "a source that changes meanwhile", "if now != {edit: sums[edit] for edit in now}:", "if False:"),
+    ("one crate is tried", "two crates side by side", "for crate, names in edits.items()]:", "for crate, names in list(edits.items())[:1]]:"),
+    ("survivors aren't printed", "rows are written", "if not re.match(AT_GOAL, outcome(it.said))]", "if not it.said]"),
+    ("rows are of nothing", "rows are written", "in sorted(said.items()))\n\n\ndef read_words", "in ())\n\n\ndef read_words"),
+    ("any status refuses", "the prover could not tell", "if status != 1 or", "if"),
+    ("a check that doesn't end refuses", "the check doesn't end", "not ended or int(ended[2]) >= int(ended[1]) or", "ended and int(ended[2]) >= int(ended[1]) or"),
+    ("a check with all proved refuses", "all are proved", "int(ended[2]) >= int(ended[1]) or", ""),
+    ("what isn't compiled is refused", "it isn't compiled", r"\berror\[[\w-]+\]|\bsrc/\S+:\d+:\d+: error|", ""),
+    ("what isn't read is refused", "a text isn't read", r"\bsrc/\S+:\d+:\d+: error|", ""),
+    ("a proof's error refuses", "a proof fails, and no goal is open", r'"^note: (src/\S+\.rt:\d+:\d+): it is not proved that .*?\(`([^`\s]+)`\)"', r'"^(?:note: )?(?:\./)?(\S+:\d+:\d+): .*?`([^`\s]+)`"'),
+    ("a function without a proof refuses", "another function's goal", " if name in proved]", "]"),
+    ("any goal refuses", "a goal that no function lacks", """if f"`{goal}`" in why""", "if goal"),
+    ("a clause is a body", "a clause, a type", "first < start and end <= last", "end <= last"),
+    ("the last function counts", "two functions", "found += named", "found = named"),
+    ("a text that stands there twice is changed", "an old text that stands there twice", "if texts[path].count(old) != 1:", "if not texts[path].count(old):"),
 ]
 
 
-def faults(script, name):
-    """What is wrong with a script by one of the tests."""
+def faults(texts, name):
+    """What is wrong with the scripts by one of the tests."""
     with tempfile.TemporaryDirectory(prefix="wrong-bodies-") as folder:
-        for number, (got, want) in enumerate(TESTS[name](Room(folder, script)), 1):
+        for number, (got, want) in enumerate(TESTS[name](Room(folder, texts)), 1):
             if got != want:
                 return [f"{name}, {number}: {got}, and not {want}"]
     return []
 
 
+def planted(texts, old, new):
+    """The scripts with another text in the place of one that stands there once, or None."""
+    paths = [it for it in (SCRIPT, JUDGE) if texts[it].count(old) == 1]
+    return {**texts, paths[0]: texts[paths[0]].replace(old, new)} if len(paths) == 1 else None
+
+
 def main():
-    with open(os.path.join(ROOT, SCRIPT), encoding="utf-8") as file:
-        script = file.read()
-    wrong = [it for name in TESTS for it in faults(script, name)]
+    texts = {}
+    for path in (SCRIPT, JUDGE, *OTHERS):
+        with open(os.path.join(ROOT, path), encoding="utf-8") as file:
+            texts[path] = file.read()
+    wrong = [it for name in TESTS for it in faults(texts, name)]
     for plant, name, old, new in PLANTS:
-        if script.count(old) != 1:
-            wrong.append(f"{plant}: the script has its text {script.count(old)} times")
-        elif not faults(script.replace(old, new), name):
+        changed = planted(texts, old, new)
+        if not changed:
+            wrong.append(f"{plant}: its text isn't once in the scripts")
+        elif not faults(changed, name):
             wrong.append(f"{plant}: GOT THROUGH")
     print("\n".join([*wrong, f"{len(TESTS)} tests, {len(PLANTS)} bugs planted, {len(wrong)} wrong"]))
     sys.exit(1 if wrong else 0)

@@ -100,8 +100,9 @@ def damaged(name, asks, command, short, paths, data=()):
 
 
 COMPARISONS = [
-    Comparison("wrong bodies", "Does the prover refuse each wrong body that the gate doesn't try?", "compare/wrong_bodies.py",
-               lines_like(r"\d+ wrong bodies of.*|(NOT REFUSED|BAD EDIT).*"), ("crates/*/src/**", "crates/*/specs/**", "compare/wrong_bodies/**")),
+    Comparison("wrong bodies", "Does the prover refuse each wrong body that the gate doesn't try?", "compare/wrong_bodies.py --results compare/results/wrong_bodies.csv",
+               lines_like(r"\d+ wrong bodies of.*(?=; \d+ in earlier runs)|[\d.]+ minutes of a processor(?=, )|must-fail .*(NOT REFUSED|BAD EDIT|NOT TRIED)(?=:)"),
+               ("crates/*/src/**", "crates/*/specs/**", "compare/wrong_bodies/**"), data=("wrong_bodies.csv",)),
     Comparison("refusals", "Does each request for memory and each call for files that is refused end as it should?", "compare/refusals.py --more",
                lines_like(r"\d+ requests for memory were refused\. All ended as they should|\w.*FAILED.*"), ("crates/*/src/**",), "compare/refusals.py"),
     Comparison("hostile", "How much work can a small file ask for?", "compare/hostile.py", slowest, SUBSET + BENCH, timed=True),

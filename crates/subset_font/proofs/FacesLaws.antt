@@ -1,2 +1,2 @@
 -- What the font that is read has: its directory, its tables, its axes and its characters.
-mod Directory
+pub mod Directory

@@ -1,4 +1,4 @@
 -- What is made of the font that is read.
-mod Making
-mod Outcomes
-mod Sheets
+pub mod Making
+pub mod Outcomes
+pub mod Sheets

@@ -1,3 +1,3 @@
 -- Why a run of the program ends without a subset.
-mod Failing
-mod Limiting
+pub mod Failing
+pub mod Limiting

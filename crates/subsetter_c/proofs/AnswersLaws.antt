@@ -1,4 +1,4 @@
 -- How answers are handed to C.
-mod Bytes
-mod Lists
-mod Made
+pub mod Bytes
+pub mod Lists
+pub mod Made

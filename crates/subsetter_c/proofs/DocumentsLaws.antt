@@ -1,5 +1,5 @@
 -- Fonts and files for PDF, handed to C.
-mod PdfFonts
-mod PdfGlyphs
-mod PdfLaws
-mod PdfObjects
+pub mod PdfFonts
+pub mod PdfGlyphs
+pub mod PdfLaws
+pub mod PdfObjects

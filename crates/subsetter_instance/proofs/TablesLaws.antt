@@ -1,3 +1,3 @@
 -- The tables and the file of an instance.
 pub mod Boxes
-mod WriteLemmas
+pub mod WriteLemmas
