@@ -10,11 +10,11 @@ use Rattle.subset_lines.specs.declared.faces.settings.SettingForm.TheVariants.{L
 
 in_line : (before : List ℕ) (axes : List Axis) (bytes : List ℕ) → settings_by Line before axes bytes ≡ settings_text before axes bytes
 in_line before [] bytes = refl
-in_line before (a ∷ axes) bytes = ap (λ l. (before ++ setting_by Line a.tag bytes) ++ l) (in_line (codes ",") axes (drop 4 bytes))
+in_line before (a ∷ axes) bytes = ap (λ l. setting_by Line before a.tag bytes ++ l) (in_line (codes ",") axes (drop 4 bytes))
 
 as_members : (before : List ℕ) (axes : List Axis) (bytes : List ℕ) → settings_by Member before axes bytes ≡ settings_members before axes bytes
 as_members before [] bytes = refl
-as_members before (a ∷ axes) bytes = ap (λ l. (before ++ setting_by Member a.tag bytes) ++ l) (as_members (codes ",") axes (drop 4 bytes))
+as_members before (a ∷ axes) bytes = ap (λ l. setting_by Member before a.tag bytes ++ l) (as_members (codes ",") axes (drop 4 bytes))
 
 pub line_written : {E : Type 0} (r : Result (Unit {0}) E) (old new : Option (List ℕ)) (axes : List Axis) (bytes : List ℕ) → OnOk r (Appends old new (settings_by Line [] axes bytes)) → OnOk r (Appends old new (settings_text [] axes bytes))
 line_written r old new axes bytes = subst (λ t. OnOk r (Appends old new t)) (in_line [] axes bytes)

@@ -8,12 +8,12 @@ use Rattle.subset_lines.specs.Objects.AxesJson.{setting_member}
 use Rattle.subset_lines.specs.declared.faces.settings.SettingForm.{SettingForm}
 use Rattle.subset_lines.specs.declared.faces.settings.SettingForm.TheVariants.{Line, Member}
 
--- an axis with the coordinate that four bytes say: `wght=650`, or a member of an object
-abbrev pub setting_by : SettingForm → Tag → List ℕ → List ℕ
-setting_by Line tag bytes = map shown tag.0 ++ codes "=" ++ coordinate_text (number bytes 0 4)
-setting_by Member tag bytes = setting_member tag bytes
+-- an axis with the coordinate that four bytes say, behind a text: `wght=650`, or a member of an object
+abbrev pub setting_by : SettingForm → List ℕ → Tag → List ℕ → List ℕ
+setting_by Line before tag bytes = before ++ map shown tag.0 ++ codes "=" ++ coordinate_text (number bytes 0 4)
+setting_by Member before tag bytes = before ++ setting_member tag bytes
 
 -- all of them, with a comma between each two
 abbrev pub settings_by : SettingForm → List ℕ → List Axis → List ℕ → List ℕ
 settings_by form before [] bytes = []
-settings_by form before (a ∷ axes) bytes = (before ++ setting_by form a.tag bytes) ++ settings_by form (codes ",") axes (drop 4 bytes)
+settings_by form before (a ∷ axes) bytes = setting_by form before a.tag bytes ++ settings_by form (codes ",") axes (drop 4 bytes)

@@ -65,7 +65,7 @@ fn write_setting<W: Write>(
     bytes: &[u8],
     out: &mut W,
 ) -> Result<(), Unwritten>
-    ensures { OnOk result (Appends (W.contents out.old) (W.contents out.new) (before.now ++ setting_by form tag bytes.now)) }
+    ensures { OnOk result (Appends (W.contents out.old) (W.contents out.new) (setting_by form before.now tag bytes.now)) }
 {
     match form {
         SettingForm::Line => write_in_line(before, tag, bytes, out),
