@@ -3,7 +3,7 @@ use Rattle.std.proofs.Common.{◌≡◌, ℕ, ◌+◌, ◌-◌, ◌*◌, ◌%◌
 use Rattle.std.specs.Prelude.{replicate, filter}
 use Rattle.std.specs.Option.{option_and_then, option_map}
 use Rattle.std.proofs.lemmas.List.{append-nil}
-use Rattle.subsetter_base.specs.Bytes.{be, range, number, aligned, between_offsets}
+use Rattle.subsetter_base.specs.Bytes.{be, range, number, aligned}
 use Rattle.subsetter_sfnt.specs.Read.{Font}
 use Rattle.subsetter.specs.Glyf.Read.{Outlines, outlines, outline, outline_in, offset, entry_size}
 use Rattle.subsetter.specs.Glyf.BareOutlines.Bare.{glyph_parts}

@@ -13,6 +13,7 @@ use Rattle.subsetter_base.proofs.Options.{just}
 use Rattle.subsetter_sfnt.specs.declared.fields.hmtx.LongHorMetric.{LongHorMetric}
 use Rattle.subsetter_sfnt.specs.Fields.Hmtx.{metric_in, hmtx_bytes}
 use Rattle.subsetter_sfnt.specs.Fields.Hhea.{number_of_h_metrics}
+use Rattle.subsetter_sfnt.proofs.Laws.FieldsLaws.HheaLaws.{own_hhea}
 use Rattle.subsetter_sfnt.proofs.Laws.FieldsLaws.HmtxLaws.{metric_small, metric_back, length-hmtx}
 use Rattle.subsetter.specs.Common.Hmtx.Written.{MetricBytes, least_count, hhea_bytes, if_pairs, metrics_all, source_count, tables_of, metrics_in, metrics_of}
 use Rattle.subsetter.proofs.CommonLaws.HmtxLaws.Back.{count_back, header_before, header_after}
@@ -37,7 +38,11 @@ number_there bytes at size le = (be (take size (drop at bytes)), ap (option_map 
 
 header_whole : (n : ℕ) (copy hhea : List ℕ) → take 34 copy ≡ take 34 hhea → drop 36 copy ≡ drop 36 hhea → hhea_bytes n copy ≡ hhea_bytes n hhea
 unfolding hhea_bytes
-header_whole n copy hhea a b = ap (λ (l : List ℕ). l ++ to_be_bytes w16 n ++ drop 36 copy) a ∙ ap (λ (l : List ℕ). take 34 hhea ++ to_be_bytes w16 n ++ l) b
+header_whole n copy hhea a b =
+    own_hhea n copy
+    ∙ ap (λ (l : List ℕ). l ++ to_be_bytes w16 n ++ drop 36 copy) a
+    ∙ ap (λ (l : List ℕ). take 34 hhea ++ to_be_bytes w16 n ++ l) b
+    ∙ sym (own_hhea n hhea)
 
 -- the number of pairs that hhea was given doesn't count
 header_twice : (k n : ℕ) (hhea : List ℕ) → 36 ≤ length hhea → hhea_bytes k (hhea_bytes n hhea) ≡ hhea_bytes k hhea

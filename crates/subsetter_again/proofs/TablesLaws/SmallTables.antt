@@ -11,6 +11,7 @@ use Rattle.subsetter_sfnt.specs.declared.flavor.FontFlavor.{FontFlavor}
 use Rattle.subsetter_sfnt.specs.declared.flavor.FontFlavor.TheVariants.{TrueType, Cff}
 use Rattle.subsetter_sfnt.specs.Laying.Written.{with_adjustment}
 use Rattle.subsetter_sfnt.specs.Fields.Head.{format_bytes}
+use Rattle.subsetter_sfnt.proofs.Laws.FieldsLaws.HeadLaws.{own_head}
 use Rattle.subsetter.specs.Common.Head.Written.{head_bytes, head_in}
 use Rattle.subsetter.specs.Common.Maxp.Read.{version_of, further_fields}
 use Rattle.subsetter.specs.Common.Maxp.Written.{maxp_bytes, maxp_in}
@@ -24,9 +25,11 @@ head_twice w long last head le =
     let C = with_adjustment w (head_bytes long head) in
     let Z : List ℕ = 0 ∷ 0 ∷ 0 ∷ 0 ∷ [] in
     let F = format_bytes last in
-    ap (λ (l : List ℕ). l ++ Z ++ slice_range C 12 50 ++ F ++ drop 52 C) (head_front w long head le)
+    own_head last C
+    ∙ ap (λ (l : List ℕ). l ++ Z ++ slice_range C 12 50 ++ F ++ drop 52 C) (head_front w long head le)
     ∙ ap (λ (l : List ℕ). take 8 head ++ Z ++ l ++ F ++ drop 52 C) (head_middle w long head le)
     ∙ ap (λ (l : List ℕ). take 8 head ++ Z ++ slice_range head 12 50 ++ F ++ l) (head_end w long head le)
+    ∙ sym (own_head last head)
 
 pub head_again : (w : ℕ) (long last : Bool) (o middle : Option (List ℕ)) → head_in o long ≡ Ok middle → head_in (option_map (with_adjustment w) middle) last ≡ head_in o last
 head_again w long last None middle h = ap (λ (x : Option (List ℕ)). head_in (option_map (with_adjustment w) x) last) (sym (done_is None middle h))
