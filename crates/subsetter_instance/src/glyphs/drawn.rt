@@ -73,6 +73,13 @@ pub fn word_or_fault(value: i128) -> Result<i16, Error>
     }
 }
 
+/// A coordinate of 16 bits, `OverflowError` where it has more.
+fn coordinate_or_fault(value: i64) -> Result<i16, Error>
+    ensures { result ≡ word_or_fault value }
+{
+    word_or_fault(i128::from(value))
+}
+
 /// How far a coordinate is from another.
 fn distance(from: i64, to: i64) -> i64
     requires from { unsigned_abs from ≤ 2 ^ 58 }
@@ -90,8 +97,8 @@ fn point_or_fault(left: i64, on_curve: bool, x: i64, y: i64) -> Result<Point, Er
     requires y { unsigned_abs y ≤ 2 ^ 58 }
     ensures { result ≡ point_or_fault left on_curve x y }
 {
-    let across = word_or_fault(i128::from(whole(distance(left, x))))?;
-    let up = word_or_fault(i128::from(whole(y)))?;
+    let across = coordinate_or_fault(whole(distance(left, x)))?;
+    let up = coordinate_or_fault(whole(y))?;
     Ok(Point {
         x: across,
         y: up,
