@@ -135,9 +135,9 @@ transformed_x m p = nearest (m.xx *ℤ p.0 +ℤ m.xy *ℤ p.1) 16384
 abbrev pub transformed_y : Matrix → ℤ × ℤ → ℤ
 transformed_y m p = nearest (m.yx *ℤ p.0 +ℤ m.yy *ℤ p.1) 16384
 
--- the same through a row of the matrix
-abbrev pub transformed : ℤ → ℤ → ℤ × ℤ → ℤ
-transformed a b p = nearest (a *ℤ p.0 +ℤ b *ℤ p.1) 16384
+-- a matrix with its rows swapped, by which x is y of the other
+abbrev pub swapped : Matrix → Matrix
+swapped m = record { xx = m.yx; yx = m.xx; xy = m.yy; yy = m.xy }
 
 abbrev pub transformed_xs : Option Matrix → List ℤ → List ℤ → List ℤ
 transformed_xs None xs ys = xs

@@ -3,7 +3,7 @@
 ghost use Rattle.std.specs.Prelude.{◌≡◌, ◌≤◌, ◌<◌, ◌^◌, ◌+◌, ◌++◌, ◌*ℤ◌, ◌+ℤ◌, ◌&&◌, ℕ, nat_le, length, map, zip, slice_get, unsigned_abs, All, IfOk, IfSome};
 ghost use Rattle.subsetter_base.specs.Gives.{Gives};
 ghost use Rattle.subsetter_variation.specs.Nearest.{nearest};
-ghost use Rattle.subsetter_instance.specs.Glyphs.Unfolded.{IsInReach, are_near, is_identity, is_scaled, joined_moved, joined_parts, matched, moved_part, point_at, shift_by, shifted, transformed, with_metrics, with_part, with_points};
+ghost use Rattle.subsetter_instance.specs.Glyphs.Unfolded.{IsInReach, are_near, is_identity, is_scaled, joined_moved, joined_parts, matched, moved_part, point_at, shift_by, shifted, swapped, transformed_x, with_metrics, with_part, with_points};
 
 use crate::glyphs::components::{Arguments, Component, Matrix, has};
 use crate::glyphs::unfolding::Unfolded;
@@ -47,22 +47,33 @@ fn quotient(v: i64) -> i64
     nearest(v, F2DOT14_UNITS)
 }
 
-/// A coordinate of a point through a row of a matrix.
-fn transformed(a: i16, b: i16, x: i64, y: i64) -> i64
+/// x of a point through a matrix.
+fn transformed_x(m: Matrix, x: i64, y: i64) -> i64
     requires x { unsigned_abs x ≤ 2 ^ 45 }
     requires y { unsigned_abs y ≤ 2 ^ 45 }
-    ensures value { result ≡ transformed a b (x, y) }
+    ensures value { result ≡ transformed_x m (x, y) }
     ensures bound { unsigned_abs result ≤ 2 ^ 47 }
 {
-    quotient(sum(a, x, b, y))
+    quotient(sum(m.xx, x, m.xy, y))
 }
 
-/// A column of coordinates through a row of a matrix.
+/// A matrix with its rows swapped, by which x is y of the other.
+fn swapped(m: Matrix) -> Matrix
+    ensures { result ≡ swapped m }
+{
+    Matrix {
+        xx: m.yx,
+        yx: m.xx,
+        xy: m.yy,
+        yy: m.xy,
+    }
+}
+
+/// x of points through a matrix.
 #[tactic(auto, using(crate::proofs::GlyphsLaws::Reach::zip_step, crate::proofs::GlyphsLaws::Reach::zip_end))]
 fn transformed_column(
     alloc: Global,
-    a: i16,
-    b: i16,
+    m: Matrix,
     xs: &[i64],
     ys: &[i64],
 ) -> Result<Vec<i64>, AllocError>
@@ -70,12 +81,12 @@ fn transformed_column(
     requires xs { All (λ v. unsigned_abs v ≤ 2 ^ 45) xs.now }
     requires ys { All (λ v. unsigned_abs v ≤ 2 ^ 45) ys.now }
     ensures len { IfOk result (λ v. length v.items ≡ length xs.now) }
-    ensures value { IfOk result (λ v. v.items ≡ map (transformed a b) (zip xs.now ys.now)) }
+    ensures value { IfOk result (λ v. v.items ≡ map (transformed_x m) (zip xs.now ys.now)) }
     ensures bound { IfOk result (λ v. All (λ z. unsigned_abs z ≤ 2 ^ 47) v.items) }
 {
     let mut all = Vec::with_capacity(alloc, xs.len())?;
     for i in 0..xs.len() {
-        all.push(transformed(a, b, xs[i], ys[i]))?;
+        all.push(transformed_x(m, xs[i], ys[i]))?;
     }
     Ok(all)
 }
@@ -338,7 +349,7 @@ pub fn with_metrics(flags: u16, before: Unfolded, part: &Unfolded) -> Unfolded
 }
 
 /// The components before a component, and itself, and the steps that are left.
-#[tactic(auto, using(crate::proofs::GlyphsLaws::PartLemmas::plain_part, crate::proofs::GlyphsLaws::PartLemmas::turned_part, crate::proofs::GlyphsLaws::Reach::wider_47))]
+#[tactic(auto, using(crate::proofs::GlyphsLaws::PartLemmas::plain_part, crate::proofs::GlyphsLaws::Reach::wider_47))]
 pub fn with_part(
     alloc: Global,
     component: Component,
@@ -358,8 +369,8 @@ pub fn with_part(
     match component.matrix {
         None => with_points(component, x, y, before, part, &part.xs, &part.ys, steps),
         Some(m) => {
-            let xs = transformed_column(alloc, m.xx, m.xy, &part.xs, &part.ys)?;
-            let ys = transformed_column(alloc, m.yx, m.yy, &part.xs, &part.ys)?;
+            let xs = transformed_column(alloc, m, &part.xs, &part.ys)?;
+            let ys = transformed_column(alloc, swapped(m), &part.xs, &part.ys)?;
             with_points(component, x, y, before, part, &xs, &ys, steps)
         }
     }

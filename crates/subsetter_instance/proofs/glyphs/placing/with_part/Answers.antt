@@ -10,4 +10,4 @@ returns-in-None-clause-value c =
     rw (plain_part c.args.component c.args.x c.args.y c.args.before c.args.part.now c.args.steps c.in-None.is, sym xs, sym ys) (search rules)
 
 pub returns-in_ok-ys-in-Some-clause-value : goal.returns-in_ok-ys-in-Some-clause-value
-returns-in_ok-ys-in-Some-clause-value c = rw (turned_part c.args.component c.in-Some.m c.args.x c.args.y c.args.before c.args.part.now c.args.steps c.in-Some.is) (search rules)
+returns-in_ok-ys-in-Some-clause-value c = rw (turned_part c.args.component c.in-Some.m c.swapped.result c.args.x c.args.y c.args.before c.args.part.now c.args.steps c.in-Some.is c.swapped.ensures) (search rules)
