@@ -20,6 +20,9 @@ use subsetter_type2::operators::first_byte;
 use subsetter_type2::subroutines::SubroutineHandler;
 use subsetter_type2::token::find_effect;
 
+/// The most stems, whose number has 16 bits.
+const MAX_STEMS: usize = 65535;
+
 /// The subroutines that a charstring may call.
 #[derive(Drop)]
 pub struct Subroutines<'a> {
