@@ -1,10 +1,9 @@
-use Rattle.std.proofs.Common.{arith}
-use Rattle.subsetter_instance.specs.Tables.Extremes.{all_extents, box_bytes}
-use Rattle.subsetter_instance.proofs.FileLaws.Head.{eight_bytes}
+use Rattle.std.proofs.Common.{◌≡◌, ℕ, length, ap, ◌∙◌, arith}
 use Rattle.subsetter_sfnt.proofs.Laws.FieldsLaws.HeadLaws.{length-head}
+use Rattle.subsetter_instance.proofs.FileLaws.Head.{eight_bytes}
 use Rattle.subsetter_instance.proofs.tables.headers.head.Goals as goal
 
 pub write_head-requires-clause-room : goal.write_head-requires-clause-room
 write_head-requires-clause-room c =
-    let e = all_extents c.args.drawn.now in
-    omega (arith, length-head c.args.long (box_bytes e) c.args.source.now c.requires (eight_bytes e))
+    let eight : length c.box_bytes.result ≡ 8 = ap length c.box_bytes.ensures ∙ eight_bytes c.all_extents.result in
+    omega (arith, length-head c.args.long c.box_bytes.result c.args.source.now c.requires eight, ap length c.in_ok-head.ensures.items, c.in_ok-head.ensures.capacity)

@@ -1,9 +1,9 @@
-use Rattle.std.proofs.Common.{arith}
-use Rattle.subsetter_instance.specs.Tables.Extremes.{extreme_bytes}
-use Rattle.subsetter_instance.proofs.FileLaws.Metrics.{eight_bytes}
+use Rattle.std.proofs.Common.{◌≡◌, ℕ, length, ap, ◌∙◌, arith}
 use Rattle.subsetter_sfnt.proofs.Laws.FieldsLaws.HheaLaws.{length-hhea}
+use Rattle.subsetter_instance.proofs.FileLaws.Metrics.{eight_bytes}
 use Rattle.subsetter_instance.proofs.tables.headers.hhea.Goals as goal
 
 pub write_hhea-requires-clause-room : goal.write_hhea-requires-clause-room
 write_hhea-requires-clause-room c =
-    omega (arith, length-hhea c.args.count (extreme_bytes c.args.drawn.now) c.args.source.now c.requires (eight_bytes c.args.drawn.now))
+    let eight : length c.extreme_bytes.result ≡ 8 = ap length c.extreme_bytes.ensures ∙ eight_bytes c.args.drawn.now in
+    omega (arith, length-hhea c.args.count c.extreme_bytes.result c.args.source.now c.requires eight, ap length c.in_ok-hhea.ensures.items, c.in_ok-hhea.ensures.capacity)
