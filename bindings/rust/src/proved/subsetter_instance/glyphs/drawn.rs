@@ -46,6 +46,11 @@ pub fn word_or_fault(value: i128) -> Result<i16, Error> {
     }
 }
 
+/// A coordinate of 16 bits, `OverflowError` where it has more.
+fn coordinate_or_fault(value: i64) -> Result<i16, Error> {
+    word_or_fault(i128::from(value))
+}
+
 /// How far a coordinate is from another.
 fn distance(from: i64, to: i64) -> i64 {
     to - from
@@ -53,8 +58,8 @@ fn distance(from: i64, to: i64) -> i64 {
 
 /// A point, of which x begins at the left phantom point. `OverflowError` where a coordinate has no 16 bits.
 fn point_or_fault(left: i64, on_curve: bool, x: i64, y: i64) -> Result<Point, Error> {
-    let across = word_or_fault(i128::from(whole(distance(left, x))))?;
-    let up = word_or_fault(i128::from(whole(y)))?;
+    let across = coordinate_or_fault(whole(distance(left, x)))?;
+    let up = coordinate_or_fault(whole(y))?;
     Ok(Point {
         x: across,
         y: up,

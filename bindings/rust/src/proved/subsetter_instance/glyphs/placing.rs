@@ -32,22 +32,31 @@ fn quotient(v: i64) -> i64 {
     nearest(v, F2DOT14_UNITS)
 }
 
-/// A coordinate of a point through a row of a matrix.
-fn transformed(a: i16, b: i16, x: i64, y: i64) -> i64 {
-    quotient(sum(a, x, b, y))
+/// x of a point through a matrix.
+fn transformed_x(m: Matrix, x: i64, y: i64) -> i64 {
+    quotient(sum(m.xx, x, m.xy, y))
 }
 
-/// A column of coordinates through a row of a matrix.
+/// A matrix with its rows swapped, by which x is y of the other.
+fn swapped(m: Matrix) -> Matrix {
+    Matrix {
+        xx: m.yx,
+        yx: m.xx,
+        xy: m.yy,
+        yy: m.xy,
+    }
+}
+
+/// x of points through a matrix.
 fn transformed_column(
     alloc: Global,
-    a: i16,
-    b: i16,
+    m: Matrix,
     xs: &[i64],
     ys: &[i64],
 ) -> Result<Vec<i64>, AllocError> {
     let mut all = Vec::with_capacity(alloc, xs.len())?;
     for i in 0..xs.len() {
-        all.push(transformed(a, b, xs[i], ys[i]))?;
+        all.push(transformed_x(m, xs[i], ys[i]))?;
     }
     Ok(all)
 }
@@ -241,8 +250,8 @@ pub fn with_part(
     match component.matrix {
         None => with_points(component, x, y, before, part, &part.xs, &part.ys, steps),
         Some(m) => {
-            let xs = transformed_column(alloc, m.xx, m.xy, &part.xs, &part.ys)?;
-            let ys = transformed_column(alloc, m.yx, m.yy, &part.xs, &part.ys)?;
+            let xs = transformed_column(alloc, m, &part.xs, &part.ys)?;
+            let ys = transformed_column(alloc, swapped(m), &part.xs, &part.ys)?;
             with_points(component, x, y, before, part, &xs, &ys, steps)
         }
     }
