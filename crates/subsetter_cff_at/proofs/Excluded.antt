@@ -179,7 +179,7 @@ module _ (bytes : List ℕ) (r : Request) (tokens depth : ℕ) (o : Opened) (d :
         (let p = new_dict_is_placed o.cff o.variation found.number found.dict found.dict_is in
         let same : p.source ≡ private = same_Some _ _ (sym p.source_is ∙ same_private number private is there) in
         let here : p.at_location ≡ at_place = same_Some _ _ (sym p.at_location_is ∙ ap (λ (x : Private2). private_at_location o.variation x.dict) same ∙ placed) in
-        false≢true (sym (dict_short d.dicts found.offset found.dict found.dict_at dicts_short) ∙ ap (λ es. any_long (entry_numbers es)) p.entries_are ∙ ap (λ (x : Placed). any_long (entry_numbers x.entries)) here ∙ long))
+        false≢true (sym (dict_short d.dicts found.index found.dict found.dict_at dicts_short) ∙ ap (λ es. any_long (entry_numbers es)) p.entries_are ∙ ap (λ (x : Placed). any_long (entry_numbers x.entries)) here ∙ long))
     no_glyph_fault _ (no_char_string none) = both (char_string o.cff glyph) found.charstring none found.charstring_is
     no_glyph_fault e (stops number private at_place charstring _ is there placed here h) =
         (let p = new_dict_is_placed o.cff o.variation found.number found.dict found.dict_is in
