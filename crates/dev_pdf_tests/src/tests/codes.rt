@@ -1,6 +1,6 @@
 //! `pdf_codes`: the codes and the texts of eight glyphs in use, against the values of an independent program.
 
-use crate::tests::expected::SHOWN;
+use crate::tests::made::expected::SHOWN;
 use pdf_codes::{Codes, Shown, codes_and_texts, codes_of, encoding_of, has_long_text};
 use std::alloc::Global;
 use std::test::*;

@@ -9,8 +9,8 @@ use self::rows::texts::{EIGHT_UNITS, GLYPH_ZERO, LEFT_OUT, NINE_UNITS, NONE_SHOW
 use self::rows::truetype::{BY_SOURCE, BY_TEXT, VERTICAL};
 use self::rows::variable::{AT_DEFAULT, BETWEEN_MASTERS, LIGHTEST};
 use self::wanted::{NO_SUBSETS, Wanted, is_answered, with_cid_set, without_hints};
-use crate::tests::expected::SHOWN;
-use crate::tests::fonts::{CFF, TRUE_TYPE, VARIABLE};
+use crate::tests::made::expected::SHOWN;
+use crate::tests::made::fonts::{CFF, TRUE_TYPE, VARIABLE};
 use pdf_font::{
     Bounds, Codes, Direction, FontError, FontOptions, Permission, ProgramChoice, Rights, Shown,
     pdf_font,

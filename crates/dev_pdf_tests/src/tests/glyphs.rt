@@ -1,7 +1,7 @@
 //! `pdf_glyphs`: tops, boxes and columns of three fonts made for this, against the values of an independent program; of the
 //! one that is moved against those of fontTools' instancer.
 
-use crate::tests::tables::{bold, regular, vertical};
+use crate::tests::made::tables::{bold, regular, vertical};
 use pdf_glyphs::{
     HeightVariation, OutlineTables, VerticalTables, box_around, columns_at, columns_of, top_of,
 };

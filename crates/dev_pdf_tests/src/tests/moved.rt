@@ -1,8 +1,8 @@
 //! `pdf_moved`: the values of a font made for this at two sets of coordinates, against values that an independent program
 //! computed.
 
-use crate::tests::expected::{BETWEEN, LIGHT};
-use crate::tests::tables::{regular, variable};
+use crate::tests::made::expected::{BETWEEN, LIGHT};
+use crate::tests::made::tables::{regular, variable};
 use pdf_moved::{Movement, values_at};
 use pdf_values::{GlyphBox, Known, Tables, Values};
 use std::test::*;

@@ -1,8 +1,8 @@
 //! `pdf_values`: the values of two whole fonts, and of what `OS/2` permits in each of its versions, against values that an
 //! independent program computed; and that each public call answers where memory is there.
 
-use crate::tests::expected::{BOLD, REGULAR};
-use crate::tests::tables::{bold, regular};
+use crate::tests::made::expected::{BOLD, REGULAR};
+use crate::tests::made::tables::{bold, regular};
 use pdf_values::{
     Bounds, Known, Permission, Rights, Tables, Usage, is_permitted, permission_of, postscript_name,
     values_of,

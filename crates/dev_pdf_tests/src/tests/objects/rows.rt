@@ -1,6 +1,6 @@
 //! What an independent program says of five calls: values of three fonts, and the texts of their objects.
 
-use crate::tests::expected::{BETWEEN, BOLD, REGULAR};
+use crate::tests::made::expected::{BETWEEN, BOLD, REGULAR};
 use pdf_font::{Column, DefaultColumn, ProgramKind, Values};
 
 /// What a row says. Its program has so many bytes, its ToUnicode nine.

@@ -1,7 +1,7 @@
 //! A row of two blocks, and its characters.
 
-use crate::tests::expected::REGULAR;
 use crate::tests::font::wanted::{EDITABLE, Wanted};
+use crate::tests::made::expected::REGULAR;
 use pdf_font::ProgramKind;
 
 /// Its characters.

@@ -1,7 +1,7 @@
 //! Rows of `Made Bold`.
 
-use crate::tests::expected::BOLD;
 use crate::tests::font::wanted::{NO_SUBSETS, Wanted};
+use crate::tests::made::expected::BOLD;
 use pdf_font::ProgramKind;
 
 /// A bare `CFF `, in vertical writing.

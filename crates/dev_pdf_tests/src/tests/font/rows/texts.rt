@@ -1,7 +1,7 @@
 //! Rows of texts.
 
-use crate::tests::expected::REGULAR;
 use crate::tests::font::wanted::{EDITABLE, Wanted};
+use crate::tests::made::expected::REGULAR;
 use pdf_font::ProgramKind;
 
 /// No glyph is shown.

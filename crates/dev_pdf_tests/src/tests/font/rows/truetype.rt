@@ -1,7 +1,7 @@
 //! Rows of `Made Regular`.
 
-use crate::tests::expected::REGULAR;
 use crate::tests::font::wanted::{EDITABLE, Wanted};
+use crate::tests::made::expected::REGULAR;
 use pdf_font::ProgramKind;
 
 /// In vertical writing, with CIDSet.

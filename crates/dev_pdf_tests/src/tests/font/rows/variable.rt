@@ -1,7 +1,7 @@
 //! Rows of `Made` with its axes.
 
-use crate::tests::expected::{BETWEEN, LIGHT, REGULAR};
 use crate::tests::font::wanted::{EDITABLE, Wanted};
+use crate::tests::made::expected::{BETWEEN, LIGHT, REGULAR};
 use pdf_font::ProgramKind;
 
 /// At 650 and -7.5.
