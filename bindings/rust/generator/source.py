@@ -77,6 +77,7 @@ class Source(Tokens):
         """Writes the items of a module that are reached. `absent` are the names of those that aren't."""
         self.reviewed, self.absent = reviewed, absent
         self.cut_contracts()
+        self.level = module.level
         self.write_items(self.items, module.level)
         for i, text in enumerate(self.texts):
             if self.written[i] == CUT or self.gone[i]:
@@ -422,13 +423,29 @@ class Source(Tokens):
         return LINK.sub(unlinked, line)
 
     def prelude(self):
-        """What the stand-in's prelude has to give."""
-        words = set(self.written)
-        names = {name for name in PRELUDE | HOST if name in words}
-        names |= {name for name, methods in TRAITS.items() if methods & words}
-        if not names:
-            return []
-        return [f"use {SHIM}::prelude::{{{', '.join(sorted(names))}}};"]
+        """What the stand-in's prelude has to give, each name behind the feature that all that needs it is behind."""
+        levels = {}
+        for i, word in enumerate(self.written):
+            for name in self.needed(word):
+                levels[name] = min(self.level_at(self.items, i, self.level), levels.get(name, max(FEATURES)))
+        lines = []
+        for wanted in sorted(set(levels.values())):
+            names = ", ".join(sorted(name for name, level in levels.items() if level == wanted))
+            gate = [f'#[cfg(feature = "{FEATURES[wanted]}")]'] if wanted > self.level else []
+            lines += [*gate, f"use {SHIM}::prelude::{{{names}}};"]
+        return lines
+
+    @staticmethod
+    def needed(word):
+        """What of the prelude a word of the written text needs."""
+        return {word} & (PRELUDE | HOST) | {name for name, methods in TRAITS.items() if word in methods}
+
+    def level_at(self, all_items, i, level):
+        """The level of the innermost item at a token."""
+        for item in all_items:
+            if item.first <= i <= item.last:
+                return self.level_at(item.children, i, max(level, item.level or 0))
+        return level
 
     def check(self):
         """What is left over of Rattle is an error, and so is what the rules have no business to cut."""

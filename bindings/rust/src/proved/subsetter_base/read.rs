@@ -3,6 +3,7 @@
 //!
 //! `new_at` and `jump` take any offset, and one past the end isn't the same as the end, where no bytes can be read.
 
+#[cfg(feature = "variable-fonts")]
 use crate::rattle::prelude::Cast;
 
 pub use crate::proved::subsetter_base::lazy_array::LazyArray16;

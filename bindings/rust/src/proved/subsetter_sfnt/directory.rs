@@ -3,16 +3,20 @@
 
 use crate::proved::subsetter_base::read::Reader;
 use crate::proved::subsetter_base::Tag;
+#[cfg(feature = "program")]
+use crate::proved::subsetter_sfnt::face::{FontKind, TABLE_DIRECTORY_OFFSETS};
 use crate::proved::subsetter_sfnt::face::{
-    FontKind, TableRecord, NUM_TABLES, TABLE_DIRECTORY_OFFSETS, TABLE_RECORDS, TABLE_RECORD_SIZE,
+    TableRecord, NUM_TABLES, TABLE_RECORDS, TABLE_RECORD_SIZE,
 };
 
 /// What the bytes from an offset on begin with.
+#[cfg(feature = "program")]
 pub fn kind_at(file: &[u8], at: usize) -> Option<FontKind> {
     Reader::new_at(file, at).read::<FontKind>()
 }
 
 /// Where the header of a collection's font is.
+#[cfg(feature = "program")]
 fn offset_in_collection(file: &[u8], index: u32) -> Option<usize> {
     let at = Reader::new_at(
         file,
@@ -26,6 +30,7 @@ fn offset_in_collection(file: &[u8], index: u32) -> Option<usize> {
 }
 
 /// Where the font's header is.
+#[cfg(feature = "program")]
 pub fn header_offset(file: &[u8], index: u32) -> Option<usize> {
     match kind_at(file, 0)? {
         FontKind::Single => Some(0),
@@ -42,6 +47,7 @@ pub fn records_at(file: &[u8], at: usize) -> Option<&[u8]> {
 }
 
 /// The bytes of the records of the font's directory.
+#[cfg(feature = "program")]
 pub fn records(file: &[u8], index: u32) -> Option<&[u8]> {
     let at = header_offset(file, index)?;
     records_at(file, at)
