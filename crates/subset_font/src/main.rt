@@ -18,8 +18,9 @@ mod run;
 mod streams;
 mod task;
 
+pub use faces::accepted::InfoParts;
 pub use faces::axes::{axes_there, carry_axes};
-pub use faces::info::{InfoParts, carry_info};
+pub use faces::info::carry_info;
 pub use faces::tables::{table_sizes, tables_of};
 pub use help::{HELP, VERSION_LINE};
 pub use making::carried::carry_out;
