@@ -14,7 +14,7 @@ export class SubsetterError extends Error {}
 export class UnknownKind extends SubsetterError {}
 /** A table is missing or cut, or there is no such glyph or face. */
 export class MalformedFont extends SubsetterError {}
-/** The outlines are CFF2, or a glyph is an accented character that `endchar` puts together. */
+/** The outlines are CFF2, and there are no `coordinates`, or a glyph is an accented character that `endchar` puts together. */
 export class Unimplemented extends SubsetterError {}
 /** A kept string lies outside its table, or the new `name` would be too large. */
 export class SubsetError extends SubsetterError {}
