@@ -46,6 +46,18 @@ fn hmtx(alloc: Global, all: &[Option<LongHorMetric>]) -> Result<Vec<u8>, Error> 
     Ok(hmtx)
 }
 
+/// The greatest advance, and what stands behind it in `hhea`.
+fn extremes(
+    alloc: Global,
+    source: &[u8],
+    metrics: &[LongHorMetric],
+) -> Result<Vec<u8>, AllocError> {
+    let mut extremes = Vec::with_capacity(alloc, EXTREMES_SIZE)?;
+    extremes.extend_from_slice(&widest(metrics).to_be_bytes())?;
+    extremes.extend_from_slice(&source[ADVANCE_WIDTH_MAX + 2..CARET_SLOPE_RISE])?;
+    Ok(extremes)
+}
+
 /// `hhea`: with the greatest advance, and a pair of `hmtx` for each glyph.
 fn hhea(
     alloc: Global,
@@ -53,9 +65,7 @@ fn hhea(
     count: u16,
     metrics: &[LongHorMetric],
 ) -> Result<Vec<u8>, AllocError> {
-    let mut extremes = Vec::with_capacity(alloc, EXTREMES_SIZE)?;
-    extremes.extend_from_slice(&widest(metrics).to_be_bytes())?;
-    extremes.extend_from_slice(&source[ADVANCE_WIDTH_MAX + 2..CARET_SLOPE_RISE])?;
+    let extremes = extremes(alloc, source, metrics)?;
     let mut hhea = Vec::with_capacity(alloc, source.len())?;
     write_hhea(&mut hhea, source, &extremes, count);
     Ok(hhea)
@@ -127,8 +137,13 @@ pub fn laid(
     cff: &[u8],
 ) -> Result<Vec<u8>, Error> {
     let new = new_tables(alloc, source, lines.hhea(), mapper, metrics)?;
-    let name = face.stored(Tag::NAME);
-    let tables = font_tables(&new, cff, source.maxp(), name, lines.post());
+    let tables = font_tables(
+        &new,
+        cff,
+        source.maxp(),
+        face.stored(Tag::NAME),
+        lines.post(),
+    );
     let list = in_order(alloc, tables)?;
     finish(alloc, FontFlavor::Cff, &list, None)
 }
