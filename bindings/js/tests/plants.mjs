@@ -132,6 +132,11 @@ const PLANTS = [
     [PACKAGE, "subsetter.d.mts", "    defaultColumn?: [number, number];", "    defaultColumns?: [number, number];"],
     [PACKAGE, "README.md", "const made = subsetter.embed(bytes, [36, 68]);", "const made = subsetter.embedded(bytes, [36, 68]);"],
     [PACKAGE, "README.md", "names: false, glyphNames: false, limits", "names: false, glyphnames: false, limits"],
+    [BROWSER, "tests/chromium.mjs", "\"--no-startup-window\", ", ""],
+    [BROWSER, "tests/chromium.mjs", "            if (this.#over) return fail(this.#over);\n", ""],
+    [BROWSER, "tests/chromium.mjs", "                for (const { fail } of this.#pending.values()) fail(this.#over);\n", ""],
+    [BROWSER, "tests/profiles.mjs", "    await rm(folder,", "    if (false) await rm(folder,"],
+    [["node tests/browsers.mjs firefox"], "tests/firefox.mjs", "            if (this.#over) return fail(this.#over);\n", ""],
     [BROWSER, "subsetter.mjs", "return compiled(await fetch(url));", "return compiled(await fetch(url.href));"],
     [PACKAGE, "package.json", "\"./subsetter.mjs\"\n    }", "\"./subseter.mjs\"\n    }"],
     [PACKAGE, "subsetter.d.mts", "export class CFFError", "export class CffError"],
@@ -195,7 +200,7 @@ const room = mkdtempSync(join(tmpdir(), "subsetter-plants-")), copy = join(room,
 mkdirSync(copy, { recursive: true });
 // (dates stay, so that make has nothing to do for what is built)
 const copied = { recursive: true, verbatimSymlinks: true, preserveTimestamps: true };
-for (const name of ["VERSION", "crates.txt", "LICENSE", "NOTICE", "crates/dev_rows/data", "bindings/rust/src", "bindings/capi/src", "bindings/c/subsetter.h"]) {
+for (const name of ["VERSION", "crates.txt", "LICENSE", "NOTICE", "crates/dev_rows/data", "bindings/rust/src", "bindings/rust/tests/data", "bindings/capi/src", "bindings/c/subsetter.h"]) {
     cpSync(join(here, "../..", name), join(room, name), copied);
 }
 cpSync(here, copy, copied);
@@ -206,10 +211,16 @@ try {
     for (const [, file, old] of PLANTS) {
         if (readFileSync(join(copy, file), "utf8").split(old).length !== 2) throw new Error(`${file} is to have this once: ${old}`);
     }
-    for (const [tests, file, old, put] of PLANTS.filter((it) => it.slice(1).join(" ").includes(word))) {
+    const wanted = PLANTS.filter((it) => it.slice(1).join(" ").includes(word));
+    const run = (command) => spawnSync("bash", ["-c", command], { cwd: copy, encoding: "utf8", timeout: 300000 });
+    // (a test that fails as it is sees nothing)
+    for (const command of new Set(wanted.flatMap(([tests]) => tests))) {
+        const { status, stdout, stderr } = run(command);
+        if (status !== 0) throw new Error(`without a bug it fails: ${command}\n${stdout}${stderr}`);
+    }
+    for (const [tests, file, old, put] of wanted) {
         const path = join(copy, file), text = readFileSync(path, "utf8"), { atime, mtime } = statSync(path);
         writeFileSync(path, text.replace(old, () => put));
-        const run = (command) => spawnSync("bash", ["-c", command], { cwd: copy, encoding: "utf8", timeout: 300000 });
         const failed = tests.map(run).find(({ status }) => status !== 0);
         writeFileSync(path, text);
         utimesSync(path, atime, mtime);
