@@ -136,7 +136,6 @@ const PLANTS = [
     [BROWSER, "tests/chromium.mjs", "            if (this.#over) return fail(this.#over);\n", ""],
     [BROWSER, "tests/chromium.mjs", "                for (const { fail } of this.#pending.values()) fail(this.#over);\n", ""],
     [BROWSER, "tests/profiles.mjs", "    await rm(folder,", "    if (false) await rm(folder,"],
-    [["node tests/browsers.mjs firefox"], "tests/firefox.mjs", "            if (this.#over) return fail(this.#over);\n", ""],
     [BROWSER, "subsetter.mjs", "return compiled(await fetch(url));", "return compiled(await fetch(url.href));"],
     [PACKAGE, "package.json", "\"./subsetter.mjs\"\n    }", "\"./subseter.mjs\"\n    }"],
     [PACKAGE, "subsetter.d.mts", "export class CFFError", "export class CffError"],
