@@ -87,10 +87,10 @@ def recorder():
 class Source:
     """A font, as fontTools reads it."""
 
-    def __init__(self, path):
+    def __init__(self, path, index=0):
         from fontTools.ttLib import TTFont
 
-        self.font = TTFont(path, lazy=True)
+        self.font = TTFont(path, lazy=True, fontNumber=index)
         self.top = self.font["CFF2"].cff.topDictIndex[0]
         self.count = len(self.top.CharStrings.charStringsIndex)
         self.axes = len(self.font["fvar"].axes) if "fvar" in self.font else 0
@@ -140,18 +140,18 @@ class Pen:
     endPath = closePath
 
 
-def drawn(charstring):
-    """The path and the width of a charstring without subroutines, as fontTools draws it."""
+def drawn(charstring, nominal=0, default=0):
+    """The path and the width of a charstring without subroutines, as fontTools draws it with these widths of its private dict."""
     from fontTools.misc import psCharStrings
 
     pen = Pen()
-    extractor = psCharStrings.T2OutlineExtractor(pen, [], [], 0, 0)
+    extractor = psCharStrings.T2OutlineExtractor(pen, [], [], nominal, default)
     extractor.execute(psCharStrings.T2CharString(bytecode=charstring))
     return pen.path, extractor.width
 
 
-def drawn_exactly(events):
-    """The path of exact operators, as fontTools draws them."""
+def drawn_by_each(events):
+    """For each of exact operators the parts of the path that it draws, as fontTools draws them."""
     from fontTools.misc import psCharStrings
 
     class Exact(psCharStrings.T2OutlineExtractor):
@@ -167,10 +167,15 @@ def drawn_exactly(events):
     exact.gotWidth = 1
     exact.width = 0
     for code, operands, _ in events:
-        name = names[code]
+        name, before = names[code], len(pen.path)
         if "stem" not in name and "mask" not in name:
             exact.execute_event(name, operands)
-    return pen.path
+        yield pen.path[before:]
+
+
+def drawn_exactly(events):
+    """The path of exact operators."""
+    return [part for parts in drawn_by_each(events) for part in parts]
 
 
 def written(charstring):

@@ -1,0 +1,159 @@
+"""What FreeType and fontTools' mutator have of a CFF2 font at coordinates: what cff2_whole.py compares new fonts with."""
+import io
+import math
+
+from cff2_exact import Pen
+from instance_others import advance_by
+
+PPEM, PIXEL = 16, 64
+# Stems of made fonts are random, so some lie where half a unit decides which of them FreeType keeps: of so many glyphs one may be hinted
+# otherwise. Without hints it has to be as near as this (in 64ths of a pixel).
+MADE, SELDOM, UNHINTED = "Made ", 100, 4
+MUTATOR_BOUND = 16
+# Points of hinted outlines that are as near are one (in 64ths of a pixel).
+ONE = 2
+__all__ = ["Others", "advance_by"]
+
+
+# ---- FreeType
+
+class FreeType:
+    """A face of FreeType's library at 16 pixels an em, hinted."""
+
+    def __init__(self, path, index=0, at=()):
+        import freetype
+
+        self.freetype, self.face = freetype, None
+        try:
+            self.face = freetype.Face(path, index)
+            self.face.set_char_size(PPEM * PIXEL, PPEM * PIXEL, 72, 72)
+            if at:
+                self.face.set_var_blend_coords([value / 16384 for value in at])
+        except freetype.FT_Exception:
+            # (2.12 can't read FDSelect of format 4)
+            self.face = None
+
+    def contours(self, glyph, hinted=True):
+        """The contours of a glyph, each the points without those that lie at the one before; None where FreeType refuses it, or the face."""
+        if self.face is None:
+            return None
+        try:
+            self.face.load_glyph(glyph, self.freetype.FT_LOAD_NO_BITMAP | (0 if hinted else self.freetype.FT_LOAD_NO_HINTING))
+        except self.freetype.FT_Exception:
+            return None
+        outline, found, start = self.face.glyph.outline, [], 0
+        for end in outline.contours:
+            found.append(without_twins(outline.points[start:end + 1]))
+            start = end + 1
+        return [it for it in found if len(it) > 1]
+
+
+def without_twins(points):
+    kept = []
+    for point in points:
+        if not kept or distance(point, kept[-1]) > ONE:
+            kept.append(point)
+    while len(kept) > 1 and distance(kept[0], kept[-1]) <= ONE:
+        kept.pop()
+    return kept
+
+
+def distance(a, b):
+    return max(abs(a[0] - b[0]), abs(a[1] - b[1]))
+
+
+def apart(ours, theirs):
+    """How far the points of contours are from one another, at most. Where a contour has other points (as one that is closed by a line of
+    no length), from the nearest one."""
+    if len(ours) != len(theirs):
+        ours, theirs = [sum(ours, [])], [sum(theirs, [])]
+    worst = 0
+    for one, other in zip(ours, theirs):
+        if len(one) == len(other):
+            worst = max(worst, *map(distance, one, other))
+        elif one and other:
+            worst = max(worst, *(min(distance(a, b) for b in other) for a in one), *(min(distance(a, b) for b in one) for a in other))
+        else:
+            return math.inf
+    return worst
+
+
+# ---- fontTools
+
+def mutated(face, place):
+    """The font at coordinates as fontTools' mutator makes it, or None where it can't read this font: it takes the item variation data of
+    private dicts for the first, and blends in subroutines for none."""
+    from fontTools.ttLib import TTFont
+    from fontTools.varLib.mutator import instantiateVariableFont
+
+    import fontTools.subset.cff  # noqa: F401 (it adds desubroutinize)
+
+    if not face.axes or any(getattr(it.Private, "vsindex", 0) for it in face.source.top.FDArray):
+        return None
+    font = TTFont(io.BytesIO(face.it.alone), recalcBBoxes=False)
+    font["CFF2"].cff.desubroutinize()
+    for tag in ("GSUB", "GPOS", "GDEF", "STAT", "MVAR"):
+        if tag in font:
+            del font[tag]
+    return instantiateVariableFont(font, {tag: value / 65536 for tag, value in place}, inplace=True)
+
+
+def path_by(font, tag, glyph):
+    """What fontTools draws of a glyph of the table CFF or CFF2."""
+    pen = Pen()
+    font.getGlyphSet()
+    charstrings = font[tag].cff.topDictIndex[0].CharStrings
+    charstrings[font.getGlyphOrder()[glyph]].draw(pen)
+    return pen.path
+
+
+def parts_apart(ours, theirs):
+    """The greatest distance of two coordinates of paths; None for other parts."""
+    if [it[0] for it in ours] != [it[0] for it in theirs]:
+        return None
+    return max((abs(a - b) for it, twin in zip(ours, theirs) for a, b in zip(it[1:], twin[1:])), default=0)
+
+
+class Others:
+    """A face at a place by both."""
+
+    def __init__(self, face, place, with_mutator):
+        self.face, self.at = face, face.at(place)
+        self.mutated = mutated(face, place) if with_mutator else None
+
+    def compare(self, report, at, path, old):
+        self.beside_freetype(report, at, path, old)
+        if self.mutated:
+            self.beside_fonttools(report, at, path, old)
+
+    def beside_freetype(self, report, at, path, old):
+        source, new = FreeType(self.face.path, self.face.index, at), FreeType(path)
+        for number, glyph in enumerate(old):
+            theirs = source.contours(glyph)
+            if theirs is None:
+                report.counts["refused by FreeType"] += 1
+                continue
+            report.counts["FreeType"] += 1
+            ours = new.contours(number)
+            off = math.inf if ours is None else apart(ours, theirs)
+            report.worst = max(report.worst, off)
+            if off > PIXEL and self.may_be_otherwise(report, apart(new.contours(number, False) or [], source.contours(glyph, False))):
+                report.counts["hinted otherwise"] += 1
+            elif off > PIXEL:
+                report.say("FreeType", f"glyph {glyph} at {at}: {off / PIXEL:.2f} pixels off at {PPEM} pixels an em")
+
+    def may_be_otherwise(self, report, unhinted):
+        """Whether a glyph of a made font may be hinted otherwise."""
+        is_made = (self.face.source.font["name"].getDebugName(1) or "").startswith(MADE) if "name" in self.face.source.font else False
+        return is_made and unhinted <= UNHINTED and SELDOM * report.counts["hinted otherwise"] <= report.counts["FreeType"]
+
+    def beside_fonttools(self, report, at, path, old):
+        from fontTools.ttLib import TTFont
+
+        new = TTFont(path, lazy=True)
+        for number, glyph in enumerate(old):
+            report.counts["fontTools"] += 1
+            off = parts_apart(path_by(new, "CFF ", number), path_by(self.mutated, "CFF2", glyph))
+            report.units = max(report.units, off or 0)
+            if off is None or off > MUTATOR_BOUND:
+                report.say("fontTools", f"glyph {glyph} at {at}: " + ("other parts" if off is None else f"{off} units off"))
