@@ -33,8 +33,10 @@ glyphs 300), in random order. The location is that of a second reading (lib/vari
     advance       hmtx has HarfBuzz's advance, and what a second reading of HVAR comes to; the bearing is the source's
     width         the charstring's width, as fontTools reads it by the private dict, is that of hmtx
     private dict  the glyph's has the operators that CFF and CFF2 share, each edge and number at the location rounded once
-    FreeType      its hinted outline at 16 pixels an em is within a pixel of the source's there; of the fonts of cff2_fonts.py, whose
-                  stems are random, one of a hundred glyphs may be hinted otherwise, which is as near without hints
+    FreeType      its hinted outline at 16 pixels an em is within a pixel of the source's there. Of the fonts of cff2_fonts.py, whose
+                  stems are random, one of a hundred glyphs may be hinted otherwise, as half a unit decides which stems FreeType keeps;
+                  each is printed. It has to be hinted as the same glyph of a static font that lib/cff2_static.py makes of the
+                  source's exact numbers by fontTools, in each point, and without hints within 3 64ths of a pixel of the source's
     fontTools     its mutator, which rounds each operand, draws it within 16 units (not where a private dict has `vsindex`, which that
                   doesn't read, nor of more than 5,000 glyphs)
     file          OTTO; the tables CFF, head, hhea, hmtx, maxp, name and post (those two where the source has them) and no others, with
@@ -43,7 +45,7 @@ glyphs 300), in random order. The location is that of a second reading (lib/vari
 
 --damage N changes bytes of CFF2, fvar, avar or HVAR in N copies of the fonts of at most 1 MB, at a random place and for 12 glyphs: the program has to answer what
 HarfBuzz draws of the copy (or, where that goes on otherwise, what fontTools reads), or to refuse it with status 1 and one of its
-messages, within S seconds (1). --hostile makes four families of fonts of four sizes each, which grow by four: the program has to answer
+messages, within S seconds (1) of a processor. --hostile makes four families of fonts of four sizes each, which grow by four: the program has to answer
 each, or refuse it where its tokens are too many, with at most the source, three times the new font, 32 bytes for each glyph and 1 MB of
 memory, and in a time that grows no more than the work (bytes and tokens) does.
 
@@ -219,7 +221,7 @@ def main():
     parser.add_argument("--fonts", action="store_true", help="whole fonts by the program")
     parser.add_argument("--damage", type=int, metavar="N", help="so many damaged copies")
     parser.add_argument("--hostile", action="store_true", help="fonts that cause much work")
-    parser.add_argument("--seconds", type=float, default=cff2_runs.cff2_damaged.SECONDS, metavar="S", help="what a damaged copy may take")
+    parser.add_argument("--seconds", type=float, default=cff2_runs.cff2_damaged.SECONDS, metavar="S", help="what a damaged copy may take of a processor")
     parser.add_argument("--program", metavar="FILE", help="in place of what is built")
     parser.add_argument("--no-install", action="store_true", help="install no packages")
     words = parser.parse_args()

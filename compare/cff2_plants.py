@@ -23,11 +23,21 @@ import cff2_hostile  # noqa: E402
 NONE, ANEW = "no change", "written anew by fontTools"
 # What plants are seen with: whole fonts, damaged copies, and hostile fonts.
 FEW = ["--fonts", "--only", "small-3", "--places", "1", "--glyphs", "25", "--jobs", "1", "--no-install"]
-COPIES = ["--damage", "20", "--only", "small-3", "--seconds", "20", "--jobs", "1", "--no-install"]
+# (a plant's program takes a second itself)
+SECONDS = 5
+COPIES = ["--damage", "20", "--only", "small-3", "--seconds", str(SECONDS), "--jobs", "1", "--no-install"]
 HOSTILE = ["--hostile", "--no-install"]
 
 
 # ---- changes of a new font
+
+def keep_scale(font):
+    """Leaves out the scale of font dicts, which is 1. (fontTools leaves out that of the top dict where it is the default, and then FreeType
+    takes theirs for the font's.)"""
+    for it in font["CFF "].cff.topDictIndex[0].FDArray:
+        it.rawDict.pop("FontMatrix", None)
+        vars(it).pop("FontMatrix", None)
+
 
 def programs(font):
     """The charstrings of a font in its order, each decompiled."""
@@ -157,10 +167,12 @@ def dies(status):
     return status
 
 
-def sleeps(status):
+def works(status):
+    """Takes more seconds of a processor than a damaged copy may."""
     import time
 
-    time.sleep(21)
+    while time.process_time() < 2 * SECONDS:
+        pass
     return status
 
 
@@ -208,7 +220,7 @@ PLANTS = [
     ("a damaged copy is answered as the whole font", COPIES, "words", another_font),
     ("it dies of a damaged copy", COPIES, "status", dies),
     ("an unknown message of a damaged copy", COPIES, "status", says("malformed fonts")),
-    ("a damaged copy takes long", ["--damage", "1", *COPIES[2:]], "status", sleeps),
+    ("a damaged copy takes long", ["--damage", "1", *COPIES[2:]], "status", works),
 ]
 # Those of hostile fonts: the words for the C compiler, and whether it has to pass.
 FAKES = [
@@ -246,6 +258,7 @@ def lie(name, words, program, stand_in):
         from fontTools.ttLib import TTFont
 
         font = TTFont(out, recalcBBoxes=False, recalcTimestamp=False)
+        keep_scale(font)
         try:
             change(font)
         except StopIteration:

@@ -84,6 +84,11 @@ def recorder():
     return Recorder
 
 
+def whole_or_exact(value):
+    """A number of fontTools, of which one with a fraction is a float."""
+    return value if isinstance(value, int) else fractions.Fraction(value)
+
+
 class Source:
     """A font, as fontTools reads it."""
 
@@ -103,8 +108,12 @@ class Source:
         if key not in self.scalars:
             store = self.top.VarStore.otVarStore
             regions = store.VarRegionList.Region
-            self.scalars[key] = [scalar(regions[k], at) for k in store.VarData[data].VarRegionIndex]
-        return sum((s * fractions.Fraction(delta) for s, delta in zip(self.scalars[key], deltas)), fractions.Fraction(0))
+            scalars = [scalar(regions[k], at) for k in store.VarData[data].VarRegionIndex]
+            # (with one denominator, as sums of whole numbers are fast)
+            unit = math.lcm(*(it.denominator for it in scalars))
+            self.scalars[key] = unit, [int(it * unit) for it in scalars]
+        unit, scalars = self.scalars[key]
+        return fractions.Fraction(sum(s * whole_or_exact(delta) for s, delta in zip(scalars, deltas)), unit)
 
     def events(self, glyph, at=None):
         """The operators of a glyph: with the defaults of its blends, or exactly at coordinates."""
@@ -205,4 +214,6 @@ def rounded_hints(found):
 
 
 def half_up(v):
-    return math.floor(v + fractions.Fraction(1, 2))
+    if isinstance(v, float):
+        return math.floor(v + 0.5)
+    return (2 * v.numerator + v.denominator) // (2 * v.denominator)

@@ -2,13 +2,16 @@
 import io
 import math
 
+import cff2_static
 from cff2_exact import Pen
 from instance_others import advance_by
 
 PPEM, PIXEL = 16, 64
 # Stems of made fonts are random, so some lie where half a unit decides which of them FreeType keeps: of so many glyphs one may be hinted
-# otherwise. Without hints it has to be as near as this (in 64ths of a pixel).
-MADE, SELDOM, UNHINTED = "Made ", 100, 4
+# otherwise. What may be is judged without the program: FreeType has to hint the glyph of a static font alike, which cff2_static.py makes
+# of the source's exact numbers, each rounded once (as far apart, in 64ths of a pixel, as ALIKE); and without hints it has to be as near to
+# the source's as UNHINTED: half a unit of rounding and the unit that FreeType cuts down, 1.6 of them at 1000 units an em.
+MADE, SELDOM, ALIKE, UNHINTED = "Made ", 100, 0, 3
 MUTATOR_BOUND = 16
 # Points of hinted outlines that are as near are one (in 64ths of a pixel).
 ONE = 2
@@ -78,7 +81,28 @@ def apart(ours, theirs):
     return worst
 
 
+def is_alike(ours, theirs, most):
+    return ours is not None and theirs is not None and apart(ours, theirs) <= most
+
+
 # ---- fontTools
+
+def flat(face):
+    """The bytes of a face without subroutines, as fontTools' mutator takes it; made once."""
+    from fontTools.ttLib import TTFont
+
+    import fontTools.subset.cff  # noqa: F401 (it adds desubroutinize)
+
+    if face.flat is None:
+        font, out = TTFont(io.BytesIO(face.it.alone), recalcBBoxes=False, recalcTimestamp=False), io.BytesIO()
+        font["CFF2"].cff.desubroutinize()
+        for tag in ("GSUB", "GPOS", "GDEF", "STAT", "MVAR"):
+            if tag in font:
+                del font[tag]
+        font.save(out)
+        face.flat = out.getvalue()
+    return face.flat
+
 
 def mutated(face, place):
     """The font at coordinates as fontTools' mutator makes it, or None where it can't read this font: it takes the item variation data of
@@ -86,15 +110,9 @@ def mutated(face, place):
     from fontTools.ttLib import TTFont
     from fontTools.varLib.mutator import instantiateVariableFont
 
-    import fontTools.subset.cff  # noqa: F401 (it adds desubroutinize)
-
     if not face.axes or any(getattr(it.Private, "vsindex", 0) for it in face.source.top.FDArray):
         return None
-    font = TTFont(io.BytesIO(face.it.alone), recalcBBoxes=False)
-    font["CFF2"].cff.desubroutinize()
-    for tag in ("GSUB", "GPOS", "GDEF", "STAT", "MVAR"):
-        if tag in font:
-            del font[tag]
+    font = TTFont(io.BytesIO(flat(face)), recalcBBoxes=False)
     return instantiateVariableFont(font, {tag: value / 65536 for tag, value in place}, inplace=True)
 
 
@@ -127,7 +145,7 @@ class Others:
             self.beside_fonttools(report, at, path, old)
 
     def beside_freetype(self, report, at, path, old):
-        source, new = FreeType(self.face.path, self.face.index, at), FreeType(path)
+        source, new, far = FreeType(self.face.path, self.face.index, at), FreeType(path), []
         for number, glyph in enumerate(old):
             theirs = source.contours(glyph)
             if theirs is None:
@@ -137,15 +155,23 @@ class Others:
             ours = new.contours(number)
             off = math.inf if ours is None else apart(ours, theirs)
             report.worst = max(report.worst, off)
-            if off > PIXEL and self.may_be_otherwise(report, apart(new.contours(number, False) or [], source.contours(glyph, False))):
+            if off > PIXEL:
+                far.append((number, glyph, f"glyph {glyph} at {at}: {off / PIXEL:.2f} pixels off at {PPEM} pixels an em"))
+        may_be = self.hinted_otherwise(at, source, new, path + ".static", far) if far and self.face.is_made(MADE) else set()
+        for number, glyph, text in far:
+            if number in may_be:
                 report.counts["hinted otherwise"] += 1
-            elif off > PIXEL:
-                report.say("FreeType", f"glyph {glyph} at {at}: {off / PIXEL:.2f} pixels off at {PPEM} pixels an em")
+                report.otherwise.append(f"{report.label}: {text}")
+            else:
+                report.say("FreeType", text)
 
-    def may_be_otherwise(self, report, unhinted):
-        """Whether a glyph of a made font may be hinted otherwise."""
-        is_made = (self.face.source.font["name"].getDebugName(1) or "").startswith(MADE) if "name" in self.face.source.font else False
-        return is_made and unhinted <= UNHINTED and SELDOM * report.counts["hinted otherwise"] <= report.counts["FreeType"]
+    def hinted_otherwise(self, at, source, new, path, far):
+        """The new numbers of those glyphs that are hinted as they are in a static font made by another way."""
+        with open(path, "wb") as file:
+            file.write(cff2_static.static_font(self.face, at, [glyph for _, glyph, _ in far]))
+        static = FreeType(path)
+        return {number for number, glyph, _ in far if is_alike(new.contours(number), static.contours(glyph), ALIKE)
+                and is_alike(new.contours(number, False), source.contours(glyph, False), UNHINTED)}
 
     def beside_fonttools(self, report, at, path, old):
         from fontTools.ttLib import TTFont

@@ -2,7 +2,6 @@
 import collections
 import glob
 import os
-import resource
 import subprocess
 import tempfile
 
@@ -13,6 +12,7 @@ import cff2_hostile
 import cff2_whole
 import font_at
 import fonts
+from cff2_damaged import spent
 
 OWN = os.path.join(build.ROOT, "crates", "dev_parts", "data")
 MADE = os.path.join(build.BUILD, "cff2")
@@ -66,15 +66,16 @@ def whole(words):
     found = faces(words.folders, words.only)
     reports = by_font.reports(words, one_face, *zip(*found)) if found else []
     print(f"Commit {font_at.commit()}; {font_at.versions()}; seed {words.seed}, the default and {words.places} locations.\n")
-    head = ["Face", *cff2_whole.KINDS, "refused by FreeType", "near a half", "FreeType's pixels at most", "fontTools' units at most", "differ"]
+    head = ["Face", *cff2_whole.KINDS, "refused by FreeType", "near a half", "FreeType's pixels at most", "of them hinted otherwise", "fontTools' units at most", "differ"]
     print("|", " | ".join(head), "|\n|" + "---|" * len(head))
     for it in reports:
-        cells = [it.label, *(it.counts[kind] for kind in cff2_whole.KINDS), it.counts["refused by FreeType"], it.halves, f"{it.worst / 64:.2f}", it.units, it.counts["wrong"]]
+        cells = [it.label, *(it.counts[kind] for kind in cff2_whole.KINDS), it.counts["refused by FreeType"], it.halves, f"{it.worst / 64:.2f}", it.counts["hinted otherwise"], it.units, it.counts["wrong"]]
         print("|", " | ".join(map(str, cells)), "|")
     counts, wrong = joined(reports), wrong_of(reports)
+    print("".join(f"\nHinted otherwise: {line}" for it in reports for line in it.otherwise))
     print("", *by_font.lines(wrong), sep="\n")
     print(f"{len(reports)} faces, {counts['file']} new fonts: {counts['drawing']} glyphs drawn as by HarfBuzz, {sum(it.halves for it in reports)} coordinates near a half, "
-          f"{counts['FreeType']} glyphs hinted by FreeType, {counts['fontTools']} beside fontTools; {len(wrong)} differ.")
+          f"{counts['FreeType']} glyphs hinted by FreeType ({counts['hinted otherwise']} of made fonts otherwise than the source), {counts['fontTools']} beside fontTools; {len(wrong)} differ.")
     return wrong, min([counts[kind] for kind in cff2_whole.KINDS if kind != "fontTools"], default=0)
 
 
@@ -100,10 +101,6 @@ def damage(words):
 
 def timed(words, env=None):
     """The status of a run, the first line that it says, and its seconds on the processor."""
-    def spent():
-        used = resource.getrusage(resource.RUSAGE_CHILDREN)
-        return used.ru_utime + used.ru_stime
-
     before = spent()
     try:
         ran = subprocess.run(words, stdout=subprocess.DEVNULL, stderr=subprocess.PIPE, text=True, errors="replace", timeout=AT_MOST, env=env)

@@ -72,6 +72,7 @@ class Face:
         self.names, self.metrics = self.source.font.getGlyphOrder(), self.source.font["hmtx"].metrics
         self.axes = [(axis.axisTag, axis.minValue, axis.defaultValue, axis.maxValue) for axis in self.source.font["fvar"].axes] if "fvar" in self.source.font else []
         self.label = os.path.basename(path) + f" #{index}" * (path.endswith(".ttc"))
+        self.privates, self.flat = {}, None
 
     def at(self, place):
         """The normalized coordinates in 16384ths."""
@@ -82,6 +83,18 @@ class Face:
         default = self.it.advance(glyph) * variable.UNIT
         return default + (variable.advance_delta(self.tables[b"HVAR"], at, glyph) if b"HVAR" in self.tables else 0)
 
+    def is_made(self, word):
+        """Whether the font's name begins with a word."""
+        return "name" in self.source.font and (self.source.font["name"].getDebugName(1) or "").startswith(word)
+
+    def private(self, glyph, at):
+        """What the private dict of a glyph is at coordinates; each is read once."""
+        select = getattr(self.source.top, "FDSelect", None)
+        key = (select[glyph] if select else 0, *at)
+        if key not in self.privates:
+            self.privates[key] = sorted(cff2_private.at_coordinates(self.source, self.tables[b"CFF2"], self.source.top.FDArray[key[0]], at))
+        return self.privates[key]
+
     def rounded_advance(self, glyph, at):
         return max(variable.nearest(self.advance(glyph, at), variable.UNIT), 0)
 
@@ -90,7 +103,7 @@ class Report:
     """What came of a face."""
 
     def __init__(self, label):
-        self.label, self.counts, self.wrong = label, collections.Counter(), []
+        self.label, self.counts, self.wrong, self.otherwise = label, collections.Counter(), [], []
         self.halves = self.worst = self.units = 0
 
     def say(self, kind, text):
@@ -218,14 +231,11 @@ def compare_glyph(report, face, at, glyph, charstring, private, new_path, theirs
     return width
 
 
-def compare_private(report, face, at, glyph, table, font_dict):
+def compare_private(report, face, at, glyph, ours):
     """The private dict that a new glyph has."""
-    source = face.source
-    select = getattr(source.top, "FDSelect", None)
-    wanted = cff2_private.at_coordinates(source, face.tables[b"CFF2"], source.top.FDArray[select[glyph] if select else 0], at)
+    wanted = face.private(glyph, at)
     report.counts["private dict"] += 1
-    ours = cff2_private.as_written(table, font_dict)
-    if sorted(ours) != sorted(wanted):
+    if ours != wanted:
         report.say("private dict", f"of glyph {glyph} at {at}: {[it for it in ours if it not in wanted][:2]}, and not {[it for it in wanted if it not in ours][:2]}")
 
 
@@ -247,16 +257,17 @@ def compare_font(report, face, at, data, old, others, room):
     if found or len(metrics) != len(old):
         report.say("file", f"at {at}: {', '.join(found or ['the number of glyphs'])}")
     face.harfbuzz.place(at)
+    privates = [sorted(cff2_private.as_written(new.tables["CFF "], it)) for it in top.FDArray]
     for number, glyph in enumerate(old[:len(metrics)]):
-        font_dict = top.FDArray[top.FDSelect[number]]
-        width = compare_glyph(report, face, at, glyph, top.CharStrings.charStringsIndex[number].bytecode, font_dict.Private, mine.drawn(number), face.harfbuzz.drawn(glyph))
+        font_dict = top.FDSelect[number]
+        width = compare_glyph(report, face, at, glyph, top.CharStrings.charStringsIndex[number].bytecode, top.FDArray[font_dict].Private, mine.drawn(number), face.harfbuzz.drawn(glyph))
         report.counts["width"] += width is not None
         if width not in (None, metrics[number][0]):
             report.say("width", f"glyph {glyph} at {at}: {width} in its charstring, {metrics[number][0]} in hmtx")
         if metrics[number][1] != face.metrics[face.names[glyph]][1]:
             report.say("advance", f"glyph {glyph} at {at}: a bearing of {metrics[number][1]}")
         compare_advance(report, face, at, glyph, metrics[number][0])
-        compare_private(report, face, at, glyph, new.tables["CFF "], font_dict)
+        compare_private(report, face, at, glyph, privates[font_dict])
     others.compare(report, at, path, old)
 
 
@@ -281,4 +292,6 @@ def compare_face(words, path, index, room):
             report.say("answer", f"at {pdf_variable.words_at(place) or 'the default'}: {it}")
             continue
         compare_font(report, face, face.at(place), data, old, cff2_others.Others(face, place, count <= MUTATED), room)
+    if cff2_others.SELDOM * (report.counts["hinted otherwise"] - 1) > report.counts["FreeType"]:
+        report.say("FreeType", f"{report.counts['hinted otherwise']} of {report.counts['FreeType']} glyphs are hinted otherwise")
     return report

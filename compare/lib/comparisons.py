@@ -17,7 +17,7 @@ def sources(*crates):
 # What the calls are made of, by kind.
 SUBSET = sources("subsetter", "subsetter_base", "subsetter_sfnt", "subsetter_cff", "subsetter_cffdata", "subsetter_type2")
 INSTANCE = sources("subsetter_instance", "subsetter_points", "subsetter_variation", "subsetter_variable")
-CFF2 = sources("subsetter_cff_at", "subsetter_cff2", "subsetter_blend", "subsetter_variation", "subsetter_cff", "subsetter_type2", "subsetter_cffdata", "subsetter_base")
+CFF2 = sources("subsetter_cff_at", "subsetter_cff_instance", "subsetter_cff2", "subsetter_blend", "subsetter_variation", "subsetter_cff", "subsetter_type2", "subsetter_cffdata", "subsetter_base")
 BENCH = sources("dev_bench")
 PROGRAM = sources("subset_font", "subset_args", "subset_lines", "subset_pdf", "pdf_objects", "pdf_sheet", "pdf_font", "glyph_names", "cid_embed", "cmap", "late_file")
 C = sources("subsetter_c", "subsetter_pdf_c", "cid_embed", "cid_embed_at") + ("bindings/c/*",)
