@@ -132,6 +132,16 @@ def parts_apart(ours, theirs):
     return max((abs(a - b) for it, twin in zip(ours, theirs) for a, b in zip(it[1:], twin[1:])), default=0)
 
 
+def judge_far(report, far, may_be):
+    """What becomes of glyphs that are hinted more than a pixel off: those of `may_be` are noted, the others are wrong."""
+    for number, _, text in far:
+        if number in may_be:
+            report.counts["hinted otherwise"] += 1
+            report.otherwise.append(f"{report.label}: {text}")
+        else:
+            report.say("FreeType", text)
+
+
 class Others:
     """A face at a place by both."""
 
@@ -157,13 +167,8 @@ class Others:
             report.worst = max(report.worst, off)
             if off > PIXEL:
                 far.append((number, glyph, f"glyph {glyph} at {at}: {off / PIXEL:.2f} pixels off at {PPEM} pixels an em"))
-        may_be = self.hinted_otherwise(at, source, new, path + ".static", far) if far and self.face.is_made(MADE) else set()
-        for number, glyph, text in far:
-            if number in may_be:
-                report.counts["hinted otherwise"] += 1
-                report.otherwise.append(f"{report.label}: {text}")
-            else:
-                report.say("FreeType", text)
+        if far:
+            judge_far(report, far, self.hinted_otherwise(at, source, new, path + ".static", far) if self.face.is_made(MADE) else set())
 
     def hinted_otherwise(self, at, source, new, path, far):
         """The new numbers of those glyphs that are hinted as they are in a static font made by another way."""
