@@ -1,5 +1,6 @@
 """CFF2 fonts at coordinates by fontTools, in exact fractions: what cff2.py compares the port with."""
 import fractions
+import functools
 import itertools
 import math
 
@@ -21,6 +22,7 @@ def scalar(region, at):
     return product
 
 
+@functools.cache
 def recorder():
     """A reader of charstrings that keeps each operator with its operands and its mask. (The class needs fontTools, which may have
     to be installed first.)"""
