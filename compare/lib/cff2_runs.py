@@ -3,6 +3,7 @@ import collections
 import glob
 import os
 import subprocess
+import sys
 import tempfile
 
 import build
@@ -57,8 +58,17 @@ def wrong_of(reports):
 # ---- whole fonts
 
 def one_face(words, path, index):
+    """Compares a face, and says on standard error what came of it."""
     with tempfile.TemporaryDirectory(prefix="cff2-") as room:
-        return cff2_whole.compare_face(words, path, index, room)
+        report = cff2_whole.compare_face(words, path, index, room)
+    print(row_of(report), *report.otherwise, *report.wrong, sep="\n", file=sys.stderr, flush=True)
+    return report
+
+
+def row_of(it):
+    """The row of a face."""
+    cells = [it.label, *(it.counts[kind] for kind in cff2_whole.KINDS), it.counts["refused by FreeType"], it.halves, f"{it.worst / 64:.2f}", it.counts["hinted otherwise"], it.units, it.counts["wrong"]]
+    return f"| {' | '.join(map(str, cells))} |"
 
 
 def whole(words):
@@ -68,9 +78,7 @@ def whole(words):
     print(f"Commit {font_at.commit()}; {font_at.versions()}; seed {words.seed}, the default and {words.places} locations.\n")
     head = ["Face", *cff2_whole.KINDS, "refused by FreeType", "near a half", "FreeType's pixels at most", "of them hinted otherwise", "fontTools' units at most", "differ"]
     print("|", " | ".join(head), "|\n|" + "---|" * len(head))
-    for it in reports:
-        cells = [it.label, *(it.counts[kind] for kind in cff2_whole.KINDS), it.counts["refused by FreeType"], it.halves, f"{it.worst / 64:.2f}", it.counts["hinted otherwise"], it.units, it.counts["wrong"]]
-        print("|", " | ".join(map(str, cells)), "|")
+    print("\n".join(map(row_of, reports)))
     counts, wrong = joined(reports), wrong_of(reports)
     print("".join(f"\nHinted otherwise: {line}" for it in reports for line in it.otherwise))
     print("", *by_font.lines(wrong), sep="\n")
