@@ -4,7 +4,7 @@
     compare/pdf.py FONT INDEX GID[,GID..] [--bare] [--keep FOLDER]
     compare/pdf.py --faces N [--bare] [--keep FOLDER]
     compare/pdf.py --variable [FOLDER ..] [--places N] [--only WORD] [--plant BUG] [--keep FOLDER]
-    compare/pdf.py --cff2 [FOLDER ..] [--places N] [--only WORD] [--plant BUG] [--keep FOLDER]
+    compare/pdf.py --cff2 [FOLDER ..] [--places N] [--only WORD] [--plant BUG] [--jobs J] [--keep FOLDER]
     compare/pdf.py --specimen PNG
     compare/pdf.py --weights PNG
 
@@ -239,6 +239,7 @@ def main():
     words.add_argument("--places", type=int, default=20, metavar="N", help="random coordinates for each font")
     words.add_argument("--only", default="", metavar="WORD", help="take those whose names have this word")
     words.add_argument("--plant", choices=["place", "axes", "widths", "unit"], help="a planted bug, which has to be seen; `unit` with --cff2")
+    words.add_argument("--jobs", type=int, default=1, metavar="J", help="so many fonts at a time, with --cff2")
     words.add_argument("--specimen")
     words.add_argument("--weights")
     words.add_argument("--keep", metavar="FOLDER", help="leave the files there")
@@ -255,7 +256,7 @@ def main():
         return 0 if pdf_variable.all_fonts(given.variable, given.places, given.only, given.keep, given.plant) else 1
     if given.cff2 is not None:
         import pdf_cff2
-        return 0 if pdf_cff2.all_fonts(given.cff2, given.places, given.only, given.keep, given.plant) else 1
+        return 0 if pdf_cff2.all_fonts(given.cff2, given.places, given.only, given.keep, given.plant, given.jobs) else 1
     if given.faces:
         return 0 if all_faces(given.faces, given.keep, given.bare) else 1
     if given.glyphs is None:

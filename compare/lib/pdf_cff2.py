@@ -1,6 +1,6 @@
 """Subsets of CFF2 fonts at random places, drawn by three PDF readers, beside a font of the same outlines that is made by another way.
 
-    compare/pdf.py --cff2 [FOLDER ..] [--places N] [--only WORD] [--plant BUG] [--keep FOLDER]
+    compare/pdf.py --cff2 [FOLDER ..] [--places N] [--only WORD] [--plant BUG] [--jobs J] [--keep FOLDER]
 
 The fonts are those that `cff2.py --fonts` takes. For each it takes the default and N places (20), and up to 24 glyphs at each.
 `subset_font --at` makes their subset there: a CID-keyed `CFF ` font with hints. The other font is name-keyed and has none: fontTools
@@ -18,6 +18,8 @@ program is called: `place` moves the first axis by a fifth of its range, `axes` 
 those of the default, and `unit` moves a point of the other font by one unit. The status is 1 where a place differs or is refused, or
 nothing was compared.
 """
+import concurrent.futures
+import itertools
 import os
 import random
 import tempfile
@@ -164,9 +166,9 @@ def compare_place(face, place, glyphs, folder, plant, worst):
     return wrong
 
 
-def compare_face(path, index, count, keep, plant, worst):
-    """The places of a face that are alike, that differ and that are refused, and the glyphs."""
-    face, rng = Face(path, index), random.Random(os.path.basename(path))
+def compare_face(path, index, count, keep, plant):
+    """The places of a face that are alike, that differ and that are refused, the glyphs, and by how much the worst pixel of each reader differs."""
+    face, rng, worst = Face(path, index), random.Random(os.path.basename(path)), dict.fromkeys(pdf_drawn.READERS, 0)
     shown = HarfBuzz(path, index)
     there = [glyph for glyph in rng.sample(range(1, len(face.names)), min(len(face.names) - 1, 4 * MANY)) if contours(shown.drawn(glyph))][:MANY]
     alike = different = refused = 0
@@ -183,18 +185,19 @@ def compare_face(path, index, count, keep, plant, worst):
         if wrong:
             print(f"  {face.label} {number}, at {pdf_variable.words_at(place) or 'the default'}: {'; '.join(wrong)}", flush=True)
     print(f"{face.label}: {alike + different + refused} places of {len(there)} glyphs: {alike} alike, {different} not, {refused} refused", flush=True)
-    return alike, different, refused, (alike + different) * len(there)
+    return alike, different, refused, (alike + different) * len(there), worst
 
 
-def all_fonts(folders, count, only, keep, plant):
+def all_fonts(folders, count, only, keep, plant, jobs):
     """A line a face, and the sum; whether all places are alike."""
     fonts.install(PACKAGES)
     found = cff2_runs.faces(folders, only)
     print(f"CFF2 fonts in PDF files, commit {font_at.commit()}, the default and {count} places of each, {pdf_variable.DPI} pixels an inch"
           + f", with a planted bug ({plant})" * bool(plant), flush=True)
-    worst = dict.fromkeys(pdf_drawn.READERS, 0)
-    rows = [compare_face(path, index, count, keep, plant, worst) for path, index in found]
-    alike, different, refused, glyphs = (sum(column) for column in zip(*rows)) if rows else (0, 0, 0, 0)
+    with concurrent.futures.ProcessPoolExecutor(jobs) as pool:
+        rows = list(pool.map(compare_face, *zip(*found), *map(itertools.repeat, (count, keep, plant)))) if found else []
+    alike, different, refused, glyphs = (sum(row[k] for row in rows) for k in range(4))
+    worst = {reader: max((row[4][reader] for row in rows), default=0) for reader in pdf_drawn.READERS}
     print(f"{len(found)} fonts, {alike + different + refused} places, {glyphs} glyphs: {alike} drawn by three readers as the same outlines made by another way, {different} not, "
           f"{refused} refused; pixels at most {', '.join(f'{off} of 255 off by {reader}' for reader, off in worst.items())}")
     if not alike + different:
