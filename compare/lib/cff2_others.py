@@ -13,8 +13,8 @@ PPEM, PIXEL = 16, 64
 # the source's as UNHINTED: half a unit of rounding and the unit that FreeType cuts down, 1.6 of them at 1000 units an em.
 MADE, SELDOM, ALIKE, UNHINTED = "Made ", 100, 0, 3
 MUTATOR_BOUND = 16
-# Points of hinted outlines that are as near are one (in 64ths of a pixel).
-ONE = 2
+# Points of hinted outlines that are as near are one, and a contour that is as small may lack: one whose points become one (in 64ths of a pixel).
+ONE, TINY = 2, 4
 __all__ = ["Others", "advance_by"]
 
 
@@ -65,9 +65,15 @@ def distance(a, b):
     return max(abs(a[0] - b[0]), abs(a[1] - b[1]))
 
 
+def extent(contour):
+    return max(distance(contour[0], it) for it in contour)
+
+
 def apart(ours, theirs):
     """How far the points of contours are from one another, at most. Where a contour has other points (as one that is closed by a line of
     no length), from the nearest one."""
+    if len(ours) != len(theirs):
+        ours, theirs = ([it for it in these if extent(it) > TINY] for these in (ours, theirs))
     if len(ours) != len(theirs):
         ours, theirs = [sum(ours, [])], [sum(theirs, [])]
     worst = 0
