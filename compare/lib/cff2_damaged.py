@@ -1,7 +1,8 @@
 """Damaged CFF2 fonts, and what the program may answer of them: what cff2.py --damage takes.
 
 A new font has to draw what HarfBuzz draws of the damaged copy, each coordinate rounded once. Where HarfBuzz draws something else, as it goes on
-where a table is broken and knows other limits, it has to be what fontTools reads, in exact fractions. The advance is HarfBuzz's, or that of
+where a table is broken and knows other limits, it has to be what fontTools reads, in exact fractions. Of a table with a font dict or a private
+dict that can't be read to its end both read nothing; there it has to be what a third reading (cff2_dicts.py) has. The advance is HarfBuzz's, or that of
 the second reading (variable.py).
 """
 import os
@@ -9,6 +10,7 @@ import random
 import resource
 import tempfile
 
+import cff2_dicts
 import copies
 import font_at
 import fonts
@@ -24,6 +26,7 @@ GLYPHS, SECONDS = 12, 1
 KINDS = copies.KINDS
 # HarfBuzz's floats have 24 bits, and a coordinate is a sum of many.
 NEAR, PART = 0.001, 2 ** -19
+THIRD = "a third reading"
 # Pieces of so many copies.
 PIECE = 50
 
@@ -96,14 +99,20 @@ class Copy:
         self.metrics, self.names = face.metrics, face.names
 
     def draws(self, glyph, ours):
-        """Who draws this of a glyph: HarfBuzz, fontTools, or nobody."""
+        """Who draws this of a glyph: HarfBuzz, fontTools, the third reading where fontTools reads nothing, or nobody."""
         if agree(ours, self.harfbuzz.drawn(glyph)):
             return "HarfBuzz"
         try:
-            exact = drawn_exactly(Source(self.path, self.index).events(glyph, self.at))
+            exact, who = drawn_exactly(Source(self.path, self.index).events(glyph, self.at)), "fontTools"
         except Exception:
-            return "nobody"
-        return "fontTools" if agree(ours, exact) else "nobody"
+            exact, who = self.read_by_dicts(glyph), THIRD
+        return who if exact is not None and agree(ours, exact) else "nobody"
+
+    def read_by_dicts(self, glyph):
+        try:
+            return drawn_exactly(cff2_dicts.Table(self.tables[b"CFF2"]).events(glyph, self.at))
+        except Exception:
+            return None
 
     def has_advance(self, glyph, advance):
         """Whether an advance is HarfBuzz's, or that of the second reading."""
