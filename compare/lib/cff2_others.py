@@ -13,8 +13,8 @@ PPEM, PIXEL = 16, 64
 # the source's as UNHINTED: half a unit of rounding and the unit that FreeType cuts down, 1.6 of them at 1000 units an em.
 MADE, SELDOM, ALIKE, UNHINTED = "Made ", 100, 0, 3
 MUTATOR_BOUND = 16
-# Points of hinted outlines that are as near are one, and a contour that is as small may lack: one whose points become one (in 64ths of a pixel).
-ONE, TINY = 2, 4
+# A contour that is as small may lack: one whose points become one (in 64ths of a pixel).
+TINY = 4
 __all__ = ["Others", "advance_by"]
 
 
@@ -37,7 +37,7 @@ class FreeType:
             self.face = None
 
     def contours(self, glyph, hinted=True):
-        """The contours of a glyph, each the points without those that lie at the one before; None where FreeType refuses it, or the face."""
+        """The contours of a glyph, each its points; None where FreeType refuses it, or the face."""
         if self.face is None:
             return None
         try:
@@ -46,19 +46,9 @@ class FreeType:
             return None
         outline, found, start = self.face.glyph.outline, [], 0
         for end in outline.contours:
-            found.append(without_twins(outline.points[start:end + 1]))
+            found.append(outline.points[start:end + 1])
             start = end + 1
-        return [it for it in found if len(it) > 1]
-
-
-def without_twins(points):
-    kept = []
-    for point in points:
-        if not kept or distance(point, kept[-1]) > ONE:
-            kept.append(point)
-    while len(kept) > 1 and distance(kept[0], kept[-1]) <= ONE:
-        kept.pop()
-    return kept
+        return [it for it in found if it]
 
 
 def distance(a, b):
@@ -179,9 +169,9 @@ class Others:
     def hinted_otherwise(self, at, source, new, path, far):
         """The new numbers of those glyphs that are hinted as they are in a static font made by another way."""
         with open(path, "wb") as file:
-            file.write(cff2_static.static_font(self.face, at, [glyph for _, glyph, _ in far]))
+            file.write(cff2_static.static_font(self.face, at, [0, *(glyph for _, glyph, _ in far)]))
         static = FreeType(path)
-        return {number for number, glyph, _ in far if is_alike(new.contours(number), static.contours(glyph), ALIKE)
+        return {number for place, (number, glyph, _) in enumerate(far, 1) if is_alike(new.contours(number), static.contours(place), ALIKE)
                 and is_alike(new.contours(number, False), source.contours(glyph, False), UNHINTED)}
 
     def beside_fonttools(self, report, at, path, old):

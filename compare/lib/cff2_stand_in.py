@@ -34,7 +34,8 @@ def answer(words, program):
             else:
                 listed = rest[-1]
             face = Face(rest[source], int(rest[source + 2]))
-            data = cff2_static.static_font(face, face.at(place), glyphs_of(listed))
+            asked = {0, *glyphs_of(listed)}
+            data = cff2_static.static_font(face, face.at(place), [glyph if glyph in asked else None for glyph in range(face.source.count)])
         except Exception as error:
             print("malformed font", repr(error), sep="\n", file=sys.stderr)
             return 1

@@ -73,31 +73,31 @@ def private(entries):
     return b"".join(b"".join(real(it) if it != int(it) else made.number(int(it)) for it in values) + bytes(operator) for operator, values in entries)
 
 
-def static_table(face, at, glyphs, advances):
-    """The CFF table: these glyphs, and all others empty."""
+def static_table(face, at, order, advances):
+    """The CFF table of these glyphs; None is an empty one."""
     source = face.source
     select = getattr(source.top, "FDSelect", None)
-    dict_of = {glyph: select[glyph] if select else 0 for glyph in glyphs}
+    dict_of = {glyph: select[glyph] if select else 0 for glyph in order if glyph is not None}
     used = sorted(set(dict_of.values()))
     dicts = [(private(cff2_private.at_coordinates(source, face.tables[b"CFF2"], source.top.FDArray[k], at)), []) for k in used]
-    drawn = [charstring(source.events(glyph, at), advances[glyph]) if glyph in dict_of else ENDCHAR for glyph in range(source.count)]
+    drawn = [ENDCHAR if glyph is None else charstring(source.events(glyph, at), advances[glyph]) for glyph in order]
     box = [int.from_bytes(face.tables[b"head"][k:k + 2], "big", signed=True) for k in range(36, 44, 2)]
     scale = source.top.rawDict.get("FontMatrix", [1 / face.units, 0, 0, 1 / face.units, 0, 0])
     top = b"".join(real(it) if it else made.number(0) for it in scale) + b"\x0c\x07" + operands(box) + b"\x05"
-    return made.cff(drawn, top=top, dicts=dicts, select=b"\0" + bytes(used.index(dict_of.get(glyph, used[0])) for glyph in range(source.count)))
+    return made.cff(drawn, top=top, dicts=dicts, select=b"\0" + bytes(used.index(dict_of.get(glyph, used[0])) for glyph in order))
 
 
-def static_font(face, at, glyphs):
-    """The bytes of a static font of these glyphs of a face at coordinates, under their old numbers."""
-    glyphs = sorted({0, *glyphs})
-    advances = {glyph: face.rounded_advance(glyph, at) for glyph in glyphs}
+def static_font(face, at, order):
+    """The bytes of a static font at coordinates that has these glyphs of a face, in this order; None is an empty one. (It has no charset, so
+    FreeType reads it where it has at most 229 glyphs.)"""
+    advances = {glyph: face.rounded_advance(glyph, at) for glyph in order if glyph is not None}
     hhea = bytearray(variable.varied_lines(face.tables.get(b"MVAR"), at, b"hhea", face.tables[b"hhea"]))
-    hhea[10:12], hhea[34:36] = max(advances.values()).to_bytes(2, "big"), face.source.count.to_bytes(2, "big")
-    rows = [(advances[glyph], face.metrics[face.names[glyph]][1] % 65536) if glyph in advances else (0, 0) for glyph in range(face.source.count)]
+    hhea[10:12], hhea[34:36] = max(advances.values()).to_bytes(2, "big"), len(order).to_bytes(2, "big")
+    rows = [(0, 0) if glyph is None else (advances[glyph], face.metrics[face.names[glyph]][1] % 65536) for glyph in order]
     made_face = pdf_file.Face.__new__(pdf_file.Face)
     made_face.kind = b"OTTO"
-    made_face.tables = {"CFF ": static_table(face, at, glyphs, advances), "head": face.tables[b"head"], "hhea": bytes(hhea),
-                        "hmtx": b"".join(made.u16s(*row) for row in rows), "maxp": b"\0\0\x50\0" + made.u16s(face.source.count)}
+    made_face.tables = {"CFF ": static_table(face, at, order, advances), "head": face.tables[b"head"], "hhea": bytes(hhea),
+                        "hmtx": b"".join(made.u16s(*row) for row in rows), "maxp": b"\0\0\x50\0" + made.u16s(len(order))}
     if b"name" in face.tables:
         made_face.tables["name"] = face.tables[b"name"]
     if b"post" in face.tables:
