@@ -26,6 +26,7 @@ pub enum Kind {
 }
 
 /// What both kinds of charstrings have: CFF2 has no return and no endchar.
+#[inline(always)]
 pub fn kind_of(effect: Option<Effect>) -> Option<Kind>
     ensures { result ≡ kind_of effect }
 {
@@ -41,6 +42,7 @@ pub fn kind_of(effect: Option<Effect>) -> Option<Kind>
 }
 
 /// What the operator of this byte does.
+#[inline(always)]
 pub fn one_byte_kind(first: u8) -> Option<Kind>
     ensures { result ≡ one_byte_kind first }
 {

@@ -73,6 +73,7 @@ impl Machine {
     }
 
     /// A number is put onto the stack.
+    #[inline(always)]
     fn push<'a>(&mut self, number: CharStringNumber, rest: &'a [u8]) -> Result<Flow<'a>, Error>
         requires { NumberFits number }
         ensures { Silently (push number rest.now (registers_of self.old)) self.new result }
@@ -85,6 +86,7 @@ impl Machine {
     }
 
     /// An operator that takes all operands, and its mask.
+    #[inline(always)]
     fn emit<'a, S: Takes>(
         &mut self,
         sink: &mut S,
@@ -103,6 +105,7 @@ impl Machine {
     }
 
     /// The stems with those of the operands.
+    #[inline(always)]
     fn stems_after(&self) -> Result<u16, Error>
         ensures ok { IfOk result (λ stems. (stems ≡ stems_after (registers_of self.now)) × (stems ≤ 65535)) }
         ensures err { IfErr result (λ e. (e ≡ Error.CFFError) × (65535 < stems_after (registers_of self.now))) }
@@ -115,6 +118,7 @@ impl Machine {
     }
 
     /// Stems, two operands each.
+    #[inline(always)]
     fn count_stems<'a, S: Takes>(
         &mut self,
         sink: &mut S,
@@ -150,6 +154,7 @@ impl Machine {
     }
 
     /// A call of one of these subroutines.
+    #[inline(always)]
     fn call<'a>(
         &mut self,
         subroutines: &SubroutineHandler<'a>,
@@ -195,6 +200,7 @@ impl Machine {
 
 impl Machine {
     /// An operator of this kind, with what follows it in its charstring.
+    #[inline(always)]
     fn operate<'a, S: Takes, R: Regions>(
         &mut self,
         sink: &mut S,
@@ -219,6 +225,7 @@ impl Machine {
     }
 
     /// An operator of two bytes, the second of them at the front of these.
+    #[inline(always)]
     #[tactic(auto, unfolding(crate::specs::Runs::Kind::operator_kind, subsetter_type2::specs::Token::effect_of))]
     fn operate_by_two<'a, S: Takes, R: Regions>(
         &mut self,
@@ -243,6 +250,7 @@ impl Machine {
     }
 
     /// A number at the front of these bytes.
+    #[inline(always)]
     #[tactic(auto, unfolding(crate::specs::Runs::Machine::push_at))]
     fn push_at<'a>(&mut self, bytes: &'a [u8]) -> Result<Flow<'a>, Error>
         ensures { Silently (push_at bytes.now (registers_of self.old)) self.new result }
@@ -252,6 +260,7 @@ impl Machine {
     }
 
     /// The token at the front of these bytes, by the first byte.
+    #[inline(always)]
     #[tactic(auto, unfolding(crate::specs::Runs::Machine::act_at, crate::specs::Runs::Machine::push_at, subsetter_type2::specs::Token::token_of, crate::specs::Runs::Kind::operator_kind))]
     pub fn act_at<'a, S: Takes, R: Regions>(
         &mut self,

@@ -44,6 +44,7 @@ impl Operands {
     }
 
     /// How many operands there are.
+    #[inline(always)]
     pub fn len(&self) -> usize
         ensures len { result ≡ length self.now }
         ensures room { length self.now ≤ 513 }
@@ -52,6 +53,7 @@ impl Operands {
     }
 
     /// The operands, the last one pushed last.
+    #[inline(always)]
     pub fn as_slice(&self) -> &[i64]
         ensures same { result.now ≡ self.now }
         ensures few { length self.now ≤ 513 }
@@ -61,6 +63,7 @@ impl Operands {
     }
 
     /// Puts an operand on the top.
+    #[inline(always)]
     pub fn push(&mut self, operand: i64)
         requires room { length self.old < 513 }
         requires within { unsigned_abs operand ≤ 2 ^ 45 }
@@ -71,6 +74,7 @@ impl Operands {
     }
 
     /// Takes the operand at the top.
+    #[inline(always)]
     pub fn pop(&mut self) -> Option<i64>
         ensures value { result ≡ last_operand self.old }
         ensures rest { self.new ≡ but_last self.old }
@@ -84,6 +88,7 @@ impl Operands {
     }
 
     /// Takes all operands away.
+    #[inline(always)]
     pub fn clear(&mut self)
         ensures { self.new ≡ [] }
     {

@@ -11,6 +11,7 @@ use subsetter_variation::rounding::nearest;
 pub const UNIT: i64 = 1 << 30;
 
 /// A number in parts.
+#[inline(always)]
 pub fn in_parts(number: CharStringNumber) -> i64
     requires { NumberFits number }
     ensures value { result ≡ in_parts number }
@@ -23,6 +24,7 @@ pub fn in_parts(number: CharStringNumber) -> i64
 }
 
 /// Whether parts are within 32768 units.
+#[inline(always)]
 pub fn is_within(parts: i64) -> bool
     ensures { result ≡ is_within parts }
 {
@@ -30,6 +32,7 @@ pub fn is_within(parts: i64) -> bool
 }
 
 /// The nearest whole number of units, halves up.
+#[inline(always)]
 #[tactic(auto, unfolding(crate::specs::Runs::Number::whole))]
 pub fn whole(parts: i64) -> i64
     requires { unsigned_abs parts ≤ 2 ^ 59 }
@@ -40,6 +43,7 @@ pub fn whole(parts: i64) -> i64
 }
 
 /// The whole number that parts are, where they are one.
+#[inline(always)]
 #[tactic(auto, unfolding(crate::specs::Runs::Number::whole_in))]
 pub fn whole_in(parts: i64) -> Option<i32>
     requires { unsigned_abs parts ≤ 2 ^ 45 }
@@ -53,6 +57,7 @@ pub fn whole_in(parts: i64) -> Option<i32>
 }
 
 /// The same, where it isn't below 0.
+#[inline(always)]
 #[tactic(auto, unfolding(crate::specs::Runs::Number::natural_in))]
 pub fn natural_in(parts: i64) -> Option<u16>
     requires { unsigned_abs parts ≤ 2 ^ 45 }

@@ -19,6 +19,7 @@ use subsetter_type2::runs::fixed_stack::FixedStack;
 type Rests<'a> = FixedStack<&'a [u8], 255>;
 
 /// What runs after a token of this flow.
+#[inline(always)]
 fn follow<'a>(rests: &mut Rests<'a>, flow: Flow<'a>, depth: u8) -> Result<&'a [u8], Error>
     requires fits { length rests.old < depth }
     ensures ok { IfOk result (λ running. running.now ∷ rests_of rests.new ≡ rests_after (continuation_of flow.entry) (rests_of rests.old)) }
