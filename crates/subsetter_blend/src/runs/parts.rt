@@ -5,7 +5,6 @@ ghost use Rattle.subsetter_cffdata.specs.Numerals.CharStringNumber.{NumberFits};
 ghost use Rattle.subsetter_blend.specs.Runs.Number.{in_parts, is_within, whole, whole_in, natural_in};
 
 use subsetter_cffdata::numerals::charstring_number::CharStringNumber;
-use subsetter_variation::rounding::nearest;
 
 /// The parts of a unit.
 pub const UNIT: i64 = 1 << 30;
@@ -33,13 +32,14 @@ pub fn is_within(parts: i64) -> bool
 
 /// The nearest whole number of units, halves up.
 #[inline(always)]
-#[tactic(auto, unfolding(crate::specs::Runs::Number::whole))]
+#[tactic(auto, unfolding(crate::specs::Runs::Number::whole, subsetter_variation::specs::Nearest::nearest))]
 pub fn whole(parts: i64) -> i64
     requires { unsigned_abs parts ≤ 2 ^ 59 }
     ensures value { result ≡ whole parts }
     ensures bound { unsigned_abs result ≤ 2 ^ 29 }
 {
-    nearest(parts, 1073741824)
+    let above = (parts + 1152921505143717888) as u64;
+    (above / 1073741824) as i64 - 1073741824
 }
 
 /// The whole number that parts are, where they are one.
