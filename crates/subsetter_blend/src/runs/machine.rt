@@ -1,7 +1,7 @@
 //! What a token does to the stack, the stems and the data, which event it has, and what runs next (OpenType, "CFF2
 //! CharString Format"; Technical Note 5177, section 4).
 
-ghost use Rattle.std.specs.Prelude.{◌≡◌, ◌<◌, ◌≤◌, ◌^◌, [], false, IfOk, IfErr, unsigned_abs};
+ghost use Rattle.std.specs.Prelude.{◌≡◌, ◌<◌, ◌≤◌, ◌^◌, ◌-ℤ◌, pos, [], false, IfOk, IfErr, unsigned_abs};
 ghost use Rattle.std.specs.Option.{option_copied};
 ghost use Rattle.subsetter_cffdata.specs.Numerals.CharStringNumber.{NumberFits};
 ghost use Rattle.subsetter_type2.specs.Token.{two_byte_token};
@@ -19,6 +19,9 @@ use subsetter_cffdata::numerals::charstring_number::{CharStringNumber, read_numb
 use subsetter_type2::operators::first_byte;
 use subsetter_type2::subroutines::SubroutineHandler;
 use subsetter_type2::token::find_effect;
+
+/// The greatest first byte of a number that has no other.
+const GREATEST_SMALL: u8 = 246;
 
 /// The most stems of a charstring.
 const MAX_STEMS: usize = 65535;
@@ -72,6 +75,17 @@ impl Machine {
         }
     }
 
+    /// Begins anew, where these item variation data count.
+    pub fn start(&mut self, data_index: u16)
+        ensures { registers_of self.new ≡ record { operands = []; stems = 0; mask_len = 0; data_index = data_index; settled = false } }
+    {
+        self.operands.clear();
+        self.stems = 0;
+        self.mask_len = 0;
+        self.data_index = data_index;
+        self.settled = false;
+    }
+
     /// A number is put onto the stack.
     #[inline(always)]
     fn push<'a>(&mut self, number: CharStringNumber, rest: &'a [u8]) -> Result<Flow<'a>, Error>
@@ -83,6 +97,16 @@ impl Machine {
         }
         self.operands.push(in_parts(number));
         Ok(Flow::GoesOn(rest))
+    }
+
+    /// A number of this byte alone is put onto the stack.
+    #[inline(always)]
+    fn push_small<'a>(&mut self, first: u8, rest: &'a [u8]) -> Result<Flow<'a>, Error>
+        requires low { 32 ≤ first }
+        requires high { first < 247 }
+        ensures { Silently (push (CharStringNumber.Integer (pos first -ℤ pos 139)) rest.now (registers_of self.old)) self.new result }
+    {
+        self.push(CharStringNumber::Integer(first as i16 - 139), rest)
     }
 
     /// An operator that takes all operands, and its mask.
@@ -261,7 +285,7 @@ impl Machine {
 
     /// The token at the front of these bytes, by the first byte.
     #[inline(always)]
-    #[tactic(auto, unfolding(crate::specs::Runs::Machine::act_at, crate::specs::Runs::Machine::push_at, subsetter_type2::specs::Token::token_of, crate::specs::Runs::Kind::operator_kind))]
+    #[tactic(auto, unfolding(crate::specs::Runs::Machine::act_at, crate::specs::Runs::Machine::push_at, subsetter_type2::specs::Token::token_of, subsetter_cffdata::specs::Numerals::CharStringNumber::number_at, crate::specs::Runs::Kind::operator_kind))]
     pub fn act_at<'a, S: Takes, R: Regions>(
         &mut self,
         sink: &mut S,
@@ -275,6 +299,9 @@ impl Machine {
             return Err(Error::CFFError);
         };
         if *first >= first_byte::LEAST_NUMBER {
+            if *first <= GREATEST_SMALL {
+                return self.push_small(*first, rest);
+            }
             return self.push_at(bytes);
         }
         if *first == first_byte::SHORT_INT {

@@ -167,6 +167,18 @@ impl Fitting {
         }
     }
 
+    /// The same with room for so many bytes.
+    pub fn with_room(alloc: Global, advance: i16, room: usize) -> Result<Self, Error>
+        ensures ok { IfOk result (λ f. f ≡ fitted_start advance) }
+        ensures err { IfErr result (λ e. e ≡ OutOfMemory) }
+    {
+        Ok(Fitting {
+            bytes: Vec::with_capacity(alloc, room)?,
+            at: Position { x: 0, y: 0 },
+            advance: Some(advance),
+        })
+    }
+
     /// How many numbers are in front of the next operands.
     fn front(&self) -> usize
         ensures value { result ≡ length (width self.now.pen.advance) }
@@ -196,7 +208,12 @@ impl Fitting {
     }
 
     /// An operator that is open already, in as many pieces as it takes.
-    fn draw(&mut self, operator: Operator, operands: &[i64], mask: &[u8]) -> Result<(), Error>
+    fn draw_pieces(
+        &mut self,
+        operator: Operator,
+        operands: &[i64],
+        mask: &[u8],
+    ) -> Result<(), Error>
         requires few { length operands.now ≤ 513 }
         requires small { All (λ v. unsigned_abs v ≤ 2 ^ 48) operands.now }
         ensures { Did (λ f. all_taken fitted_piece (split (length (width f.pen.advance)) (record { operator = operator; operands = operands.now; mask = mask.now })) f) self.old self.new result }
@@ -220,6 +237,18 @@ impl Fitting {
             part_of(before, &operands[start..]).as_slice(),
             mask,
         )
+    }
+
+    /// An operator that is open already, in as many pieces as it takes: mostly one.
+    fn draw(&mut self, operator: Operator, operands: &[i64], mask: &[u8]) -> Result<(), Error>
+        requires few { length operands.now ≤ 513 }
+        requires small { All (λ v. unsigned_abs v ≤ 2 ^ 48) operands.now }
+        ensures { Did (λ f. all_taken fitted_piece (split (length (width f.pen.advance)) (record { operator = operator; operands = operands.now; mask = mask.now })) f) self.old self.new result }
+    {
+        if self.front() + operands.len() <= MAX_OPERANDS {
+            return self.draw_piece(operator, operands, mask);
+        }
+        self.draw_pieces(operator, operands, mask)
     }
 
     /// A form of flex, by the second byte of its operator.

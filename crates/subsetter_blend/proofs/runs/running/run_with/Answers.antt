@@ -5,14 +5,14 @@ use Rattle.subsetter_type2.specs.View.{rests_of}
 use Rattle.subsetter_blend.specs.Runs.Machine.{State, run}
 use Rattle.subsetter_blend.specs.Runs.MachineView.{registers_of, setting_of, continuation_of}
 use Rattle.subsetter_blend.proofs.RunsLaws.Runs.{run_start, run_over, run_out, run_fault, run_deep, run_on, ended_none, ended_some}
-use Rattle.subsetter_blend.proofs.runs.running.run.Goals as goal
+use Rattle.subsetter_blend.proofs.runs.running.run_with.Goals as goal
 
 pub loop-current-init : goal.loop-current-init
 loop-current-init g c =
     record {
       same = run_start g.S.Takes.taken (setting_of c.args.subroutines.now (g.R.Regions.scalars c.args.regions.now)) c.args.limits.now.depth _ _ c.args.data_index c.args.charstring.now c.args.sink.now _ _
-          (ap (λ r. c.args.charstring.now ∷ rests_of r) c.new-rests.ensures) c.new-machine.ensures c.tokens-tokens.ensures;
-      room = omega (arith, ap length c.new-rests.ensures);
+          (ap (λ r. c.args.charstring.now ∷ rests_of r) c.requires.none) c.requires.start c.tokens-tokens.ensures;
+      room = omega (arith, ap length c.requires.none);
     }
 
 pub returns-then-tokens-eq0 : goal.returns-then-tokens-eq0
