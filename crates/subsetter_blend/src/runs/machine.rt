@@ -9,7 +9,7 @@ ghost use Rattle.subsetter_blend.specs.Runs.Machine.{subroutine, push, emit, ste
 ghost use Rattle.subsetter_blend.specs.Runs.MachineView.{registers_of, setting_of, Performs, Silently};
 
 use crate::runs::kind::{Kind, accepts, kind_of, one_byte_kind};
-use crate::runs::operands::{MAX_OPERANDS, Operands};
+use crate::runs::operands::{GREATEST_SMALL, MAX_OPERANDS, Operands};
 use crate::runs::parts::{in_parts, natural_in, whole_in};
 use crate::runs::regions::Regions;
 use crate::writing::taking::Takes;
@@ -19,9 +19,6 @@ use subsetter_cffdata::numerals::charstring_number::{CharStringNumber, read_numb
 use subsetter_type2::operators::first_byte;
 use subsetter_type2::subroutines::SubroutineHandler;
 use subsetter_type2::token::find_effect;
-
-/// The greatest first byte of a number that has no other.
-const GREATEST_SMALL: u8 = 246;
 
 /// The most stems of a charstring.
 const MAX_STEMS: usize = 65535;

@@ -79,7 +79,10 @@ fn run_with<'a, S: Takes, R: Regions>(
         }
         tokens -= 1;
         let flow = machine.act_at(sink, subroutines, regions, current)?;
-        running = follow(rests, flow, limits.depth())?;
+        let next = follow(rests, flow, limits.depth())?;
+        let count = machine.operands.push_all_small(next, tokens as usize);
+        tokens -= count as u32;
+        running = &next[count..];
     }
     if machine.operands.len() != 0 {
         return Err(Error::CFFError);
