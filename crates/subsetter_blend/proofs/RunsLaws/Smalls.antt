@@ -1,6 +1,6 @@
 -- Numbers of one byte each, one after the other.
-use Rattle.std.proofs.Common.{◌≡◌, ℕ, zero, suc, ◌+◌, ◌-◌, ◌<◌, ◌≤◌, ℤ, pos, ◌-ℤ◌, List, [], ◌∷◌, ◌++◌, length, get_or, take, drop, map, All, Bool, true, false, None, Some, Ok, Err, refl, sym, ap, ◌∙◌, subst, arith, append_assoc, append-nil, length-append, length-take}
-use Rattle.std.specs.Prelude.{Result, nat_lt, nat_le, ◌==◌}
+use Rattle.std.proofs.Common.{◌≡◌, ℕ, zero, suc, ◌+◌, ◌-◌, ◌<◌, ◌≤◌, ℤ, pos, ◌-ℤ◌, List, [], ◌∷◌, ◌++◌, length, get_or, take, drop, map, All, false, None, Some, Ok, refl, sym, ap, ◌∙◌, subst, arith, append_assoc, append-nil, length-append}
+use Rattle.std.specs.Prelude.{Result, ◌==◌}
 use mathlib.Core.List.{map-append}
 use Rattle.std.proofs.lemmas.Bool.{le-leb, lt-ltb, le-ltb, ne_eqb}
 use Rattle.std.proofs.lemmas.List.{take_more}
@@ -10,7 +10,7 @@ use Rattle.subsetter_cffdata.specs.declared.numerals.charstring_number.CharStrin
 use Rattle.subsetter_cffdata.specs.Numerals.CharStringNumber.{number_at}
 use Rattle.subsetter_type2.specs.Runs.Machine.{On}
 use Rattle.subsetter_type2.specs.Token.{Operand, token_of}
-use Rattle.subsetter_blend.specs.Runs.Machine.{Setting, Registers, State, Done, Act, Does, act_at, push, done, run}
+use Rattle.subsetter_blend.specs.Runs.Machine.{Setting, Registers, Act, Does, act_at, done, run}
 use Rattle.subsetter_blend.specs.Runs.Small.{IsSmall, small, with_small}
 use Rattle.subsetter_blend.specs.Writing.Taking.{Event}
 use Rattle.subsetter_blend.proofs.RunsLaws.Runs.{run_on}

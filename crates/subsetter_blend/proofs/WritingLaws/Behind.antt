@@ -17,7 +17,7 @@ use Rattle.subsetter_blend.specs.Hint.{is_hint}
 use Rattle.subsetter_blend.specs.Writing.Laid.{Laid, laid}
 use Rattle.subsetter_blend.specs.Writing.Placed.{Placed, position_after, number_of, moved, placed}
 use Rattle.subsetter_blend.specs.Writing.Taking.{Event}
-use Rattle.subsetter_blend.specs.Writing.Written.{Pen, width, start_point, end_point, Fitted, with_ink, inked, fitted_piece}
+use Rattle.subsetter_blend.specs.Writing.Written.{width, start_point, end_point, Fitted, with_ink, inked, fitted_piece}
 use Rattle.subsetter_blend.proofs.WritingLaws.Places.{placed_step, place_none}
 
 abbrev pub behind : List CharStringNumber → Placed → Placed

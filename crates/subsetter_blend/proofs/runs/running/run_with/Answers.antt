@@ -58,7 +58,7 @@ loop-current-preserved g c =
     let here : State = record { rests = next ∷ rests_of c.follow.new.rests; registers = registers_of c.act_at.new.self } in
     let room : length (rests_of c.follow.new.rests) < c.args.limits.now.depth = omega (arith, within, ap (λ (l : List (List ℕ)). length l) c.in_ok-next.ensures.ok) in
     let still : run g.S.Takes.taken setting c.args.limits.now.depth (c.loop-current.tokens - 1) c.act_at.new.sink here
-        ≡ run g.S.Takes.taken setting c.args.limits.now.depth (c.loop-current.tokens - 1 - count) c.act_at.new.sink (record { rests = drop count next ∷ rests_of c.follow.new.rests; registers = with_small (take count next) (registers_of c.act_at.new.self) }) =
+    ≡ run g.S.Takes.taken setting c.args.limits.now.depth (c.loop-current.tokens - 1 - count) c.act_at.new.sink (record { rests = drop count next ∷ rests_of c.follow.new.rests; registers = with_small (take count next) (registers_of c.act_at.new.self) }) =
     small_runs g.S.Takes.taken setting c.args.limits.now.depth count (c.loop-current.tokens - 1) c.act_at.new.sink (registers_of c.act_at.new.self) next (rests_of c.follow.new.rests)
     c.push_all_small-count.ensures.most c.push_all_small-count.ensures.inside c.push_all_small-count.ensures.small c.push_all_small-count.ensures.room room in
     record {

@@ -1,7 +1,6 @@
-use Rattle.std.proofs.Common.{◌≡◌, ◌<◌, ◌+◌, ◌∙◌, ℕ, ℤ, length, get_or, map, take, refl, sym, ap, arith, rules, FitsSigned, w64, length-append, length-take}
+use Rattle.std.proofs.Common.{◌<◌, length, get_or, refl, arith, rules, FitsSigned, w64}
 use Rattle.std.proofs.lemmas.Int.{to_z-of_z}
-use Rattle.std.proofs.lemmas.List.{length-map}
-use Rattle.subsetter_blend.specs.Runs.Small.{IsSmall, small}
+use Rattle.subsetter_blend.specs.Runs.Small.{IsSmall}
 use Rattle.subsetter_blend.proofs.RunsLaws.Smalls.{small_more, smalls_more}
 use Rattle.subsetter_blend.proofs.runs.operands.Operands.push_all_small.Goals as goal
 

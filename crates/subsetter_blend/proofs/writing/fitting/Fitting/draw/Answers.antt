@@ -1,4 +1,4 @@
-use Rattle.std.proofs.Common.{◌≡◌, ◌≤◌, ◌+◌, length, sym, arith}
+use Rattle.std.proofs.Common.{◌≤◌, ◌+◌, length, sym, arith}
 use Rattle.subsetter_blend.specs.Writing.Split.{split}
 use Rattle.subsetter_blend.specs.Writing.Taking.{Event, all_taken}
 use Rattle.subsetter_blend.specs.Writing.Written.{Fitted, width, fitted_piece}
