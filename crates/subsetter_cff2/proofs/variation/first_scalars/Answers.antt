@@ -1,6 +1,5 @@
-use Rattle.std.proofs.Common.{◌≡◌, ◌∙◌, ◌<◌, sym, ap, rules, ◌++◌, ◌∷◌, [], ℕ, length, take, arith, w64, FitsSigned, to_z, of_z}
+use Rattle.std.proofs.Common.{◌≡◌, ◌∙◌, ◌<◌, rules, ◌++◌, ◌∷◌, [], length, arith, w64, FitsSigned, to_z, of_z}
 use Rattle.std.proofs.lemmas.Int.{to_z-of_z}
-use Rattle.std.proofs.lemmas.List.{take_all}
 use Rattle.subsetter_blend.specs.Runs.Blend.{scalars_in}
 use Rattle.subsetter_cff2.specs.Variation.{data_scalars}
 use Rattle.subsetter_cff2.proofs.RegionLists.{one_more_scalar}
