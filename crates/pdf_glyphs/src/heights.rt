@@ -50,7 +50,7 @@ fn origin_shift(variation: HeightVariation<'_>, glyph: u16) -> i64
     ensures { result ≡ origin_shift (variation_view variation.entry) glyph }
 {
     match origin_delta(variation.vvar, variation.at, glyph) {
-        Ok(delta) => delta,
+        Ok(shift) => shift,
         Err(_) => 0,
     }
 }

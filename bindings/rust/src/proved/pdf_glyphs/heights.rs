@@ -40,7 +40,7 @@ pub fn varied_height(variation: HeightVariation<'_>, glyph: u16, advance: u16) -
 /// What the y of a glyph's origin varies by, in whole units; 0 where nothing is there to be read.
 fn origin_shift(variation: HeightVariation<'_>, glyph: u16) -> i64 {
     match origin_delta(variation.vvar, variation.at, glyph) {
-        Ok(delta) => delta,
+        Ok(shift) => shift,
         Err(_) => 0,
     }
 }
