@@ -182,9 +182,11 @@ def check_kept_room(table, room):
 
 # How a run may end where a call for files fails, and has to in one of them. (The program does without a file beside OUT, and without
 # a look at some files.)
-FAILED_CALLS = {"open": {"unread", "unwritten", "whole"}, "size": {"unread", "whole"}, "read": {"unread"}, "write": {"unwritten"},
-                "write1": {"unlined"}, "rename": {"unwritten"}, "sync": {"unwritten"}}
-# By Cargo lines are written to a copy of the stream, and how large the arguments are is read from a file that it does without.
+# (Where the file that was OUT can't have its bytes and its name again, the new one stays.)
+FAILED_CALLS = {"open": {"unread", "unwritten", "whole"}, "size": {"unread", "whole"}, "read": {"unread", "whole"}, "write": {"unwritten", "whole"},
+                "write1": {"unlined"}, "rename": {"unwritten", "whole"}, "sync": {"unwritten", "whole"}}
+# By Cargo lines are written to a copy of the stream, files are copied by a call of their own, and how large the arguments are is read from a
+# file that it does without.
 FAILED_CALLS_BY_CARGO = {"read": {"unread", "whole"}, "write": {"unwritten", "unlined"}, "write1": set()}
 
 

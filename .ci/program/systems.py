@@ -11,6 +11,7 @@ UNCHECKED = {
     "windows": {
         "check_places": "rights of Unix, and a limit on the size of a file",
         "check_links": "links and pipes of Unix",
+        "check_attributes": "access lists of Linux",
         "check_rights": "users of Unix",
         "check_streams": "/dev/full, and pipes that nobody reads",
         "check_closed": "wine opens streams that are closed",
