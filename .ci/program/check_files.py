@@ -44,10 +44,16 @@ def check_failed_writes(table, room, out, before):
 
 
 def check_taken_names(table, room, out):
-    """All names beside OUT are taken: OUT is written in place. So it is where a name beside it would be too long."""
+    """All 100 names beside OUT are taken: OUT is written in place. While one is free, a write that fails leaves OUT. It is written in
+    place, too, where a name beside it would be too long."""
     wanted = table.same["simple 2"]
     for number in range(100):
         put(room, f"out.part{number}", OLD)
+        if number in (0, 98):
+            put(room, "out", OLD)
+            before = sorted(os.listdir(room))
+            got = table.start(["in", "out", "0", "2"], room, preexec_fn=few_bytes)
+            table.demand(got.returncode == 3 and take(out) == OLD and sorted(os.listdir(room)) == before, f"{number + 1} names are taken, and a write fails", got)
         if number in (0, 99):
             put(room, "out", OLD)
             before = sorted(os.listdir(room))
@@ -127,6 +133,17 @@ def check_device(table, room):
     table.demand(os.listdir(room) == ["simple"], f"OUT is the device {name}: files", os.listdir(room))
 
 
+def owners(is_root):
+    """Users and groups that OUT can belong to, and not both to who runs the program: a user who isn't root can give a file to a group of
+    their own alone."""
+    if is_root:
+        return [(0, 0), (0, 65534), (65534, 4242)]
+    others = [group for group in os.getgroups() if group != os.getegid()]
+    if not others:
+        print("program: OUT of another group isn't tried: this user has one group")
+    return [(os.geteuid(), group) for group in others[:1]]
+
+
 def check_rights(table, room):
     """Where files of others or shut folders are in the way. The program is run as a user who isn't root."""
     wanted, is_root = table.same["simple 2"], os.geteuid() == 0
@@ -155,8 +172,11 @@ def check_rights(table, room):
     got = start("in", "folder/out", "0", "2")
     table.demand(got.returncode == 0 and take(out) == wanted, "OUT in a shut folder", got)
     os.chmod(os.path.join(room, "folder"), 0o755)
-    if is_root:
+    for owner, group in owners(is_root):
         other = put(room, "of another", OLD, 0o666)
+        os.chown(other, owner, group)
         got = start("in", "of another", "0", "2")
-        table.demand(got.returncode == 0 and take(other) == wanted and os.stat(other).st_uid == 0, "OUT of another user", got)
+        kept = os.stat(other).st_uid, os.stat(other).st_gid
+        table.demand(got.returncode == 0 and take(other) == wanted and kept == (owner, group), f"OUT of the user {owner} and the group {group}", (got, kept))
         table.demand(sorted(os.listdir(room)) == ["folder", "in", "of another", "program", "secret", "shut"], "and leaves", os.listdir(room))
+        os.unlink(other)
