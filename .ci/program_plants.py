@@ -150,7 +150,12 @@ PLANTS = [
     ("the reason of OUT for the PDF", "proved/subset_font/refusals/reason.rs", "Failure::WritePdf => page,", "Failure::WritePdf => output,"),
     ("lines in front of a PDF on standard output", "proved/subset_font/run/job.rs", "is_to_standard_output(rt, given(&job.output)) || is_to_standard_output(rt, pdf_file(job))", "is_to_standard_output(rt, given(&job.output))"),
     # OUT and the streams: what is kept, what is reported, and where
-    ("a rename that fails passed over", "proved/late_file/late.rs", "Some(other) => fs::rename(self.rt, other.as_str(), self.name)?,", "Some(other) => drop(fs::rename(self.rt, other.as_str(), self.name)),"),
+    ("a rename that fails passed over", "proved/late_file/temporary.rs", "    }\n    renamed\n", "    }\n    let _ = renamed;\n    Ok(())\n"),
+    ("the file that was OUT not written again", "proved/late_file/temporary.rs", "let old = link_beside(rt, alloc, name);", "let old = link_beside(rt, alloc, name).filter(|_| false);"),
+    ("the file that was OUT written again before OUT has the new one", "proved/late_file/temporary.rs", "    let renamed = fs::rename(rt, made, name);", "    let _ = fs::copy(rt, made, name);\n    let renamed = fs::rename(rt, made, name);"),
+    ("the file that was OUT not settled", "proved/late_file/temporary.rs", "    file.sync_data()?;\n    fs::rename", "    let _ = file;\n    fs::rename"),
+    ("a second name of OUT left where the rename fails", "proved/late_file/temporary.rs", "if renamed.is_err() || put_back", "if renamed.is_ok() && put_back"),
+    ("a second name of OUT left where the old file isn't written", "proved/late_file/temporary.rs", "            let _ = fs::remove_file(rt, old.as_str());\n", ""),
     ("OUT not settled", "proved/late_file/late.rs", "        self.settle()?;\n        self.take_name()", "        self.take_name()"),
     ("OUT settled after it has its name", "proved/late_file/late.rs", "        self.settle()?;\n        self.take_name()", "        self.take_name()?;\n        self.settle()"),
     ("each failed settling passed over", "proved/late_file/late.rs", "Err(error) if !lacks_call(&error) => Err(error),", "Err(error) if !lacks_call(&error) && false => Err(error),"),

@@ -1,10 +1,14 @@
 """Files beside IN and OUT: rights, links, devices, and failed writes."""
 import os
 import shutil
+import struct
 import subprocess
 
 from made_fonts import SIMPLE
 from running import OLD, few_bytes, lines, message, mode_of, put, remove, take
+
+# An entry of an access list that names nobody.
+NOBODY = 0xFFFFFFFF
 
 
 def check_places(table, room):
@@ -91,6 +95,33 @@ def check_links(table, room):
     table.demand(said_by(reader) == wanted and (got.returncode, got.stdout) == (0, lines((2, 1))), "OUT a pipe", got)
     names = ["hanging", "in", "link", "nowhere", "one", "other", "pipe", "real"]
     table.demand(sorted(os.listdir(room)) == names, "links leave", os.listdir(room))
+
+
+# An access list of Linux (version 2): the owner may read and write, so may the user 4243, the group has no rights, and 4243's are masked by rw.
+ACCESS_LIST = struct.pack("<I", 2) + b"".join(struct.pack("<HHI", *it) for it in ((1, 6, NOBODY), (2, 6, 4243), (4, 0, NOBODY), (16, 6, NOBODY), (32, 0, NOBODY)))
+
+
+def attributes_of(path):
+    return {name: os.getxattr(path, name) for name in os.listxattr(path)}
+
+
+def check_attributes(table, room):
+    """OUT keeps its access list, its other attributes and its number; where the file can't be written again, OUT is whole all the same."""
+    put(room, "in", SIMPLE)
+    out = put(room, "out", OLD * 1000, 0o640)
+    try:
+        os.setxattr(out, "user.note", b"kept")
+        os.setxattr(out, "system.posix_acl_access", ACCESS_LIST)
+    except OSError as error:
+        print(f"program: OUT with attributes isn't tried: {room} takes none ({error})")
+        return
+    before = attributes_of(out), os.stat(out).st_ino, mode_of(out)
+    got = table.start(["in", "out", "0", "2"], room)
+    after = attributes_of(out), os.stat(out).st_ino, mode_of(out)
+    table.demand((got.returncode, got.stderr) == (0, b"") and take(out) == table.same["simple 2"] and after == before, "the attributes of OUT", (got, after, before))
+    got = table.start(["in", "out", "0", "2"], room, preexec_fn=few_bytes)
+    table.demand(got.returncode == 3 and take(out) == table.same["simple 2"] and (attributes_of(out), os.stat(out).st_ino) == before[:2], "a write that fails, of an OUT with attributes", got)
+    table.demand(sorted(os.listdir(room)) == ["in", "out"], "OUT with attributes leaves", os.listdir(room))
 
 
 def check_device(table, room):

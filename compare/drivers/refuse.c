@@ -9,7 +9,7 @@
  *     WITHIN=clock   requests count from the first reading of the clock to the second: what a program times
  *     FAIL=WHAT:N    the Nth call of WHAT fails: open (of `/` apart), size, read, write, write1 and write2 for the standard
  *                    streams, rename, or sync
- *     ERROR=E        it says the error of that number, and not EIO
+ *     ERROR=E        it says the error of that number, and not EIO; with 0 the process is killed there
  *     INODE=N        each file has the inode number N
  *     TOLD=FILE      gets the counts at the end, where the last refused request stood, and whether it gave back a part of a
  *                    block (`less`) or asked for memory (`more`)
@@ -17,6 +17,7 @@
  * For programs of one thread. */
 #define _GNU_SOURCE
 #include <fcntl.h>
+#include <signal.h>
 #include <stdarg.h>
 #include <stdio.h>
 #include <sys/stat.h>
@@ -74,6 +75,7 @@ static int is_refused(size_t asked) {
 /* Whether a call is to fail. */
 static int fails(enum call what) {
     if (!is_ready || is_ended || ++calls[what] != wanted_call || what != wanted) return 0;
+    if (!error_said) raise(SIGKILL);
     errno = error_said;
     return 1;
 }
