@@ -48,7 +48,10 @@ pub struct Room<'a> {
 
 impl<'a> Room<'a> {
     /// New room, filled with bytes that are never read.
-    pub fn new(filler: &'a [u8]) -> Self {
+    pub fn new(filler: &'a [u8]) -> Self
+        ensures machine { registers_of result.machine ≡ record { operands = []; stems = 0; mask_len = 0; data_index = 0; settled = false } }
+        ensures rests { result.rests ≡ [] }
+    {
         Room {
             machine: Machine::new(0),
             rests: FixedStack::new(filler),
