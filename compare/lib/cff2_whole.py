@@ -292,6 +292,6 @@ def compare_face(words, path, index, room):
             report.say("answer", f"at {pdf_variable.words_at(place) or 'the default'}: {it}")
             continue
         compare_font(report, face, face.at(place), data, old, cff2_others.Others(face, place, count <= MUTATED), room)
-    if cff2_others.SELDOM * (report.counts["hinted otherwise"] - 1) > report.counts["FreeType"]:
+    if not cff2_others.is_seldom(face, report.counts["hinted otherwise"], report.counts["FreeType"]):
         report.say("FreeType", f"{report.counts['hinted otherwise']} of {report.counts['FreeType']} glyphs are hinted otherwise")
     return report
