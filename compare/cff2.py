@@ -51,7 +51,8 @@ messages, within S seconds (1) of a processor. --hostile makes four families of 
 each, or refuse it where its tokens are too many, with at most the source, three times the new font, 32 bytes for each glyph and 1 MB of
 memory, and in a time that grows no more than the work (bytes and tokens) does.
 
-A glyph that the port refuses is counted as a difference. The last line says how many were compared, and the status is 1
+A glyph that the port refuses is counted as a difference, but where a charstring has no number for the advance that the second reading of HVAR
+comes to at the location (above 32,767: it is refused as an overflow). The last line says how many were compared, and the status is 1
 where one differs, or nothing was compared.
 """
 import glob
