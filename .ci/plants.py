@@ -135,7 +135,7 @@ class Room:
     def run(self, command, limit):
         """The status of a command, None where it doesn't end within so many seconds, and what it prints."""
         env = {key: value for key, value in os.environ.items() if not key.startswith(("SUBSETTER_", "MAKE", "MFLAGS"))}
-        env.update(TMPDIR=self.scratch, REPOSITORY=ROOT, PYTHONDONTWRITEBYTECODE="1", CARGO_PROFILE_DEV_DEBUG="0", LC_ALL="C.UTF-8")
+        env.update(TMPDIR=self.scratch, REPOSITORY=ROOT, PYTHONDONTWRITEBYTECODE="1", CARGO_PROFILE_DEV_DEBUG="0")
         with tempfile.TemporaryFile() as said:
             ran = subprocess.Popen(["bash", "-o", "pipefail", "-c", command], cwd=self.at, env=env, stdin=subprocess.DEVNULL, stdout=said,
                                    stderr=subprocess.STDOUT, start_new_session=True)
