@@ -11,6 +11,7 @@ weren't seen are above it. The status is 0 where each was seen, else 1; 2 where 
 """
 import argparse
 import collections
+import concurrent.futures
 import contextlib
 import hashlib
 import os
@@ -41,6 +42,8 @@ AT_ONCE = 6
 SEEN = "seen"
 # What bash ends with where a command can't be started, or was ended from outside.
 NEVER = {126: "its test can't be started", 127: "its test can't be found", 128 + signal.SIGKILL: "its test was killed", 128 + signal.SIGTERM: "its test was ended"}
+# The commands that run.
+RUNNING = set()
 WHY = re.compile(r"FAILED|[Ee]rror|panicked|GOT THROUGH|different")
 
 
@@ -139,11 +142,13 @@ class Room:
         with tempfile.TemporaryFile() as said:
             ran = subprocess.Popen(["bash", "-o", "pipefail", "-c", command], cwd=self.at, env=env, stdin=subprocess.DEVNULL, stdout=said,
                                    stderr=subprocess.STDOUT, start_new_session=True)
+            RUNNING.add(ran)
             try:
                 status = ran.wait(limit)
             except subprocess.TimeoutExpired:
                 status = None
             finally:
+                RUNNING.discard(ran)
                 end_group(ran)
             said.seek(0)
             return status, said.read().decode(errors="replace")
@@ -162,6 +167,11 @@ def end_group(ran):
     with contextlib.suppress(ProcessLookupError, PermissionError):
         os.killpg(ran.pid, signal.SIGKILL)
     ran.wait()
+
+
+def end_all():
+    for ran in list(RUNNING):
+        end_group(ran)
 
 
 # ---- tests
@@ -236,18 +246,26 @@ def tried(room, test, plant):
 
 # ---- all
 
-def built_once(lists, plants, top):
-    """What the plants' tests are over, built in a copy of its own: for each name it and the folder."""
+def build(built, top):
+    """Builds what tests are over in a copy of its own: it, and the folder."""
+    room = Room(os.path.join(top, f"built-{built.name}"))
+    for command in built.runs:
+        status, said = room.run(command, 3600)
+        if status != 0:
+            sys.exit(f"plants: {built.name} isn't built: {ended(status, said)}: {command}")
+    return built, room.at
+
+
+def built_once(lists, plants, top, jobs):
+    """What the plants' tests are over, by name."""
     names = sorted({name for it in plants for name in lists.tests[it.test].over})
-    if not names:
-        return {}
-    room = Room(os.path.join(top, "built"))
-    for name in names:
-        for command in lists.built[name].runs:
-            status, said = room.run(command, 3600)
-            if status != 0:
-                sys.exit(f"plants: {name} isn't built: {ended(status, said)}: {command}")
-    return {name: (lists.built[name], room.at) for name in names}
+    with concurrent.futures.ThreadPoolExecutor(max_workers=jobs) as pool:
+        try:
+            return dict(zip(names, pool.map(lambda name: build(lists.built[name], top), names)))
+        except BaseException:
+            pool.shutdown(wait=False, cancel_futures=True)
+            end_all()
+            raise
 
 
 def pieces_of(plants):
@@ -265,7 +283,12 @@ class Work:
     def __init__(self, lists, plants, over):
         self.lists, self.over, self.pieces = lists, over, pieces_of(plants)
         self.count, self.begun, self.outcomes, self.lock = len(plants), set(), queue.SimpleQueue(), threading.Lock()
-        self.done = 0
+        self.done, self.is_over = 0, False
+
+    def stop(self):
+        """Ends what runs, and begins nothing more."""
+        self.is_over = True
+        end_all()
 
     def next_piece(self, room):
         """A piece whose test this copy has passed, else one that no copy has begun, else the first."""
@@ -316,18 +339,26 @@ class Work:
             if piece is None:
                 return
             for plant in piece:
+                if self.is_over:
+                    return
                 self.plant(room, plant)
 
 
 def plant_all(lists, plants, jobs):
     """The outcomes, in the order of the lists."""
     with tempfile.TemporaryDirectory(prefix="plants-") as top:
-        work = Work(lists, plants, built_once(lists, plants, top))
+        work = Work(lists, plants, built_once(lists, plants, top, jobs))
         threads = [threading.Thread(target=work.run, args=(os.path.join(top, str(i)),)) for i in range(min(jobs, len(work.pieces)))]
         for thread in threads:
             thread.start()
-        for thread in threads:
-            thread.join()
+        try:
+            for thread in threads:
+                thread.join()
+        except BaseException:
+            work.stop()
+            for thread in threads:
+                thread.join()
+            raise
     found = {}
     while not work.outcomes.empty():
         outcome = work.outcomes.get()
@@ -418,6 +449,7 @@ def words_of_choice(lists, plants, given):
 
 def main(words):
     given = read_words(words)
+    signal.signal(signal.SIGTERM, lambda *_: sys.exit("plants: ended from outside"))
     try:
         lists = plant_files.read(os.path.join(ROOT, LISTS))
     except plant_files.Trouble as trouble:

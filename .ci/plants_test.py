@@ -9,6 +9,7 @@ import shutil
 import subprocess
 import sys
 import tempfile
+import time
 
 sys.dont_write_bytecode = True
 
@@ -152,6 +153,24 @@ def check_ends(here):
     write(here.at, ".ci/plants.py", whole)
 
 
+def check_stop(here):
+    """A run that is ended from outside ends its tests and leaves no copies."""
+    here.lists(SEEN, f"test: adds\nrun: echo begun > \"$REPOSITORY/built\"; sleep 77.{os.getpid()}\nran: checks\nseconds: 1\n")
+    folder = os.path.join(os.path.dirname(here.at), "temporary")
+    os.makedirs(folder)
+    ran = subprocess.Popen([sys.executable, os.path.join(here.at, ".ci", "plants.py")], env={**planted.ENVIRONMENT, "TMPDIR": folder}, stdout=subprocess.PIPE,
+                           stderr=subprocess.STDOUT, stdin=subprocess.DEVNULL, text=True)
+    for _ in range(600):
+        if os.path.exists(os.path.join(here.at, "built")):
+            break
+        time.sleep(0.1)
+    ran.terminate()
+    said, _ = ran.communicate(timeout=60)
+    demand(ran.returncode == 1 and "ended from outside" in said and not os.listdir(folder), f"a run that is ended: {ran.returncode}, {os.listdir(folder)}", said)
+    processes = subprocess.run(["ps", "-eo", "args"], stdout=subprocess.PIPE, text=True).stdout.splitlines()
+    demand(f"sleep 77.{os.getpid()}" not in processes, "a test goes on behind a run that is ended")
+
+
 def check_lists(here):
     """Lists that are wrong end the run before a bug is planted."""
     for what, plants, wanted in (
@@ -209,7 +228,7 @@ def check_results(here):
 def main():
     with tempfile.TemporaryDirectory(prefix="plants-test-") as room:
         here = Repository(room)
-        for check in (check_outcomes, check_tests, check_ends, check_lists, check_choice, check_results):
+        for check in (check_outcomes, check_tests, check_ends, check_stop, check_lists, check_choice, check_results):
             check(here)
     print(f"plants_test: {checks} checks, {len(failures)} failed")
     return 1 if failures or checks < 60 else 0
