@@ -21,6 +21,7 @@ RUNNER = ("plants.py", "plant_files.py", "planted.py")
 FILES = {
     "add.sh": 'echo $(($1 + $2))\n',
     "twice.txt": "one\none\ntwo\n",
+    "name.txt": "Zoë\n",
     "test.sh": 'got=$(bash add.sh 2 3)\necho "checks: 1"\n[ "$got" = 5 ] || { echo "FAILED: 2 and 3 are $got"; exit 1; }\n',
     "left.sh": '[ ! -e left ] || { echo "FAILED: something is left"; exit 1; }\ntouch left\necho "checks: 1"\n! grep -q x twice.txt\n',
     ".gitignore": "left\nbuilt\n__pycache__\n",
@@ -46,6 +47,7 @@ SEEN = "plant: a difference\nclass: argument order\ntest: adds\nfile: add.sh\n- 
 SURVIVOR = "plant: the other order\nclass: argument order\ntest: adds\nfile: add.sh\n- $1 + $2\n+ $2 + $1\n"
 SLOW = "plant: an x\nclass: constant swapped\ntest: leaves\nfile: twice.txt\n- two\n+ x\n"
 OTHER = "plant: another x\nclass: constant swapped\ntest: leaves\nfile: twice.txt\n- two\n-\n+ xx\n+\n"
+NAMED = SEEN.replace("difference", "name") + "file: name.txt\n- Zoë\n+ Zoe\n"
 OF_KIT = "plant: a product\nclass: constant swapped\ntest: kit\nfile: add.sh\n- $1 + $2\n+ $1 * $2\n"
 MANY = "\n".join(f"plant: number {i}\nclass: off by one in ranges\ntest: adds\nfile: add.sh\n- $1 + $2\n+ $1 + $2 + {i + 1}\n" for i in range(12))
 
@@ -109,6 +111,8 @@ def check_outcomes(here):
     """What is seen, and what isn't."""
     here.lists(SEEN)
     here.ends("a bug that is seen", 0, r"small: a difference: seen: FAILED: 2 and 3 are -1$", r"^\| small \| 1 \| 1 \| 0 \|$", r"^1 bugs planted, 1 seen, 0 got through$")
+    here.lists(NAMED)
+    here.ends("a bug in two files, in no ASCII", 0, r"small: a name: seen: FAILED", r"^1 bugs planted, 1 seen, 0 got through$")
     here.lists(f"{SEEN}\n{SURVIVOR}")
     said = here.ends("a survivor", 1, r"^not seen: small: the other order: GOT THROUGH$", r"^\| argument order \| 2 \| 1 \| 1 \|$")
     demand(said.splitlines()[-1] == "2 bugs planted, 1 seen, 1 got through", "the last line with a survivor", said)
