@@ -35,6 +35,8 @@ ROOT = planted.ROOT
 LISTS = os.path.join(".ci", "plants")
 # The most seconds of a test whose plants are drawn.
 DRAWN_AT_MOST = 30
+# The seconds within which a build or a test without a plant has to end.
+FIRST = 3600
 # The date of each file of a copy.
 DATE = 1_600_000_000
 # Plants of one test that one copy takes at a time.
@@ -126,12 +128,12 @@ def mirror(source, to):
 
 
 class Room:
-    """A copy for one process at a time, beside what it is made again after each plant. `ready` has the tests that passed in it, `unfit` why
-    others didn't."""
+    """A copy for one process at a time, beside what it is made again after each plant. `ready` has the tests that passed in it, with the
+    seconds that they took, `unfit` why others didn't."""
 
     def __init__(self, top):
         self.at, self.kept, self.scratch = (os.path.join(top, it) for it in ("copy", "kept", "tmp"))
-        self.ready, self.unfit = set(), {}
+        self.ready, self.unfit = {}, {}
         os.makedirs(self.scratch)
         clone(self.at)
 
@@ -177,7 +179,7 @@ def end_all():
 # ---- tests
 
 def limit_of(seconds):
-    """The seconds after which a test is taken not to end."""
+    """The seconds after which a test that took so many is taken not to end."""
     return max(300, 10 * seconds)
 
 
@@ -201,7 +203,7 @@ def fault_without_plant(room, test, over):
             mirror(os.path.join(folder, name), os.path.join(room.at, name)) if os.path.isdir(os.path.join(folder, name)) else copy_file(folder, room.at, name)
     whole = ""
     for command in [*test.builds, *test.runs]:
-        status, said = room.run(command, limit_of(test.seconds))
+        status, said = room.run(command, FIRST)
         if status != 0:
             return f"it fails without a plant: {ended(status, said)}: {command}"
         whole += said
@@ -231,12 +233,13 @@ def tried(room, test, plant):
     wrong = put(room.at, plant.edits)
     if wrong:
         return "IT NO LONGER APPLIES", wrong
+    limit = limit_of(room.ready[test.name])
     for command in test.builds:
-        status, said = room.run(command, limit_of(test.seconds))
+        status, said = room.run(command, limit)
         if status != 0:
             return "IT DOESN'T BUILD", ended(status, said)
     for command in test.runs:
-        status, said = room.run(command, limit_of(test.seconds))
+        status, said = room.run(command, limit)
         if status is None or status in NEVER or status < 0:
             return "ITS TEST NEVER RAN", ended(status, said)
         if status != 0:
@@ -250,7 +253,7 @@ def build(built, top):
     """Builds what tests are over in a copy of its own: it, and the folder."""
     room = Room(os.path.join(top, f"built-{built.name}"))
     for command in built.runs:
-        status, said = room.run(command, 3600)
+        status, said = room.run(command, FIRST)
         if status != 0:
             sys.exit(f"plants: {built.name} isn't built: {ended(status, said)}: {command}")
     return built, room.at
@@ -311,12 +314,13 @@ class Work:
         """Passes a test in a copy, once."""
         if test.name in room.ready or test.name in room.unfit:
             return
+        start = time.time()
         fault = fault_without_plant(room, test, [self.over[it] for it in test.over])
         if fault:
             room.unfit[test.name] = fault
             room.restore()
         else:
-            room.ready.add(test.name)
+            room.ready[test.name] = time.time() - start
             room.keep()
 
     def plant(self, room, plant):

@@ -144,7 +144,7 @@ def check_ends(here):
     room = os.path.join(here.at, ".ci", "plants.py")
     with open(room, encoding="utf-8") as file:
         whole = file.read()
-    hurried = whole.replace("return max(300, 10 * seconds)", "return 2 * seconds")
+    hurried = whole.replace("return max(300, 10 * seconds)", "return 2 * seconds + 2")
     demand(hurried != whole, "the limit of a test can't be made short")
     write(here.at, ".ci/plants.py", hurried)
     here.lists(SEEN, "test: adds\nrun: echo checks; if grep -q -e ' - ' add.sh; then sleep 60; fi; bash test.sh\nran: checks\nseconds: 1\n")
