@@ -171,7 +171,11 @@ def check_stop(here):
     ran.terminate()
     said, _ = ran.communicate(timeout=60)
     demand(ran.returncode == 1 and "ended from outside" in said and not os.listdir(folder), f"a run that is ended: {ran.returncode}, {os.listdir(folder)}", said)
-    processes = subprocess.run(["ps", "-eo", "args"], stdout=subprocess.PIPE, text=True).stdout.splitlines()
+    for _ in range(200):
+        processes = subprocess.run(["ps", "-eo", "args"], stdout=subprocess.PIPE, text=True).stdout.splitlines()
+        if f"sleep 77.{os.getpid()}" not in processes:
+            break
+        time.sleep(0.1)
     demand(f"sleep 77.{os.getpid()}" not in processes, "a test goes on behind a run that is ended")
 
 
