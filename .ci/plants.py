@@ -75,7 +75,7 @@ def drawn(lists, plants, count, seed):
 
 def chosen(lists, given):
     plants = [it for it in lists.plants if not given.layer or it.layer in given.layer]
-    plants = [it for it in plants if given.only in it.name]
+    plants = [it for it in plants if given.only in it.name and (not given.test or it.test in given.test)]
     plants = [it for it in plants if not needs_of(lists, it) & given.skip]
     return drawn(lists, plants, given.draw, given.seed) if given.draw else plants
 
@@ -420,6 +420,7 @@ def skips_of(text):
 def read_words(words):
     given = argparse.ArgumentParser(description=__doc__, formatter_class=argparse.RawDescriptionHelpFormatter)
     given.add_argument("--layer", action="append", default=[], metavar="LAYER", help="its plants alone; several may be given")
+    given.add_argument("--test", action="append", default=[], metavar="TEST", help="those of a test; several may be given")
     given.add_argument("--only", default="", metavar="WORD", help="those whose names have this word")
     given.add_argument("--skip", type=skips_of, default=frozenset(), metavar="NEED,..", help=f"leaves out what needs one of {', '.join(plant_files.NEEDS)}")
     given.add_argument("--draw", type=count_of, default=0, metavar="N", help="so many of those that the gate draws")
@@ -461,6 +462,8 @@ def main(words):
     layers = {it.layer for it in lists.plants}
     if set(given.layer) - layers:
         sys.exit(f"plants: no layer {', '.join(sorted(set(given.layer) - layers))}; there are {', '.join(sorted(layers))}")
+    if set(given.test) - set(lists.tests):
+        sys.exit(f"plants: no test {', '.join(sorted(set(given.test) - set(lists.tests)))}; there are {', '.join(sorted(lists.tests))}")
     faults = plant_files.faults_of(lists.plants, ROOT)
     if faults:
         sys.exit("\n".join([*faults, f"plants: {len(faults)} no longer apply"]))

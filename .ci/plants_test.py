@@ -207,6 +207,8 @@ def check_choice(here):
     demand("bugs planted" not in said, "the list plants bugs", said)
     here.ends("one name", 0, r"^1 of 15 bugs$", r"^1 bugs planted, 1 seen", words=["--only", "a difference"])
     here.ends("a name that there isn't", 1, r"^plants: none is chosen$", words=["--only", "nothing"])
+    here.ends("one test", 0, r"^1 plants, of which 0", words=["--test", "leaves", "--list"])
+    here.ends("a test that there isn't", 1, r"^plants: no test large", words=["--test", "large"])
     here.ends("a layer that there isn't", 1, r"^plants: no layer large", words=["--layer", "large"])
     skipped = here.ends("without the kit", 0, r"^14 plants", words=["--skip", "kit", "--list"])
     demand("a product" not in skipped and "a difference" in skipped, "what is skipped", skipped)
