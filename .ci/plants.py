@@ -105,10 +105,17 @@ def sign(entry):
 
 
 def remove(path):
-    if os.path.isdir(path) and not os.path.islink(path):
-        shutil.rmtree(path)
-    elif os.path.lexists(path):
-        os.unlink(path)
+    """Takes away a file or a folder. (A process that was ended may write into one for a moment.)"""
+    if not os.path.isdir(path) or os.path.islink(path):
+        if os.path.lexists(path):
+            os.unlink(path)
+        return
+    for _ in range(50):
+        shutil.rmtree(path, ignore_errors=True)
+        if not os.path.lexists(path):
+            return
+        time.sleep(0.1)
+    shutil.rmtree(path)
 
 
 def mirror(source, to):
@@ -350,7 +357,7 @@ class Work:
 
 def plant_all(lists, plants, jobs):
     """The outcomes, in the order of the lists."""
-    with tempfile.TemporaryDirectory(prefix="plants-") as top:
+    with tempfile.TemporaryDirectory(prefix="plants-", ignore_cleanup_errors=True) as top:
         work = Work(lists, plants, built_once(lists, plants, top, jobs))
         threads = [threading.Thread(target=work.run, args=(os.path.join(top, str(i)),)) for i in range(min(jobs, len(work.pieces)))]
         for thread in threads:
