@@ -432,7 +432,7 @@ def read_words(words):
     given.add_argument("--skip", type=skips_of, default=frozenset(), metavar="NEED,..", help=f"leaves out what needs one of {', '.join(plant_files.NEEDS)}")
     given.add_argument("--draw", type=count_of, default=0, metavar="N", help="so many of those that the gate draws")
     given.add_argument("--seed", metavar="COMMIT", help="of --draw: HEAD's commit where it is left out")
-    given.add_argument("--jobs", type=count_of, default=max(1, (os.cpu_count() or 1) // 2), metavar="N", help="copies that are tested beside each other")
+    given.add_argument("--jobs", type=count_of, default=os.cpu_count() or 1, metavar="N", help="copies that are tested beside each other: as many as there are processors")
     given.add_argument("--results", metavar="FILE", help="a line for each plant goes there")
     given.add_argument("--list", action="store_true", help="print what is chosen, and plant nothing")
     found = given.parse_args(words)
