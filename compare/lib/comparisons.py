@@ -21,7 +21,8 @@ CFF2 = sources("subsetter_cff_at", "subsetter_cff_instance", "subsetter_cff2", "
 BENCH = sources("dev_bench")
 PROGRAM = sources("subset_font", "subset_args", "subset_lines", "subset_pdf", "pdf_objects", "pdf_sheet", "pdf_font", "glyph_names", "cid_embed", "cmap", "late_file")
 C = sources("subsetter_c", "subsetter_pdf_c", "cid_embed", "cid_embed_at") + ("bindings/c/*",)
-BINDINGS = C + ("bindings/python/**", "bindings/rust-native/**", "bindings/plants", "bindings/test")
+# What no proof covers, and its tests.
+PLANTED = ("bindings/**", "dist/*", "demo/*", "examples/*", ".ci/**", "Makefile")
 PORTABLE = SUBSET + INSTANCE + C + ("bindings/rust/src/**",)
 # The harness has the crate alone, with its module `pdf`.
 PDF = ("bindings/rust/src/**",)
@@ -169,7 +170,8 @@ COMPARISONS = [
     Comparison("javascript, times", "What does a call take in JavaScript, beside the native library?", "node bindings/js/tests/compare.mjs --times",
                lambda result: f"at most {at_most(max(float(row['Opened : native']) for row in result.tables[0]), 1)} times the native library's time",
                SUBSET + JAVASCRIPT, timed=True),
-    Comparison("plants", "Does each planted bug in the bindings fail a test?", "bindings/plants", lines_like(r"\d+ bugs planted.*"), BINDINGS, data=("plants.txt",)),
+    Comparison("plants", "Does each planted bug fail a test?", ".ci/plants.py --results compare/results/plants.txt", lines_like(r"^(all )?\d+ (of \d+ )?bugs\b.*|^\d+ bugs planted.*"),
+               PLANTED, ".ci/plants.py --draw 30", data=("plants.txt",)),
     Comparison("binding", "What does the Rust binding cost beside the program and the Rust crate?", f"{DEBIAN} compare/binding.py", cost_of_binding,
                SUBSET + C + ("bindings/rust-native/src/**",), original=True, timed=True),
     Comparison("faces", "Are the answers for every installed face those of the Rust crate?", "compare/faces.py", lines_like(r"\d+ faces, \d+ answers.*"),
