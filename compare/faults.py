@@ -113,7 +113,7 @@ KNOWN = {
 
 
 def is_known(base, at, end):
-    return end == rules.OTHER_RIGHTS and base.got.steps[at].call in ("statx", "newfstatat", "stat", "fstat") and base.roles.role(at)[0] == "write"
+    return end == rules.OTHER_RIGHTS and base.got.steps[at].call in ("statx", "newfstatat", "stat", "fstat") and base.roles.role(at)[0] in ("read", "write")
 
 
 def judge(table, room, way, base, at, how, number):

@@ -74,6 +74,8 @@ class Roles:
         self.names = [names_of(room, it) for it in steps]
         self.beside = next((at for at, names in enumerate(self.names) if any(BESIDE.fullmatch(it) for it in names)), len(steps))
         self.first = next((at for at in range(len(steps)) if self.role(at)[0] != "own"), len(steps))
+        # (behind the lines there is a message of no bytes)
+        self.last_message = max((at for at, it in enumerate(steps) if it.call == "write" and "stderr" in self.names[at]), default=0) + 1
         # behind these OUT, or the PDF, is whole
         self.named = {}
         for at, it in enumerate(steps):
@@ -95,7 +97,7 @@ class Roles:
             is_written = name in self.way.written or file in self.way.written or file in self.way.links
             is_read = file in self.way.reads()
             if is_read and is_written:
-                is_written = at >= self.beside or not (opens_for_reading(step) or step.call == "read")
+                is_written = at >= self.beside or (step.call in ("open", "openat") and not opens_for_reading(step))
             if is_written:
                 return "write", file
             if is_read:
@@ -125,13 +127,24 @@ def ended(way, before, base, got, number):
         return "mute"
     if got.status == 1 and got.err == b"out of memory\n" and untouched and got.out == b"":
         return "out of memory"
-    return ended_by_file(way, before, base, got, number, others) if got.status == 3 else ""
+    if got.status != 3:
+        return ""
+    return ended_by_lines(way, base, got, number) or ended_by_file(way, before, base, got, number, others)
 
 
 def parts_of(text):
     """What is left of lines of which some can't be written."""
     lines = text.splitlines(keepends=True)
     return {b"", *(b"".join(lines[:at] + lines[at + 1:]) for at in range(len(lines))), *(b"".join(lines[:at]) for at in range(len(lines)))}
+
+
+def ended_by_lines(way, base, got, number):
+    """The same where the lines go to standard error, and a part of them is in front of the message."""
+    found = re.fullmatch(rb"(.*?)cannot write standard output\n([^\n]*)\n", got.err, re.S)
+    if not found or "-" not in way.words or (got.files, got.out) != (base.files, base.out):
+        return ""
+    is_well = base.err.startswith(found[1]) and (not number or found[2].decode(errors="replace") == reason_of(number))
+    return "cannot write standard output" if is_well else ""
 
 
 def ended_by_file(way, before, base, got, number, others):
@@ -167,8 +180,8 @@ def allowed(roles, at, how, number, is_start):
         return {"whole", "stopped", "out of memory"}
     if step.call in MEMORY:
         return {"whole", "out of memory", *(f"cannot read {it}" for it in roles.way.reads())}
-    return {"read": of_reading, "stdin": of_reading, "write": of_writing, "stdout": of_output, "stderr": lambda *_: {"whole", "silent"}}.get(
-        role, lambda *_: {"whole", "out of memory"})(roles, at, number, name)
+    by_role = {"read": of_reading, "stdin": of_reading, "write": of_writing, "stdout": of_output, "stderr": of_messages}
+    return by_role[role](roles, at, number, name) if role in by_role else {"whole", "out of memory"}
 
 
 def of_reading(roles, at, number, name):
@@ -190,6 +203,12 @@ def of_output(roles, at, number, name):
     if roles.steps[at].call == "close":
         return {"whole"}
     return {"cannot write -"} if "-" in roles.way.words and not roles.way.stdin else {"cannot write standard output"}
+
+
+def of_messages(roles, at, number, name):
+    """Standard error has messages, or the lines where standard output has the font or the PDF."""
+    must = roles.steps[at].call != "close" and "-" in roles.way.words and not roles.way.stdin and at < roles.last_message
+    return {"cannot write standard output"} if must else {"whole", "silent"}
 
 
 def allowed_from(roles, at, number, is_start):
