@@ -270,7 +270,9 @@ def check_disk(table, room, ways):
     words = ["unshare", "-rm", sys.executable, os.path.realpath(__file__), "--program", table.program, "--part", "disk"]
     ran = subprocess.run(words, env={**os.environ, INSIDE: "1"}, stdout=subprocess.PIPE, text=True)
     lines = ran.stdout.splitlines()
-    print("\n".join(it for it in lines if it.startswith("faults.py: ")), end="")
+    for it in lines:
+        if it.startswith("faults.py: "):
+            print(it)
     rows = [it.split("|")[1:-1] for it in lines if it.startswith("| a disk")]
     table.demand(ran.returncode == 0 and len(rows) == 4, "disk", f"status {ran.returncode}: {lines[-3:]}; without mounts: --skip disk")
     for what, *counts in rows:

@@ -1,5 +1,6 @@
 /** The calls for PDF: each row of pdf_rows.txt, arguments, opened fonts, and calls that don't come back. */
 import { equal, ok, same, throws } from "./assert.mjs";
+import { memoryOf } from "./made.mjs";
 
 const OPTIONS = {
     "direction=Vertical": { vertical: true }, "codes=Source": { codes: "source" }, "codes=EachText": { codes: "eachText" },
@@ -207,6 +208,40 @@ function copies(subsetter, files) {
     ok(made.columns === undefined && made.encoding === undefined && made.cidSet === undefined, "what isn't there");
 }
 
+/** With each cap on the memory a call answers what it does without, or OutOfMemory; and the next call is as good as any. */
+async function memoryEnds(library, wasm, files) {
+    const { least, capped } = memoryOf(wasm), large = new Uint8Array(1000000), font = files("made.ttf");
+    const shown = Array.from({ length: 20000 }, (_, i) => ({ glyph: 1 + i % 9, text: String.fromCodePoint(0x4e00 + i) }));
+    const calls = (it, opened) => [
+        () => textOfAll(it.pdfFont(font, shown, { codes: "eachText" }).toUnicode), () => JSON.stringify(it.glyphsOf(font, "AH".repeat(20000))),
+        () => textOfAll(opened.objects(4).bytes), () => textOfAll(opened.sheet("grid")), () => JSON.stringify(it.glyphsOf(font, "AH")),
+    ];
+    const whole = await library.load(wasm), wanted = calls(whole, whole.pdfFont(font, shown)).map((call) => call());
+    const seen = wanted.map(() => [0, 0]);
+    for (let pages = least + 1; pages < least + 260; pages += pages < least + 12 ? 1 : 9) {
+        const it = await library.load(capped(pages));
+        let opened;
+        try {
+            opened = it.pdfFont(font, shown);
+        } catch (error) {
+            if (error.constructor !== library.OutOfMemory) throw error;
+        }
+        calls(it, opened).forEach((call, i) => {
+            if (!opened && (i === 2 || i === 3)) return;
+            try {
+                equal(call(), wanted[i], `${pages} pages, call ${i}`);
+                seen[i][1]++;
+            } catch (error) {
+                if (error.constructor !== library.OutOfMemory) throw error;
+                seen[i][0]++;
+            }
+            equal(JSON.stringify(it.glyphsOf(font, "AH")), wanted[4], "the next call");
+        });
+        throws(() => it.pdfFont(large, shown), pages < least + 12 ? library.OutOfMemory : library.UnknownKind, "a large font");
+    }
+    seen.slice(0, 4).forEach(([refused, done], i) => ok(refused > 0 && done > 0, `call ${i}: ${refused} times no memory, ${done} times done`));
+}
+
 /** The number of rows. `files` gives the bytes of a font by its name. */
 export async function runPdf(library, wasm, text, files) {
     const subsetter = await library.load(wasm), rows = rowsOf(text);
@@ -215,5 +250,6 @@ export async function runPdf(library, wasm, text, files) {
     choices(subsetter, library, files);
     faces(subsetter, library, files("made.ttf"));
     copies(subsetter, files);
+    await memoryEnds(library, wasm, files);
     return rows.length;
 }
