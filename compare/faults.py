@@ -156,7 +156,7 @@ SIGNALLED = {"OUT over a file": ALL_SIGNALS, "a new OUT": KILLING, "a PDF and OU
 def new_files(way, before, base, got):
     """Of each file that is written whether it is new; None where one is neither what it was nor whole, or another file is there."""
     beside = [it for it in got.files if (found := rules.BESIDE.fullmatch(it)) and found[1] in way.written]
-    rest = (before.keys() | got.files.keys()) - {*way.written, *beside}
+    rest = (before.keys() | got.files.keys()) - {*way.written, *way.second_names, *beside}
     if not rules.as_before(got.files, before, rest):
         return None
     found = []

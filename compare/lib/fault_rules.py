@@ -113,7 +113,7 @@ def as_before(got, before, names):
 
 def ended(way, before, base, got, number):
     """How a run ended, in words; empty where that isn't one of the ends that docs/CLI.md has."""
-    rest = (before.keys() | got.files.keys() | base.files.keys()) - set(way.written)
+    rest = (before.keys() | got.files.keys() | base.files.keys()) - {*way.written, *way.second_names}
     others = as_before(got.files, before, rest)
     untouched = others and as_before(got.files, before, way.written)
     is_whole = got.files == base.files
@@ -123,7 +123,8 @@ def ended(way, before, base, got, number):
         return "whole" if got.err == base.err else "silent" if got.err in parts_of(base.err) else ""
     if got.status == base.status == 0 and others and {it: file.data for it, file in got.files.items()} == {it: file.data for it, file in base.files.items()}:
         return OTHER_RIGHTS
-    if got.status in (1, 2, 3) and got.err == b"" and others and all(got.files.get(it) in (before.get(it), base.files.get(it)) for it in way.written):
+    are_well = way.in_place or all(got.files.get(it) in (before.get(it), base.files.get(it)) for it in way.written)
+    if got.status in (1, 2, 3) and got.err == b"" and others and are_well:
         return "mute"
     if got.status == 1 and got.err == b"out of memory\n" and untouched and got.out == b"":
         return "out of memory"
