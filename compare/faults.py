@@ -106,14 +106,15 @@ def shown(base, at, how, number):
     return f"{step.call} {names} (call {at + 1}), {how} {errno.errorcode.get(number, number) if how.startswith('error') else number}"
 
 
-# What ends in another way than docs/CLI.md has it, and why it does.
+# What ends in another way than docs/CLI.md has it, after which calls, and why it does.
 KNOWN = {
-    rules.OTHER_RIGHTS: "late_file takes a file of which nothing can be known (statx fails) for one that isn't there, and makes the new one with the usual rights",
+    rules.NEW_FILE: (("statx", "newfstatat", "stat", "fstat"), "late_file takes a file of which nothing can be known (statx fails) for one that isn't there"),
+    rules.FILE_LEFT: (("unlink", "unlinkat"), "late_file makes a file beside one that it then writes in place, and says nothing where it can't remove that"),
 }
 
 
 def is_known(base, at, end):
-    return end == rules.OTHER_RIGHTS and base.got.steps[at].call in ("statx", "newfstatat", "stat", "fstat") and base.roles.role(at)[0] in ("read", "write")
+    return end in KNOWN and base.got.steps[at].call in KNOWN[end][0] and base.roles.role(at)[0] in ("read", "write")
 
 
 def judge(table, room, way, base, at, how, number):
@@ -410,7 +411,7 @@ def check_streams(table, room, ways):
 # ---- all
 
 PARTS = {"start": check_start, "calls": check_calls, "signals": check_signals, "disk": check_disk, "folders": check_folders, "streams": check_streams}
-ENDS = ["whole", rules.OTHER_RIGHTS, "silent", "out of memory", "cannot read", "cannot write", "stopped", "ended by a signal", "otherwise"]
+ENDS = ["whole", *KNOWN, "silent", "out of memory", "cannot read", "cannot write", "stopped", "ended by a signal", "otherwise"]
 
 
 def kind_of(end):
@@ -430,7 +431,7 @@ def print_table(table):
 def check_known(table, parts, only):
     """What is known to end otherwise has to, where all was run."""
     seen = {end for ends in table.done.values() for end, count in ends.items() if count}
-    for end, why in KNOWN.items():
+    for end, (_, why) in KNOWN.items():
         if end in seen:
             print(f"Known: {sum(it[end] for it in table.done.values())} runs ended {end}: {why}.")
         elif "calls" in parts and not only:

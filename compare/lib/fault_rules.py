@@ -35,8 +35,9 @@ USUAL = {
     **dict.fromkeys(MEMORY, (errno.ENOMEM,)),
 }
 OTHERS = (errno.EINTR, errno.EIO, errno.ENOMEM)
-# An end that docs/CLI.md doesn't have, and why it is passed over: OUT is whole, and lost the rights that it had.
-OTHER_RIGHTS = "whole, with other rights"
+# Ends that docs/CLI.md doesn't have: OUT is whole, but a new file with the usual rights, and its second name has what was there before; and
+# OUT is whole, and a file beside it is left.
+NEW_FILE, FILE_LEFT = "whole, as a new file", "whole, with a file beside it"
 # These can't fail.
 NEVER = ("exit", "exit_group", "rt_sigreturn")
 
@@ -113,16 +114,18 @@ def as_before(got, before, names):
 
 def ended(way, before, base, got, number):
     """How a run ended, in words; empty where that isn't one of the ends that docs/CLI.md has."""
-    rest = (before.keys() | got.files.keys() | base.files.keys()) - {*way.written, *way.second_names}
+    beside = {it for it in got.files if (found := BESIDE.fullmatch(it)) and found[1] in way.written}
+    rest = (before.keys() | got.files.keys() | base.files.keys()) - {*way.written, *way.second_names, *beside}
     others = as_before(got.files, before, rest)
-    untouched = others and as_before(got.files, before, way.written)
+    untouched = others and not beside and as_before(got.files, before, way.written)
     is_whole = got.files == base.files
     if got.signal is not None or got.status not in (0, 1, 2, 3):
         return "stopped" if untouched and got.out == b"" else ""
     if got.status == base.status and got.out == base.out and is_whole:
         return "whole" if got.err == base.err else "silent" if got.err in parts_of(base.err) else ""
-    if got.status == base.status == 0 and others and {it: file.data for it, file in got.files.items()} == {it: file.data for it, file in base.files.items()}:
-        return OTHER_RIGHTS
+    if got.status == base.status == 0 and others and not is_whole and (got.out, got.err) == (base.out, base.err):
+        return ended_otherwise(way, base, got)
+    others = others and not beside
     are_well = way.in_place or all(got.files.get(it) in (before.get(it), base.files.get(it)) for it in way.written)
     if got.status in (1, 2, 3) and got.err == b"" and others and are_well:
         return "mute"
@@ -131,6 +134,18 @@ def ended(way, before, base, got, number):
     if got.status != 3:
         return ""
     return ended_by_lines(way, base, got, number) or ended_by_file(way, before, base, got, number, others)
+
+
+def ended_otherwise(way, base, got):
+    """An end that isn't in docs/CLI.md, where OUT is whole; empty for another."""
+    left = got.files.keys() - base.files.keys()
+    if all(data_of(got, it) == data_of(base, it) for it in way.written) and not left:
+        return NEW_FILE
+    return FILE_LEFT if {it: file for it, file in got.files.items() if it not in left} == base.files else ""
+
+
+def data_of(ended_run, name):
+    return ended_run.files[name].data if name in ended_run.files else None
 
 
 def parts_of(text):
