@@ -121,8 +121,8 @@ def ended(way, before, base, got, number):
     is_whole = got.files == base.files
     if got.signal is not None or got.status not in (0, 1, 2, 3):
         return "stopped" if untouched and got.out == b"" else ""
-    if got.status == base.status and got.out == base.out and is_whole:
-        return "whole" if got.err == base.err else "silent" if got.err in parts_of(base.err) else ""
+    if got.status == base.status and got.out == base.out and is_whole and (got.err == base.err or is_cut(base.err, got.err)):
+        return "whole" if got.err == base.err else "silent"
     if got.status == base.status == 0 and others and not is_whole and (got.out, got.err) == (base.out, base.err):
         return ended_otherwise(way, base, got)
     others = others and not beside
@@ -148,10 +148,10 @@ def data_of(ended_run, name):
     return ended_run.files[name].data if name in ended_run.files else None
 
 
-def parts_of(text):
-    """What is left of lines of which some can't be written."""
-    lines = text.splitlines(keepends=True)
-    return {b"", *(b"".join(lines[:at] + lines[at + 1:]) for at in range(len(lines))), *(b"".join(lines[:at]) for at in range(len(lines)))}
+def is_cut(whole, part):
+    """Whether a part is a text without what is in the middle, at its begin or at its end: what one write of several lost."""
+    same = len(os.path.commonprefix([whole, part]))
+    return len(part) < len(whole) and whole.endswith(part[same:])
 
 
 def ended_by_lines(way, base, got, number):

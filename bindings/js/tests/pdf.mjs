@@ -208,38 +208,52 @@ function copies(subsetter, files) {
     ok(made.columns === undefined && made.encoding === undefined && made.cidSet === undefined, "what isn't there");
 }
 
+/** Opens fonts until there is no memory for another. */
+function filled(it, { OutOfMemory }) {
+    const opened = [];
+    for (const size of [65536, 1024, 16]) {
+        for (;;) {
+            try {
+                opened.push(it.open(new Uint8Array(size)));
+            } catch (error) {
+                if (error.constructor !== OutOfMemory) throw error;
+                break;
+            }
+        }
+    }
+    return opened;
+}
+
 /** With each cap on the memory a call answers what it does without, or OutOfMemory; and the next call is as good as any. */
 async function memoryEnds(library, wasm, files) {
-    const { least, capped } = memoryOf(wasm), large = new Uint8Array(1000000), font = files("made.ttf");
+    const { least, capped } = memoryOf(wasm), font = files("made.ttf");
     const shown = Array.from({ length: 20000 }, (_, i) => ({ glyph: 1 + i % 9, text: String.fromCodePoint(0x4e00 + i) }));
-    const calls = (it, opened) => [
+    const calls = (it, made) => [
         () => textOfAll(it.pdfFont(font, shown, { codes: "eachText" }).toUnicode), () => JSON.stringify(it.glyphsOf(font, "AH".repeat(20000))),
-        () => textOfAll(opened.objects(4).bytes), () => textOfAll(opened.sheet("grid")), () => JSON.stringify(it.glyphsOf(font, "AH")),
+        () => textOfAll(made.objects(4).bytes), () => textOfAll(made.sheet("grid")),
     ];
-    const whole = await library.load(wasm), wanted = calls(whole, whole.pdfFont(font, shown)).map((call) => call());
-    const seen = wanted.map(() => [0, 0]);
-    for (let pages = least + 1; pages < least + 260; pages += pages < least + 12 ? 1 : 9) {
+    const whole = await library.load(wasm), made = whole.pdfFont(font, shown), wanted = calls(whole, made).map((call) => call());
+    const seen = wanted.map(() => ({ refused: 0, done: 0 }));
+    for (let pages = least + 1; pages < least + 130; pages += pages < least + 12 ? 1 : 9) {
         const it = await library.load(capped(pages));
-        let opened;
-        try {
-            opened = it.pdfFont(font, shown);
-        } catch (error) {
-            if (error.constructor !== library.OutOfMemory) throw error;
-        }
-        calls(it, opened).forEach((call, i) => {
-            if (!opened && (i === 2 || i === 3)) return;
+        calls(it).slice(0, 2).forEach((call, i) => {
             try {
                 equal(call(), wanted[i], `${pages} pages, call ${i}`);
-                seen[i][1]++;
+                seen[i].done++;
             } catch (error) {
                 if (error.constructor !== library.OutOfMemory) throw error;
-                seen[i][0]++;
+                seen[i].refused++;
             }
-            equal(JSON.stringify(it.glyphsOf(font, "AH")), wanted[4], "the next call");
+            equal(JSON.stringify(it.glyphsOf(font, "AH")), '[{"glyph":1,"text":"A"},{"glyph":9,"text":"H"}]', "the next call");
         });
-        throws(() => it.pdfFont(large, shown), pages < least + 12 ? library.OutOfMemory : library.UnknownKind, "a large font");
     }
-    seen.slice(0, 4).forEach(([refused, done], i) => ok(refused > 0 && done > 0, `call ${i}: ${refused} times no memory, ${done} times done`));
+    // What was made of a font is written of it once there is memory again.
+    const it = await library.load(capped(least + 400)), own = it.pdfFont(font, shown), fillers = filled(it, library);
+    ok(fillers.length > 100, `${fillers.length} fonts fill the memory`);
+    calls(it, own).forEach((call, i) => throws(call, library.OutOfMemory, `no memory, call ${i}`));
+    fillers.forEach((one) => one.close());
+    calls(it, own).forEach((call, i) => equal(call(), wanted[i], `memory again, call ${i}`));
+    seen.slice(0, 2).forEach(({ refused, done }, i) => ok(refused > 0 && done > 0, `call ${i}: ${refused} times no memory, ${done} times done`));
 }
 
 /** The number of rows. `files` gives the bytes of a font by its name. */
