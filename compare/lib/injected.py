@@ -51,12 +51,6 @@ class Ended:
 
 
 @functools.lru_cache(maxsize=None)
-def injector():
-    """The path of inject.c, built."""
-    return build.gcc("inject.c", "-Wall", "-Werror", to="inject")
-
-
-@functools.lru_cache(maxsize=None)
 def calls():
     """The names of the system calls by their numbers, as the C library's headers have them."""
     words = ["gcc", "-dM", "-E", "-include", "sys/syscall.h", "-x", "c", "/dev/null"]
@@ -98,6 +92,8 @@ class Room:
     def __init__(self, top, program):
         self.top, self.program = top, program
         self.work, self.streams, self.log = (os.path.join(top, it) for it in ("work", "streams", "log"))
+        # (of its own, as another run may build one meanwhile)
+        self.injector = build.gcc("inject.c", "-Wall", "-Werror", to=os.path.join(top, "inject"))
         for it in (self.work, self.streams):
             os.makedirs(it, exist_ok=True)
 
@@ -135,6 +131,8 @@ class Room:
         opened = self.open_streams(fed)
         try:
             return subprocess.run(words, cwd=self.work, env={"PATH": "/usr/bin:/bin"}, timeout=120, **{**opened, **more}).returncode
+        except subprocess.TimeoutExpired:
+            raise Trouble(f"{' '.join(words)[:200]} doesn't end") from None
         finally:
             for it in opened.values():
                 it.close()
@@ -146,7 +144,7 @@ class Room:
         """Runs a way, with something done to a step."""
         if is_laid:
             self.lay(way)
-        traced = self.start([injector(), self.log, how, str(step), str(number), self.program, *way.words], way.stdin)
+        traced = self.start([self.injector, self.log, how, str(step), str(number), self.program, *way.words], way.stdin)
         if traced != 0:
             raise Trouble(f"inject ends with {traced}: {self.printed('stderr')[-300:]!r}")
         steps, (end, code) = read_log(self.log)
