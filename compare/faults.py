@@ -39,13 +39,15 @@ from injected import Room, Trouble, needs  # noqa: E402
 class Table:
     """What was done to each call, how the runs ended, and what is wrong."""
 
-    def __init__(self, program):
-        self.program, self.wrong, self.runs = program, 0, 0
+    def __init__(self, program, is_first=False):
+        self.program, self.wrong, self.runs, self.is_first = program, 0, 0, is_first
         self.done = collections.defaultdict(collections.Counter)
 
     def fault(self, what, why):
         self.wrong += 1
         print(f"faults.py: {what}: {why}", flush=True)
+        if self.is_first:
+            sys.exit(1)
 
     def note(self, call, end):
         self.runs += 1
@@ -464,6 +466,7 @@ def read_words():
     words.add_argument("--only", default="", metavar="WORD", help="the ways with this word in their names")
     words.add_argument("--part", type=names, default=list(PARTS), metavar="PART,..", help=f"of {', '.join(PARTS)}")
     words.add_argument("--skip", type=names, default=[], metavar="PART,..", help="leaves these out")
+    words.add_argument("--first", action="store_true", help="ends at the first run that ended otherwise")
     given = words.parse_args()
     given.parts = [it for it in given.part if it not in given.skip]
     given.ways = [it for it in WAYS if given.only in it.name]
@@ -476,7 +479,7 @@ def main():
     given, lacking = read_words(), needs()
     if lacking:
         sys.exit(f"faults.py: {lacking}")
-    table = Table(os.path.realpath(given.program or cargo_program()))
+    table = Table(os.path.realpath(given.program or cargo_program()), given.first)
     try:
         check_all(table, given.ways, given.parts)
     except Trouble as trouble:
