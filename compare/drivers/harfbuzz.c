@@ -1,10 +1,10 @@
 /* Measures HarfBuzz: `harfbuzz_bench --list FILE`, where FILE has one line FONT INDEX GLYPHS COUNT [OUT].
  *
  * The words and the line that it prints are those of the other drivers. The face is preprocessed once, before the
- * clock starts, and the clock runs round each call of `hb_subset_or_fail` and the bytes of its answer. Subroutines are
- * resolved, glyph 0 keeps its outline and glyphs their names, and no layout tables and no `cmap` are kept, as in the
- * other drivers (a `cmap` of thousands of jumbled glyphs would also overflow, which HarfBuzz refuses). It takes a set of
- * glyphs and numbers them by their old order, so its bytes aren't those of the others. */
+ * clock starts, unless PLAIN is defined. The clock runs round each call of `hb_subset_or_fail` and the bytes of its answer.
+ * Subroutines are resolved, glyph 0 keeps its outline and glyphs their names, and no layout tables and no `cmap` are kept,
+ * as in the other drivers (a `cmap` of thousands of jumbled glyphs would also overflow, which HarfBuzz refuses). It takes a
+ * set of glyphs and numbers them by their old order, so its bytes aren't those of the others. */
 #include "timing.h"
 #include <hb-ot.h>
 #include <hb-subset.h>
@@ -34,13 +34,17 @@ static hb_subset_input_t *input_of(const char *glyphs) {
     return input;
 }
 
-/* The face of a font, preprocessed; an end with status 1 where HarfBuzz has none. */
+/* The face of a font, preprocessed but with PLAIN; an end with status 1 where HarfBuzz has none. */
 static hb_face_t *face_of(const char *font, unsigned index) {
     hb_blob_t *blob = hb_blob_create_from_file_or_fail(font);
     hb_face_t *face, *ready;
     if (!blob) exit(1);
     face = hb_face_create(blob, index);
+#ifdef PLAIN
+    ready = face;
+#else
     ready = hb_subset_preprocess(face);
+#endif
     if (!ready) exit(1);
     return ready;
 }
