@@ -85,7 +85,7 @@ def figures_by_hand(path, text):
 
 def missing_pages(path, text):
     """Pages of results that a document names and that aren't there."""
-    names = re.findall(r"compare/results/([\w.-]+\.\w+)", figures.without_waiting(text))
+    names = re.findall(r"compare/results/([\w.-]+\.\w+)", text)
     gone = [it for it in dict.fromkeys(names) if it != "NAME.md" and not os.path.exists(os.path.join(results_of.RESULTS, it))]
     return [f"{path} names compare/results/{it}, which isn't there" for it in gone]
 
@@ -111,8 +111,8 @@ def faults_of_document(path):
     if path.startswith("compare/results/"):
         return faults
     try:
-        faults += missing_pages(path, text)
         wanted = figures.refreshed(path)
+        faults += missing_pages(path, figures.without_waiting(text))
         faults += figures_by_hand(path, text)
     except repository.Trouble as trouble:
         return [*faults, str(trouble)]
