@@ -1,5 +1,6 @@
 """How a run of the program may end in which a system call fails, by docs/CLI.md: for faults.py."""
 import errno
+import fcntl
 import os
 import re
 
@@ -38,6 +39,8 @@ OTHERS = (errno.EINTR, errno.EIO, errno.ENOMEM)
 # Ends that docs/CLI.md doesn't have: OUT is whole, but a new file with the usual rights, and its second name has what was there before; and
 # OUT is whole, and a file beside it is left.
 NEW_FILE, FILE_LEFT = "whole, as a new file", "whole, with a file beside it"
+# What `fcntl` does besides giving a descriptor a second number is a look at it.
+SECOND_NUMBER = (fcntl.F_DUPFD, fcntl.F_DUPFD_CLOEXEC)
 # These can't fail.
 NEVER = ("exit", "exit_group", "rt_sigreturn")
 
@@ -200,8 +203,13 @@ def allowed(roles, at, how, number, is_start):
     return by_role[role](roles, at, number, name) if role in by_role else {"whole", "out of memory"}
 
 
+def is_look(step):
+    """Whether a call about a stream neither reads nor writes it, nor opens it."""
+    return step.call == "close" or step.call == "fcntl" and step.arguments[1] not in SECOND_NUMBER
+
+
 def of_reading(roles, at, number, name):
-    must = roles.steps[at].call in (*READING, "fcntl", "dup")
+    must = roles.steps[at].call in (*READING, "fcntl", "dup") and not is_look(roles.steps[at])
     return {f"cannot read {name}"} if must else {"whole", f"cannot read {name}"}
 
 
@@ -216,14 +224,14 @@ def of_writing(roles, at, number, name):
 
 
 def of_output(roles, at, number, name):
-    if roles.steps[at].call == "close":
+    if is_look(roles.steps[at]):
         return {"whole"}
     return {"cannot write -"} if "-" in roles.way.words and not roles.way.stdin else {"cannot write standard output"}
 
 
 def of_messages(roles, at, number, name):
     """Standard error has messages, or the lines where standard output has the font or the PDF."""
-    must = roles.steps[at].call != "close" and "-" in roles.way.words and not roles.way.stdin and at < roles.last_message
+    must = not is_look(roles.steps[at]) and "-" in roles.way.words and not roles.way.stdin and at < roles.last_message
     return {"cannot write standard output"} if must else {"whole", "silent"}
 
 
