@@ -2,14 +2,12 @@
 
 ghost use Rattle.std.specs.Prelude.{◌≡◌, ◌==◌, ◌%◌, All, length, not};
 ghost use Rattle.subsetter_blend.specs.Axes.{along_y};
-ghost use Rattle.subsetter_blend.specs.Drawing.{path_drawn, path_of};
 ghost use Rattle.subsetter_blend.specs.Drawn.{lines, alternating_lines, curves, curves_line, lines_curve, horizontal_curves, vertical_curves, odd_horizontal, odd_vertical, alternating_curves, moves, moves_along};
 ghost use Rattle.subsetter_blend.specs.Runs.Number.{IsWithin};
 ghost use Rattle.subsetter_blend.specs.Writing.Placed.{IsPosition};
 ghost use Rattle.pdf_boxes.specs.Traced.{traced, IsHeld};
 
-use crate::pen::{Pen, go, go_along};
-use subsetter_type2::operators::first_byte;
+use crate::pen::{Pen, go, go_across, go_along};
 
 /// rmoveto.
 pub fn moves(pen: Pen, operands: &[i64]) -> Option<Pen>
