@@ -1,6 +1,6 @@
 //! The path construction operators of one byte (Technical Note 5177, section 4.1).
 
-ghost use Rattle.std.specs.Prelude.{◌≡◌, ◌≤◌, ◌^◌, ◌==◌, ◌%◌, ◌∷◌, [], All, length, unsigned_abs};
+ghost use Rattle.std.specs.Prelude.{◌≡◌, ◌≤◌, ◌^◌, ◌==◌, ◌%◌, ◌∷◌, [], All, length, true, false, unsigned_abs};
 ghost use Rattle.subsetter_blend.specs.Axes.{along_y};
 ghost use Rattle.subsetter_blend.specs.Drawn.{lines, alternating_lines, curves, curves_line, lines_curve, horizontal_curves, vertical_curves, odd_horizontal, odd_vertical, alternating_curves, moves, moves_along};
 ghost use Rattle.subsetter_blend.specs.Runs.Number.{IsWithin};
@@ -136,16 +136,13 @@ fn vertical_curves(pen: Pen, operands: &[i64]) -> Option<Pen>
     }
 }
 
-/// hhcurveto: of an odd number of operands the first is the height that the first curve begins by, too.
-pub fn hh_curves(pen: Pen, operands: &[i64]) -> Option<Pen>
+/// Curves that begin and end horizontal, of which the first begins by the height in front, too.
+fn raised_curves(pen: Pen, operands: &[i64]) -> Option<Pen>
     requires at { IsPosition pen.at }
     requires within { All IsWithin operands.now }
-    ensures value { result ≡ traced (odd_horizontal (length operands.now % 4 == 1) pen.at operands.now) pen }
+    ensures value { result ≡ traced (odd_horizontal true pen.at operands.now) pen }
     ensures held { IsHeld result }
 {
-    if operands.len() % 4 != 1 {
-        return horizontal_curves(pen, operands);
-    }
     match operands {
         [dya, dxa, dxb, dyb, dxc, rest @ ..] => {
             horizontal_curves(curve(pen, *dxa, *dya, *dxb, *dyb, *dxc, 0)?, rest)
@@ -154,16 +151,26 @@ pub fn hh_curves(pen: Pen, operands: &[i64]) -> Option<Pen>
     }
 }
 
-/// vvcurveto: of an odd number of operands the first is the width that the first curve begins by, too.
-pub fn vv_curves(pen: Pen, operands: &[i64]) -> Option<Pen>
+/// hhcurveto.
+pub fn hh_curves(pen: Pen, operands: &[i64]) -> Option<Pen>
     requires at { IsPosition pen.at }
     requires within { All IsWithin operands.now }
-    ensures value { result ≡ traced (odd_vertical (length operands.now % 4 == 1) pen.at operands.now) pen }
+    ensures value { result ≡ traced (odd_horizontal (length operands.now % 4 == 1) pen.at operands.now) pen }
     ensures held { IsHeld result }
 {
-    if operands.len() % 4 != 1 {
-        return vertical_curves(pen, operands);
+    if operands.len() % 4 == 1 {
+        return raised_curves(pen, operands);
     }
+    horizontal_curves(pen, operands)
+}
+
+/// Curves that begin and end vertical, of which the first begins by the width in front, too.
+fn shifted_curves(pen: Pen, operands: &[i64]) -> Option<Pen>
+    requires at { IsPosition pen.at }
+    requires within { All IsWithin operands.now }
+    ensures value { result ≡ traced (odd_vertical true pen.at operands.now) pen }
+    ensures held { IsHeld result }
+{
     match operands {
         [dxa, dya, dxb, dyb, dyc, rest @ ..] => {
             vertical_curves(curve(pen, *dxa, *dya, *dxb, *dyb, 0, *dyc)?, rest)
@@ -172,8 +179,64 @@ pub fn vv_curves(pen: Pen, operands: &[i64]) -> Option<Pen>
     }
 }
 
-/// A curve that begins vertical, or else horizontal, and ends along the other axis; the last operand goes across.
-fn alternating_curve(vertical: bool, pen: Pen, da: i64, dxb: i64, dyb: i64, dc: i64, last: i64) -> Option<Pen>
+/// vvcurveto.
+pub fn vv_curves(pen: Pen, operands: &[i64]) -> Option<Pen>
+    requires at { IsPosition pen.at }
+    requires within { All IsWithin operands.now }
+    ensures value { result ≡ traced (odd_vertical (length operands.now % 4 == 1) pen.at operands.now) pen }
+    ensures held { IsHeld result }
+{
+    if operands.len() % 4 == 1 {
+        return shifted_curves(pen, operands);
+    }
+    vertical_curves(pen, operands)
+}
+
+/// A curve that begins vertical and ends horizontal, but for the last operand.
+fn curve_from_vertical(pen: Pen, da: i64, dxb: i64, dyb: i64, dc: i64, last: i64) -> Option<Pen>
+    requires at { IsPosition pen.at }
+    requires da { unsigned_abs da ≤ 2 ^ 45 }
+    requires dxb { unsigned_abs dxb ≤ 2 ^ 45 }
+    requires dyb { unsigned_abs dyb ≤ 2 ^ 45 }
+    requires dc { unsigned_abs dc ≤ 2 ^ 45 }
+    requires last { unsigned_abs last ≤ 2 ^ 45 }
+    ensures value { result ≡ traced (alternating_curves true pen.at (da ∷ dxb ∷ dyb ∷ dc ∷ last ∷ [])) pen }
+    ensures held { IsHeld result }
+{
+    curve(pen, 0, da, dxb, dyb, dc, last)
+}
+
+/// A curve that begins horizontal and ends vertical, but for the last operand.
+fn curve_from_horizontal(
+    pen: Pen,
+    da: i64,
+    dxb: i64,
+    dyb: i64,
+    dc: i64,
+    last: i64,
+) -> Option<Pen>
+    requires at { IsPosition pen.at }
+    requires da { unsigned_abs da ≤ 2 ^ 45 }
+    requires dxb { unsigned_abs dxb ≤ 2 ^ 45 }
+    requires dyb { unsigned_abs dyb ≤ 2 ^ 45 }
+    requires dc { unsigned_abs dc ≤ 2 ^ 45 }
+    requires last { unsigned_abs last ≤ 2 ^ 45 }
+    ensures value { result ≡ traced (alternating_curves false pen.at (da ∷ dxb ∷ dyb ∷ dc ∷ last ∷ [])) pen }
+    ensures held { IsHeld result }
+{
+    curve(pen, da, 0, dxb, dyb, last, dc)
+}
+
+/// One of the two.
+fn alternating_curve(
+    vertical: bool,
+    pen: Pen,
+    da: i64,
+    dxb: i64,
+    dyb: i64,
+    dc: i64,
+    last: i64,
+) -> Option<Pen>
     requires at { IsPosition pen.at }
     requires da { unsigned_abs da ≤ 2 ^ 45 }
     requires dxb { unsigned_abs dxb ≤ 2 ^ 45 }
@@ -184,9 +247,10 @@ fn alternating_curve(vertical: bool, pen: Pen, da: i64, dxb: i64, dyb: i64, dc: 
     ensures held { IsHeld result }
 {
     if vertical {
-        return curve(pen, 0, da, dxb, dyb, dc, last);
+        curve_from_vertical(pen, da, dxb, dyb, dc, last)
+    } else {
+        curve_from_horizontal(pen, da, dxb, dyb, dc, last)
     }
-    curve(pen, da, 0, dxb, dyb, last, dc)
 }
 
 /// hvcurveto and vhcurveto.
@@ -201,8 +265,7 @@ pub fn alternating_curves(vertical: bool, pen: Pen, operands: &[i64]) -> Option<
             alternating_curve(vertical, pen, *da, *dxb, *dyb, *dc, *last)
         }
         [da, dxb, dyb, dc, rest @ ..] => {
-            let next = alternating_curve(vertical, pen, *da, *dxb, *dyb, *dc, 0)?;
-            alternating_curves(!vertical, next, rest)
+            alternating_curves(!vertical, alternating_curve(vertical, pen, *da, *dxb, *dyb, *dc, 0)?, rest)
         }
         _ => Some(pen),
     }
