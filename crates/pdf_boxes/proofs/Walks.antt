@@ -1,5 +1,6 @@
 -- The operands of a path, some at the front and then the others.
-use Rattle.std.proofs.Common.{◌≡◌, ℕ, ℤ, pos, ◌≤◌, Bool, true, false, List, [], ◌∷◌, ◌++◌, length, drop, get_or, Option, Some, None, refl, sym, ap, subst, ◌∙◌, arith}
+use Rattle.std.proofs.Common.{◌≡◌, ℕ, ℤ, pos, ◌≤◌, ◌-◌, Bool, true, false, List, [], ◌∷◌, ◌++◌, length, take, drop, get_or, Option, Some, None, refl, sym, ap, subst, ◌∙◌, arith, length-drop}
+use Rattle.std.proofs.lemmas.List.{take_all}
 use Rattle.std.specs.Prelude.{not, IfSome}
 use Rattle.std.specs.Option.{option_and_then}
 use Rattle.subsetter_blend.specs.declared.writing.placing.Position.{Position}
@@ -18,6 +19,10 @@ point_is x y a b pen r h p q = h ∙ ap (λ (v : ℤ). visited (record { x = v; 
 
 pub there_is : (x y a b : ℤ) (r : Option Pen) → IfSome r (λ p. p.at ≡ record { x = a; y = b }) → a ≡ x → b ≡ y → IfSome r (λ p. p.at ≡ record { x = x; y = y })
 there_is x y a b r h p q = subst (λ (v : ℤ). IfSome r (λ o. o.at ≡ record { x = v; y = y })) p (subst (λ (v : ℤ). IfSome r (λ o. o.at ≡ record { x = a; y = v })) q h)
+
+-- ---- what is behind some operands
+pub rest_all : (n : ℕ) (xs : List ℤ) → take (length xs - n) (drop n xs) ≡ drop n xs
+rest_all n xs = take_all (length xs - n) (drop n xs) (omega (arith, length-drop n xs))
 
 -- ---- one curve
 last : (o : Option Pen) → option_and_then (followed []) o ≡ o
