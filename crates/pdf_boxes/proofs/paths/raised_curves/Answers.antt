@@ -2,8 +2,6 @@ use Rattle.std.proofs.Common.{ℤ, List, FitsSigned, w64, get_or, pos, ap, ◌�
 use Rattle.std.proofs.lemmas.Int.{to_z-of_z}
 use Rattle.subsetter_blend.specs.Drawn.{horizontal_curves}
 use Rattle.pdf_boxes.specs.Traced.{traced}
-use Rattle.pdf_boxes.proofs.Runs.{outline_found, outline_lost}
-use Rattle.pdf_boxes.proofs.Glyphs.{kept_more}
 use Rattle.pdf_boxes.proofs.Turns.{hh_go, hh_lost}
 use Rattle.pdf_boxes.proofs.Walks.{rest_all}
 use Rattle.pdf_boxes.proofs.paths.raised_curves.Goals as goal
