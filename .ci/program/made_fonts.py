@@ -254,6 +254,10 @@ FONTS["instances"] = made.font(sorted([
     *names((3, 1, 0x0409, 257, "Semi Bold", 0), (3, 1, 0x0409, 259, "Black", 0))]))
 
 
+# A collection whose first face has no axis, and the second those of `instances`.
+FONTS["axes_behind"] = b"ttcf" + made.u32s(0x00010000, 2, 20, 20 + len(SIMPLE)) + moved(SIMPLE, 20) + moved(FONTS["instances"], 20 + len(SIMPLE))
+
+
 # `cff2_square` with an `avar` of version 2.0, and a named instance.
 FONTS["cff2_avar"] = cff2_font([
     *(it for it in tables_of(FONTS["cff2_square"]).items() if it[0] not in ("fvar", "name")),

@@ -185,7 +185,7 @@ pub fn name_in(
     font_name(alloc, &tag_in(program, tag), &name)
 }
 
-/// What advance heights vary by at a location.
+/// What advance heights and the origins of `VORG` vary by at a location.
 pub fn heights_by<'a>(
     face: &Face<'a>,
     location: &'a Option<Location>,

@@ -151,7 +151,7 @@ fn is_outline(outline: &Outline<'_>) -> bool
     ensures is_outline { result ≡ true → IsOutline outline.now }
 {
     outline.ys.len() == outline.xs.len()
-        && outline.xs.len() < 0x1_0000_0000
+        && (outline.xs.len() as u64) < 0x1_0000_0000
         && are_ends(0, outline.ends, outline.xs.len())
 }
 

@@ -14,6 +14,7 @@ pub enum Along {
 }
 
 /// The y axis, or else the x axis.
+#[inline(always)]
 fn along_y(y: bool) -> Along {
     if y {
         Along::Y
@@ -23,6 +24,7 @@ fn along_y(y: bool) -> Along {
 }
 
 /// The other axis.
+#[inline(always)]
 fn other_than(y: bool) -> Along {
     if y {
         Along::X
@@ -32,16 +34,19 @@ fn other_than(y: bool) -> Along {
 }
 
 /// The axes, alternating.
+#[inline(always)]
 fn alternating(i: usize) -> Along {
     along_y(i % 2 == 1)
 }
 
 /// Curves that begin alternating horizontal and vertical: the operand moves along the y axis.
+#[inline(always)]
 fn curve_y(i: usize) -> bool {
     i % 8 == 2 || i % 8 == 3 || i % 8 == 4 || i % 8 == 6
 }
 
 /// The same of so many operands, of which the last may be a fifth one.
+#[inline(always)]
 fn curves_along(first: usize, count: usize, i: usize) -> Along {
     if count % 4 == 1 && i + 1 == count && first + i >= 1 {
         return other_than(curve_y(first + i - 1));
@@ -50,6 +55,7 @@ fn curves_along(first: usize, count: usize, i: usize) -> Along {
 }
 
 /// Of the operator of this byte.
+#[inline(always)]
 fn one_byte_along(first: u8, count: usize, i: usize) -> Along {
     match first {
         first_byte::HORIZONTAL_STEM
@@ -71,6 +77,7 @@ fn one_byte_along(first: u8, count: usize, i: usize) -> Along {
 }
 
 /// Curves that begin and end vertical.
+#[inline(always)]
 fn vertical_along(count: usize, i: usize) -> Along {
     let extra = count % 4;
     if i < extra {
@@ -80,6 +87,7 @@ fn vertical_along(count: usize, i: usize) -> Along {
 }
 
 /// Curves that begin and end horizontal.
+#[inline(always)]
 fn horizontal_along(count: usize, i: usize) -> Along {
     let extra = count % 4;
     if i < extra {
@@ -89,6 +97,7 @@ fn horizontal_along(count: usize, i: usize) -> Along {
 }
 
 /// Of flex.
+#[inline(always)]
 fn flex_along(i: usize) -> Along {
     if i < 12 {
         alternating(i)
@@ -98,6 +107,7 @@ fn flex_along(i: usize) -> Along {
 }
 
 /// What the operand numbered i of so many operands moves along.
+#[inline(always)]
 pub fn moves_along(operator: Operator, count: usize, i: usize) -> Along {
     match operator.0 {
         OperatorType::OneByteOperator(code) => match code {

@@ -6,16 +6,18 @@ use crate::rattle::prelude::Vec;
 use crate::proved::subsetter_base::error::Error;
 use crate::proved::subsetter_blend::runs::machine::Subroutines;
 use crate::proved::subsetter_blend::runs::regions::Regions;
-use crate::proved::subsetter_blend::runs::running::run;
+use crate::proved::subsetter_blend::runs::running::{run_in, Room};
 use crate::proved::subsetter_blend::writing::fitting::Fitting;
 use crate::proved::subsetter_type2::limits::Limits;
 use crate::rattle::alloc::Global;
 
-/// The bytes of a Type 2 charstring without subroutines, in which all blends are resolved, with the advance as its width.
+/// The bytes of a Type 2 charstring without subroutines, in which all blends are resolved, with the advance as its width. It runs in
+/// this room.
 ///
 /// `CFFError` where the charstring is malformed or passes a limit, `OverflowError` where a number doesn't fit.
-pub fn resolve<'a, R: Regions>(
+pub fn resolve_in<'a, R: Regions>(
     alloc: Global,
+    room: &mut Room<'a>,
     subroutines: &Subroutines<'a>,
     regions: &R,
     limits: &Limits,
@@ -23,9 +25,10 @@ pub fn resolve<'a, R: Regions>(
     advance: i16,
     charstring: &'a [u8],
 ) -> Result<Vec<u8>, Error> {
-    let mut fitting = Fitting::new(alloc, advance);
-    run(
+    let mut fitting = Fitting::with_room(alloc, advance, charstring.len())?;
+    run_in(
         &mut fitting,
+        room,
         subroutines,
         regions,
         limits,

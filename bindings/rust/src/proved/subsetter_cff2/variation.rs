@@ -12,9 +12,16 @@ use crate::proved::subsetter_variation::items::item_variations::{
 use crate::rattle::alloc::Global;
 
 /// A store, and the scalars of its regions at a location.
-pub struct Variation<'a> {
+struct Located<'a> {
     store: Store<'a>,
     scalars: Vec<i64>,
+}
+
+/// A store, and the scalars of its regions at a location. Those of the first item variation data, which most charstrings take, are kept.
+pub struct Variation<'a> {
+    all: Located<'a>,
+    first_count: Option<usize>,
+    first: Vec<i64>,
 }
 
 /// The scalar of a region.
@@ -40,9 +47,35 @@ fn region_scalars(alloc: Global, store: &Store<'_>, at: &[i32]) -> Result<Vec<i6
 }
 
 /// What a store varies by at a location. A region that can't be read is `MalformedFont`.
-pub fn store_at<'a>(alloc: Global, store: Store<'a>, at: &[i32]) -> Result<Variation<'a>, Error> {
+fn locate<'a>(alloc: Global, store: Store<'a>, at: &[i32]) -> Result<Located<'a>, Error> {
     let scalars = region_scalars(alloc, &store, at)?;
-    Ok(Variation { store, scalars })
+    Ok(Located { store, scalars })
+}
+
+/// The scalars of the first item variation data, which have so many regions.
+fn first_scalars(
+    alloc: Global,
+    all: &Located<'_>,
+    count: Option<usize>,
+) -> Result<Vec<i64>, Error> {
+    let count = count.unwrap_or(0);
+    let mut scalars = Vec::with_capacity(alloc, count)?;
+    for region in 0..count {
+        scalars.push(all.scalar(0, region))?;
+    }
+    Ok(scalars)
+}
+
+/// What a store varies by at a location, with what is kept. A region that can't be read is `MalformedFont`.
+pub fn store_at<'a>(alloc: Global, store: Store<'a>, at: &[i32]) -> Result<Variation<'a>, Error> {
+    let all = locate(alloc, store, at)?;
+    let first_count = all.count(0);
+    let first = first_scalars(alloc, &all, first_count)?;
+    Ok(Variation {
+        all,
+        first_count,
+        first,
+    })
 }
 
 /// The same, where there is a store.
@@ -70,9 +103,9 @@ fn are_regions_below(bytes: &[u8], bound: usize) -> bool {
     true
 }
 
-impl<'a> Variation<'a> {
+impl<'a> Located<'a> {
     /// How many regions item variation data have, if there are such data.
-    pub fn count(&self, outer: u32) -> Option<usize> {
+    fn count(&self, outer: u32) -> Option<usize> {
         let bytes = data_regions(&self.store, outer)?;
         if are_regions_below(bytes, self.scalars.len()) {
             Some(bytes.len() / 2)
@@ -91,7 +124,7 @@ impl<'a> Variation<'a> {
     }
 
     /// The scalar of one of the regions of item variation data.
-    pub fn scalar(&self, outer: u32, region: usize) -> i64 {
+    fn scalar(&self, outer: u32, region: usize) -> i64 {
         let bytes = match data_regions(&self.store, outer) {
             Some(bytes) => bytes,
             _ => {
@@ -100,6 +133,30 @@ impl<'a> Variation<'a> {
         };
         if region < bytes.len() / 2 {
             self.scalar_of(u16_at(bytes, region * 2))
+        } else {
+            0
+        }
+    }
+}
+
+impl<'a> Variation<'a> {
+    /// How many regions item variation data have, if there are such data.
+    #[inline(always)]
+    pub fn count(&self, outer: u32) -> Option<usize> {
+        if outer == 0 {
+            return self.first_count;
+        }
+        self.all.count(outer)
+    }
+
+    /// The scalar of one of the regions of item variation data.
+    #[inline(always)]
+    pub fn scalar(&self, outer: u32, region: usize) -> i64 {
+        if outer != 0 {
+            return self.all.scalar(outer, region);
+        }
+        if region < self.first.len() {
+            self.first[region]
         } else {
             0
         }

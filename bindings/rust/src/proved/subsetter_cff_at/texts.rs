@@ -4,8 +4,9 @@
 use crate::rattle::prelude::Vec;
 
 use crate::proved::subsetter_base::error::Error;
-use crate::proved::subsetter_blend::resolving::resolve;
+use crate::proved::subsetter_blend::resolving::resolve_in;
 use crate::proved::subsetter_blend::runs::machine::Subroutines;
+use crate::proved::subsetter_blend::runs::running::Room;
 use crate::proved::subsetter_cff2::made::PlacedDict;
 use crate::proved::subsetter_cff_at::opening::OpenTable;
 use crate::proved::subsetter_type2::limits::Limits;
@@ -25,10 +26,11 @@ pub struct Texts {
 
 /// The charstring of a requested glyph under a private dict. An advance past 32,767, for which a charstring has no number, is
 /// `OverflowError`; a charstring that isn't there is `MalformedFont`.
-fn glyph_text(
+fn glyph_text<'a>(
     alloc: Global,
-    opened: &OpenTable<'_>,
-    dict: &PlacedDict<'_>,
+    room: &mut Room<'a>,
+    opened: &OpenTable<'a>,
+    dict: &PlacedDict<'a>,
     glyph: u16,
     advance: u16,
     limits: Limits,
@@ -46,8 +48,9 @@ fn glyph_text(
         global: SubroutineHandler::new(opened.table.subroutines),
         local: SubroutineHandler::new(dict.subroutines),
     };
-    resolve(
+    resolve_in(
         alloc,
+        room,
         &subroutines,
         &opened.variation,
         &limits,
@@ -58,10 +61,11 @@ fn glyph_text(
 }
 
 /// The charstring of a requested glyph, by the place of its private dict.
-fn placed_text(
+fn placed_text<'a>(
     alloc: Global,
-    opened: &OpenTable<'_>,
-    dicts: &[PlacedDict<'_>],
+    room: &mut Room<'a>,
+    opened: &OpenTable<'a>,
+    dicts: &[PlacedDict<'a>],
     place: u8,
     glyph: u16,
     advance: u16,
@@ -72,6 +76,7 @@ fn placed_text(
     }
     glyph_text(
         alloc,
+        room,
         opened,
         &dicts[usize::from(place)],
         glyph,
@@ -103,10 +108,11 @@ fn put(texts: Texts, bytes: &[u8], requested: usize) -> Result<Texts, Error> {
 }
 
 /// Draws a glyph more. `OverflowError` also where the charstrings of the requested glyphs pass the bound on bytes.
-fn draw_next(
+fn draw_next<'a>(
     alloc: Global,
-    opened: &OpenTable<'_>,
-    dicts: &[PlacedDict<'_>],
+    room: &mut Room<'a>,
+    opened: &OpenTable<'a>,
+    dicts: &[PlacedDict<'a>],
     place: u8,
     glyph: u16,
     advance: Option<u16>,
@@ -119,7 +125,7 @@ fn draw_next(
             put(texts, &[first_byte::ENDCHAR], requested)
         }
         Some(advance) => {
-            let text = placed_text(alloc, opened, dicts, place, glyph, advance, limits)?;
+            let text = placed_text(alloc, room, opened, dicts, place, glyph, advance, limits)?;
             let requested = texts.requested.saturating_add(text.len());
             if limits.is_past(requested) {
                 return Err(Error::OverflowError);
@@ -131,18 +137,20 @@ fn draw_next(
 
 /// Draws all glyphs: the requested ones, and `endchar` for every other one. `OverflowError` where the charstrings of the requested
 /// glyphs pass the bound on bytes, before the next one is drawn.
-pub fn draw_texts(
+pub fn draw_texts<'a>(
     alloc: Global,
-    opened: &OpenTable<'_>,
-    dicts: &[PlacedDict<'_>],
+    opened: &OpenTable<'a>,
+    dicts: &[PlacedDict<'a>],
     places: &[u8],
     glyphs: &[Option<u16>],
     limits: Limits,
 ) -> Result<Texts, Error> {
+    let mut room = Room::new(opened.table.bytes);
     let mut texts = no_texts(alloc, glyphs.len(), limits)?;
     for glyph in 0..glyphs.len() {
         texts = draw_next(
             alloc,
+            &mut room,
             opened,
             dicts,
             places[glyph],

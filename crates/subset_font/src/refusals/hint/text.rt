@@ -227,9 +227,7 @@ impl fmt::Display for Hint {
                 );
                 write!(f, "{text}")
             }
-            Hint::Cff2 => {
-                f.write_str("CFF2: choose coordinates by --at; \"\" is the default")
-            }
+            Hint::Cff2 => { f.write_str("CFF2: choose coordinates by --at; \"\" is the default") }
             Hint::NoUnicode => f.write_str("cmap: no table for Unicode in format 4 or 12"),
             Hint::WrongAxes => f.write_str("fvar: the table can't be read"),
             Hint::NoAxes => f.write_str("no axes in the font"),

@@ -23,6 +23,7 @@ pub enum Kind {
 }
 
 /// What both kinds of charstrings have: CFF2 has no return and no endchar.
+#[inline(always)]
 pub fn kind_of(effect: Option<Effect>) -> Option<Kind> {
     match effect? {
         Effect::CountsStems => Some(Kind::CountsStems),
@@ -36,6 +37,7 @@ pub fn kind_of(effect: Option<Effect>) -> Option<Kind> {
 }
 
 /// What the operator of this byte does.
+#[inline(always)]
 pub fn one_byte_kind(first: u8) -> Option<Kind> {
     match first {
         VSINDEX => Some(Kind::ChoosesData),
@@ -45,6 +47,7 @@ pub fn one_byte_kind(first: u8) -> Option<Kind> {
 }
 
 /// The operator of this byte takes so many operands.
+#[inline(always)]
 fn one_byte_accepts(first: u8, count: usize) -> bool {
     match first {
         first_byte::HORIZONTAL_STEM
@@ -79,6 +82,7 @@ fn two_byte_accepts(second: u8, count: usize) -> bool {
 }
 
 /// The operator takes so many operands.
+#[inline(always)]
 pub fn accepts(operator: Operator, count: usize) -> bool {
     match operator.0 {
         OperatorType::OneByteOperator(code) => match code {

@@ -4,7 +4,7 @@
 
 use crate::proved::subsetter_base::error::Error;
 use crate::proved::subsetter_blend::runs::kind::{accepts, kind_of, one_byte_kind, Kind};
-use crate::proved::subsetter_blend::runs::operands::{Operands, MAX_OPERANDS};
+use crate::proved::subsetter_blend::runs::operands::{Operands, GREATEST_SMALL, MAX_OPERANDS};
 use crate::proved::subsetter_blend::runs::parts::{in_parts, natural_in, whole_in};
 use crate::proved::subsetter_blend::runs::regions::Regions;
 use crate::proved::subsetter_blend::writing::taking::Takes;
@@ -62,7 +62,17 @@ impl Machine {
         }
     }
 
+    /// Begins anew, where these item variation data count.
+    pub fn start(&mut self, data_index: u16) {
+        self.operands.clear();
+        self.stems = 0;
+        self.mask_len = 0;
+        self.data_index = data_index;
+        self.settled = false;
+    }
+
     /// A number is put onto the stack.
+    #[inline(always)]
     fn push<'a>(&mut self, number: CharStringNumber, rest: &'a [u8]) -> Result<Flow<'a>, Error> {
         if self.operands.len() >= MAX_OPERANDS {
             return Err(Error::CFFError);
@@ -71,7 +81,14 @@ impl Machine {
         Ok(Flow::GoesOn(rest))
     }
 
+    /// A number of this byte alone is put onto the stack.
+    #[inline(always)]
+    fn push_small<'a>(&mut self, first: u8, rest: &'a [u8]) -> Result<Flow<'a>, Error> {
+        self.push(CharStringNumber::Integer(first as i16 - 139), rest)
+    }
+
     /// An operator that takes all operands, and its mask.
+    #[inline(always)]
     fn emit<'a, S: Takes>(
         &mut self,
         sink: &mut S,
@@ -88,6 +105,7 @@ impl Machine {
     }
 
     /// The stems with those of the operands.
+    #[inline(always)]
     fn stems_after(&self) -> Result<u16, Error> {
         let stems = self.stems as usize + self.operands.len() / 2;
         if stems > MAX_STEMS {
@@ -97,6 +115,7 @@ impl Machine {
     }
 
     /// Stems, two operands each.
+    #[inline(always)]
     fn count_stems<'a, S: Takes>(
         &mut self,
         sink: &mut S,
@@ -128,6 +147,7 @@ impl Machine {
     }
 
     /// A call of one of these subroutines.
+    #[inline(always)]
     fn call<'a>(
         &mut self,
         subroutines: &SubroutineHandler<'a>,
@@ -167,6 +187,7 @@ impl Machine {
 
 impl Machine {
     /// An operator of this kind, with what follows it in its charstring.
+    #[inline(always)]
     fn operate<'a, S: Takes, R: Regions>(
         &mut self,
         sink: &mut S,
@@ -189,6 +210,7 @@ impl Machine {
     }
 
     /// An operator of two bytes, the second of them at the front of these.
+    #[inline(always)]
     fn operate_by_two<'a, S: Takes, R: Regions>(
         &mut self,
         sink: &mut S,
@@ -210,12 +232,14 @@ impl Machine {
     }
 
     /// A number at the front of these bytes.
+    #[inline(always)]
     fn push_at<'a>(&mut self, bytes: &'a [u8]) -> Result<Flow<'a>, Error> {
         let read = read_number(bytes).ok_or(Error::CFFError)?;
         self.push(read.number, read.rest)
     }
 
     /// The token at the front of these bytes, by the first byte.
+    #[inline(always)]
     pub fn act_at<'a, S: Takes, R: Regions>(
         &mut self,
         sink: &mut S,
@@ -230,6 +254,9 @@ impl Machine {
             }
         };
         if *first >= first_byte::LEAST_NUMBER {
+            if *first <= GREATEST_SMALL {
+                return self.push_small(*first, rest);
+            }
             return self.push_at(bytes);
         }
         if *first == first_byte::SHORT_INT {

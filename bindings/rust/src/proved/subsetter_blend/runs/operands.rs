@@ -4,9 +4,28 @@
 use crate::proved::subsetter_base::error::Error;
 use crate::proved::subsetter_blend::runs::regions::Regions;
 use crate::proved::subsetter_blend::runs::sharing::vary_front;
+use crate::proved::subsetter_type2::operators::first_byte;
 
 /// How many operands the stack holds (OpenType, "CFF2 CharString Format").
 pub const MAX_OPERANDS: usize = 513;
+
+/// The greatest first byte of a number that has no other.
+pub const GREATEST_SMALL: u8 = 246;
+
+/// The lesser of two counts.
+fn least(one: usize, other: usize) -> usize {
+    if one < other {
+        one
+    } else {
+        other
+    }
+}
+
+/// The number of this byte alone, in parts.
+#[inline(always)]
+fn small_in_parts(first: u8) -> i64 {
+    (i64::from(first) - 139) * 1073741824
+}
 
 /// The numbers that no operator has taken yet, in parts.
 pub struct Operands {
@@ -24,22 +43,40 @@ impl Operands {
     }
 
     /// How many operands there are.
+    #[inline(always)]
     pub fn len(&self) -> usize {
         self.len
     }
 
     /// The operands, the last one pushed last.
+    #[inline(always)]
     pub fn as_slice(&self) -> &[i64] {
         &self.items[..self.len]
     }
 
     /// Puts an operand on the top.
+    #[inline(always)]
     pub fn push(&mut self, operand: i64) {
         self.items[self.len] = operand;
         self.len += 1;
     }
 
+    /// Puts the numbers of one byte each that are at the front of these bytes on the top, so many at most. It answers how many.
+    #[inline(always)]
+    pub fn push_all_small(&mut self, bytes: &[u8], most: usize) -> usize {
+        let limit = least(bytes.len(), least(most, MAX_OPERANDS - self.len()));
+        for count in 0..limit {
+            let first = bytes[count];
+            if first < first_byte::LEAST_NUMBER || first > GREATEST_SMALL {
+                return count;
+            }
+            self.push(small_in_parts(first));
+        }
+        limit
+    }
+
     /// Takes the operand at the top.
+    #[inline(always)]
     pub fn pop(&mut self) -> Option<i64> {
         if self.len == 0 {
             return None;
@@ -49,6 +86,7 @@ impl Operands {
     }
 
     /// Takes all operands away.
+    #[inline(always)]
     pub fn clear(&mut self) {
         self.len = 0;
     }

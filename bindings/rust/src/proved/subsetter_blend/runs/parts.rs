@@ -2,12 +2,12 @@
 //! Numbers in parts of 2^30.
 
 use crate::proved::subsetter_cffdata::numerals::charstring_number::CharStringNumber;
-use crate::proved::subsetter_variation::rounding::nearest;
 
 /// The parts of a unit.
 pub const UNIT: i64 = 1 << 30;
 
 /// A number in parts.
+#[inline(always)]
 pub fn in_parts(number: CharStringNumber) -> i64 {
     match number {
         CharStringNumber::Integer(value) => i64::from(value) * 1073741824,
@@ -16,16 +16,20 @@ pub fn in_parts(number: CharStringNumber) -> i64 {
 }
 
 /// Whether parts are within 32768 units.
+#[inline(always)]
 pub fn is_within(parts: i64) -> bool {
     parts.unsigned_abs() <= 35184372088832
 }
 
 /// The nearest whole number of units, halves up.
+#[inline(always)]
 pub fn whole(parts: i64) -> i64 {
-    nearest(parts, 1073741824)
+    let above = (parts + 1152921505143717888) as u64;
+    (above / 1073741824) as i64 - 1073741824
 }
 
 /// The whole number that parts are, where they are one.
+#[inline(always)]
 pub fn whole_in(parts: i64) -> Option<i32> {
     if parts % UNIT != 0 {
         return None;
@@ -34,6 +38,7 @@ pub fn whole_in(parts: i64) -> Option<i32> {
 }
 
 /// The same, where it isn't below 0.
+#[inline(always)]
 pub fn natural_in(parts: i64) -> Option<u16> {
     let whole = whole_in(parts)?;
     if whole < 0 {

@@ -13,6 +13,7 @@ use crate::proved::subsetter_type2::runs::fixed_stack::FixedStack;
 type Rests<'a> = FixedStack<&'a [u8], 255>;
 
 /// What runs after a token of this flow.
+#[inline(always)]
 fn follow<'a>(rests: &mut Rests<'a>, flow: Flow<'a>, depth: u8) -> Result<&'a [u8], Error> {
     match flow {
         Flow::GoesOn(rest) => Ok(rest),
@@ -26,29 +27,72 @@ fn follow<'a>(rests: &mut Rests<'a>, flow: Flow<'a>, depth: u8) -> Result<&'a [u
     }
 }
 
-/// Runs a glyph's own charstring, where these item variation data count.
-pub fn run<'a, S: Takes, R: Regions>(
+/// The room of a run, which a further run can take again.
+pub struct Room<'a> {
+    machine: Machine,
+    rests: Rests<'a>,
+}
+
+impl<'a> Room<'a> {
+    /// New room, filled with bytes that are never read.
+    pub fn new(filler: &'a [u8]) -> Self {
+        Room {
+            machine: Machine::new(0),
+            rests: FixedStack::new(filler),
+        }
+    }
+}
+
+/// Runs a glyph's own charstring, before the first token.
+fn run_with<'a, S: Takes, R: Regions>(
     sink: &mut S,
+    machine: &mut Machine,
+    rests: &mut Rests<'a>,
+    subroutines: &Subroutines<'a>,
+    regions: &R,
+    limits: &Limits,
+    _data_index: u16,
+    charstring: &'a [u8],
+) -> Result<(), Error> {
+    let mut running = charstring;
+    let mut tokens = limits.tokens();
+    while let Some(current) = innermost(running, rests) {
+        if tokens == 0 {
+            return Err(Error::CFFError);
+        }
+        tokens -= 1;
+        let flow = machine.act_at(sink, subroutines, regions, current)?;
+        let next = follow(rests, flow, limits.depth())?;
+        let count = machine.operands.push_all_small(next, tokens as usize);
+        tokens -= count as u32;
+        running = &next[count..];
+    }
+    if machine.operands.len() != 0 {
+        return Err(Error::CFFError);
+    }
+    Ok(())
+}
+
+/// Runs a glyph's own charstring in this room, where these item variation data count.
+pub fn run_in<'a, S: Takes, R: Regions>(
+    sink: &mut S,
+    room: &mut Room<'a>,
     subroutines: &Subroutines<'a>,
     regions: &R,
     limits: &Limits,
     data_index: u16,
     charstring: &'a [u8],
 ) -> Result<(), Error> {
-    let mut machine = Machine::new(data_index);
-    let mut rests: Rests<'a> = FixedStack::new(charstring);
-    let mut running = charstring;
-    let mut tokens = limits.tokens();
-    while let Some(current) = innermost(running, &mut rests) {
-        if tokens == 0 {
-            return Err(Error::CFFError);
-        }
-        tokens -= 1;
-        let flow = machine.act_at(sink, subroutines, regions, current)?;
-        running = follow(&mut rests, flow, limits.depth())?;
-    }
-    if machine.operands.len() != 0 {
-        return Err(Error::CFFError);
-    }
-    Ok(())
+    room.machine.start(data_index);
+    room.rests.clear();
+    run_with(
+        sink,
+        &mut room.machine,
+        &mut room.rests,
+        subroutines,
+        regions,
+        limits,
+        data_index,
+        charstring,
+    )
 }

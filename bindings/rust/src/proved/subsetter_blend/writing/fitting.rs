@@ -5,14 +5,13 @@ use crate::rattle::prelude::Vec;
 
 use crate::proved::subsetter_base::error::Error;
 use crate::proved::subsetter_blend::writing::flex::{open_flex1, open_hflex, open_hflex1};
-use crate::proved::subsetter_blend::writing::placing::{place_all, Numbers, Position};
+use crate::proved::subsetter_blend::writing::placing::{place_all, Position};
 use crate::proved::subsetter_blend::writing::splitting::{carried, cut, part_of, piece_operator};
 use crate::proved::subsetter_blend::writing::taking::Takes;
 use crate::proved::subsetter_cffdata::dicts::operator::{Operator, OperatorType};
 use crate::proved::subsetter_cffdata::numerals::charstring_number::CharStringNumber;
 use crate::proved::subsetter_type2::argstack::MAX_OPERANDS;
 use crate::proved::subsetter_type2::operators::{first_byte, second_byte, FLEX};
-use crate::proved::subsetter_type2::runs::fixed_stack::FixedStack;
 use crate::rattle::alloc::Global;
 
 /// The bytes so far, where the path has come, and the advance as long as it isn't written.
@@ -23,6 +22,7 @@ pub struct Fitting {
 }
 
 /// The operator counts stems.
+#[inline(always)]
 fn is_hint(operator: OperatorType) -> bool {
     match operator {
         OperatorType::OneByteOperator(code) => match code {
@@ -41,6 +41,7 @@ fn is_hint(operator: OperatorType) -> bool {
 }
 
 /// A glyph may begin with this operator.
+#[inline(always)]
 fn begins(operator: OperatorType) -> bool {
     match operator {
         OperatorType::OneByteOperator(code) => match code {
@@ -62,6 +63,7 @@ fn begins(operator: OperatorType) -> bool {
 }
 
 /// The operator may be here.
+#[inline(always)]
 fn may_begin(advance: Option<i16>, operator: OperatorType) -> bool {
     match advance {
         None => true,
@@ -69,37 +71,25 @@ fn may_begin(advance: Option<i16>, operator: OperatorType) -> bool {
     }
 }
 
-/// The advance, where it isn't written yet.
-fn width(advance: Option<i16>) -> Numbers {
-    let mut numbers = FixedStack::new(CharStringNumber::Integer(0));
+/// Writes the advance behind these bytes, where it isn't written yet.
+#[inline(always)]
+fn append_width(bytes: &mut Vec<u8>, advance: Option<i16>) -> Result<(), Error> {
     if let Some(advance) = advance {
-        numbers.push(CharStringNumber::Integer(advance));
-    }
-    numbers
-}
-
-/// Writes numbers behind these bytes.
-fn append_numbers(bytes: &mut Vec<u8>, numbers: &[CharStringNumber]) -> Result<(), Error> {
-    for number in numbers {
-        number.append(bytes)?;
+        CharStringNumber::Integer(advance).append(bytes)?;
     }
     Ok(())
 }
 
-/// Writes an event behind these bytes.
-fn append_event(
-    bytes: &mut Vec<u8>,
-    numbers: &Numbers,
-    operator: Operator,
-    mask: &[u8],
-) -> Result<(), Error> {
-    append_numbers(bytes, numbers.as_slice())?;
+/// Writes an operator and its mask behind these bytes.
+#[inline(always)]
+fn append_operator(bytes: &mut Vec<u8>, operator: Operator, mask: &[u8]) -> Result<(), Error> {
     bytes.extend_from_slice(operator.as_slice())?;
     bytes.extend_from_slice(mask)?;
     Ok(())
 }
 
 /// The position that an operator begins at.
+#[inline(always)]
 fn start_point(hint: bool, at: Position) -> Position {
     if hint {
         Position { x: 0, y: 0 }
@@ -109,6 +99,7 @@ fn start_point(hint: bool, at: Position) -> Position {
 }
 
 /// The position behind an operator.
+#[inline(always)]
 fn end_point(hint: bool, old: Position, new: Position) -> Position {
     if hint {
         old
@@ -118,16 +109,17 @@ fn end_point(hint: bool, old: Position, new: Position) -> Position {
 }
 
 impl Fitting {
-    /// Nothing is written yet.
-    pub fn new(alloc: Global, advance: i16) -> Self {
-        Fitting {
-            bytes: Vec::new(alloc),
+    /// Nothing is written yet; there is room for so many bytes.
+    pub fn with_room(alloc: Global, advance: i16, room: usize) -> Result<Self, Error> {
+        Ok(Fitting {
+            bytes: Vec::with_capacity(alloc, room)?,
             at: Position { x: 0, y: 0 },
             advance: Some(advance),
-        }
+        })
     }
 
     /// How many numbers are in front of the next operands.
+    #[inline(always)]
     fn front(&self) -> usize {
         match self.advance {
             None => 0,
@@ -136,24 +128,30 @@ impl Fitting {
     }
 
     /// An operator that is open already, and has few operands.
+    #[inline(always)]
     fn draw_piece(
         &mut self,
         operator: Operator,
         operands: &[i64],
         mask: &[u8],
     ) -> Result<(), Error> {
-        let mut numbers = width(self.advance);
         let hint = is_hint(operator.0);
         let start = start_point(hint, self.at);
-        let end = place_all(operator, operands, start, &mut numbers).ok_or(Error::OverflowError)?;
-        append_event(&mut self.bytes, &numbers, operator, mask)?;
+        append_width(&mut self.bytes, self.advance)?;
+        let end = place_all(operator, operands, start, &mut self.bytes)?;
+        append_operator(&mut self.bytes, operator, mask)?;
         self.at = end_point(hint, self.at, end);
         self.advance = None;
         Ok(())
     }
 
     /// An operator that is open already, in as many pieces as it takes.
-    fn draw(&mut self, operator: Operator, operands: &[i64], mask: &[u8]) -> Result<(), Error> {
+    fn draw_pieces(
+        &mut self,
+        operator: Operator,
+        operands: &[i64],
+        mask: &[u8],
+    ) -> Result<(), Error> {
         let hint = is_hint(operator.0);
         let mut start = 0;
         let mut before = 0;
@@ -175,6 +173,15 @@ impl Fitting {
         )
     }
 
+    /// An operator that is open already, in as many pieces as it takes: mostly one.
+    #[inline(always)]
+    fn draw(&mut self, operator: Operator, operands: &[i64], mask: &[u8]) -> Result<(), Error> {
+        if self.front() + operands.len() <= MAX_OPERANDS {
+            return self.draw_piece(operator, operands, mask);
+        }
+        self.draw_pieces(operator, operands, mask)
+    }
+
     /// A form of flex, by the second byte of its operator.
     fn flex(&mut self, second: u8, operands: &[i64], mask: &[u8]) -> Result<(), Error> {
         match second {
@@ -188,7 +195,7 @@ impl Fitting {
     /// All that is written, and endchar.
     pub fn finish(self) -> Result<Vec<u8>, Error> {
         let mut bytes = self.bytes;
-        append_numbers(&mut bytes, width(self.advance).as_slice())?;
+        append_width(&mut bytes, self.advance)?;
         bytes.push(first_byte::ENDCHAR)?;
         Ok(bytes)
     }

@@ -2,7 +2,7 @@ use Rattle.std.proofs.Common.{◌≡◌, ◌≤◌, ◌-◌, ◌*◌, ◌^◌, d
 use Rattle.subsetter_blend.specs.Writing.Split.{moved_by, pieces, split}
 use Rattle.subsetter_blend.specs.Writing.Taking.{all_taken}
 use Rattle.subsetter_blend.specs.Writing.Written.{width, fitted_piece}
-use Rattle.subsetter_blend.proofs.writing.fitting.Fitting.draw.Given as goal
+use Rattle.subsetter_blend.proofs.writing.fitting.Fitting.draw_pieces.Given as goal
 
 abbrev pub invariant-loop-start : goal.invariant-loop-start
 invariant-loop-start l = record {

@@ -2,7 +2,7 @@ use Rattle.std.proofs.Common.{◌≡◌, ◌<◌, ◌∷◌, length}
 use Rattle.subsetter_type2.specs.View.{rests_of}
 use Rattle.subsetter_blend.specs.Runs.Machine.{run, run_all}
 use Rattle.subsetter_blend.specs.Runs.MachineView.{registers_of, setting_of}
-use Rattle.subsetter_blend.proofs.runs.running.run.Given as goal
+use Rattle.subsetter_blend.proofs.runs.running.run_with.Given as goal
 
 abbrev pub invariant-loop-current : goal.invariant-loop-current
 invariant-loop-current g l =
