@@ -55,11 +55,11 @@ mapped_end : (pen next : Pen) (ps : List Position) (q : Option (Option GlyphBox)
 mapped_end pen next ps None h = absurd (cc)
 mapped_end pen next ps (Some box) h = let same : ◌≡◌ {A = Pen} (pen_after pen ps box) next = cc in sym (ap (λ (p : Pen). p.at) same)
 
-followed_end : (pen next : Pen) (segments : List Segment) → followed (points segments) pen ≡ Some next → next.at ≡ point_behind pen.at segments
+pub followed_end : (pen next : Pen) (segments : List Segment) → followed (points segments) pen ≡ Some next → next.at ≡ point_behind pen.at segments
 followed_end pen next segments h = mapped_end pen next (points segments) (least (points segments)) (sym (followed_least (points segments) pen) ∙ h) ∙ points_end pen.at segments
 
 -- ---- one path behind another
-points_both : (a b : List Segment) → points (a ++ b) ≡ points a ++ points b
+pub points_both : (a b : List Segment) → points (a ++ b) ≡ points a ++ points b
 points_both [] b = refl
 points_both (Move to ∷ a) b = ap (λ (ps : List Position). to ∷ ps) (points_both a b)
 points_both (Line to ∷ a) b = ap (λ (ps : List Position). to ∷ ps) (points_both a b)
@@ -70,7 +70,7 @@ then_both : (ps qs : List Position) (o : Option Pen) → ((next : Pen) → follo
 then_both ps qs None ih = refl
 then_both ps qs (Some next) ih = ih next
 
-followed_both : (ps qs : List Position) (pen : Pen) → followed (ps ++ qs) pen ≡ option_and_then (followed qs) (followed ps pen)
+pub followed_both : (ps qs : List Position) (pen : Pen) → followed (ps ++ qs) pen ≡ option_and_then (followed qs) (followed ps pen)
 followed_both [] qs pen = refl
 followed_both (p ∷ ps) qs pen = then_both ps qs (visited p pen) (λ next. followed_both ps qs next)
 

@@ -1,3 +1,8 @@
 mod Around
 mod Followed
+mod Fronts
+mod Glyphs
 mod Runs
+mod Shapes
+mod Turns
+mod Walks

@@ -13,7 +13,7 @@ use Rattle.subsetter_blend.proofs.WritingLaws.FittingLaws.Simulated.{Too, run_to
 use Rattle.subsetter_blend.proofs.WritingLaws.FittingLaws.Wholes.{AreTaken, also_too}
 use Rattle.pdf_values.specs.declared.looks.bounds.GlyphBox.{GlyphBox}
 use Rattle.pdf_boxes.specs.declared.pen.Pen.{Pen}
-use Rattle.pdf_boxes.specs.CharstringBox.{points, least}
+use Rattle.pdf_boxes.specs.CharstringBox.{alone, points, least, outline_box}
 use Rattle.pdf_boxes.specs.Traced.{event_traced, pen_start, taken}
 use Rattle.pdf_boxes.proofs.Followed.{all_traced, traced_box}
 
@@ -87,3 +87,20 @@ failed setting tokens depth data_index charstring e (Ok es) is h =
 pub run_fails : (setting : Setting) (tokens depth data_index : ℕ) (charstring : List ℕ) (e : Error)
     → run_all taken setting tokens depth data_index charstring (Some pen_start) ≡ Err e → box_by (result_ok (events setting tokens depth data_index charstring)) ≡ None
 run_fails setting tokens depth data_index charstring e h = failed setting tokens depth data_index charstring e (events setting tokens depth data_index charstring) refl h
+
+-- ---- the box of an outline, by a run under these settings
+pub outline_found : (setting : Setting) (tokens depth : ℕ) (charstring : List ℕ) (first now : Option Pen) → setting ≡ alone → tokens ≡ 4294967295 → depth ≡ 1 → first ≡ Some pen_start
+    → run_all taken setting tokens depth 0 charstring first ≡ Ok now → option_and_then (λ p. p.bounds) now ≡ outline_box charstring
+unfolding outline_box
+outline_found setting tokens depth charstring first now s t d f h =
+    run_gives alone 4294967295 1 0 charstring now
+    (sym (ap (λ (x : Setting). run_all taken x tokens depth 0 charstring first) s ∙ ap (λ (n : ℕ). run_all taken alone n depth 0 charstring first) t
+    ∙ ap (λ (n : ℕ). run_all taken alone 4294967295 n 0 charstring first) d ∙ ap (λ (p : Option Pen). run_all taken alone 4294967295 1 0 charstring p) f) ∙ h)
+
+pub outline_lost : (setting : Setting) (tokens depth : ℕ) (charstring : List ℕ) (first : Option Pen) (e : Error) → setting ≡ alone → tokens ≡ 4294967295 → depth ≡ 1 → first ≡ Some pen_start
+    → run_all taken setting tokens depth 0 charstring first ≡ Err e → outline_box charstring ≡ None
+unfolding outline_box
+outline_lost setting tokens depth charstring first e s t d f h =
+    run_fails alone 4294967295 1 0 charstring e
+    (sym (ap (λ (x : Setting). run_all taken x tokens depth 0 charstring first) s ∙ ap (λ (n : ℕ). run_all taken alone n depth 0 charstring first) t
+    ∙ ap (λ (n : ℕ). run_all taken alone 4294967295 n 0 charstring first) d ∙ ap (λ (p : Option Pen). run_all taken alone 4294967295 1 0 charstring p) f) ∙ h)

@@ -5,8 +5,10 @@
 //! ```
 #![tactic(auto)]
 
+mod boxes;
 mod events;
 mod flexes;
 mod paths;
 mod pen;
 
+pub use boxes::kept_box;

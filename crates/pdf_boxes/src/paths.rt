@@ -1,13 +1,13 @@
 //! The path construction operators of one byte (Technical Note 5177, section 4.1).
 
-ghost use Rattle.std.specs.Prelude.{◌≡◌, ◌==◌, ◌%◌, All, length, not};
+ghost use Rattle.std.specs.Prelude.{◌≡◌, ◌≤◌, ◌^◌, ◌==◌, ◌%◌, ◌∷◌, [], All, length, true, false, unsigned_abs};
 ghost use Rattle.subsetter_blend.specs.Axes.{along_y};
 ghost use Rattle.subsetter_blend.specs.Drawn.{lines, alternating_lines, curves, curves_line, lines_curve, horizontal_curves, vertical_curves, odd_horizontal, odd_vertical, alternating_curves, moves, moves_along};
 ghost use Rattle.subsetter_blend.specs.Runs.Number.{IsWithin};
 ghost use Rattle.subsetter_blend.specs.Writing.Placed.{IsPosition};
 ghost use Rattle.pdf_boxes.specs.Traced.{traced, IsHeld};
 
-use crate::pen::{Pen, go, go_across, go_along};
+use crate::pen::{Pen, curve, go, go_along};
 
 /// rmoveto.
 pub fn moves(pen: Pen, operands: &[i64]) -> Option<Pen>
@@ -70,9 +70,7 @@ pub fn curves(pen: Pen, operands: &[i64]) -> Option<Pen>
 {
     match operands {
         [dxa, dya, dxb, dyb, dxc, dyc, rest @ ..] => {
-            let first = go(pen, *dxa, *dya)?;
-            let second = go(first, *dxb, *dyb)?;
-            curves(go(second, *dxc, *dyc)?, rest)
+            curves(curve(pen, *dxa, *dya, *dxb, *dyb, *dxc, *dyc)?, rest)
         }
         _ => Some(pen),
     }
@@ -88,9 +86,7 @@ pub fn curves_line(pen: Pen, operands: &[i64]) -> Option<Pen>
     match operands {
         [dx, dy] => go(pen, *dx, *dy),
         [dxa, dya, dxb, dyb, dxc, dyc, rest @ ..] => {
-            let first = go(pen, *dxa, *dya)?;
-            let second = go(first, *dxb, *dyb)?;
-            curves_line(go(second, *dxc, *dyc)?, rest)
+            curves_line(curve(pen, *dxa, *dya, *dxb, *dyb, *dxc, *dyc)?, rest)
         }
         _ => Some(pen),
     }
@@ -104,18 +100,14 @@ pub fn lines_curve(pen: Pen, operands: &[i64]) -> Option<Pen>
     ensures held { IsHeld result }
 {
     match operands {
-        [dxa, dya, dxb, dyb, dxc, dyc] => {
-            let first = go(pen, *dxa, *dya)?;
-            let second = go(first, *dxb, *dyb)?;
-            go(second, *dxc, *dyc)
-        }
+        [dxa, dya, dxb, dyb, dxc, dyc] => curve(pen, *dxa, *dya, *dxb, *dyb, *dxc, *dyc),
         [dx, dy, rest @ ..] => lines_curve(go(pen, *dx, *dy)?, rest),
         _ => Some(pen),
     }
 }
 
 /// Curves that begin and end horizontal.
-pub fn horizontal_curves(pen: Pen, operands: &[i64]) -> Option<Pen>
+fn horizontal_curves(pen: Pen, operands: &[i64]) -> Option<Pen>
     requires at { IsPosition pen.at }
     requires within { All IsWithin operands.now }
     ensures value { result ≡ traced (horizontal_curves pen.at operands.now) pen }
@@ -123,16 +115,14 @@ pub fn horizontal_curves(pen: Pen, operands: &[i64]) -> Option<Pen>
 {
     match operands {
         [dxa, dxb, dyb, dxc, rest @ ..] => {
-            let first = go_along(false, pen, *dxa)?;
-            let second = go(first, *dxb, *dyb)?;
-            horizontal_curves(go_along(false, second, *dxc)?, rest)
+            horizontal_curves(curve(pen, *dxa, 0, *dxb, *dyb, *dxc, 0)?, rest)
         }
         _ => Some(pen),
     }
 }
 
 /// Curves that begin and end vertical.
-pub fn vertical_curves(pen: Pen, operands: &[i64]) -> Option<Pen>
+fn vertical_curves(pen: Pen, operands: &[i64]) -> Option<Pen>
     requires at { IsPosition pen.at }
     requires within { All IsWithin operands.now }
     ensures value { result ≡ traced (vertical_curves pen.at operands.now) pen }
@@ -140,51 +130,126 @@ pub fn vertical_curves(pen: Pen, operands: &[i64]) -> Option<Pen>
 {
     match operands {
         [dya, dxb, dyb, dyc, rest @ ..] => {
-            let first = go_along(true, pen, *dya)?;
-            let second = go(first, *dxb, *dyb)?;
-            vertical_curves(go_along(true, second, *dyc)?, rest)
+            vertical_curves(curve(pen, 0, *dya, *dxb, *dyb, 0, *dyc)?, rest)
         }
         _ => Some(pen),
     }
 }
 
-/// hhcurveto: of an odd number of operands the first is the height that the first curve begins by, too.
+/// Curves that begin and end horizontal, of which the first begins by the height in front, too.
+fn raised_curves(pen: Pen, operands: &[i64]) -> Option<Pen>
+    requires at { IsPosition pen.at }
+    requires within { All IsWithin operands.now }
+    ensures value { result ≡ traced (odd_horizontal true pen.at operands.now) pen }
+    ensures held { IsHeld result }
+{
+    match operands {
+        [dya, dxa, dxb, dyb, dxc, rest @ ..] => {
+            horizontal_curves(curve(pen, *dxa, *dya, *dxb, *dyb, *dxc, 0)?, rest)
+        }
+        _ => Some(pen),
+    }
+}
+
+/// hhcurveto.
 pub fn hh_curves(pen: Pen, operands: &[i64]) -> Option<Pen>
     requires at { IsPosition pen.at }
     requires within { All IsWithin operands.now }
     ensures value { result ≡ traced (odd_horizontal (length operands.now % 4 == 1) pen.at operands.now) pen }
     ensures held { IsHeld result }
 {
-    if operands.len() % 4 != 1 {
-        return horizontal_curves(pen, operands);
+    if operands.len() % 4 == 1 {
+        return raised_curves(pen, operands);
     }
+    horizontal_curves(pen, operands)
+}
+
+/// Curves that begin and end vertical, of which the first begins by the width in front, too.
+fn shifted_curves(pen: Pen, operands: &[i64]) -> Option<Pen>
+    requires at { IsPosition pen.at }
+    requires within { All IsWithin operands.now }
+    ensures value { result ≡ traced (odd_vertical true pen.at operands.now) pen }
+    ensures held { IsHeld result }
+{
     match operands {
-        [dya, dxa, dxb, dyb, dxc, rest @ ..] => {
-            let first = go(pen, *dxa, *dya)?;
-            let second = go(first, *dxb, *dyb)?;
-            horizontal_curves(go_along(false, second, *dxc)?, rest)
+        [dxa, dya, dxb, dyb, dyc, rest @ ..] => {
+            vertical_curves(curve(pen, *dxa, *dya, *dxb, *dyb, 0, *dyc)?, rest)
         }
         _ => Some(pen),
     }
 }
 
-/// vvcurveto: of an odd number of operands the first is the width that the first curve begins by, too.
+/// vvcurveto.
 pub fn vv_curves(pen: Pen, operands: &[i64]) -> Option<Pen>
     requires at { IsPosition pen.at }
     requires within { All IsWithin operands.now }
     ensures value { result ≡ traced (odd_vertical (length operands.now % 4 == 1) pen.at operands.now) pen }
     ensures held { IsHeld result }
 {
-    if operands.len() % 4 != 1 {
-        return vertical_curves(pen, operands);
+    if operands.len() % 4 == 1 {
+        return shifted_curves(pen, operands);
     }
-    match operands {
-        [dxa, dya, dxb, dyb, dyc, rest @ ..] => {
-            let first = go(pen, *dxa, *dya)?;
-            let second = go(first, *dxb, *dyb)?;
-            vertical_curves(go_along(true, second, *dyc)?, rest)
-        }
-        _ => Some(pen),
+    vertical_curves(pen, operands)
+}
+
+/// A curve that begins vertical and ends horizontal, but for the last operand.
+fn curve_from_vertical(pen: Pen, da: i64, dxb: i64, dyb: i64, dc: i64, last: i64) -> Option<Pen>
+    requires at { IsPosition pen.at }
+    requires da { unsigned_abs da ≤ 2 ^ 45 }
+    requires dxb { unsigned_abs dxb ≤ 2 ^ 45 }
+    requires dyb { unsigned_abs dyb ≤ 2 ^ 45 }
+    requires dc { unsigned_abs dc ≤ 2 ^ 45 }
+    requires last { unsigned_abs last ≤ 2 ^ 45 }
+    ensures value { result ≡ traced (alternating_curves true pen.at (da ∷ dxb ∷ dyb ∷ dc ∷ last ∷ [])) pen }
+    ensures held { IsHeld result }
+{
+    curve(pen, 0, da, dxb, dyb, dc, last)
+}
+
+/// A curve that begins horizontal and ends vertical, but for the last operand.
+fn curve_from_horizontal(
+    pen: Pen,
+    da: i64,
+    dxb: i64,
+    dyb: i64,
+    dc: i64,
+    last: i64,
+) -> Option<Pen>
+    requires at { IsPosition pen.at }
+    requires da { unsigned_abs da ≤ 2 ^ 45 }
+    requires dxb { unsigned_abs dxb ≤ 2 ^ 45 }
+    requires dyb { unsigned_abs dyb ≤ 2 ^ 45 }
+    requires dc { unsigned_abs dc ≤ 2 ^ 45 }
+    requires last { unsigned_abs last ≤ 2 ^ 45 }
+    ensures value { result ≡ traced (alternating_curves false pen.at (da ∷ dxb ∷ dyb ∷ dc ∷ last ∷ [])) pen }
+    ensures held { IsHeld result }
+{
+    curve(pen, da, 0, dxb, dyb, last, dc)
+}
+
+/// One of the two.
+fn alternating_curve(
+    vertical: bool,
+    pen: Pen,
+    da: i64,
+    dxb: i64,
+    dyb: i64,
+    dc: i64,
+    last: i64,
+) -> Option<Pen>
+    requires at { IsPosition pen.at }
+    requires da { unsigned_abs da ≤ 2 ^ 45 }
+    requires dxb { unsigned_abs dxb ≤ 2 ^ 45 }
+    requires dyb { unsigned_abs dyb ≤ 2 ^ 45 }
+    requires dc { unsigned_abs dc ≤ 2 ^ 45 }
+    requires last { unsigned_abs last ≤ 2 ^ 45 }
+    ensures value { result ≡ traced (alternating_curves vertical pen.at (da ∷ dxb ∷ dyb ∷ dc ∷ last ∷ [])) pen }
+    ensures held { IsHeld result }
+{
+    if vertical {
+        curve_from_vertical(pen, da, dxb, dyb, dc, last)
+    } else {
+        curve_from_horizontal(pen, da, dxb, dyb, dc, last)
     }
 }
 
@@ -197,14 +262,10 @@ pub fn alternating_curves(vertical: bool, pen: Pen, operands: &[i64]) -> Option<
 {
     match operands {
         [da, dxb, dyb, dc, last] => {
-            let first = go_along(vertical, pen, *da)?;
-            let second = go(first, *dxb, *dyb)?;
-            go_across(vertical, second, *dc, *last)
+            alternating_curve(vertical, pen, *da, *dxb, *dyb, *dc, *last)
         }
         [da, dxb, dyb, dc, rest @ ..] => {
-            let first = go_along(vertical, pen, *da)?;
-            let second = go(first, *dxb, *dyb)?;
-            alternating_curves(!vertical, go_along(!vertical, second, *dc)?, rest)
+            alternating_curves(!vertical, alternating_curve(vertical, pen, *da, *dxb, *dyb, *dc, 0)?, rest)
         }
         _ => Some(pen),
     }

@@ -1,11 +1,11 @@
 //! A path, followed from point to point.
 
-ghost use Rattle.std.specs.Prelude.{◌≡◌, ◌≤◌, ◌^◌, IfSome, not, unsigned_abs};
+ghost use Rattle.std.specs.Prelude.{◌≡◌, ◌≤◌, ◌^◌, ◌∷◌, [], IfSome, unsigned_abs};
 ghost use Rattle.subsetter_blend.specs.Axes.{along_y};
-ghost use Rattle.subsetter_blend.specs.Drawn.{by};
+ghost use Rattle.subsetter_blend.specs.Drawn.{by, curves};
 ghost use Rattle.subsetter_blend.specs.Writing.Placed.{IsPosition, position_after};
 ghost use Rattle.pdf_boxes.specs.CharstringBox.{in_units, point_box};
-ghost use Rattle.pdf_boxes.specs.Traced.{visited, IsHeld};
+ghost use Rattle.pdf_boxes.specs.Traced.{traced, visited, IsHeld};
 
 use pdf_glyphs::joined;
 use pdf_values::GlyphBox;
@@ -109,16 +109,19 @@ pub fn go_along(y: bool, pen: Pen, d: i64) -> Option<Pen>
     )
 }
 
-/// A point more, so far from the last one along the axis that isn't named, and along the named one.
-pub fn go_across(y: bool, pen: Pen, across: i64, along: i64) -> Option<Pen>
+/// A curve, each point so far from the one before.
+pub fn curve(pen: Pen, dxa: i64, dya: i64, dxb: i64, dyb: i64, dxc: i64, dyc: i64) -> Option<Pen>
     requires at { IsPosition pen.at }
-    requires across { unsigned_abs across ≤ 2 ^ 45 }
-    requires along { unsigned_abs along ≤ 2 ^ 45 }
-    ensures value { result ≡ visited (position_after (along_y y) along (position_after (along_y (not y)) across pen.at)) pen }
+    requires dxa { unsigned_abs dxa ≤ 2 ^ 45 }
+    requires dya { unsigned_abs dya ≤ 2 ^ 45 }
+    requires dxb { unsigned_abs dxb ≤ 2 ^ 45 }
+    requires dyb { unsigned_abs dyb ≤ 2 ^ 45 }
+    requires dxc { unsigned_abs dxc ≤ 2 ^ 45 }
+    requires dyc { unsigned_abs dyc ≤ 2 ^ 45 }
+    ensures value { result ≡ traced (curves pen.at (dxa ∷ dya ∷ dxb ∷ dyb ∷ dxc ∷ dyc ∷ [])) pen }
     ensures held { IsHeld result }
 {
-    if y {
-        return go(pen, across, along);
-    }
-    go(pen, along, across)
+    let first = go(pen, dxa, dya)?;
+    let second = go(first, dxb, dyb)?;
+    go(second, dxc, dyc)
 }
