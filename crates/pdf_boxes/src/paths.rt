@@ -76,6 +76,20 @@ pub fn curves(pen: Pen, operands: &[i64]) -> Option<Pen>
     }
 }
 
+/// The line behind curves.
+fn last_line(pen: Pen, operands: &[i64]) -> Option<Pen>
+    requires at { IsPosition pen.at }
+    requires within { All IsWithin operands.now }
+    requires two { length operands.now ≡ 2 }
+    ensures value { result ≡ traced (curves_line pen.at operands.now) pen }
+    ensures held { IsHeld result }
+{
+    match operands {
+        [dx, dy] => go(pen, *dx, *dy),
+        _ => Some(pen),
+    }
+}
+
 /// rcurveline.
 pub fn curves_line(pen: Pen, operands: &[i64]) -> Option<Pen>
     requires at { IsPosition pen.at }
@@ -83,11 +97,27 @@ pub fn curves_line(pen: Pen, operands: &[i64]) -> Option<Pen>
     ensures value { result ≡ traced (curves_line pen.at operands.now) pen }
     ensures held { IsHeld result }
 {
+    if operands.len() == 2 {
+        return last_line(pen, operands);
+    }
     match operands {
-        [dx, dy] => go(pen, *dx, *dy),
         [dxa, dya, dxb, dyb, dxc, dyc, rest @ ..] => {
             curves_line(curve(pen, *dxa, *dya, *dxb, *dyb, *dxc, *dyc)?, rest)
         }
+        _ => Some(pen),
+    }
+}
+
+/// The curve behind lines.
+fn curve_behind(pen: Pen, operands: &[i64]) -> Option<Pen>
+    requires at { IsPosition pen.at }
+    requires within { All IsWithin operands.now }
+    requires six { length operands.now ≡ 6 }
+    ensures value { result ≡ traced (lines_curve pen.at operands.now) pen }
+    ensures held { IsHeld result }
+{
+    match operands {
+        [dxa, dya, dxb, dyb, dxc, dyc] => curve(pen, *dxa, *dya, *dxb, *dyb, *dxc, *dyc),
         _ => Some(pen),
     }
 }
@@ -99,8 +129,10 @@ pub fn lines_curve(pen: Pen, operands: &[i64]) -> Option<Pen>
     ensures value { result ≡ traced (lines_curve pen.at operands.now) pen }
     ensures held { IsHeld result }
 {
+    if operands.len() == 6 {
+        return curve_behind(pen, operands);
+    }
     match operands {
-        [dxa, dya, dxb, dyb, dxc, dyc] => curve(pen, *dxa, *dya, *dxb, *dyb, *dxc, *dyc),
         [dx, dy, rest @ ..] => lines_curve(go(pen, *dx, *dy)?, rest),
         _ => Some(pen),
     }
@@ -253,10 +285,11 @@ fn alternating_curve(
     }
 }
 
-/// hvcurveto and vhcurveto.
-pub fn alternating_curves(vertical: bool, pen: Pen, operands: &[i64]) -> Option<Pen>
+/// The last curve, with a fifth operand.
+fn last_curve(vertical: bool, pen: Pen, operands: &[i64]) -> Option<Pen>
     requires at { IsPosition pen.at }
     requires within { All IsWithin operands.now }
+    requires five { length operands.now ≡ 5 }
     ensures value { result ≡ traced (alternating_curves vertical pen.at operands.now) pen }
     ensures held { IsHeld result }
 {
@@ -264,6 +297,21 @@ pub fn alternating_curves(vertical: bool, pen: Pen, operands: &[i64]) -> Option<
         [da, dxb, dyb, dc, last] => {
             alternating_curve(vertical, pen, *da, *dxb, *dyb, *dc, *last)
         }
+        _ => Some(pen),
+    }
+}
+
+/// hvcurveto and vhcurveto.
+pub fn alternating_curves(vertical: bool, pen: Pen, operands: &[i64]) -> Option<Pen>
+    requires at { IsPosition pen.at }
+    requires within { All IsWithin operands.now }
+    ensures value { result ≡ traced (alternating_curves vertical pen.at operands.now) pen }
+    ensures held { IsHeld result }
+{
+    if operands.len() == 5 {
+        return last_curve(vertical, pen, operands);
+    }
+    match operands {
         [da, dxb, dyb, dc, rest @ ..] => {
             alternating_curves(!vertical, alternating_curve(vertical, pen, *da, *dxb, *dyb, *dc, 0)?, rest)
         }

@@ -1,0 +1,14 @@
+use Rattle.std.proofs.Common.{FitsSigned, w64, get_or, pos, rules}
+use Rattle.std.proofs.lemmas.Int.{to_z-of_z}
+use Rattle.pdf_boxes.proofs.Walks.{six_curve}
+use Rattle.pdf_boxes.proofs.paths.curve_behind.Goals as goal
+
+pub returns-in-len6-clause-value : goal.returns-in-len6-clause-value
+returns-in-len6-clause-value c =
+    let f0 : FitsSigned w64 (get_or c.args.operands.now 0 (pos 0)) = search rules in
+    let f1 : FitsSigned w64 (get_or c.args.operands.now 1 (pos 0)) = search rules in
+    let f2 : FitsSigned w64 (get_or c.args.operands.now 2 (pos 0)) = search rules in
+    let f3 : FitsSigned w64 (get_or c.args.operands.now 3 (pos 0)) = search rules in
+    let f4 : FitsSigned w64 (get_or c.args.operands.now 4 (pos 0)) = search rules in
+    let f5 : FitsSigned w64 (get_or c.args.operands.now 5 (pos 0)) = search rules in
+    six_curve c.args.pen c.args.operands.now c.curve.result c.requires.six (simp to_z-of_z at c.curve.ensures.value)
