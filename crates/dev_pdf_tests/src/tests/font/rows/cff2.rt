@@ -32,16 +32,35 @@ const INSTALLABLE: Permission = Permission {
     outlines: true,
 };
 
-/// The values where the ascent, the stem and the weight are these.
-const fn values(ascent: i32, stem_v: u32, font_weight: u16) -> Values {
+/// The box of `head`, which is chosen at the default.
+const DEFAULT_BOUNDS: Edges = Edges {
+    x_min: 0,
+    y_min: -20,
+    x_max: 1000,
+    y_max: 900,
+};
+
+/// Around 125 0 476 704, 0 0 200 200 and 50 -10 480 490, glyphs 1 to 3 of the new font at 650.
+const BOUNDS_AT_650: Edges = Edges {
+    x_min: 0,
+    y_min: -10,
+    x_max: 480,
+    y_max: 704,
+};
+
+/// Around 87 0 360 694, 0 0 200 200 and 50 -10 429 490, at 200.
+const BOUNDS_AT_200: Edges = Edges {
+    x_min: 0,
+    y_min: -10,
+    x_max: 429,
+    y_max: 694,
+};
+
+/// The values where the box, the ascent, the stem and the weight are these.
+const fn values(bounds: Edges, ascent: i32, stem_v: u32, font_weight: u16) -> Values {
     Values {
         flags: 68,
-        bounds: Edges {
-            x_min: 0,
-            y_min: -20,
-            x_max: 1000,
-            y_max: 900,
-        },
+        bounds,
         italic_angle: -12500,
         heights: Heights {
             ascent,
@@ -85,7 +104,7 @@ pub const AT_650: Wanted<'static> = Wanted {
     ],
     default_column: (881, -1000),
     name: b"HJRUMR+TwoColumns_650wght",
-    values: values(806, 100, 700),
+    values: values(BOUNDS_AT_650, 806, 100, 700),
     permission: INSTALLABLE,
     cid_set: &[0xF0],
     to_unicode: TO_UNICODE,
@@ -121,7 +140,7 @@ pub const AT_200: Wanted<'static> = Wanted {
     ],
     default_column: (880, -1000),
     name: b"GHBAKG+TwoColumns_200wght",
-    values: values(796, 60, 200),
+    values: values(BOUNDS_AT_200, 796, 60, 200),
     permission: INSTALLABLE,
     cid_set: &[0xF0],
     to_unicode: TO_UNICODE,
@@ -157,7 +176,7 @@ pub const AT_DEFAULT: Wanted<'static> = Wanted {
     ],
     default_column: (880, -1000),
     name: b"KGHEZW+TwoColumns-Regular",
-    values: values(800, 80, 400),
+    values: values(DEFAULT_BOUNDS, 800, 80, 400),
     permission: INSTALLABLE,
     cid_set: &[0xF0],
     to_unicode: TO_UNICODE,
