@@ -1,6 +1,6 @@
 //! The boxes of glyphs, by their charstrings (Technical Note 5176, section 14).
 
-ghost use Rattle.std.specs.Prelude.{◌≡◌, ◌≢◌, [], Ok, OnOk, IfErr};
+ghost use Rattle.std.specs.Prelude.{◌≡◌, [], Ok, IfErr};
 ghost use Rattle.std.specs.Option.{option_copied};
 ghost use Rattle.subsetter_base.specs.Gives.{Gives};
 ghost use Rattle.subsetter_base.specs.declared.error.Error.TheVariants.{OutOfMemory};
@@ -9,6 +9,7 @@ ghost use Rattle.pdf_boxes.specs.CharstringBox.{before_endchar, behind_width, ch
 ghost use Rattle.pdf_boxes.specs.Kept.{boxes_from, glyph_box, kept_box};
 
 use crate::events::Following;
+use pdf_cff::unless_memory;
 use pdf_glyphs::joined;
 use pdf_values::GlyphBox;
 use std::alloc::Global;
@@ -22,17 +23,6 @@ use subsetter_cffdata::numerals::charstring_number::read_number;
 use subsetter_type2::limits::Limits;
 use subsetter_type2::operators::first_byte;
 use subsetter_type2::subroutines::SubroutineHandler;
-
-/// The error, where memory ran out; another one is passed over.
-fn unless_memory(error: Error) -> Result<(), Error>
-    ensures ok { OnOk result (error ≢ OutOfMemory) }
-    ensures err { IfErr result (λ e. e ≡ OutOfMemory) }
-{
-    match error {
-        Error::OutOfMemory => Err(Error::OutOfMemory),
-        _ => Ok(()),
-    }
-}
 
 /// No data to vary by.
 struct Unvaried {}
