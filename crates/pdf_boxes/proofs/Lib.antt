@@ -1,4 +1,5 @@
 mod Around
+mod Flexes
 mod Followed
 mod Fronts
 mod Glyphs

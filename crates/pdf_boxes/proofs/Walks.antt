@@ -25,7 +25,7 @@ pub rest_all : (n : ℕ) (xs : List ℤ) → take (length xs - n) (drop n xs) �
 rest_all n xs = take_all (length xs - n) (drop n xs) (omega (arith, length-drop n xs))
 
 -- ---- one curve
-last : (o : Option Pen) → option_and_then (followed []) o ≡ o
+pub last : (o : Option Pen) → option_and_then (followed []) o ≡ o
 last None = refl
 last (Some p) = refl
 
@@ -73,6 +73,12 @@ curves_lost pen (a ∷ b ∷ c ∷ d ∷ e ∷ []) l h = absurd (omega arith)
 curves_lost pen (a ∷ b ∷ c ∷ d ∷ e ∷ f ∷ xs) l h = lost_of (curve_at pen.at a b c d e f) (curves (point_behind pen.at (curve_at pen.at a b c d e f)) xs) pen h
 
 -- ---- curves, and then a line
+pub two_line : (at : Position) (xs : List ℤ) → length xs ≡ 2 → lines at xs ≡ curves_line at xs
+two_line at [] l = absurd (omega arith)
+two_line at (a ∷ []) l = absurd (omega arith)
+two_line at (a ∷ b ∷ []) l = refl
+two_line at (a ∷ b ∷ c ∷ xs) l = absurd (omega arith)
+
 pub curves_line_go : (pen p : Pen) (xs : List ℤ) (r : Option Pen) → 6 ≤ length xs
     → Some p ≡ traced (curve_at pen.at (get_or xs 0 (pos 0)) (get_or xs 1 (pos 0)) (get_or xs 2 (pos 0)) (get_or xs 3 (pos 0)) (get_or xs 4 (pos 0)) (get_or xs 5 (pos 0))) pen
     → r ≡ traced (curves_line p.at (drop 6 xs)) p → r ≡ traced (curves_line pen.at xs) pen
@@ -96,17 +102,15 @@ curves_line_lost pen (a ∷ b ∷ c ∷ d ∷ e ∷ []) l h = absurd (omega arit
 curves_line_lost pen (a ∷ b ∷ c ∷ d ∷ e ∷ f ∷ xs) l h = lost_of (curve_at pen.at a b c d e f) (curves_line (point_behind pen.at (curve_at pen.at a b c d e f)) xs) pen h
 
 -- ---- lines, and then a curve
-pub six_curve : (pen : Pen) (xs : List ℤ) (r : Option Pen) → length xs ≡ 6
-    → r ≡ traced (curve_at pen.at (get_or xs 0 (pos 0)) (get_or xs 1 (pos 0)) (get_or xs 2 (pos 0)) (get_or xs 3 (pos 0)) (get_or xs 4 (pos 0)) (get_or xs 5 (pos 0))) pen
-    → r ≡ traced (lines_curve pen.at xs) pen
-six_curve pen [] r l h = absurd (omega arith)
-six_curve pen (a ∷ []) r l h = absurd (omega arith)
-six_curve pen (a ∷ b ∷ []) r l h = absurd (omega arith)
-six_curve pen (a ∷ b ∷ c ∷ []) r l h = absurd (omega arith)
-six_curve pen (a ∷ b ∷ c ∷ d ∷ []) r l h = absurd (omega arith)
-six_curve pen (a ∷ b ∷ c ∷ d ∷ e ∷ []) r l h = absurd (omega arith)
-six_curve pen (a ∷ b ∷ c ∷ d ∷ e ∷ f ∷ []) r l h = h
-six_curve pen (a ∷ b ∷ c ∷ d ∷ e ∷ f ∷ g ∷ xs) r l h = absurd (omega arith)
+pub six_curve : (at : Position) (xs : List ℤ) → length xs ≡ 6 → curves at xs ≡ lines_curve at xs
+six_curve at [] l = absurd (omega arith)
+six_curve at (a ∷ []) l = absurd (omega arith)
+six_curve at (a ∷ b ∷ []) l = absurd (omega arith)
+six_curve at (a ∷ b ∷ c ∷ []) l = absurd (omega arith)
+six_curve at (a ∷ b ∷ c ∷ d ∷ []) l = absurd (omega arith)
+six_curve at (a ∷ b ∷ c ∷ d ∷ e ∷ []) l = absurd (omega arith)
+six_curve at (a ∷ b ∷ c ∷ d ∷ e ∷ f ∷ []) l = refl
+six_curve at (a ∷ b ∷ c ∷ d ∷ e ∷ f ∷ g ∷ xs) l = absurd (omega arith)
 
 pub lines_curve_go : (pen p : Pen) (xs : List ℤ) (r : Option Pen) → 2 ≤ length xs → (length xs ≡ 6 → ⊥) → Some p ≡ visited (by (get_or xs 0 (pos 0)) (get_or xs 1 (pos 0)) pen.at) pen → p.at ≡ by (get_or xs 0 (pos 0)) (get_or xs 1 (pos 0)) pen.at
     → r ≡ traced (lines_curve p.at (drop 2 xs)) p → r ≡ traced (lines_curve pen.at xs) pen

@@ -76,20 +76,6 @@ pub fn curves(pen: Pen, operands: &[i64]) -> Option<Pen>
     }
 }
 
-/// The line behind curves.
-fn last_line(pen: Pen, operands: &[i64]) -> Option<Pen>
-    requires at { IsPosition pen.at }
-    requires within { All IsWithin operands.now }
-    requires two { length operands.now ≡ 2 }
-    ensures value { result ≡ traced (curves_line pen.at operands.now) pen }
-    ensures held { IsHeld result }
-{
-    match operands {
-        [dx, dy] => go(pen, *dx, *dy),
-        _ => Some(pen),
-    }
-}
-
 /// rcurveline.
 pub fn curves_line(pen: Pen, operands: &[i64]) -> Option<Pen>
     requires at { IsPosition pen.at }
@@ -98,26 +84,12 @@ pub fn curves_line(pen: Pen, operands: &[i64]) -> Option<Pen>
     ensures held { IsHeld result }
 {
     if operands.len() == 2 {
-        return last_line(pen, operands);
+        return lines(pen, operands);
     }
     match operands {
         [dxa, dya, dxb, dyb, dxc, dyc, rest @ ..] => {
             curves_line(curve(pen, *dxa, *dya, *dxb, *dyb, *dxc, *dyc)?, rest)
         }
-        _ => Some(pen),
-    }
-}
-
-/// The curve behind lines.
-fn curve_behind(pen: Pen, operands: &[i64]) -> Option<Pen>
-    requires at { IsPosition pen.at }
-    requires within { All IsWithin operands.now }
-    requires six { length operands.now ≡ 6 }
-    ensures value { result ≡ traced (lines_curve pen.at operands.now) pen }
-    ensures held { IsHeld result }
-{
-    match operands {
-        [dxa, dya, dxb, dyb, dxc, dyc] => curve(pen, *dxa, *dya, *dxb, *dyb, *dxc, *dyc),
         _ => Some(pen),
     }
 }
@@ -130,7 +102,7 @@ pub fn lines_curve(pen: Pen, operands: &[i64]) -> Option<Pen>
     ensures held { IsHeld result }
 {
     if operands.len() == 6 {
-        return curve_behind(pen, operands);
+        return curves(pen, operands);
     }
     match operands {
         [dx, dy, rest @ ..] => lines_curve(go(pen, *dx, *dy)?, rest),
