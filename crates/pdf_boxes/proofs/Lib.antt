@@ -1,5 +1,5 @@
 mod Around
-mod Flexes
+mod CurvePoints
 mod Followed
 mod Fronts
 mod Glyphs

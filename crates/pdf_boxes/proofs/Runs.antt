@@ -89,18 +89,24 @@ pub run_fails : (setting : Setting) (tokens depth data_index : ℕ) (charstring 
 run_fails setting tokens depth data_index charstring e h = failed setting tokens depth data_index charstring e (events setting tokens depth data_index charstring) refl h
 
 -- ---- the box of an outline, by a run under these settings
-pub outline_found : (setting : Setting) (tokens depth : ℕ) (charstring : List ℕ) (first now : Option Pen) → setting ≡ alone → tokens ≡ 4294967295 → depth ≡ 1 → first ≡ Some pen_start
-    → run_all taken setting tokens depth 0 charstring first ≡ Ok now → option_and_then (λ p. p.bounds) now ≡ outline_box charstring
-unfolding outline_box
-outline_found setting tokens depth charstring first now s t d f h =
-    run_gives alone 4294967295 1 0 charstring now
-    (sym (ap (λ (x : Setting). run_all taken x tokens depth 0 charstring first) s ∙ ap (λ (n : ℕ). run_all taken alone n depth 0 charstring first) t
-    ∙ ap (λ (n : ℕ). run_all taken alone 4294967295 n 0 charstring first) d ∙ ap (λ (p : Option Pen). run_all taken alone 4294967295 1 0 charstring p) f) ∙ h)
+abbrev pub setting_with : (global local : List (Option (List ℕ))) → Setting
+setting_with global local = record { library = record { global = global; local = local }; scalars = λ data_index. None }
 
-pub outline_lost : (setting : Setting) (tokens depth : ℕ) (charstring : List ℕ) (first : Option Pen) (e : Error) → setting ≡ alone → tokens ≡ 4294967295 → depth ≡ 1 → first ≡ Some pen_start
-    → run_all taken setting tokens depth 0 charstring first ≡ Err e → outline_box charstring ≡ None
+alone_is : (global local : List (Option (List ℕ))) → global ≡ [] → local ≡ [] → setting_with global local ≡ alone
+alone_is global local g l = ap (λ (x : List (Option (List ℕ))). setting_with x local) g ∙ ap (λ (x : List (Option (List ℕ))). setting_with [] x) l
+
+same_run : (global local : List (Option (List ℕ))) (tokens depth : ℕ) (charstring : List ℕ) (first : Option Pen) → global ≡ [] → local ≡ [] → tokens ≡ 4294967295 → depth ≡ 1 → first ≡ Some pen_start
+    → run_all taken alone 4294967295 1 0 charstring (Some pen_start) ≡ run_all taken (setting_with global local) tokens depth 0 charstring first
+same_run global local tokens depth charstring first g l t d f =
+    sym (ap (λ (x : Setting). run_all taken x tokens depth 0 charstring first) (alone_is global local g l) ∙ ap (λ (n : ℕ). run_all taken alone n depth 0 charstring first) t
+    ∙ ap (λ (n : ℕ). run_all taken alone 4294967295 n 0 charstring first) d ∙ ap (λ (p : Option Pen). run_all taken alone 4294967295 1 0 charstring p) f)
+
+pub outline_found : (global local : List (Option (List ℕ))) (tokens depth : ℕ) (charstring : List ℕ) (first now : Option Pen) → global ≡ [] → local ≡ [] → tokens ≡ 4294967295 → depth ≡ 1 → first ≡ Some pen_start
+    → run_all taken (setting_with global local) tokens depth 0 charstring first ≡ Ok now → option_and_then (λ p. p.bounds) now ≡ outline_box charstring
 unfolding outline_box
-outline_lost setting tokens depth charstring first e s t d f h =
-    run_fails alone 4294967295 1 0 charstring e
-    (sym (ap (λ (x : Setting). run_all taken x tokens depth 0 charstring first) s ∙ ap (λ (n : ℕ). run_all taken alone n depth 0 charstring first) t
-    ∙ ap (λ (n : ℕ). run_all taken alone 4294967295 n 0 charstring first) d ∙ ap (λ (p : Option Pen). run_all taken alone 4294967295 1 0 charstring p) f) ∙ h)
+outline_found global local tokens depth charstring first now g l t d f h = run_gives alone 4294967295 1 0 charstring now (same_run global local tokens depth charstring first g l t d f ∙ h)
+
+pub outline_lost : (global local : List (Option (List ℕ))) (tokens depth : ℕ) (charstring : List ℕ) (first : Option Pen) (e : Error) → global ≡ [] → local ≡ [] → tokens ≡ 4294967295 → depth ≡ 1 → first ≡ Some pen_start
+    → run_all taken (setting_with global local) tokens depth 0 charstring first ≡ Err e → outline_box charstring ≡ None
+unfolding outline_box
+outline_lost global local tokens depth charstring first e g l t d f h = run_fails alone 4294967295 1 0 charstring e (same_run global local tokens depth charstring first g l t d f ∙ h)

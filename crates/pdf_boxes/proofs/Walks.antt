@@ -1,5 +1,5 @@
 -- The operands of a path, some at the front and then the others.
-use Rattle.std.proofs.Common.{◌≡◌, ℕ, ℤ, pos, ◌≤◌, ◌-◌, Bool, true, false, List, [], ◌∷◌, ◌++◌, length, take, drop, get_or, Option, Some, None, refl, sym, ap, subst, ◌∙◌, arith, length-drop}
+use Rattle.std.proofs.Common.{◌≡◌, ℕ, ℤ, pos, ◌≤◌, ◌<◌, ◌-◌, Bool, true, false, List, [], ◌∷◌, ◌++◌, length, take, drop, get_or, Option, Some, None, refl, sym, ap, subst, ◌∙◌, arith, length-drop}
 use Rattle.std.proofs.lemmas.List.{take_all}
 use Rattle.std.specs.Prelude.{not, IfSome}
 use Rattle.std.specs.Option.{option_and_then}
@@ -25,7 +25,7 @@ pub rest_all : (n : ℕ) (xs : List ℤ) → take (length xs - n) (drop n xs) �
 rest_all n xs = take_all (length xs - n) (drop n xs) (omega (arith, length-drop n xs))
 
 -- ---- one curve
-pub last : (o : Option Pen) → option_and_then (followed []) o ≡ o
+last : (o : Option Pen) → option_and_then (followed []) o ≡ o
 last None = refl
 last (Some p) = refl
 
@@ -111,6 +111,17 @@ six_curve at (a ∷ b ∷ c ∷ d ∷ []) l = absurd (omega arith)
 six_curve at (a ∷ b ∷ c ∷ d ∷ e ∷ []) l = absurd (omega arith)
 six_curve at (a ∷ b ∷ c ∷ d ∷ e ∷ f ∷ []) l = refl
 six_curve at (a ∷ b ∷ c ∷ d ∷ e ∷ f ∷ g ∷ xs) l = absurd (omega arith)
+
+pub lines_only : (at : Position) (xs : List ℤ) → length xs < 8 → (length xs ≡ 6 → ⊥) → lines at xs ≡ lines_curve at xs
+lines_only at [] l n = refl
+lines_only at (a ∷ []) l n = refl
+lines_only at (a ∷ b ∷ []) l n = refl
+lines_only at (a ∷ b ∷ c ∷ []) l n = refl
+lines_only at (a ∷ b ∷ c ∷ d ∷ []) l n = refl
+lines_only at (a ∷ b ∷ c ∷ d ∷ e ∷ []) l n = refl
+lines_only at (a ∷ b ∷ c ∷ d ∷ e ∷ f ∷ []) l n = absurd (n refl)
+lines_only at (a ∷ b ∷ c ∷ d ∷ e ∷ f ∷ g ∷ []) l n = refl
+lines_only at (a ∷ b ∷ c ∷ d ∷ e ∷ f ∷ g ∷ h ∷ xs) l n = absurd (omega arith)
 
 pub lines_curve_go : (pen p : Pen) (xs : List ℤ) (r : Option Pen) → 2 ≤ length xs → (length xs ≡ 6 → ⊥) → Some p ≡ visited (by (get_or xs 0 (pos 0)) (get_or xs 1 (pos 0)) pen.at) pen → p.at ≡ by (get_or xs 0 (pos 0)) (get_or xs 1 (pos 0)) pen.at
     → r ≡ traced (lines_curve p.at (drop 2 xs)) p → r ≡ traced (lines_curve pen.at xs) pen

@@ -1,8 +1,8 @@
 //! The short forms of flex (Technical Note 5177, section 4.1).
 
-ghost use Rattle.std.specs.Prelude.{◌≡◌, ◌≤◌, ◌^◌, ◌+◌, ◌∷◌, [], All, unsigned_abs};
-ghost use Rattle.subsetter_blend.specs.declared.axes.Along.TheVariants.{X};
-ghost use Rattle.subsetter_blend.specs.Drawn.{by, hflex_drawn, hflex1_drawn, flex1_drawn, flex1_end};
+ghost use Rattle.std.specs.Prelude.{◌≡◌, ◌≤◌, ◌^◌, ◌+◌, ◌-ℤ◌, ◌∷◌, [], All, nat_lt, unsigned_abs};
+ghost use Rattle.subsetter_blend.specs.declared.axes.Along.TheVariants.{X, Y};
+ghost use Rattle.subsetter_blend.specs.Drawn.{by, hflex_drawn, hflex1_drawn, flex1_drawn, flex1_end, level_with, plumb_with};
 ghost use Rattle.subsetter_blend.specs.Runs.Number.{IsWithin};
 ghost use Rattle.subsetter_blend.specs.Writing.Flex.{operand_at};
 ghost use Rattle.subsetter_blend.specs.Writing.Placed.{IsPosition, position_after};
@@ -24,34 +24,92 @@ fn operand(operands: &[i64], i: usize) -> i64
     }
 }
 
-/// So far from a position along both axes.
-fn further(at: Position, dx: i64, dy: i64) -> Position
+/// So far along both axes as these operands say.
+fn further(at: Position, operands: &[i64], dx: usize, dy: usize) -> Position
     requires x { unsigned_abs at.x ≤ 2 ^ 60 }
     requires y { unsigned_abs at.y ≤ 2 ^ 60 }
-    requires dx { unsigned_abs dx ≤ 2 ^ 45 }
-    requires dy { unsigned_abs dy ≤ 2 ^ 45 }
-    ensures value { result ≡ by dx dy at }
+    requires within { All IsWithin operands.now }
+    ensures value { result ≡ by (operand_at operands.now dx) (operand_at operands.now dy) at }
     ensures x { unsigned_abs result.x ≤ unsigned_abs at.x + 2 ^ 45 }
     ensures y { unsigned_abs result.y ≤ unsigned_abs at.y + 2 ^ 45 }
 {
     Position {
-        x: plus(at.x, dx),
-        y: plus(at.y, dy),
+        x: plus(at.x, operand(operands, dx)),
+        y: plus(at.y, operand(operands, dy)),
     }
 }
 
-/// So far from a position along the x axis.
-fn level(at: Position, d: i64) -> Position
+/// So far along the x axis as this operand says.
+fn level(at: Position, operands: &[i64], dx: usize) -> Position
     requires x { unsigned_abs at.x ≤ 2 ^ 60 }
-    requires d { unsigned_abs d ≤ 2 ^ 45 }
-    ensures value { result ≡ position_after X d at }
+    requires within { All IsWithin operands.now }
+    ensures value { result ≡ position_after X (operand_at operands.now dx) at }
     ensures x { unsigned_abs result.x ≤ unsigned_abs at.x + 2 ^ 45 }
     ensures y { result.y ≡ at.y }
 {
     Position {
-        x: plus(at.x, d),
+        x: plus(at.x, operand(operands, dx)),
         y: at.y,
     }
+}
+
+/// So far along the x axis, at the height of the start.
+fn level_end(start: Position, at: Position, operands: &[i64], dx: usize) -> Position
+    requires x { unsigned_abs at.x ≤ 2 ^ 60 }
+    requires within { All IsWithin operands.now }
+    ensures value { result ≡ level_with start (position_after X (operand_at operands.now dx) at) }
+    ensures x { unsigned_abs result.x ≤ unsigned_abs at.x + 2 ^ 45 }
+    ensures y { result.y ≡ start.y }
+{
+    Position {
+        x: plus(at.x, operand(operands, dx)),
+        y: start.y,
+    }
+}
+
+/// So far along the y axis, with the x of the start.
+fn plumb_end(start: Position, at: Position, operands: &[i64], dy: usize) -> Position
+    requires y { unsigned_abs at.y ≤ 2 ^ 60 }
+    requires within { All IsWithin operands.now }
+    ensures { result ≡ plumb_with start (position_after Y (operand_at operands.now dy) at) }
+{
+    Position {
+        x: start.x,
+        y: plus(at.y, operand(operands, dy)),
+    }
+}
+
+/// How far apart two coordinates are.
+fn distance(a: i64, b: i64) -> u64
+    requires first { unsigned_abs a ≤ 2 ^ 60 }
+    requires second { unsigned_abs b ≤ 2 ^ 60 }
+    ensures { result ≡ unsigned_abs (a -ℤ b) }
+{
+    minus(a, b).unsigned_abs()
+}
+
+/// Whether a position is further from the start along the x axis than along the y axis.
+fn is_wide(start: Position, at: Position) -> bool
+    requires start { IsPosition start }
+    requires x { unsigned_abs at.x ≤ 2 ^ 60 }
+    requires y { unsigned_abs at.y ≤ 2 ^ 60 }
+    ensures { result ≡ nat_lt (unsigned_abs (at.y -ℤ start.y)) (unsigned_abs (at.x -ℤ start.x)) }
+{
+    distance(at.y, start.y) < distance(at.x, start.x)
+}
+
+/// The end of flex1, which began at this start.
+fn end_of_flex1(start: Position, at: Position, operands: &[i64], last: usize) -> Position
+    requires start { IsPosition start }
+    requires x { unsigned_abs at.x ≤ 2 ^ 60 }
+    requires y { unsigned_abs at.y ≤ 2 ^ 60 }
+    requires within { All IsWithin operands.now }
+    ensures { result ≡ flex1_end start (operand_at operands.now last) at }
+{
+    if is_wide(start, at) {
+        return level_end(start, at, operands, last);
+    }
+    plumb_end(start, at, operands, last)
 }
 
 /// A curve by its points.
@@ -65,7 +123,15 @@ fn curve_to(pen: Pen, first: Position, second: Position, to: Position) -> Option
 }
 
 /// Two curves by their points.
-fn curves_to(pen: Pen, p1: Position, p2: Position, p3: Position, p4: Position, p5: Position, p6: Position) -> Option<Pen>
+fn curves_to(
+    pen: Pen,
+    p1: Position,
+    p2: Position,
+    p3: Position,
+    p4: Position,
+    p5: Position,
+    p6: Position,
+) -> Option<Pen>
     ensures value { result ≡ followed (p1 ∷ p2 ∷ p3 ∷ p4 ∷ p5 ∷ p6 ∷ []) pen }
     ensures held { IsHeld result }
 {
@@ -79,16 +145,13 @@ pub fn hflex(pen: Pen, operands: &[i64]) -> Option<Pen>
     ensures value { result ≡ traced (hflex_drawn pen.at (operand_at operands.now)) pen }
     ensures held { IsHeld result }
 {
-    let p1 = level(pen.at, operand(operands, 0));
-    let p2 = further(p1, operand(operands, 1), operand(operands, 2));
-    let p3 = level(p2, operand(operands, 3));
-    let p4 = level(p3, operand(operands, 4));
-    let right = level(p4, operand(operands, 5));
-    let p5 = Position {
-        x: right.x,
-        y: pen.at.y,
-    };
-    curves_to(pen, p1, p2, p3, p4, p5, level(p5, operand(operands, 6)))
+    let p1 = level(pen.at, operands, 0);
+    let p2 = further(p1, operands, 1, 2);
+    let p3 = level(p2, operands, 3);
+    let p4 = level(p3, operands, 4);
+    let p5 = level_end(pen.at, p4, operands, 5);
+    let p6 = level(p5, operands, 6);
+    curves_to(pen, p1, p2, p3, p4, p5, p6)
 }
 
 /// hflex1.
@@ -98,39 +161,13 @@ pub fn hflex1(pen: Pen, operands: &[i64]) -> Option<Pen>
     ensures value { result ≡ traced (hflex1_drawn pen.at (operand_at operands.now)) pen }
     ensures held { IsHeld result }
 {
-    let p1 = further(pen.at, operand(operands, 0), operand(operands, 1));
-    let p2 = further(p1, operand(operands, 2), operand(operands, 3));
-    let p3 = level(p2, operand(operands, 4));
-    let p4 = level(p3, operand(operands, 5));
-    let p5 = further(p4, operand(operands, 6), operand(operands, 7));
-    let right = level(p5, operand(operands, 8));
-    let p6 = Position {
-        x: right.x,
-        y: pen.at.y,
-    };
+    let p1 = further(pen.at, operands, 0, 1);
+    let p2 = further(p1, operands, 2, 3);
+    let p3 = level(p2, operands, 4);
+    let p4 = level(p3, operands, 5);
+    let p5 = further(p4, operands, 6, 7);
+    let p6 = level_end(pen.at, p5, operands, 8);
     curves_to(pen, p1, p2, p3, p4, p5, p6)
-}
-
-/// The end of flex1, which began at this start.
-fn end_of_flex1(start: Position, at: Position, last: i64) -> Position
-    requires start { IsPosition start }
-    requires x { unsigned_abs at.x ≤ 2 ^ 60 }
-    requires y { unsigned_abs at.y ≤ 2 ^ 60 }
-    requires last { unsigned_abs last ≤ 2 ^ 45 }
-    ensures { result ≡ flex1_end start last at }
-{
-    let wide = minus(at.x, start.x).unsigned_abs();
-    let high = minus(at.y, start.y).unsigned_abs();
-    if high < wide {
-        return Position {
-            x: plus(at.x, last),
-            y: start.y,
-        };
-    }
-    Position {
-        x: start.x,
-        y: plus(at.y, last),
-    }
 }
 
 /// flex1.
@@ -140,11 +177,11 @@ pub fn flex1(pen: Pen, operands: &[i64]) -> Option<Pen>
     ensures value { result ≡ traced (flex1_drawn pen.at (operand_at operands.now)) pen }
     ensures held { IsHeld result }
 {
-    let p1 = further(pen.at, operand(operands, 0), operand(operands, 1));
-    let p2 = further(p1, operand(operands, 2), operand(operands, 3));
-    let p3 = further(p2, operand(operands, 4), operand(operands, 5));
-    let p4 = further(p3, operand(operands, 6), operand(operands, 7));
-    let p5 = further(p4, operand(operands, 8), operand(operands, 9));
-    let p6 = end_of_flex1(pen.at, p5, operand(operands, 10));
+    let p1 = further(pen.at, operands, 0, 1);
+    let p2 = further(p1, operands, 2, 3);
+    let p3 = further(p2, operands, 4, 5);
+    let p4 = further(p3, operands, 6, 7);
+    let p5 = further(p4, operands, 8, 9);
+    let p6 = end_of_flex1(pen.at, p5, operands, 10);
     curves_to(pen, p1, p2, p3, p4, p5, p6)
 }

@@ -1,6 +1,6 @@
 //! The path construction operators of one byte (Technical Note 5177, section 4.1).
 
-ghost use Rattle.std.specs.Prelude.{◌≡◌, ◌≤◌, ◌^◌, ◌==◌, ◌%◌, ◌∷◌, [], All, length, true, false, unsigned_abs};
+ghost use Rattle.std.specs.Prelude.{◌≡◌, ◌≤◌, ◌<◌, ◌^◌, ◌==◌, ◌%◌, ◌∷◌, [], All, length, true, false, unsigned_abs};
 ghost use Rattle.subsetter_blend.specs.Axes.{along_y};
 ghost use Rattle.subsetter_blend.specs.Drawn.{lines, alternating_lines, curves, curves_line, lines_curve, horizontal_curves, vertical_curves, odd_horizontal, odd_vertical, alternating_curves, moves, moves_along};
 ghost use Rattle.subsetter_blend.specs.Runs.Number.{IsWithin};
@@ -76,6 +76,20 @@ pub fn curves(pen: Pen, operands: &[i64]) -> Option<Pen>
     }
 }
 
+/// The line behind curves, where two operands are left.
+fn end_of_curves(pen: Pen, operands: &[i64]) -> Option<Pen>
+    requires at { IsPosition pen.at }
+    requires within { All IsWithin operands.now }
+    requires few { length operands.now < 6 }
+    ensures value { result ≡ traced (curves_line pen.at operands.now) pen }
+    ensures held { IsHeld result }
+{
+    if operands.len() == 2 {
+        return lines(pen, operands);
+    }
+    Some(pen)
+}
+
 /// rcurveline.
 pub fn curves_line(pen: Pen, operands: &[i64]) -> Option<Pen>
     requires at { IsPosition pen.at }
@@ -83,15 +97,26 @@ pub fn curves_line(pen: Pen, operands: &[i64]) -> Option<Pen>
     ensures value { result ≡ traced (curves_line pen.at operands.now) pen }
     ensures held { IsHeld result }
 {
-    if operands.len() == 2 {
-        return lines(pen, operands);
-    }
     match operands {
         [dxa, dya, dxb, dyb, dxc, dyc, rest @ ..] => {
             curves_line(curve(pen, *dxa, *dya, *dxb, *dyb, *dxc, *dyc)?, rest)
         }
-        _ => Some(pen),
+        _ => end_of_curves(pen, operands),
     }
+}
+
+/// The curve behind lines, where six operands are left, else the last lines.
+fn end_of_lines(pen: Pen, operands: &[i64]) -> Option<Pen>
+    requires at { IsPosition pen.at }
+    requires within { All IsWithin operands.now }
+    requires few { length operands.now < 8 }
+    ensures value { result ≡ traced (lines_curve pen.at operands.now) pen }
+    ensures held { IsHeld result }
+{
+    if operands.len() == 6 {
+        return curves(pen, operands);
+    }
+    lines(pen, operands)
 }
 
 /// rlinecurve.
@@ -101,8 +126,8 @@ pub fn lines_curve(pen: Pen, operands: &[i64]) -> Option<Pen>
     ensures value { result ≡ traced (lines_curve pen.at operands.now) pen }
     ensures held { IsHeld result }
 {
-    if operands.len() == 6 {
-        return curves(pen, operands);
+    if operands.len() < 8 {
+        return end_of_lines(pen, operands);
     }
     match operands {
         [dx, dy, rest @ ..] => lines_curve(go(pen, *dx, *dy)?, rest),
