@@ -1,5 +1,5 @@
 -- The least box around boxes goes by no order.
-use Rattle.std.proofs.Common.{◌≡◌, ℤ, Option, Some, None, refl, ap, ◌∙◌, arith}
+use Rattle.std.proofs.Common.{◌≡◌, ℤ, Option, Some, None, refl, ap, arith}
 use Rattle.std.proofs.lemmas.Int.{ints, clamps}
 use Rattle.std.specs.Int.{int_min, int_max}
 use Rattle.pdf_values.specs.declared.looks.bounds.GlyphBox.{GlyphBox}

@@ -1,5 +1,5 @@
 -- The points of a flex, one after the other.
-use Rattle.std.proofs.Common.{◌≡◌, ℕ, ℤ, List, [], ◌∷◌, Option, ap, ◌∙◌}
+use Rattle.std.proofs.Common.{◌≡◌, ℕ, ℤ, [], ◌∷◌, Option, ap, ◌∙◌}
 use Rattle.subsetter_blend.specs.declared.axes.Along.TheVariants.{X}
 use Rattle.subsetter_blend.specs.declared.writing.placing.Position.{Position}
 use Rattle.subsetter_blend.specs.Drawn.{by, hflex_drawn, hflex1_drawn, flex1_drawn, flex1_end, level_with}

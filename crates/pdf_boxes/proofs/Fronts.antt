@@ -1,12 +1,10 @@
 -- A path whose front was followed goes on where that ends.
-use Rattle.std.proofs.Common.{◌≡◌, ℤ, pos, ◌+ℤ◌, Bool, true, false, List, [], ◌∷◌, ◌++◌, Option, Some, None, refl, sym, ap, ◌∙◌, arith}
+use Rattle.std.proofs.Common.{◌≡◌, ℤ, pos, ◌+ℤ◌, true, false, List, [], ◌∷◌, ◌++◌, Option, Some, None, sym, ap, ◌∙◌, arith}
 use Rattle.std.proofs.lemmas.Int.{ints}
-use Rattle.std.specs.Prelude.{not}
 use Rattle.std.specs.Option.{option_and_then}
 use Rattle.subsetter_blend.specs.declared.writing.placing.Position.{Position}
 use Rattle.subsetter_blend.specs.declared.axes.Along.TheVariants.{X, Y}
-use Rattle.subsetter_blend.specs.Axes.{along_y}
-use Rattle.subsetter_blend.specs.Drawn.{Segment, Line, Curve, by, lines, alternating_lines, curves, curves_line, lines_curve, horizontal_curves, vertical_curves, alternating_curves, point_behind}
+use Rattle.subsetter_blend.specs.Drawn.{Segment, Curve, by, curves, horizontal_curves, vertical_curves, alternating_curves, point_behind}
 use Rattle.subsetter_blend.specs.Writing.Placed.{position_after}
 use Rattle.pdf_boxes.specs.declared.pen.Pen.{Pen}
 use Rattle.pdf_boxes.specs.CharstringBox.{points}

@@ -5,10 +5,9 @@ use Rattle.std.specs.Option.{option_and_then}
 use Rattle.std.specs.Result.{result_ok}
 use Rattle.subsetter_base.specs.declared.error.Error.{Error}
 use Rattle.subsetter_blend.specs.Drawing.{IsAccepted, events_drawn}
-use Rattle.subsetter_blend.specs.Drawn.{Segment}
-use Rattle.subsetter_blend.specs.Runs.Machine.{Setting, State, start, also, run_all, events}
+use Rattle.subsetter_blend.specs.Runs.Machine.{Setting, start, also, run_all, events}
 use Rattle.subsetter_blend.specs.Writing.Placed.{origin}
-use Rattle.subsetter_blend.specs.Writing.Taking.{Event, and_then, all_taken}
+use Rattle.subsetter_blend.specs.Writing.Taking.{Event, all_taken}
 use Rattle.subsetter_blend.proofs.WritingLaws.FittingLaws.Simulated.{Too, run_too}
 use Rattle.subsetter_blend.proofs.WritingLaws.FittingLaws.Wholes.{AreTaken, also_too}
 use Rattle.pdf_values.specs.declared.looks.bounds.GlyphBox.{GlyphBox}

@@ -1,27 +1,13 @@
 -- Paths by the number of their operands.
-use Rattle.std.proofs.Common.{◌≡◌, ℕ, ℤ, pos, ◌<◌, Bool, true, false, List, [], ◌∷◌, ◌++◌, length, refl, ap, ◌∙◌, arith}
+use Rattle.std.proofs.Common.{◌≡◌, ℤ, pos, ◌<◌, Bool, true, false, List, [], ◌∷◌, ◌++◌, length, refl, ap, arith}
 use Rattle.std.specs.Prelude.{not}
 use Rattle.subsetter_blend.specs.declared.writing.placing.Position.{Position}
 use Rattle.subsetter_blend.specs.Axes.{along_y}
-use Rattle.subsetter_blend.specs.Drawn.{Segment, Line, Curve, by, lines, alternating_lines, curves, curves_line, lines_curve, horizontal_curves, vertical_curves, odd_horizontal, odd_vertical, alternating_curves, point_behind}
+use Rattle.subsetter_blend.specs.Drawn.{Line, Curve, by, curves_line, lines_curve, alternating_curves, point_behind}
 use Rattle.subsetter_blend.specs.Writing.Placed.{position_after}
 use Rattle.pdf_boxes.proofs.Fronts.{plus_none}
 
 -- ---- too few operands draw nothing
-pub lines_short : (at : Position) (xs : List ℤ) → length xs < 2 → lines at xs ≡ []
-lines_short at [] h = refl
-lines_short at (a ∷ []) h = refl
-lines_short at (a ∷ b ∷ xs) h = absurd (omega arith)
-
-pub curves_short : (at : Position) (xs : List ℤ) → length xs < 6 → curves at xs ≡ []
-curves_short at [] h = refl
-curves_short at (a ∷ []) h = refl
-curves_short at (a ∷ b ∷ []) h = refl
-curves_short at (a ∷ b ∷ c ∷ []) h = refl
-curves_short at (a ∷ b ∷ c ∷ d ∷ []) h = refl
-curves_short at (a ∷ b ∷ c ∷ d ∷ e ∷ []) h = refl
-curves_short at (a ∷ b ∷ c ∷ d ∷ e ∷ f ∷ xs) h = absurd (omega arith)
-
 pub curves_line_short : (at : Position) (xs : List ℤ) → length xs < 6 → (length xs ≡ 2 → ⊥) → curves_line at xs ≡ []
 curves_line_short at [] h n = refl
 curves_line_short at (a ∷ []) h n = refl
@@ -31,58 +17,7 @@ curves_line_short at (a ∷ b ∷ c ∷ d ∷ []) h n = refl
 curves_line_short at (a ∷ b ∷ c ∷ d ∷ e ∷ []) h n = refl
 curves_line_short at (a ∷ b ∷ c ∷ d ∷ e ∷ f ∷ xs) h n = absurd (omega arith)
 
-pub lines_curve_short : (at : Position) (xs : List ℤ) → length xs < 2 → lines_curve at xs ≡ []
-lines_curve_short at [] h = refl
-lines_curve_short at (a ∷ []) h = refl
-lines_curve_short at (a ∷ b ∷ xs) h = absurd (omega arith)
-
-pub horizontal_short : (at : Position) (xs : List ℤ) → length xs < 4 → horizontal_curves at xs ≡ []
-horizontal_short at [] h = refl
-horizontal_short at (a ∷ []) h = refl
-horizontal_short at (a ∷ b ∷ []) h = refl
-horizontal_short at (a ∷ b ∷ c ∷ []) h = refl
-horizontal_short at (a ∷ b ∷ c ∷ d ∷ xs) h = absurd (omega arith)
-
-pub vertical_short : (at : Position) (xs : List ℤ) → length xs < 4 → vertical_curves at xs ≡ []
-vertical_short at [] h = refl
-vertical_short at (a ∷ []) h = refl
-vertical_short at (a ∷ b ∷ []) h = refl
-vertical_short at (a ∷ b ∷ c ∷ []) h = refl
-vertical_short at (a ∷ b ∷ c ∷ d ∷ xs) h = absurd (omega arith)
-
-pub odd_horizontal_short : (at : Position) (xs : List ℤ) → length xs < 5 → odd_horizontal true at xs ≡ []
-odd_horizontal_short at [] h = refl
-odd_horizontal_short at (x ∷ []) h = refl
-odd_horizontal_short at (x ∷ a ∷ []) h = refl
-odd_horizontal_short at (x ∷ a ∷ b ∷ []) h = refl
-odd_horizontal_short at (x ∷ a ∷ b ∷ c ∷ []) h = refl
-odd_horizontal_short at (x ∷ a ∷ b ∷ c ∷ d ∷ xs) h = absurd (omega arith)
-
-pub odd_vertical_short : (at : Position) (xs : List ℤ) → length xs < 5 → odd_vertical true at xs ≡ []
-odd_vertical_short at [] h = refl
-odd_vertical_short at (x ∷ []) h = refl
-odd_vertical_short at (x ∷ a ∷ []) h = refl
-odd_vertical_short at (x ∷ a ∷ b ∷ []) h = refl
-odd_vertical_short at (x ∷ a ∷ b ∷ c ∷ []) h = refl
-odd_vertical_short at (x ∷ a ∷ b ∷ c ∷ d ∷ xs) h = absurd (omega arith)
-
-pub alternating_short : (v : Bool) (at : Position) (xs : List ℤ) → length xs < 4 → alternating_curves v at xs ≡ []
-alternating_short true at [] h = refl
-alternating_short true at (a ∷ []) h = refl
-alternating_short true at (a ∷ b ∷ []) h = refl
-alternating_short true at (a ∷ b ∷ c ∷ []) h = refl
-alternating_short true at (a ∷ b ∷ c ∷ d ∷ xs) h = absurd (omega arith)
-alternating_short false at [] h = refl
-alternating_short false at (a ∷ []) h = refl
-alternating_short false at (a ∷ b ∷ []) h = refl
-alternating_short false at (a ∷ b ∷ c ∷ []) h = refl
-alternating_short false at (a ∷ b ∷ c ∷ d ∷ xs) h = absurd (omega arith)
-
 -- ---- the first part, and the others
-pub alternating_line : (v : Bool) (at : Position) (d : ℤ) (rest : List ℤ) → alternating_lines v at (d ∷ rest) ≡ Line (position_after (along_y v) d at) ∷ alternating_lines (not v) (position_after (along_y v) d at) rest
-alternating_line true at d rest = refl
-alternating_line false at d rest = refl
-
 pub line_first : (at : Position) (dx dy : ℤ) (rest : List ℤ) → (length rest ≡ 4 → ⊥) → lines_curve at (dx ∷ dy ∷ rest) ≡ Line (by dx dy at) ∷ lines_curve (by dx dy at) rest
 line_first at dx dy [] n = refl
 line_first at dx dy (a ∷ []) n = refl

@@ -1,5 +1,5 @@
 -- The operands of curves that turn: with an odd operand in front, or alternating.
-use Rattle.std.proofs.Common.{◌≡◌, ℕ, ℤ, pos, ◌≤◌, Bool, true, false, List, [], ◌∷◌, length, drop, get_or, Option, Some, None, refl, sym, ap, ◌∙◌, arith}
+use Rattle.std.proofs.Common.{◌≡◌, ℤ, pos, ◌≤◌, Bool, true, List, [], ◌∷◌, length, drop, get_or, Option, Some, None, sym, ap, ◌∙◌, arith}
 use Rattle.std.specs.Prelude.{not}
 use Rattle.subsetter_blend.specs.declared.axes.Along.TheVariants.{X, Y}
 use Rattle.subsetter_blend.specs.Drawn.{Segment, horizontal_curves, vertical_curves, odd_horizontal, odd_vertical, alternating_curves, point_behind}
@@ -7,7 +7,7 @@ use Rattle.subsetter_blend.specs.Writing.Placed.{position_after}
 use Rattle.pdf_boxes.specs.declared.pen.Pen.{Pen}
 use Rattle.pdf_boxes.specs.Traced.{traced}
 use Rattle.pdf_boxes.proofs.Fronts.{more_of, lost_of, curve_at, level_end, plumb_end}
-use Rattle.pdf_boxes.proofs.Shapes.{alternating_first, alternating_four, odd_horizontal_short, odd_vertical_short}
+use Rattle.pdf_boxes.proofs.Shapes.{alternating_first, alternating_four}
 
 -- ---- an odd operand in front
 pub hh_go : (pen p : Pen) (xs : List ℤ) (t : Bool) (r : Option Pen) → t ≡ true → 5 ≤ length xs
@@ -61,13 +61,6 @@ vv_lost pen (x ∷ a ∷ b ∷ c ∷ d ∷ xs) t e l h =
     let one : List Segment = vertical_curves (position_after X x pen.at) (a ∷ b ∷ c ∷ d ∷ []) in
     lost_of one (vertical_curves (point_behind pen.at one) xs) pen (h ∙ ap (λ (s : List Segment). traced s pen) (plumb_end pen.at x a b c d))
     ∙ ap (λ (y : Bool). traced (odd_vertical y pen.at (x ∷ a ∷ b ∷ c ∷ d ∷ xs)) pen) (sym e)
-
--- one operand alone draws nothing
-pub hh_short : (pen : Pen) (xs : List ℤ) (t : Bool) → t ≡ true → length xs ≤ 4 → Some pen ≡ traced (odd_horizontal t pen.at xs) pen
-hh_short pen xs t e l = sym (ap (λ (y : Bool). traced (odd_horizontal y pen.at xs) pen) e ∙ ap (λ (s : List Segment). traced s pen) (odd_horizontal_short pen.at xs (omega arith)))
-
-pub vv_short : (pen : Pen) (xs : List ℤ) (t : Bool) → t ≡ true → length xs ≤ 4 → Some pen ≡ traced (odd_vertical t pen.at xs) pen
-vv_short pen xs t e l = sym (ap (λ (y : Bool). traced (odd_vertical y pen.at xs) pen) e ∙ ap (λ (s : List Segment). traced s pen) (odd_vertical_short pen.at xs (omega arith)))
 
 -- ---- alternating
 pub alternating_five : (v : Bool) (pen : Pen) (xs : List ℤ) (r : Option Pen) → length xs ≡ 5

@@ -1,17 +1,14 @@
 -- The operands of a path, some at the front and then the others.
-use Rattle.std.proofs.Common.{◌≡◌, ℕ, ℤ, pos, ◌≤◌, ◌<◌, ◌-◌, Bool, true, false, List, [], ◌∷◌, ◌++◌, length, take, drop, get_or, Option, Some, None, refl, sym, ap, subst, ◌∙◌, arith, length-drop}
+use Rattle.std.proofs.Common.{◌≡◌, ℕ, ℤ, pos, ◌≤◌, ◌<◌, ◌-◌, List, [], ◌∷◌, length, take, drop, get_or, Option, Some, None, refl, sym, ap, subst, ◌∙◌, arith, length-drop}
 use Rattle.std.proofs.lemmas.List.{take_all}
-use Rattle.std.specs.Prelude.{not, IfSome}
+use Rattle.std.specs.Prelude.{IfSome}
 use Rattle.std.specs.Option.{option_and_then}
 use Rattle.subsetter_blend.specs.declared.writing.placing.Position.{Position}
-use Rattle.subsetter_blend.specs.Axes.{along_y}
-use Rattle.subsetter_blend.specs.Drawn.{Segment, by, lines, curves, curves_line, lines_curve, horizontal_curves, vertical_curves, odd_horizontal, odd_vertical, alternating_curves, point_behind}
-use Rattle.subsetter_blend.specs.Writing.Placed.{position_after}
+use Rattle.subsetter_blend.specs.Drawn.{Segment, by, lines, curves, curves_line, lines_curve, horizontal_curves, vertical_curves, point_behind}
 use Rattle.pdf_boxes.specs.declared.pen.Pen.{Pen}
-use Rattle.pdf_boxes.specs.CharstringBox.{points}
 use Rattle.pdf_boxes.specs.Traced.{visited, followed, traced}
-use Rattle.pdf_boxes.proofs.Fronts.{more_of, lost_of, curve_at, horizontal_is, vertical_is, level_end, plumb_end}
-use Rattle.pdf_boxes.proofs.Shapes.{line_first, alternating_first, alternating_four}
+use Rattle.pdf_boxes.proofs.Fronts.{more_of, lost_of, curve_at, horizontal_is, vertical_is}
+use Rattle.pdf_boxes.proofs.Shapes.{line_first}
 
 -- ---- one point
 pub point_is : (x y a b : ℤ) (pen : Pen) (r : Option Pen) → r ≡ visited (record { x = a; y = b }) pen → a ≡ x → b ≡ y → r ≡ visited (record { x = x; y = y }) pen

@@ -8,7 +8,10 @@ ghost use Rattle.subsetter_blend.specs.Writing.Placed.{IsPosition};
 ghost use Rattle.pdf_boxes.specs.Traced.{pen_start, traced, IsHeld};
 
 use crate::flexes::{flex1, hflex, hflex1};
-use crate::paths::{alternating_curves, alternating_lines, curves, curves_line, hh_curves, lines, lines_curve, moves, moves_along, vv_curves};
+use crate::paths::{
+    alternating_curves, alternating_lines, curves, curves_line, hh_curves, lines, lines_curve,
+    moves, moves_along, vv_curves,
+};
 use crate::pen::Pen;
 use pdf_values::GlyphBox;
 use std::marker::Model;

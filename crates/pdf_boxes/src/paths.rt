@@ -236,14 +236,7 @@ fn curve_from_vertical(pen: Pen, da: i64, dxb: i64, dyb: i64, dc: i64, last: i64
 }
 
 /// A curve that begins horizontal and ends vertical, but for the last operand.
-fn curve_from_horizontal(
-    pen: Pen,
-    da: i64,
-    dxb: i64,
-    dyb: i64,
-    dc: i64,
-    last: i64,
-) -> Option<Pen>
+fn curve_from_horizontal(pen: Pen, da: i64, dxb: i64, dyb: i64, dc: i64, last: i64) -> Option<Pen>
     requires at { IsPosition pen.at }
     requires da { unsigned_abs da ≤ 2 ^ 45 }
     requires dxb { unsigned_abs dxb ≤ 2 ^ 45 }
@@ -310,7 +303,11 @@ pub fn alternating_curves(vertical: bool, pen: Pen, operands: &[i64]) -> Option<
     }
     match operands {
         [da, dxb, dyb, dc, rest @ ..] => {
-            alternating_curves(!vertical, alternating_curve(vertical, pen, *da, *dxb, *dyb, *dc, 0)?, rest)
+            alternating_curves(
+                !vertical,
+                alternating_curve(vertical, pen, *da, *dxb, *dyb, *dc, 0)?,
+                rest,
+            )
         }
         _ => Some(pen),
     }
