@@ -1,7 +1,7 @@
 //! The font descriptor.
 
 ghost use Rattle.std.specs.Prelude.{◌≡◌, codes, Ok, IfOk, IfErr};
-ghost use Rattle.std.specs.Option.{option_map};
+ghost use Rattle.std.specs.Option.{option_copied, option_map};
 ghost use Rattle.subsetter_base.specs.Gives.{Gives};
 ghost use Rattle.subsetter_base.specs.declared.error.Error.TheVariants.{OutOfMemory};
 ghost use Rattle.subsetter_sfnt.specs.Read.{table_in};
@@ -11,7 +11,7 @@ ghost use Rattle.pdf_glyphs.specs.Vertical.{vertical_view};
 ghost use Rattle.pdf_text.specs.SubsetName.{font_name, IsTag};
 ghost use Rattle.pdf_values.specs.Descriptor.{tables_view};
 ghost use Rattle.pdf_source.specs.Named.{heights_by, name_by};
-ghost use Rattle.pdf_source.specs.Moved.{kept_in, location_seen, values_by};
+ghost use Rattle.pdf_source.specs.Moved.{kept_by, kept_in, location_seen, values_by};
 ghost use Rattle.pdf_source.specs.Source.{bounds_by, known_of, outlines_of, source_name, tables_of, tag_in, vertical_of};
 
 use crate::cff::{cff_box, cff_values_by};
@@ -90,6 +90,28 @@ fn bounds_by(moving: bool, choice: Bounds) -> Bounds
     if moving { choice } else { Bounds::Font }
 }
 
+/// The least box around so many glyphs of the new font, by the `glyf` of the source, and whether its outlines move.
+fn kept_by(
+    alloc: Global,
+    glyf: Option<&[u8]>,
+    moving: bool,
+    new: &Face<'_>,
+    count: u16,
+) -> Result<Option<GlyphBox>, Error>
+    ensures value { Gives (λ kept. kept) result (Ok (kept_by (option_copied glyf.entry) moving (table_in new.now.«data».now new.now.records.now) count)) }
+    ensures err { IfErr result (λ e. e ≡ OutOfMemory) }
+{
+    match glyf {
+        Some(_) => Ok(box_around(outlines_of(new), count)),
+        None => {
+            if moving {
+                return cff_box(alloc, new.stored(Tag::CFF), count);
+            }
+            Ok(None)
+        }
+    }
+}
+
 /// The least box around so many glyphs of the new font, where it is known.
 pub fn kept_in(
     alloc: Global,
@@ -100,15 +122,7 @@ pub fn kept_in(
     ensures value { Gives (λ kept. kept) result (Ok (kept_in (table_in face.now.«data».now face.now.records.now) (table_in new.now.«data».now new.now.records.now) count)) }
     ensures err { IfErr result (λ e. e ≡ OutOfMemory) }
 {
-    match face.stored(Tag::GLYF) {
-        Some(_) => Ok(box_around(outlines_of(new), count)),
-        None => {
-            if !moves(face) {
-                return Ok(None);
-            }
-            cff_box(alloc, new.stored(Tag::CFF), count)
-        }
-    }
+    kept_by(alloc, face.stored(Tag::GLYF), moves(face), new, count)
 }
 
 /// The values of a font that says this stem, whose kept glyphs have this box, at coordinates that are off its default, if they
