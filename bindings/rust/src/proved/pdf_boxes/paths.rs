@@ -45,39 +45,36 @@ pub fn curves(pen: Pen, operands: &[i64]) -> Option<Pen> {
     }
 }
 
-/// The line behind curves.
-fn last_line(pen: Pen, operands: &[i64]) -> Option<Pen> {
-    match operands {
-        [dx, dy] => go(pen, *dx, *dy),
-        _ => Some(pen),
+/// The line behind curves, where two operands are left.
+fn end_of_curves(pen: Pen, operands: &[i64]) -> Option<Pen> {
+    if operands.len() == 2 {
+        return lines(pen, operands);
     }
+    Some(pen)
 }
 
 /// rcurveline.
 pub fn curves_line(pen: Pen, operands: &[i64]) -> Option<Pen> {
-    if operands.len() == 2 {
-        return last_line(pen, operands);
-    }
     match operands {
         [dxa, dya, dxb, dyb, dxc, dyc, rest @ ..] => {
             curves_line(curve(pen, *dxa, *dya, *dxb, *dyb, *dxc, *dyc)?, rest)
         }
-        _ => Some(pen),
+        _ => end_of_curves(pen, operands),
     }
 }
 
-/// The curve behind lines.
-fn curve_behind(pen: Pen, operands: &[i64]) -> Option<Pen> {
-    match operands {
-        [dxa, dya, dxb, dyb, dxc, dyc] => curve(pen, *dxa, *dya, *dxb, *dyb, *dxc, *dyc),
-        _ => Some(pen),
+/// The curve behind lines, where six operands are left, else the last lines.
+fn end_of_lines(pen: Pen, operands: &[i64]) -> Option<Pen> {
+    if operands.len() == 6 {
+        return curves(pen, operands);
     }
+    lines(pen, operands)
 }
 
 /// rlinecurve.
 pub fn lines_curve(pen: Pen, operands: &[i64]) -> Option<Pen> {
-    if operands.len() == 6 {
-        return curve_behind(pen, operands);
+    if operands.len() < 8 {
+        return end_of_lines(pen, operands);
     }
     match operands {
         [dx, dy, rest @ ..] => lines_curve(go(pen, *dx, *dy)?, rest),

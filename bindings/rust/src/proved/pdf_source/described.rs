@@ -76,6 +76,25 @@ fn bounds_by(moving: bool, choice: Bounds) -> Bounds {
     }
 }
 
+/// The least box around so many glyphs of the new font, by the `glyf` of the source, and whether its outlines move.
+fn kept_by(
+    alloc: Global,
+    glyf: Option<&[u8]>,
+    moving: bool,
+    new: &Face<'_>,
+    count: u16,
+) -> Result<Option<GlyphBox>, Error> {
+    match glyf {
+        Some(_) => Ok(box_around(outlines_of(new), count)),
+        None => {
+            if moving {
+                return cff_box(alloc, new.stored(Tag::CFF), count);
+            }
+            Ok(None)
+        }
+    }
+}
+
 /// The least box around so many glyphs of the new font, where it is known.
 pub fn kept_in(
     alloc: Global,
@@ -83,15 +102,7 @@ pub fn kept_in(
     new: &Face<'_>,
     count: u16,
 ) -> Result<Option<GlyphBox>, Error> {
-    match face.stored(Tag::GLYF) {
-        Some(_) => Ok(box_around(outlines_of(new), count)),
-        None => {
-            if !moves(face) {
-                return Ok(None);
-            }
-            cff_box(alloc, new.stored(Tag::CFF), count)
-        }
-    }
+    kept_by(alloc, face.stored(Tag::GLYF), moves(face), new, count)
 }
 
 /// The values of a font that says this stem, whose kept glyphs have this box, at coordinates that are off its default, if they
