@@ -32,14 +32,14 @@ const INSTALLABLE: Permission = Permission {
     outlines: true,
 };
 
-/// The values at 650.
+/// The values at 650. The box is around 125 0 476 704, 0 0 200 200 and 50 -10 480 490, of glyphs 1 to 3 of the new font.
 const VALUES_AT_650: Values = Values {
     flags: 68,
     bounds: Edges {
         x_min: 0,
-        y_min: -20,
-        x_max: 1000,
-        y_max: 900,
+        y_min: -10,
+        x_max: 480,
+        y_max: 704,
     },
     italic_angle: -12500,
     heights: Heights {
@@ -52,14 +52,14 @@ const VALUES_AT_650: Values = Values {
     font_weight: 700,
 };
 
-/// The values at 200.
+/// The values at 200. The box is around 87 0 360 694, 0 0 200 200 and 50 -10 429 490.
 const VALUES_AT_200: Values = Values {
     flags: 68,
     bounds: Edges {
         x_min: 0,
-        y_min: -20,
-        x_max: 1000,
-        y_max: 900,
+        y_min: -10,
+        x_max: 429,
+        y_max: 694,
     },
     italic_angle: -12500,
     heights: Heights {
@@ -72,7 +72,7 @@ const VALUES_AT_200: Values = Values {
     font_weight: 200,
 };
 
-/// The values at 400.
+/// The values at 400, where the box of `head` is chosen.
 const VALUES_AT_DEFAULT: Values = Values {
     flags: 68,
     bounds: Edges {
