@@ -2,7 +2,7 @@
 //!
 //! The font is opened, and its outlines are found, before any memory is taken.
 
-ghost use Rattle.std.specs.Prelude.{◌≡◌, ◌≢◌, ◌⊎◌, IfOk, IfErr, Ok, Err};
+ghost use Rattle.std.specs.Prelude.{◌≡◌, ◌≢◌, ◌≤◌, ◌⊎◌, length, IfOk, IfErr, Ok, Err};
 ghost use Rattle.subsetter_base.specs.Bytes.{IsBytes};
 ghost use Rattle.subsetter_base.specs.Gives.{Gives};
 ghost use Rattle.subsetter_base.specs.Within.{IsTooLong};
@@ -102,7 +102,8 @@ fn make_cff(
     all: &[Option<LongHorMetric>],
     limits: Limits,
 ) -> Result<Vec<u8>, Error>
-    requires { all.now ≡ metrics_by_glyph mapper.now prepared.now.metrics prepared.now.source.count }
+    requires all { all.now ≡ metrics_by_glyph mapper.now prepared.now.metrics prepared.now.source.count }
+    requires few { length all.now ≤ 65535 }
     ensures ok { IfOk result (λ v. made_table cff2.now (request_at mapper.now prepared.now) limits.tokens limits.depth ≡ Ok v.items) }
     ensures within { IfOk result (λ _. KeepsBound limits.bytes (drawn_of cff2.now (request_at mapper.now prepared.now) limits.tokens limits.depth)) }
     ensures err { IfErr result (λ e. (e ≡ OutOfMemory) ⊎ (HasFault cff2.now (request_at mapper.now prepared.now) limits.tokens limits.depth e ⊎ ((e ≡ OverflowError) × IsTooLong limits.bytes drawn_size (drawn_of cff2.now (request_at mapper.now prepared.now) limits.tokens limits.depth)))) }
