@@ -181,6 +181,14 @@ pub fn push_components(
     }
 }
 
+/// Puts a number in the place of two bytes.
+fn put_number(out: &mut Vec<u8>, at: usize, number: u16)
+    requires { at + 2 ≤ length out.old.items }
+    ensures { out.new.items ≡ take at out.old.items ++ to_be_bytes w16 number ++ drop (at + 2) out.old.items }
+{
+    out[at..at + 2].copy_from_slice(&number.to_be_bytes());
+}
+
 /// The flags of a component, without that of instructions where these are not asked for.
 fn requested_flags(hinting: bool, flags: u16) -> u16
     ensures { result ≡ requested_flags hinting flags }
@@ -204,9 +212,8 @@ fn renumber(
     ensures { out.new.items ≡ take at out.old.items ++ to_be_bytes w16 (requested_flags hinting component.entry.flags) ++ to_be_bytes w16 (new_index order.now component.entry.glyph) ++ drop (at + 4) out.old.items }
 {
     let number = order.get(component.glyph).unwrap_or(0);
-    let [a, b] = requested_flags(hinting, component.flags).to_be_bytes();
-    let [c, d] = number.to_be_bytes();
-    out[at..at + ARGUMENTS].copy_from_slice(&[a, b, c, d]);
+    put_number(out, at, requested_flags(hinting, component.flags));
+    put_number(out, at + GLYPH_INDEX, number);
 }
 
 /// Removes the last `size` bytes, unless they are instructions, and requested.
