@@ -24,8 +24,10 @@ const STANDARD_NAMES: u16 = 258;
 const FIRST_CUSTOM: usize = STANDARD_NAMES as usize;
 /// How many own names have an index of 16 bits.
 const CUSTOM_MAX: usize = 65_278;
-/// From how many glyphs on the room of their names is counted before they are written, and not grown.
+/// From how many glyphs on the room of their names is counted before they are written, and not guessed.
 const MANY_GLYPHS: usize = 4096;
+/// How many bytes a name usually takes with its length byte: `uni0041`.
+const USUAL_NAME: usize = 8;
 
 /// Up to how many names for each kept glyph the place of each is kept, and not of every eighth.
 const DENSE: usize = 4;
@@ -66,36 +68,27 @@ fn write_indexes(w: &mut Writer, indexes: &[u16]) -> Result<(), Error> {
     Ok(())
 }
 
-/// Writes a name behind its length byte. A name has at most 255 bytes, as it came from behind such a byte.
-fn write_name(w: &mut Writer, name: &[u8]) -> Result<(), Error> {
-    w.write(&((name.len() % 256) as u8))?;
-    w.extend(name)?;
-    Ok(())
-}
-
 /// Writes the names that the indexes name, an empty one where none is there.
 fn write_names(w: &mut Writer, indexes: &[u16], names: &NameList<'_>) -> Result<(), Error> {
     for index in indexes {
         if *index >= STANDARD_NAMES {
             let place = usize::from(*index) - FIRST_CUSTOM;
-            write_name(w, names.name(place))?;
+            w.extend(names.entry(place))?;
         }
     }
     Ok(())
 }
 
-/// How many bytes the names take that the indexes name, where these are many; else 0, and room grows as they are written.
+/// How many bytes the names take that the indexes name, where these are many; else about how many.
 fn room_for_names(indexes: &[u16], names: &NameList<'_>) -> usize {
     if indexes.len() < MANY_GLYPHS {
-        return 0;
+        return count_custom(indexes).saturating_mul(USUAL_NAME);
     }
     let mut room: usize = 0;
     for index in indexes {
         if *index >= STANDARD_NAMES {
             let place = usize::from(*index) - FIRST_CUSTOM;
-            room = room
-                .saturating_add(names.name(place).len())
-                .saturating_add(1);
+            room = room.saturating_add(names.entry(place).len());
         }
     }
     room
