@@ -11,7 +11,7 @@ in order and with spread ones in a jumbled order. The programs, which time a cal
     generated the crate of bindings/rust as Cargo builds it
     crate     the Rust crate subsetter 0.2.6
     harfbuzz  HarfBuzz with a face that is preprocessed before the clock starts
-    plain     HarfBuzz with the face as it is
+    plain     HarfBuzz with the face made of the font's bytes in each call
     fonttools fontTools, from the bytes of the source to those of the new font; one call, of at most N glyphs (--most; 2000)
     floor     a copy of the output's bytes, and their sum
 
