@@ -27,7 +27,8 @@ LENGTH = 600
 BEFORE = 3
 
 STAND_IN = """#!/bin/bash
-n=$(cat "$0.calls" 2> /dev/null || echo 0)
+n=0
+[ -f "$0.calls" ] && read -r n < "$0.calls"
 echo $((n + 1)) > "$0.calls"
 read -r font index glyphs count out < "$2"
 times=({times})
