@@ -30,7 +30,6 @@ pub fn loca_offset(loca: &[u8], long: bool, index: usize) -> Option<usize> {
 }
 
 /// Appends the entry of an offset.
-#[inline(always)]
 pub fn write_offset(loca: &mut Vec<u8>, long: bool, offset: usize) -> Result<(), Error> {
     if long {
         let [_, _, _, _, a, b, c, d] = (offset as u64).to_be_bytes();
