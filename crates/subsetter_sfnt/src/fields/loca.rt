@@ -35,7 +35,6 @@ pub fn loca_offset(loca: &[u8], long: bool, index: usize) -> Option<usize>
 }
 
 /// Appends the entry of an offset.
-#[inline(always)]
 pub fn write_offset(loca: &mut Vec<u8>, long: bool, offset: usize) -> Result<(), Error>
     ensures ok { OnOk result (loca.new.items ≡ loca.old.items ++ offset_bytes long offset) }
     ensures err { IfErr result (λ e. e ≡ OutOfMemory) }
