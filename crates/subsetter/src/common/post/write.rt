@@ -28,10 +28,8 @@ const STANDARD_NAMES: u16 = 258;
 const FIRST_CUSTOM: usize = STANDARD_NAMES as usize;
 /// How many own names have an index of 16 bits.
 const CUSTOM_MAX: usize = 65_278;
-/// From how many glyphs on the room of their names is counted before they are written, and not guessed.
+/// From how many glyphs on the room of their names is counted before they are written, though not the offset of each is kept.
 const MANY_GLYPHS: usize = 4096;
-/// How many bytes a name usually takes with its length byte: `uni0041`.
-const USUAL_NAME: usize = 8;
 
 /// Up to how many names for each kept glyph the place of each is kept, and not of every eighth.
 const DENSE: usize = 4;
@@ -95,16 +93,17 @@ fn write_names(w: &mut Writer, indexes: &[u16], names: &NameList<'_>) -> Result<
     Ok(())
 }
 
-/// How many bytes the names take that the indexes name, where these are many; else about how many.
+/// How many bytes the names take that the indexes name, where these are many or that is found soon; else 0, and room grows as they
+/// are written.
 fn room_for_names(indexes: &[u16], names: &NameList<'_>) -> usize {
-    if indexes.len() < MANY_GLYPHS {
-        return count_custom(indexes).saturating_mul(USUAL_NAME);
+    if indexes.len() < MANY_GLYPHS && !names.is_dense() {
+        return 0;
     }
     let mut room: usize = 0;
     for index in indexes {
         if *index >= STANDARD_NAMES {
             let place = usize::from(*index) - FIRST_CUSTOM;
-            room = room.saturating_add(names.entry(place).len());
+            room = room.saturating_add(names.entry_len(place));
         }
     }
     room

@@ -192,4 +192,26 @@ impl<'a> NameList<'a> {
         let at = skip(bytes, 0, count);
         first_entry(&bytes[at..])
     }
+
+    /// Whether the offset of every name is kept.
+    pub(crate) fn is_dense(&self) -> bool {
+        self.is_dense
+    }
+
+    /// An offset that is kept, 0 where there is none.
+    fn mark(&self, place: usize) -> usize {
+        match self.marks.get(place) {
+            Some(mark) => *mark as usize,
+            None => 0,
+        }
+    }
+
+    /// How many bytes the name with a number takes with its length byte. It isn't looked at where every offset is kept.
+    pub(crate) fn entry_len(&self, number: usize) -> usize {
+        if !self.is_dense {
+            return self.entry(number).len();
+        }
+        let behind = self.mark(number.saturating_add(1));
+        behind.saturating_sub(self.mark(number))
+    }
 }
