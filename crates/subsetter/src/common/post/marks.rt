@@ -246,11 +246,6 @@ impl<'a> NameList<'a> {
         first_entry(&bytes[at..])
     }
 
-    /// Whether the offset of every name is kept.
-    pub(crate) fn is_dense(&self) -> bool {
-        self.is_dense
-    }
-
     /// An offset that is kept, 0 where there is none.
     fn mark(&self, place: usize) -> usize {
         match self.marks.get(place) {

@@ -28,7 +28,7 @@ const STANDARD_NAMES: u16 = 258;
 const FIRST_CUSTOM: usize = STANDARD_NAMES as usize;
 /// How many own names have an index of 16 bits.
 const CUSTOM_MAX: usize = 65_278;
-/// From how many glyphs on the room of their names is counted before they are written, though not the offset of each is kept.
+/// From how many glyphs on the room of their names is counted before they are written, and not grown.
 const MANY_GLYPHS: usize = 4096;
 
 /// Up to how many names for each kept glyph the place of each is kept, and not of every eighth.
@@ -93,10 +93,9 @@ fn write_names(w: &mut Writer, indexes: &[u16], names: &NameList<'_>) -> Result<
     Ok(())
 }
 
-/// How many bytes the names take that the indexes name, where these are many or that is found soon; else 0, and room grows as they
-/// are written.
+/// How many bytes the names take that the indexes name, where these are many; else 0, and room grows as they are written.
 fn room_for_names(indexes: &[u16], names: &NameList<'_>) -> usize {
-    if indexes.len() < MANY_GLYPHS && !names.is_dense() {
+    if indexes.len() < MANY_GLYPHS {
         return 0;
     }
     let mut room: usize = 0;
