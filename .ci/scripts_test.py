@@ -3,7 +3,8 @@
 
 - each answers `--help` with what it compares and when its status is 1, starts no program for that, and leaves no file;
 - README.md has one row for each, with its question;
-- what is only imported is in lib/, which each script puts on its path in one way; none imports another, but tests; C is in drivers/.
+- what is only imported is in lib/, which each script puts on its path in one way; none imports another, but tests; C is in drivers/;
+- where `rt` can't prove a crate a script ends, and takes no program of an earlier build.
 
 It prints a line for each fault, and the status is 1 where there is one, or a plant gets through."""
 import concurrent.futures
@@ -141,9 +142,29 @@ def moved(room):
     return [f"GOT THROUGH: {it}" for it in wanted if it not in found]
 
 
+# The statuses with which `rt VERB` may end.
+ENDS = {"run": (0, 2), "test": (0,), "lib": (0,)}
+
+
+def faults_of_builds(root):
+    """What is wrong with how a script goes on behind `rt`."""
+    faults = []
+    for verb, status in ((verb, status) for verb in ENDS for status in range(4)):
+        stand_in = os.path.join(root, "rt-stand-in")
+        with open(stand_in, "w", encoding="utf-8") as file:
+            file.write(f"#!/bin/sh\nexit {status}\n")
+        os.chmod(stand_in, 0o755)
+        words = [sys.executable, "-c", f"import build; build.rt('dev_bench', {verb!r}); print('went on')"]
+        ran = subprocess.run(words, cwd=os.path.join(root, "compare", "lib"), env={**os.environ, "RT": stand_in}, capture_output=True, text=True)
+        os.unlink(stand_in)
+        if (ran.stdout == "went on\n") != (status in ENDS[verb]):
+            faults.append(f"compare/lib/build.py: rt {verb} that ends with {status}: {ran.stdout + ran.stderr}")
+    return faults
+
+
 def main():
     with planted.copy() as room:
-        faults = faults_of(room)
+        faults = faults_of(room) + faults_of_builds(room)
         if faults:
             print("\n".join(faults))
             sys.exit(f"scripts_test: {len(faults)} faults as it is")

@@ -20,8 +20,11 @@ BENCH, FONT, PARTS = built("dev_bench"), built("subset_font"), built("dev_parts"
 
 
 def rt(crate, verb="run"):
-    """Proves and builds a crate. `run` runs its program without arguments, which may print its usage and end with status 2."""
-    subprocess.run([os.environ.get("RT", "rt"), verb], cwd=os.path.join(ROOT, "crates", crate), stdout=subprocess.DEVNULL)
+    """Proves and builds a crate. `run` runs its program without arguments, which may print its usage and end with status 2. Where `rt` fails
+    the script ends: a program of an earlier build is another program."""
+    done = subprocess.run([os.environ.get("RT", "rt"), verb], cwd=os.path.join(ROOT, "crates", crate), stdout=subprocess.DEVNULL)
+    if done.returncode not in ((0, 2) if verb == "run" else (0,)):
+        sys.exit(f"{os.path.basename(sys.argv[0])}: rt {verb} of {crate} ended with {done.returncode}")
 
 
 def program(path):
