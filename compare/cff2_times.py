@@ -127,6 +127,8 @@ def main():
     if not given.no_build:
         fonts.install([*cff2_runs.PACKAGES, "libharfbuzz-dev", "time"])
         bench.build_drawing()
+        if given.bench == build.BENCH:
+            build.rt("dev_bench")
     build.program(given.bench)
     rows, missing = rows_of(given)
     print(f"Commit {font_at.commit()}; {font_at.versions()}; {given.turns} turns of {given.calls} calls, {os.cpu_count()} cores under a load of {load:.1f}.\n")

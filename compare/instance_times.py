@@ -111,6 +111,7 @@ def main():
     if not words.no_build:
         fonts.install([*font_at.PACKAGES, "libharfbuzz-dev"])
         bench.build_drawing()
+        build.rt("dev_bench")
     build.program(build.BENCH)
     print(f"Commit {font_at.commit()}; {font_at.versions()}; {words.turns} turns, {os.cpu_count()} cores under a load of {os.getloadavg()[0]:.1f}.\n")
     head = ["Font", "Glyphs", "Port (µs)", "HarfBuzz (µs)", "Ratio to HarfBuzz", "fontTools (ms)", "Ratio to fontTools", "Memory (bytes)",
