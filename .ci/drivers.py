@@ -4,8 +4,8 @@
 drivers.py [--crates FOLDER]
 
 The hash that dev_bench prints is compared with one of the published algorithm (FNV-1a of 64 bits), the bytes that it writes
-with those of the program subset_font, and an instance with what dev_parts has stored. The last line is `drivers: N rows,
-M differ`, and the status 1 where one differs.
+with those of the program subset_font, and an instance with what dev_parts has stored; one of outlines in CFF2 is subset by subset_font,
+which has to make the same of the source at the coordinates. The last line is `drivers: N rows, M differ`, and the status 1 where one differs.
 """
 import argparse
 import os
@@ -69,6 +69,15 @@ class Rows:
         holds = made[0] == status == 0 and err == "" and self.is_measured(out.rstrip("\n"), wanted) and self.take("out.ttf") == wanted
         self.demand(holds, words, (status, out, err))
 
+    def measures_cff2(self, words, at):
+        """A task that writes an instance whose subset is what subset_font makes of the source at the same coordinates."""
+        font, index, glyphs, *_ = words.split()
+        made = self.run("subset_font", f"--quiet --at {at} {font} wanted.ttf {index} {glyphs}")
+        status, out, err = self.run("dev_bench", words)
+        again = self.run("subset_font", f"--quiet out.ttf again.ttf 0 {glyphs}")
+        holds = made[0] == status == again[0] == 0 and err == "" and self.is_measured(out.rstrip("\n"), self.take("out.ttf"))
+        self.demand(holds and self.take("again.ttf") == self.take("wanted.ttf"), words, (status, out, err))
+
     def ends(self, name, words, wanted):
         got = self.run(name, words)
         self.demand(got == wanted, f"{name} {words}", got)
@@ -93,6 +102,12 @@ def check_bench(rows, stored):
                 and rows.is_measured(lines[1], rows.take("wanted.ttf")), "a list of tasks", (status, out, err))
     status, out, err = rows.run("dev_bench", "variable.ttf 0 1-3 1 out.ttf wght=42598400")
     rows.demand(status == 0 and rows.is_measured(out.rstrip("\n"), stored) and rows.take("out.ttf") == stored, "an instance", (status, out, err))
+    # (outlines of CFF2: at a location, at the default, and without axes, where any coordinates are those of the default)
+    rows.measures_cff2("square.ttf 0 1 3 out.ttf wght=42598400", "wght=650")
+    rows.measures_cff2("square.ttf 0 0,1 1 out.ttf wght=26214400", "wght=400")
+    rows.measures_cff2("static.ttf 0 1 1 out.ttf wght=0", "wght=0")
+    rows.ends("dev_bench", "square.ttf 0 1 1", (0, "error unsupported feature in font\n", ""))
+    rows.ends("dev_bench", "square.ttf 0 2 1 out.ttf wght=0", (0, "error malformed font\n", ""))
 
 
 def check_parts(rows):
@@ -129,7 +144,8 @@ def main():
         variable = file.read()
     with tempfile.TemporaryDirectory(prefix="drivers-") as room:
         rows = Rows(crates, room)
-        for name, font in (("six", made_fonts.FONTS["six"]), ("faces", made_fonts.TWO_FACES), ("variable", variable)):
+        for name, font in (("six", made_fonts.FONTS["six"]), ("faces", made_fonts.TWO_FACES), ("variable", variable),
+                           ("square", made_fonts.FONTS["cff2_square"]), ("static", made_fonts.FONTS["cff2_static"])):
             running.put(room, f"{name}.ttf", font)
         check_bench(rows, stored)
         check_parts(rows)

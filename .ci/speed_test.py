@@ -13,7 +13,7 @@ sys.dont_write_bytecode = True
 
 import planted  # noqa: E402
 
-SPEED, GOALS, TABLES, FIGURES = "compare/speed.py", "compare/lib/goals.py", "compare/lib/speed_figures.py", "compare/lib/figures.py"
+SPEED, BENCH, GOALS, TABLES, FIGURES = "compare/speed.py", "compare/lib/bench.py", "compare/lib/goals.py", "compare/lib/speed_figures.py", "compare/lib/figures.py"
 FONT = "bindings/rust/tests/data/made.ttf"
 NAMES = ["port", "generated", "crate", "harfbuzz", "plain", "fonttools", "floor"]
 # The rows of that font, and the times of its programs: of the port one for each run, whose median isn't the mean, nor the first or last.
@@ -219,17 +219,17 @@ def tested(room, parts):
 
 PLANTS = [
     ("the first run counts", SPEED, "round(statistics.median(self.times[name]))", "round(self.times[name][0])", check_rows),
-    ("the mean of the runs", SPEED, "return statistics.median(one / two", "return statistics.mean(one / two", check_rows),
+    ("the mean of the runs", BENCH, "return statistics.median(one / other", "return statistics.mean(one / other", check_rows),
     ("a part of another program", SPEED, "row.part('port', 'harfbuzz')", "row.part('port', 'plain')", check_rows),
     ("parts the other way round", SPEED, "row.part('generated', 'port')", "row.part('port', 'generated')", check_rows),
     ("memory without the output", SPEED, "(os.path.getsize(self.path) + self.lengths[name])", "os.path.getsize(self.path)", check_rows),
     ("memory with what a run without a font holds", SPEED, 'bench.above_no_font(programs[name], [*row.task(), 1], room, counted=True)', 'bench.run(programs[name], [*row.task(), 1], room, counted=True)[1]', check_rows),
     ("one run", SPEED, "for k in range(given.runs):", "for k in range(1):", check_rows),
-    ("the medians, not the least times", SPEED, "return int(said[2]), int(said[3])", "return int(said[1]), int(said[3])", check_rows),
+    ("the medians, not the least times", SPEED, "else got[1:]", "else (got[0], got[2])", check_rows),
     ("the floor of no output", SPEED, '[os.path.join(room, "port")] if name == "floor"', '[] if name == "floor"', None),
     ("the crate's bytes aren't compared", SPEED, 'for name in SUBSETTERS if made[name] != made["port"]', 'for name in SUBSETTERS[:2] if made[name] != made["port"]', check_refusals),
     ("no bytes are compared", SPEED, "    if wrong:\n", "    if False:\n", check_refusals),
-    ("a refused font counts", SPEED, '    if ran.returncode != 0 or said[:1] != ["ok"]:\n', '    if said[:1] != ["ok"]:\n        return 1, 1\n    if ran.returncode != 0:\n', check_refusals),
+    ("a refused font counts", BENCH, '    if ran.returncode != 0 or said[:1] != ["ok"]:\n', '    if said[:1] != ["ok"]:\n        return 1, 1, 1\n    if ran.returncode != 0:\n', check_refusals),
     ("no row is no fault", SPEED, '    if not rows:\n        stop("no row")\n', '    if not rows:\n        sys.exit(0)\n', check_refusals),
     ("a program that is missing", SPEED, '            stop(f"no {path}")\n    return found', '            pass\n    return found', check_refusals),
     ("fontTools takes all", SPEED, "row.count <= given.most and", "True or", check_fonttools),

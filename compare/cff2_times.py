@@ -1,27 +1,27 @@
 #!/usr/bin/python3
-"""How long subsets of CFF2 fonts at coordinates take beside HarfBuzz, which draws the same glyphs; and what memory they take.
+"""How long instances of CFF2 fonts take beside HarfBuzz, which draws the same glyphs at the same location; and what memory they take.
 
     compare/cff2_times.py [FOLDER ..] [--turns N] [--calls N] [--only WORD] [--bench FILE] [--no-build] [--results FOLDER] [--any-machine]
 
-It needs dev_bench (`rt run` builds it in crates/dev_bench; --bench names another), libharfbuzz-dev, python3-fonttools and time. Of Cantarell-VF.otf,
-which a FOLDER has to have, it takes 80 and all 1,322 glyphs; of large.otf (compare/cff2_fonts.py makes it in build/cff2) 80, 2,000 and
-all glyphs; of other CFF2 fonts 80, or all that there are. Glyphs are spread and jumbled (all of them in order), the location is
-random, and the same in each run.
+It needs dev_bench (`rt run` builds it in crates/dev_bench; --bench names another), libharfbuzz-dev, python3-fonttools, python3-freetype
+and time. Of Cantarell-VF.otf, which a FOLDER has to have, it takes 80 and all 1,322 glyphs; of large.otf (compare/cff2_fonts.py makes it
+in build/cff2) 80, 2,000 and all glyphs; of other CFF2 fonts 80, or all that there are. Glyphs are spread and jumbled (all of them in
+order), the location is random, and the same in each run.
 
 The port and HarfBuzz take turns, N calls each (5), N times (12), of which the median counts; the ratio is the median of those of the turns. Each
 turn goes through all rows, so that a slow second of the machine falls on no row alone. A call of the port reads the opened file's bytes
-and gives a font; one of HarfBuzz sets the coordinates and draws. Memory is the bytes that dev_bench requests at most (peak.c), less
-those of a run with a font of no bytes, and the same of what the process holds (RSS).
+and gives the static font that `cff_instance` answers, in which the other glyphs are empty (its subset isn't made); one of HarfBuzz sets
+the coordinates and draws. Memory is the bytes that dev_bench requests at most (peak.c), less those of a run with a font of no bytes, and
+the same of what the process holds (RSS).
 
 The status is 1 where a row of Cantarell-VF takes more than HarfBuzz, one of another font more than HarfBuzz and 5 ms, or one requests more memory than
-the source, three times the new font, 32 bytes for each of the source's glyphs and 1 MB; or where a font is missing. The load of the
-machine is printed; where it is above 1 at the start the times aren't taken, unless --any-machine.
+the source, three times the new font, 32 bytes for each of the source's glyphs and 1 MB; where the port or HarfBuzz refuses a font; or
+where a font is missing. The load of the machine is printed; where it is above 1 at the start the times aren't taken, unless --any-machine.
 """
 import argparse
 import os
 import random
 import statistics
-import subprocess
 import sys
 import tempfile
 
@@ -59,40 +59,31 @@ class Row:
         at = variable.place_of(tables, [(tag.encode("latin-1"), value) for tag, value in place])
         # (all of them are a range: a list is too long for HarfBuzz's driver)
         every = fonts.spread(self.glyphs, self.count) if self.count < self.glyphs else f"0-{self.glyphs - 1}"
-        self.settings = [f"{tag}={value % 2 ** 32}" for tag, value in place]
-        self.task, self.at = [path, "0", every], list(map(str, at))
-        self.ours, self.theirs, self.length = [], [], 0
+        # (without coordinates dev_bench makes a subset; of a font without axes any are those of the default)
+        self.settings = [f"{tag}={value % 2 ** 32}" for tag, value in place] or ["wght=0"]
+        self.glyph_list, self.at = every, list(map(str, at))
+        self.ours, self.theirs, self.length, self.refused = [], [], 0, ""
         self.calls = given.calls
 
+    def task(self, calls, room):
+        """The words of dev_bench."""
+        return [self.path, "0", self.glyph_list, str(calls), os.path.join(room, "out"), *self.settings]
+
     def turn(self, program, draw, room):
-        """A turn of both."""
-        # (behind the file's name, as dev_bench takes it)
-        line = run(program, [*self.task, str(self.calls), os.path.join(room, "out"), *self.settings], room)
-        self.ours.append(line[0])
-        self.length = line[1]
-        self.theirs.append(run_words([draw, self.path, self.task[2], str(self.calls), *self.at])[0])
+        """A turn of both; none any more where one of them refuses the font."""
+        if self.refused:
+            return
+        ours = bench.times_of(bench.listed(program, self.task(self.calls, room), room))
+        theirs = bench.times_of([draw, self.path, self.glyph_list, str(self.calls), *self.at])
+        self.refused = "; ".join(f"{name}: {it}" for name, it in (("port", ours), ("HarfBuzz", theirs)) if isinstance(it, str))
+        if not self.refused:
+            self.ours.append(ours[0])
+            self.theirs.append(theirs[0])
+            self.length = ours[2]
 
     def memory(self, program, room):
         """The bytes that a run requests at most, and the KiB that it holds, each above those of a run without a font."""
-        task = [*self.task, "1", os.path.join(room, "out"), *self.settings]
-        return [bench.above_no_font(program, task, room, counted) for counted in (True, False)]
-
-
-def run_words(words):
-    """The median of a driver's calls in nanoseconds, and the length that it says."""
-    ran = subprocess.run(words, stdout=subprocess.PIPE, stderr=subprocess.PIPE, text=True)
-    line = ran.stdout.split()
-    if ran.returncode or line[:1] != ["ok"]:
-        sys.exit(f"cff2_times.py: {' '.join(words)[:200]}: status {ran.returncode}, {ran.stdout.strip()}")
-    return int(line[1]), int(line[3])
-
-
-def run(program, task, room):
-    """The same of dev_bench. (A list of all glyphs is too long for a word of a command.)"""
-    path = os.path.join(room, "tasks")
-    with open(path, "w") as file:
-        file.write(" ".join(task) + "\n")
-    return run_words([program, "--list", path])
+        return [bench.above_no_font(program, self.task(1, room), room, counted) for counted in (True, False)]
 
 
 def rows_of(given):
@@ -107,9 +98,10 @@ def rows_of(given):
 
 
 def judged(row, program, room):
-    """The cells of a row, and whether it keeps within its bounds."""
-    ours, theirs = statistics.median(row.ours), statistics.median(row.theirs)
-    ratio = statistics.median(one / other for one, other in zip(row.ours, row.theirs))
+    """The cells of a row, and whether it is past a bound."""
+    if row.refused:
+        return [row.name, row.count, row.refused, *[""] * (len(HEAD) - 3)], True
+    ours, theirs, ratio = statistics.median(row.ours), statistics.median(row.theirs), bench.median_part(row.ours, row.theirs)
     held, rss = row.memory(program, room)
     may = row.size + 3 * row.length + A_GLYPH * row.glyphs + IN_ALL
     slow = ratio > BESIDE_HARFBUZZ if row.name == REAL else ours > theirs + LATER
@@ -128,14 +120,16 @@ def main():
     parser.add_argument("--results", metavar="FOLDER", help="write the figures there as CSV")
     parser.add_argument("--any-machine", action="store_true", help="take times under a load, too")
     given = parser.parse_args()
-    if not given.no_build:
-        fonts.install([*cff2_runs.PACKAGES, "libharfbuzz-dev", "time"])
-        build.gcc("harfbuzz_draw.c", "-I/usr/include/harfbuzz", "-lharfbuzz", to="harfbuzz_draw")
-        build.preload("peak.c", to="peak.so")
-    build.program(given.bench)
+    # (what is built below is a load, too)
     load = os.getloadavg()[0]
     if load > QUIET and not given.any_machine:
         sys.exit(f"cff2_times.py: a load of {load:.1f}: other programs use the machine")
+    if not given.no_build:
+        fonts.install([*cff2_runs.PACKAGES, "libharfbuzz-dev", "time"])
+        bench.build_drawing()
+        if given.bench == build.BENCH:
+            build.rt("dev_bench")
+    build.program(given.bench)
     rows, missing = rows_of(given)
     print(f"Commit {font_at.commit()}; {font_at.versions()}; {given.turns} turns of {given.calls} calls, {os.cpu_count()} cores under a load of {load:.1f}.\n")
     print("|", " | ".join(HEAD), "|\n|" + "---|" * len(HEAD))
@@ -143,18 +137,16 @@ def main():
     with tempfile.TemporaryDirectory(prefix="times-") as room:
         for _ in range(given.turns):
             for row in rows:
-                row.turn(given.bench, os.path.join(build.BUILD, "harfbuzz_draw"), room)
+                row.turn(given.bench, bench.DRAW, room)
         for row in rows:
             cells, past = judged(row, given.bench, room)
             missed += past
-            lines.append(cells)
+            lines.append(dict(zip(HEAD, cells)))
             print("|", " | ".join(map(str, cells)), "|" + " missed" * past, flush=True)
     print("".join(f"\n{name} is missing" for name in missing))
     print(f"{len(lines)} rows, {missed} past their bound.")
-    if given.results:
-        with open(os.path.join(given.results, "cff2_times.csv"), "w") as file:
-            file.write(f"# compare/cff2_times.py, commit {font_at.commit()}\n" + ",".join(HEAD) + "\n")
-            file.write("".join(",".join(map(str, line)) + "\n" for line in lines))
+    if given.results and lines:
+        bench.write_figures(os.path.join(given.results, "cff2_times.csv"), lines)
     sys.exit(1 if missed or missing or not lines else 0)
 
 

@@ -23,6 +23,7 @@ import time
 
 sys.path.insert(0, os.path.join(os.path.dirname(os.path.realpath(__file__)), "lib"))
 
+import bench  # noqa: E402
 import build  # noqa: E402
 import font_at  # noqa: E402
 import fonts  # noqa: E402
@@ -49,7 +50,7 @@ def memory(words, room):
     open(empty, "wb").close()
     for path in (words[1], empty):
         peak = os.path.join(room, "peak")
-        env = {"PATH": os.environ["PATH"], "LD_PRELOAD": os.path.join(build.BUILD, "peak.so"), "PEAK": peak}
+        env = {"PATH": os.environ["PATH"], "LD_PRELOAD": bench.COUNTER, "PEAK": peak}
         subprocess.run([words[0], path, *words[2:]], stdout=subprocess.DEVNULL, env=env, check=True)
         with open(peak) as file:
             peaks.append(int(file.read()))
@@ -82,7 +83,7 @@ def tasks_of(path, words, room):
         count = min(count, len(source.names))
         glyphs = fonts.spread(len(source.names), count)
         port = [build.BENCH, *instance_read.words_of(path, glyphs.split(","), os.path.join(room, "out"), place)]
-        draw = [os.path.join(build.BUILD, "harfbuzz_draw"), path, glyphs, "1", *map(str, at)]
+        draw = [bench.DRAW, path, glyphs, "1", *map(str, at)]
         yield count, port, draw, whole
 
 
@@ -95,7 +96,7 @@ def rows_of(paths, words, room):
             ours[k].append(said(port)[0])
             theirs[k].append(said(draw)[0])
     for k, (path, count, port, _, whole) in enumerate(tasks):
-        ratio = statistics.median(one / other for one, other in zip(ours[k], theirs[k]))
+        ratio = bench.median_part(ours[k], theirs[k])
         yield os.path.basename(path), count, statistics.median(ours[k]), statistics.median(theirs[k]), ratio, whole, memory(port, room), said(port)[1], os.path.getsize(path)
 
 
@@ -109,8 +110,8 @@ def main():
     words = parser.parse_args()
     if not words.no_build:
         fonts.install([*font_at.PACKAGES, "libharfbuzz-dev"])
-        build.gcc("harfbuzz_draw.c", "-I/usr/include/harfbuzz", "-lharfbuzz", to="harfbuzz_draw")
-        build.preload("peak.c", to="peak.so")
+        bench.build_drawing()
+        build.rt("dev_bench")
     build.program(build.BENCH)
     print(f"Commit {font_at.commit()}; {font_at.versions()}; {words.turns} turns, {os.cpu_count()} cores under a load of {os.getloadavg()[0]:.1f}.\n")
     head = ["Font", "Glyphs", "Port (µs)", "HarfBuzz (µs)", "Ratio to HarfBuzz", "fontTools (ms)", "Ratio to fontTools", "Memory (bytes)",

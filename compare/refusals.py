@@ -37,8 +37,8 @@ from refused import CALLS, REFUSE, demand, each_refusal, gives_back, put, run, t
 NO_MEMORY = b"error out of memory\n"
 
 
-# Simple glyphs and a composite, which vary by one axis.
-VARIABLE = os.path.join(build.ROOT, "crates", "dev_parts", "data", "variable.ttf")
+# Simple glyphs and a composite, and outlines in `CFF2`, which vary by one axis.
+VARIABLE, SQUARE = (os.path.join(build.ROOT, "crates", "dev_parts", "data", name) for name in ("variable.ttf", "square.otf"))
 BENCH, FONT, TESTS = build.BENCH, build.FONT, build.built("dev_subset_tests", "dev_subset_tests_tests")
 
 
@@ -347,10 +347,11 @@ def check_library(cases, room):
         count = check_subset(name, put(room, "font", data), glyphs, room)
         print(f"subset, {name}: {count} requests refused")
         refused += count
-    with open(VARIABLE, "rb") as file:
-        count = check_subset("an instance", put(room, "font", file.read()), "1,2,3", room, ["wght=42598400"])
-    print(f"instance: {count} requests refused")
-    refused += count
+    for name, path, glyphs in (("instance", VARIABLE, "1,2,3"), ("instance of CFF2", SQUARE, "0,1")):
+        with open(path, "rb") as file:
+            count = check_subset(f"an {name}", put(room, "font", file.read()), glyphs, room, ["wght=42598400"])
+        print(f"{name}: {count} requests refused")
+        refused += count
     count = check_mapper(room)
     print(f"the calls of a mapper: {count} requests refused")
     print(f"without memory: {check_without_memory(room)} fonts are refused as ever, and the calls that take none answer")

@@ -29,11 +29,8 @@ It needs what run.py needs, and fontTools. The status is 1 where there is no row
 a program but fontTools refuses a font, or where the port's bytes aren't those of both crates; a goal that is missed leaves it 0.
 """
 import argparse
-import csv
-import io
 import os
 import statistics
-import subprocess
 import sys
 import tempfile
 
@@ -81,14 +78,8 @@ def programs_of(given):
 
 def answer(program, words, room):
     """The least time in nanoseconds and the output's length; the line of a font that is refused."""
-    name = os.path.join(room, "list")
-    with open(name, "w") as file:
-        file.write(" ".join(map(str, words)) + "\n")
-    ran = subprocess.run([program, "--list", name], stdout=subprocess.PIPE, stderr=subprocess.DEVNULL, text=True)
-    said = ran.stdout.split()
-    if ran.returncode != 0 or said[:1] != ["ok"]:
-        return ran.stdout.strip() or f"died with {ran.returncode}"
-    return int(said[2]), int(said[3])
+    got = bench.times_of(bench.listed(program, words, room))
+    return got if isinstance(got, str) else got[1:]
 
 
 # ---- rows
@@ -114,7 +105,7 @@ class Row:
 
     def part(self, name, other):
         """The median of the runs' parts of another program's time."""
-        return statistics.median(one / two for one, two in zip(self.times[name], self.times[other]))
+        return bench.median_part(self.times[name], self.times[other])
 
     def held_part(self, name):
         """What a program holds, as a part of the source and the output."""
@@ -240,21 +231,6 @@ def growth_cells_of(row):
     return cells | {"port held of source and output": f"{row.held_part('port'):.3f}"}
 
 
-def as_csv(rows):
-    """Rows as a file of compare/results: a stamp, a head, and the rows."""
-    text = io.StringIO()
-    text.write(f"# {stamp()}\n")
-    writer = csv.DictWriter(text, list(rows[0]), lineterminator="\n")
-    writer.writeheader()
-    writer.writerows(rows)
-    return text.getvalue()
-
-
-def stamp():
-    commit, changed = build.commit()
-    return f"compare/speed.py {' '.join(sys.argv[1:])}, commit {commit}{' with changes' if changed else ''}, {os.cpu_count()} cores"
-
-
 def report(cells):
     """What is printed of the rows: how many there are, the goals, and those that miss theirs."""
     wrong = goals.missed(cells)
@@ -319,8 +295,7 @@ def main():
     cells = [(growth_cells_of if given.growth else cells_of)(row) for row in rows]
     if given.results:
         name = "growth.csv" if given.growth else "speed.csv"
-        with open(os.path.join(given.results, name), "w", encoding="utf-8") as file:
-            file.write(as_csv(cells))
+        bench.write_figures(os.path.join(given.results, name), cells, *sys.argv[1:])
     print((growth_report if given.growth else report)(cells))
 
 

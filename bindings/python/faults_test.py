@@ -11,19 +11,13 @@ import sys
 import tempfile
 import textwrap
 
+from checks import Checks
+
 HERE = os.path.dirname(os.path.abspath(__file__))
 # With --installed it's the module that is installed, and not the one of this folder.
 INSTALLED = "--installed" in sys.argv[1:]
 DATA = os.path.join(HERE, "..", "rust", "tests", "data")
-failures, checks = [], 0
-
-
-def check(holds, what):
-    global checks
-    checks += 1
-    if not holds:
-        failures.append(what)
-        print("FAILED:", what)
+check = Checks()
 
 
 def child(program, **more):
@@ -364,8 +358,8 @@ def main():
     check_interpreters()
     check_forked()
     check_twice()
-    print(f"faults: {checks} checks, {len(failures)} failed")
-    return bool(failures) or checks < 8
+    print(f"faults: {check.count} checks, {len(check.failed)} failed")
+    return bool(check.failed) or check.count < 8
 
 
 if __name__ == "__main__":

@@ -22,6 +22,9 @@ import threading
 import time
 import types
 
+# (it is in this folder, which leaves the path)
+from checks import Checks
+
 HERE = os.path.dirname(os.path.abspath(__file__))
 BUILT = os.path.join(HERE, "..", "c", "out", "libsubsetter.so")
 # With --installed it's the module that is installed, and not the one of this folder.
@@ -35,15 +38,7 @@ FOUND = os.path.dirname(os.path.dirname(os.path.abspath(subsetter.__file__)))
 
 ERRORS = [None, subsetter.UnknownKind, subsetter.MalformedFont, subsetter.Unimplemented, subsetter.SubsetError,
           subsetter.OverflowError, subsetter.CFFError, subsetter.OutOfMemory]
-failures, checks = [], 0
-
-
-def check(holds, what):
-    global checks
-    checks += 1
-    if not holds:
-        failures.append(what)
-        print("FAILED:", what)
+check = Checks()
 
 
 def raised(call, *arguments, **choices):
@@ -989,8 +984,8 @@ def main():
     check_other_threads(fonts)
     check_faults()
     print(f"Python: {check_pdf()}")
-    print(f"Python: {len(rows)} rows, {checks} checks, {len(failures)} failed")
-    return bool(failures) or len(rows) < 80 or checks < 350
+    print(f"Python: {len(rows)} rows, {check.count} checks, {len(check.failed)} failed")
+    return bool(check.failed) or len(rows) < 80 or check.count < 350
 
 
 if __name__ == "__main__":

@@ -161,7 +161,7 @@ COMPARISONS = [
                lines_like(r"Of \d+ damaged copies.*"), SUBSET + INSTANCE + CFF2 + PROGRAM, f"{DEBIAN} compare/cff2.py --damage 2000 {VARIABLE}"),
     Comparison("cff2, hostile", "How long does a hostile CFF2 font take, and what memory?", f"{DEBIAN} compare/cff2.py --hostile",
                lines_like(r"\d+ hostile CFF2 fonts, \d+ faults"), SUBSET + INSTANCE + CFF2 + PROGRAM, timed=True),
-    Comparison("cff2, times", "What do subsets of CFF2 fonts take beside HarfBuzz?", f"{DEBIAN} compare/cff2_times.py {VARIABLE} --results compare/results",
+    Comparison("cff2, times", "What do instances of CFF2 fonts take beside HarfBuzz's drawing?", f"{DEBIAN} compare/cff2_times.py {VARIABLE} --results compare/results",
                lines_like(r"\d+ rows, \d+ past their bound"), SUBSET + INSTANCE + CFF2 + BENCH, data=("cff2_times.csv",), timed=True),
     Comparison("javascript", "Does the WebAssembly answer the native library's bytes?", "node bindings/js/tests/compare.mjs --fonts 600 --copies 2500",
                lines_like(r"^\d+ (real fonts|damaged copies): \d+ done"), SUBSET + INSTANCE + JAVASCRIPT,

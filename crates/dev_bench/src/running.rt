@@ -4,7 +4,7 @@ ghost use Rattle.subsetter_sfnt.specs.FontAt.{font_at};
 ghost use Rattle.std.specs.Prelude.{◌≡◌, ◌≤◌, [], ◌∷◌, IfOk};
 ghost use Rattle.subsetter_sfnt.specs.Extras.{all_extras};
 ghost use Rattle.subsetter_base.specs.Indexes.{with_glyphs};
-ghost use Rattle.dev_bench.specs.Measured.{IsMeasured};
+ghost use Rattle.dev_bench.specs.Measured.{IsInstanceOf, IsMeasured};
 
 use crate::line::Done;
 use crate::task::{Task, read_task};
@@ -16,15 +16,33 @@ use std::io::Read;
 use std::rt::{Clock, Env, Files};
 use std::time::Instant;
 use std::{env, fs, io};
-use subsetter::{GlyphRemapper, subset};
+use subsetter::{GlyphRemapper, Limits, subset};
 use subsetter_base::{Error, Tag};
+use subsetter_cff_instance::cff_instance;
 use subsetter_instance::instance;
+use subsetter_variable::is_cff2_font;
 
 /// What the arguments are.
 const USAGE: &str = "usage: dev_bench FONT INDEX GLYPHS COUNT [OUT [TAG=VALUE ..]] | --list FILE";
 
 /// The steps that a glyph of an instance may take.
 const STEPS: u32 = 1_000_000;
+
+/// An instance of a font. Of outlines in `CFF2` alone it has outlines in `CFF `, each charstring within the default limits.
+fn make_instance(
+    alloc: Global,
+    font: &[u8],
+    index: u32,
+    settings: &[(Tag, i32)],
+    mapper: &GlyphRemapper,
+) -> Result<Vec<u8>, Error>
+    ensures { IfOk result (λ out. IsInstanceOf (font_at font.now index all_extras) settings.now mapper.now out.items) }
+{
+    if is_cff2_font(font, index) {
+        return cff_instance(alloc, font, index, settings, mapper, Limits::default());
+    }
+    instance(alloc, font, index, settings, mapper, STEPS)
+}
 
 /// The subset of a font, or where there are user coordinates an instance of it.
 fn make(
@@ -38,7 +56,7 @@ fn make(
 {
     match settings {
         [] => subset(alloc, font, index, mapper),
-        [_, ..] => instance(alloc, font, index, settings, mapper, STEPS),
+        [_, ..] => make_instance(alloc, font, index, settings, mapper),
     }
 }
 
