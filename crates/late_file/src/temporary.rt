@@ -74,7 +74,7 @@ pub fn make_beside<R: Files>(
     name: &str,
     old: Option<&Metadata>,
 ) -> io::Result<Option<Beside<R::File>>>
-    ensures new { IfOk result (λ found. IfSome found (λ made. old.entry ≡ None → made.is_fit ≡ true)) }
+    ensures fit { IfOk result (λ found. IfSome found (λ made. old.entry ≡ None → made.is_fit ≡ true)) }
     ensures err { IfErr result (λ e. lacks_room e ≡ true) }
 {
     for number in 0..TRIES {
