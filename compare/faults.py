@@ -15,7 +15,7 @@ message that names the file and the system's reason, OUT and the PDF as they wer
 Without --program it is the program that Cargo builds of bindings/rust. --part takes parts, --only the ways with this word in their names, and --skip
 leaves parts out by their names: `disk` mounts file systems (unshare), and `folders` runs the program as another user where it is started by root.
 Quotas can't be set everywhere: EDQUOT is injected. It prints what was done to which call, and how the runs ended. The status is 1 where a run ended in
-another way, where nothing was injected, and where what can't be otherwise (KNOWN) was otherwise.
+another way, and where nothing was injected.
 """
 import argparse
 import collections
@@ -69,7 +69,8 @@ def cargo_program():
 # ---- each call fails
 
 # The calls that a way has to make, of which some are in each C library.
-WANTED = {"a new OUT": [rules.READING, rules.WRITING[:1], ("fdatasync", "fsync"), rules.RENAMING, ("close",)], "OUT over a file": [("link", "linkat"), ("fchmod", "chmod", "fchmodat")]}
+WANTED = {"a new OUT": [rules.READING, rules.WRITING[:1], ("fdatasync", "fsync"), rules.RENAMING, ("close",)],
+          "OUT over a file": [("link", "linkat"), ("fchmod", "chmod", "fchmodat")], "OUT of another group": [rules.REMOVING]}
 
 
 def done_to(step):
@@ -98,6 +99,9 @@ class Base:
         table.demand(len(self.got.steps) - self.roles.first > 1, way.name, f"{len(self.got.steps)} calls, of which none is about a file")
         early = rules.early_name(room, self.got.steps)
         table.demand(early is None, way.name, f"{early} gets its name before its bytes are on the disk")
+        is_beside = self.roles.beside < len(self.got.steps)
+        table.demand(not (is_beside and (way.links or way.second_names)), way.name, "a file is made beside it")
+        table.demand(len(self.roles.looks) == len(way.written), way.name, f"what is looked at before it is written: {self.roles.looks}")
         for names in WANTED.get(way.name, []):
             table.demand(any(it.call in names for it in self.got.steps), way.name, f"there is no call of {' or '.join(names)}")
 
@@ -108,17 +112,6 @@ def shown(base, at, how, number):
     return f"{step.call} {names} (call {at + 1}), {how} {errno.errorcode.get(number, number) if how.startswith('error') else number}"
 
 
-# What ends in another way than docs/CLI.md has it, after which calls, and why it does.
-KNOWN = {
-    rules.NEW_FILE: (("statx", "newfstatat", "stat", "fstat"), "late_file takes a file of which nothing can be known (statx fails) for one that isn't there"),
-    rules.FILE_LEFT: (("unlink", "unlinkat"), "late_file makes a file beside one that it then writes in place, and says nothing where it can't remove that"),
-}
-
-
-def is_known(base, at, end):
-    return end in KNOWN and base.got.steps[at].call in KNOWN[end][0] and base.roles.role(at)[0] in ("read", "write")
-
-
 def judge(table, room, way, base, at, how, number):
     """Whether a run with something done to one call ends as it may."""
     is_start = at < base.roles.first
@@ -127,10 +120,9 @@ def judge(table, room, way, base, at, how, number):
     made, steps = [it.call for it in got.steps[:at + 1]], [it.call for it in base.got.steps[:at + 1]]
     if not table.demand(made == steps, what, f"another way to there: {made[-5:]}"):
         return
-    end = rules.ended(way, base.before, base.got, got, number)
-    if is_known(base, at, end):
-        table.note(base.got.steps[at].call, end)
-        return
+    # (until a file is cut it is as it was, also one that is written in place)
+    held = dataclasses.replace(way, in_place=way.in_place and at > base.roles.cut)
+    end = rules.ended(held, base.before, base.got, got, number)
     wanted = rules.allowed_from(base.roles, at, number, is_start) if how == "errors" else rules.allowed(base.roles, at, how, number, is_start)
     table.note(base.got.steps[at].call, end or "wrong")
     table.demand(end in wanted, what, f"{end} {got}, where it may end with {sorted(wanted)}")
@@ -248,19 +240,17 @@ def pages(room):
 
 def check_disk_of(table, room, way):
     base, unwritten = room.run_alone(way), {f"cannot write {it}" for it in way.written}
+    refused = {f"cannot write {way.written[0]}"}
     lay(room, way)
     taken, files, ends = pages(room), len(room.before) + 1, set()
     for more in range(18):
         options = f"size={4 * (taken + more)}k"
         ends.add(on_disk(table, room, way, base, options, "a disk with so many pages left", unwritten | {"whole"}))
     table.demand(ends == unwritten | {"whole"}, f"{way.name}: a disk with 0 to 17 pages left", f"it ends with {ends}")
-    on_disk(table, room, way, base, "ro", "a disk that may be read alone", {f"cannot write {way.written[0]}"})
-    on_disk(table, room, way, base, f"nr_inodes={files}", "a disk that takes no other file", {"whole"} if way.written[0] in room.before else unwritten)
-    # (then it is written in place: over its own pages, and a failed write may leave a part)
-    first = [files.get(way.written[0]) for files in (base.files, room.before)]
-    is_larger = first[1] is None or len(first[0].data) > len(first[1].data)
-    full_disk = f"nr_inodes={files},size={4 * taken}k"
-    on_disk(table, room, dataclasses.replace(way, in_place=True), base, full_disk, "a disk that takes no other file, and has no room", unwritten if is_larger else {"whole"})
+    on_disk(table, room, way, base, "ro", "a disk that may be read alone", refused)
+    # (the old file's own pages would do for some of these fonts: it isn't cut all the same)
+    on_disk(table, room, way, base, f"nr_inodes={files}", "a disk that takes no other file", refused)
+    on_disk(table, room, way, base, f"nr_inodes={files},size={4 * taken}k", "a disk that takes no other file, and has no room", refused)
 
 
 def check_disk(table, room, ways):
@@ -413,7 +403,7 @@ def check_streams(table, room, ways):
 # ---- all
 
 PARTS = {"start": check_start, "calls": check_calls, "signals": check_signals, "disk": check_disk, "folders": check_folders, "streams": check_streams}
-ENDS = ["whole", *KNOWN, "silent", "out of memory", "cannot read", "cannot write", "stopped", "ended by a signal", "otherwise"]
+ENDS = ["whole", "silent", "out of memory", "cannot read", "cannot write", "stopped", "ended by a signal", "otherwise"]
 
 
 def kind_of(end):
@@ -428,16 +418,6 @@ def print_table(table):
         for end, count in ends.items():
             counts[kind_of(end)] += count
         print(f"| {call} | {sum(counts.values())} | {' | '.join(str(counts[it]) for it in ENDS)} |")
-
-
-def check_known(table, parts, only):
-    """What is known to end otherwise has to, where all was run."""
-    seen = {end for ends in table.done.values() for end, count in ends.items() if count}
-    for end, (_, why) in KNOWN.items():
-        if end in seen:
-            print(f"Known: {sum(it[end] for it in table.done.values())} runs ended {end}: {why}.")
-        elif "calls" in parts and not only:
-            table.fault("known", f"no run ended {end} any more: take it out of KNOWN")
 
 
 def check_all(table, ways, parts):
@@ -460,6 +440,14 @@ def names(text):
     return found
 
 
+def can_be(way):
+    """Whether who runs this can lay the files of a way."""
+    if None in way.groups.values():
+        print(f"{way.name} isn't tried: this user has one group")
+        return False
+    return True
+
+
 def read_words():
     words = argparse.ArgumentParser(description=__doc__, formatter_class=argparse.RawDescriptionHelpFormatter)
     words.add_argument("--program", metavar="FILE", help="another program than Cargo's, as the one that `rt run` in crates/subset_font builds")
@@ -469,7 +457,7 @@ def read_words():
     words.add_argument("--first", action="store_true", help="ends at the first run that ended otherwise")
     given = words.parse_args()
     given.parts = [it for it in given.part if it not in given.skip]
-    given.ways = [it for it in WAYS if given.only in it.name]
+    given.ways = [it for it in WAYS if given.only in it.name and can_be(it)]
     if not given.parts or not given.ways:
         sys.exit("faults.py: nothing is chosen")
     return given
@@ -485,7 +473,6 @@ def main():
     except Trouble as trouble:
         table.fault("a run", trouble)
     print_table(table)
-    check_known(table, given.parts, given.only)
     left_out = f", without {', '.join(given.skip)}" if given.skip else ""
     print(f"{table.runs} runs with a fault of the system{left_out}: {table.wrong} ended otherwise than docs/CLI.md has it")
     sys.exit(1 if table.wrong or not table.runs else 0)

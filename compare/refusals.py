@@ -233,8 +233,10 @@ def check_names(room):
 
 # What the system says of a failed call: EIO.
 REASON = b"Input/output error (os error 5)\n"
-# What the program does without: to look at the file that the lines go to and at OUT, and a file beside OUT.
-DISPENSABLE = {("open", 3), *(("size", number) for number in (1, 2, 4, 5, 6))}
+# What the program does without: to know whether the lines go to OUT, and a file beside OUT.
+DISPENSABLE = {("open", 3), *(("size", number) for number in (1, 2, 5))}
+# What it has to know and to do to write OUT: what is at OUT, and whether it may be written.
+OF_OUT = {("open", 2), ("size", 4)}
 
 
 def is_dispensable(what, number, calls):
@@ -259,7 +261,7 @@ def check_files(name, data, glyphs, room):
             elif what == "write1":
                 demand(told == (3, b"cannot write standard output\n" + REASON) and out == whole, case, got)
                 demand(base.out.startswith(got.out), case, got)
-            elif what in ("write", "rename", "sync") or (what, number) == ("open", 2):
+            elif what in ("write", "rename", "sync") or (what, number) in OF_OUT:
                 demand(told == (3, b"cannot write out\n" + REASON) and got.out == b"" and out == OLD, case, got)
             else:
                 demand(told == (3, b"cannot read in\n" + REASON) and got.out == b"" and out == OLD, case, got)

@@ -216,25 +216,40 @@ def check_inodes(table, room):
 
 
 # How a run may end where a call for files fails, and has to in one of them. (The program does without a file beside OUT, and without
-# a look at some files.)
+# a look at some files, but not at OUT.)
 # (Where the file that was OUT can't have its bytes and its name again, the new one stays.)
-FAILED_CALLS = {"open": {"unread", "unwritten", "whole"}, "size": {"unread", "whole"}, "read": {"unread", "whole"}, "write": {"unwritten", "whole"},
+FAILED_CALLS = {"open": {"unread", "unwritten", "whole"}, "size": {"unread", "unwritten", "whole"}, "read": {"unread", "whole"}, "write": {"unwritten", "whole"},
                 "write1": {"unlined"}, "rename": {"unwritten", "whole"}, "sync": {"unwritten", "whole"}}
 # By Cargo lines are written to a copy of the stream, files are copied by a call of their own, and how large the arguments are is read from a
 # file that it does without.
 FAILED_CALLS_BY_CARGO = {"read": {"unread", "whole"}, "write": {"unwritten", "unlined"}, "write1": set()}
 
 
-def failed_end(got, base):
-    """How a run ended in which a call failed, and what is left; None where that is wrong."""
+def failed_end(got, base, error="EIO"):
+    """How a run ended in which a call failed with an error, and what is left; None where that is wrong."""
     if got.names != base.names:
         return None
     if is_whole_run(got, base):
         return "whole"
-    if got.answer[0] == 3 and got.answer[2] == message("cannot-write", "standard output", "EIO"):
+    if got.answer[0] == 3 and got.answer[2] == message("cannot-write", "standard output", error):
         return "unlined" if got.out == base.out and base.answer[1].startswith(got.answer[1]) else None
-    ends = {(3, b"", message("cannot-read", "in", "EIO")): "unread", (3, b"", message("cannot-write", "out", "EIO")): "unwritten"}
+    ends = {(3, b"", message("cannot-read", "in", error)): "unread", (3, b"", message("cannot-write", "out", error)): "unwritten"}
     return ends.get(got.answer) if got.out == OLD else None
+
+
+def check_no_room(table, room, library, words, base):
+    """Each file in turn can't be opened, for one reason or another. Where a file beside OUT can't be made, the program tries another name; but
+    where the disk has no room for it, or the user may take no more, OUT is what it was."""
+    def ends(error):
+        for number in range(1, base.calls["open"] + 1):
+            got = start_refused(table, room, library, words, FAIL=f"open:{number}", ERROR=getattr(errno, error))
+            yield failed_end(got, base, error), got
+    without = [end for end, _ in ends("EIO")]
+    for error in ("ENOSPC", "EDQUOT", "EACCES", "EPERM", "EROFS"):
+        found = list(ends(error))
+        others = [(old, new) for old, (new, _) in zip(without, found) if old != new]
+        is_refused = error in ("ENOSPC", "EDQUOT")
+        table.demand(others == [("whole", "unwritten")] * is_refused, f"no file can be made beside OUT ({error})", str([(end, str(got)[-200:]) for end, got in found]))
 
 
 def check_failed_calls(table, room):
@@ -252,6 +267,7 @@ def check_failed_calls(table, room):
             ends.add(failed_end(got, base))
             table.demand(failed_end(got, base) in wanted, f"{what} {number} fails", str(got)[-400:])
         table.demand(ends == wanted, f"{what} fails", f"{ends}, wanted {wanted}")
+    check_no_room(table, room, library, words, base)
     if table.is_cargo:
         got = start_refused(table, room, library, words, FAIL="sync:1", ERROR=errno.ENOSYS)
         table.demand(is_whole_run(got, base), "a file system without sync", str(got)[-400:])

@@ -10,10 +10,13 @@ MEMORY = ("brk", "mmap", "mremap", "munmap", "mprotect", "madvise")
 READING = ("open", "openat", "read", "pread64")
 WRITING = ("write", "pwrite64", "writev", "fdatasync", "fsync", "rename", "renameat", "renameat2", "ftruncate")
 RENAMING = ("rename", "renameat", "renameat2")
+REMOVING = ("unlink", "unlinkat")
 # Those that a signal can interrupt where a disk is slow, and that are made again then.
-INTERRUPTED = ("open", "openat", "read", "write", "fdatasync", "fsync", "fchmod")
+INTERRUPTED = ("open", "openat", "read", "write", "fdatasync", "fsync", "fchmod", "lstat", *REMOVING)
 # What a file says that has no disk which its bytes could reach.
 NO_SYNC = (errno.EINVAL, errno.ENOSYS, errno.EOPNOTSUPP)
+# What a disk says that has no room, or of which a user may take no more.
+NO_ROOM = (errno.EDQUOT, errno.ENOSPC)
 # The other errors that manual pages list, by the call.
 DISK = (errno.EDQUOT, errno.EIO, errno.ENOSPC, errno.EROFS)
 USUAL = {
@@ -36,9 +39,10 @@ USUAL = {
     **dict.fromkeys(MEMORY, (errno.ENOMEM,)),
 }
 OTHERS = (errno.EINTR, errno.EIO, errno.ENOMEM)
-# Ends that docs/CLI.md doesn't have: OUT is whole, but a new file with the usual rights, and its second name has what was there before; and
-# OUT is whole, and a file beside it is left.
-NEW_FILE, FILE_LEFT = "whole, as a new file", "whole, with a file beside it"
+# How a run ends in which a file beside OUT can't be removed, behind what it ends with.
+FILE_LEFT = ", and a file beside it is left"
+# AT_SYMLINK_NOFOLLOW, by the argument of the call that has it.
+NO_FOLLOW, FLAGS_AT = 0x100, {"statx": 2, "newfstatat": 3}
 # What `fcntl` does besides giving a descriptor a second number is a look at it.
 SECOND_NUMBER = (fcntl.F_DUPFD, fcntl.F_DUPFD_CLOEXEC)
 # These can't fail.
@@ -70,6 +74,17 @@ def makes_new(step):
     return step.call in ("open", "openat") and step.arguments[1 + (step.call == "openat")] & os.O_EXCL != 0
 
 
+def looks_at_name(step):
+    """Whether a name itself is looked at, and not what a link leads to."""
+    at = FLAGS_AT.get(step.call)
+    return step.call == "lstat" or at is not None and step.arguments[at] & NO_FOLLOW != 0
+
+
+def cuts(step):
+    """Whether a file that may be there is opened without its bytes."""
+    return step.call in ("open", "openat") and step.arguments[1 + (step.call == "openat")] & os.O_TRUNC != 0
+
+
 class Roles:
     """What each step of a way is about: `read`, `write`, `stdin`, `stdout`, `stderr`, or `own`, with the file's name."""
 
@@ -80,6 +95,13 @@ class Roles:
         self.first = next((at for at in range(len(steps)) if self.role(at)[0] != "own"), len(steps))
         # (behind the lines there is a message of no bytes)
         self.last_message = max((at for at, it in enumerate(steps) if it.call == "write" and "stderr" in self.names[at]), default=0) + 1
+        # by these it is known what OUT, or the PDF, is
+        self.looks = {}
+        for at, it in enumerate(steps):
+            if looks_at_name(it) and self.names[at] and self.role(at)[0] == "write":
+                self.looks.setdefault(self.names[at][-1], at)
+        # from this on a file that is written in place may be a part
+        self.cut = next((at for at, it in enumerate(steps) if cuts(it) and self.role(at)[0] == "write"), len(steps))
         # behind these OUT, or the PDF, is whole
         self.named = {}
         for at, it in enumerate(steps):
@@ -101,7 +123,7 @@ class Roles:
             is_written = name in self.way.written or file in self.way.written or file in self.way.links
             is_read = file in self.way.reads()
             if is_read and is_written:
-                is_written = at >= self.beside or (step.call in ("open", "openat") and not opens_for_reading(step))
+                is_written = at >= self.beside or looks_at_name(step) or (step.call in ("open", "openat") and not opens_for_reading(step))
             if is_written:
                 return "write", file
             if is_read:
@@ -126,29 +148,15 @@ def ended(way, before, base, got, number):
         return "stopped" if untouched and got.out == b"" else ""
     if got.status == base.status and got.out == base.out and is_whole and (got.err == base.err or is_cut(base.err, got.err)):
         return "whole" if got.err == base.err else "silent"
-    if got.status == base.status == 0 and others and not is_whole and (got.out, got.err) == (base.out, base.err):
-        return ended_otherwise(way, base, got)
-    others = others and not beside
     are_well = way.in_place or all(got.files.get(it) in (before.get(it), base.files.get(it)) for it in way.written)
-    if got.status in (1, 2, 3) and got.err == b"" and others and are_well:
+    if got.status in (1, 2, 3) and got.err == b"" and others and not beside and are_well:
         return "mute"
     if got.status == 1 and got.err == b"out of memory\n" and untouched and got.out == b"":
         return "out of memory"
     if got.status != 3:
         return ""
-    return ended_by_lines(way, base, got, number) or ended_by_file(way, before, base, got, number, others)
-
-
-def ended_otherwise(way, base, got):
-    """An end that isn't in docs/CLI.md, where OUT is whole; empty for another."""
-    left = got.files.keys() - base.files.keys()
-    if all(data_of(got, it) == data_of(base, it) for it in way.written) and not left:
-        return NEW_FILE
-    return FILE_LEFT if {it: file for it, file in got.files.items() if it not in left} == base.files else ""
-
-
-def data_of(ended_run, name):
-    return ended_run.files[name].data if name in ended_run.files else None
+    end = ended_by_lines(way, base, got, number) or ended_by_file(way, before, base, got, number, others)
+    return end + FILE_LEFT if end and beside else end
 
 
 def is_cut(whole, part):
@@ -216,9 +224,10 @@ def of_reading(roles, at, number, name):
 def of_writing(roles, at, number, name):
     step = roles.steps[at]
     whole_at = roles.named.get(roles.way.links.get(name, name), len(roles.steps))
-    if at > whole_at or makes_new(step) or (step.call in ("fdatasync", "fsync") and number in NO_SYNC):
+    is_done_without = makes_new(step) and number not in NO_ROOM
+    if at > whole_at or is_done_without or (step.call in ("fdatasync", "fsync") and number in NO_SYNC):
         return {"whole"}
-    if step.call in WRITING or step.call in ("open", "openat"):
+    if step.call in (*WRITING, *REMOVING, "open", "openat") or at in roles.looks.values():
         return {f"cannot write {name}"}
     return {"whole"}
 
@@ -238,6 +247,8 @@ def of_messages(roles, at, number, name):
 def allowed_from(roles, at, number, is_start):
     """The same where each such call from the step `at` on fails: standard error may fail, too."""
     once = allowed(roles, at, "errors", number, is_start)
+    if roles.steps[at].call in REMOVING:
+        return {it + FILE_LEFT for it in once} | {"silent", "mute"}
     if "whole" not in once:
         return once | {"silent", "mute"}
     names = {roles.file(it) for it in roles.way.written} | {"standard output", "-"}

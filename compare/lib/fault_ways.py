@@ -1,4 +1,5 @@
 """The ways in which faults.py runs the program: words, files, and what is written."""
+import os
 from dataclasses import dataclass, field
 
 import made
@@ -9,14 +10,15 @@ SECRET = 0o640
 
 @dataclass
 class Way:
-    """A run: its words, its standard input, the files before it with their rights, links and second names, and the files that it writes, the
-    PDF first. Those of `in_place` are written over their old bytes, as docs/CLI.md has it."""
+    """A run: its words, its standard input, the files before it with their rights, links, second names and groups, and the files that it
+    writes, the PDF first. Those of `in_place` are written over their old bytes, as docs/CLI.md has it."""
     name: str
     words: list
     files: dict = field(default_factory=dict)
     stdin: bytes = b""
     links: dict = field(default_factory=dict)
     second_names: dict = field(default_factory=dict)
+    groups: dict = field(default_factory=dict)
     written: list = field(default_factory=list)
     in_place: bool = False
     status: int = 0
@@ -24,6 +26,12 @@ class Way:
     def reads(self):
         """The names of what is read, as messages have them."""
         return [it for it in self.words if it in ("in", "list", "none")] + ["-"] * bool(self.stdin)
+
+
+def other_group():
+    """A group that a new file hasn't, and that this user can give to a file; None where there is none."""
+    others = [65534] if os.geteuid() == 0 else os.getgroups()
+    return next((it for it in others if it != os.getegid()), None)
 
 
 # `A` is glyph 1: a `cmap` of one table of format 4, with a segment for it and the last one.
@@ -57,6 +65,7 @@ WAYS = [
     Way("a list and widths", ["--gids-file", "list", "--widths", "in", "out", "0"], {**PRESENT, "list": (b"1 2\n" * 900, 0o644)}, written=["out"]),
     Way("OUT a link", ["in", "link", "0", "1,2"], {**IN, "real": (OLD, SECRET)}, links={"link": "real"}, written=["real"], in_place=True),
     Way("OUT with a second name", ["in", "out", "0", "1,2"], PRESENT, second_names={"other": "out"}, written=["out"], in_place=True),
+    Way("OUT of another group", ["in", "out", "0", "1,2"], PRESENT, groups={"out": other_group()}, written=["out"], in_place=True),
     Way("the axes", ["--axes", "in"], IN),
     Way("what is known", ["--info", "--json", "in"], IN),
     Way("the help", ["--help"]),

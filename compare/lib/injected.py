@@ -109,6 +109,8 @@ class Room:
             with open(path, "wb") as file:
                 file.write(data)
             os.chmod(path, mode)
+        for name, group in way.groups.items():
+            os.chown(os.path.join(self.work, name), -1, group)
         for name, target in way.links.items():
             os.symlink(target, os.path.join(self.work, name))
         for name, target in way.second_names.items():

@@ -3,10 +3,11 @@
 
 use crate::rattle::prelude::String;
 
-use crate::proved::late_file::temporary::{make_beside, replace};
+use crate::proved::late_file::temporary::{make_beside, replace, Beside};
 use crate::rattle::alloc::Global;
-use crate::rattle::fs::{OpenFile, OpenOptions};
+use crate::rattle::fs::{Metadata, OpenFile, OpenOptions};
 use crate::rattle::io::{ErrorKind, Write};
+use crate::rattle::os::unix::fs::MetadataExt;
 use crate::rattle::rt::Files;
 use crate::rattle::{fs, io};
 
@@ -18,8 +19,14 @@ fn lacks_call(error: &io::Error) -> bool {
     )
 }
 
+/// Whether a file can be replaced by another: it is a regular one that has no second name.
+fn is_replaceable(about: &Metadata) -> bool {
+    about.is_file() && about.nlink() == 1
+}
+
 /// A file that is made by its first write, so that nothing is touched before. It is written beside the file of its name,
-/// where a file can be made there, and is given the name by `flush`. A file that isn't flushed is gone with its value.
+/// where a file can be made there, and is given the name by `flush`. A file that isn't flushed is gone with its value. Where
+/// nothing can be known of the file of its name, or there is no room for another, the write fails and touches nothing.
 pub struct LateFile<'a, R: Files> {
     rt: &'a R,
     alloc: Global,
@@ -41,31 +48,42 @@ impl<'a, R: Files> LateFile<'a, R> {
         }
     }
 
-    /// Makes the file beside the place of its name, or if that can't be, at that place.
+    /// Makes the file beside the one of its name, where that can be replaced, and else in its place.
     fn make(&mut self) -> io::Result<R::File> {
-        if !self.is_plain()? {
-            return fs::create(self.rt, self.name);
-        }
-        let old = fs::metadata(self.rt, self.name).ok();
-        match make_beside(self.rt, self.alloc, self.name, old.as_ref()) {
-            Some(made) => {
-                self.beside = Some(made.name);
-                Ok(made.file)
+        // A write that a signal interrupted is made again.
+        self.remove_beside()?;
+        match fs::symlink_metadata(self.rt, self.name) {
+            Ok(about) if is_replaceable(&about) => {
+                OpenOptions::new().write(true).open(self.rt, self.name)?;
+                self.make_for(Some(&about))
             }
-            None => fs::create(self.rt, self.name),
+            Err(error) if error.kind() == ErrorKind::NotFound => self.make_for(None),
+            Err(error) if !lacks_call(&error) => Err(error),
+            _ => fs::create(self.rt, self.name),
         }
     }
 
-    /// Whether the name is free, or that of a regular file, which may be written.
-    fn is_plain(&self) -> io::Result<bool> {
-        match fs::symlink_metadata(self.rt, self.name) {
-            Ok(about) if about.is_file() => {
-                OpenOptions::new().write(true).open(self.rt, self.name)?;
-                Ok(true)
+    /// Makes the file beside the one of its name, which is there or isn't, or where none can be beside it, in its place.
+    fn make_for(&mut self, old: Option<&Metadata>) -> io::Result<R::File> {
+        if let Some(made) = make_beside(self.rt, self.alloc, self.name, old)? {
+            let Beside { file, name, is_fit } = made;
+            self.beside = Some(name);
+            if is_fit {
+                return Ok(file);
             }
-            Ok(_) => Ok(false),
-            Err(error) => Ok(error.kind() == ErrorKind::NotFound),
+            self.remove_beside()?;
         }
+        fs::create(self.rt, self.name)
+    }
+
+    /// Removes the file beside the one of its name, if it is made.
+    fn remove_beside(&mut self) -> io::Result<()> {
+        match &self.beside {
+            Some(other) => fs::remove_file(self.rt, other.as_str())?,
+            None => return Ok(()),
+        }
+        self.beside = None;
+        Ok(())
     }
 
     /// Has the file's bytes reach its disk, so that what a file system may tell as late as at the close is told now. A pipe
