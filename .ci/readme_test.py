@@ -3,6 +3,7 @@
 .ci/evidence.py, .ci/examples.py or .ci/pdf_examples.py has to fail over each.
 
     .ci/readme_test.py [NAME..]    all of them, or those whose names begin so
+    .ci/readme_test.py --gate      what is said of compare/gate.py alone
 
 It also gives logs of gates to compare/gate.py, which records only one that passed, and has it run a gate that passes in a clone with
 changes, which it records only where no code is changed. It needs the repository's history, and Cargo. The
@@ -190,10 +191,11 @@ def try_changes(folder):
 
 
 def main():
+    names, is_gate = sys.argv[1:], sys.argv[1:] == ["--gate"]
     with planted.copy() as folder:
-        found = [try_plants(folder, [".ci/evidence.py"], PLANTS, sys.argv[1:]), try_plants(folder, [".ci/examples.py", "rust"], EXAMPLES, sys.argv[1:]),
-                 try_plants(folder, [".ci/pdf_examples.py", "rust"], PDF_EXAMPLES, sys.argv[1:])]
-        found += [] if sys.argv[1:] else [try_logs(folder), try_changes(folder)]
+        found = [] if is_gate else [try_plants(folder, [".ci/evidence.py"], PLANTS, names), try_plants(folder, [".ci/examples.py", "rust"], EXAMPLES, names),
+                                    try_plants(folder, [".ci/pdf_examples.py", "rust"], PDF_EXAMPLES, names)]
+        found += [try_logs(folder), try_changes(folder)] if is_gate or not names else []
     tried, wrong = map(sum, zip(*found))
     print(f"readme_test: {tried} bugs and logs, {wrong} results are wrong")
     sys.exit(bool(wrong))
