@@ -172,6 +172,27 @@ def check_shells(tries):
                 RUNNING.pop(room).end()
 
 
+def check_quoted(tries):
+    """In bash a file's name with a blank is completed as one word."""
+    if not shutil.which("bash"):
+        return
+    with tempfile.TemporaryDirectory(prefix="completion-") as room:
+        for name in FILES:
+            open(os.path.join(room, name), "w").close()
+        process, handle = pty.fork()
+        if process == 0:
+            os.chdir(room)
+            os.execvpe("bash", ["bash", "--norc", "--noprofile", "-i"], dict(os.environ, TERM="dumb", HOME=room, HISTFILE="", PS1="", INPUTRC="/dev/null"))
+        os.write(handle, f"source '{tries.file('subset_font.bash')}'; echo rea''dy\n".encode())
+        shown = read_until(handle, "ready")
+        os.write(handle, b"subset_font --json one\t")
+        shown = read_until(handle, "font.ttf") if "ready" in shown else f"no shell: {shown!r}"
+        os.kill(process, signal.SIGKILL)
+        os.waitpid(process, 0)
+        os.close(handle)
+    tries.demand("one\\ font.ttf" in shown, "bash: a name with a blank", repr(shown))
+
+
 def check_lists(tries):
     """The lists of options: those that the files offer, that the program looks through for the nearest, and of the help."""
     text = {name: open(tries.file(name)).read() for name in ("subset_font.bash", "_subset_font", "subset_font.fish")}
@@ -192,6 +213,7 @@ def main():
     words.add_argument("--files", default=os.path.join(PROGRAM, "completions"))
     tries = Tries(os.path.realpath(words.parse_args().files))
     check_shells(tries)
+    check_quoted(tries)
     check_lists(tries)
     print(f"completion: {tries.ran} tries, {tries.wrong} differ")
     sys.exit(1 if tries.wrong else 0)

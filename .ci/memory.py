@@ -104,8 +104,7 @@ def places_of(folder):
                 yield path, code.count("\n", 0, found.start()) + 1, item_at(code, found.start())
 
 
-def main():
-    top = sys.argv[1] if len(sys.argv) > 1 else os.path.join(os.path.dirname(os.path.abspath(__file__)), "..")
+def main(top):
     crates = os.path.join(top, "crates")
     met = collections.Counter()
     wrong = 0
@@ -127,4 +126,4 @@ def main():
 
 
 if __name__ == "__main__":
-    sys.exit(main())
+    sys.exit(main(sys.argv[1] if len(sys.argv) > 1 else os.path.join(os.path.dirname(os.path.abspath(__file__)), "..")))

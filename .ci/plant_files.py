@@ -1,4 +1,5 @@
 """Reads the planted bugs of .ci/plants/LAYER.txt, whose form README.md there describes, and says what is wrong with them."""
+import datetime
 import os
 import re
 from typing import NamedTuple
@@ -12,7 +13,7 @@ CLASSES = (
 )
 # What a machine may lack, by the word behind --skip.
 NEEDS = ("kit", "targets", "chromium", "firefox", "node", "consumers", "valgrind", "mypy", "writers", "old-rust")
-KEYS = {"test": {"run", "build", "ran", "seconds", "needs", "over"}, "built": {"run", "keeps", "needs"}, "plant": {"class", "test", "file", "seconds"}}
+KEYS = {"test": {"run", "build", "ran", "seconds", "needs", "over"}, "built": {"run", "keeps", "needs"}, "plant": {"class", "test", "file", "seconds", "drawn", "survived"}}
 
 
 class Trouble(Exception):
@@ -45,7 +46,8 @@ class Edit(NamedTuple):
 
 
 class Plant(NamedTuple):
-    """A bug. `seconds` is what its test takes on one processor, `where` the file and line of the list."""
+    """A bug. `seconds` is what its test takes on one processor, `where` the file and line of the list; `drawn` is the date of the measure
+    that it was drawn for, `survived` why no test saw it then, each empty where there is none."""
     layer: str
     name: str
     kind: str
@@ -53,6 +55,8 @@ class Plant(NamedTuple):
     edits: list
     seconds: int
     where: str
+    drawn: str
+    survived: str
 
 
 class Lists(NamedTuple):
@@ -133,13 +137,34 @@ def made(kind, name, given, where):
     return Test(name, given["run"], given.get("build", []), given["ran"], number_of(given["seconds"], where), needs, given.get("over", []))
 
 
+def is_date(text):
+    """Whether a text is a date, as 2026-11-27."""
+    if not re.fullmatch(r"[0-9]{4}-[0-9]{2}-[0-9]{2}", text):
+        return False
+    try:
+        datetime.date(*map(int, text.split("-")))
+    except ValueError:
+        return False
+    return True
+
+
+def measure_of(given, where):
+    """The date of the measure that a plant was drawn for, and why it survived that."""
+    drawn, survived = ((given.get(key) or [""])[-1] for key in ("drawn", "survived"))
+    if drawn and not is_date(drawn):
+        raise Trouble(f"{where}: {drawn!r} is no date as 2026-11-27")
+    if survived and not drawn:
+        raise Trouble(f"{where}: the plant survived no measure, as it was drawn for none")
+    return drawn, survived
+
+
 def planted(layer, name, given, edits, where):
     lacking = [key for key in ("class", "test", "file") if not given.get(key)]
     if lacking:
         raise Trouble(f"{where}: the plant lacks {' and '.join(lacking)}")
     if given["class"][-1] not in CLASSES:
         raise Trouble(f"{where}: there is no class {given['class'][-1]!r}")
-    return Plant(layer, name, given["class"][-1], given["test"][-1], edits, number_of(given.get("seconds"), where), where)
+    return Plant(layer, name, given["class"][-1], given["test"][-1], edits, number_of(given.get("seconds"), where), where, *measure_of(given, where))
 
 
 def take(lists, layer, lines):

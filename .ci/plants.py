@@ -6,7 +6,8 @@ file once. In each copy the tests pass first without a bug, and print that they 
 and the copy is made what it was. A test that doesn't end, can't be started or is killed hasn't seen a bug.
 
 --draw takes N of those that are drawn in the gate: their tests need what `make quick` needs, and at most 30 seconds of a processor. Which
-depends on the plant's name and on the COMMIT alone. The last line is `N bugs planted, N seen, N got through`, and the names of those that
+depends on the plant's name and on the COMMIT alone. --drawn takes the plants of a measure: those that were drawn on that day by somebody
+who had read the sources and no test. Each is then listed with what came of it, at first and now. The last line is `N bugs planted, N seen, N got through`, and the names of those that
 weren't seen are above it. The status is 0 where each was seen, else 1; 2 where an argument is wrong.
 """
 import argparse
@@ -76,6 +77,7 @@ def drawn(lists, plants, count, seed):
 def chosen(lists, given):
     plants = [it for it in lists.plants if not given.layer or it.layer in given.layer]
     plants = [it for it in plants if given.only in it.name and (not given.test or it.test in given.test)]
+    plants = [it for it in plants if not given.drawn or it.drawn == given.drawn]
     plants = [it for it in plants if not needs_of(lists, it) & given.skip]
     return drawn(lists, plants, given.draw, given.seed) if given.draw else plants
 
@@ -393,10 +395,22 @@ def table(head, outcomes, key):
     return "\n".join(lines + [f"| {name} | {seen + not_seen} | {seen} | {not_seen} |" for name, (seen, not_seen) in sorted(counts.items())])
 
 
-def report(outcomes, chosen_of):
-    """What is printed at the end, and the status."""
+def measured(outcomes, date):
+    """A table of Markdown with each plant of a measure, and how many survived it."""
+    lines = ["| Layer | Bug | Class | At first | Now | Test |", "|---|---|---|---|---|---|"]
+    for plant, result, *_ in outcomes:
+        cells = plant.layer, plant.name, plant.kind, plant.survived and f"got through: {plant.survived}" or SEEN, result, plant.test
+        lines.append("| " + " | ".join(it.replace("|", "\\|") for it in cells) + " |")
+    survived = sum(bool(it.plant.survived) for it in outcomes)
+    return "\n".join([*lines, "", f"{len(outcomes)} bugs drawn on {date}: {len(outcomes) - survived} were seen at first, {survived} got through then"])
+
+
+def report(outcomes, chosen_of, date=""):
+    """What is printed at the end, and the status. With the date of a measure its plants are listed."""
     missed = [it for it in outcomes if it.result != SEEN]
     print(f"{chosen_of}\n\n{table('Layer', outcomes, lambda it: it.layer)}\n\n{table('Class', outcomes, lambda it: it.kind)}\n")
+    if date:
+        print(f"{measured(outcomes, date)}\n")
     for outcome in missed:
         print(f"not seen: {line_of(outcome)}")
     print(f"{len(outcomes)} bugs planted, {len(outcomes) - len(missed)} seen, {len(missed)} got through")
@@ -430,6 +444,7 @@ def read_words(words):
     given.add_argument("--test", action="append", default=[], metavar="TEST", help="those of a test; several may be given")
     given.add_argument("--only", default="", metavar="WORD", help="those whose names have this word")
     given.add_argument("--skip", type=skips_of, default=frozenset(), metavar="NEED,..", help=f"leaves out what needs one of {', '.join(plant_files.NEEDS)}")
+    given.add_argument("--drawn", default="", metavar="DATE", help="those of the measure of that day")
     given.add_argument("--draw", type=count_of, default=0, metavar="N", help="so many of those that the gate draws")
     given.add_argument("--seed", metavar="COMMIT", help="of --draw: HEAD's commit where it is left out")
     given.add_argument("--jobs", type=count_of, default=os.cpu_count() or 1, metavar="N", help="copies that are tested beside each other: as many as there are processors")
@@ -455,6 +470,7 @@ def print_list(lists, plants):
 def words_of_choice(lists, plants, given):
     """What was chosen of how many, in words."""
     words = f"{len(plants)} of {len(lists.plants)} bugs" if len(plants) < len(lists.plants) else f"all {len(plants)} bugs"
+    words += f", drawn on {given.drawn}" if given.drawn else ""
     words += f", drawn by {given.seed[:12]}" if given.draw else ""
     return words + (f", without what needs {', '.join(sorted(given.skip))}" if given.skip else "")
 
@@ -471,6 +487,9 @@ def main(words):
         sys.exit(f"plants: no layer {', '.join(sorted(set(given.layer) - layers))}; there are {', '.join(sorted(layers))}")
     if set(given.test) - set(lists.tests):
         sys.exit(f"plants: no test {', '.join(sorted(set(given.test) - set(lists.tests)))}; there are {', '.join(sorted(lists.tests))}")
+    dates = {it.drawn for it in lists.plants if it.drawn}
+    if given.drawn and given.drawn not in dates:
+        sys.exit(f"plants: none was drawn on {given.drawn}; there are {', '.join(sorted(dates)) or 'no measures'}")
     faults = plant_files.faults_of(lists.plants, ROOT)
     if faults:
         sys.exit("\n".join([*faults, f"plants: {len(faults)} no longer apply"]))
@@ -483,7 +502,7 @@ def main(words):
     outcomes, words = plant_all(lists, plants, given.jobs), words_of_choice(lists, plants, given)
     if given.results:
         write_results(given.results, outcomes, words)
-    return report(outcomes, words)
+    return report(outcomes, words, given.drawn)
 
 
 if __name__ == "__main__":

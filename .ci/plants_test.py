@@ -49,6 +49,9 @@ SLOW = "plant: an x\nclass: constant swapped\ntest: leaves\nfile: twice.txt\n- t
 OTHER = "plant: another x\nclass: constant swapped\ntest: leaves\nfile: twice.txt\n- two\n-\n+ xx\n+\n"
 NAMED = SEEN.replace("difference", "name") + "file: name.txt\n- Zoë\n+ Zoe\n"
 OF_KIT = "plant: a product\nclass: constant swapped\ntest: kit\nfile: add.sh\n- $1 + $2\n+ $1 * $2\n"
+DRAWN = SEEN.replace("test: adds", "drawn: 2026-11-27\ntest: adds")
+MENDED = NAMED.replace("test: adds", "drawn: 2026-11-27\nsurvived: no name | was read\ntest: adds")
+LATER = SURVIVOR.replace("test: adds", "drawn: 2026-12-01\ntest: adds")
 MANY = "\n".join(f"plant: number {i}\nclass: off by one in ranges\ntest: adds\nfile: add.sh\n- $1 + $2\n+ $1 + $2 + {i + 1}\n" for i in range(12))
 
 failures, checks = [], 0
@@ -193,6 +196,9 @@ def check_lists(here):
         ("no class", SEEN.replace("class: argument order\n", ""), r"lacks class"),
         ("a field that there isn't", SEEN + "colour: red\n", r"a plant has no colour"),
         ("a line of another form", SEEN + "nothing\n", r"neither KEY: VALUE"),
+        ("a date of no day", DRAWN.replace("11-27", "11-31"), r"'2026-11-31' is no date"),
+        ("a date of another form", DRAWN.replace("2026-11-27", "27.11.2026"), r"'27\.11\.2026' is no date"),
+        ("a survivor of no measure", SEEN.replace("test: adds", "survived: yes\ntest: adds"), r"survived no measure"),
         ("a text before its file", "plant: a\nclass: memory\ntest: adds\n- x\nfile: add.sh\n- $1\n+ $2\n", r"a text before its file"),
     ):
         here.lists(plants)
@@ -222,6 +228,24 @@ def check_choice(here):
     demand(here.run("--draw", "5", "--list") == here.run("--draw", "5", "--seed", commit, "--list"), "the seed is HEAD's commit")
 
 
+def check_measure(here):
+    """The plants of a measure alone, each with what came of it at first and now."""
+    here.lists(f"{SLOW}\n{DRAWN}\n{MENDED}\n{LATER}")
+    words = ["--drawn", "2026-11-27"]
+    said = here.ends("a measure", 0, r"^2 of 4 bugs, drawn on 2026-11-27$", r"^\| small \| a difference \| argument order \| seen \| seen \| adds \|$",
+                     r"^\| small \| a name \| argument order \| got through: no name \\\| was read \| seen \| adds \|$",
+                     r"^2 bugs drawn on 2026-11-27: 1 were seen at first, 1 got through then$", r"^2 bugs planted, 2 seen, 0 got through$", words=words)
+    demand("other order" not in said and "an x" not in said, "a measure has plants of no measure, or of another", said)
+    here.ends("a measure with a survivor", 1, r"^\| small \| the other order \| argument order \| seen \| GOT THROUGH \| adds \|$", r"^1 bugs planted, 0 seen, 1 got through$",
+              words=["--drawn", "2026-12-01"])
+    here.ends("a list of a measure", 0, r"^2 plants, of which 2", words=[*words, "--list"])
+    here.ends("a measure that there isn't", 1, r"^plants: none was drawn on 2026-11-28; there are 2026-11-27, 2026-12-01$", words=["--drawn", "2026-11-28"])
+    said = here.run("--only", "a difference")[1]
+    demand("drawn on" not in said and "At first" not in said, "a run of no measure lists one", said)
+    here.lists(SEEN)
+    here.ends("no measures", 1, r"^plants: none was drawn on 2026-11-27; there are no measures$", words=words)
+
+
 def check_results(here):
     """The file of results, and copies that are tested beside each other."""
     here.lists(f"{SURVIVOR}\n{MANY}")
@@ -238,10 +262,10 @@ def check_results(here):
 def main():
     with tempfile.TemporaryDirectory(prefix="plants-test-") as room:
         here = Repository(room)
-        for check in (check_outcomes, check_tests, check_ends, check_stop, check_lists, check_choice, check_results):
+        for check in (check_outcomes, check_tests, check_ends, check_stop, check_lists, check_choice, check_measure, check_results):
             check(here)
     print(f"plants_test: {checks} checks, {len(failures)} failed")
-    return 1 if failures or checks < 60 else 0
+    return 1 if failures or checks < 80 else 0
 
 
 if __name__ == "__main__":

@@ -1,7 +1,7 @@
 #!/usr/bin/env python3
 """Plants faults in the files of the program's rows, each in a copy of these: program.py has to end with status 1, and to say in which
-line. Then it plants faults in what a program does, of which the rows have to see each, and in what the texts say of defaults; no build is
-needed."""
+line. Then it plants faults in what a program does, of which the rows have to see each, and in what the texts say of defaults and of the
+order of files; no build is needed."""
 import contextlib
 import io
 import os
@@ -85,13 +85,15 @@ RUNS = [
     ("another standard input", "cat > /dev/null", '[ "$(cat)" = in ] || exit 1; exit 2', "status 2, wanted 1"),
 ]
 
-# A text beside the program, what it says of a default, and what it says instead.
+# A text beside the program, what it says of a default or of an order, and what it says instead.
 TEXTS = [
     ("another limit in the help", "--help", "(default 1000000,64)", "(default 1000000,32)"),
     ("another limit in the manual", "docs/CLI.md", "(default `1000000,64`", "(default `100000,64`"),
     ("another limit in the manual page", "subset_font.1", "The default is 1000000,64", "The default is 1000000,32"),
     ("another face in the manual page", "subset_font.1", "The default is 0.", "The default is 1."),
     ("other codes in the manual page", "subset_font.1", "(the new numbers; this is the default)", "(the new numbers)"),
+    ("a PDF behind OUT in the manual", "docs/CLI.md", "A PDF is written as OUT is, and before it:", "A PDF is written as OUT is, and after it:"),
+    ("a PDF behind OUT in the manual page", "subset_font.1", "is, and before it.", "is, and after it."),
 ]
 
 
@@ -161,13 +163,13 @@ def planted_in_run(name, old, new, wanted):
 
 
 def planted_in_text(name, text, old, new):
-    """What is wrong where a text names another default."""
+    """What is wrong where a text names another default or order."""
     with open(os.path.join(planted.ROOT, "crates", "subset_font", "src", "help.rt"), encoding="utf-8") as file:
         texts = check_texts.texts_beside(file.read())
-    if check_texts.other_defaults(texts) or texts[text].count(old) != 1:
-        return [f"{name}: {old!r} isn't there, or the texts differ: {check_texts.other_defaults(texts)}"]
+    if check_texts.said_otherwise(texts) or texts[text].count(old) != 1:
+        return [f"{name}: {old!r} isn't there, or the texts differ: {check_texts.said_otherwise(texts)}"]
     texts[text] = texts[text].replace(old, new)
-    return [] if [it for it, _ in check_texts.other_defaults(texts)] == [text] else [f"{name}: GOT THROUGH"]
+    return [] if [it for it, _ in check_texts.said_otherwise(texts)] == [text] else [f"{name}: GOT THROUGH"]
 
 
 def main():

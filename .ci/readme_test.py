@@ -3,8 +3,10 @@
 .ci/evidence.py, .ci/examples.py or .ci/pdf_examples.py has to fail over each.
 
     .ci/readme_test.py [NAME..]    all of them, or those whose names begin so
+    .ci/readme_test.py --gate      what is said of compare/gate.py alone
 
-It also gives logs of gates to compare/gate.py, which records only one that passed. It needs the repository's history, and Cargo. The
+It also gives logs of gates to compare/gate.py, which records only one that passed, and has it run a gate that passes in a clone with
+changes, which it records only where no code is changed. It needs the repository's history, and Cargo. The
 status is 1 where a bug gets through, or where the clone fails as it is.
 """
 import os
@@ -88,9 +90,15 @@ LOGS = [
 ]
 
 
-def run(folder, *words):
+# Files that a gate speaks of: none may be changed where it is recorded. And others.
+CHANGED = ["crates/subset_font/src/help.rt", "crates.txt", "bindings/test", "bindings/rust/src/lib.rs", "dist/make", ".ci/gate", ".ci/plants/tests.txt",
+           "compare/gate.py", "compare/lib/figures.py", "rows/cff.py", "demo/run", "examples/writer.rs", "Makefile"]
+UNCHANGED = ["compare/README.md", "CONTRIBUTING.md"]
+
+
+def run(folder, *words, **env):
     """The status of a command, and what it prints."""
-    ran = subprocess.run(words, cwd=folder, env=planted.ENVIRONMENT, stdout=subprocess.PIPE, stderr=subprocess.STDOUT, text=True)
+    ran = subprocess.run(words, cwd=folder, env={**planted.ENVIRONMENT, **env}, stdout=subprocess.PIPE, stderr=subprocess.STDOUT, text=True)
     return ran.returncode, ran.stdout
 
 
@@ -159,11 +167,35 @@ def try_logs(folder):
     return len(LOGS), missed
 
 
+def try_changes(folder):
+    """A gate that passes is run in a clone with a change of each file: how many were tried, and how many results are wrong."""
+    page, wrong = os.path.join(folder, RESULTS + "gate.md"), 0
+    run(folder, "git", "commit", "-qam", "as it stands")
+    # (`make` is a program that says that it passed)
+    make = os.path.join(folder, ".git", "bin", "make")
+    os.makedirs(os.path.dirname(make))
+    restore({make: f"#!/bin/sh\nprintf '{PASSED}812 passed, 0 failed\\n'\n"})
+    os.chmod(make, 0o755)
+    for name in CHANGED + UNCHANGED:
+        path = os.path.join(folder, name)
+        with open(path, "a", encoding="utf-8") as file:
+            file.write("\n")
+        before = open(page, encoding="utf-8").read()
+        status, said = run(folder, sys.executable, "compare/gate.py", PATH=f"{os.path.dirname(make)}{os.pathsep}{os.environ['PATH']}")
+        is_kept = open(page, encoding="utf-8").read() != before
+        is_well = (status == 0 and is_kept) if name in UNCHANGED else status == 1 and not is_kept and "changes that no commit holds" in said
+        wrong += not is_well
+        print(f"{'recorded' if is_kept else 'refused'}{'' if is_well else ', WRONGLY'}: a gate where {name} is changed: {said.strip().splitlines()[-1][:150]}")
+        run(folder, "git", "reset", "-q", "--hard")
+    return len(CHANGED + UNCHANGED), wrong
+
+
 def main():
+    names, is_gate = sys.argv[1:], sys.argv[1:] == ["--gate"]
     with planted.copy() as folder:
-        found = [try_plants(folder, [".ci/evidence.py"], PLANTS, sys.argv[1:]), try_plants(folder, [".ci/examples.py", "rust"], EXAMPLES, sys.argv[1:]),
-                 try_plants(folder, [".ci/pdf_examples.py", "rust"], PDF_EXAMPLES, sys.argv[1:])]
-        found += [] if sys.argv[1:] else [try_logs(folder)]
+        found = [] if is_gate else [try_plants(folder, [".ci/evidence.py"], PLANTS, names), try_plants(folder, [".ci/examples.py", "rust"], EXAMPLES, names),
+                                    try_plants(folder, [".ci/pdf_examples.py", "rust"], PDF_EXAMPLES, names)]
+        found += [try_logs(folder), try_changes(folder)] if is_gate or not names else []
     tried, wrong = map(sum, zip(*found))
     print(f"readme_test: {tried} bugs and logs, {wrong} results are wrong")
     sys.exit(bool(wrong))

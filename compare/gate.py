@@ -24,7 +24,7 @@ import figures  # noqa: E402
 import repository  # noqa: E402
 import results_of  # noqa: E402
 
-CODE = ("crates", "crates.txt", "bindings", "dist", ".ci", "compare", ":!compare/results", ":!compare/README.md", "Makefile")
+CODE = ("crates", "crates.txt", "bindings", "dist", ".ci", "compare", "rows", "demo", "examples", ":!compare/results", ":!compare/README.md", "Makefile")
 
 
 def run(words):

@@ -243,6 +243,7 @@ class Looker:
         self.licensed(f"{name}: README.md", readme, f"The licence is {LICENCE}: ")
         self.demand(proved in readme, f"{name}: README.md doesn't say what is proved")
         self.library(name, target, found.get(f"lib/{full}", b""), found.get("lib/libsubsetter.a", b""))
+        self.says_glibc(name, readme, found.get(f"lib/{full}", b""), *([found["bin/subset_font"]] if "bin/subset_font" in found else []))
         if "bin/subset_font" in found:
             for path, source in OF_PROGRAM.items():
                 with open(os.path.join(ROOT, "crates", "subset_font", source), "rb") as file:
@@ -395,17 +396,29 @@ class Looker:
         self.demand("\nRoot-Is-Purelib: false\n" in text, f"{name}: it says that it's pure")
         if tags == ["py3-none-win_amd64"]:
             return
-        with tempfile.NamedTemporaryFile(prefix="look-") as file:
-            file.write(shared)
-            file.flush()
-            said = subprocess.run(["readelf", "-W", "--dyn-syms", file.name], capture_output=True, text=True).stdout
-        needed = max(([int(it) for it in found.split(".")[:2]] for found in re.findall(r"@GLIBC_([\d.]+)", said)), default=[0, 0])
+        needed = self.glibc(shared)
         older = {"manylinux1": [2, 5], "manylinux2010": [2, 12], "manylinux2014": [2, 17]}
         for tag in tags:
             platform = tag.split("-")[2]
             numbers = re.match(r"manylinux_(\d+)_(\d+)_", platform)
             promised = [int(it) for it in numbers.groups()] if numbers else older.get(platform.split("_")[0], [0, 0])
             self.demand(needed != [0, 0] and promised >= needed and promised <= [2, 31], f"{name}: {tag}, and the library needs glibc {needed}")
+
+    @staticmethod
+    def glibc(data):
+        """The oldest glibc that a library or a program runs on, by the versions of the symbols that it needs, as [2, 17]; [0, 0] where
+        none has a version."""
+        with tempfile.NamedTemporaryFile(prefix="look-") as file:
+            file.write(data)
+            file.flush()
+            said = subprocess.run(["readelf", "-W", "--dyn-syms", file.name], capture_output=True, text=True).stdout
+        return max(([int(it) for it in found.split(".")[:2]] for found in re.findall(r"@GLIBC_([\d.]+)", said)), default=[0, 0])
+
+    def says_glibc(self, name, readme, *files):
+        """A README names for the library, and for the program where there is one, the oldest glibc that it runs on."""
+        said = [[int(it) for it in found.split(".")] for found in re.findall(r"\bfor glibc (\d+\.\d+) or later", readme)]
+        needed = [self.glibc(it) for it in files]
+        self.demand(said == needed, f"{name}: README.md says that glibc {said} is needed, and it is {needed}")
 
     def crates_of_rust(self, libraries):
         plain = self.crate("subsetter", "rust", ["README.md"], [])

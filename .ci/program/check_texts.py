@@ -54,11 +54,13 @@ with --axes its table fvar is cut.
 """
 
 
-# What the three texts say of the options' defaults: of --face-index, --codes and --limits.
-DEFAULTS = {
+# What the three texts say of the options' defaults (of --face-index, --codes and --limits), and of which file is written first.
+SAID = {
     "--help": (r"the face, with -o or --pdf \(default 0\)", r"\(new numbers, the default\)", r"subroutines \(default 1000000,64\)"),
-    "docs/CLI.md": (r"`--face-index INDEX`.* \(default 0\)", r"`consecutive` \(the new numbers, the default\)", r"\(default `1000000,64`, any size\)"),
-    "subset_font.1": (r"The default is 0\.", r"consecutive \(the new numbers; this is the default\)", r"The default is 1000000,64, and no bound on the bytes\."),
+    "docs/CLI.md": (r"`--face-index INDEX`.* \(default 0\)", r"`consecutive` \(the new numbers, the default\)", r"\(default `1000000,64`, any size\)",
+                    r"A PDF is written as OUT is, and before it:"),
+    "subset_font.1": (r"The default is 0\.", r"consecutive \(the new numbers; this is the default\)", r"The default is 1000000,64, and no bound on the bytes\.",
+                      r"It is written as\n\.I OUT\nis, and before it\."),
 }
 
 
@@ -71,9 +73,9 @@ def texts_beside(printed):
     return {"--help": printed, "docs/CLI.md": manual, "subset_font.1": page}
 
 
-def other_defaults(texts):
-    """The texts, by their names, that have another default than the program."""
-    return [(name, part) for name, parts in DEFAULTS.items() for part in parts if not re.search(part, texts[name])]
+def said_otherwise(texts):
+    """The texts, by their names, that have another default than the program, or another order of its files."""
+    return [(name, part) for name, parts in SAID.items() for part in parts if not re.search(part, texts[name])]
 
 
 def check_words(table, room):
@@ -90,7 +92,7 @@ def check_words(table, room):
         got = table.start(words, room)
         table.demand((got.returncode, got.stdout, got.stderr) == (0, first.stdout, b""), words, got)
     texts = texts_beside(first.stdout.decode())
-    table.demand(not other_defaults(texts), "the defaults in the texts", other_defaults(texts))
+    table.demand(not said_otherwise(texts), "defaults and the order of files in the texts", said_otherwise(texts))
     for option in OPTIONS:
         for name, text in texts.items():
             there = re.search(r"(^|[^-\w])" + re.escape(option) + r"($|[^-\w])", text, re.M)

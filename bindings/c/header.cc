@@ -97,6 +97,7 @@ static void check_calls()
     const subsetter_coordinate coordinates[] = {{SUBSETTER_TAG('w', 'g', 'h', 't'), 650 * 65536}, {0xffffffffu, -65536}};
     check(coordinates[0].tag == 0x77676874u && sizeof coordinates == 16, "coordinates");
     check(SUBSETTER_TAG('\377', 0, '\200', 1) == 0xff008001u, "a tag of high bytes");
+    check(SUBSETTER_TAG(1, '\200', 0, '\377') == 0x018000ffu, "a tag of other high bytes");
     check(subsetter_subset_at(font, 55, 0, coordinates, 2, NULL, 0, &options, out, 164, &length) == SUBSETTER_DONE && length == 164,
         "at coordinates");
     check(subsetter_subset_at(font, 55, 0, NULL, 0, NULL, 0, NULL, out, 163, &length) == SUBSETTER_BUFFER_TOO_SMALL && length == 164,

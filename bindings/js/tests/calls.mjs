@@ -255,6 +255,26 @@ function answersAreCopies({ subsetter }) {
     same(subsetter.subset(font, [5, 6]), kept, "the same call after its answer was written");
 }
 
+/** A font of some bytes more or less than one that was closed between two others leaves these as they were. */
+async function gapsAreFilled({ library, wasm }) {
+    const subsetter = await library.load(wasm), font = plainFont(40, 16), wanted = subsetter.subset(font, [2, 1]);
+    const longer = (count) => {
+        // (bytes behind the last table are no part of it)
+        const made = new Uint8Array(font.length + count).fill(255);
+        made.set(font);
+        return made;
+    };
+    // (a place has a multiple of 16 bytes)
+    const room = Math.ceil(font.length / 16) * 16 - font.length;
+    for (const more of [0, room, room + 1, room + 2, room + 16, room + 17]) {
+        const [first, between, last] = [font, font, font].map((it) => subsetter.open(it));
+        between.close();
+        const other = subsetter.open(longer(more));
+        for (const it of [first, other, last]) same(it.subset([2, 1]), wanted, `a font of ${more} bytes more in a gap`);
+        for (const it of [first, other, last]) it.close();
+    }
+}
+
 function openedFonts({ library, subsetter, fonts }) {
     const sizes = [20, 300, 60, 1000, 20, 3], sources = sizes.map((count, i) => plainFont(count, 16 + 4 * i));
     const wanted = sources.map((font) => subsetter.subset(font, [2, 1]));
@@ -528,7 +548,7 @@ async function waysToLoad({ library, wasm, fonts }) {
 export async function runCalls(library, wasm, table, count) {
     const { fonts } = readRows(table), subsetter = await library.load(wasm);
     const all = { library, subsetter, fonts, wasm };
-    const parts = [wrongArguments, valuesOfCoordinates, kindsOfArguments, longLists, otherRealms, answersAreCopies, openedFonts, memoryStays, memoryEnds, besideEachOther, trapsPass, stackEnds, waysToLoad];
+    const parts = [wrongArguments, valuesOfCoordinates, kindsOfArguments, longLists, otherRealms, answersAreCopies, openedFonts, gapsAreFilled, memoryStays, memoryEnds, besideEachOther, trapsPass, stackEnds, waysToLoad];
     for (const part of parts) {
         try {
             await part(all, count);
