@@ -1,6 +1,6 @@
 //! A file that is made by its first write.
 
-ghost use Rattle.std.specs.Prelude.{◌≡◌, None};
+ghost use Rattle.std.specs.Prelude.{◌≡◌, OnOk, None};
 
 use crate::temporary::{make_beside, replace};
 use std::alloc::Global;
@@ -85,7 +85,8 @@ impl<'a, R: Files> LateFile<'a, R> {
 
     /// Gives the file its name.
     fn take_name(&mut self) -> io::Result<()>
-        ensures { self.new.file ≡ self.old.file }
+        ensures file { self.new.file ≡ self.old.file }
+        ensures named { OnOk result (self.new.beside ≡ None) }
     {
         match &self.beside {
             Some(other) => replace(self.rt, self.alloc, other.as_str(), self.name)?,

@@ -1,6 +1,6 @@
 //! What is noted of characters that a font has no glyph for.
 
-ghost use Rattle.std.specs.Prelude.{◌≡◌, ◌++◌, [], OnOk, IfOk, codes, take};
+ghost use Rattle.std.specs.Prelude.{◌≡◌, ◌++◌, [], OnOk, IfOk, IsOk, codes, take};
 ghost use Rattle.std.specs.Io.KnownBytes.{Appends};
 ghost use Rattle.subset_lines.specs.Missing.{character_text, names_text, others_text, named_text, missing_text, missing_line, missing_string};
 
@@ -79,7 +79,8 @@ fn write_missing<W: Write>(characters: &[char], out: &mut W) -> Result<(), Unwri
 /// Writes the note as a line; nothing where there are no characters.
 #[tactic(auto, using(crate::proofs::Written::both))]
 pub fn write_missing_line<W: Write>(characters: &[char], out: &mut W) -> Result<(), Unwritten>
-    ensures { OnOk result (Appends (W.contents out.old) (W.contents out.new) (missing_line characters.now)) }
+    ensures text { OnOk result (Appends (W.contents out.old) (W.contents out.new) (missing_line characters.now)) }
+    ensures nothing { characters.now ≡ [] → IsOk result }
 {
     if characters.is_empty() {
         return Ok(());
@@ -105,7 +106,8 @@ pub fn write_missing_string<W: Write>(
     characters: &[char],
     out: &mut W,
 ) -> Result<(), Unwritten>
-    ensures { OnOk result (Appends (W.contents out.old) (W.contents out.new) (missing_string before.now characters.now)) }
+    ensures text { OnOk result (Appends (W.contents out.old) (W.contents out.new) (missing_string before.now characters.now)) }
+    ensures nothing { characters.now ≡ [] → IsOk result }
 {
     if characters.is_empty() {
         return Ok(());
