@@ -2,6 +2,7 @@
 
 ghost use Rattle.std.specs.Prelude.{◌≡◌, ◌++◌, [], OnOk, IfOk, IsOk, codes, take};
 ghost use Rattle.std.specs.Io.KnownBytes.{Appends};
+ghost use Rattle.subset_lines.specs.Objects.Quoted.{quoted};
 ghost use Rattle.subset_lines.specs.Missing.{character_text, names_text, others_text, named_text, missing_text, missing_line, missing_string};
 
 use crate::entry::Unwritten;
@@ -79,8 +80,7 @@ fn write_missing<W: Write>(characters: &[char], out: &mut W) -> Result<(), Unwri
 /// Writes the note as a line; nothing where there are no characters.
 #[tactic(auto, using(crate::proofs::Written::both))]
 pub fn write_missing_line<W: Write>(characters: &[char], out: &mut W) -> Result<(), Unwritten>
-    ensures text { OnOk result (Appends (W.contents out.old) (W.contents out.new) (missing_line characters.now)) }
-    ensures nothing { characters.now ≡ [] → IsOk result }
+    ensures { OnOk result (Appends (W.contents out.old) (W.contents out.new) (missing_line characters.now)) }
 {
     if characters.is_empty() {
         return Ok(());
@@ -98,8 +98,22 @@ fn missing_bytes(alloc: Global, characters: &[char]) -> Result<Vec<u8>, Unwritte
     Ok(text)
 }
 
-/// Writes the note as a JSON string behind a text; nothing where there are no characters.
+/// Writes the note as a JSON string behind a text.
 #[tactic(auto, using(crate::proofs::Written::both))]
+fn write_string<W: Write>(
+    alloc: Global,
+    before: &[u8],
+    characters: &[char],
+    out: &mut W,
+) -> Result<(), Unwritten>
+    ensures { OnOk result (Appends (W.contents out.old) (W.contents out.new) (before.now ++ quoted (missing_text characters.now))) }
+{
+    let text = missing_bytes(alloc, characters)?;
+    write_text(before, out)?;
+    write_quoted(&text, out)
+}
+
+/// Writes the note as a JSON string behind a text; nothing where there are no characters.
 pub fn write_missing_string<W: Write>(
     alloc: Global,
     before: &[u8],
@@ -109,10 +123,8 @@ pub fn write_missing_string<W: Write>(
     ensures text { OnOk result (Appends (W.contents out.old) (W.contents out.new) (missing_string before.now characters.now)) }
     ensures nothing { characters.now ≡ [] → IsOk result }
 {
-    if characters.is_empty() {
-        return Ok(());
+    match characters {
+        [] => Ok(()),
+        [_, ..] => write_string(alloc, before, characters, out),
     }
-    let text = missing_bytes(alloc, characters)?;
-    write_text(before, out)?;
-    write_quoted(&text, out)
 }
