@@ -2,7 +2,9 @@
 
 A refused request becomes `Error::OutOfMemory` by `?`, through `From`. This lists each other place in crates/*/src in which
 code names that case, or makes an allocator's refusal of its own, and fails where one isn't on the list below, or where one
-of the list is gone. Clauses, comments and tests don't count. FOLDER is the repository, the one around this file if it is left out.
+of the list is gone. `Unwritten` of `subset_lines` says that a writer failed, or that memory ran out: it may be answered only
+right behind a write or a request that did. Clauses, comments and tests don't count. FOLDER is the repository, the one around
+this file if it is left out.
 """
 import collections
 import os
@@ -49,6 +51,10 @@ ALLOWED = {
     ("glyph_names", "read_charset"): (2, "passes on that of `Table::parse`"),
 }
 
+# The error of a crate that has no other one, and what is right in front of it: a write or a request that failed.
+UNWRITTEN = {"subset_lines": re.compile(r"(?<!struct )\bUnwritten\b(?!\s*[>,}])")}
+FAILED = re.compile(r"(?:\.is_err\(\)\)*\s*(?:\{\s*return|=>)|\blet Ok\(\w+\) = [\w\s(.,)]+\belse\s*\{\s*return) Err\($|\.map_err\(\|_\| $")
+
 WORDS = re.compile(r"\bOutOfMemory\b|\b(?:AllocError|AllocFailed)\b(?!\s*[>,}]|<\w)")
 
 
@@ -92,16 +98,34 @@ def item_at(code, place):
     return None if last is None else last[1] or f"{last[2]} {last[3]}"
 
 
-def places_of(folder):
+def codes_of(folder):
+    """The path and the code of each file below a folder that is no test."""
     for top, _, names in sorted(os.walk(folder)):
         for name in sorted(names):
             path = os.path.join(top, name)
             if not name.endswith(".rt") or name == "tests.rt" or "tests" in os.path.relpath(top, folder).split(os.sep):
                 continue
             with open(path, encoding="utf-8") as file:
-                code = code_of(file.read())
-            for found in WORDS.finditer(code):
-                yield path, code.count("\n", 0, found.start()) + 1, item_at(code, found.start())
+                yield path, code_of(file.read())
+
+
+def places_of(codes, words):
+    """Where these words are: the path, the line, the function or enum, and the code in front."""
+    for path, code in codes:
+        for found in words.finditer(code):
+            yield path, code.count("\n", 0, found.start()) + 1, item_at(code, found.start()), code[: found.start()]
+
+
+def count_unwritten(top, codes, words):
+    """How many places answer so without a write or a request that failed; 1 where none answers so."""
+    found = wrong = 0
+    for path, line, item, front in places_of(codes, words):
+        found += 1
+        if not FAILED.search(front):
+            wrong += 1
+            print(f"{os.path.relpath(path, top)}:{line}: {item} says that a writer failed, and none did")
+    print(f"{found} places say that a writer failed")
+    return wrong if found else 1
 
 
 def main(top):
@@ -109,7 +133,10 @@ def main(top):
     met = collections.Counter()
     wrong = 0
     for crate in sorted(os.listdir(crates)):
-        for path, line, item in places_of(os.path.join(crates, crate, "src")):
+        codes = list(codes_of(os.path.join(crates, crate, "src")))
+        if crate in UNWRITTEN:
+            wrong += count_unwritten(top, codes, UNWRITTEN[crate])
+        for path, line, item, _ in places_of(codes, WORDS):
             met[crate, item] += 1
             count, reason = ALLOWED.get((crate, item), (0, None))
             if met[crate, item] > count:

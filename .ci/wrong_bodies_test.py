@@ -1,6 +1,7 @@
 #!/usr/bin/env python3
 """Tests compare/wrong_bodies.py on a small repository, with a program in the place of `rt` that answers as it is told and notes what it
-tried. Then it plants bugs in the script and in compare/lib/wrong_body.py, one at a time: each has to fail one of these tests."""
+tried, and others in the place of checks. Then it plants bugs in the script, in compare/lib/wrong_body.py and in wrong_by_check.py beside it,
+one at a time: each has to fail one of these tests."""
 import json
 import os
 import shutil
@@ -8,9 +9,14 @@ import subprocess
 import sys
 import tempfile
 
-ROOT = os.path.dirname(os.path.dirname(os.path.realpath(__file__)))
-SCRIPT, JUDGE = "compare/wrong_bodies.py", "compare/lib/wrong_body.py"
-OTHERS = [f"compare/lib/{it}.py" for it in ("rattle_code", "rattle_text", "rattle_antt", "build", "results_of", "comparisons", "repository")]
+sys.path.insert(0, os.path.dirname(os.path.realpath(__file__)))
+sys.dont_write_bytecode = True
+
+import planted as planted_files  # noqa: E402
+
+ROOT = planted_files.ROOT
+SCRIPT, JUDGE, CHECKER = "compare/wrong_bodies.py", "compare/lib/wrong_body.py", "compare/lib/wrong_by_check.py"
+OTHERS = [f"compare/lib/{it}.py" for it in ("rattle_code", "rattle_text", "rattle_antt", "build", "results_of", "comparisons", "repository")] + [".ci/planted.py"]
 GOOD = "refused, as it must be: src/lib.rt:1:1: error: top::f: not proved"
 WEAK = "refused, as it must be (only because a proof file names what the edit took away, so this says little): proofs/A.antt:1:1: error"
 IN_PROOF = "refused, as it must be: ./proofs/a/f/Answers.antt:3:1: error: `returns`: not this type"
@@ -333,7 +339,69 @@ def jobs(room):
     yield room.run("--jobs", "2")[2], []
 
 
+# What stands in the place of the checks: each fails over a text of the code, and one can't be started, or isn't built, over another.
+MEMORY = """import sys
+code = open("crates/top/src/a.rt").read()
+print("memory: 1 wrong" if "one = 2" in code else "memory: 0 wrong")
+sys.exit(127 if "one = 4" in code else "one = 2" in code)
+"""
+CARGO = """#!/bin/sh
+grep -q "one = 3" crates/top/src/a.rt && echo "error: not built" && exit 101
+case "$*" in *--no-run*) exit 0 ;; esac
+! grep -q "one = 2" crates/top/src/a.rt || { echo "row a FAILED"; exit 101; }
+"""
+
+
+def with_checks(room, memory=MEMORY):
+    """Has the repository the checks, and git, as a copy is a clone of it."""
+    for path, text in ((".ci/memory.py", memory), ("bin/cargo", CARGO), ("bindings/rust/generate", "#!/bin/sh\n"), (".gitignore", "/wrong-*\n/out\n/tried\n/answers.json\n")):
+        room.write(path, text)
+        os.chmod(os.path.join(room.folder, path), 0o755)
+    for words in (["init", "-q"], ["add", "-A"], ["commit", "-q", "-m", "all"]):
+        planted_files.git(room.folder, *words)
+
+
+def by_check(room, check, new="let one = 2;", old="let one = 1;"):
+    room.write(f"compare/wrong_bodies/top/{check}.edit", f"check: {check}\nfile: src/a.rt\nold: {old}\nnew: {new}\n")
+
+
+def checks(room):
+    with_checks(room)
+    by_check(room, "memory")
+    by_check(room, "rows")
+    # (a run of all has those that the prover judges)
+    yield room.run(), (0, wanted(10), NAMES)
+    yield room.run("top/memory", "top/rows"), (0, wanted(2, at=0, of=2), [])
+    for line in ("must-fail top/memory.edit: refused by memory: memory: 1 wrong", "must-fail top/rows.edit: refused by rows: row a FAILED", "2 refused by another check of the gate: memory 1, rows 1"):
+        yield room.printed.splitlines().count(line) > 0, True
+    by_check(room, "memory", "let one = 5;")
+    yield room.run("top/memory", "top/rows"), (1, wanted(1, at=0, of=2, survive=1), [])
+    yield "must-fail top/memory.edit: NOT REFUSED: memory passes" in room.printed, True
+
+
+def unfit_checks(room):
+    with_checks(room)
+    # (each but the last is neither refused nor a survivor)
+    for check, new, old in (("rows", "let one = 3;", "let one = 1;"), ("memory", "let one = 4;", "let one = 1;"), ("memory", "1", "x"), ("other", "let one = 2;", "let one = 1;")):
+        by_check(room, check, new, old)
+        yield room.run(f"top/{check}"), (1, wanted(0, of=1), [])
+    with_checks(room, "import sys\nsys.exit(1)\n")
+    by_check(room, "memory")
+    yield room.run("top/memory"), (1, wanted(0, of=1), [])
+
+
+def drawn(room):
+    with_checks(room)
+    by_check(room, "memory")
+    room.write("compare/wrong_bodies/drawn.txt", "# drawn\n2026-11-27 top/e01\n2026-11-27 top/memory\n2026-11-28 top/e02\n")
+    yield room.run("--drawn", "2026-11-27"), (0, wanted(2, at=1, of=2), ["e01"])
+    yield room.run("--drawn", "2026-11-28"), (0, wanted(1, of=1), ["e02"])
+    yield room.run("--drawn", "2026-11")[0], 1
+    yield room.run(), (0, wanted(10, earlier=2), [it for it in NAMES if it not in ("e01", "e02")])
+
+
 TESTS = {
+    "edits that name a check": checks, "checks that can't judge": unfit_checks, "edits of a day": drawn,
     "all are refused": all_refused, "one survives": survives, "one can't be applied": bad_edit, "one isn't tried": not_tried,
     "rt has no line for one": nothing_said, "one is refused by a proof's names, one by a limit": weakly_refused, "the crate isn't proved": unproved_crate,
     "a source": changed("crates/top/src/lib.rt"), "a definition": changed("crates/top/specs/Lib.antt"), "a proof": changed("crates/top/proofs/f/Answers.antt"),
@@ -410,6 +478,19 @@ PLANTS = [
     ("any goal refuses", "a goal that no function lacks", """if f"`{goal}`" in why""", "if goal"),
     ("a clause is a body", "a clause, a type", "first < start and end <= last", "end <= last"),
     ("the last function counts", "two functions", "found += named or", "found = named or"),
+    ("the prover judges those that name a check", "edits that name a check", "try_all(by_check(left, False), sums", "try_all(left, sums"),
+    ("a run of all has those that name a check", "edits that name a check", "return by_check(found, False)", "return found"),
+    ("what a check passes is refused", "edits that name a check", 'f"NOT REFUSED: {check} passes" if passed else f"refused', 'f"refused'),
+    ("a check is over the code as it is", "edits that name a check", "        write(os.path.join(folder, path), changed)\n", "        pass\n"),
+    ("an edit stays for the next check", "edits that name a check", "for path, before in was.items():", "for path, before in {}.items():"),
+    ("a check's count is lost", "edits that name a check", "    if checks:\n", "    if not checks:\n"),
+    ("a check that always fails judges", "checks that can't judge", "if check in unfit else tried(", "if False else tried("),
+    ("a body that isn't built is refused", "checks that can't judge", "    if not built:", "    if False:"),
+    ("a check that isn't started refuses", "checks that can't judge", "None if ran.returncode in (126, 127) or ran.returncode < 0 else ran", "ran"),
+    ("an edit that can't be applied is judged", "checks that can't judge", "    if not found:\n        return \"BAD EDIT", "    if not found:\n        return \"refused: BAD EDIT"),
+    ("edits of all days", "edits of a day", 'if line.startswith(f"{day} ")', 'if line[0] != "#"'),
+    ("a day's edits are all edits", "edits of a day", "asked(drawn(given.drawn) if given.drawn else given.edits)", "asked(given.edits)"),
+    ("no edit of a day is fine", "edits of a day", 'return words or sys.exit(f"wrong_bodies.py: none was drawn on {day}")', "return words"),
     ("a text that stands there twice is changed", "an old text that stands there twice", "if texts[path].count(old) != 1:", "if not texts[path].count(old):"),
 ]
 
@@ -425,13 +506,13 @@ def faults(texts, name):
 
 def planted(texts, old, new):
     """The scripts with another text in the place of one that stands there once, or None."""
-    paths = [it for it in (SCRIPT, JUDGE) if texts[it].count(old) == 1]
+    paths = [it for it in (SCRIPT, JUDGE, CHECKER) if texts[it].count(old) == 1]
     return {**texts, paths[0]: texts[paths[0]].replace(old, new)} if len(paths) == 1 else None
 
 
 def main():
     texts = {}
-    for path in (SCRIPT, JUDGE, *OTHERS):
+    for path in (SCRIPT, JUDGE, CHECKER, *OTHERS):
         with open(os.path.join(ROOT, path), encoding="utf-8") as file:
             texts[path] = file.read()
     wrong = [it for name in TESTS for it in faults(texts, name)]

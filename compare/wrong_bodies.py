@@ -1,5 +1,5 @@
 #!/usr/bin/env python3
-"""Tries the wrong bodies that the gate doesn't: compare/wrong_bodies.py [--anew] [--jobs N] [--results FILE] [CRATE[/NAME] ..]
+"""Tries the wrong bodies that the gate doesn't: compare/wrong_bodies.py [--anew] [--jobs N] [--results FILE] [--drawn DAY] [CRATE[/NAME] ..]
 
 Each file of compare/wrong_bodies/CRATE is a must-fail edit: a wrong body, which a contract of the crate refuses. As an edit costs
 a check of its crate, the gate has only a few (crates/CRATE/must-fail). Here `rt check` first proves the crate as it is, in place, so
@@ -9,8 +9,12 @@ has to meet hangs on no other's body, and the line has the goal and its place. A
 way. What isn't refused then (no goal is open, it doesn't compile, a proof names what is gone, the prover gives up) `rt must-fail`
 tries in that copy, a few at a time, and what it says decides. --jobs tries the edits of so many crates side by side (2).
 
+What no contract pins (files, streams, which of several faults is reported, want of memory) a check of the gate has to find. The edit names it
+(`check: rows`), and compare/lib/wrong_by_check.py runs it over the edit in a copy of the repository. Such an edit is tried where it is given by
+name, or by --drawn: these are the edits that wrong_bodies/drawn.txt lists for a DAY, drawn by someone who hadn't read the others.
+
 What came of an edit is kept in out/wrong_bodies.jsonl, under a sum of all that it rests on: the edit, the sources, definitions and
-proofs of its crate and of those below, their lines of crates.txt, HANDLES and the kit. So a run that was cut off goes on where it
+proofs of its crate and of those below, their lines of crates.txt, HANDLES and the kit; not what a check found. So a run that was cut off goes on where it
 ended, and a later one tries what changed; --anew tries all.
 
 The last lines are a table by crate, each edit again that wasn't refused at a goal of the code, counts and times. An edit that is
@@ -37,6 +41,7 @@ import time
 sys.path.insert(0, os.path.join(os.path.dirname(os.path.realpath(__file__)), "lib"))
 
 import wrong_body  # noqa: E402
+import wrong_by_check  # noqa: E402
 
 HERE = os.path.dirname(os.path.realpath(__file__))
 ROOT = os.path.dirname(HERE)
@@ -54,11 +59,19 @@ AT_GOAL = r"refused at src/|refused, as it must be: (?:note: )?(?:\./)?src/"
 UNPROVED = r"its must-fail edits begin with did not end well|so its must-fail edits are tried once more"
 
 
+def drawn(day):
+    """The edits that were drawn on a day, as words."""
+    with open(os.path.join(EDITS, "drawn.txt"), encoding="utf-8") as file:
+        words = [line.split()[1] for line in file if line.startswith(f"{day} ")]
+    return words or sys.exit(f"wrong_bodies.py: none was drawn on {day}")
+
+
 def asked(words):
-    """The edits by crate: all, those of a crate, or one of them."""
-    found = {crate: sorted(os.listdir(os.path.join(EDITS, crate))) for crate in sorted(os.listdir(EDITS))}
+    """The edits by crate: all that the prover judges, those of a crate, or one of them."""
+    crates = [it for it in sorted(os.listdir(EDITS)) if os.path.isdir(os.path.join(EDITS, it))]
+    found = {crate: sorted(os.listdir(os.path.join(EDITS, crate))) for crate in crates}
     if not words:
-        return found
+        return by_check(found, False)
     wanted = {}
     for word in words:
         crate, _, name = word.partition("/")
@@ -67,6 +80,12 @@ def asked(words):
             sys.exit(f"wrong_bodies.py: there is none for {word}")
         wanted.setdefault(crate, []).extend(names)
     return wanted
+
+
+def by_check(edits, named):
+    """Those of the edits, by crate, that name a check, or that name none."""
+    chosen = {crate: [it for it in names if bool(wrong_by_check.check_of(text_of(crate, it))) == named] for crate, names in edits.items()}
+    return {crate: names for crate, names in chosen.items() if names}
 
 
 def with_those_below(crates):
@@ -336,6 +355,12 @@ def try_all(edits, sums, tell, jobs):
             done.result()
 
 
+def try_by_checks(edits, tell):
+    """Tries edits that name a check."""
+    texts = {(crate, name): text_of(crate, name) for crate, names in edits.items() for name in names}
+    wrong_by_check.try_all(texts, lambda edit, said, seconds: tell({edit: Tried(f"must-fail {edit[0]}/{edit[1]}: {said}", seconds)}))
+
+
 # ---- what came of all
 
 def counted(said):
@@ -373,12 +398,13 @@ def read_words():
     words.add_argument("--anew", action="store_true", help="take nothing from earlier runs")
     words.add_argument("--jobs", type=int, default=2, metavar="N", help="the edits of so many crates side by side (2)")
     words.add_argument("--results", metavar="FILE", help="write a row for each edit there, as CSV")
+    words.add_argument("--drawn", metavar="DAY", help="the edits that were drawn on a day, as 2026-11-27")
     return words.parse_args()
 
 
 def main():
     given, begun = read_words(), time.monotonic()
-    edits = asked(given.edits)
+    edits = asked(drawn(given.drawn) if given.drawn else given.edits)
     sums = sums_of(edits)
     earlier = {} if given.anew else kept()
     said = {edit: earlier[it] for edit, it in sums.items() if it in earlier}
@@ -394,12 +420,16 @@ def main():
     tell(dict(said))
     left = {crate: [it for it in names if (crate, it) not in said] for crate, names in edits.items()}
     before = sum(it.seconds for it in said.values())
-    try_all({crate: names for crate, names in left.items() if names}, sums, tell, given.jobs)
+    try_all(by_check(left, False), sums, tell, given.jobs)
+    try_by_checks(by_check(left, True), tell)
     if given.results:
         write_rows(given.results, said, f"--results {given.results}")
     print(*table(said), sep="\n")
     weakest = [it.said for _, it in sorted(said.items()) if not re.match(AT_GOAL, outcome(it.said))]
     print(*weakest, sep="\n", end="\n" * bool(weakest))
+    checks = collections.Counter(it[1] for one in said.values() if (it := re.match(r"refused by (\w+)", outcome(one.said))))
+    if checks:
+        print(f"{sum(checks.values())} refused by another check of the gate: {', '.join(f'{name} {count}' for name, count in sorted(checks.items()))}")
     count, refused, at, weak, survive, minutes = counted(said.values())
     print(f"{count} wrong bodies of {len(edits)} crates, {refused} refused, {at} of them at a goal of the code, {weak} not by a contract; {survive} survive, {count - refused - survive} bad or not tried; {old} in earlier runs")
     print(f"{(time.monotonic() - begun) / 60:.1f} minutes by the clock for this run; these tries took {minutes:.1f} minutes of a processor, {before / 60:.1f} of them in earlier runs")

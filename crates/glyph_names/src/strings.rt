@@ -1,6 +1,6 @@
 //! The names of glyphs in a `CFF ` table (Technical Note 5176, sections 10 "String INDEX" and 13 "Charsets").
 
-ghost use Rattle.std.specs.Prelude.{◌≡◌, [], map, length, unwrap_or, IfOk};
+ghost use Rattle.std.specs.Prelude.{◌≡◌, [], true, map, length, unwrap_or, IfOk, IsOk};
 ghost use Rattle.subsetter_cffdata.specs.Indexes.IndexView.{items};
 ghost use Rattle.subsetter_cff.specs.Read.Cff.{char_strings};
 ghost use Rattle.subsetter_cff.specs.Read.Opened.{opened};
@@ -25,7 +25,9 @@ pub struct Charset<'a> {
 /// The SIDs of a table's glyphs.
 fn sids_of(alloc: Global, table: &Table<'_>) -> Result<Vec<u32>, AllocError>
     requires { IsSource table.now }
-    ensures { IfOk result (λ v. v.items ≡ sids_of (cff_of table.now)) }
+    ensures sids { IfOk result (λ v. v.items ≡ sids_of (cff_of table.now)) }
+    // A CID-keyed font has none, which takes no memory.
+    ensures keyed { table.now.top.has_ros ≡ true → IsOk result }
 {
     if table.top.has_ros {
         return Ok(Vec::new(alloc));

@@ -1,6 +1,6 @@
 //! A file that is made by its first write.
 
-ghost use Rattle.std.specs.Prelude.{◌≡◌, None, IsTrue};
+ghost use Rattle.std.specs.Prelude.{◌≡◌, OnOk, None, IsTrue};
 ghost use Rattle.std.specs.Fs.{file_type, IsFile};
 ghost use Rattle.late_file.specs.Late.{lacks_call};
 
@@ -109,7 +109,8 @@ impl<'a, R: Files> LateFile<'a, R> {
 
     /// Gives the file its name.
     fn take_name(&mut self) -> io::Result<()>
-        ensures { self.new.file ≡ self.old.file }
+        ensures file { self.new.file ≡ self.old.file }
+        ensures named { OnOk result (self.new.beside ≡ None) }
     {
         match &self.beside {
             Some(other) => replace(self.rt, self.alloc, other.as_str(), self.name)?,
