@@ -360,6 +360,8 @@ class Work:
 def plant_all(lists, plants, jobs):
     """The outcomes, in the order of the lists."""
     with tempfile.TemporaryDirectory(prefix="plants-", ignore_cleanup_errors=True) as top:
+        # (tests that root runs start programs as another user, who has to reach them)
+        os.chmod(top, 0o755)
         work = Work(lists, plants, built_once(lists, plants, top, jobs))
         threads = [threading.Thread(target=work.run, args=(os.path.join(top, str(i)),)) for i in range(min(jobs, len(work.pieces)))]
         for thread in threads:

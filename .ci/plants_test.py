@@ -119,6 +119,9 @@ def check_outcomes(here):
     here.lists(f"{SEEN}\n{SURVIVOR}")
     said = here.ends("a survivor", 1, r"^not seen: small: the other order: GOT THROUGH$", r"^\| argument order \| 2 \| 1 \| 1 \|$")
     demand(said.splitlines()[-1] == "2 bugs planted, 1 seen, 1 got through", "the last line with a survivor", said)
+    reached = "run: for at in . .. ../..; do [ -n \"$(find $at -maxdepth 0 -perm -o=x)\" ] || exit 1; done; bash test.sh\nran: checks\nseconds: 1\n"
+    here.lists(SEEN, f"test: adds\n{reached}")
+    here.ends("a copy that other users reach", 0, r"^1 bugs planted, 1 seen")
     here.lists(f"{SLOW}\n{OTHER}")
     here.ends("two plants of a test that leaves a file", 0, r"^2 bugs planted, 2 seen", words=["--jobs", "1"])
     demand(not os.path.exists(os.path.join(here.at, "left")), "the repository itself is tested")
