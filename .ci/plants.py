@@ -386,11 +386,11 @@ def plant_all(lists, plants, jobs):
 # ---- what is printed
 
 def taken_from(paths, plants):
-    """The outcomes that earlier runs wrote, the last of each plant; NOT TRIED where none has it."""
+    """The outcomes that earlier runs wrote, or printed as they went, the last of each plant; NOT TRIED where none has it."""
     by_front, found = {f"{it.layer}: {it.name}: ": it for it in plants}, {}
     for path in paths:
         with open(path, encoding="utf-8") as file:
-            lines = re.findall(r"^ *(\d+) s  (.*)$", file.read(), re.M)
+            lines = re.findall(r"^ *(?:\d+/\d+ +)?(\d+) s  (.*)$", file.read(), re.M)
         for seconds, line in lines:
             front = next((it for it in by_front if line.startswith(it)), None)
             if front:

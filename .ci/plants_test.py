@@ -262,7 +262,7 @@ def check_results(here):
     demand("GOT THROUGH" in lines[1] and all(": seen: " in it for it in lines[2:]), "the results", lines)
     # Reports of what was written: of two files the last that has a plant counts, and what none has wasn't tried.
     write(here.at, "results.txt", "\n".join(lines[:-2]) + "\n")
-    write(here.at, "more.txt", f"# another run\n{lines[-2].replace(': seen: ', ': GOT THROUGH: ')}\n   7 s  large: number 3: GOT THROUGH\n{lines[3].replace(': seen: ', ': IT NO LONGER APPLIES: ')}\n")
+    write(here.at, "more.txt", f"# another run\n{lines[-2].replace(': seen: ', ': GOT THROUGH: ')}\n   7 s  large: number 3: GOT THROUGH\n   1/12 {lines[3].replace(': seen: ', ': IT NO LONGER APPLIES: ')}\n")
     before = {it: os.stat(os.path.join(here.at, it)).st_mtime_ns for it in FILES}
     said = here.ends("a report of what was written", 1, r"^all 13 bugs$", r"^\| small \| 13 \| 9 \| 4 \|$", r"^not seen: small: the other order: GOT THROUGH$",
                      r"^not seen: small: number 1: IT NO LONGER APPLIES: FAILED", r"^not seen: small: number 10: GOT THROUGH: FAILED", r"^not seen: small: number 11: NOT TRIED: no run has it$",
