@@ -7,7 +7,8 @@ and the copy is made what it was. A test that doesn't end, can't be started or i
 
 --draw takes N of those that are drawn in the gate: their tests need what `make quick` needs, and at most 30 seconds of a processor. Which
 depends on the plant's name and on the COMMIT alone. --drawn takes the plants of a measure: those that were drawn on that day by somebody
-who had read the sources and no test. Each is then listed with what came of it, at first and now. The last line is `N bugs planted, N seen, N got through`, and the names of those that
+who had read the sources and no test. Each is then listed with what came of it, at first and now. A long run may be done in parts, each with --results, of which
+--taken then makes one report. The last line is `N bugs planted, N seen, N got through`, and the names of those that
 weren't seen are above it. The status is 0 where each was seen, else 1; 2 where an argument is wrong.
 """
 import argparse
@@ -360,6 +361,8 @@ class Work:
 def plant_all(lists, plants, jobs):
     """The outcomes, in the order of the lists."""
     with tempfile.TemporaryDirectory(prefix="plants-", ignore_cleanup_errors=True) as top:
+        # (tests that root runs start programs as another user, who has to reach them)
+        os.chmod(top, 0o755)
         work = Work(lists, plants, built_once(lists, plants, top, jobs))
         threads = [threading.Thread(target=work.run, args=(os.path.join(top, str(i)),)) for i in range(min(jobs, len(work.pieces)))]
         for thread in threads:
@@ -381,6 +384,20 @@ def plant_all(lists, plants, jobs):
 
 
 # ---- what is printed
+
+def taken_from(paths, plants):
+    """The outcomes that earlier runs wrote, or printed as they went, the last of each plant; NOT TRIED where none has it."""
+    by_front, found = {f"{it.layer}: {it.name}: ": it for it in plants}, {}
+    for path in paths:
+        with open(path, encoding="utf-8") as file:
+            lines = re.findall(r"^ *(?:\d+/\d+ +)?(\d+) s  (.*)$", file.read(), re.M)
+        for seconds, line in lines:
+            front = next((it for it in by_front if line.startswith(it)), None)
+            if front:
+                result, _, why = line[len(front):].partition(": ")
+                found[front] = Outcome(by_front[front], result, why, int(seconds))
+    return [found.get(front) or Outcome(plant, "NOT TRIED", "no run has it", 0) for front, plant in by_front.items()]
+
 
 def line_of(outcome):
     return f"{outcome.plant.layer}: {outcome.plant.name}: {outcome.result}{outcome.why and ': ' + outcome.why}"
@@ -449,6 +466,7 @@ def read_words(words):
     given.add_argument("--seed", metavar="COMMIT", help="of --draw: HEAD's commit where it is left out")
     given.add_argument("--jobs", type=count_of, default=os.cpu_count() or 1, metavar="N", help="copies that are tested beside each other: as many as there are processors")
     given.add_argument("--results", metavar="FILE", help="a line for each plant goes there")
+    given.add_argument("--taken", action="append", default=[], metavar="FILE", help="plant nothing, and report what earlier runs wrote by --results; several may be given")
     given.add_argument("--list", action="store_true", help="print what is chosen, and plant nothing")
     found = given.parse_args(words)
     if found.seed and not found.draw:
@@ -499,7 +517,8 @@ def main(words):
     if given.list:
         print_list(lists, plants)
         return 0
-    outcomes, words = plant_all(lists, plants, given.jobs), words_of_choice(lists, plants, given)
+    outcomes = taken_from(given.taken, plants) if given.taken else plant_all(lists, plants, given.jobs)
+    words = words_of_choice(lists, plants, given)
     if given.results:
         write_results(given.results, outcomes, words)
     return report(outcomes, words, given.drawn)

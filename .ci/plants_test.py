@@ -119,6 +119,9 @@ def check_outcomes(here):
     here.lists(f"{SEEN}\n{SURVIVOR}")
     said = here.ends("a survivor", 1, r"^not seen: small: the other order: GOT THROUGH$", r"^\| argument order \| 2 \| 1 \| 1 \|$")
     demand(said.splitlines()[-1] == "2 bugs planted, 1 seen, 1 got through", "the last line with a survivor", said)
+    reached = "run: for at in . .. ../..; do [ -n \"$(find $at -maxdepth 0 -perm -o=x)\" ] || exit 1; done; bash test.sh\nran: checks\nseconds: 1\n"
+    here.lists(SEEN, f"test: adds\n{reached}")
+    here.ends("a copy that other users reach", 0, r"^1 bugs planted, 1 seen")
     here.lists(f"{SLOW}\n{OTHER}")
     here.ends("two plants of a test that leaves a file", 0, r"^2 bugs planted, 2 seen", words=["--jobs", "1"])
     demand(not os.path.exists(os.path.join(here.at, "left")), "the repository itself is tested")
@@ -257,6 +260,16 @@ def check_results(here):
     commit = planted.git(here.at, "rev-parse", "--short", "HEAD").strip()
     demand(lines[0] == f"# .ci/plants.py, commit {commit}: all 13 bugs" and len(lines) == 14, "the results' first line", lines)
     demand("GOT THROUGH" in lines[1] and all(": seen: " in it for it in lines[2:]), "the results", lines)
+    # Reports of what was written: of two files the last that has a plant counts, and what none has wasn't tried.
+    write(here.at, "results.txt", "\n".join(lines[:-2]) + "\n")
+    write(here.at, "more.txt", f"# another run\n{lines[-2].replace(': seen: ', ': GOT THROUGH: ')}\n   7 s  large: number 3: GOT THROUGH\n   1/12 {lines[3].replace(': seen: ', ': IT NO LONGER APPLIES: ')}\n")
+    before = {it: os.stat(os.path.join(here.at, it)).st_mtime_ns for it in FILES}
+    said = here.ends("a report of what was written", 1, r"^all 13 bugs$", r"^\| small \| 13 \| 9 \| 4 \|$", r"^not seen: small: the other order: GOT THROUGH$",
+                     r"^not seen: small: number 1: IT NO LONGER APPLIES: FAILED", r"^not seen: small: number 10: GOT THROUGH: FAILED", r"^not seen: small: number 11: NOT TRIED: no run has it$",
+                     r"^13 bugs planted, 9 seen, 4 got through$", words=["--taken", path, "--taken", os.path.join(here.at, "more.txt")])
+    demand("large" not in said and before == {it: os.stat(os.path.join(here.at, it)).st_mtime_ns for it in FILES}, "a report plants bugs, or has others", said)
+    for name in ("results.txt", "more.txt"):
+        os.unlink(os.path.join(here.at, name))
 
 
 def main():

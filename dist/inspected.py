@@ -325,6 +325,7 @@ class Looker:
         with open(os.path.join(ROOT, "bindings", "c", "subsetter.h"), "rb") as file:
             self.demand(found.get("include/subsetter.h") == file.read(), f"{name}: its header isn't that of bindings/c")
         self.carries(name, found, "")
+        self.without_debug(name, found.get("lib/libsubsetter.a", b""))
         readme = found.get("README.md", b"").decode()
         self.demand(readme.startswith(f"# subsetter {self.version} for Windows on x86_64\n"), f"{name}: README.md")
         self.licensed(f"{name}: README.md", readme, f"The licence is {LICENCE} (LICENSE, NOTICE).")
@@ -403,6 +404,15 @@ class Looker:
             numbers = re.match(r"manylinux_(\d+)_(\d+)_", platform)
             promised = [int(it) for it in numbers.groups()] if numbers else older.get(platform.split("_")[0], [0, 0])
             self.demand(needed != [0, 0] and promised >= needed and promised <= [2, 31], f"{name}: {tag}, and the library needs glibc {needed}")
+
+    def without_debug(self, name, static):
+        """A static library has code, and nothing that a debugger reads."""
+        with tempfile.NamedTemporaryFile(prefix="look-") as file:
+            file.write(static)
+            file.flush()
+            said = subprocess.run(["objdump", "-h", file.name], capture_output=True, text=True, errors="replace").stdout
+        sections = {*re.findall(r"^\s+\d+ (\.[a-z]+)", said, re.M)}
+        self.demand(".text" in sections and ".debug" not in sections, f"{name}: its static library has the sections {sorted(sections)}")
 
     @staticmethod
     def glibc(data):
