@@ -135,11 +135,13 @@ def check_answers():
 
 # ---- times and memory
 
-def timed(name, ours, theirs, held=0, refused=""):
+def timed(name, ours, theirs, held=0, refused="", face=Face()):
     """The cells of a row with these times, and whether it is past a bound; its memory may be 10,000 + 3 * 1,000 + 32 * 100 bytes and 1 MB."""
     row = cff2_times.Row.__new__(cff2_times.Row)
-    vars(row).update(name=name, count=80, glyphs=100, size=10_000, length=1_000, ours=ours, theirs=theirs, refused=refused, memory=lambda program, room: [held, 4])
-    return cff2_times.judged(row, "", "")
+    vars(row).update(name=name, path="source", at=["16384"], glyph_list="0-1", count=80, glyphs=100, size=10_000, length=1_000, ours=ours, theirs=theirs, refused=refused,
+                     memory=lambda program, room: [held, 4])
+    with mock.patch.object(cff2_whole, "Face", lambda *_: face):
+        return cff2_times.judged(row, "", "")
 
 
 def check_bounds():
@@ -150,7 +152,11 @@ def check_bounds():
         demand(timed(name, ours, theirs)[1] == past, f"{name}: {ours} ns, HarfBuzz {theirs}", not past)
     for held, past in ((may, False), (may + 1, True)):
         demand(timed(real, [1000], [1000], held)[1] == past, f"{held} bytes", not past)
-    demand(timed(real, [], [], refused="port: error malformed font") == ([real, 80, "port: error malformed font", *[""] * 6], True), "a font that is refused")
+    wide, narrow, overflow = Face(halves=(1000, 70000)), Face(halves=(1000, 1000, 70000)), "error overflow occurred"
+    for refused, face, past in ((f"port: {overflow}", wide, False), (f"port: {overflow}", narrow, True), ("port: error malformed font", wide, True), (f"HarfBuzz: {overflow}", wide, True),
+                                (f"port: {overflow}; HarfBuzz: died with 1", wide, True)):
+        got = timed(real, [], [], refused=refused, face=face)
+        demand(got == ([real, 80, refused, *[""] * 6], past), f"{refused} of advances of {face.halves} halves", got)
     cells = timed(large, [7_000_000], [3_500_000], 9)[0]
     demand(dict(zip(cff2_times.HEAD, map(str, cells))) == dict(zip(cff2_times.HEAD, [large, "80", "7000", "3500", "2.00", "1000", "9", "4", str(may)])), "the cells", cells)
 

@@ -15,8 +15,9 @@ the coordinates and draws. Memory is the bytes that dev_bench requests at most (
 the same of what the process holds (RSS).
 
 The status is 1 where a row of Cantarell-VF takes more than HarfBuzz, one of another font more than HarfBuzz and 5 ms, or one requests more memory than
-the source, three times the new font, 32 bytes for each of the source's glyphs and 1 MB; where the port or HarfBuzz refuses a font; or
-where a font is missing. The load of the machine is printed; where it is above 1 at the start the times aren't taken, unless --any-machine.
+the source, three times the new font, 32 bytes for each of the source's glyphs and 1 MB; where the port or HarfBuzz refuses a font (but
+for an advance for which a charstring has no number, as in cff2.py); or where a font is missing. The load of the machine is printed; where
+it is above 1 at the start the times aren't taken, unless --any-machine.
 """
 import argparse
 import os
@@ -30,6 +31,8 @@ sys.path.insert(0, os.path.join(os.path.dirname(os.path.realpath(__file__)), "li
 import bench  # noqa: E402
 import build  # noqa: E402
 import cff2_runs  # noqa: E402
+import cff2_stand_in  # noqa: E402
+import cff2_whole  # noqa: E402
 import font_at  # noqa: E402
 import fonts  # noqa: E402
 import pdf_file  # noqa: E402
@@ -81,6 +84,11 @@ class Row:
             self.theirs.append(theirs[0])
             self.length = ours[2]
 
+    def is_rightly_refused(self):
+        """Whether the port has to refuse these glyphs at the location, and does so by the error for that."""
+        glyphs, at = cff2_stand_in.glyphs_of(self.glyph_list), list(map(int, self.at))
+        return self.refused == f"port: error {cff2_whole.TOO_LARGE}" and cff2_whole.is_too_wide(cff2_whole.Face(self.path), at, glyphs)
+
     def memory(self, program, room):
         """The bytes that a run requests at most, and the KiB that it holds, each above those of a run without a font."""
         return [bench.above_no_font(program, self.task(1, room), room, counted) for counted in (True, False)]
@@ -100,7 +108,7 @@ def rows_of(given):
 def judged(row, program, room):
     """The cells of a row, and whether it is past a bound."""
     if row.refused:
-        return [row.name, row.count, row.refused, *[""] * (len(HEAD) - 3)], True
+        return [row.name, row.count, row.refused, *[""] * (len(HEAD) - 3)], not row.is_rightly_refused()
     ours, theirs, ratio = statistics.median(row.ours), statistics.median(row.theirs), bench.median_part(row.ours, row.theirs)
     held, rss = row.memory(program, room)
     may = row.size + 3 * row.length + A_GLYPH * row.glyphs + IN_ALL
