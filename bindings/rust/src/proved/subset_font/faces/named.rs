@@ -84,8 +84,8 @@ fn instance_settings(
 
 /// The coordinates of the named instance of a name, in 65536ths. Names are compared without the case of ASCII letters.
 ///
-/// `UnknownKind` where the file has no font at the index, `MalformedFont` where `fvar` is cut, else `NoInstance` where it has
-/// no such instance.
+/// `UnknownKind` where the file has no font at the index, `MalformedFont` where `fvar` is cut, `NoInstance` where it has no
+/// such instance.
 pub fn face_settings(
     alloc: Global,
     font: &[u8],
