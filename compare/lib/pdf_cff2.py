@@ -15,8 +15,9 @@ line of them, 80 pixels an em, which `/W` alone moves on. MuPDF, Poppler and Gho
 
 The glyphs lean by a ten thousandth, a fortieth of a pixel, as Ghostscript lets FreeType hint what stands upright. --plant makes a mistake before the
 program is called: `place` moves the first axis by a fifth of its range, `axes` gives each axis the value of the next one, `widths` takes
-those of the default, and `unit` moves a point of the other font by one unit. The status is 1 where a place differs or is refused, or
-nothing was compared.
+those of the default, and `unit` moves a point of the other font by one unit. A place at which a kept glyph has an advance past 32,767, for
+which a charstring has no number, has to be refused as `overflow occurred`. The status is 1 where a place differs, or is refused
+otherwise, or where nothing was compared.
 """
 import concurrent.futures
 import itertools
@@ -31,7 +32,7 @@ import pdf_drawn
 import pdf_variable
 from cff2_drawn import HarfBuzz, contours, is_near_a_half, rounded
 from cff2_others import advance_by
-from cff2_whole import Face, Report
+from cff2_whole import TOO_LARGE, Face, Report, is_too_wide
 from pdf_file import Face as File, Pdf, embedded, pages
 
 PACKAGES = [*cff2_runs.PACKAGES, "mupdf-tools", "poppler-utils", "ghostscript", "python3-pil"]
@@ -167,11 +168,12 @@ def compare_place(face, place, glyphs, folder, plant, worst):
 
 
 def compare_face(path, index, count, keep, plant):
-    """The places of a face that are alike, that differ and that are refused, the glyphs, and by how much the worst pixel of each reader differs."""
+    """The places of a face that are alike, that differ, that are refused, and refused for an advance; the glyphs, and by how much the worst pixel
+    of each reader differs."""
     face, rng, worst = Face(path, index), random.Random(os.path.basename(path)), dict.fromkeys(pdf_drawn.READERS, 0)
     shown = HarfBuzz(path, index)
     there = [glyph for glyph in rng.sample(range(1, len(face.names)), min(len(face.names) - 1, 4 * MANY)) if contours(shown.drawn(glyph))][:MANY]
-    alike = different = refused = 0
+    alike = different = refused = wide = 0
     for number in range((count if face.axes else 0) + 1):
         place = font_at.random_place(face.axes, rng) if number else []
         glyphs = rng.sample(there, len(there))
@@ -181,11 +183,14 @@ def compare_face(path, index, count, keep, plant):
                 wrong = compare_place(face, place, glyphs, folder, plant, worst)
                 alike, different = alike + (not wrong), different + bool(wrong)
             except pdf_drawn.Refused as it:
+                if is_too_wide(face, face.at(place), [0, *glyphs]) and str(it) == TOO_LARGE:
+                    wide += 1
+                    continue
                 wrong, refused = [f"refused: {it}"], refused + 1
         if wrong:
             print(f"  {face.label} {number}, at {pdf_variable.words_at(place) or 'the default'}: {'; '.join(wrong)}", flush=True)
-    print(f"{face.label}: {alike + different + refused} places of {len(there)} glyphs: {alike} alike, {different} not, {refused} refused", flush=True)
-    return alike, different, refused, (alike + different) * len(there), worst
+    print(f"{face.label}: {alike + different + refused + wide} places of {len(there)} glyphs: {alike} alike, {different} not, {refused} refused, {wide} for an advance past 32767", flush=True)
+    return alike, different, refused, wide, (alike + different) * len(there), worst
 
 
 def all_fonts(folders, count, only, keep, plant, jobs):
@@ -196,10 +201,10 @@ def all_fonts(folders, count, only, keep, plant, jobs):
           + f", with a planted bug ({plant})" * bool(plant), flush=True)
     with concurrent.futures.ProcessPoolExecutor(jobs) as pool:
         rows = list(pool.map(compare_face, *zip(*found), *map(itertools.repeat, (count, keep, plant)))) if found else []
-    alike, different, refused, glyphs = (sum(row[k] for row in rows) for k in range(4))
-    worst = {reader: max((row[4][reader] for row in rows), default=0) for reader in pdf_drawn.READERS}
-    print(f"{len(found)} fonts, {alike + different + refused} places, {glyphs} glyphs: {alike} drawn by three readers as the same outlines made by another way, {different} not, "
-          f"{refused} refused; pixels at most {', '.join(f'{off} of 255 off by {reader}' for reader, off in worst.items())}")
+    alike, different, refused, wide, glyphs = (sum(row[k] for row in rows) for k in range(5))
+    worst = {reader: max((row[5][reader] for row in rows), default=0) for reader in pdf_drawn.READERS}
+    print(f"{len(found)} fonts, {alike + different + refused + wide} places, {glyphs} glyphs: {alike} drawn by three readers as the same outlines made by another way, {different} not, "
+          f"{refused} refused, {wide} refused for an advance past 32767, as they have to be; pixels at most {', '.join(f'{off} of 255 off by {reader}' for reader, off in worst.items())}")
     if not alike + different:
         print("nothing was compared")
     return different + refused == 0 and alike > 0
