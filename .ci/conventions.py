@@ -6,12 +6,14 @@
 - a record or a field of a table is read by one module (.ci/conventions/tables.txt);
 - no definition and no function stands twice (`compare/contracts.py --twins`), nor once for x and once for y, or for width and height;
 - no number without a name is an offset or a size of a read or a slice, but in a record that is read in order, and none is hexadecimal;
-- each public function has an `ensures`, or docs/GUARANTEES.md lists it with the test in its place.
+- each public function has an `ensures`, or docs/GUARANTEES.md lists it with the test in its place;
+- each edit of must-fail/ and compare/wrong_bodies/ can be applied.
 
 .ci/conventions/exceptions.txt lists what isn't so yet, each kind with its number, which may only fall: a new fault fails the
 check, and so does an exception that isn't needed. `--list` prints all that isn't so; `--shrink` takes from the exceptions those
 that aren't needed, and adds none. A file over 400 lines and a number without a name may stay for a reason, which stands behind a `|`."""
 import argparse
+import glob
 import os
 import re
 import sys
@@ -22,6 +24,7 @@ sys.path.insert(0, os.path.join(HERE, "compare", "lib"))
 
 import rattle_tree  # noqa: E402
 import twins  # noqa: E402
+import wrong_body  # noqa: E402
 from rattle_text import Trouble  # noqa: E402
 
 FILES, LINES, FOLDER = 12, 400, ".ci/conventions"
@@ -198,13 +201,24 @@ def contracts(root, tree):
     return found
 
 
+def edits(root):
+    """Edits whose texts aren't in the code once. Each is refused then, whatever is proved."""
+    found = {}
+    for path in sorted(glob.glob(os.path.join(root, "crates", "*", "must-fail", "*.edit")) + glob.glob(os.path.join(root, "compare", "wrong_bodies", "*", "*.edit"))):
+        short = os.path.relpath(path, root)
+        crate = short.split(os.sep)[1 if short.startswith("crates") else 2]
+        if wrong_body.applied(rattle_tree.read(path), os.path.join(root, "crates", crate)) is None:
+            found[f"edit {short}"] = "one of its texts isn't in the code once"
+    return found
+
+
 def faults(root):
     """All that isn't as it should be: what, with how it is."""
     listed = list(folders(root))
     if not any(files for _, files in listed):
         raise Trouble(f"{root} has no sources")
     tree = rattle_tree.Tree(root)
-    return {**heaps(listed), **long_files(root, listed), **layers(root), **readers(root, listed), **doubles(tree), **numbers(root, listed), **contracts(root, tree)}
+    return {**heaps(listed), **long_files(root, listed), **layers(root), **readers(root, listed), **doubles(tree), **numbers(root, listed), **contracts(root, tree), **edits(root)}
 
 
 class Exceptions:

@@ -64,6 +64,10 @@ def row(tests, function="low.read.opened"):
     return both(CHECKS, add(GUARANTEES, f"| `{function}` | a file | {tests} |\n\n## Others\n\n| `low.read.word` | it is elsewhere | `x` |\n"))
 
 
+def edit(folder, old, file="src/read.rt"):
+    return add(f"{folder}/wrong.edit", f"file: {file}\nold: {old}\nnew: wrong\n")
+
+
 # Name, change, status, and a text that has to be printed.
 PLANTS = [
     ("nothing", lambda root: None, 0, "0 faults"),
@@ -130,6 +134,11 @@ PLANTS = [
     ("one that is listed with a file that isn't there", both(BARE, row("`check_files` in `tests/files.py`, `tests/streams.py`")), 1, "no test of its row is `tests/streams.py`"),
     ("a row too many", row("`check_files` in `tests/files.py`", "low.read.word"), 1, "contract low.read.word: docs/GUARANTEES.md lists it"),
     ("a row of a function that isn't there", row("`check_files` in `tests/files.py`"), 1, "contract low.read.opened: docs/GUARANTEES.md lists it"),
+    ("a wrong body", edit("compare/wrong_bodies/low", "    bytes[0]"), 0, "0 faults"),
+    ("one of another text", edit("compare/wrong_bodies/low", "bytes[2]"), 1, "edit compare/wrong_bodies/low/wrong.edit: one of its texts isn't in the code once"),
+    ("one of a text that stands twice", edit("crates/low/must-fail", "fn "), 1, "edit crates/low/must-fail/wrong.edit: one of its texts"),
+    ("one of a file that isn't there", edit("crates/low/must-fail", "    bytes[0]", "src/none.rt"), 1, "edit crates/low/must-fail/wrong.edit: one of its texts"),
+    ("one without a text", add("crates/low/must-fail/wrong.edit", "file: src/read.rt\n"), 1, "edit crates/low/must-fail/wrong.edit: one of its texts"),
     ("no list of functions", at(GUARANTEES, "### Public functions without a contract", "### Others"), 2, "has no section"),
     ("no crates", lambda root: shutil.rmtree(os.path.join(root, "crates")), 2, "no sources"),
     ("no list of layers", lambda root: os.remove(os.path.join(root, ".ci/conventions/layers.txt")), 2, "can't be read"),
