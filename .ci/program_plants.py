@@ -93,7 +93,7 @@ PLANTS = [
     ("a range of SIDs that repeats its first", "proved/glyph_names/charset.rs", "u32::from(run.first) + run.taken;", "u32::from(run.first);"),
     ("any byte in a name", "proved/subset_lines/objects/quoted.rs", "write_escaped_byte(shown(*byte), out)?;", "write_escaped_byte(*byte, out)?;"),
     ("the names of the first face", "proved/subset_font/making/outcome.rs", "let post = bytes_of(font, index, Tag::POST);", "let post = bytes_of(font, 0, Tag::POST);"),
-    ("why a subset is refused not given", "proved/subset_font/faces/info.rs", 'Some(hint) => Ok(Some(format!(in alloc; "{hint}")?)),', "Some(_) => Ok(None),"),
+    ("why a subset is refused not given", "proved/subset_font/faces/accepted.rs", 'Some(hint) => Ok(Some(format!(in alloc; "{hint}")?)),', "Some(_) => Ok(None),"),
     # what misled a reader: files that are cut or no fonts, limits, characters without a glyph, and words that are near to options
     ("a character without a glyph not noted", "proved/subset_font/faces/missing.rs", "if glyph == 0 && found.len() < 4", "if glyph == 1 && found.len() < 4"),
     ("a fourth character not seen", "proved/subset_font/faces/missing.rs", "found.len() < 4", "found.len() < 3"),

@@ -3,10 +3,11 @@
 
 Each file of compare/wrong_bodies/CRATE is a must-fail edit: a wrong body, which a contract of the crate refuses. As an edit costs
 a check of its crate, the gate has only a few (crates/CRATE/must-fail). Here `rt check` first proves the crate as it is, in place, so
-that what it keeps serves a later run. A copy then has each edit in turn, and `rt check --only` proves the functions anew that it
-changes: where it leaves a goal of the code open, a check of the whole crate would too, and the line has the goal and its place. What
-isn't refused so (no goal is open, it doesn't compile, a proof names what is gone, the prover gives up) `rt must-fail` tries in that
-copy, a few at a time, and what it says decides. --jobs tries the edits of so many crates side by side (2).
+that what it keeps serves a later run. A copy then has edits of different functions' bodies together, and `rt check --only` proves
+these functions anew: where it leaves a goal of one's code open, a check of the whole crate with that edit would too, as what a function
+has to meet hangs on no other's body, and the line has the goal and its place. An edit that isn't refused so is tried alone in this
+way. What isn't refused then (no goal is open, it doesn't compile, a proof names what is gone, the prover gives up) `rt must-fail`
+tries in that copy, a few at a time, and what it says decides. --jobs tries the edits of so many crates side by side (2).
 
 What came of an edit is kept in out/wrong_bodies.jsonl, under a sum of all that it rests on: the edit, the sources, definitions and
 proofs of its crate and of those below, their lines of crates.txt, HANDLES and the kit. So a run that was cut off goes on where it
@@ -214,25 +215,64 @@ def outcome(line):
     return line.partition(": ")[2]
 
 
-def at_goal(room, crate, name, proved):
-    """A try of an edit by a check of the functions that it changes: what to say, or None where that doesn't refuse it."""
-    folder = os.path.join(room, "crates", crate)
+def text_of(crate, name):
     with open(os.path.join(EDITS, crate, name), encoding="utf-8") as file:
-        found = wrong_body.applied(file.read(), folder)
-    only = found and wrong_body.functions_of(crate, found[1], proved)
-    if not only:
-        return None, 0
+        return file.read()
+
+
+def printed_for(room, crate, texts, only):
+    """A check of these functions, where the copy's files have these texts for its time."""
+    folder = os.path.join(room, "crates", crate)
     begin(room, crate)
     was = {}
-    for path, text in found[0].items():
+    for path, text in texts.items():
         with open(os.path.join(folder, path), encoding="utf-8") as file:
             was[path] = file.read()
         write(os.path.join(folder, path), text)
     ran = run(["rt", "check", "--jobs", "1", *[word for it in only for word in ("--only", it)]], folder, subprocess.DEVNULL)
     for path, text in was.items():
         write(os.path.join(folder, path), text)
-    refused = wrong_body.refusal(ran.status, ran.printed, crate, proved)
-    return refused and f"must-fail {crate}/{name}: refused at {refused.place} in {refused.function}: {refused.goal}", ran.seconds
+    return ran
+
+
+def refused_line(crate, name, refused):
+    return refused and f"must-fail {crate}/{name}: refused at {refused.place} in {refused.function}: {refused.goal}"
+
+
+def at_goal(room, crate, name, proved):
+    """A try of an edit by a check of the functions that it changes: what to say, or None where that doesn't refuse it."""
+    found = wrong_body.applied(text_of(crate, name), os.path.join(room, "crates", crate))
+    only = found and wrong_body.functions_of(crate, found[1], proved)
+    if not only:
+        return None, 0
+    ran = printed_for(room, crate, found[0], only)
+    return refused_line(crate, name, wrong_body.refusal(ran.status, ran.printed, crate, proved)), ran.seconds
+
+
+def groups_of(room, crate, names, proved):
+    """Edits that one check can try: of bodies alone, no two of the same function. Each group has the functions of each edit, and the texts that
+    all make. One that fits in no group isn't in the answer."""
+    folder, groups = os.path.join(room, "crates", crate), []
+    for name in names:
+        alone = wrong_body.applied(text_of(crate, name), folder)
+        own = alone and wrong_body.bodies_alone(crate, alone[1], proved)
+        for functions, texts in groups if own else []:
+            found = wrong_body.applied(text_of(crate, name), folder, texts)
+            if found and not any(set(own) & set(it) for it in functions.values()) and wrong_body.bodies_alone(crate, found[1], proved) == own:
+                functions[name] = own
+                texts.update(found[0])
+                break
+        else:
+            if own:
+                groups.append(({name: own}, alone[0]))
+    return [it for it in groups if len(it[0]) > 1]
+
+
+def at_goals(room, crate, functions, texts, proved):
+    """A try of several edits by one check: what to say of each that it refuses."""
+    ran = printed_for(room, crate, texts, [it for own in functions.values() for it in own])
+    found = {name: wrong_body.refusal(ran.status, ran.printed, crate, proved, own) for name, own in functions.items()}
+    return {(crate, name): Tried(refused_line(crate, name, refused), ran.seconds / len(functions)) for name, refused in found.items() if refused}
 
 
 def write(path, text):
@@ -269,6 +309,10 @@ def try_crate(crate, names, sums, tell):
                 proved, why = None, "its files changed while this ran"
         if proved is None:
             return tell({(crate, name): Tried(not_tried(crate, name, why), 0) for name in names})
+        for functions, texts in groups_of(room, crate, names, proved):
+            said = at_goals(room, crate, functions, texts, proved)
+            tell_kept(said, sums, tell)
+            names = [it for it in names if (crate, it) not in said]
         left = {}
         for name in names:
             said, left[name] = at_goal(room, crate, name, proved)

@@ -41,10 +41,10 @@ def function_at(path, text, start, end):
         return None
 
 
-def applied(edit, folder):
-    """What an edit makes of a crate's files, by path, and the functions that it changes, as (path, name or None); None where it can't be
-    applied to these files, one pair after the other."""
-    texts, changed, path, old = {}, [], None, None
+def applied(edit, folder, texts=None):
+    """What an edit makes of a crate's files, by path, behind what others made of them (`texts`), and the functions that it changes, as (path,
+    name or None); None where it can't be applied to these files, one pair after the other."""
+    texts, changed, path, old = dict(texts or {}), [], None, None
     for line in edit.split("\n"):
         kind, _, value = line.partition(":")
         value = value[1:] if value[:1] == " " else value
@@ -85,16 +85,35 @@ def functions_of(crate, changed, proved):
     return list(dict.fromkeys(found))
 
 
-def refusal(status, printed, crate, proved):
+def bodies_alone(crate, changed, proved):
+    """The functions whose bodies alone an edit changes, or none where it changes more, or one isn't known."""
+    found = []
+    for path, name in changed:
+        front = "::".join(it for it in (crate, path.startswith("src/") and module_of(path)) if it) + "::"
+        named = [it for it in proved if name and path.startswith("src/") and it.startswith(front) and it.split("::")[-1] == name]
+        if len(named) != 1:
+            return []
+        found += named
+    return list(dict.fromkeys(found))
+
+
+def refusal(status, printed, crate, proved, own=None):
     """The goal of the code at which a check of some functions refused an edit, or None where it didn't or isn't sure. As a check of the whole
     crate proves these functions too, it refuses what this refuses. It has to have ended, to have read all, and to have left a function unproved
-    that is proved without the edit."""
+    that is proved without the edit. Where the check was of several edits, `own` are the functions of this one: what a function has to meet
+    hangs on its own body, and of others on their contracts alone."""
     ended = ENDED.search(printed)
     if status != 1 or not ended or int(ended[2]) >= int(ended[1]) or UNREADABLE.search(printed):
         return None
-    lost = [(name, why) for name, why in UNPROVED.findall(printed) if name in proved]
+    lost = [(name, why) for name, why in UNPROVED.findall(printed) if name in proved and (own is None or name in own)]
     for place, goal in GOAL.findall(printed):
-        name = next((name for name, why in lost if f"`{goal}`" in why), None)
+        name = next((name for name, why in lost if f"`{goal}`" in why and (own is None or is_in(place, name, crate))), None)
         if name:
             return Refusal(place, name[len(crate) + 2:], goal)
     return None
+
+
+def is_in(place, name, crate):
+    """Whether a place is in the file of a function's module, or of the type that it is a method of."""
+    module = module_of(place.split(":")[0])
+    return name.startswith("::".join(it for it in (crate, module) if it) + "::")

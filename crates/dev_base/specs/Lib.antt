@@ -1,3 +1,4 @@
 pub mod Failure
+pub mod Numbers
 pub mod Ranges
 pub mod Settings

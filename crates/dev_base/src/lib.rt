@@ -1,5 +1,6 @@
-//! What the developers' programs share: why a run failed, and the coordinates that their arguments write.
+//! What the developers' programs share: why a run failed, and the numbers and the coordinates that words write.
 #![tactic(auto)]
 
 pub mod failure;
+pub mod numbers;
 pub mod settings;

@@ -1,2 +1,5 @@
 pub mod Lines
 pub mod Listed
+pub mod Parts
+pub mod Requests
+pub mod Scalars

@@ -2,3 +2,4 @@
 pub mod Failure
 pub mod Hint
 pub mod LimitHint
+pub mod Texts

@@ -12,6 +12,7 @@
     clippy::manual_unwrap_or,
     clippy::manual_unwrap_or_default,
     clippy::match_like_matches_macro,
+    clippy::redundant_pattern_matching,
     clippy::unwrap_or_default
 )]
 // A loop counts, as the proof of it does by induction.

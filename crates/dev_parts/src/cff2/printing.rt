@@ -1,12 +1,17 @@
 //! The glyphs of a CFF2 font at coordinates, printed.
 
+ghost use Rattle.std.specs.Prelude.{◌≡◌, ◌≢◌, map, None, OnOk, IfErr};
+ghost use Rattle.dev_base.specs.declared.failure.Failure.TheVariants.{Usage};
+ghost use Rattle.dev_parts.specs.Requests.{cff2_request};
+
 use crate::cff2::listing::{Listed, list_events};
 use crate::cff2::request::{Request, read_request};
-use crate::line::{print_bytes, print_line};
+use crate::line::{write_bytes, write_error, write_line};
 use dev_base::failure::Failure;
 use std::alloc::Global;
-use std::fs;
+use std::io::Write;
 use std::rt::Files;
+use std::{fs, io};
 use subsetter_base::write::Writer;
 use subsetter_base::{Error, Tag};
 use subsetter_blend::resolving::resolve;
@@ -30,13 +35,15 @@ struct Glyph<'a> {
 }
 
 /// Prints an operator.
-fn print_listed<R: Print>(rt: &R, alloc: Global, event: &Listed) -> Result<(), Failure> {
-    print_bytes(rt, alloc, "op", event.operator.as_slice())?;
-    print_line(rt, "by", &event.operands)?;
+fn print_listed<W: Write>(out: &mut W, alloc: Global, event: &Listed) -> Result<(), Failure>
+    ensures { IfErr result (λ e. e ≢ Usage) }
+{
+    write_bytes(out, alloc, "op", event.operator.as_slice())?;
+    write_line(out, "by", &event.operands)?;
     if event.mask.is_empty() {
         return Ok(());
     }
-    print_bytes(rt, alloc, "mask", &event.mask)
+    write_bytes(out, alloc, "mask", &event.mask)
 }
 
 /// The table `CFF2` of a font file that is no collection; `UnknownKind` where there is none.
@@ -83,15 +90,17 @@ fn events_of(
 }
 
 /// Prints the operators of a glyph, and the charstring that is written.
-fn print_found<R: Print>(
-    rt: &R,
+fn print_found<W: Write>(
+    out: &mut W,
     alloc: Global,
     opened: &OpenTable<'_>,
     glyph: &Glyph<'_>,
     advance: i16,
-) -> Result<(), Failure> {
+) -> Result<(), Failure>
+    ensures { IfErr result (λ e. e ≢ Usage) }
+{
     for event in &events_of(alloc, opened, glyph)? {
-        print_listed(rt, alloc, event)?;
+        print_listed(out, alloc, event)?;
     }
     let bytes = resolve(
         alloc,
@@ -102,35 +111,49 @@ fn print_found<R: Print>(
         advance,
         glyph.charstring,
     )?;
-    print_bytes(rt, alloc, "bytes", &bytes)
+    write_bytes(out, alloc, "bytes", &bytes)
 }
 
-/// Prints a glyph, or why it is refused.
-fn print_glyph<R: Print>(
-    rt: &R,
+/// Finds a glyph, and prints its operators and the charstring that is written.
+fn print_wanted<W: Write>(
+    out: &mut W,
     alloc: Global,
     opened: &OpenTable<'_>,
     glyph: u16,
     advance: i16,
-) -> Result<(), Failure> {
-    print_line(rt, "glyph", &[i64::from(glyph)])?;
-    let printed = match find_glyph(alloc, opened, glyph) {
-        Ok(found) => print_found(rt, alloc, opened, &found, advance),
-        Err(error) => Err(Failure::Error(error)),
-    };
-    match printed {
-        Err(Failure::Error(error)) => println!(rt; "error {error}").map_err(|_| Failure::Write),
+) -> Result<(), Failure>
+    ensures { IfErr result (λ e. e ≢ Usage) }
+{
+    let found = find_glyph(alloc, opened, glyph)?;
+    print_found(out, alloc, opened, &found, advance)
+}
+
+/// Prints a glyph, or why it is refused.
+fn print_glyph<W: Write>(
+    out: &mut W,
+    alloc: Global,
+    opened: &OpenTable<'_>,
+    glyph: u16,
+    advance: i16,
+) -> Result<(), Failure>
+    ensures { IfErr result (λ e. e ≢ Usage) }
+{
+    write_line(out, "glyph", &[i64::from(glyph)])?;
+    match print_wanted(out, alloc, opened, glyph, advance) {
+        Err(Failure::Error(error)) => write_error(out, "error", error),
         other => other,
     }
 }
 
 /// Prints the glyphs of a table that are requested.
-fn print_table<R: Print>(
-    rt: &R,
+fn print_table<W: Write>(
+    out: &mut W,
     alloc: Global,
     table: &[u8],
     request: &Request,
-) -> Result<(), Failure> {
+) -> Result<(), Failure>
+    ensures { IfErr result (λ e. e ≢ Usage) }
+{
     let wanted = TableRequest {
         coordinates: &request.coordinates,
         glyphs: &[],
@@ -139,15 +162,18 @@ fn print_table<R: Print>(
     };
     let opened = open_table(alloc, table, &wanted)?;
     for glyph in &request.glyphs {
-        print_glyph(rt, alloc, &opened, *glyph, request.advance)?;
+        print_glyph(out, alloc, &opened, *glyph, request.advance)?;
     }
     Ok(())
 }
 
 /// Does what arguments request.
-pub fn perform<R: Files + Print + AllocGlobal>(rt: &R, arguments: &[&str]) -> Result<(), Failure> {
+pub fn perform<R: Files + Print + AllocGlobal>(rt: &R, arguments: &[&str]) -> Result<(), Failure>
+    ensures ok { OnOk result (cff2_request (map (λ word. word.now) arguments.now) ≢ None) }
+    ensures usage { IfErr result (λ e. e ≡ Usage → cff2_request (map (λ word. word.now) arguments.now) ≡ None) }
+{
     let request = read_request(rt.alloc(), arguments)?;
     let font = fs::read(rt, request.font.as_str()).map_err(|_| Failure::Read)?;
     let table = find_table(&font)?;
-    print_table(rt, rt.alloc(), table, &request)
+    print_table(&mut io::writer(rt), rt.alloc(), table, &request)
 }

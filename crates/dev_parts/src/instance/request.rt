@@ -1,5 +1,9 @@
 //! What is to be printed.
 
+ghost use Rattle.std.specs.Prelude.{◌≡◌, ◌⊎◌, map, Some, None, IfOk, IfErr, string_bytes};
+ghost use Rattle.dev_base.specs.declared.failure.Failure.TheVariants.{Usage, Memory};
+ghost use Rattle.dev_parts.specs.Requests.{instance_request};
+
 use crate::numbers::numbers_of;
 use dev_base::failure::Failure;
 use dev_base::settings::settings_of;
@@ -21,14 +25,26 @@ pub struct Request {
 }
 
 /// Reads what the arguments `FONT INDEX GLYPHS [TAG=VALUE ..]` request; `Usage` where they are others.
-pub fn read_request(alloc: Global, arguments: &[&str]) -> Result<Request, Failure> {
+pub fn read_request(alloc: Global, arguments: &[&str]) -> Result<Request, Failure>
+    ensures ok { IfOk result (λ r. instance_request (map (λ word. word.now) arguments.now) ≡ Some (record {
+      font = string_bytes r.font;
+      index = r.index;
+      glyphs = r.glyphs.items;
+      settings = r.settings.items;
+    })) }
+    ensures err { IfErr result (λ e. (e ≡ Memory) ⊎ ((e ≡ Usage) × (instance_request (map (λ word. word.now) arguments.now) ≡ None))) }
+{
     let [font, index, glyphs, settings @ ..] = arguments else {
         return Err(Failure::Usage);
     };
+    let font = String::from_str(alloc, font)?;
+    let index = u32_of(index).ok_or(Failure::Usage)?;
+    let glyphs = numbers_of(alloc, glyphs)?;
+    let settings = settings_of(alloc, settings)?;
     Ok(Request {
-        font: font.to_string(alloc)?,
-        index: u32_of(index).ok_or(Failure::Usage)?,
-        glyphs: numbers_of(alloc, glyphs)?,
-        settings: settings_of(alloc, settings)?,
+        font,
+        index,
+        glyphs,
+        settings,
     })
 }

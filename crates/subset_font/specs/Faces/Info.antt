@@ -1,28 +1,48 @@
--- What a face is.
-use Rattle.std.specs.Prelude.{ℕ, List, Option, Some, None, codes}
-use Rattle.std.specs.Option.{option_and_then}
+-- What a face is, and what is written of it.
+use Rattle.std.specs.Prelude.{◌≡◌, ◌≢◌, ℕ, Bool, true, false, List, length, Option, None, is_some, codes}
+use Rattle.std.specs.Io.KnownBytes.{Appends}
+use Rattle.std.specs.Option.{option_and_then, option_copied, unwrap_or}
 use Rattle.subsetter_base.specs.Bytes.{number}
-use Rattle.subsetter_sfnt.specs.Read.{Font, stored}
-use Rattle.subset_lines.specs.declared.faces.info.face.Outlines.{Outlines}
-use Rattle.subset_lines.specs.declared.faces.info.face.Outlines.TheVariants.{TrueType, Cff, Cff2, Missing}
-
--- by the tables `CFF ` and `CFF2`
-abbrev pub other_by : Option (List ℕ) → Option (List ℕ) → Outlines
-other_by (Some cff) cff2 = Cff
-other_by None (Some cff2) = Cff2
-other_by None None = Missing
-
-abbrev pub other_outlines : Font → Outlines
-other_outlines font = other_by (stored font (codes "CFF ")) (stored font (codes "CFF2"))
-
--- and before them by `glyf`
-abbrev pub outlines_by : Option (List ℕ) → Outlines → Outlines
-outlines_by (Some glyf) other = TrueType
-outlines_by None other = other
-
-abbrev pub outlines_of : Font → Outlines
-outlines_of font = outlines_by (stored font (codes "glyf")) (other_outlines font)
+use Rattle.subsetter_base.specs.declared.error.Error.TheVariants.{UnknownKind}
+use Rattle.subsetter_sfnt.specs.Read.{Font, header_offset, records, stored}
+use Rattle.subset_lines.specs.Faces.Info.{info_lines, info_json}
+use Rattle.subset_lines.specs.declared.faces.info.face.Info.{Info}
+use Rattle.subset_font.specs.Faces.Accepted.{IsAnswer}
+use Rattle.subset_font.specs.Faces.Broken.{face_count}
+use Rattle.subset_font.specs.Faces.Outlines.{outlines_of}
+use Rattle.subset_font.specs.Faces.Tables.{bytes_or_none, records_in, tables_of}
+use Rattle.subset_font.specs.Making.Requested.{face_glyphs}
+use Rattle.subset_font.specs.declared.refusals.failure.Failure.{Failure}
+use Rattle.subset_font.specs.declared.refusals.failure.Failure.TheVariants.{Error}
 
 -- fsType, at byte 8 (OpenType, "OS/2")
 abbrev pub permission_of : Font → Option ℕ
 permission_of font = option_and_then (λ table. number table 8 2) (stored font (codes "OS/2"))
+
+-- what a face is
+pub record IsInfo (font : Font) (info : Info) : Type 0 where
+  pub outlines_are : info.outlines ≡ outlines_of font
+  pub varies : info.is_variable ≡ is_some (stored font (codes "fvar"))
+  -- a file that isn't a collection has one face
+  pub faces_are : info.faces ≡ unwrap_or (face_count font.bytes) 1
+  pub glyphs_are : info.glyphs ≡ face_glyphs font
+  pub bytes_are : info.bytes ≡ length font.bytes
+  pub is_permitted : info.permission ≡ permission_of font
+  pub is_answered : IsAnswer font (option_copied info.refusal) (option_copied info.reason)
+  pub tables_are : info.tables.now ≡ tables_of (records_in (bytes_or_none (records font)))
+
+-- lines, or one JSON object
+abbrev pub info_text : Bool → Info → List ℕ
+info_text false info = info_lines info
+info_text true info = info_json info
+
+-- what a face is was written
+pub record ShowsInfo (json : Bool) (font : Font) (old new : Option (List ℕ)) : Type 0 where
+  pub has_header : header_offset font ≢ None
+  pub info : Info
+  pub is_info : IsInfo font info
+  pub is_written : Appends old new (info_text json info)
+
+-- why nothing is written of a font: it has no header at its index
+abbrev pub IsInfoFault : Font → Failure → Type 0
+IsInfoFault font failure = (failure ≡ Error UnknownKind) × (header_offset font ≡ None)

@@ -11,7 +11,7 @@ use Rattle.subset_lines.specs.declared.faces.info.face.Outlines.{Outlines}
 use Rattle.subset_lines.specs.declared.faces.info.face.Outlines.TheVariants.{TrueType, Cff, Cff2 as HasCff2, Missing}
 use Rattle.subset_font.specs.Making.Requested.{face_glyphs}
 use Rattle.subset_font.specs.Faces.Broken.{or_else, no_font, cut_table, missing_table}
-use Rattle.subset_font.specs.Faces.Info.{outlines_of}
+use Rattle.subset_font.specs.Faces.Outlines.{outlines_of}
 use Rattle.subset_font.specs.Faces.FaceView.{range_view}
 use Rattle.subset_font.specs.Making.Made.{face_of}
 use Rattle.subset_font.specs.Faces.Tables.{bytes_or_none, records_in}

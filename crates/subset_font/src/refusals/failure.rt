@@ -4,6 +4,7 @@ ghost use Rattle.std.specs.Prelude.{◌≡◌, ◌≤◌, string_bytes};
 ghost use Rattle.std.specs.Option.{option_copied, option_map};
 ghost use Rattle.subset_font.specs.Refusals.Failure.{status_of, status_of_end};
 ghost use Rattle.subset_font.specs.Files.{pdf_name, list_name, name_by, failed_name};
+ghost use Rattle.subset_font.specs.declared.refusals.failure.Failure.TheVariants.{Error as Refused};
 
 use std::fmt;
 use subset_args::{Glyphs, Job};
@@ -11,41 +12,62 @@ use subset_pdf::Permission;
 use subsetter::Error;
 
 /// Why a run of the program ended without a subset.
-#[derive(Debug, Drop, thiserror::Error)]
+#[derive(Debug, Drop)]
 pub enum Failure {
     /// The font is refused, or memory ran out.
-    #[error(transparent)]
-    Error(#[from] Error),
+    Error(Error),
     /// The face has no table by which Unicode characters have glyphs.
-    #[error("no Unicode cmap in font")]
     NoMapping,
     /// The face has no named instance of the requested name.
-    #[error("no such instance in font")]
     NoInstance,
     /// The font's maker doesn't permit to embed it, and the user holds no rights.
-    #[error("embedding not permitted")]
     NotPermitted(Permission),
     /// The arguments after the program's name aren't as the usage says.
-    #[error("usage: subset_font IN OUT INDEX GID[,GID..]")]
     Usage,
     /// The file of glyphs isn't a list of them.
-    #[error("usage: subset_font IN OUT INDEX GID[,GID..]")]
     List,
     /// The source can't be read. The text wants the file's name after it.
-    #[error("cannot read")]
     Read,
     /// The list of glyphs can't be read. The text wants the file's name after it.
-    #[error("cannot read")]
     ReadList,
     /// The output can't be written. The text wants the file's name after it.
-    #[error("cannot write")]
     Write,
     /// The PDF can't be written. The text wants the file's name after it.
-    #[error("cannot write")]
     WritePdf,
     /// The lines can't be written.
-    #[error("cannot write standard output")]
     Output,
+}
+
+impl fmt::Display for Failure {
+    ghost use Rattle.std.specs.Prelude.{Some};
+    ghost use Rattle.subset_font.specs.Refusals.Texts.{failure_text};
+
+    ghost output = { λ failure. Some (failure_text failure) };
+
+    fn fmt<W: fmt::Write>(&self, f: &mut fmt::Formatter<W>) -> fmt::Result {
+        match self {
+            Failure::Error(error) => write!(f, "{error}"),
+            Failure::NoMapping => f.write_str("no Unicode cmap in font"),
+            Failure::NoInstance => f.write_str("no such instance in font"),
+            Failure::NotPermitted(_) => f.write_str("embedding not permitted"),
+            Failure::Usage | Failure::List => {
+                f.write_str("usage: subset_font IN OUT INDEX GID[,GID..]")
+            }
+            Failure::Read | Failure::ReadList => f.write_str("cannot read"),
+            Failure::Write | Failure::WritePdf => f.write_str("cannot write"),
+            Failure::Output => f.write_str("cannot write standard output"),
+        }
+    }
+}
+
+impl std::error::Error for Failure {}
+
+impl From<Error> for Failure {
+    ghost from_gives = { λ why failure. failure ≡ Refused why };
+
+    fn from(error: Error) -> Failure {
+        Failure::Error(error)
+    }
 }
 
 impl Failure {
@@ -94,7 +116,7 @@ pub fn pdf_file(job: &Job) -> Option<&str>
 }
 
 /// The name of the file that lists the glyphs, if one does.
-fn list_file(glyphs: &Glyphs) -> Option<&str>
+pub fn list_file(glyphs: &Glyphs) -> Option<&str>
     ensures { option_copied result ≡ list_name glyphs.now }
 {
     match glyphs {
@@ -104,7 +126,7 @@ fn list_file(glyphs: &Glyphs) -> Option<&str>
 }
 
 /// The name of the file that a failure is of, if it is of one.
-fn file_by<'a>(failure: &Failure, job: &'a Job) -> Option<&'a str>
+pub fn file_by<'a>(failure: &Failure, job: &'a Job) -> Option<&'a str>
     ensures { option_copied result ≡ name_by failure.now job.now }
 {
     match failure {

@@ -32,7 +32,7 @@ fn after_name(alloc: Global, all: env::Args) -> Result<Vec<String>, Failure>
 }
 
 /// The arguments after the program's name. One that isn't UTF-8 is a wrong argument.
-pub fn words<R: Env + AllocGlobal>(rt: &R) -> Result<Vec<String>, Failure>
+pub fn read_arguments<R: Env + AllocGlobal>(rt: &R) -> Result<Vec<String>, Failure>
     ensures { IfErr result (λ e. (e ≡ Refused OutOfMemory) ⊎ (e ≡ Usage)) }
 {
     match env::args(rt) {

@@ -7,7 +7,7 @@ ghost use Rattle.subset_font.specs.Refusals.Hint.{first_past, no_glyph, no_table
 
 use crate::faces::broken::missing_table;
 use crate::faces::face::{count_glyphs, range_of};
-use crate::faces::info::outlines_of;
+use crate::faces::outlines::outlines_of;
 use crate::refusals::hint::text::Hint;
 use crate::task::{RequestedGlyphs, Task};
 use subset_lines::Outlines;

@@ -3,36 +3,25 @@
 
 use crate::rattle::prelude::{String, Vec};
 
+use crate::proved::subset_font::faces::accepted::{try_all, InfoParts};
 use crate::proved::subset_font::faces::broken::face_count;
 use crate::proved::subset_font::faces::face::count_glyphs;
+use crate::proved::subset_font::faces::outlines::outlines_of;
 use crate::proved::subset_font::faces::tables::{directory_of, tables_of};
 use crate::proved::subset_font::making::carried::read_whole;
-use crate::proved::subset_font::making::requested::first_glyphs;
-use crate::proved::subset_font::making::subset::make_of;
 use crate::proved::subset_font::refusals::failure::Failure;
-use crate::proved::subset_font::refusals::hint::found::find_hint;
-use crate::proved::subset_font::task::{Form, RequestedGlyphs, Task};
-use crate::proved::subset_lines::{write_info, write_info_json, Info, Outlines};
-use crate::proved::subsetter::{Error, Extras, Limits, Options, Tag};
+use crate::proved::subset_lines::{write_info, write_info_json, Info};
+use crate::proved::subsetter::{Error, Tag};
 use crate::proved::subsetter_base::read::Reader;
 use crate::proved::subsetter_sfnt::directory::{header_offset, table};
-use crate::rattle::alloc::{AllocError, Global};
+use crate::rattle::alloc::Global;
 use crate::rattle::io::{Read, Write};
 
-/// What the outlines of a face are.
-pub fn outlines_of(font: &[u8], index: u32) -> Outlines {
-    match table(font, index, Tag::GLYF) {
-        Some(_) => Outlines::TrueType,
-        None => other_outlines(font, index),
-    }
-}
-
-/// The same of a face without `glyf`.
-fn other_outlines(font: &[u8], index: u32) -> Outlines {
-    match (table(font, index, Tag::CFF), table(font, index, Tag::CFF2)) {
-        (Some(_), _) => Outlines::Cff,
-        (None, Some(_)) => Outlines::Cff2,
-        (None, None) => Outlines::Missing,
+/// Whether a face has `fvar`.
+fn is_variable(font: &[u8], index: u32) -> bool {
+    match table(font, index, Tag::new(b"fvar")) {
+        Some(_) => true,
+        None => false,
     }
 }
 
@@ -40,64 +29,6 @@ fn other_outlines(font: &[u8], index: u32) -> Outlines {
 fn permission_of(font: &[u8], index: u32) -> Option<u16> {
     let table = table(font, index, Tag::new(b"OS/2"))?;
     Reader::new_at(table, 8).read::<u16>()
-}
-
-/// The task of a subset of all glyphs, or of these.
-fn task_for<'a>(index: u32, asked: RequestedGlyphs<'a>) -> Task<'a> {
-    Task {
-        requested: asked,
-        index,
-        options: Options {
-            limits: Limits::default(),
-            extras: Extras::ALL,
-        },
-        widths: false,
-        form: Form::Silence,
-        at: None,
-    }
-}
-
-/// Why a subset of all glyphs isn't made, and what is known of the cause.
-pub struct InfoParts {
-    /// The error, none where it is made.
-    pub refusal: Option<String>,
-    /// What is known of its cause.
-    pub reason: Option<String>,
-}
-
-/// What is known of the cause of a refusal of all glyphs.
-fn reason_of(
-    alloc: Global,
-    font: &[u8],
-    index: u32,
-    failure: &Failure,
-) -> Result<Option<String>, AllocError> {
-    let count = count_glyphs(font, index).unwrap_or(0);
-    let glyphs = first_glyphs(alloc, count)?;
-    let asked = if count == 0 {
-        RequestedGlyphs::Every
-    } else {
-        RequestedGlyphs::These(&glyphs)
-    };
-    match find_hint(failure, font, &task_for(index, asked)) {
-        Some(hint) => Ok(Some(format!(in alloc; "{hint}")?)),
-        None => Ok(None),
-    }
-}
-
-/// Tries to make a subset of all glyphs.
-fn try_all(alloc: Global, font: &[u8], index: u32) -> Result<InfoParts, AllocError> {
-    match make_of(alloc, font, &task_for(index, RequestedGlyphs::Every)) {
-        Ok(_) => Ok(InfoParts {
-            refusal: None,
-            reason: None,
-        }),
-        Err(Failure::Error(Error::OutOfMemory)) => Err(AllocError),
-        Err(failure) => Ok(InfoParts {
-            refusal: Some(format!(in alloc; "{failure}")?),
-            reason: reason_of(alloc, font, index, &failure)?,
-        }),
-    }
 }
 
 /// A text's bytes, if there is one.
@@ -108,7 +39,40 @@ fn bytes_of(text: &Option<String>) -> Option<&[u8]> {
     }
 }
 
+/// What a face is.
+fn info_of<'a>(
+    font: &[u8],
+    index: u32,
+    parts: &'a InfoParts,
+    tables: &'a [(Tag, u32)],
+) -> Info<'a> {
+    Info {
+        outlines: outlines_of(font, index),
+        is_variable: is_variable(font, index),
+        faces: face_count(font).unwrap_or(1),
+        glyphs: count_glyphs(font, index),
+        bytes: font.len() as u64,
+        permission: permission_of(font, index),
+        refusal: bytes_of(&parts.refusal),
+        reason: bytes_of(&parts.reason),
+        tables,
+    }
+}
+
 /// Writes what a face is, as lines or as JSON.
+fn write_shown<L: Write>(
+    alloc: Global,
+    info: &Info<'_>,
+    json: bool,
+    lines: &mut L,
+) -> Result<(), Failure> {
+    if json {
+        return write_info_json(alloc, info, lines).map_err(|_| Failure::Output);
+    }
+    write_info(alloc, info, lines).map_err(|_| Failure::Output)
+}
+
+/// Writes what a face is, by what was found out of it.
 fn write_parts<L: Write>(
     alloc: Global,
     font: &[u8],
@@ -118,23 +82,28 @@ fn write_parts<L: Write>(
     tables: &[(Tag, u32)],
     lines: &mut L,
 ) -> Result<(), Failure> {
-    let info = Info {
-        outlines: outlines_of(font, index),
-        is_variable: table(font, index, Tag::new(b"fvar")).is_some(),
-        faces: face_count(font).unwrap_or(1),
-        glyphs: count_glyphs(font, index),
-        bytes: font.len() as u64,
-        permission: permission_of(font, index),
-        refusal: bytes_of(&parts.refusal),
-        reason: bytes_of(&parts.reason),
-        tables,
+    let info = info_of(font, index, parts, tables);
+    write_shown(alloc, &info, json, lines)
+}
+
+/// Writes what a face with a header is.
+fn show_face<L: Write>(
+    alloc: Global,
+    font: &[u8],
+    index: u32,
+    json: bool,
+    lines: &mut L,
+) -> Result<(), Failure> {
+    let tables = match tables_of(alloc, directory_of(font, index)) {
+        Ok(tables) => tables,
+        _ => {
+            return Err(Failure::Error(Error::OutOfMemory));
+        }
     };
-    let written = if json {
-        write_info_json(alloc, &info, lines)
-    } else {
-        write_info(alloc, &info, lines)
-    };
-    written.map_err(|_| Failure::Output)
+    match try_all(alloc, font, index) {
+        Ok(parts) => write_parts(alloc, font, index, json, &parts, &tables, lines),
+        Err(_) => Err(Failure::Error(Error::OutOfMemory)),
+    }
 }
 
 /// Writes what a face is, as lines or as one JSON object.
@@ -147,22 +116,10 @@ pub fn show_info<L: Write>(
     json: bool,
     lines: &mut L,
 ) -> Result<(), Failure> {
-    if header_offset(font, index).is_none() {
-        return Err(Failure::Error(Error::UnknownKind));
+    match header_offset(font, index) {
+        Some(_) => show_face(alloc, font, index, json, lines),
+        None => Err(Failure::Error(Error::UnknownKind)),
     }
-    let tables = match tables_of(alloc, directory_of(font, index)) {
-        Ok(tables) => tables,
-        _ => {
-            return Err(Failure::Error(Error::OutOfMemory));
-        }
-    };
-    let parts = match try_all(alloc, font, index) {
-        Ok(parts) => parts,
-        _ => {
-            return Err(Failure::Error(Error::OutOfMemory));
-        }
-    };
-    write_parts(alloc, font, index, json, &parts, &tables, lines)
 }
 
 /// Reads the font from the reader, and writes what a face is. The bytes that were read are kept. Room for so many of them is

@@ -35,19 +35,18 @@ pub enum Failure {
     Output,
 }
 
-impl crate::rattle::fmt::Display for Failure {
-    fn fmt(&self, f: &mut crate::rattle::fmt::Formatter<'_>) -> crate::rattle::fmt::Result {
+impl fmt::Display for Failure {
+    fn fmt(&self, f: &mut fmt::Formatter<'_>) -> fmt::Result {
         match self {
-            Failure::Error(error) => crate::rattle::fmt::Display::fmt(error, f),
+            Failure::Error(error) => write!(f, "{error}"),
             Failure::NoMapping => f.write_str("no Unicode cmap in font"),
             Failure::NoInstance => f.write_str("no such instance in font"),
-            Failure::NotPermitted(..) => f.write_str("embedding not permitted"),
-            Failure::Usage => f.write_str("usage: subset_font IN OUT INDEX GID[,GID..]"),
-            Failure::List => f.write_str("usage: subset_font IN OUT INDEX GID[,GID..]"),
-            Failure::Read => f.write_str("cannot read"),
-            Failure::ReadList => f.write_str("cannot read"),
-            Failure::Write => f.write_str("cannot write"),
-            Failure::WritePdf => f.write_str("cannot write"),
+            Failure::NotPermitted(_) => f.write_str("embedding not permitted"),
+            Failure::Usage | Failure::List => {
+                f.write_str("usage: subset_font IN OUT INDEX GID[,GID..]")
+            }
+            Failure::Read | Failure::ReadList => f.write_str("cannot read"),
+            Failure::Write | Failure::WritePdf => f.write_str("cannot write"),
             Failure::Output => f.write_str("cannot write standard output"),
         }
     }
@@ -56,7 +55,7 @@ impl crate::rattle::fmt::Display for Failure {
 impl crate::rattle::error::Error for Failure {}
 
 impl From<Error> for Failure {
-    fn from(error: Error) -> Self {
+    fn from(error: Error) -> Failure {
         Failure::Error(error)
     }
 }

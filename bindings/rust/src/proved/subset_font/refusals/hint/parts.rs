@@ -3,7 +3,7 @@
 
 use crate::proved::subset_font::faces::broken::missing_table;
 use crate::proved::subset_font::faces::face::count_glyphs;
-use crate::proved::subset_font::faces::info::outlines_of;
+use crate::proved::subset_font::faces::outlines::outlines_of;
 use crate::proved::subset_font::refusals::hint::text::Hint;
 use crate::proved::subset_font::task::{RequestedGlyphs, Task};
 use crate::proved::subset_lines::Outlines;

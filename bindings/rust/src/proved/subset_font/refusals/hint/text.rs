@@ -55,79 +55,165 @@ pub enum Hint {
     Forbidden(u8),
 }
 
-impl fmt::Display for Hint {
+/// A number between two texts.
+#[derive(Clone, Copy)]
+struct Between(&'static str, u32, &'static str);
+
+impl fmt::Display for Between {
     fn fmt(&self, f: &mut fmt::Formatter<'_>) -> fmt::Result {
-        match *self {
-            Hint::Woff => write!(f, "a WOFF file: unpack it first"),
-            Hint::Woff2 => write!(f, "a WOFF2 file: unpack it first"),
-            Hint::NotFont => {
-                write!(
-                    f,
-                    "not a font: its first bytes are none of TrueType, OpenType, a collection"
-                )
-            }
-            Hint::Empty => write!(f, "the file is empty"),
-            Hint::NoFace(index, 0) => write!(f, "INDEX {index}: the collection has no face"),
-            Hint::NoFace(index, count) => {
-                let last = count.saturating_sub(1);
-                write!(
-                    f,
-                    "INDEX {index}: the faces of the collection are 0 to {last}"
-                )
-            }
-            Hint::NoHeader(index) => {
-                write!(f, "INDEX {index}: no font begins where the collection says")
-            }
-            Hint::CutDirectory => write!(f, "the file is cut in its table directory"),
-            Hint::Cut(tag, end, size) => {
-                write!(
-                    f,
-                    "the file is cut: table {tag} ends at byte {end}, the file at {size}"
-                )
-            }
-            Hint::NoOutlines => write!(f, "the face has no table glyf, CFF or CFF2"),
-            Hint::NoGlyph(glyph, 0) => write!(f, "GID {glyph}: the face has no glyph"),
-            Hint::NoGlyph(glyph, count) => {
-                let last = count.saturating_sub(1);
-                write!(f, "GID {glyph}: the glyphs of the face are 0 to {last}")
-            }
-            Hint::NoTable(tag) => write!(f, "the face has no table {tag}"),
-            Hint::NoEntries(glyph) => write!(f, "glyph {glyph}: loca has no entries for it"),
-            Hint::Descends(glyph) => write!(f, "glyph {glyph}: its loca entries descend"),
-            Hint::Outside(glyph) => write!(f, "glyph {glyph}: its outline isn't inside glyf"),
-            Hint::Cff2 => write!(f, "CFF2: its outlines aren't read"),
-            Hint::NoUnicode => write!(f, "cmap: no table for Unicode in format 4 or 12"),
-            Hint::WrongAxes => write!(f, "fvar: the table can't be read"),
-            Hint::NoAxes => write!(f, "no axes in the font"),
-            Hint::NoMetrics => write!(f, "hhea: numberOfHMetrics is 0"),
-            Hint::FewMetrics(count) => {
-                write!(f, "hhea: numberOfHMetrics is {count}, and hmtx is shorter")
-            }
-            Hint::MoreBytes(most) => {
-                write!(f, "the new font has more than the {most} bytes of --limits")
-            }
-            Hint::Forbidden(bit) => {
-                let meaning = meaning_of(bit);
-                write!(
-                    f,
-                    "fsType bit {bit} is set ({meaning}): if you hold the rights, --rights held"
-                )
-            }
-            Hint::LittleLimits(tokens, depth) => {
-                write!(
-                    f,
-                    "a glyph needs more than the {tokens},{depth} of --limits"
-                )
-            }
-        }
+        write!(f, "{}{}{}", self.0, self.1, self.2)
     }
 }
 
-/// What a bit of `fsType` says that forbids to embed a subset.
-fn meaning_of(bit: u8) -> &'static str {
-    match bit {
-        1 => "restricted",
-        8 => "no subsetting",
-        _ => "bitmaps only",
+/// That a collection has so many faces, and none of an index.
+#[derive(Clone, Copy)]
+struct FaceText(u32, u32);
+
+impl fmt::Display for FaceText {
+    fn fmt(&self, f: &mut fmt::Formatter<'_>) -> fmt::Result {
+        let FaceText(index, count) = *self;
+        if count == 0 {
+            return write!(f, "INDEX {index}: the collection has no face");
+        }
+        let last = count - 1;
+        write!(
+            f,
+            "INDEX {index}: the faces of the collection are 0 to {last}"
+        )
+    }
+}
+
+/// That a face has so many glyphs, and none of a number.
+#[derive(Clone, Copy)]
+struct GlyphText(u16, u16);
+
+impl fmt::Display for GlyphText {
+    fn fmt(&self, f: &mut fmt::Formatter<'_>) -> fmt::Result {
+        let GlyphText(glyph, count) = *self;
+        if count == 0 {
+            return write!(f, "GID {glyph}: the face has no glyph");
+        }
+        let last = count - 1;
+        write!(f, "GID {glyph}: the glyphs of the face are 0 to {last}")
+    }
+}
+
+/// That a table ends at a byte, behind a file of so many.
+#[derive(Clone, Copy)]
+struct CutText(Tag, u64, u64);
+
+impl fmt::Display for CutText {
+    fn fmt(&self, f: &mut fmt::Formatter<'_>) -> fmt::Result {
+        let CutText(tag, end, size) = *self;
+        write!(
+            f,
+            "the file is cut: table {tag} ends at byte {end}, the file at {size}"
+        )
+    }
+}
+
+/// That a bit of `fsType` forbids to embed a subset.
+#[derive(Clone, Copy)]
+struct ForbiddenText(u8);
+
+impl fmt::Display for ForbiddenText {
+    fn fmt(&self, f: &mut fmt::Formatter<'_>) -> fmt::Result {
+        let ForbiddenText(bit) = *self;
+        if bit == 1 {
+            return write!(
+                f,
+                "fsType bit {bit} is set (restricted): if you hold the rights, --rights held"
+            );
+        }
+        if bit == 8 {
+            return write!(
+                f,
+                "fsType bit {bit} is set (no subsetting): if you hold the rights, --rights held"
+            );
+        }
+        write!(
+            f,
+            "fsType bit {bit} is set (bitmaps only): if you hold the rights, --rights held"
+        )
+    }
+}
+
+/// That a glyph needs more than so many tokens, or such a depth.
+#[derive(Clone, Copy)]
+struct LimitsText(u32, u8);
+
+impl fmt::Display for LimitsText {
+    fn fmt(&self, f: &mut fmt::Formatter<'_>) -> fmt::Result {
+        let LimitsText(tokens, depth) = *self;
+        write!(
+            f,
+            "a glyph needs more than the {tokens},{depth} of --limits"
+        )
+    }
+}
+
+impl fmt::Display for Hint {
+    fn fmt(&self, f: &mut fmt::Formatter<'_>) -> fmt::Result {
+        match *self {
+            Hint::Woff => f.write_str("a WOFF file: unpack it first"),
+            Hint::Woff2 => f.write_str("a WOFF2 file: unpack it first"),
+            Hint::NotFont => f.write_str(
+                "not a font: its first bytes are none of TrueType, OpenType, a collection",
+            ),
+            Hint::Empty => f.write_str("the file is empty"),
+            Hint::NoFace(index, count) => write!(f, "{}", FaceText(index, count)),
+            Hint::NoHeader(index) => {
+                let text = Between(
+                    "INDEX ",
+                    index,
+                    ": no font begins where the collection says",
+                );
+                write!(f, "{text}")
+            }
+            Hint::CutDirectory => f.write_str("the file is cut in its table directory"),
+            Hint::Cut(tag, end, size) => write!(f, "{}", CutText(tag, end, size)),
+            Hint::NoOutlines => f.write_str("the face has no table glyf, CFF or CFF2"),
+            Hint::NoGlyph(glyph, count) => write!(f, "{}", GlyphText(glyph, count)),
+            Hint::NoTable(tag) => write!(f, "the face has no table {tag}"),
+            Hint::NoEntries(glyph) => {
+                let text = Between("glyph ", u32::from(glyph), ": loca has no entries for it");
+                write!(f, "{text}")
+            }
+            Hint::Descends(glyph) => {
+                let text = Between("glyph ", u32::from(glyph), ": its loca entries descend");
+                write!(f, "{text}")
+            }
+            Hint::Outside(glyph) => {
+                let text = Between(
+                    "glyph ",
+                    u32::from(glyph),
+                    ": its outline isn't inside glyf",
+                );
+                write!(f, "{text}")
+            }
+            Hint::Cff2 => f.write_str("CFF2: its outlines aren't read"),
+            Hint::NoUnicode => f.write_str("cmap: no table for Unicode in format 4 or 12"),
+            Hint::WrongAxes => f.write_str("fvar: the table can't be read"),
+            Hint::NoAxes => f.write_str("no axes in the font"),
+            Hint::NoMetrics => f.write_str("hhea: numberOfHMetrics is 0"),
+            Hint::FewMetrics(count) => {
+                let text = Between(
+                    "hhea: numberOfHMetrics is ",
+                    u32::from(count),
+                    ", and hmtx is shorter",
+                );
+                write!(f, "{text}")
+            }
+            Hint::MoreBytes(most) => {
+                let text = Between(
+                    "the new font has more than the ",
+                    most,
+                    " bytes of --limits",
+                );
+                write!(f, "{text}")
+            }
+            Hint::LittleLimits(tokens, depth) => write!(f, "{}", LimitsText(tokens, depth)),
+            Hint::Forbidden(bit) => write!(f, "{}", ForbiddenText(bit)),
+        }
     }
 }

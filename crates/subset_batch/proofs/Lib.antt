@@ -1,0 +1,4 @@
+pub mod Appends
+pub mod Loop
+pub mod Again
+pub mod Requests

@@ -1,0 +1,88 @@
+-- Whether a subset of all glyphs of a face is made, and why not.
+use Rattle.std.specs.Prelude.{◌≡◌, ◌==◌, ℕ, Bool, true, false, if◌then◌else◌, List, length, Option, Some, None}
+use Rattle.std.specs.Borrow.{Bor}
+use Rattle.std.specs.Option.{option_map, unwrap_or}
+use Rattle.subsetter_base.specs.declared.error.Error.{Error as Refusal}
+use Rattle.subsetter_base.specs.declared.error.Error.TheVariants.{UnknownKind, MalformedFont, Unimplemented, SubsetError, OverflowError, CFFError, OutOfMemory}
+use Rattle.subsetter_sfnt.specs.Extras.{all_extras}
+use Rattle.subsetter_sfnt.specs.Read.{Font}
+use Rattle.subset_args.specs.Listing.Lists.{counting}
+use Rattle.subset_font.specs.Chosen.{LimitsAreChosen}
+use Rattle.subset_font.specs.Making.Made.{IsMade, IsUnmade}
+use Rattle.subset_font.specs.Making.Requested.{face_glyphs}
+use Rattle.subset_font.specs.Refusals.Hint.{hint_of}
+use Rattle.subset_font.specs.Refusals.Texts.{failure_text, hint_text}
+use Rattle.subset_font.specs.declared.task.RequestedGlyphs.{RequestedGlyphs}
+use Rattle.subset_font.specs.declared.task.RequestedGlyphs.TheVariants.{These, Every}
+use Rattle.subset_font.specs.declared.task.Task.{Task}
+use Rattle.subset_font.specs.declared.making.subset.Made.{Made}
+use Rattle.subset_font.specs.declared.refusals.failure.Failure.{Failure}
+use Rattle.subset_font.specs.declared.refusals.failure.Failure.TheVariants.{Error, NoMapping, NoInstance, NotPermitted, Usage, List as WrongList, Read, ReadList, Write, WritePdf, Output}
+
+-- its task: the font as it is given, with all extras, within the default limits, and without widths
+abbrev pub IsPlain : ℕ → RequestedGlyphs → Task → Type 0
+IsPlain index requested task = (task.requested ≡ requested) × ((task.index ≡ index) × (LimitsAreChosen None task.options.limits × ((task.options.extras ≡ all_extras) × ((task.widths ≡ false) × (task.at ≡ None)))))
+
+-- a subset of all glyphs is made
+pub record IsAccepted (font : Font) : Type 0 where
+  pub task : Task
+  pub is_plain : IsPlain font.index Every task
+  pub made : Made
+  pub is_made : IsMade task font.bytes made
+
+-- or none is made
+pub record IsRefusedWhole (font : Font) (failure : Failure) : Type 0 where
+  pub task : Task
+  pub is_plain : IsPlain font.index Every task
+  pub is_unmade : IsUnmade task font.bytes failure
+
+-- ---- what is known of the cause
+
+-- for the cause of a refusal the glyphs are listed, where there are any
+abbrev pub listed_or_every : Bor (List ℕ) → RequestedGlyphs
+listed_or_every given = if length given.now == 0 then Every else These given
+
+pub record IsCause (font : Font) (failure : Failure) (reason : Option (List ℕ)) : Type 0 where
+  pub glyphs : Bor (List ℕ)
+  pub are_all : glyphs.now ≡ counting 0 (unwrap_or (face_glyphs font) 0)
+  pub task : Task
+  pub is_plain : IsPlain font.index (listed_or_every glyphs) task
+  pub is_text : reason ≡ option_map hint_text (hint_of failure task font.bytes)
+
+-- ---- the answer
+
+-- a want of memory says nothing of the font
+abbrev pub is_memory_error : Refusal → Bool
+is_memory_error UnknownKind = false
+is_memory_error MalformedFont = false
+is_memory_error Unimplemented = false
+is_memory_error SubsetError = false
+is_memory_error OverflowError = false
+is_memory_error CFFError = false
+is_memory_error OutOfMemory = true
+
+abbrev pub is_of_memory : Failure → Bool
+is_of_memory (Error e) = is_memory_error e
+is_of_memory NoMapping = false
+is_of_memory NoInstance = false
+is_of_memory (NotPermitted permission) = false
+is_of_memory Usage = false
+is_of_memory WrongList = false
+is_of_memory Read = false
+is_of_memory ReadList = false
+is_of_memory Write = false
+is_of_memory WritePdf = false
+is_of_memory Output = false
+
+-- the text of the failure, and what is known of its cause
+pub record IsRefusedAs (font : Font) (refusal : List ℕ) (reason : Option (List ℕ)) : Type 0 where
+  pub failure : Failure
+  pub is_refused : IsRefusedWhole font failure
+  pub is_fault : is_of_memory failure ≡ false
+  pub is_text : refusal ≡ failure_text failure
+  pub is_cause : IsCause font failure reason
+
+-- what `subset` answers for all glyphs, by these texts
+abbrev pub IsAnswer : Font → Option (List ℕ) → Option (List ℕ) → Type 0
+IsAnswer font None reason = IsAccepted font × (reason ≡ None)
+IsAnswer font (Some refusal) reason = IsRefusedAs font refusal reason

@@ -1,0 +1,173 @@
+//! The requests of a batch, and the answers to them.
+
+ghost use Rattle.std.specs.Prelude.{◌≡◌, ◌+◌, ◌++◌, ◌∷◌, [], map, length, OnOk, IfOk};
+ghost use Rattle.std.specs.Option.{option_copied};
+ghost use Rattle.subset_batch.specs.Lines.{request_lines};
+ghost use Rattle.subset_font.specs.Batch.{due, of_source, line_numbers};
+
+use crate::batch::answers::{Answer, failed};
+use crate::batch::orders::order_of;
+use crate::refusals::failure::{given, pdf_file};
+use std::alloc::{AllocError, Global};
+use std::mem;
+use subset_args::Job;
+use subset_batch::{Line, lines_of};
+
+/// The status of a request whose OUT a line before has named, as of wrong arguments.
+const NAMED_TWICE: u8 = 2;
+
+/// A request of a batch.
+#[derive(Drop)]
+pub struct Request {
+    /// The number of its line, from 1.
+    pub line: usize,
+    /// What it requests, unless its line is wrong.
+    pub job: Option<Job>,
+}
+
+/// How far a request is.
+#[derive(Drop)]
+pub enum State {
+    /// It is to be done.
+    Due,
+    /// It is answered.
+    Answered(Answer),
+    /// Its answer is written.
+    Written,
+}
+
+/// The requests of a batch in the order of their lines, and how far each is, at the same indexes.
+#[derive(Drop)]
+pub struct Batch {
+    pub requests: Vec<Request>,
+    pub states: Vec<State>,
+}
+
+/// Whether a request writes a file of this name.
+fn writes(job: &Job, name: &str) -> bool {
+    given(&job.output) == Some(name) || pdf_file(job) == Some(name)
+}
+
+/// Whether one of the requests writes a file of this name.
+fn is_written(requests: &[Request], name: &str) -> bool {
+    for request in requests {
+        if let Some(job) = &request.job {
+            if writes(job, name) {
+                return true;
+            }
+        }
+    }
+    false
+}
+
+/// A file that a request writes, and one before does, too.
+fn written_twice<'a>(before: &[Request], job: &'a Job) -> Option<&'a str> {
+    if let Some(name) = given(&job.output) {
+        if is_written(before, name) {
+            return Some(name);
+        }
+    }
+    match pdf_file(job) {
+        Some(name) if is_written(before, name) => Some(name),
+        _ => None,
+    }
+}
+
+/// How far a request is before anything is made: that it fails is known where it writes a file which one before writes, too.
+fn first_state(alloc: Global, before: &[Request], job: &Job) -> State {
+    match written_twice(before, job) {
+        Some(name) => {
+            let text = format!(in alloc; "a line before names {name}, too");
+            State::Answered(failed(NAMED_TWICE, text))
+        }
+        None => State::Due,
+    }
+}
+
+/// Adds the request of a line.
+fn push_line(alloc: Global, batch: &mut Batch, line: Line<'_>) -> Result<(), AllocError>
+    ensures lines { OnOk result (line_numbers batch.new.requests.items ≡ line_numbers batch.old.requests.items ++ line.number ∷ []) }
+    ensures states { OnOk result (length batch.new.states.items ≡ length batch.old.states.items + 1) }
+{
+    let (job, state) = match order_of(alloc, line.bytes) {
+        Ok(job) => {
+            let state = first_state(alloc, &batch.requests, &job);
+            (Some(job), state)
+        }
+        Err(answer) => (None, State::Answered(answer)),
+    };
+    let line = line.number;
+    batch.requests.push(Request { line, job })?;
+    batch.states.push(state)?;
+    Ok(())
+}
+
+/// The requests of a file: one for each line that isn't blank.
+#[tactic(auto, using(subset_batch::proofs::Appends::at_first, subset_batch::proofs::Appends::after_part, subset_batch::proofs::Appends::at_last))]
+pub fn requests_of(alloc: Global, file: &[u8]) -> Result<Batch, AllocError>
+    ensures lines { IfOk result (λ b. line_numbers b.requests.items ≡ map (λ l. l.0) (request_lines file.now)) }
+    ensures states { IfOk result (λ b. length b.states.items ≡ length b.requests.items) }
+{
+    let mut batch = Batch {
+        requests: Vec::new(alloc),
+        states: Vec::new(alloc),
+    };
+    let lines = lines_of(alloc, file)?;
+    let mut rest = lines.as_slice();
+    while let [line, behind @ ..] = rest {
+        push_line(alloc, &mut batch, *line)?;
+        rest = behind;
+    }
+    Ok(batch)
+}
+
+/// What the request of an index requests, if it is still to be done.
+pub fn due<'a>(requests: &'a [Request], states: &[State], index: usize) -> Option<&'a Job>
+    ensures { option_copied result ≡ due requests.now states.now index }
+{
+    match (requests.get(index), states.get(index)) {
+        (Some(request), Some(State::Due)) => match &request.job {
+            Some(job) => Some(job),
+            None => None,
+        },
+        _ => None,
+    }
+}
+
+/// The same if it is of this source.
+pub fn due_of<'a>(
+    requests: &'a [Request],
+    states: &[State],
+    index: usize,
+    input: &str,
+) -> Option<&'a Job>
+    ensures { option_copied result ≡ of_source input.now (due requests.now states.now index) }
+{
+    match due(requests, states, index) {
+        Some(job) if job.input.as_str() == input => Some(job),
+        _ => None,
+    }
+}
+
+/// Sets the answer to the request of an index.
+pub fn set_answer(states: &mut [State], index: usize, answer: Answer)
+    ensures { length states.new ≡ length states.old }
+{
+    if let Some(state) = states.get_mut(index) {
+        *state = State::Answered(answer);
+    }
+}
+
+/// The answer to the request of an index, if there is one that isn't written. It is taken as written.
+pub fn take_answer(states: &mut [State], index: usize) -> Option<Answer>
+    ensures { length states.new ≡ length states.old }
+{
+    let state = states.get_mut(index)?;
+    match mem::replace(state, State::Written) {
+        State::Answered(answer) => Some(answer),
+        other => {
+            *state = other;
+            None
+        }
+    }
+}

@@ -1,0 +1,134 @@
+//! Whether a subset of all glyphs of a face is made, and why not.
+
+ghost use Rattle.std.specs.Prelude.{◌≡◌, IfOk, IfErr, OnOk, string_bytes};
+ghost use Rattle.std.specs.Option.{option_map};
+ghost use Rattle.subsetter_sfnt.specs.Extras.{all_extras};
+ghost use Rattle.subset_font.specs.Faces.Accepted.{IsPlain, listed_or_every, is_of_memory, IsCause, IsAccepted, IsRefusedWhole, IsAnswer};
+ghost use Rattle.subset_font.specs.Refusals.Texts.{hint_text};
+
+use crate::faces::face::count_glyphs;
+use crate::making::requested::first_glyphs;
+use crate::making::subset::make_of;
+use crate::refusals::failure::Failure;
+use crate::refusals::hint::found::find_hint;
+use crate::refusals::hint::text::Hint;
+use crate::task::{Form, RequestedGlyphs, Task};
+use std::alloc::{AllocError, Global};
+use subsetter::{Error, Extras, Limits, Options};
+
+/// The task of a subset of all glyphs, or of these.
+fn task_for<'a>(index: u32, requested: RequestedGlyphs<'a>) -> Task<'a>
+    ensures { IsPlain index requested.entry result }
+{
+    Task {
+        requested,
+        index,
+        options: Options {
+            limits: Limits::default(),
+            extras: Extras::ALL,
+        },
+        widths: false,
+        form: Form::Silence,
+        at: None,
+    }
+}
+
+/// Why a subset of all glyphs isn't made, and what is known of the cause.
+#[derive(Drop)]
+pub struct InfoParts {
+    /// The error, none where it is made.
+    pub refusal: Option<String>,
+    /// What is known of its cause.
+    pub reason: Option<String>,
+}
+
+/// All glyphs of a face: these, where there are any.
+fn listed_or_every(glyphs: &[u16]) -> RequestedGlyphs<'_>
+    ensures { result ≡ listed_or_every glyphs.entry }
+{
+    if glyphs.len() == 0 {
+        return RequestedGlyphs::Every;
+    }
+    RequestedGlyphs::These(glyphs)
+}
+
+/// The text of what is known of a cause.
+fn text_of(alloc: Global, hint: Option<Hint>) -> Result<Option<String>, AllocError>
+    ensures { IfOk result (λ text. option_map string_bytes text ≡ option_map hint_text hint) }
+{
+    match hint {
+        Some(hint) => Ok(Some(format!(in alloc; "{hint}")?)),
+        None => Ok(None),
+    }
+}
+
+/// What is known of the cause of a refusal of all glyphs.
+fn reason_of(
+    alloc: Global,
+    font: &[u8],
+    index: u32,
+    failure: &Failure,
+) -> Result<Option<String>, AllocError>
+    ensures { IfOk result (λ reason. IsCause (record { bytes = font.now; index = index; extras = all_extras }) failure.now (option_map string_bytes reason)) }
+{
+    let count = count_glyphs(font, index).unwrap_or(0);
+    let glyphs = first_glyphs(alloc, count)?;
+    let task = task_for(index, listed_or_every(&glyphs));
+    text_of(alloc, find_hint(failure, font, &task))
+}
+
+/// Whether memory ran out.
+fn is_of_memory(failure: &Failure) -> bool
+    ensures { result ≡ is_of_memory failure.now }
+{
+    match failure {
+        Failure::Error(error) => *error == Error::OutOfMemory,
+        _ => false,
+    }
+}
+
+/// What is shown of a refusal of all glyphs, if memory didn't run out.
+fn parts_of(
+    alloc: Global,
+    font: &[u8],
+    index: u32,
+    failure: &Failure,
+) -> Result<InfoParts, AllocError>
+    requires { IsRefusedWhole (record { bytes = font.now; index = index; extras = all_extras }) failure.now }
+    ensures { IfOk result (λ parts. IsAnswer (record { bytes = font.now; index = index; extras = all_extras }) (option_map string_bytes parts.refusal) (option_map string_bytes parts.reason)) }
+{
+    if is_of_memory(failure) {
+        return Err(AllocError);
+    }
+    let refusal = format!(in alloc; "{failure}")?;
+    let reason = reason_of(alloc, font, index, failure)?;
+    Ok(InfoParts {
+        refusal: Some(refusal),
+        reason,
+    })
+}
+
+/// Makes a subset of all glyphs, and drops it.
+fn make_all(alloc: Global, font: &[u8], index: u32) -> Result<(), Failure>
+    ensures ok { OnOk result (IsAccepted (record { bytes = font.now; index = index; extras = all_extras })) }
+    ensures err { IfErr result (IsRefusedWhole (record { bytes = font.now; index = index; extras = all_extras })) }
+{
+    let task = task_for(index, RequestedGlyphs::Every);
+    match make_of(alloc, font, &task) {
+        Ok(_made) => Ok(()),
+        Err(failure) => Err(failure),
+    }
+}
+
+/// Tries to make a subset of all glyphs.
+pub fn try_all(alloc: Global, font: &[u8], index: u32) -> Result<InfoParts, AllocError>
+    ensures { IfOk result (λ parts. IsAnswer (record { bytes = font.now; index = index; extras = all_extras }) (option_map string_bytes parts.refusal) (option_map string_bytes parts.reason)) }
+{
+    match make_all(alloc, font, index) {
+        Ok(()) => Ok(InfoParts {
+            refusal: None,
+            reason: None,
+        }),
+        Err(failure) => parts_of(alloc, font, index, &failure),
+    }
+}
