@@ -6,7 +6,7 @@
 - a record or a field of a table is read by one module (.ci/conventions/tables.txt);
 - no definition and no function stands twice (`compare/contracts.py --twins`), nor once for x and once for y, or for width and height;
 - no number without a name is an offset or a size of a read or a slice, but in a record that is read in order, and none is hexadecimal;
-- each public function, but of the developers' crates, has an `ensures`, or docs/GUARANTEES.md lists it with the test in its place.
+- each public function has an `ensures`, or docs/GUARANTEES.md lists it with the test in its place.
 
 .ci/conventions/exceptions.txt lists what isn't so yet, each kind with its number, which may only fall: a new fault fails the
 check, and so does an exception that isn't needed. `--list` prints all that isn't so; `--shrink` takes from the exceptions those
@@ -162,14 +162,13 @@ def numbers(root, listed):
     return found
 
 
-def without_ensures(root, tree):
+def without_ensures(tree):
     """The public functions of which no clause says what they answer. A method of an instance has its trait's clauses."""
-    tools = {crate for name, crates in crates_by_layer(root) if name == TOOLS for crate in crates}
     for id, item in tree.items.items():
         owner = item.owner
         is_given = owner is not None and owner.kind == "impl" and owner.trait
         public = owner.public if owner is not None and owner.kind == "trait" else item.public
-        if item.kind == "fn" and public and not is_given and id.split(".")[0] not in tools:
+        if item.kind == "fn" and public and not is_given:
             if not any(kind.startswith("ensures") for kind, *_ in item.clauses):
                 yield id
 
@@ -191,7 +190,7 @@ def contracts(root, tree):
     if not text:
         raise Trouble(f"{DOCUMENT} has no section `{SECTION}`")
     rows = dict(re.findall(r"^\| `([\w.]+)` \|.*\| ([^|\n]*) \|$", text.split("\n#")[0], re.M))
-    bare = set(without_ensures(root, tree))
+    bare = set(without_ensures(tree))
     found = {f"contract {it}": f"it has no `ensures`, and {DOCUMENT} doesn't list it" for it in bare - set(rows)}
     for it, test in rows.items():
         wrong = tests_of(root, test) if it in bare else f"{DOCUMENT} lists it, and no public function of this name lacks an `ensures`"

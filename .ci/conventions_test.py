@@ -123,7 +123,7 @@ PLANTS = [
     ("a method of a public trait without one", at("crates/low/src/shapes.rt", "    fn size(&self) -> u16\n        ensures { result ≡ area self.now };", "    fn size(&self) -> u16;"), 1,
      "contract low.shapes.Figure.size"),
     ("a function that isn't public", add("crates/low/src/read.rt", "\nfn opened(name: &str) -> bool {\n    name.is_empty()\n}\n"), 0, "0 faults"),
-    ("one of the developers' crates", both(BARE, at(".ci/conventions/layers.txt", "bytes: low\nfonts: high", "developers: low high")), 0, "0 faults"),
+    ("one of the developers' crates", both(BARE, at(".ci/conventions/layers.txt", "bytes: low\nfonts: high", "developers: low high")), 1, "contract low.read.opened: it has no `ensures`"),
     ("one that is listed with its test", both(BARE, row("`check_files` in `tests/files.py`")), 0, "0 faults"),
     ("one that is listed without a file", both(BARE, row("`check_files`")), 1, "contract low.read.opened: its row names no file with a test"),
     ("one that is listed with a test that isn't there", both(BARE, row("`check_streams` in `tests/files.py`")), 1, "contract low.read.opened: no test of its row is `check_streams`"),

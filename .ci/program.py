@@ -29,17 +29,18 @@ sys.dont_write_bytecode = True
 
 import row_files  # noqa: E402
 from check_batch import check_batch, check_opened, check_progress  # noqa: E402
-from check_files import check_device, check_links, check_places, check_rights  # noqa: E402
+from check_files import check_attributes, check_device, check_links, check_places, check_rights  # noqa: E402
 from check_pdf import check_pdf  # noqa: E402
-from check_refused import check_failed_calls, check_kept_room, check_little_room, check_refused_memory, check_refused_names  # noqa: E402
+from check_refused import check_failed_calls, check_inodes, check_kept_room, check_killed, check_little_room, check_refused_memory, check_refused_names  # noqa: E402
 from check_streams import check_closed, check_many, check_memory, check_number_of_output, check_streams  # noqa: E402
 from check_texts import check_contents, check_names, check_words  # noqa: E402
 from made_fonts import FONTS  # noqa: E402
 from running import Table, messages  # noqa: E402
 from systems import OTHERWISE, UNCHECKED  # noqa: E402
 
-CHECKS = (check_words, check_names, check_pdf, check_places, check_links, check_device, check_rights, check_streams, check_closed, check_number_of_output, check_many, check_memory,
-          check_refused_memory, check_refused_names, check_little_room, check_kept_room, check_failed_calls, check_batch, check_opened, check_progress)
+CHECKS = (check_words, check_names, check_pdf, check_places, check_links, check_attributes, check_device, check_rights, check_streams, check_closed, check_number_of_output, check_many, check_memory,
+          check_refused_memory, check_refused_names, check_little_room, check_kept_room, check_failed_calls, check_killed, check_inodes,
+          check_batch, check_opened, check_progress)
 
 
 def read_words():

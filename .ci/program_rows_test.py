@@ -1,6 +1,7 @@
 #!/usr/bin/env python3
 """Plants faults in the files of the program's rows, each in a copy of these: program.py has to end with status 1, and to say in which
-line. Then it plants faults in what a program does, of which the rows have to see each; no build is needed."""
+line. Then it plants faults in what a program does, of which the rows have to see each, and in what the texts say of defaults; no build is
+needed."""
 import contextlib
 import io
 import os
@@ -13,6 +14,7 @@ sys.dont_write_bytecode = True
 sys.path.insert(0, os.path.join(os.path.dirname(os.path.realpath(__file__)), "program"))
 
 import made_fonts  # noqa: E402
+import check_texts  # noqa: E402 (made_fonts leads to the folder of `made`)
 import planted  # noqa: E402
 import row_files  # noqa: E402
 import running  # noqa: E402
@@ -85,10 +87,19 @@ RUNS = [
     ("another standard input", "cat > /dev/null", '[ "$(cat)" = in ] || exit 1; exit 2', "status 2, wanted 1"),
 ]
 
+# A text beside the program, what it says of a default, and what it says instead.
+TEXTS = [
+    ("another limit in the help", "--help", "(default 1000000,64)", "(default 1000000,32)"),
+    ("another limit in the manual", "docs/CLI.md", "(default `1000000,64`", "(default `100000,64`"),
+    ("another limit in the manual page", "subset_font.1", "The default is 1000000,64", "The default is 1000000,32"),
+    ("another face in the manual page", "subset_font.1", "The default is 0.", "The default is 1."),
+    ("other codes in the manual page", "subset_font.1", "(the new numbers; this is the default)", "(the new numbers)"),
+]
+
 
 def room_of(top):
     """A copy of the script and of what it reads."""
-    for path in (".ci/program.py", ".ci/program", "compare/lib/made.py"):
+    for path in (".ci/program.py", ".ci/program", "compare/lib/made.py", "crates/dev_parts/data"):
         source, target = os.path.join(planted.ROOT, path), os.path.join(top, path)
         os.makedirs(os.path.dirname(target), exist_ok=True)
         shutil.copytree(source, target, ignore=shutil.ignore_patterns("__pycache__")) if os.path.isdir(source) else shutil.copy(source, target)
@@ -151,10 +162,21 @@ def planted_in_run(name, old, new, wanted):
     return [] if wrong and wanted in shown else [f"{name}: {'GOT THROUGH' if not wrong else f'not {wanted!r}'}: {shown}"]
 
 
+def planted_in_text(name, text, old, new):
+    """What is wrong where a text names another default."""
+    with open(os.path.join(planted.ROOT, "crates", "subset_font", "src", "help.rt"), encoding="utf-8") as file:
+        texts = check_texts.texts_beside(file.read())
+    if check_texts.other_defaults(texts) or texts[text].count(old) != 1:
+        return [f"{name}: {old!r} isn't there, or the texts differ: {check_texts.other_defaults(texts)}"]
+    texts[text] = texts[text].replace(old, new)
+    return [] if [it for it, _ in check_texts.other_defaults(texts)] == [text] else [f"{name}: GOT THROUGH"]
+
+
 def main():
     faults = [fault for it in PLANTS for fault in planted_in_files(*it)]
     faults += [fault for it in RUNS for fault in planted_in_run(*it)]
-    return planted.tell(faults, len(PLANTS) + len(RUNS))
+    faults += [fault for it in TEXTS for fault in planted_in_text(*it)]
+    return planted.tell(faults, len(PLANTS) + len(RUNS) + len(TEXTS))
 
 
 if __name__ == "__main__":

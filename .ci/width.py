@@ -12,6 +12,9 @@ Each has to be a row of width.txt: the file below `src/proved`, the function, th
 is right on 32 bits. A row that isn't there, one that is there no longer, another count, and a row whose reason is `?` end with
 status 1. `--write` writes the list anew: it keeps the reasons of the rows that are there, and puts `?` at the others.
 
+A number of `usize` or `isize` that 32 bits don't hold doesn't even compile there: none may be written, here and in the package of
+`dev_rows` that bindings/platforms/test runs on such machines (`--alone` leaves that one out).
+
 It needs Cargo (RUSTC_BOOTSTRAP=1 lets a stable compiler print places in MIR), and takes some seconds.
 """
 import argparse
@@ -34,6 +37,8 @@ CALL = re.compile(r"num::<impl [ui]size>::(\w+)\(" + PLACE)
 TRAIT_CALL = re.compile(r"<&?[ui]size as (?:[\w:]*::)?(Add|Mul|Shl|AddAssign|MulAssign|ShlAssign|Sum|Product)\b" + PLACE)
 BOUND = re.compile(r"num::<impl [ui]size>::(?:MAX|BITS)\b" + PLACE)
 SUM_CALL = re.compile(r"::(?:sum|product)::<[ui]size>\(" + PLACE)
+NUMBER = re.compile(r"\bconst (-?\d+)_([ui]size)\b")
+BOUNDS = {"usize": range(1 << 32), "isize": range(-(1 << 31), 1 << 31)}
 
 WORDS = {"usize", "isize"}
 # What keeps its value on a machine of 32 bits: to `usize` from these, and from `usize` to those.
@@ -154,6 +159,23 @@ def found_in(mir, crate):
     return {key: len(places) for key, places in found.items()}
 
 
+def wide_numbers(mir):
+    """The functions with numbers past 32 bits: (function, number)."""
+    found = set()
+    for body in re.split(r"\n(?=(?:fn|const|static) )", mir):
+        found.update((name_of(body), f"{number}_{kind}") for number, kind in NUMBER.findall(body) if int(number) not in BOUNDS[kind])
+    return sorted(found)
+
+
+def mir_of_drivers(target):
+    """The MIR of the package of `dev_rows`, which is laid out below out/."""
+    sys.path.insert(0, os.path.join(ROOT, "bindings", "platforms"))
+    import drivers
+    folder = os.path.join(ROOT, "out", "width")
+    os.makedirs(folder, exist_ok=True)
+    return mir_of(drivers.laid_out(drivers.Path(folder) / "drivers"), target)
+
+
 # ---- the list
 
 def read(path):
@@ -200,8 +222,12 @@ def main():
     words.add_argument("--list", default=os.path.join(HERE, "width.txt"))
     words.add_argument("--crate", default=os.path.join(ROOT, "bindings", "rust"))
     words.add_argument("--target")
+    words.add_argument("--alone", action="store_true")
     given = words.parse_args()
-    found, rows = found_in(mir_of(given.crate, given.target), given.crate), read(given.list)
+    mirs = [mir_of(given.crate, given.target)] + ([] if given.alone else [mir_of_drivers(given.target)])
+    if not all(NUMBER.search(mir) for mir in mirs):
+        sys.exit("width.py: no number was found: the MIR isn't read as it is written")
+    found, rows = found_in(mirs[0], given.crate), read(given.list)
     if len(found) < 100:
         sys.exit(f"width.py: only {len(found)} steps were found: the MIR isn't read as it is written")
     if given.write:
@@ -210,6 +236,10 @@ def main():
     wrong = list(problems(found, rows))
     for (file, function, text), why in wrong:
         print(f"width.py: {file}: {function}: {text}: {why}")
+    wide = sorted({it for mir in mirs for it in wide_numbers(mir)})
+    for function, number in wide:
+        print(f"width.py: {function}: {number} isn't a number of 32 bits")
+    wrong += wide
     print(f"width: {len(found)} steps, {len(wrong)} wrong")
     sys.exit(1 if wrong else 0)
 

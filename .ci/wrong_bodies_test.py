@@ -47,7 +47,8 @@ impl Box {
 """
 
 # What stands in the place of rt. answers.json has the kit, the status of `rt check`, what `rt check --only` answers, what is said of an
-# edit, a line that comes first, the group of edits at which the caller is killed, and a file that `rt check` writes.
+# edit, a line that comes first, the group of edits at which the caller is killed, and a file that `rt check` writes; `alone` is the answer
+# for one function, and `texts` are in the code where there are several.
 RT = f"#!{sys.executable} -SE\n" + """import json, os, signal, sys
 room = os.environ["TOLD"]
 told = json.load(open(f"{room}/answers.json"))
@@ -68,12 +69,15 @@ elif sys.argv[1] == "check" and "--only" in sys.argv:
     note("top", ["only=" + it for at, it in enumerate(sys.argv) if sys.argv[at - 1] == "--only"])
     if code(".") == code(f"{room}/crates/top") or kept(".") != "whole":
         note("top", ["wrong"])
+    if sys.argv.count("--only") > 1 and not all(it in code(".") for it in told.get("texts", [])):
+        note("top", ["wrong"])
     kept(".", "of an edit")
-    print(told["only"][1], end="")
-    sys.exit(told["only"][0])
+    answer = told["alone"] if "alone" in told and sys.argv.count("--only") == 1 else told["only"]
+    print(answer[1], end="")
+    sys.exit(answer[0])
 elif sys.argv[1] == "check":
     kept(".", "whole")
-    print("checked top::a::f, 1 of 2\\nfn top::a::f: proved\\nfn top::a::Box::g: proved\\nlogic=proved functions=2")
+    print("checked top::a::f, 1 of 2\\nfn top::a::f: proved\\nfn top::a::Box::g: proved\\nfn top::b::h: proved\\nlogic=proved functions=3")
     if told.get("writes"):
         open(f"{room}/{told['writes']}", "a").write("more")
     sys.exit(told.get("check", 0))
@@ -249,6 +253,34 @@ def not_sure(*only, said=BAD):
     return test
 
 
+# The same of three functions, the first in another file.
+THREE = (NOTE.replace("src/a.rt:7:5", "src/b.rt:2:5") + NOTE + NOTE.replace("7:5", "15:9").replace("clause-one", "clause-two") + LOST.replace("a::f:", "b::h:") + LOST
+         + LOST.replace("::f:", "::Box::g:").replace("clause-one", "clause-two") + END.replace("only=2 proved=1", "only=3 proved=0"))
+
+
+def together(room):
+    """Three edits of three functions are tried by one check, and one of the same function alone."""
+    for name, path, old, new in (("e04", "a", "let one = 1;", "let one = 2;"), ("e05", "a", "self.side", "1"), ("e06", "a", "x * one", "x"), ("e07", "b", "x + 0", "1")):
+        room.write(f"compare/wrong_bodies/top/{name}.edit", f"file: src/{path}.rt\nold: {old}\nnew: {new}\n")
+    room.write("crates/top/src/b.rt", "pub fn h(x: u8) -> u8 {\n    x + 0\n}\n")
+    left = [it for it in NAMES if it not in ("e04", "e05", "e07")]
+    yield room.run(only=[1, THREE], alone=PROVES, texts=["let one = 2;", "x * one", "        1\n"], e06=SURVIVES), (1, wanted(9, survive=1), ["only=top::a::f", "only=top::a::Box::g", "only=top::b::h", "only=top::a::f", *left])
+    for line in ("e04.edit: refused at src/a.rt:7:5 in a::f: returns-clause-one", "e05.edit: refused at src/a.rt:15:9 in a::Box::g: returns-clause-two", "e07.edit: refused at src/b.rt:2:5 in b::h: returns-clause-one"):
+        yield f"must-fail top/{line}" in room.printed, True
+    yield room.run(), (1, wanted(9, earlier=10, survive=1), [])
+    # (what the check leaves open of one says nothing of the other)
+    room.write("crates/top/src/more.rt", "more\n")
+    yield room.run(only=[1, NOTE + LOST + "fn top::a::Box::g: proved\nfn top::b::h: proved\n" + END], alone=PROVES, e05=SURVIVES)[:2], (1, wanted(9, survive=1))
+    yield "e05.edit: NOT REFUSED" in room.printed, True
+
+
+def two_texts(room):
+    """Edits of two functions whose texts don't stand there once after each other are tried alone."""
+    room.write("compare/wrong_bodies/top/e04.edit", "file: src/a.rt\nold: let one = 1;\nnew: let one = 1; let self.side = 2;\n")
+    room.write("compare/wrong_bodies/top/e05.edit", "file: src/a.rt\nold: self.side\nnew: 1\n")
+    yield room.run(only=PROVES)[2], ["only=top::a::f", "only=top::a::Box::g", *NAMES]
+
+
 def method(room):
     in_code(room, ("self.side", "1"))
     yield room.run(only=PROVES), (0, wanted(10), after("top::a::Box::g"))
@@ -309,7 +341,7 @@ TESTS = {
     "HANDLES": changed("HANDLES"), "another kit": another_kit, "another line of crates.txt": another_line, "a change elsewhere": changed_elsewhere,
     "a run that is cut off": cut_off, "a goal is open": open_goal, "an edit that proves": proves, "a method": method, "two functions": two_functions,
     "a clause, a type": no_body, "a proof's text": no_code, "an old text that stands there twice": not_applied, "a source that changes meanwhile": changed_meanwhile,
-    "two crates side by side": jobs, "rows are written": results,
+    "two edits by one check": together, "two edits that don't fit": two_texts, "two crates side by side": jobs, "rows are written": results,
     "a proof fails, and no goal is open": not_sure(1, "./proofs/a/f/Answers.antt:3:1: error: `returns-clause-one`: not this type\n" + LOST + END, said=IN_PROOF),
     "a proof names what is gone": not_sure(1, "./proofs/a/f/Answers.antt:3:1: error: `returns-clause-one` has no field `now`\n" + LOST + END, said=WEAK),
     "it isn't compiled": not_sure(1, "src/a.rt:6:5: error[E0308]: mismatched types\n" + NOTE + LOST + END),
@@ -363,16 +395,21 @@ PLANTS = [
     ("one crate is tried", "two crates side by side", "for crate, names in edits.items()]:", "for crate, names in list(edits.items())[:1]]:"),
     ("survivors aren't printed", "rows are written", "if not re.match(AT_GOAL, outcome(it.said))]", "if not it.said]"),
     ("rows are of nothing", "rows are written", "in sorted(said.items()))\n\n\ndef read_words", "in ())\n\n\ndef read_words"),
+    ("a check of both refuses both", "two edits by one check", " and (own is None or name in own)]", "]"),
+    ("a goal of another file's function", "two edits by one check", " and (own is None or is_in(place, name, crate))), None)", "), None)"),
+    ("edits of one function together", "two edits by one check", "if found and not any(set(own) & set(it) for it in functions.values()) and", "if found and"),
+    ("the last edit's text alone", "two edits by one check", "                texts.update(found[0])\n", ""),
+    ("a group's refusals aren't kept", "two edits by one check", "            tell_kept(said, sums, tell)\n            names", "            names"),
     ("any status refuses", "the prover could not tell", "if status != 1 or", "if"),
     ("a check that doesn't end refuses", "the check doesn't end", "not ended or int(ended[2]) >= int(ended[1]) or", "ended and int(ended[2]) >= int(ended[1]) or"),
     ("a check with all proved refuses", "all are proved", "int(ended[2]) >= int(ended[1]) or", ""),
     ("what isn't compiled is refused", "it isn't compiled", r"\berror\[[\w-]+\]|\bsrc/\S+:\d+:\d+: error|", ""),
     ("what isn't read is refused", "a text isn't read", r"\bsrc/\S+:\d+:\d+: error|", ""),
     ("a proof's error refuses", "a proof fails, and no goal is open", r'"^note: (src/\S+\.rt:\d+:\d+): it is not proved that .*?\(`([^`\s]+)`\)"', r'"^(?:note: )?(?:\./)?(\S+:\d+:\d+): .*?`([^`\s]+)`"'),
-    ("a function without a proof refuses", "another function's goal", " if name in proved]", "]"),
+    ("a function without a proof refuses", "another function's goal", " if name in proved and (own is None", " if (own is None"),
     ("any goal refuses", "a goal that no function lacks", """if f"`{goal}`" in why""", "if goal"),
     ("a clause is a body", "a clause, a type", "first < start and end <= last", "end <= last"),
-    ("the last function counts", "two functions", "found += named", "found = named"),
+    ("the last function counts", "two functions", "found += named or", "found = named or"),
     ("a text that stands there twice is changed", "an old text that stands there twice", "if texts[path].count(old) != 1:", "if not texts[path].count(old):"),
 ]
 

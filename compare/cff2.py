@@ -2,14 +2,19 @@
 """The glyphs of CFF2 fonts at coordinates, by the port, beside fontTools and HarfBuzz.
 
     compare/cff2.py [FOLDER ..] [--places N] [--glyphs N] [--seed S] [--only WORD] [--program FILE] [--jobs J] [--no-install]
+    compare/cff2.py --fonts [FOLDER ..] [--places N] [--glyphs N] [--seed S] [--only WORD] [--program FILE] [--jobs J]
+    compare/cff2.py --damage N [FOLDER ..] [--seconds S] [--seed S] [--only WORD] [--program FILE] [--jobs J]
+    compare/cff2.py --hostile [--only WORD] [--program FILE]
 
-It needs Debian (it installs libharfbuzz0b and python3-fonttools by apt-get, which wants root, unless --no-install) and
-dev_parts, which `rt run` builds in crates/dev_parts (--program names another). The fonts are that crate's own and each font
-with the table `CFF2` in a FOLDER. Cantarell-VF.otf (`prebuilt` of Debian's source package fonts-cantarell) and
-AdobeVFPrototype.otf (`test/subset/data/fonts` of harfbuzz) have to be among them, unless --only names others; harfbuzz has
-more in `test/api/fonts` and `test/shape/data/text-rendering-tests/fonts`.
+It needs Debian (it installs libharfbuzz0b and python3-fonttools by apt-get, which wants root, unless --no-install; --fonts and --damage
+python3-freetype, too) and dev_parts, or but for the first form subset_font, which `rt run` builds in their folders of crates/ (--program
+names another). The fonts are those of crates/dev_parts/data and each font with the table `CFF2` in a FOLDER, of a collection each face. Cantarell-VF.otf
+(`prebuilt` of Debian's source package fonts-cantarell) and AdobeVFPrototype.otf (`test/subset/data/fonts` of harfbuzz) have to be
+among them, unless --only names others, or --fonts or --damage is given; harfbuzz has more in `test/api/fonts` and
+`test/shape/data/text-rendering-tests/fonts`. compare/cff2_fonts.py makes large and small ones, which --fonts and --damage take where
+they are in build/cff2.
 
-It compares
+The table alone, by dev_parts: it compares
 
     default  with all coordinates 0, all glyphs: the operators, their operands and their masks must be those that fontTools
              reads, with subroutines called and of each blend the default numbers
@@ -20,11 +25,35 @@ It compares
              its stems must be those of these fractions, each rounded once, with the same masks. The width must be the advance
              that was requested, and no operator may have more than 48 operands
 
+--fonts takes whole fonts that the program makes by `--at`, at the default and at N places, of all glyphs (or N of them; of more than 5,000
+glyphs 300), in random order. The location is that of a second reading (lib/variable.py). Of each new font
+
+    drawing       HarfBuzz and fontTools draw of it what HarfBuzz draws of the source, each coordinate rounded once as above
+    hints         stems and masks are the source's, each edge rounded once
+    advance       hmtx has HarfBuzz's advance, and what a second reading of HVAR comes to; the bearing is the source's
+    width         the charstring's width, as fontTools reads it by the private dict, is that of hmtx
+    private dict  the glyph's has the operators that CFF and CFF2 share, each edge and number at the location rounded once
+    FreeType      its hinted outline at 16 pixels an em is within a pixel of the source's there. Of the fonts of cff2_fonts.py, whose
+                  stems are random, one of a hundred glyphs may be hinted otherwise, as half a unit decides which stems FreeType keeps;
+                  each is printed. It has to be hinted as the same glyph of a static font that lib/cff2_static.py makes of the
+                  source's exact numbers by fontTools, in each point, and without hints within 3 64ths of a pixel of the source's
+    fontTools     its mutator, which rounds each operand, draws it within 16 units (not where a private dict has `vsindex`, which that
+                  doesn't read, nor of more than 5,000 glyphs)
+    file          OTTO; the tables CFF, head, hhea, hmtx, maxp, name and post (those two where the source has them) and no others, with
+                  their checksums, one behind the other; CID-keyed Adobe Identity with the source's scale, head's box, no subroutines and
+                  no unused font dict; head is the source's, and hhea and post are what MVAR makes of theirs
+
+--damage N changes bytes of CFF2, fvar, avar or HVAR in N copies of the fonts of at most 1 MB, at a random place and for 12 glyphs: the program has to answer what
+HarfBuzz draws of the copy (or, where that goes on otherwise, what fontTools reads; or, where neither reads its dicts, what lib/cff2_dicts.py
+reads, by which a dict ends before the first byte that can't be read, and a font dict without a private dict has an empty one), or to refuse it with status 1 and one of its
+messages, within S seconds (1) of a processor. --hostile makes four families of fonts of four sizes each, which grow by four: the program has to answer
+each, or refuse it where its tokens are too many, with at most the source, three times the new font, 32 bytes for each glyph and 1 MB of
+memory, and in a time that grows no more than the work (bytes and tokens) does.
+
 A glyph that the port refuses is counted as a difference. The last line says how many were compared, and the status is 1
 where one differs, or nothing was compared.
 """
 import glob
-import math
 import os
 import random
 import subprocess
@@ -34,15 +63,13 @@ sys.path.insert(0, os.path.join(os.path.dirname(os.path.realpath(__file__)), "li
 
 import build  # noqa: E402
 import by_font  # noqa: E402
+import cff2_runs  # noqa: E402
 import font_at  # noqa: E402
 import fonts  # noqa: E402
-from cff2_exact import ADVANCE, UNIT, Source, drawn, drawn_exactly, half_up, hints, rounded_hints, written  # noqa: E402
+from cff2_drawn import HarfBuzz, contours, rounded  # noqa: E402
+from cff2_exact import ADVANCE, UNIT, Source, drawn, hints, rounded_hints, written  # noqa: E402
 
 PACKAGES = ["libharfbuzz0b", "python3-fonttools"]
-OWN = os.path.join(build.ROOT, "crates", "dev_parts", "data")
-NEAR_A_HALF = 0.001
-# A contour whose end is as near to its beginning is closed, in floats.
-CLOSED = 0.01
 # A program is given so many glyphs at a time.
 GLYPHS_AT_ONCE = 200
 # Real fonts, of which all glyphs have to be compared.
@@ -79,37 +106,6 @@ def port_glyphs(program, path, glyphs, at):
     return answers
 
 
-# ---- HarfBuzz
-
-class HarfBuzz(font_at.HarfBuzz):
-    """A font of HarfBuzz's library, drawn with its cubic curves."""
-
-    def __init__(self, path):
-        super().__init__(path)
-        self.kept.append(self.callback("cubic_to", 6))
-
-
-# ---- what is compared
-
-
-def is_near_a_half(v):
-    return abs(v - math.floor(v) - 0.5) < NEAR_A_HALF
-
-
-def contours(path, apart=0):
-    """The contours of a path. A line back to where a contour began says nothing, and neither does a move without parts."""
-    found = []
-    for part in path:
-        if part[0] == "move_to":
-            found.append([part])
-        elif found:
-            found[-1].append(part)
-    for contour in found:
-        while contour[-1][0] == "line_to" and all(abs(a - b) <= apart for a, b in zip(contour[-1][1:], contour[0][1:])):
-            contour.pop()
-    return [contour for contour in found if len(contour) > 1]
-
-
 class Report:
     """What came of a font."""
 
@@ -132,22 +128,6 @@ def compare_default(report, source, answers):
         theirs = [(code, [value * UNIT for value in operands], mask) for code, operands, mask in source.events(glyph)]
         if [tuple(event) for event in answer["events"]] != theirs:
             report.say(f"glyph {glyph}: other operators than fontTools'")
-
-
-def rounded(report, source, glyph, at, theirs):
-    """HarfBuzz's path, each coordinate rounded once; near a half by exact fractions. None where those have other parts."""
-    whole = [part for contour in contours(theirs, CLOSED) for part in contour]
-    if not any(is_near_a_half(value) for part in whole for value in part[1:]):
-        return [(part[0], *map(half_up, part[1:])) for part in whole]
-    exact = [part for contour in contours(drawn_exactly(source.events(glyph, at)), CLOSED) for part in contour]
-    if [part[0] for part in exact] != [part[0] for part in whole]:
-        return None
-    made = []
-    for part, twin in zip(whole, exact):
-        near = [is_near_a_half(value) for value in part[1:]]
-        report.halves += sum(near)
-        made.append((part[0], *[half_up(b if is_near else a) for a, b, is_near in zip(part[1:], twin[1:], near)]))
-    return made
 
 
 def compare_place(report, source, harfbuzz, answers, at):
@@ -198,7 +178,7 @@ def compare_font(words, path):
 
 def font_paths(folders, only):
     found = []
-    for folder in [OWN, *folders]:
+    for folder in [cff2_runs.OWN, *folders]:
         found += sorted(glob.glob(os.path.join(folder, "*.otf")))
     kept = []
     for path in found:
@@ -220,14 +200,8 @@ def lacking(words, paths):
     return [name for name in WHOLE if words.only in name and name not in names]
 
 
-def main():
-    parser = by_font.parser(__doc__, glyphs=0)
-    parser.add_argument("--program", default=build.built("dev_parts"), metavar="FILE", help="in place of what is built")
-    parser.add_argument("--no-install", action="store_true", help="install no packages")
-    words = parser.parse_args()
-    if not words.no_install:
-        fonts.install(PACKAGES)
-    build.program(words.program)
+def table_alone(words):
+    """Compares tables by dev_parts, and answers the differences, and how many glyphs were compared."""
     paths = font_paths(words.folders, words.only)
     if lacking(words, paths):
         sys.exit(f"cff2.py: {' and '.join(lacking(words, paths))} lacks")
@@ -240,7 +214,27 @@ def main():
     print("", *by_font.lines(wrong), sep="\n")
     total = [sum(getattr(it, name) for it in reports) for name in ("defaults", "drawn", "coordinates", "halves", "edges")]
     print(f"{len(reports)} fonts: {total[0]} glyphs at the default, {total[1]} at locations with {total[2]} coordinates, {total[3]} near a half, and {total[4]} edges of stems; {len(wrong)} differ.")
-    by_font.end(wrong, min(total[:2]))
+    return wrong, min(total[:2])
+
+
+def main():
+    parser = by_font.parser(__doc__, glyphs=0)
+    parser.add_argument("--fonts", action="store_true", help="whole fonts by the program")
+    parser.add_argument("--damage", type=int, metavar="N", help="so many damaged copies")
+    parser.add_argument("--hostile", action="store_true", help="fonts that cause much work")
+    parser.add_argument("--seconds", type=float, default=cff2_runs.cff2_damaged.SECONDS, metavar="S", help="what a damaged copy may take of a processor")
+    parser.add_argument("--program", metavar="FILE", help="in place of what is built")
+    parser.add_argument("--no-install", action="store_true", help="install no packages")
+    words = parser.parse_args()
+    whole = words.fonts or words.damage or words.hostile
+    words.program = words.program or (build.FONT if whole else build.PARTS)
+    if not words.no_install:
+        fonts.install(cff2_runs.PACKAGES if whole else PACKAGES)
+    build.program(words.program)
+    if words.hostile:
+        build.preload("peak.c", to="peak.so")
+    run = cff2_runs.hostile if words.hostile else cff2_runs.damage if words.damage else cff2_runs.whole if words.fonts else table_alone
+    by_font.end(*run(words))
 
 
 if __name__ == "__main__":

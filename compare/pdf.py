@@ -4,6 +4,7 @@
     compare/pdf.py FONT INDEX GID[,GID..] [--bare] [--keep FOLDER]
     compare/pdf.py --faces N [--bare] [--keep FOLDER]
     compare/pdf.py --variable [FOLDER ..] [--places N] [--only WORD] [--plant BUG] [--keep FOLDER]
+    compare/pdf.py --cff2 [FOLDER ..] [--places N] [--only WORD] [--plant BUG] [--jobs J] [--keep FOLDER]
     compare/pdf.py --specimen PNG
     compare/pdf.py --weights PNG
 
@@ -29,11 +30,12 @@ of each, and prints a line a face and the sum. A font that is refused is named, 
 --bare takes subsets without hinting, names and glyph names. MuPDF and Poppler hint nothing, Ghostscript 10 always does: the
 TrueType source without `cmap` and `post`, which it draws where pictures differ, is then without instructions too.
 --variable takes places of variable fonts, and compares with FreeType's pictures of these: lib/pdf_variable.py says how.
+--cff2 takes places of CFF2 fonts, and compares with fonts of the same outlines, made by another way: lib/pdf_cff2.py says how.
 --specimen draws four scripts from subsets of three fonts into a picture, --weights one line at five weights of a variable font
 by each of the three readers.
 --keep FOLDER leaves the files there. Status 0 where nothing differs, else 1.
 
-Needs Debian's mupdf-tools, poppler-utils and ghostscript, for --specimen and --weights also libharfbuzz-bin, for --variable and
+Needs Debian's mupdf-tools, poppler-utils and ghostscript, for --specimen and --weights also libharfbuzz-bin, for --variable, --cff2 and
 --weights python3-pil, and the program (`rt run` in crates/subset_font builds it).
 """
 import argparse
@@ -233,14 +235,18 @@ def main():
     words.add_argument("glyphs", nargs="?")
     words.add_argument("--faces", type=int, metavar="N", help="so many faces, spread over all")
     words.add_argument("--variable", nargs="*", metavar="FOLDER")
+    words.add_argument("--cff2", nargs="*", metavar="FOLDER")
     words.add_argument("--places", type=int, default=20, metavar="N", help="random coordinates for each font")
     words.add_argument("--only", default="", metavar="WORD", help="take those whose names have this word")
-    words.add_argument("--plant", choices=["place", "axes", "widths"], help="a planted bug, which has to be seen")
+    words.add_argument("--plant", choices=["place", "axes", "widths", "unit"], help="a planted bug, which has to be seen; `unit` with --cff2")
+    words.add_argument("--jobs", type=int, default=1, metavar="J", help="so many fonts at a time, with --cff2")
     words.add_argument("--specimen")
     words.add_argument("--weights")
     words.add_argument("--keep", metavar="FOLDER", help="leave the files there")
     words.add_argument("--bare", action="store_true")
     given = words.parse_args()
+    if given.plant == "unit" and given.cff2 is None:
+        words.error("--plant unit is for --cff2")
     build.program(PROGRAM)
     if given.specimen or given.weights:
         import specimen
@@ -248,10 +254,13 @@ def main():
     if given.variable is not None:
         import pdf_variable
         return 0 if pdf_variable.all_fonts(given.variable, given.places, given.only, given.keep, given.plant) else 1
+    if given.cff2 is not None:
+        import pdf_cff2
+        return 0 if pdf_cff2.all_fonts(given.cff2, given.places, given.only, given.keep, given.plant, given.jobs) else 1
     if given.faces:
         return 0 if all_faces(given.faces, given.keep, given.bare) else 1
     if given.glyphs is None:
-        words.error("FONT INDEX GID[,GID..], --faces N, --variable, --specimen PNG or --weights PNG is wanted")
+        words.error("FONT INDEX GID[,GID..], --faces N, --variable, --cff2, --specimen PNG or --weights PNG is wanted")
     with tempfile.TemporaryDirectory() as room:
         folder = given.keep or room
         os.makedirs(folder, exist_ok=True)

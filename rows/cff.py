@@ -3,15 +3,15 @@ import re
 
 import fields
 
-# The operators of DICTs and of Type 2 charstrings by their names; 12 is an escape to a second byte.
+# The operators of DICTs and of Type 2 charstrings by their names, those of CFF2 among them; 12 is an escape to a second byte.
 DICT = """0 version 1 Notice 2 FullName 3 FamilyName 4 Weight 5 FontBBox 6 BlueValues 7 OtherBlues 8 FamilyBlues 9 FamilyOtherBlues
 10 StdHW 11 StdVW 13 UniqueID 14 XUID 15 charset 16 Encoding 17 CharStrings 18 Private 19 Subrs 20 defaultWidthX 21 nominalWidthX
-12.0 Copyright 12.1 isFixedPitch 12.2 ItalicAngle 12.3 UnderlinePosition 12.4 UnderlineThickness 12.5 PaintType 12.6 CharstringType
+22 vsindex 23 blend 24 vstore 12.0 Copyright 12.1 isFixedPitch 12.2 ItalicAngle 12.3 UnderlinePosition 12.4 UnderlineThickness 12.5 PaintType 12.6 CharstringType
 12.7 FontMatrix 12.8 StrokeWidth 12.9 BlueScale 12.10 BlueShift 12.11 BlueFuzz 12.12 StemSnapH 12.13 StemSnapV 12.14 ForceBold
 12.17 LanguageGroup 12.18 ExpansionFactor 12.19 initialRandomSeed 12.20 SyntheticBase 12.21 PostScript 12.22 BaseFontName
 12.23 BaseFontBlend 12.30 ROS 12.31 CIDFontVersion 12.32 CIDFontRevision 12.33 CIDFontType 12.34 CIDCount 12.35 UIDBase 12.36 FDArray
 12.37 FDSelect 12.38 FontName"""
-TYPE_2 = """1 hstem 3 vstem 4 vmoveto 5 rlineto 6 hlineto 7 vlineto 8 rrcurveto 10 callsubr 11 return 14 endchar 18 hstemhm 19 hintmask
+TYPE_2 = """1 hstem 3 vstem 4 vmoveto 5 rlineto 6 hlineto 7 vlineto 8 rrcurveto 10 callsubr 11 return 14 endchar 15 vsindex 16 blend 18 hstemhm 19 hintmask
 20 cntrmask 21 rmoveto 22 hmoveto 23 vstemhm 24 rcurveline 25 rlinecurve 26 vvcurveto 27 hhcurveto 29 callgsubr 30 vhcurveto
 31 hvcurveto 12.3 and 12.4 or 12.5 not 12.9 abs 12.10 add 12.11 sub 12.12 div 12.14 neg 12.15 eq 12.18 drop 12.20 put 12.21 get
 12.22 ifelse 12.23 random 12.24 mul 12.26 sqrt 12.27 dup 12.28 exch 12.29 index 12.30 roll 12.34 hflex 12.35 flex 12.36 hflex1

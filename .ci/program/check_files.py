@@ -1,10 +1,14 @@
 """Files beside IN and OUT: rights, links, devices, and failed writes."""
 import os
 import shutil
+import struct
 import subprocess
 
 from made_fonts import SIMPLE
 from running import OLD, few_bytes, lines, message, mode_of, put, remove, take
+
+# An entry of an access list that names nobody.
+NOBODY = 0xFFFFFFFF
 
 
 def check_places(table, room):
@@ -40,10 +44,16 @@ def check_failed_writes(table, room, out, before):
 
 
 def check_taken_names(table, room, out):
-    """All names beside OUT are taken: OUT is written in place. So it is where a name beside it would be too long."""
+    """All 100 names beside OUT are taken: OUT is written in place. While one is free, a write that fails leaves OUT. It is written in
+    place, too, where a name beside it would be too long."""
     wanted = table.same["simple 2"]
     for number in range(100):
         put(room, f"out.part{number}", OLD)
+        if number in (0, 98):
+            put(room, "out", OLD)
+            before = sorted(os.listdir(room))
+            got = table.start(["in", "out", "0", "2"], room, preexec_fn=few_bytes)
+            table.demand(got.returncode == 3 and take(out) == OLD and sorted(os.listdir(room)) == before, f"{number + 1} names are taken, and a write fails", got)
         if number in (0, 99):
             put(room, "out", OLD)
             before = sorted(os.listdir(room))
@@ -87,6 +97,33 @@ def check_links(table, room):
     table.demand(sorted(os.listdir(room)) == names, "links leave", os.listdir(room))
 
 
+# An access list of Linux (version 2): the owner may read and write, so may the user 4243, the group has no rights, and 4243's are masked by rw.
+ACCESS_LIST = struct.pack("<I", 2) + b"".join(struct.pack("<HHI", *it) for it in ((1, 6, NOBODY), (2, 6, 4243), (4, 0, NOBODY), (16, 6, NOBODY), (32, 0, NOBODY)))
+
+
+def attributes_of(path):
+    return {name: os.getxattr(path, name) for name in os.listxattr(path)}
+
+
+def check_attributes(table, room):
+    """OUT keeps its access list, its other attributes and its number; where the file can't be written again, OUT is whole all the same."""
+    put(room, "in", SIMPLE)
+    out = put(room, "out", OLD * 1000, 0o640)
+    try:
+        os.setxattr(out, "user.note", b"kept")
+        os.setxattr(out, "system.posix_acl_access", ACCESS_LIST)
+    except OSError as error:
+        print(f"program: OUT with attributes isn't tried: {room} takes none ({error})")
+        return
+    before = attributes_of(out), os.stat(out).st_ino, mode_of(out)
+    got = table.start(["in", "out", "0", "2"], room)
+    after = attributes_of(out), os.stat(out).st_ino, mode_of(out)
+    table.demand((got.returncode, got.stderr) == (0, b"") and take(out) == table.same["simple 2"] and after == before, "the attributes of OUT", (got, after, before))
+    got = table.start(["in", "out", "0", "2"], room, preexec_fn=few_bytes)
+    table.demand(got.returncode == 3 and take(out) == table.same["simple 2"] and (attributes_of(out), os.stat(out).st_ino) == before[:2], "a write that fails, of an OUT with attributes", got)
+    table.demand(sorted(os.listdir(room)) == ["in", "out"], "OUT with attributes leaves", os.listdir(room))
+
+
 def check_device(table, room):
     """A device takes a font, though it has no disk that the bytes could reach."""
     put(room, "simple", SIMPLE)
@@ -94,6 +131,17 @@ def check_device(table, room):
     got = table.start(["simple", name, "0", "2"], room)
     table.demand((got.returncode, got.stdout, got.stderr) == (0, lines((2, 1)), b""), f"OUT is the device {name}", got)
     table.demand(os.listdir(room) == ["simple"], f"OUT is the device {name}: files", os.listdir(room))
+
+
+def owners(is_root):
+    """Users and groups that OUT can belong to, and not both to who runs the program: a user who isn't root can give a file to a group of
+    their own alone."""
+    if is_root:
+        return [(0, 0), (0, 65534), (65534, 4242)]
+    others = [group for group in os.getgroups() if group != os.getegid()]
+    if not others:
+        print("program: OUT of another group isn't tried: this user has one group")
+    return [(os.geteuid(), group) for group in others[:1]]
 
 
 def check_rights(table, room):
@@ -124,8 +172,11 @@ def check_rights(table, room):
     got = start("in", "folder/out", "0", "2")
     table.demand(got.returncode == 0 and take(out) == wanted, "OUT in a shut folder", got)
     os.chmod(os.path.join(room, "folder"), 0o755)
-    if is_root:
+    for owner, group in owners(is_root):
         other = put(room, "of another", OLD, 0o666)
+        os.chown(other, owner, group)
         got = start("in", "of another", "0", "2")
-        table.demand(got.returncode == 0 and take(other) == wanted and os.stat(other).st_uid == 0, "OUT of another user", got)
+        kept = os.stat(other).st_uid, os.stat(other).st_gid
+        table.demand(got.returncode == 0 and take(other) == wanted and kept == (owner, group), f"OUT of the user {owner} and the group {group}", (got, kept))
         table.demand(sorted(os.listdir(room)) == ["folder", "in", "of another", "program", "secret", "shut"], "and leaves", os.listdir(room))
+        os.unlink(other)

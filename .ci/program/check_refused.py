@@ -180,11 +180,48 @@ def check_kept_room(table, room):
         table.demand(base.answer == (0, b"", b"") and base.out != OLD and is_whole_run(got, base), f"{words} with no room once OUT.part0 is made", got)
 
 
+def check_killed(table, room):
+    """The process is killed at each call for files in turn: OUT is what it was or whole, and only files beside it are left."""
+    library = refuser(table, room)
+    if not library:
+        return
+    put(room, "in", FONTS["both"])
+    words = ["in", "out", "0", "1,2"]
+    base, ends = start_refused(table, room, library, words), set()
+    for what in CALLS:
+        for number in range(1, base.calls[what] + 1):
+            got = start_refused(table, room, library, words, FAIL=f"{what}:{number}", ERROR=0)
+            left = set(got.names) - set(base.names)
+            is_well = got.answer[0] == -9 and got.out in (OLD, base.out) and left <= {"out.part0", "out.part1"}
+            table.demand(is_well, f"killed at {what} {number}", str(got)[-400:])
+            ends.add((got.out == OLD, bool(left)))
+            for name in left:
+                remove(os.path.join(room, name))
+    table.demand({(True, False), (True, True), (False, True)} <= ends, "killed: ends", ends)
+
+
+def check_inodes(table, room):
+    """Where all files have one inode number, OUT and standard output are one file on one device, and the lines go to standard error; on two
+    devices they are two files, and the lines go to standard output."""
+    library = refuser(table, room)
+    if not library:
+        return
+    put(room, "in", FONTS["both"])
+    table.demand(os.stat("/dev/null").st_dev != os.stat(room).st_dev, "inode numbers", f"/dev/null and {room} are on one device")
+    for output, said in (("output", b"2 -> 1\n"), ("/dev/null", b"")):
+        put(room, "out", OLD)
+        with open(os.path.join(room, output), "wb") as file:
+            got = subprocess.run([*table.command, "in", "out", "0", "2"], cwd=room, stdout=file, stderr=subprocess.PIPE, env={"LD_PRELOAD": library, "INODE": "7"})
+        table.demand((got.returncode, got.stderr) == (0, said), f"OUT and {output} have one inode number", got)
+
+
 # How a run may end where a call for files fails, and has to in one of them. (The program does without a file beside OUT, and without
 # a look at some files.)
-FAILED_CALLS = {"open": {"unread", "unwritten", "whole"}, "size": {"unread", "whole"}, "read": {"unread"}, "write": {"unwritten"},
-                "write1": {"unlined"}, "rename": {"unwritten"}, "sync": {"unwritten"}}
-# By Cargo lines are written to a copy of the stream, and how large the arguments are is read from a file that it does without.
+# (Where the file that was OUT can't have its bytes and its name again, the new one stays.)
+FAILED_CALLS = {"open": {"unread", "unwritten", "whole"}, "size": {"unread", "whole"}, "read": {"unread", "whole"}, "write": {"unwritten", "whole"},
+                "write1": {"unlined"}, "rename": {"unwritten", "whole"}, "sync": {"unwritten", "whole"}}
+# By Cargo lines are written to a copy of the stream, files are copied by a call of their own, and how large the arguments are is read from a
+# file that it does without.
 FAILED_CALLS_BY_CARGO = {"read": {"unread", "whole"}, "write": {"unwritten", "unlined"}, "write1": set()}
 
 

@@ -5,7 +5,17 @@ import subprocess
 import made
 import row_kinds
 from made_fonts import FONTS, SIMPLE, SIMPLE_2, is_whole
-from running import lines, message, messages, put, remove, take
+from running import few_bytes, lines, message, messages, put, remove, take
+
+
+def check_short_output(table, room):
+    """Standard output is a file that takes 100 bytes, of the lines or of the font: the first write is short, and the next one fails."""
+    many = ",".join(["2", "1"] * 50)
+    for words, named, whole in ((["in", "/dev/null", "0", many], "standard output", lines(*((2, 1), (1, 2)) * 50)), (["in", "-", "0", "2"], "-", table.same["simple 2"])):
+        with open(os.path.join(room, "short"), "wb") as file:
+            got = subprocess.run([*table.command, *words], cwd=room, stdout=file, stderr=subprocess.PIPE, preexec_fn=few_bytes)
+        table.demand((got.returncode, got.stderr) == (3, message("cannot-write", named, "EFBIG")), f"{named} takes 100 bytes", got)
+        table.demand(len(whole) > 100 and take(os.path.join(room, "short")) == whole[:100], f"{named} has 100 bytes", take(os.path.join(room, "short")))
 
 
 def check_streams(table, room):
@@ -22,6 +32,7 @@ def check_streams(table, room):
         table.demand((got.returncode, got.stderr) == (3, message("cannot-write", "-", "ENOSPC")), "OUT is standard output, which is full", got)
         got = subprocess.run([*table.command, "in", "-", "0", "2"], cwd=room, stdout=subprocess.PIPE, stderr=full)
         table.demand((got.returncode, got.stdout) == (3, table.same["simple 2"]), "the lines go to standard error, which is full", got)
+    check_short_output(table, room)
     with open(os.path.join(room, "said"), "wb") as file:
         got = subprocess.run([*table.command, "in", "out", "0", "2"], cwd=room, stdout=file, stderr=subprocess.PIPE)
     table.demand(take(os.path.join(room, "said")) == lines((2, 1)) and got.stderr == b"", "standard output is a file beside OUT", got)

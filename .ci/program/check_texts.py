@@ -55,12 +55,30 @@ failed, 2 FILE can't be read.
 """
 
 
-def check_words(table, room):
-    """`--help` and `--version`, and that each option stands in all three texts."""
+# What the three texts say of the options' defaults: of --face-index, --codes and --limits.
+DEFAULTS = {
+    "--help": (r"the face, with -o or --pdf \(default 0\)", r"\(new numbers, the default\)", r"subroutines \(default 1000000,64\)"),
+    "docs/CLI.md": (r"`--face-index INDEX`.* \(default 0\)", r"`consecutive` \(the new numbers, the default\)", r"\(default `1000000,64`, any size\)"),
+    "subset_font.1": (r"The default is 0\.", r"consecutive \(the new numbers; this is the default\)", r"The default is 1000000,64, and no bound on the bytes\."),
+}
+
+
+def texts_beside(printed):
+    """What `--help` prints, the manual and its page, by their names."""
     with open(os.path.join(ROOT, "docs", "CLI.md")) as file:
         manual = file.read()
     with open(os.path.join(ROOT, "crates", "subset_font", "subset_font.1")) as file:
         page = re.sub(r"\\f[BIR]", " ", file.read().replace("\\-", "-"))
+    return {"--help": printed, "docs/CLI.md": manual, "subset_font.1": page}
+
+
+def other_defaults(texts):
+    """The texts, by their names, that have another default than the program."""
+    return [(name, part) for name, parts in DEFAULTS.items() for part in parts if not re.search(part, texts[name])]
+
+
+def check_words(table, room):
+    """`--help` and `--version`, and that each option stands in all three texts, with its default."""
     with open(os.path.join(ROOT, "crates", "subset_font", "src", "help.rt")) as file:
         wanted = re.search(r'pub const HELP: &str = "([^"\\]*)";', file.read())[1]
     first = table.start(["--help"], room)
@@ -72,11 +90,13 @@ def check_words(table, room):
     for words in (["-h"], ["--widths", "--help"], ["--widths", "-h", "in"], ["--help", "x"]):
         got = table.start(words, room)
         table.demand((got.returncode, got.stdout, got.stderr) == (0, first.stdout, b""), words, got)
+    texts = texts_beside(first.stdout.decode())
+    table.demand(not other_defaults(texts), "the defaults in the texts", other_defaults(texts))
     for option in OPTIONS:
-        for name, text in (("--help", first.stdout.decode()), ("docs/CLI.md", manual), ("subset_font.1", page)):
+        for name, text in texts.items():
             there = re.search(r"(^|[^-\w])" + re.escape(option) + r"($|[^-\w])", text, re.M)
             table.demand(there, option, f"it doesn't stand in {name}")
-    for option in set(re.findall(r"(?:^|[\s`,|])(--[a-z][a-z-]*)", first.stdout.decode() + manual + page)):
+    for option in set(re.findall(r"(?:^|[\s`,|])(--[a-z][a-z-]*)", "".join(texts.values()))):
         # (fc-scan and Cargo have some of their own, one is an example of a wrong one, and the build by Cargo alone has --jobs)
         table.demand(option in OPTIONS or option in ("--format", "--path", "--features", "--no-hintings", "--jobs"), option, "no such option")
     with open(os.path.join(ROOT, "VERSION")) as file:

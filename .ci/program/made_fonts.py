@@ -146,6 +146,18 @@ def names(*records, count=None, cut=0):
 
 
 ONE_AXIS = [(b"wght", 100, 400, 900)]
+
+
+def of_parts(name):
+    """A font of dev_parts: `square` has outlines in `CFF2` and one axis, `static` no axes. A is glyph 1."""
+    with open(os.path.join(os.path.dirname(os.path.dirname(HERE)), "crates", "dev_parts", "data", name + ".otf"), "rb") as file:
+        return file.read()
+
+
+def cff2_font(tables):
+    return b"OTTO" + made.font(sorted(tables))[4:]
+
+
 # The names of the instances 257 to 264: American English before what stands earlier; Windows before Unicode; Windows of UTF-32's
 # encoding; Unicode alone; Macintosh alone; of characters that no line has, and half of a pair; a string that ends outside; none.
 INSTANCE_NAMES = names(
@@ -202,7 +214,12 @@ FONTS = {
     # the short format: entries 0, 0, 6, 12, 9, .. are halves of offsets
     "descends_short": six(("loca", made.u16s(0, 0, 6, 12, 9, 24, 30)), ("head", HEAD[:50] + bytes(4)), without=("loca", "head")),
     "outside_short": six(("loca", made.u16s(0, 0, 6, 12, 18, 24, 31)), ("head", HEAD[:50] + bytes(4)), without=("loca", "head")),
-    "cff2": b"OTTO" + made.font([("CFF2", bytes(8)), ("maxp", MAXP)])[4:],
+    "cff2": cff2_font([("CFF2", bytes(8)), ("maxp", MAXP)]),
+    "cff2_square": of_parts("square"),
+    "cff2_static": of_parts("static"),
+    "both_kinds": six(("CFF2", bytes(8))),
+    # (glyph 1 is an accented character by endchar)
+    "cff_both": made.cff_font(made.cff([b"\x0e", bytes.fromhex("8B8B8C8D0E")]), [("CFF2", bytes(8))]),
     "post_1": six(*post(0x00010000)),
     "post_2": six(*post(0x00020000, 0, 257, 258, 259, 260, 261, strings=OWN)),
     # three indexes alone, and the string ends outside
@@ -235,6 +252,18 @@ FONTS["instances"] = made.font(sorted([
     *(it for it in tables_of(VARIABLE).items() if it[0] != "fvar"),
     ("fvar", made.u16s(1, 0, 16, 2, 1, 20, 3, 8) + b"wght" + fixed(100, 400, 900) + made.u16s(0, 256) + b"".join(made.u16s(257 + k, 0) + fixed(it) for k, it in enumerate((650, 500, 900)))),
     *names((3, 1, 0x0409, 257, "Semi Bold", 0), (3, 1, 0x0409, 259, "Black", 0))]))
+
+
+# A collection whose first face has no axis, and the second those of `instances`.
+FONTS["axes_behind"] = b"ttcf" + made.u32s(0x00010000, 2, 20, 20 + len(SIMPLE)) + moved(SIMPLE, 20) + moved(FONTS["instances"], 20 + len(SIMPLE))
+
+
+# `cff2_square` with an `avar` of version 2.0, and a named instance.
+FONTS["cff2_avar"] = cff2_font([
+    *(it for it in tables_of(FONTS["cff2_square"]).items() if it[0] not in ("fvar", "name")),
+    ("avar", made.u16s(2, 0, 0, 1, 0)),
+    ("fvar", made.u16s(1, 0, 16, 2, 1, 20, 1, 8) + b"wght" + fixed(100, 400, 900) + made.u16s(0, 256) + made.u16s(257, 0) + fixed(700)),
+    *names((3, 1, 0x0409, 257, "Bold", 0))])
 
 
 def end_of(name, tag):

@@ -50,7 +50,8 @@ enum {
     SUBSETTER_UNKNOWN_KIND = 1,
     /* A table is missing or cut, or there is no such glyph or face. */
     SUBSETTER_MALFORMED_FONT = 2,
-    /* The outlines are CFF2, or a given glyph is an accented character that `endchar` puts together. */
+    /* The outlines are CFF2, which the calls at coordinates take, or a given glyph is an accented character that `endchar` puts
+     * together. */
     SUBSETTER_UNIMPLEMENTED = 3,
     /* A kept string lies outside its table, or the new `name` would be too large. */
     SUBSETTER_SUBSET_ERROR = 4,
@@ -205,11 +206,19 @@ typedef struct subsetter_coordinate {
  * outlines in `CFF `, it is subset as it is, with its hints. Else the new font is a static one: each glyph is a simple outline
  * without instructions, as the font draws it there, with the advance that it has there, and there are no further glyphs.
  *
+ * A font with outlines in `CFF2`, and neither `glyf` nor `CFF `, is made static at its default too, also without axes: the new
+ * font has outlines in a CID-keyed `CFF `, with their stems, and each coordinate is rounded once.
+ *
  * The answers are those of `subsetter_subset_by_words`; besides, where there are outlines in `glyf`:
  *   2: what says how the font varies (`fvar`, `avar`, `gvar`, `HVAR`) is cut.
  *   3: `avar` has another version than 1, or a glyph is put together in a way that isn't taken.
  *   5: a glyph takes more steps than `tokens`, which bounds them here: one for each glyph that it leads to, each point, each
  *      tuple, and each point again of a tuple that counts; or a coordinate or an advance doesn't fit its 16 bits.
+ * And where there are outlines in `CFF2` alone:
+ *   2: `CFF2`, what says how the font varies (`fvar`, `avar`, `HVAR`, `MVAR`), or a table of metrics is cut.
+ *   3: `fvar`, `avar`, `HVAR` or `MVAR` has another version than 1.
+ *   5: a coordinate, a step between two or an advance doesn't fit its 16 bits (an advance: 32767).
+ *   6: a charstring can't be run, or not within `tokens` and `depth`.
  */
 uint32_t subsetter_subset_at_by_words(const uint8_t *font, size_t font_size, uint32_t index,
                                       const subsetter_coordinate *coordinates, size_t coordinate_count,

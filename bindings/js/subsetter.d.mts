@@ -4,7 +4,7 @@ export class SubsetterError extends Error {}
 export class UnknownKind extends SubsetterError {}
 /** A table is missing or cut, or there is no such glyph or face. */
 export class MalformedFont extends SubsetterError {}
-/** The outlines are CFF2, or a glyph is an accented character that `endchar` puts together. */
+/** The outlines are CFF2, and there are no `coordinates`, or a glyph is an accented character that `endchar` puts together. */
 export class Unimplemented extends SubsetterError {}
 /** A kept string lies outside its table, or the new `name` would be too large. */
 export class SubsetError extends SubsetterError {}
@@ -62,6 +62,10 @@ export interface Place {
      * steps of a glyph: one for each glyph that it leads to, each point, each tuple, and each point again of a tuple that
      * counts; OverflowError where it takes more. Besides, MalformedFont is thrown where `fvar`, `avar`, `gvar` or `HVAR` is cut,
      * and Unimplemented for an `avar` of another version than 1.
+     *
+     * A font with outlines in `CFF2`, and neither `glyf` nor `CFF `, is made static at its default too, which is `{}`: the new font
+     * has outlines in a CID-keyed `CFF `, with their stems, and each coordinate is rounded once; OverflowError where one doesn't
+     * fit its 16 bits.
      */
     readonly coordinates?: { readonly [tag: string]: number };
 }

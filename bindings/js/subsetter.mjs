@@ -14,7 +14,7 @@ export class SubsetterError extends Error {}
 export class UnknownKind extends SubsetterError {}
 /** A table is missing or cut, or there is no such glyph or face. */
 export class MalformedFont extends SubsetterError {}
-/** The outlines are CFF2, or a glyph is an accented character that `endchar` puts together. */
+/** The outlines are CFF2, and there are no `coordinates`, or a glyph is an accented character that `endchar` puts together. */
 export class Unimplemented extends SubsetterError {}
 /** A kept string lies outside its table, or the new `name` would be too large. */
 export class SubsetError extends SubsetterError {}
@@ -86,8 +86,11 @@ function whole(value, low, high, what) {
     return value;
 }
 
-/** Whether a value is an ArrayBuffer, shared or not. (`instanceof` knows none of another frame.) */
-const isBuffer = (value) => ["[object ArrayBuffer]", "[object SharedArrayBuffer]"].includes(Object.prototype.toString.call(value));
+/** The class of an object, by its name. (`instanceof` knows none of another frame.) */
+const classOf = (value) => Object.prototype.toString.call(value).slice("[object ".length, -1);
+
+/** Whether a value is an ArrayBuffer, shared or not. */
+const isBuffer = (value) => ["ArrayBuffer", "SharedArrayBuffer"].includes(classOf(value));
 
 /** The bytes of an ArrayBuffer or of a view of one; else TypeError. */
 function bytesOf(data) {
@@ -603,17 +606,17 @@ function callsOf(library) {
 
 /** The module of what `load` is given. */
 async function moduleOf(source) {
-    if (source instanceof WebAssembly.Module) {
+    if (classOf(source) === "WebAssembly.Module") {
         return source;
     }
     if (isBuffer(source) || ArrayBuffer.isView(source)) {
         return WebAssembly.compile(bytesOf(source));
     }
-    if (typeof Response !== "undefined" && source instanceof Response) {
+    if (classOf(source) === "Response") {
         return compiled(source);
     }
     const url = source === undefined ? new URL("./subsetter.wasm", import.meta.url) : source;
-    if (typeof url !== "string" && !(url instanceof URL)) {
+    if (typeof url !== "string" && classOf(url) !== "URL") {
         throw new TypeError("a module is a WebAssembly.Module, bytes, a Response or an address");
     }
     // (Node's fetch reads no file)

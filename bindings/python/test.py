@@ -4,6 +4,7 @@ the library is looked for, and memory."""
 
 import array
 import builtins
+import collections
 import ctypes
 import decimal
 import fractions
@@ -19,6 +20,7 @@ import tempfile
 import textwrap
 import threading
 import time
+import types
 
 HERE = os.path.dirname(os.path.abspath(__file__))
 BUILT = os.path.join(HERE, "..", "c", "out", "libsubsetter.so")
@@ -287,6 +289,11 @@ def check_refusals(font):
         check_wrong_coordinates(call, font)
         check(type(raised(call, font, [2], 0, 5)) is TypeError, "choices are given by name alone")
         check(type(raised(call, font, [2], hint=False)) is TypeError, "no such choice")
+        for choices, said in (({"index": -1}, "index is -1, and none from 0 to 4294967295"), ({"depth": 256}, "depth is 256, and none from 1 to 255"),
+                              ({"tokens": 0}, "tokens is 0, and none from 1 to 4294967295"),
+                              ({"most_bytes": 1 << 32}, "most_bytes is 4294967296, and none from 1 to 4294967295")):
+            check(str(raised(call, font, [2], **choices)) == said, f"what is said of {choices}")
+        check(str(raised(call, font, [2, 65536])) == "the number of a glyph is none from 0 to 65535", "what is said of a glyph")
 
 
 def check_wrong_coordinates(call, font):
@@ -359,7 +366,37 @@ def check_iterables(font, wanted):
                    (number for number in (2, 2)), frozenset([2])):
         check(subsetter.subset(font, glyphs) == wanted, f"glyphs as {glyphs!r}")
     check(subsetter.subset(font, [2], Number()) == wanted, "an index that has a number")
+    for mapping in (types.MappingProxyType({"wght": 1}), collections.ChainMap({"wght": 1}), collections.UserDict(wght=1)):
+        check(subsetter.subset(font, [2], coordinates=mapping) == wanted, f"coordinates as {type(mapping).__name__}")
+        check([it.value for it in subsetter._coordinates(mapping)] == [65536], f"the value of a {type(mapping).__name__}")
     check(type(raised(subsetter.subset, font, endless())) is KeyError, "an error of the iterable is the caller's")
+
+
+def check_lists(fonts):
+    """Lists of more than 65,536 numbers; and each list is there until the call's end: memory that is given back is written over here."""
+    font, many = fonts["three_advances"], [2, 1] * 40000
+    short = subsetter.embed(font, [2, 1])
+    check(subsetter.embed(font, many) == (short.font, [1, 2] * 40000, short.widths), "a list of 80,000 numbers")
+    check(subsetter.subset(font, many) == short.font, "a list of 80,000 numbers, as a subset")
+    with_text = made("made.ttf")
+    check(subsetter.glyphs_of(with_text, "AH" * 40000) == [(1, "A"), (9, "H")] * 40000, "a text of 80,000 characters")
+    check(subsetter.pdf_font(with_text, [(1, "A"), (9, "H")] * 40000).codes == [1, 2] * 40000, "80,000 entries")
+    check(child("""
+        import subsetter
+        font, text = bytes.fromhex(%r), open(%r, "rb").read()
+        for count in (1, 10, 5000, 80000):
+            for coordinates in (None, {"wght": 1, "wdth": 2}):
+                found = subsetter.embed(font, [2, 1] * count, coordinates=coordinates)
+                print(found.cids == [1, 2] * count and found.widths == [500, 250, 600], end=" ")
+                subset = subsetter.subset(font, [2, 1] * count, hinting=False, coordinates=coordinates)
+                print(subset == subsetter.subset(font, [2, 1], hinting=False), end=" ")
+            print(subsetter.glyphs_of(text, "AH" * count) == [(1, "A"), (9, "H")] * count, end=" ")
+            entries = ((glyph, letter) for _ in range(count) for glyph, letter in ((1, "A"), (9, "H")))
+            print(subsetter.pdf_font(text, entries, coordinates={"wght": 1}).codes == [1, 2] * count, end=" ")
+        made = subsetter.pdf_font(text, [(1, "A"), (9, "H")])
+        print(made.sheet() == made.sheet("line") != made.sheet("grid"))
+    """ % (font.hex(), os.path.join(PDF_DATA, "made.ttf")), {"PYTHONMALLOC": "malloc", "MALLOC_PERTURB_": "165"}) == "True " * 24 + "True\n",
+          "what a call is given is there until its end")
 
 
 # ---- limits, errors, names
@@ -407,6 +444,7 @@ def check_kinds(fonts):
     found = subsetter.embed(fonts["three_advances"], [2, 2, 1])
     check(type(found) is subsetter.Embedded and type(found.font) is bytes, "an embedded font is what it says")
     check((found.cids, found.widths) == ([1, 1, 2], [500, 250, 600]), "CIDs and widths by their names")
+    check({type(it) for it in (found.cids, found.widths)} == {list} and {type(it) for it in found.cids + found.widths} == {int}, "lists of ints")
     check(found._fields == ("font", "cids", "widths"), "the order of the parts")
     check(type(subsetter.subset(fonts["three_glyphs"], [2])) is bytes, "a subset is bytes")
 
@@ -550,6 +588,14 @@ def check_places():
             file.write(b"no library")
         found = child(CALLS, {"SUBSETTER_LIBRARY": beside}, path=inside)
         check(found.startswith(f"SUBSETTER_LIBRARY names {beside}, which can't be loaded"), f"no library: {found}")
+        # One that can't be loaded doesn't end the search, and is named where there is no other.
+        check(child(CALLS, loader, path=inside) == built + "\n", "a broken library beside the module")
+        shutil.copy(beside, built)
+        check(child(CALLS, loader, path=inside) == system + "\n", "two broken libraries")
+        found = child(CALLS, path=inside)
+        for words in (f"\n  {beside}: ", f"\n  {built}: ", "the system's loader", "\nIn the repository"):
+            check(words in found, f"broken libraries: {words!r} is not in {found}")
+        check("isn't there" not in found, f"broken libraries: {found}")
         # A library of another version, and one that is found but lacks a call.
         source = os.path.join(top, "other.c")
         with open(source, "w") as file:
@@ -563,6 +609,32 @@ def check_places():
             subprocess.run([os.environ.get("CC", "cc"), "-shared", "-fPIC", flag, source, "-o", named], check=True)
             found = child(CALLS, {"SUBSETTER_LIBRARY": named}, path=inside)
             check(words in found, f"another library: {found}")
+        # (the second call mustn't take what the first has refused)
+        found = child(2 * CALLS, {"SUBSETTER_LIBRARY": named}, path=inside)
+        check(found.count(words) == 2, f"another library, once more: {found}")
+
+
+# Another thread's call, while the first one's library isn't declared yet.
+TWO_CALLS = """
+    import subsetter, threading
+    declare, begun, found = subsetter._declare, threading.Event(), []
+
+    def slow(library):
+        begun.set()
+        other.join(0.3)
+        return declare(library)
+
+    def call():
+        begun.wait()
+        found.append(subsetter._library().subsetter_free.argtypes)
+
+    subsetter._declare = slow
+    other = threading.Thread(target=call)
+    other.start()
+    subsetter._library()
+    other.join()
+    print(found[0] is not None, subsetter._library() is subsetter._library())
+"""
 
 
 def check_systems():
@@ -894,6 +966,7 @@ def main():
     check_buffers(fonts, rows)
     check_refusals(fonts["three_glyphs"])
     check_iterables(fonts["three_glyphs"], simple)
+    check_lists(fonts)
     check_values()
     check_structs()
     check_limits(fonts)
@@ -902,6 +975,7 @@ def main():
     check((FOUND == HERE) != INSTALLED, f"the module of {FOUND}")
     if not INSTALLED:
         check_places()
+    check(child(TWO_CALLS) == "True True\n", f"two first calls at once: {child(TWO_CALLS)}")
     check_systems()
     check_memory(fonts)
     check_threads(rows)

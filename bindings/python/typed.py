@@ -76,5 +76,7 @@ def refused(data: bytes) -> None:
     text: str = subsetter.subset(data, [1])  # type: ignore[assignment]
     font: bytes = subsetter.embed(data, [1])  # type: ignore[assignment]
     widths: List[str] = subsetter.embed(data, [1]).widths  # type: ignore[assignment]
+    cids: List[str] = subsetter.embed(data, [1]).cids  # type: ignore[assignment]
+    codes: List[str] = subsetter.pdf_font(data, []).codes  # type: ignore[assignment]
     subsetter.embed(data, [1]).cid  # type: ignore[attr-defined]
-    print(text, font, widths, subsetter.no_such_name)  # type: ignore[attr-defined]
+    print(text, font, widths, cids, codes, subsetter.no_such_name)  # type: ignore[attr-defined]

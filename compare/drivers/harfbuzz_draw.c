@@ -10,6 +10,7 @@ static uint64_t parts;
 static void move_to(hb_draw_funcs_t *f, void *d, hb_draw_state_t *s, float x, float y, void *u) { parts++; }
 static void line_to(hb_draw_funcs_t *f, void *d, hb_draw_state_t *s, float x, float y, void *u) { parts++; }
 static void curve_to(hb_draw_funcs_t *f, void *d, hb_draw_state_t *s, float a, float b, float x, float y, void *u) { parts++; }
+static void cubic_to(hb_draw_funcs_t *f, void *d, hb_draw_state_t *s, float a, float b, float c, float e, float x, float y, void *u) { parts++; }
 
 /* Draws a list of glyphs. */
 static void draw(hb_font_t *font, hb_draw_funcs_t *functions, const char *list) {
@@ -33,6 +34,7 @@ int main(int count, char **words) {
     hb_draw_funcs_set_move_to_func(functions, move_to, NULL, NULL);
     hb_draw_funcs_set_line_to_func(functions, line_to, NULL, NULL);
     hb_draw_funcs_set_quadratic_to_func(functions, curve_to, NULL, NULL);
+    hb_draw_funcs_set_cubic_to_func(functions, cubic_to, NULL, NULL);
     for (k = 0; k < axes; k++) at[k] = atoi(words[4 + k]);
     size_t turns = strtoul(words[3], NULL, 10), turn;
     uint64_t *times = room_for_times(turns);

@@ -1,6 +1,6 @@
 /* Refuses requests for memory and fails calls for files, one at a time, and counts them. Loaded before the C library:
  * LD_PRELOAD=refuse.so TOLD=FILE [REFUSE=N | REFUSE=all] [ROOM=BYTES] [SPARE=BYTES] [WITHIN=clock] [FAIL=WHAT:N [ERROR=E]]
- * PROGRAM WORDS.
+ * [INODE=N] PROGRAM WORDS.
  *
  *     REFUSE=N       the Nth request for memory is refused; with `all` each is
  *     ROOM=BYTES     a request is refused where more than so many bytes would be held
@@ -9,13 +9,15 @@
  *     WITHIN=clock   requests count from the first reading of the clock to the second: what a program times
  *     FAIL=WHAT:N    the Nth call of WHAT fails: open (of `/` apart), size, read, write, write1 and write2 for the standard
  *                    streams, rename, or sync
- *     ERROR=E        it says the error of that number, and not EIO
+ *     ERROR=E        it says the error of that number, and not EIO; with 0 the process is killed there
+ *     INODE=N        each file has the inode number N
  *     TOLD=FILE      gets the counts at the end, where the last refused request stood, and whether it gave back a part of a
  *                    block (`less`) or asked for memory (`more`)
  *
  * For programs of one thread. */
 #define _GNU_SOURCE
 #include <fcntl.h>
+#include <signal.h>
 #include <stdarg.h>
 #include <stdio.h>
 #include <sys/stat.h>
@@ -36,17 +38,19 @@ static size_t requests, refused, calls[CALLS], wanted_request, wanted_call, room
 static int refuses_all, within_clock, clock_readings, is_ready, is_ended, refused_less;
 static enum call wanted = CALLS;
 static int error_said = EIO;
+static unsigned long inode;
 static enum stage stage = BEFORE, refused_in = BEFORE;
 
 static void read_wishes(void) {
     const char *refuse = getenv("REFUSE"), *within = getenv("WITHIN"), *fail = getenv("FAIL"), *most = getenv("ROOM"),
-               *more = getenv("SPARE"), *error = getenv("ERROR");
+               *more = getenv("SPARE"), *error = getenv("ERROR"), *number = getenv("INODE");
     is_ready = 1;
     refuses_all = refuse && !strcmp(refuse, "all");
     wanted_request = refuse && !refuses_all ? strtoul(refuse, NULL, 10) : 0;
     if (most) room = strtoul(most, NULL, 10);
     if (more) spare = strtoul(more, NULL, 10);
     if (error) error_said = atoi(error);
+    if (number) inode = strtoul(number, NULL, 10);
     within_clock = within && !strcmp(within, "clock");
     const char *colon = fail ? strchr(fail, ':') : NULL;
     for (int k = 0; colon && k < CALLS; k++)
@@ -71,6 +75,7 @@ static int is_refused(size_t asked) {
 /* Whether a call is to fail. */
 static int fails(enum call what) {
     if (!is_ready || is_ended || ++calls[what] != wanted_call || what != wanted) return 0;
+    if (!error_said) raise(SIGKILL);
     errno = error_said;
     return 1;
 }
@@ -142,7 +147,10 @@ int openat(int folder, const char *name, int how, ...) {
 }
 
 int statx(int folder, const char *restrict name, int how, unsigned wanted_parts, struct statx *restrict about) {
-    return fails(SIZE) ? -1 : syscall(SYS_statx, folder, name, how, wanted_parts, about);
+    if (fails(SIZE)) return -1;
+    int found = syscall(SYS_statx, folder, name, how, wanted_parts, about);
+    if (found == 0 && inode) about->stx_ino = inode;
+    return found;
 }
 
 int rename(const char *from, const char *to) {

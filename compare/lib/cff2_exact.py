@@ -1,5 +1,6 @@
 """CFF2 fonts at coordinates by fontTools, in exact fractions: what cff2.py compares the port with."""
 import fractions
+import functools
 import itertools
 import math
 
@@ -21,6 +22,7 @@ def scalar(region, at):
     return product
 
 
+@functools.cache
 def recorder():
     """A reader of charstrings that keeps each operator with its operands and its mask. (The class needs fontTools, which may have
     to be installed first.)"""
@@ -84,13 +86,18 @@ def recorder():
     return Recorder
 
 
+def whole_or_exact(value):
+    """A number of fontTools, of which one with a fraction is a float."""
+    return value if isinstance(value, int) else fractions.Fraction(value)
+
+
 class Source:
     """A font, as fontTools reads it."""
 
-    def __init__(self, path):
+    def __init__(self, path, index=0):
         from fontTools.ttLib import TTFont
 
-        self.font = TTFont(path, lazy=True)
+        self.font = TTFont(path, lazy=True, fontNumber=index)
         self.top = self.font["CFF2"].cff.topDictIndex[0]
         self.count = len(self.top.CharStrings.charStringsIndex)
         self.axes = len(self.font["fvar"].axes) if "fvar" in self.font else 0
@@ -103,8 +110,12 @@ class Source:
         if key not in self.scalars:
             store = self.top.VarStore.otVarStore
             regions = store.VarRegionList.Region
-            self.scalars[key] = [scalar(regions[k], at) for k in store.VarData[data].VarRegionIndex]
-        return sum((s * fractions.Fraction(delta) for s, delta in zip(self.scalars[key], deltas)), fractions.Fraction(0))
+            scalars = [scalar(regions[k], at) for k in store.VarData[data].VarRegionIndex]
+            # (with one denominator, as sums of whole numbers are fast)
+            unit = math.lcm(*(it.denominator for it in scalars))
+            self.scalars[key] = unit, [int(it * unit) for it in scalars]
+        unit, scalars = self.scalars[key]
+        return fractions.Fraction(sum(s * whole_or_exact(delta) for s, delta in zip(scalars, deltas)), unit)
 
     def events(self, glyph, at=None):
         """The operators of a glyph: with the defaults of its blends, or exactly at coordinates."""
@@ -140,18 +151,18 @@ class Pen:
     endPath = closePath
 
 
-def drawn(charstring):
-    """The path and the width of a charstring without subroutines, as fontTools draws it."""
+def drawn(charstring, nominal=0, default=0):
+    """The path and the width of a charstring without subroutines, as fontTools draws it with these widths of its private dict."""
     from fontTools.misc import psCharStrings
 
     pen = Pen()
-    extractor = psCharStrings.T2OutlineExtractor(pen, [], [], 0, 0)
+    extractor = psCharStrings.T2OutlineExtractor(pen, [], [], nominal, default)
     extractor.execute(psCharStrings.T2CharString(bytecode=charstring))
     return pen.path, extractor.width
 
 
-def drawn_exactly(events):
-    """The path of exact operators, as fontTools draws them."""
+def drawn_by_each(events):
+    """For each of exact operators the parts of the path that it draws, as fontTools draws them."""
     from fontTools.misc import psCharStrings
 
     class Exact(psCharStrings.T2OutlineExtractor):
@@ -167,10 +178,15 @@ def drawn_exactly(events):
     exact.gotWidth = 1
     exact.width = 0
     for code, operands, _ in events:
-        name = names[code]
+        name, before = names[code], len(pen.path)
         if "stem" not in name and "mask" not in name:
             exact.execute_event(name, operands)
-    return pen.path
+        yield pen.path[before:]
+
+
+def drawn_exactly(events):
+    """The path of exact operators."""
+    return [part for parts in drawn_by_each(events) for part in parts]
 
 
 def written(charstring):
@@ -200,4 +216,6 @@ def rounded_hints(found):
 
 
 def half_up(v):
-    return math.floor(v + fractions.Fraction(1, 2))
+    if isinstance(v, float):
+        return math.floor(v + 0.5)
+    return (2 * v.numerator + v.denominator) // (2 * v.denominator)

@@ -17,7 +17,7 @@ def sources(*crates):
 # What the calls are made of, by kind.
 SUBSET = sources("subsetter", "subsetter_base", "subsetter_sfnt", "subsetter_cff", "subsetter_cffdata", "subsetter_type2")
 INSTANCE = sources("subsetter_instance", "subsetter_points", "subsetter_variation", "subsetter_variable")
-CFF2 = sources("subsetter_cff_at", "subsetter_cff2", "subsetter_blend", "subsetter_variation", "subsetter_cff", "subsetter_type2", "subsetter_cffdata", "subsetter_base")
+CFF2 = sources("subsetter_cff_at", "subsetter_cff_instance", "subsetter_cff2", "subsetter_blend", "subsetter_variation", "subsetter_cff", "subsetter_type2", "subsetter_cffdata", "subsetter_base")
 BENCH = sources("dev_bench")
 PROGRAM = sources("subset_font", "subset_args", "subset_lines", "subset_pdf", "pdf_objects", "pdf_sheet", "pdf_font", "glyph_names", "cid_embed", "cmap", "late_file")
 C = sources("subsetter_c", "subsetter_pdf_c", "cid_embed", "cid_embed_at") + ("bindings/c/*",)
@@ -118,6 +118,8 @@ COMPARISONS = [
     drawn("--faces 60 --bare", short="--faces 15 --bare", name="pdf, bare", asks="The same, without hinting and names?", paths=SUBSET + PROGRAM),
     drawn("--variable", VARIABLE, short=f"--variable {VARIABLE} --places 3", name="pdf, variable",
           asks="Do three PDF readers draw a variable font's subset as FreeType does?", paths=SUBSET + INSTANCE + PROGRAM),
+    drawn("--cff2", VARIABLE, short=f"--cff2 {VARIABLE} --places 3", name="pdf, cff2",
+          asks="Do three PDF readers draw a CFF2 font's subset as a font of the same outlines made by another way?", paths=SUBSET + INSTANCE + CFF2 + PROGRAM),
     Comparison("pdf font", "Is what a PDF has of a font as rules say that are written a second time, and do readers take it?",
                f"{DEBIAN} compare/pdf_font.py", lines_like(r"\d+ of \d+ fonts compared, \d+ differences|^\d+ files were read.*"), PDF,
                f"{DEBIAN} compare/pdf_font.py --faces 40 --copies 40"),
@@ -149,6 +151,15 @@ COMPARISONS = [
     Comparison("cff2", "Are glyphs of CFF2 fonts at coordinates those of fontTools and HarfBuzz, each coordinate rounded once?",
                f"{DEBIAN} compare/cff2.py {VARIABLE}", lines_like(r"\d+ fonts: .* differ"), CFF2 + sources("dev_parts"),
                f"{DEBIAN} compare/cff2.py {VARIABLE} --places 3 --glyphs 40"),
+    Comparison("cff2, fonts", "Are whole fonts of CFF2 ones drawn as by HarfBuzz and FreeType, with HarfBuzz's advances?",
+               f"{DEBIAN} compare/cff2.py --fonts {VARIABLE}", lines_like(r"\d+ faces, \d+ new fonts: .* differ"), SUBSET + INSTANCE + CFF2 + PROGRAM,
+               f"{DEBIAN} compare/cff2.py --fonts {VARIABLE} --places 2 --glyphs 40"),
+    Comparison("cff2, damaged", "Are damaged CFF2 fonts answered as HarfBuzz draws them, or refused?", f"{DEBIAN} compare/cff2.py --damage 100000 {VARIABLE}",
+               lines_like(r"Of \d+ damaged copies.*"), SUBSET + INSTANCE + CFF2 + PROGRAM, f"{DEBIAN} compare/cff2.py --damage 2000 {VARIABLE}"),
+    Comparison("cff2, hostile", "How long does a hostile CFF2 font take, and what memory?", f"{DEBIAN} compare/cff2.py --hostile",
+               lines_like(r"\d+ hostile CFF2 fonts, \d+ faults"), SUBSET + INSTANCE + CFF2 + PROGRAM, timed=True),
+    Comparison("cff2, times", "What do subsets of CFF2 fonts take beside HarfBuzz?", f"{DEBIAN} compare/cff2_times.py {VARIABLE} --results compare/results",
+               lines_like(r"\d+ rows, \d+ past their bound"), SUBSET + INSTANCE + CFF2 + BENCH, data=("cff2_times.csv",), timed=True),
     Comparison("javascript", "Does the WebAssembly answer the native library's bytes?", "node bindings/js/tests/compare.mjs --fonts 600 --copies 2500",
                lines_like(r"^\d+ (real fonts|damaged copies): \d+ done"), SUBSET + INSTANCE + JAVASCRIPT,
                "node bindings/js/tests/compare.mjs --fonts 300 --copies 2000"),

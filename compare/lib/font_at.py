@@ -100,7 +100,7 @@ class Variation(ctypes.Structure):
 class HarfBuzz:
     """A font of HarfBuzz's library, drawn without rounding."""
 
-    def __init__(self, path):
+    def __init__(self, path, index=0):
         lib = self.lib = ctypes.CDLL("libharfbuzz.so.0")
         pointer, number = ctypes.c_void_p, ctypes.c_uint
         for name in ["blob_create_from_file", "face_create", "font_create", "draw_funcs_create", "font_get_var_coords_normalized"]:
@@ -114,7 +114,7 @@ class HarfBuzz:
         # The older name; since 7.0 it is hb_font_draw_glyph.
         lib.hb_font_get_glyph_shape.argtypes = [pointer, ctypes.c_uint32, pointer, pointer]
         blob = lib.hb_blob_create_from_file(path.encode())
-        self.font = lib.hb_font_create(lib.hb_face_create(blob, 0))
+        self.font = lib.hb_font_create(lib.hb_face_create(blob, index))
         self.path = []
         self.functions = lib.hb_draw_funcs_create()
         self.kept = [self.callback("move_to", 2), self.callback("line_to", 2), self.callback("quadratic_to", 4)]

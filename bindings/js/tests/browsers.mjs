@@ -1,9 +1,10 @@
 /** The module in browsers without a window: node tests/browsers.mjs chromium|firefox .. After `make`. */
-import { readFileSync } from "node:fs";
+import { existsSync, readFileSync } from "node:fs";
 import { fileURLToPath } from "node:url";
-import { equal } from "./assert.mjs";
+import { equal, ok } from "./assert.mjs";
 import { Chromium, serve } from "./chromium.mjs";
 import { Firefox } from "./firefox.mjs";
+import { processesOf, within } from "./profiles.mjs";
 
 const BROWSERS = { chromium: Chromium, firefox: Firefox };
 const read = (name) => readFileSync(fileURLToPath(new URL(name, import.meta.url)));
@@ -39,7 +40,34 @@ async function tests(name, calls, [rowsForPdf, ...fonts]) {
     return { rows, parts, pdf, worker: await told() };
 }
 
+/** Two starts at once know nothing of each other; of a start nothing is left; one that crashes fails each call. */
+async function starts(name) {
+    const [one, other] = [new BROWSERS[name](), new BROWSERS[name]()];
+    const isGone = ({ profile }) => !existsSync(profile) && processesOf(profile).length === 0;
+    try {
+        const pages = await Promise.all([one.page(), other.page()]);
+        equal(`${await one.pageCount()} ${await other.pageCount()}`, "1 1", "the pages of two starts");
+        ok(one.profile !== other.profile && processesOf(one.profile).length > 0, "each start has its profile, and is seen");
+        await Promise.all(pages.map((page, i) => page.go(`${server.url}/index.html?${i}`)));
+        for (const [i, page] of pages.entries()) {
+            equal(await page.value("document.visibilityState + location.search"), `visible?${i}`, "the page is the one in front");
+        }
+        await one.close();
+        ok(isGone(one), "nothing is left of the first start");
+        equal(await pages[1].value("location.search"), "?1", "the second start goes on");
+        const failed = (value) => within(30, value.then(() => "an answer", (error) => error));
+        const waits = failed(pages[1].value("new Promise(() => {})"));
+        other.crash();
+        for (const error of [await waits, await failed(pages[1].value("1"))]) ok(error instanceof Error, `after a crash: ${error}`);
+        await other.close();
+        ok(isGone(other), "nothing is left of the second start");
+    } finally {
+        await Promise.all([one.close(), other.close()]);
+    }
+}
+
 async function run(name) {
+    await starts(name);
     const browser = new BROWSERS[name]();
     try {
         const page = await browser.page();
@@ -64,6 +92,9 @@ if (names.length === 0 || names.some((name) => !(name in BROWSERS))) {
     console.log(`usage: node tests/browsers.mjs ${Object.keys(BROWSERS).join("|")} ..`);
     process.exitCode = 2;
 } else {
-    for (const name of names) await run(name);
+    for (const name of names) await run(name).catch((error) => {
+        console.log(`${name}: FAILED: ${error.stack}`);
+        process.exitCode = 1;
+    });
 }
 await server.close();

@@ -1,4 +1,5 @@
 /** What the module does besides the worked rows: arguments, opened fonts, memory, calls that don't come back. */
+import { exampleFont } from "../page/example.mjs";
 import { equal, ok, same, throws } from "./assert.mjs";
 import { memoryOf, plainFont } from "./made.mjs";
 import { readRows } from "./rows.mjs";
@@ -194,6 +195,56 @@ function kindsOfArguments({ subsetter }) {
     same(widths, [500, ...numbers.map((glyph) => 500 + glyph)], "widths");
 }
 
+/** Lists of more than 65,536 numbers, characters and entries. */
+function longLists({ subsetter }) {
+    const font = plainFont(40, 16), numbers = Array.from({ length: 80000 }, (_, i) => 1 + (i % 39));
+    const wanted = subsetter.embed(font, numbers.slice(0, 39)), opened = subsetter.open(font);
+    for (const made of [subsetter.embed(font, numbers), opened.embed(Uint16Array.from(numbers)), subsetter.embed(font, numbers, { coordinates: { wght: 1 } })]) {
+        same(made.font, wanted.font, "the font of a long list");
+        same(made.cids, numbers, "CIDs of a long list");
+        same(made.widths, wanted.widths, "widths of a long list");
+    }
+    opened.close();
+    const text = "ABC".repeat(30000), shown = subsetter.glyphsOf(exampleFont(), text);
+    equal(shown.map((it) => it.text).join(""), text, "a long text");
+    const [a, b, c] = shown.map((it) => it.glyph), pdf = subsetter.pdfFont(exampleFont(), shown);
+    equal(shown.every(({ glyph }, i) => glyph === [a, b, c][i % 3]), true, "its glyphs");
+    equal(pdf.codes.join(), Array.from(text, (_, i) => 1 + (i % 3)).join(), "its codes");
+}
+
+/** The globals of another realm: of a frame, in Node of another context. */
+async function anotherRealm() {
+    if (typeof document === "undefined") {
+        const { createContext, runInContext } = await import("node:vm");
+        return runInContext("globalThis", createContext());
+    }
+    const frame = document.createElement("iframe");
+    document.body.append(frame);
+    return frame.contentWindow;
+}
+
+/** What another realm made is as good, though it is no instance of a class of this one. */
+async function otherRealms({ library, subsetter, wasm }) {
+    const realm = await anotherRealm(), font = plainFont(40, 16), wanted = subsetter.subset(font, [3, 1, 2]);
+    const buffer = new realm.ArrayBuffer(font.length);
+    new Uint8Array(buffer).set(font);
+    ok(!(buffer instanceof ArrayBuffer), "there is another realm");
+    const lists = [realm.Array.of(3, 1, 2), new realm.Set([3, 1, 2]), new realm.Uint16Array([3, 1, 2]), new realm.Map([[3, 0], [1, 0], [2, 0]]).keys()];
+    for (const glyphs of lists) same(subsetter.subset(font, glyphs), wanted, "glyphs of another realm");
+    const made = (values) => Object.assign(new realm.Object(), values);
+    const options = made({ index: 0, names: true, limits: made({ tokens: 5 }), coordinates: made({ wght: 1 }) });
+    same(subsetter.subset(font, [3, 1, 2], options), wanted, "options of another realm");
+    for (const data of [buffer, new realm.Uint8Array(buffer), new realm.DataView(buffer)]) {
+        same(subsetter.subset(data, [3, 1, 2]), wanted, "a font of another realm");
+        const opened = subsetter.open(data);
+        same(opened.subset([3, 1, 2]), wanted, "an opened font of another realm");
+        opened.close();
+    }
+    const bytes = realm.Uint8Array.from(wasm), sources = [bytes, bytes.buffer, new realm.WebAssembly.Module(bytes)];
+    if (realm.Response) sources.push(new realm.Response(bytes), new realm.URL("/subsetter.wasm", location.href));
+    for (const source of sources) same((await library.load(source)).subset(font, [3, 1, 2]), wanted, "a module of another realm");
+}
+
 function answersAreCopies({ subsetter }) {
     const font = plainFont(60, 32), first = subsetter.subset(font, [5, 6]), kept = first.slice();
     equal(first.buffer.byteLength, first.length, "the answer's buffer");
@@ -270,6 +321,20 @@ async function memoryStays({ library, wasm, fonts }, count) {
             else throws(() => subsetter.subset(fonts.no_outlines, []), library.UnknownKind, "a font without outlines");
         }
         equal(made[0].memory.buffer.byteLength, pages, `the memory after ${count} calls`);
+        // A wrong argument leaves no font there.
+        const mine = new Error("the caller's"), thrower = function* () {
+            yield 1;
+            throw mine;
+        };
+        const wrong = [
+            [RangeError, () => subsetter.subset(large, [70000])], [RangeError, () => subsetter.embed(large, [1], { index: -1 })],
+            [TypeError, () => subsetter.embed(large, [1], { hinting: 0 })], [Error, () => subsetter.subset(large, thrower())],
+            [TypeError, () => subsetter.glyphsOf(large, 5)], [TypeError, () => subsetter.pdfFont(large, [{ glyph: 1, text: 5 }])],
+            [RangeError, () => subsetter.pdfFont(large, [], { tag: "abc" })], [RangeError, () => subsetter.open(large, { index: -1 })],
+            [TypeError, () => subsetter.open(large, { limits: {} })],
+        ];
+        for (const [kind, call] of wrong) for (let i = 0; i < 100; i++) throws(call, kind, "a wrong argument");
+        equal(made[0].memory.buffer.byteLength, pages, "the memory after wrong arguments");
         equal(made.length, 1, "instances");
     });
 }
@@ -423,7 +488,7 @@ async function waysToLoad({ library, wasm, fonts }) {
 export async function runCalls(library, wasm, table, count) {
     const { fonts } = readRows(table), subsetter = await library.load(wasm);
     const all = { library, subsetter, fonts, wasm };
-    const parts = [wrongArguments, valuesOfCoordinates, kindsOfArguments, answersAreCopies, openedFonts, memoryStays, memoryEnds, trapsPass, stackEnds, waysToLoad];
+    const parts = [wrongArguments, valuesOfCoordinates, kindsOfArguments, longLists, otherRealms, answersAreCopies, openedFonts, memoryStays, memoryEnds, trapsPass, stackEnds, waysToLoad];
     for (const part of parts) {
         try {
             await part(all, count);

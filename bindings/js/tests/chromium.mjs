@@ -1,39 +1,45 @@
 /** Chromium without a window, driven by the DevTools protocol over a pipe. */
 import { spawn } from "node:child_process";
-import { mkdtempSync } from "node:fs";
 import { createServer } from "node:http";
-import { tmpdir } from "node:os";
-import { join } from "node:path";
-import { removed } from "./profiles.mjs";
+import { newProfile, removed, within } from "./profiles.mjs";
+
+const STARTS_WITHIN = 60, ENDS_WITHIN = 10;
 
 export class Chromium {
+    /** The folder of this start alone. */
+    profile = newProfile("chromium");
     #child;
     #pending = new Map();
     #listeners = [];
     #next = 1;
     #rest = "";
-    #profile;
-    #ended;
+    #said = "";
+    #exited;
+    /** Why it ended. */
+    #over = null;
+    #started;
 
     constructor(flags = []) {
-        this.#profile = mkdtempSync(join(tmpdir(), "subsetter-chromium-"));
+        // (without a window of its own at the start the pages of the tests are the only ones, and the last is in front)
         const words = [
-            "--headless=new", "--remote-debugging-pipe", "--no-first-run", "--disable-gpu", "--hide-scrollbars", "--disable-extensions",
-            "--disable-background-networking", "--disable-component-update", "--disable-sync", `--user-data-dir=${this.#profile}`,
+            "--headless=new", "--no-startup-window", "--remote-debugging-pipe", "--no-first-run", "--disable-gpu", "--hide-scrollbars",
+            "--disable-extensions", "--disable-background-networking", "--disable-component-update", "--disable-sync",
+            `--user-data-dir=${this.profile}`,
             // (Chromium's own sandbox doesn't run as root)
-            ...(process.getuid?.() === 0 ? ["--no-sandbox"] : []), "--disable-dev-shm-usage", ...flags, "about:blank",
+            ...(process.getuid?.() === 0 ? ["--no-sandbox"] : []), "--disable-dev-shm-usage", ...flags,
         ];
-        this.#child = spawn("chromium", words, { stdio: ["ignore", "ignore", "pipe", "pipe", "pipe"] });
-        let said = "";
-        this.#child.stderr.on("data", (part) => (said = (said + part).slice(-4000)));
-        this.#ended = new Promise((done) => {
-            const end = (why) => {
-                for (const { fail } of this.#pending.values()) fail(new Error(`Chromium ended (${why}): ${said}`));
+        const env = { ...process.env, HOME: this.profile };
+        this.#child = spawn("chromium", words, { stdio: ["ignore", "ignore", "pipe", "pipe", "pipe"], env });
+        this.#child.stderr.on("data", (part) => (this.#said = (this.#said + part).slice(-4000)));
+        this.#exited = new Promise((done) => {
+            const end = (why, signal) => {
+                this.#over ??= new Error(`Chromium ended (${why ?? signal}): ${this.#said}`);
+                for (const { fail } of this.#pending.values()) fail(this.#over);
                 this.#pending.clear();
                 done();
             };
             this.#child.on("error", end);
-            this.#child.on("close", end);
+            this.#child.on("exit", end);
         });
         this.#child.stdio[3].on("error", () => {});
         this.#child.stdio[4].setEncoding("utf8").on("data", (part) => {
@@ -41,6 +47,15 @@ export class Chromium {
             this.#rest = texts.pop();
             texts.forEach((text) => this.#take(JSON.parse(text)));
         });
+        this.#started = this.#begin();
+        this.#started.catch(() => {});
+    }
+
+    /** Waits for the first answer: its version. */
+    async #begin() {
+        const version = await within(STARTS_WITHIN, this.send("Browser.getVersion"));
+        if (!version) throw new Error(`Chromium doesn't answer within ${STARTS_WITHIN} s: ${this.#said}`);
+        return version;
     }
 
     #take(message) {
@@ -53,6 +68,7 @@ export class Chromium {
 
     send(method, params = {}, sessionId = undefined) {
         return new Promise((done, fail) => {
+            if (this.#over) return fail(this.#over);
             const id = this.#next++;
             this.#pending.set(id, { done, fail, method });
             this.#child.stdio[3].write(`${JSON.stringify({ id, method, params, sessionId })}\0`);
@@ -65,6 +81,7 @@ export class Chromium {
 
     /** A new tab. */
     async page({ width = 1100, height = 1500, scale = 1 } = {}) {
+        await this.#started;
         const { targetId } = await this.send("Target.createTarget", { url: "about:blank" });
         const { sessionId } = await this.send("Target.attachToTarget", { targetId, flatten: true });
         const page = new Page(this, sessionId, targetId);
@@ -76,15 +93,27 @@ export class Chromium {
 
     /** Its name and version. */
     async version() {
-        return (await this.send("Browser.getVersion")).product;
+        return (await this.#started).product;
     }
 
-    async close() {
-        await Promise.race([this.send("Browser.close").catch(() => {}), this.#ended]);
-        await Promise.race([this.#ended, new Promise((done) => setTimeout(done, 5000))]);
+    /** How many pages it has. */
+    async pageCount() {
+        const { targetInfos } = await this.send("Target.getTargets");
+        return targetInfos.filter(({ type }) => type === "page").length;
+    }
+
+    /** Ends it at once, as a crash does. */
+    crash() {
         this.#child.kill("SIGKILL");
-        await this.#ended;
-        await removed(this.#profile);
+    }
+
+    /** Ends it: then no process of it is left, and no profile. */
+    async close() {
+        this.send("Browser.close").catch(() => {});
+        await within(ENDS_WITHIN, this.#exited);
+        this.crash();
+        await this.#exited;
+        await removed(this.profile);
     }
 }
 

@@ -1,10 +1,9 @@
 /** Firefox without a window, driven by its own protocol (Marionette) over TCP. */
 import { spawn } from "node:child_process";
-import { existsSync, mkdtempSync, readFileSync, writeFileSync } from "node:fs";
+import { existsSync, readFileSync, writeFileSync } from "node:fs";
 import { connect } from "node:net";
-import { tmpdir } from "node:os";
 import { join } from "node:path";
-import { removed } from "./profiles.mjs";
+import { later, newProfile, removed, within } from "./profiles.mjs";
 
 /** What the profile says before the start; port 0 is one that is free, which Firefox writes into a file of the profile. */
 const PREFERENCES = {
@@ -14,13 +13,12 @@ const PREFERENCES = {
 };
 const STARTS_WITHIN = 60, ANSWERS_WITHIN = 600, ENDS_WITHIN = 10;
 
-const later = (milliseconds) => new Promise((done) => setTimeout(done, milliseconds));
-
 export class Firefox {
+    /** The folder of this start alone. */
+    profile = newProfile("firefox");
     #child;
-    #profile;
-    #ended;
-    /** Why it ended. */
+    #exited;
+    /** Why it ended, or can't be reached. */
     #over = null;
     #said = "";
     #session;
@@ -30,33 +28,33 @@ export class Firefox {
     #next = 1;
 
     constructor() {
-        this.#profile = mkdtempSync(join(tmpdir(), "subsetter-firefox-"));
         const lines = Object.entries(PREFERENCES).map(([name, value]) => `user_pref(${JSON.stringify(name)}, ${JSON.stringify(value)});\n`);
-        writeFileSync(join(this.#profile, "user.js"), lines.join(""));
-        const words = ["--headless", "--marionette", "--no-remote", "--new-instance", "--profile", this.#profile, "about:blank"];
-        this.#child = spawn("firefox-esr", words, { stdio: ["ignore", "ignore", "pipe"], env: { ...process.env, HOME: this.#profile, MOZ_CRASHREPORTER_DISABLE: "1" } });
+        writeFileSync(join(this.profile, "user.js"), lines.join(""));
+        const words = ["--headless", "--marionette", "--no-remote", "--new-instance", "--profile", this.profile, "about:blank"];
+        this.#child = spawn("firefox-esr", words, { stdio: ["ignore", "ignore", "pipe"], env: { ...process.env, HOME: this.profile, MOZ_CRASHREPORTER_DISABLE: "1" } });
         this.#child.stderr.on("data", (part) => (this.#said = (this.#said + part).slice(-4000)));
-        this.#ended = new Promise((done) => {
-            const end = (why) => {
-                this.#over ??= new Error(`Firefox ended (${why}): ${this.#said}`);
-                this.#fail(this.#over);
+        this.#exited = new Promise((done) => {
+            const end = (why, signal) => {
+                this.#fail(new Error(`Firefox ended (${why ?? signal}): ${this.#said}`));
                 done();
             };
             this.#child.on("error", end);
-            this.#child.on("close", end);
+            this.#child.on("exit", end);
         });
         this.#session = this.#begin();
         this.#session.catch(() => {});
     }
 
+    /** What waits fails, and so does what is sent later. */
     #fail(error) {
-        for (const { fail } of this.#pending.values()) fail(error);
+        this.#over ??= error;
+        for (const { fail } of this.#pending.values()) fail(this.#over);
         this.#pending.clear();
     }
 
     /** Waits for the port, and begins a session. */
     async #begin() {
-        const file = join(this.#profile, "MarionetteActivePort");
+        const file = join(this.profile, "MarionetteActivePort");
         for (const end = Date.now() + 1000 * STARTS_WITHIN; !existsSync(file) || !readFileSync(file, "utf8"); await later(50)) {
             if (this.#over) throw this.#over;
             if (Date.now() > end) throw new Error(`Firefox has no port within ${STARTS_WITHIN} s: ${this.#said}`);
@@ -90,6 +88,7 @@ export class Firefox {
 
     send(method, params = {}) {
         return new Promise((done, fail) => {
+            if (this.#over) return fail(this.#over);
             const id = this.#next++, message = JSON.stringify([0, id, method, params]);
             this.#pending.set(id, { done, fail, method });
             this.#socket.write(`${Buffer.byteLength(message)}:${message}`);
@@ -108,15 +107,26 @@ export class Firefox {
         return new Page(this);
     }
 
+    /** How many pages it has. */
+    async pageCount() {
+        return (await this.send("WebDriver:GetWindowHandles")).length;
+    }
+
+    /** Ends it at once, as a crash does. */
+    crash() {
+        this.#child.kill("SIGKILL");
+    }
+
+    /** Ends it: then no process of it is left, and no profile. */
     async close() {
         if (this.#socket && !this.#over) {
             this.send("Marionette:Quit", { flags: ["eForceQuit"] }).catch(() => {});
-            await Promise.race([this.#ended, later(1000 * ENDS_WITHIN)]);
+            await within(ENDS_WITHIN, this.#exited);
         }
-        this.#child.kill("SIGKILL");
-        await this.#ended;
+        this.crash();
+        await this.#exited;
         this.#socket?.destroy();
-        await removed(this.#profile);
+        await removed(this.profile);
     }
 }
 

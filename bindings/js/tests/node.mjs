@@ -5,15 +5,15 @@ import { tmpdir } from "node:os";
 import { join } from "node:path";
 import { fileURLToPath } from "node:url";
 import * as library from "../subsetter.mjs";
-import { equal, ok } from "./assert.mjs";
+import { equal, ok, same, throws } from "./assert.mjs";
 import { runCalls } from "./calls.mjs";
-import { sfnt } from "../page/example.mjs";
+import { exampleFont, sfnt } from "../page/example.mjs";
 import { Font, charstringCommands } from "../page/outlines.mjs";
 import { compare, damagedFonts, realFonts } from "./compare.mjs";
 import { fontFiles, readFont, some } from "./fonts.mjs";
 import { runParts } from "./parts.mjs";
 import { runPdf } from "./pdf.mjs";
-import { runRows } from "./rows.mjs";
+import { readRows, runRows } from "./rows.mjs";
 
 const here = (name) => fileURLToPath(new URL(name, import.meta.url));
 const read = (name) => readFileSync(here(name));
@@ -81,13 +81,89 @@ async function packed() {
         equal(manifest.license, "MIT OR Apache-2.0", "the licence");
         for (const name of ["LICENSE", "NOTICE"]) equal(readFileSync(join(folder, "node_modules/subsetter-proved", name), "utf8"), read(`../../../${name}`).toString(), name);
         ok(!("dependencies" in manifest), "no dependency is named");
+        filesOf(manifest, join(folder, "node_modules/subsetter-proved"));
+        readmeExamples(folder);
         ok(readFileSync(join(folder, "node_modules/subsetter-proved/subsetter.wasm")).equals(Buffer.from(wasm)), "its module is another one");
     } finally {
         rmSync(folder, { recursive: true });
     }
     const typed = [...read("../subsetter.d.mts").toString().matchAll(/^export (?:class|function) (\w+)/gm)].map(([, name]) => name);
     equal(typed.sort().join(), Object.keys(library).sort().join(), "what the types name");
+    await typedMembers(read("../subsetter.d.mts").toString());
     return file;
+}
+
+/** Each path of package.json is that of a file, which has what it should. */
+function filesOf({ main, types, exports, files }, folder) {
+    const { ".": { types: exported, default: module }, ...others } = exports;
+    const begins = (name, front) => readFileSync(join(folder, name), "latin1").startsWith(front);
+    for (const name of [types, exported]) ok(name.endsWith(".d.mts") && begins(name, "/** Why a font"), `the types at ${name}`);
+    for (const name of [main, module]) ok(name.endsWith(".mjs") && begins(name, "/**\n * Fonts cut down"), `the module at ${name}`);
+    equal(JSON.stringify(others), '{"./subsetter.wasm":"./subsetter.wasm"}', "what else is exported");
+    for (const name of files) ok(readFileSync(join(folder, name)).length > 0, name);
+}
+
+/** The README's examples run as they are, beside what npm installed. */
+function readmeExamples(folder) {
+    const blocks = [...read("../README.md").toString().matchAll(/^```js\n(.*?)^```$/gms)].map(([, text]) => text);
+    const ends = [
+        "console.log(font.length > 1000, made.cids.join());", "console.log(latin.length > 1000, greek.cids.join());", "console.log(heavy.length > 1000);",
+    ];
+    equal(blocks.length, ends.length, "examples in the README");
+    const [first, ...behind] = blocks.map((text, i) => text + ends[i]);
+    const front = `import { readFileSync } from "node:fs";\nconst bytes = readFileSync("/usr/share/fonts/truetype/dejavu/DejaVuSans.ttf");\n`;
+    writeFileSync(join(folder, "readme.mjs"), front + first + behind.map((text) => `{\n${text}\n}`).join("\n"));
+    const said = execFileSync(process.execPath, ["readme.mjs"], { cwd: folder, encoding: "utf8" });
+    equal(said, "true 1,2\ntrue 1,2\ntrue\n", "the README's examples");
+}
+
+/** What the types name of the interfaces is there, with the limits that they name. */
+async function typedMembers(types) {
+    const subsetter = await library.load(wasm), font = exampleFont(), opened = subsetter.open(font);
+    const bodyOf = (name) => new RegExp(`^export interface ${name} \\{\\n(.*?)^\\}`, "ms").exec(types)[1];
+    const members = (...names) => names.flatMap((name) => [...bodyOf(name).matchAll(/^    (?:readonly )?(\w+)\??[(:]/gm)].map(([, it]) => it)).sort().join();
+    const known = (call) => /, but (.*)$/.exec(throws(call, TypeError, "no such option").message)[1].split(", ").sort().join();
+    const other = { other: 1 };
+    equal(members("Subsetter"), Object.keys(subsetter).sort().join(), "Subsetter");
+    equal(members("Font"), Object.getOwnPropertyNames(Object.getPrototypeOf(opened)).filter((it) => it !== "constructor").sort().join(), "Font");
+    equal(members("Embedded"), Object.keys(subsetter.embed(font, [1])).sort().join(), "Embedded");
+    equal(members("Choices", "Place", "Face"), known(() => subsetter.subset(font, [1], other)), "the options of subset");
+    equal(members("Choices", "Place"), known(() => opened.embed([1], other)), "the options of an opened font");
+    equal(members("PdfChoices", "Place", "Face"), known(() => subsetter.pdfFont(font, [], other)), "the options of pdfFont");
+    equal(members("Face"), known(() => subsetter.open(font, other)), "the options of open");
+    equal(members("Limits"), known(() => subsetter.subset(font, [1], { limits: other })), "the limits");
+    const entries = [{ glyph: 1, text: "A" }, { glyph: 1, text: "a" }];
+    const pdf = subsetter.pdfFont(font, entries, { vertical: true, cidSet: true, codes: "eachText" });
+    const own = (it) => [...Object.keys(it), ...Object.getOwnPropertyNames(Object.getPrototypeOf(it))].filter((name) => name !== "constructor").sort().join();
+    equal(members("PdfFont"), own(pdf), "PdfFont");
+    equal(members("Descriptor"), [...Object.keys({ xHeight: 0, ...pdf.descriptor })].sort().join(), "Descriptor");
+    equal(members("Permission"), Object.keys(pdf.permission).sort().join(), "Permission");
+    equal(members("Column"), Object.keys(pdf.columns[0]).sort().join(), "Column");
+    equal(members("Objects"), Object.keys(pdf.objects(1)).sort().join(), "Objects");
+    equal(members("Shown"), Object.keys(subsetter.glyphsOf(font, "A")[0]).sort().join(), "Shown");
+    typedLimits(subsetter, bodyOf("Limits"));
+}
+
+/** The least, the greatest and the usual number of each limit, as the types have them. */
+function typedLimits(subsetter, body) {
+    const { fonts } = readRows(table), most = { tokens: "most_tokens", depth: "deepest" }, over = { tokens: "one_token_more", depth: "one_deeper" };
+    for (const name of ["tokens", "depth", "bytes"]) {
+        const [, text] = new RegExp(`/\\*\\* ([^\\n]*) \\*/\\n    readonly ${name}\\?: number;`).exec(body);
+        const [, low, high] = /from (\d+) to (\d+)/.exec(text).map(Number), usual = Number(/Without it (\d+)/.exec(text)?.[1]);
+        const call = (value, font = "three_glyphs") => subsetter.subset(fonts[font], [], { limits: { [name]: value } });
+        for (const value of [low - 1, high + 1]) throws(() => call(value), RangeError, `${name}: ${value}`);
+        call(high);
+        if (name === "bytes") {
+            throws(() => call(low), library.OverflowError, "a bound of one byte");
+            ok(Number.isNaN(usual), "no bound is usual");
+            continue;
+        }
+        call(low);
+        same(call(usual, most[name]), subsetter.subset(fonts[most[name]], []), `${name}: ${usual}`);
+        throws(() => subsetter.subset(fonts[over[name]], []), library.CFFError, `${name}: what is usual`);
+        throws(() => call(usual, over[name]), library.CFFError, `${name}: ${usual}`);
+        call(usual + 1, over[name]);
+    }
 }
 
 async function fonts() {

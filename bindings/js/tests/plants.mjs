@@ -105,6 +105,37 @@ const PLANTS = [
     [MODULE, "subsetter.mjs", "const { buffer } = exports.memory;", "const { buffer } = all;"],
     [MODULE, "subsetter.mjs", "source === undefined ? new", "!source ? new"],
     [MODULE, "subsetter.mjs", "compiled(source);", "compiled(await fetch(source));"],
+    // what stays of a call, long lists, other realms, and what the package says
+    [MODULE, "subsetter.mjs", "        this.#reach(exports.memory, end);\n        const all = new Uint8Array(exports.memory.buffer);\n", "        const all = new Uint8Array(exports.memory.buffer);\n        this.#reach(exports.memory, end);\n"],
+    [MODULE, "subsetter.mjs", "        this.#reach(memory, at + size);\n        new Uint8Array(memory.buffer, at, size)", "        const { buffer } = memory;\n        this.#reach(memory, at + size);\n        new Uint8Array(buffer, at, size)"],
+    [MODULE, "subsetter.mjs", "[\"ArrayBuffer\", \"SharedArrayBuffer\"].includes(classOf(value))", "value instanceof ArrayBuffer || value instanceof SharedArrayBuffer"],
+    [MODULE, "subsetter.mjs", "classOf(source) === \"WebAssembly.Module\"", "source instanceof WebAssembly.Module"],
+    [BROWSER, "subsetter.mjs", "classOf(source) === \"Response\"", "source instanceof Response"],
+    [BROWSER, "subsetter.mjs", "classOf(url) !== \"URL\"", "!(url instanceof URL)"],
+    [MODULE, "subsetter.mjs", "    return numbers;\n}", "    return numbers.slice(0, 65536);\n}"],
+    [MODULE, "subsetter.mjs", "return Array.from(text, (character) => character.codePointAt(0));", "return Array.from(text, (character) => character.codePointAt(0)).slice(0, 65536);"],
+    [MODULE, "subsetter.mjs", "    return { glyphs, text, ends };", "    return { glyphs: glyphs.slice(0, 65536), text, ends: ends.slice(0, 65536) };"],
+    [MODULE, "subsetter.mjs", "        return called(name, bytes, index, glyphsOf(glyphs), choices);", "        const place = library.hold(bytes), numbers = glyphsOf(glyphs);\n        library.release(place);\n        return called(name, bytes, index, numbers, choices);"],
+    [MODULE, "subsetter.mjs", "        return called(\"pdfFont\", bytes, index, entriesOf(shown), choices);", "        const place = library.hold(bytes), entries = entriesOf(shown);\n        library.release(place);\n        return called(\"pdfFont\", bytes, index, entries, choices);"],
+    [MODULE, "subsetter.mjs", "return withGlyphs(text, called(\"glyphsOf\", bytes, index, charactersOf(text)));", "const place = library.hold(bytes), characters = charactersOf(text);\n        library.release(place);\n        return withGlyphs(text, called(\"glyphsOf\", bytes, index, characters));"],
+    [MODULE, "subsetter.mjs", "        open: (data, options) => new Font(library, bytesOf(data), indexOf(named(options, [\"index\"], \"options\"))),\n", "        open: (data, options) => {\n            const bytes = bytesOf(data), early = new Font(library, bytes, 0), index = indexOf(named(options, [\"index\"], \"options\"));\n            early.close();\n            return new Font(library, bytes, index);\n        },\n"],
+    [MODULE, "subsetter.mjs", "cids: numbersOf(2, buffer, cidsAt, cidCount),", "cids: Uint16Array.from(numbersOf(2, buffer, cidsAt, cidCount)),"],
+    [PACKAGE, "package.json", "\"types\": \"./subsetter.d.mts\",\n  \"exports\"", "\"types\": \"./subsetter.d.ts\",\n  \"exports\""],
+    [PACKAGE, "package.json", "\"types\": \"./subsetter.d.mts\",\n      \"default\"", "\"types\": \"./subsetter.mjs\",\n      \"default\""],
+    [PACKAGE, "package.json", "\"main\": \"./subsetter.mjs\"", "\"main\": \"./index.mjs\""],
+    [PACKAGE, "subsetter.d.mts", "At most so deep, from 1 to 255;", "At most so deep, from 1 to 256;"],
+    [PACKAGE, "subsetter.d.mts", "depth 1. Without it 64. */", "depth 1. Without it 63. */"],
+    [PACKAGE, "subsetter.d.mts", "from 1 to 4294967295. Without it 1000000. */", "from 1 to 4294967295. Without it 100000. */"],
+    [PACKAGE, "subsetter.d.mts", "of any kind, from 1 to 4294967295.", "of any kind, from 0 to 4294967295."],
+    [PACKAGE, "subsetter.d.mts", "readonly cidSet?: boolean;", "readonly cidset?: boolean;"],
+    [PACKAGE, "subsetter.d.mts", "    embed(data: FontData,", "    embedded(data: FontData,"],
+    [PACKAGE, "subsetter.d.mts", "    defaultColumn?: [number, number];", "    defaultColumns?: [number, number];"],
+    [PACKAGE, "README.md", "const made = subsetter.embed(bytes, [36, 68]);", "const made = subsetter.embedded(bytes, [36, 68]);"],
+    [PACKAGE, "README.md", "names: false, glyphNames: false, limits", "names: false, glyphnames: false, limits"],
+    [BROWSER, "tests/chromium.mjs", "\"--no-startup-window\", ", ""],
+    [BROWSER, "tests/chromium.mjs", "            if (this.#over) return fail(this.#over);\n", ""],
+    [BROWSER, "tests/chromium.mjs", "                for (const { fail } of this.#pending.values()) fail(this.#over);\n", ""],
+    [BROWSER, "tests/profiles.mjs", "    await rm(folder,", "    if (false) await rm(folder,"],
     [BROWSER, "subsetter.mjs", "return compiled(await fetch(url));", "return compiled(await fetch(url.href));"],
     [PACKAGE, "package.json", "\"./subsetter.mjs\"\n    }", "\"./subseter.mjs\"\n    }"],
     [PACKAGE, "subsetter.d.mts", "export class CFFError", "export class CffError"],
@@ -168,7 +199,7 @@ const room = mkdtempSync(join(tmpdir(), "subsetter-plants-")), copy = join(room,
 mkdirSync(copy, { recursive: true });
 // (dates stay, so that make has nothing to do for what is built)
 const copied = { recursive: true, verbatimSymlinks: true, preserveTimestamps: true };
-for (const name of ["VERSION", "crates.txt", "LICENSE", "NOTICE", "crates/dev_rows/data", "bindings/rust/src", "bindings/capi/src", "bindings/c/subsetter.h"]) {
+for (const name of ["VERSION", "crates.txt", "LICENSE", "NOTICE", "crates/dev_rows/data", "bindings/rust/src", "bindings/rust/tests/data", "bindings/capi/src", "bindings/c/subsetter.h"]) {
     cpSync(join(here, "../..", name), join(room, name), copied);
 }
 cpSync(here, copy, copied);
@@ -179,10 +210,16 @@ try {
     for (const [, file, old] of PLANTS) {
         if (readFileSync(join(copy, file), "utf8").split(old).length !== 2) throw new Error(`${file} is to have this once: ${old}`);
     }
-    for (const [tests, file, old, put] of PLANTS.filter((it) => it.slice(1).join(" ").includes(word))) {
+    const wanted = PLANTS.filter((it) => it.slice(1).join(" ").includes(word));
+    const run = (command) => spawnSync("bash", ["-c", command], { cwd: copy, encoding: "utf8", timeout: 300000 });
+    // (a test that fails as it is sees nothing)
+    for (const command of new Set(wanted.flatMap(([tests]) => tests))) {
+        const { status, stdout, stderr } = run(command);
+        if (status !== 0) throw new Error(`without a bug it fails: ${command}\n${stdout}${stderr}`);
+    }
+    for (const [tests, file, old, put] of wanted) {
         const path = join(copy, file), text = readFileSync(path, "utf8"), { atime, mtime } = statSync(path);
         writeFileSync(path, text.replace(old, () => put));
-        const run = (command) => spawnSync("bash", ["-c", command], { cwd: copy, encoding: "utf8", timeout: 300000 });
         const failed = tests.map(run).find(({ status }) => status !== 0);
         writeFileSync(path, text);
         utimesSync(path, atime, mtime);

@@ -71,7 +71,7 @@ class MalformedFont(Error):
 
 
 class Unimplemented(Error):
-    """The outlines are CFF2, or a glyph is an accented character that `endchar` puts together."""
+    """The outlines are CFF2, and there are no `coordinates`, or a glyph is an accented character that `endchar` puts together."""
 
 
 class SubsetError(Error):
@@ -502,10 +502,13 @@ def subset(
     that the font doesn't have is passed over. A value is taken as the nearest number of 65536ths, a half rounded up. Where
     the font stands at its default, has no axes or has its outlines in `CFF `, it is subset as it is, with its hints; else the
     new font is a static one, each glyph a simple outline without instructions, and `tokens` bounds the steps of a glyph
-    (one for each glyph that it leads to, each point, each tuple, and each point again of a tuple that counts).
+    (one for each glyph that it leads to, each point, each tuple, and each point again of a tuple that counts). A font with
+    outlines in `CFF2`, and neither `glyf` nor `CFF `, is made static at its default too, which is {}: the new font has outlines
+    in a CID-keyed `CFF `, with their stems, and each coordinate is rounded once.
 
     Raises an `Error` by its name (with coordinates `MalformedFont` also where `fvar`, `avar`, `gvar` or `HVAR` is cut,
-    `Unimplemented` also for an `avar` of another version than 1, and `OverflowError` for too many steps); `TypeError` for
+    `Unimplemented` also for an `avar` of another version than 1, and `OverflowError` for too many steps, or where a
+    coordinate of `CFF2` doesn't fit its 16 bits); `TypeError` for
     arguments of another kind, and `ValueError` for numbers out of range, a value that is NaN or infinite, and a tag that
     hasn't four ASCII characters.
     """

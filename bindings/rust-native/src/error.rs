@@ -9,7 +9,8 @@ pub enum Error {
     UnknownKind,
     /// A table is missing or cut, or there is no such glyph or face.
     MalformedFont,
-    /// The outlines are CFF2, or a kept glyph is an accented character that `endchar` puts together.
+    /// The outlines are CFF2, which the calls at coordinates take, or a kept glyph is an accented character that `endchar` puts
+    /// together.
     Unimplemented,
     /// A kept string lies outside its table, or the new `name` would be too large.
     SubsetError,

@@ -134,6 +134,9 @@ pub fn subset_with_options(
 /// [`subset`], hinting included. Else the new font is a static one: each glyph is a simple outline without instructions,
 /// with the shape and the advance that it has at the coordinates.
 ///
+/// A font with outlines in `CFF2`, and neither `glyf` nor `CFF `, is made static at its default too, also without axes: the
+/// new font has outlines in a CID-keyed `CFF `, with their stems, and each coordinate is rounded once.
+///
 /// ```
 /// use subsetter::{subset_with_variations, GlyphRemapper, Tag};
 ///
@@ -158,6 +161,13 @@ pub fn subset_with_options(
 ///   component.
 /// - [`Error::OverflowError`]: a glyph takes more than 1,000,000 steps; or a coordinate, an advance or a metric of `hhea` or
 ///   `post` doesn't fit its 16 bits.
+///
+/// And where there are outlines in `CFF2` alone:
+///
+/// - [`Error::MalformedFont`]: `CFF2`, `fvar`, `avar`, `HVAR`, `MVAR` or a table of metrics is missing or cut.
+/// - [`Error::Unimplemented`]: `fvar`, `avar`, `HVAR` or `MVAR` has another major version than 1.
+/// - [`Error::OverflowError`]: a coordinate, a step between two or an advance doesn't fit its 16 bits (an advance: 32,767).
+/// - [`Error::CFFError`]: a charstring can't be run, or not within 1,000,000 tokens and depth 64.
 #[cfg(feature = "variable-fonts")]
 pub fn subset_with_variations(
     data: &[u8],

@@ -15,6 +15,7 @@ HEAD = """//! The proved sources, crate by crate, without their contracts.
 #![allow(
     clippy::len_zero,
     clippy::manual_find,
+    clippy::manual_flatten,
     clippy::manual_map,
     clippy::manual_ok_err,
     clippy::manual_range_contains,

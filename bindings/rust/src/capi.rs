@@ -6,9 +6,9 @@ pub mod pdf;
 
 use crate::library::{lists, refused};
 use crate::proved::cid_embed::{embed_with_options, mapper_for};
-use crate::proved::cid_embed_at::embed_with_variations_and_options;
-use crate::proved::subsetter::{self as proved, check_opening, subset_with_options};
-use crate::proved::subsetter_variable::subset_with_variations_and_options;
+use crate::proved::cid_embed_at::{embed_with_variations_and_options, mapper_at};
+use crate::proved::subsetter::{self as proved, subset_with_options};
+use crate::proved::subsetter_variable::{check_opening_at, subset_with_variations_and_options};
 use crate::rattle::alloc::Global;
 use crate::{Embedded, Error};
 use ::alloc::vec::Vec;
@@ -78,7 +78,7 @@ fn settings(
 ) -> Result<Vec<(proved::Tag, i32)>, Error> {
     let mut taken = Vec::new();
     if taken.try_reserve_exact(coordinates.len()).is_err() {
-        check_opening(data, index, choices.0.extras).map_err(refused)?;
+        check_opening_at(data, index, choices.0.extras).map_err(refused)?;
         return Err(Error::OutOfMemory);
     }
     let setting = |it: &Coordinate| (proved::Tag::new(&it.tag.to_be_bytes()), it.value);
@@ -115,7 +115,7 @@ pub fn subset_at(
     choices: &Choices,
 ) -> Result<Vec<u8>, Error> {
     let at = settings(data, index, coordinates, choices)?;
-    let mapper = mapper(data, index, glyphs, choices)?;
+    let mapper = mapper_at(Global, data, index, glyphs, choices.0.extras).map_err(refused)?;
     let subset = subset_with_variations_and_options;
     let made = subset(Global, data, index, &at, &mapper, &choices.0);
     Ok(made.map_err(refused)?.into_inner())

@@ -41,6 +41,7 @@ use crate::proved::cmap::find_subtable;
 use crate::proved::pdf_font as proved;
 use crate::proved::subsetter as subsetting;
 use crate::proved::subsetter_sfnt::parse::parse;
+use crate::proved::subsetter_variable::check_opening_at;
 use crate::rattle::alloc::Global;
 use crate::{library, Error, Tag};
 use alloc::vec::Vec;
@@ -56,7 +57,7 @@ pub(crate) fn with_room<T>(count: usize) -> Result<Vec<T>, Error> {
 /// What gives a character its glyph, by the font's table `cmap`.
 pub(crate) fn glyph_lookup(data: &[u8], index: u32) -> Result<impl Fn(char) -> u16 + '_, Error> {
     let all = subsetting::Extras::ALL;
-    subsetting::check_opening(data, index, all).map_err(library::refused)?;
+    check_opening_at(data, index, all).map_err(library::refused)?;
     let face = parse(data, index, all).map_err(library::refused)?;
     let cmap = face.stored(subsetting::Tag::new(b"cmap"));
     let table = cmap.and_then(find_subtable).ok_or(Error::MalformedFont)?;
@@ -71,7 +72,8 @@ pub(crate) fn glyph_lookup(data: &[u8], index: u32) -> Result<impl Fn(char) -> u
 ///
 /// # Errors
 ///
-/// Those of [`subset`](crate::subset) that come of opening the font; [`Error::MalformedFont`] where it has no such table.
+/// Those of [`subset`](crate::subset) that come of opening the font, where outlines in `CFF2` are taken too;
+/// [`Error::MalformedFont`] where it has no such table.
 pub fn glyphs_of<'a>(data: &[u8], index: u32, text: &'a str) -> Result<Vec<Shown<'a>>, Error> {
     let glyph_of = glyph_lookup(data, index)?;
     let mut shown = with_room(text.chars().count())?;

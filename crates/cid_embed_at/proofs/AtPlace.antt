@@ -1,62 +1,80 @@
 -- What is said of an embedding of the static font is said of the font.
-use Rattle.std.proofs.Common.{◌≡◌, ℕ, List, [], Option, Result, Ok, Err, ℤ, subst, ◌∙◌, ◌⊎◌, inl, inr}
-use Rattle.std.specs.Prelude.{codes, IfOk, IfErr}
+use Rattle.std.proofs.Common.{◌≡◌, ℕ, List, [], Option, Result, Ok, Err, ℤ, refl, sym, subst, ◌⊎◌, inl, inr}
+use Rattle.std.specs.Prelude.{IfOk, IfErr}
 use Rattle.subsetter_base.specs.declared.tag.Tag.{Tag}
 use Rattle.subsetter_base.specs.declared.error.Error.{Error}
 use Rattle.subsetter_base.specs.declared.error.Error.TheVariants.{OutOfMemory}
-use Rattle.subsetter_sfnt.specs.Fault.{HasOpeningFault}
+use Rattle.subsetter_base.specs.declared.error.Error.TheVariants.{OverflowError}
+use Rattle.subsetter_base.specs.Indexes.{HasAllAboveZero}
 use Rattle.subsetter_sfnt.specs.Read.{Font}
 use Rattle.subsetter.specs.Fault.{in_opening}
 use Rattle.subsetter.specs.Answer.{IsAnswer}
 use Rattle.subsetter.specs.Subset.{IsSubset}
-use Rattle.subsetter_instance.specs.Fault.{HasInstanceFault}
-use Rattle.subsetter_variable.specs.DefaultLocation.{IsAtDefault, no_outlines}
-use Rattle.subsetter_variable.specs.Subset.{whole, IsStatic, as_it_is}
-use Rattle.subsetter_variable.proofs.Static.{one_static}
-use Rattle.subsetter_variable.proofs.Unopened.{no_glyf, same_stored}
+use Rattle.subsetter_variable.specs.DefaultLocation.{IsCff2Font, HasStaticFault}
+use Rattle.subsetter_variable.specs.Subset.{whole, HasOpeningFaultAt, IsStatic}
+use Rattle.subsetter_variable.proofs.Static.{one_static, closed}
 use Rattle.cid_embed.specs.Embed.{numbering, HasMapperFault, all_asked, unopened, IsEmbedded, HasEmbedFault, HasEmbedFaultWithin, in_font, in_numbering, in_subset, IsEmbeddingAnswer, HasNoEmbeddingWithin}
 use Rattle.cid_embed.specs.declared.embedding.Embedded.{Embedded}
-use Rattle.cid_embed_at.specs.Embed.{IsEmbeddingAnswerAt, HasEmbedFaultAt, HasNoEmbeddingAt, in_instance, in_static, in_numbering as none_left}
+use Rattle.cid_embed_at.specs.Embed.{IsEmbeddingAnswerAt, HasEmbedFaultAt, HasNoEmbeddingAt, in_instance, in_cff_instance, in_static, in_numbering as none_left}
 
--- a font that can't be opened stands at its default
-closed : (font : Font) (settings : List (Tag × ℤ)) (e : Error) → HasOpeningFault font e → IsAtDefault (whole font) settings
-closed font settings e fault = no_outlines (same_stored font (codes "glyf") ∙ no_glyf font e fault)
+-- ---- glyphs without numbers
+
+abbrev pub IsUnnumbered : Font → List ℕ → Error → Type 0
+IsUnnumbered font glyphs e = (e ≡ OutOfMemory) ⊎ (((e ≡ OverflowError) × HasAllAboveZero glyphs) ⊎ HasOpeningFaultAt font e)
+
+-- of a font without outlines in CFF2 alone
+other_unnumbered : (font : Font) (glyphs : List ℕ) (e : Error) → (IsCff2Font (whole font) → ⊥) → (e ≡ OutOfMemory) ⊎ HasMapperFault font glyphs e → IsUnnumbered font glyphs e
+other_unnumbered font glyphs e other (inl m) = inl m
+other_unnumbered font glyphs _ other (inr (all_asked all)) = inr (inl (refl, all))
+other_unnumbered font glyphs e other (inr (unopened fault)) = inr (inr (record { fault = fault; not_cff2 = other }))
+
+pub others_unnumbered : {X : Type 0} (font : Font) (glyphs : List ℕ) → (IsCff2Font (whole font) → ⊥) → (r : Result X Error) → IfErr r (λ e. (e ≡ OutOfMemory) ⊎ HasMapperFault font glyphs e) → IfErr r (IsUnnumbered font glyphs)
+others_unnumbered font glyphs other (Ok x) h = tt
+others_unnumbered font glyphs other (Err e) h = other_unnumbered font glyphs e other h
 
 module _ (bound : Option ℕ) (tokens depth : ℕ) (font : Font) (settings : List (Tag × ℤ)) (glyphs : List ℕ) where
   -- ---- glyphs without numbers, and a font that can't be opened
 
-  pub opening_fault : (e : Error) → HasOpeningFault font e → HasEmbedFaultAt bound tokens depth font settings glyphs [] e
-  opening_fault e fault = in_static font (as_it_is (closed font settings e fault)) (in_font (in_subset (in_opening fault)))
+  pub opening_fault : (e : Error) → HasOpeningFaultAt font e → HasEmbedFaultAt bound tokens depth font settings glyphs [] e
+  opening_fault e f = in_static font (closed font settings (numbering glyphs) e f) (in_font (in_subset (in_opening f.fault)))
 
-  pub opening_final : (e : Error) → HasOpeningFault font e → HasNoEmbeddingAt bound tokens depth font settings glyphs
-  opening_final e fault x within a =
-      let is : a.static ≡ font = one_static font settings (numbering glyphs) a.static font a.is_static (as_it_is (closed font settings e fault)) in
-      let answer : IsEmbeddingAnswer tokens depth font glyphs x = subst (λ (f : Font). IsEmbeddingAnswer tokens depth f glyphs x) is a.answer in
-      answer.clean e (in_subset (in_opening fault))
+  pub opening_final : (e : Error) → HasOpeningFaultAt font e → HasNoEmbeddingAt bound tokens depth font settings glyphs
+  opening_final e f x within a =
+      let is : a.static ≡ font = one_static font settings (numbering glyphs) a.static font a.is_static (closed font settings (numbering glyphs) e f) in
+      let answer : IsEmbeddingAnswer tokens depth font glyphs x = subst (λ (s : Font). IsEmbeddingAnswer tokens depth s glyphs x) is a.answer in
+      answer.clean e (in_subset (in_opening f.fault))
 
-  pub unnumbered : (e : Error) → (e ≡ OutOfMemory) ⊎ HasMapperFault font glyphs e → (e ≡ OutOfMemory) ⊎ ((order : List ℕ) × HasEmbedFaultAt bound tokens depth font settings glyphs order e)
+  pub unnumbered : (e : Error) → IsUnnumbered font glyphs e → (e ≡ OutOfMemory) ⊎ ((order : List ℕ) × HasEmbedFaultAt bound tokens depth font settings glyphs order e)
   unnumbered e (inl m) = inl m
-  unnumbered e (inr (all_asked all)) = inr ([], none_left all)
-  unnumbered e (inr (unopened fault)) = inr ([], opening_fault e fault)
+  unnumbered e (inr (inl all)) = inr ([], subst (λ (why : Error). HasEmbedFaultAt bound tokens depth font settings glyphs [] why) (sym all.0) (none_left all.1))
+  unnumbered e (inr (inr f)) = inr ([], opening_fault e f)
 
-  pub unnumbered_final : (e : Error) → (e ≡ OutOfMemory) ⊎ HasMapperFault font glyphs e → (e ≡ OutOfMemory) ⊎ HasNoEmbeddingAt bound tokens depth font settings glyphs
+  pub unnumbered_final : (e : Error) → IsUnnumbered font glyphs e → (e ≡ OutOfMemory) ⊎ HasNoEmbeddingAt bound tokens depth font settings glyphs
   unnumbered_final e (inl m) = inl m
-  unnumbered_final e (inr (all_asked all)) = inr (λ x within a. a.answer.clean e (in_numbering all))
-  unnumbered_final e (inr (unopened fault)) = inr (opening_final e fault)
+  unnumbered_final e (inr (inl all)) = inr (λ x within a. a.answer.clean OverflowError (in_numbering all.1))
+  unnumbered_final e (inr (inr f)) = inr (opening_final e f)
 
-  -- ---- no instance
+  -- ---- no static font
 
-  module _ (mapper : List ℕ) (steps : ℕ) (m : mapper ≡ numbering glyphs) (s : steps ≡ tokens) where
-    abbrev there : (e : Error) → HasInstanceFault (whole font) settings mapper steps e → HasInstanceFault (whole font) settings (numbering glyphs) tokens e
-    there e f = subst (λ (n : ℕ). HasInstanceFault (whole font) settings (numbering glyphs) n e) s (subst (λ (l : List ℕ). HasInstanceFault (whole font) settings l steps e) m f)
+  module _ (mapper : List ℕ) (m : mapper ≡ numbering glyphs) where
+    there : (e : Error) → HasStaticFault (whole font) settings mapper tokens depth e → HasStaticFault (whole font) settings (numbering glyphs) tokens depth e
+    there e f = subst (λ (l : List ℕ). HasStaticFault (whole font) settings l tokens depth e) m f
 
-    pub unmade : (e : Error) → (e ≡ OutOfMemory) ⊎ ((IsAtDefault (whole font) settings → ⊥) × HasInstanceFault (whole font) settings mapper steps e) → (e ≡ OutOfMemory) ⊎ ((order : List ℕ) × HasEmbedFaultAt bound tokens depth font settings glyphs order e)
+    faulty : (e : Error) → HasStaticFault (whole font) settings (numbering glyphs) tokens depth e → HasEmbedFaultAt bound tokens depth font settings glyphs [] e
+    faulty e (inl f) = in_instance f.0 f.1
+    faulty e (inr f) = in_cff_instance f.0 f.1
+
+    none_made : (e : Error) → HasStaticFault (whole font) settings (numbering glyphs) tokens depth e → HasNoEmbeddingAt bound tokens depth font settings glyphs
+    none_made e (inl f) x within a = a.made e f.0 f.1
+    none_made e (inr f) x within a = a.cff_made e f.0 f.1
+
+    pub unmade : (e : Error) → (e ≡ OutOfMemory) ⊎ HasStaticFault (whole font) settings mapper tokens depth e → (e ≡ OutOfMemory) ⊎ ((order : List ℕ) × HasEmbedFaultAt bound tokens depth font settings glyphs order e)
     unmade e (inl o) = inl o
-    unmade e (inr f) = inr ([], in_instance f.0 (there e f.1))
+    unmade e (inr f) = inr ([], faulty e (there e f))
 
-    pub unmade_final : (e : Error) → (e ≡ OutOfMemory) ⊎ ((IsAtDefault (whole font) settings → ⊥) × HasInstanceFault (whole font) settings mapper steps e) → (e ≡ OutOfMemory) ⊎ HasNoEmbeddingAt bound tokens depth font settings glyphs
+    pub unmade_final : (e : Error) → (e ≡ OutOfMemory) ⊎ HasStaticFault (whole font) settings mapper tokens depth e → (e ≡ OutOfMemory) ⊎ HasNoEmbeddingAt bound tokens depth font settings glyphs
     unmade_final e (inl o) = inl o
-    unmade_final e (inr f) = inr (λ x within a. a.made e f.0 (there e f.1))
+    unmade_final e (inr f) = inr (none_made e (there e f))
 
   -- ---- the static font
 
@@ -71,8 +89,8 @@ module _ (bound : Option ℕ) (tokens depth : ℕ) (font : Font) (settings : Lis
     no_answer_at (Err why) (inl o) = inl o
     no_answer_at (Err why) (inr n) = inr (λ x within a. n x within (subst (λ (f : Font). IsEmbeddingAnswer tokens depth f glyphs x) (one_static font settings (numbering glyphs) a.static static a.is_static is) a.answer))
 
-    pub ok_at : ((why : Error) → (IsAtDefault (whole font) settings → ⊥) → HasInstanceFault (whole font) settings (numbering glyphs) tokens why → ⊥) → (r : Result Embedded Error) → IfOk r (λ e. (s : IsEmbedded tokens depth static glyphs e) × ((why : Error) → HasEmbedFault tokens depth static glyphs s.subset.keeps.order why → ⊥)) → IfOk r (λ e. IsAnswer tokens depth static (numbering glyphs) e.font.items) → IfOk r (λ e. IsEmbeddingAnswerAt tokens depth font settings glyphs e)
-    ok_at made (Ok e) clean exact = record { static = static; is_static = is; made = made; answer = record { embedded = clean.0; clean = clean.1; font_is = exact } }
+    pub ok_at : ((why : Error) → HasStaticFault (whole font) settings (numbering glyphs) tokens depth why → ⊥) → (r : Result Embedded Error) → IfOk r (λ e. (s : IsEmbedded tokens depth static glyphs e) × ((why : Error) → HasEmbedFault tokens depth static glyphs s.subset.keeps.order why → ⊥)) → IfOk r (λ e. IsAnswer tokens depth static (numbering glyphs) e.font.items) → IfOk r (λ e. IsEmbeddingAnswerAt tokens depth font settings glyphs e)
+    ok_at made (Ok e) clean exact = record { static = static; is_static = is; made = λ why not f. made why (inl (not, f)); cff_made = λ why c f. made why (inr (c, f)); answer = record { embedded = clean.0; clean = clean.1; font_is = exact } }
     ok_at made (Err why) clean exact = tt
 
     pub subset_in : (r : Result Embedded Error) → IfOk r (λ e. IsEmbedded tokens depth static glyphs e) → IfOk r (λ e. IsSubset tokens depth static (numbering glyphs) e.font.items)

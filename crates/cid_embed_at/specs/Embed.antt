@@ -7,16 +7,18 @@ use Rattle.subsetter_base.specs.declared.error.Error.TheVariants.{OverflowError}
 use Rattle.subsetter_sfnt.specs.Read.{Font}
 use Rattle.subsetter.specs.Bound.{IsWithin}
 use Rattle.subsetter_instance.specs.Fault.{HasInstanceFault}
-use Rattle.subsetter_variable.specs.DefaultLocation.{IsAtDefault}
+use Rattle.subsetter_cff_instance.specs.Fault.{HasCffInstanceFault}
+use Rattle.subsetter_variable.specs.DefaultLocation.{IsAtDefault, IsCff2Font}
 use Rattle.subsetter_variable.specs.Subset.{whole, IsStatic}
 use Rattle.cid_embed.specs.Embed.{numbering, HasEmbedFaultWithin, IsEmbeddingAnswer}
 use Rattle.cid_embed.specs.declared.embedding.Embedded.{Embedded}
 
--- an embedding of the static font, which could be made in these steps, where no fault stands in it
+-- an embedding of the static font, which could be made within these limits, where no fault stands in it
 pub record IsEmbeddingAnswerAt (tokens depth : ℕ) (font : Font) (settings : List (Tag × ℤ)) (glyphs : List ℕ) (e : Embedded) : Type 0 where
   pub static : Font
   pub is_static : IsStatic font settings (numbering glyphs) static
   pub made : (why : Error) → ¬ (IsAtDefault (whole font) settings) → ¬ (HasInstanceFault (whole font) settings (numbering glyphs) tokens why)
+  pub cff_made : (why : Error) → IsCff2Font (whole font) → ¬ (HasCffInstanceFault (whole font) settings (numbering glyphs) tokens depth why)
   pub answer : IsEmbeddingAnswer tokens depth static glyphs e
 
 -- What can stand against it within a bound, under the name of the error; sizes are judged for an order of the new font's glyphs.
@@ -25,6 +27,8 @@ pub data HasEmbedFaultAt (bound : Option ℕ) (tokens depth : ℕ) (font : Font)
   in_numbering : HasAllAboveZero glyphs → HasEmbedFaultAt bound tokens depth font settings glyphs order OverflowError
   -- elsewhere than at its default, against the instance
   in_instance : {e : Error} → ¬ (IsAtDefault (whole font) settings) → HasInstanceFault (whole font) settings (numbering glyphs) tokens e → HasEmbedFaultAt bound tokens depth font settings glyphs order e
+  -- of outlines in CFF2, against the font with outlines in `CFF `
+  in_cff_instance : {e : Error} → IsCff2Font (whole font) → HasCffInstanceFault (whole font) settings (numbering glyphs) tokens depth e → HasEmbedFaultAt bound tokens depth font settings glyphs order e
   -- against the embedding of the static font
   in_static : {e : Error} (static : Font) → IsStatic font settings (numbering glyphs) static → HasEmbedFaultWithin bound tokens depth static glyphs order e → HasEmbedFaultAt bound tokens depth font settings glyphs order e
 

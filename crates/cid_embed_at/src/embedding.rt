@@ -2,27 +2,54 @@
 
 ghost use Rattle.std.specs.Prelude.{◌≡◌, ◌≢◌, ◌⊎◌, ℕ, List, None, IfOk, IfErr, Err};
 ghost use Rattle.subsetter_base.specs.declared.error.Error.{Error as SpecError};
-ghost use Rattle.subsetter_base.specs.declared.error.Error.TheVariants.{OutOfMemory};
+ghost use Rattle.subsetter_base.specs.declared.error.Error.TheVariants.{OutOfMemory, OverflowError};
+ghost use Rattle.subsetter_base.specs.Indexes.{HasAllAboveZero};
 ghost use Rattle.subsetter_sfnt.specs.Extras.{all_extras};
-ghost use Rattle.subsetter_sfnt.specs.Fault.{HasOpeningFault};
 ghost use Rattle.subsetter_sfnt.specs.FontAt.{font_at};
 ghost use Rattle.subsetter.specs.Bound.{IsWithin};
 ghost use Rattle.subsetter.specs.Limits.{token_limit, depth_limit};
 ghost use Rattle.cid_embed.specs.Embed.{numbering};
 ghost use Rattle.subsetter_variable.specs.Afresh.{HasGlyphsDrawn};
-ghost use Rattle.subsetter_variable.specs.DefaultLocation.{IsAtDefault};
-ghost use Rattle.subsetter_variable.specs.Subset.{IsTheAnswerAt};
+ghost use Rattle.subsetter_variable.specs.Blended.{HasGlyphsBlended};
+ghost use Rattle.subsetter_variable.specs.DefaultLocation.{IsAtDefault, IsCff2Font};
+ghost use Rattle.subsetter_variable.specs.Subset.{HasOpeningFaultAt, IsTheAnswerAt};
 ghost use Rattle.cid_embed_at.specs.Embed.{IsEmbeddingAnswerAt, HasEmbedFaultAt, HasNoEmbeddingAt};
 
 use cid_embed::{Embedded, embed_with_options, mapper_for};
 use std::alloc::Global;
-use subsetter::{Error, Limits, Options, Tag};
-use subsetter_variable::static_font;
+use subsetter::{Error, Extras, GlyphRemapper, Limits, Options, Tag};
+use subsetter_variable::{is_cff2_font, static_font};
+
+/// The mapper of glyph 0 and the given glyphs of a font, as `mapper_for` of `cid_embed` makes it, where outlines of `CFF2` are taken.
+///
+/// # Errors
+///
+/// - `OverflowError`: all glyphs above 0 are given, which leaves no number for glyph 0.
+/// - `OutOfMemory`: a request for memory was refused. For a font that can't be opened it is what `check_opening` answers, unless its
+///   outlines are those of `CFF2`.
+pub fn mapper_at(
+    alloc: Global,
+    data: &[u8],
+    index: u32,
+    glyphs: &[u16],
+    extras: Extras,
+) -> Result<GlyphRemapper, Error>
+    ensures ok { IfOk result (λ mapper. mapper ≡ numbering glyphs.now) }
+    ensures err { IfErr result (λ why. (why ≡ OutOfMemory) ⊎ (((why ≡ OverflowError) × HasAllAboveZero glyphs.now) ⊎ HasOpeningFaultAt (font_at «data».now index extras) why)) }
+    // Where a fault stands that is found before memory is taken, the answer isn't out of memory.
+    ensures before_memory { (e : SpecError) → HasOpeningFaultAt (font_at «data».now index extras) e → result ≢ Err OutOfMemory }
+{
+    if is_cff2_font(data, index) {
+        return GlyphRemapper::new_from_glyphs(alloc, glyphs);
+    }
+    mapper_for(alloc, data, index, glyphs, extras)
+}
 
 /// The subset of a font for the requested glyphs as they are at user coordinates, with the CID of each of them and the width that
 /// each CID has there.
 ///
-/// A font that is at its default there is embedded as it is, as by `embed`, and else its instance is. The coordinates are
+/// A font that is at its default there is embedded as it is, as by `embed`, and else its instance is. Of a font with outlines in
+/// `CFF2` alone the font with outlines in `CFF ` is embedded that `cff_instance` makes of it, at its default too. The coordinates are
 /// as for `subset_with_variations`.
 ///
 /// # Errors
@@ -36,12 +63,15 @@ pub fn embed_with_variations(
     coordinates: &[(Tag, i32)],
     glyphs: &[u16],
 ) -> Result<Embedded, Error>
-    // What is answered is an embedding of the font as it is, at its default, or else of an instance of it, and then no fault
-    // stands, the size limits being judged for the answer's order of glyphs.
+    // What is answered is an embedding of the font as it is, at its default, or else of an instance of it, or of the font with outlines
+    // in `CFF ` that is made of outlines in CFF2, and then no fault stands, the size limits being judged for the answer's order of glyphs.
     ensures ok { IfOk result (λ e. IsEmbeddingAnswerAt token_limit depth_limit (font_at «data».now index all_extras) coordinates.now glyphs.now e) }
     // Elsewhere than at its default the new font has glyph 0 and the asked glyphs and no other, each exactly as it is drawn at
     // these coordinates, read afresh.
     ensures drawn { IfOk result (λ e. ¬ (IsAtDefault (font_at «data».now index all_extras) coordinates.now) → HasGlyphsDrawn (font_at «data».now index all_extras) coordinates.now (numbering glyphs.now) e.font.items) }
+    // Of outlines in CFF2 alone the new font has glyph 0 and the requested glyphs and no other, each with the outline that these have at the
+    // coordinates, each coordinate and each edge of a stem rounded once, read afresh.
+    ensures drawn_cff { IfOk result (λ e. IsCff2Font (font_at «data».now index all_extras) → HasGlyphsBlended (font_at «data».now index all_extras) coordinates.now (numbering glyphs.now) e.font.items) }
     // Its font is the one answer of `subset_with_variations_and_options`.
     ensures same { IfOk result (λ e. IsTheAnswerAt (font_at «data».now index all_extras) coordinates.now (numbering glyphs.now) e.font.items) }
     // What is refused has a fault of that name.
@@ -49,7 +79,7 @@ pub fn embed_with_variations(
     // And, unless memory ran out, it has no answer: no call answers it within these limits.
     ensures no_answer { IfErr result (λ why. (why ≡ OutOfMemory) ⊎ HasNoEmbeddingAt None token_limit depth_limit (font_at «data».now index all_extras) coordinates.now glyphs.now) }
     // Where a fault stands that is found before memory is taken, the answer isn't out of memory.
-    ensures before_memory { (e : SpecError) → HasOpeningFault (font_at «data».now index all_extras) e → result ≢ Err OutOfMemory }
+    ensures before_memory { (e : SpecError) → HasOpeningFaultAt (font_at «data».now index all_extras) e → result ≢ Err OutOfMemory }
 {
     let options = Options::keeping_all(Limits::default());
     embed_with_variations_and_options(alloc, data, index, coordinates, glyphs, &options)
@@ -70,12 +100,15 @@ pub fn embed_with_variations_and_options(
     glyphs: &[u16],
     options: &Options,
 ) -> Result<Embedded, Error>
-    // What is answered is an embedding of the font as it is, at its default, or else of an instance of it, and then no fault
-    // stands, the size limits being judged for the answer's order of glyphs.
+    // What is answered is an embedding of the font as it is, at its default, or else of an instance of it, or of the font with outlines
+    // in `CFF ` that is made of outlines in CFF2, and then no fault stands, the size limits being judged for the answer's order of glyphs.
     ensures ok { IfOk result (λ e. IsEmbeddingAnswerAt options.now.limits.tokens options.now.limits.depth (font_at «data».now index options.now.extras) coordinates.now glyphs.now e) }
     // Elsewhere than at its default the new font has glyph 0 and the asked glyphs and no other, each exactly as it is drawn at
     // these coordinates, read afresh.
     ensures drawn { IfOk result (λ e. ¬ (IsAtDefault (font_at «data».now index all_extras) coordinates.now) → HasGlyphsDrawn (font_at «data».now index all_extras) coordinates.now (numbering glyphs.now) e.font.items) }
+    // Of outlines in CFF2 alone the new font has glyph 0 and the requested glyphs and no other, each with the outline that these have at the
+    // coordinates, each coordinate and each edge of a stem rounded once, read afresh.
+    ensures drawn_cff { IfOk result (λ e. IsCff2Font (font_at «data».now index all_extras) → HasGlyphsBlended (font_at «data».now index all_extras) coordinates.now (numbering glyphs.now) e.font.items) }
     // Its font is the one answer of `subset_with_variations_and_options`.
     ensures same { IfOk result (λ e. IsTheAnswerAt (font_at «data».now index options.now.extras) coordinates.now (numbering glyphs.now) e.font.items) }
     // Its font has no more bytes than it may have.
@@ -85,11 +118,10 @@ pub fn embed_with_variations_and_options(
     // And, unless memory ran out, it has no answer: no call answers it within these limits.
     ensures no_answer { IfErr result (λ why. (why ≡ OutOfMemory) ⊎ HasNoEmbeddingAt options.now.limits.bytes options.now.limits.tokens options.now.limits.depth (font_at «data».now index options.now.extras) coordinates.now glyphs.now) }
     // Where a fault stands that is found before memory is taken, the answer isn't out of memory.
-    ensures before_memory { (e : SpecError) → HasOpeningFault (font_at «data».now index options.now.extras) e → result ≢ Err OutOfMemory }
+    ensures before_memory { (e : SpecError) → HasOpeningFaultAt (font_at «data».now index options.now.extras) e → result ≢ Err OutOfMemory }
 {
-    let mapper = mapper_for(alloc, data, index, glyphs, options.extras)?;
-    let steps = options.limits.tokens();
-    let made = static_font(alloc, data, index, coordinates, &mapper, steps)?;
+    let mapper = mapper_at(alloc, data, index, glyphs, options.extras)?;
+    let made = static_font(alloc, data, index, coordinates, &mapper, &options.limits)?;
     match made {
         None => embed_with_options(alloc, data, index, glyphs, options),
         Some(file) => embed_with_options(alloc, &file, 0, glyphs, options),

@@ -9,4 +9,4 @@
 
 mod embedding;
 
-pub use embedding::{embed_with_variations, embed_with_variations_and_options};
+pub use embedding::{embed_with_variations, embed_with_variations_and_options, mapper_at};

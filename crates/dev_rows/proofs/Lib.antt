@@ -1,1 +1,3 @@
-mod Words
+mod DigitLemmas
+mod RowLemmas
+mod ShownLemmas

@@ -1,3 +1,10 @@
 pub mod Answers
 pub mod Digits
+pub mod Instances
+pub mod Moves
+pub mod Outlines
 pub mod Rows
+pub mod Shown
+pub mod Tables
+pub mod Tuples
+pub mod Words

@@ -44,7 +44,7 @@ fn push_byte(bytes: &mut Vec<u8>, high: u8, low: u8) -> Result<(), Failure>
 /// The bytes that hexadecimal digits write, two digits each.
 ///
 /// `Row` where one isn't a digit or the last one is alone.
-#[tactic(auto, using(crate::proofs::Words::next_byte, crate::proofs::Words::no_byte))]
+#[tactic(auto, using(crate::proofs::DigitLemmas::next_byte, crate::proofs::DigitLemmas::no_byte))]
 fn bytes_of(alloc: Global, digits: &[u8]) -> Result<Vec<u8>, Failure>
     ensures ok { IfOk result (λ v. bytes_of digits.now ≡ Some v.items) }
     ensures err { IfErr result (λ e. (e ≡ Memory) ⊎ ((e ≡ Row) × (bytes_of digits.now ≡ None))) }

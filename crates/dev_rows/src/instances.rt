@@ -3,7 +3,7 @@
 pub mod answer;
 pub mod fonts;
 pub mod movement;
+pub mod number;
 pub mod outlines;
 pub mod table;
 pub mod tables;
-pub mod words;

@@ -18,6 +18,7 @@ mod digits;
 mod instances;
 mod running;
 mod subsets;
+mod words;
 
 use std::process::ExitCode;
 

@@ -2,7 +2,7 @@
 
 ghost use Rattle.std.specs.Prelude.{◌≡◌, None};
 
-use crate::temporary::make_beside;
+use crate::temporary::{make_beside, replace};
 use std::alloc::Global;
 use std::fs::{OpenFile, OpenOptions};
 use std::io::{ErrorKind, Write};
@@ -88,7 +88,7 @@ impl<'a, R: Files> LateFile<'a, R> {
         ensures { self.new.file ≡ self.old.file }
     {
         match &self.beside {
-            Some(other) => fs::rename(self.rt, other.as_str(), self.name)?,
+            Some(other) => replace(self.rt, self.alloc, other.as_str(), self.name)?,
             None => return Ok(()),
         }
         self.beside = None;

@@ -1,4 +1,5 @@
-//! A file beside another, which replaces it when it is whole.
+//! A file beside another, which replaces it when it is whole. What the other one has besides its bytes is kept, as far as
+//! that can be: its rights by the new file, and the rest as the old file gets the new bytes, and then its name again.
 
 use std::alloc::Global;
 use std::fs::{Metadata, OpenFile, OpenOptions};
@@ -66,4 +67,38 @@ pub fn make_beside<R: Files>(
         }
     }
     Some(made)
+}
+
+/// Another name for the file of a name, beside it. None where it can't have one.
+fn link_beside<R: Files>(rt: &R, alloc: Global, name: &str) -> Option<String> {
+    fs::symlink_metadata(rt, name).ok()?;
+    for number in 0..TRIES {
+        let other = format!(in alloc; "{name}.part{number}").ok()?;
+        if fs::hard_link(rt, name, other.as_str()).is_ok() {
+            return Some(other);
+        }
+    }
+    None
+}
+
+/// Gives the file of a name the bytes of another, on its disk, and then the other's name.
+fn put_back<R: Files>(rt: &R, old: &str, name: &str) -> io::Result<()> {
+    fs::copy(rt, name, old)?;
+    let file = OpenOptions::new().write(true).open(rt, old)?;
+    file.sync_data()?;
+    fs::rename(rt, old, name)
+}
+
+/// Gives a whole file a name. The file that had the name gets its bytes, and then the name again, so that its access list and
+/// its other attributes stay. At each moment the file of the name is what it was, or whole. Where the old file can't be
+/// written the new one keeps the name.
+pub fn replace<R: Files>(rt: &R, alloc: Global, made: &str, name: &str) -> io::Result<()> {
+    let old = link_beside(rt, alloc, name);
+    let renamed = fs::rename(rt, made, name);
+    if let Some(old) = old {
+        if renamed.is_err() || put_back(rt, old.as_str(), name).is_err() {
+            let _ = fs::remove_file(rt, old.as_str());
+        }
+    }
+    renamed
 }

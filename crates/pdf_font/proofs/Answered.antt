@@ -14,7 +14,8 @@ use Rattle.subsetter_sfnt.specs.Read.{Font, as_font, flavor, stored, table}
 use Rattle.subsetter_sfnt.specs.declared.flavor.FontFlavor.{FontFlavor}
 use Rattle.subsetter.specs.Bound.{IsWithin}
 use Rattle.subsetter_variable.specs.Afresh.{HasGlyphsDrawn}
-use Rattle.subsetter_variable.specs.DefaultLocation.{IsAtDefault}
+use Rattle.subsetter_variable.specs.Blended.{HasGlyphsBlended}
+use Rattle.subsetter_variable.specs.DefaultLocation.{IsAtDefault, IsCff2Font}
 use Rattle.subsetter_variable.specs.Subset.{IsTheAnswerAt, whole}
 use Rattle.subsetter_variable.proofs.Stands.{fails_is}
 use Rattle.subsetter_variable.proofs.Static.{one_static}
@@ -107,7 +108,7 @@ module _ (font : Font) (settings : List (Tag × ℤ)) (options : FontOptions) (u
     new_final same why (inl m) = inl m
     new_final same why (inr l) = inr (λ f p.
         let other = p.made.embedded in
-        let file : e.font.items ≡ p.made.new.font.items = same options.limits.tokens options.limits.depth p.made.new.font.items (record { static = other.static; is_static = other.is_static; made = other.made; answer = other.answer.font_is }) in
+        let file : e.font.items ≡ p.made.new.font.items = same options.limits.tokens options.limits.depth p.made.new.font.items (record { static = other.static; is_static = other.is_static; made = other.made; cff_made = other.cff_made; answer = other.answer.font_is }) in
         let static : other.static ≡ a.static = one_static font settings (numbering (glyphs_of us)) other.static a.static other.is_static a.is_static in
         let kinds : other.answer.embedded.subset.keeps.kind ≡ kind = just_is other.answer.embedded.subset.keeps.kind kind (sym other.answer.embedded.subset.keeps.kind_is ∙ ap flavor static ∙ a.answer.embedded.subset.keeps.kind_is) in
         let none : table (as_font p.made.new.font.items) (codes "maxp") ≡ None = subst (λ (b : List ℕ). table (as_font b) (codes "maxp") ≡ None) file l.1.copy in
@@ -140,8 +141,8 @@ module _ (font : Font) (settings : List (Tag × ℤ)) (options : FontOptions) (u
       pub widths_size : length n.profile.widths.items ≡ length order
       widths_size = sym (length-map n.profile.widths.items Some) ∙ ap length (is_read n h).widths ∙ length-map order (width a.static)
 
-      pub answered : (within : IsWithin options.limits.bytes e.font.items) → IsTheAnswerAt font settings (numbering (glyphs_of us)) e.font.items → ((IsAtDefault (whole font) settings → ⊥) → HasGlyphsDrawn (whole font) settings (numbering (glyphs_of us)) e.font.items) → (f : PdfFont) → Takes n e.cids.items f.permission f → IsFilled find settings options us e.widths.items f → IsEmbeddedFor font settings options us f
-      answered within same drawn f t filled =
+      pub answered : (within : IsWithin options.limits.bytes e.font.items) → IsTheAnswerAt font settings (numbering (glyphs_of us)) e.font.items → ((IsAtDefault (whole font) settings → ⊥) → HasGlyphsDrawn (whole font) settings (numbering (glyphs_of us)) e.font.items) → (IsCff2Font (whole font) → HasGlyphsBlended (whole font) settings (numbering (glyphs_of us)) e.font.items) → (f : PdfFont) → Takes n e.cids.items f.permission f → IsFilled find settings options us e.widths.items f → IsEmbeddedFor font settings options us f
+      answered within same drawn blended f t filled =
           let read = is_read n h in
           record {
             new = e;
@@ -149,6 +150,7 @@ module _ (font : Font) (settings : List (Tag × ℤ)) (options : FontOptions) (u
             within = within;
             same = same;
             drawn = drawn;
+            drawn_cff = blended;
             kind = t.kind ∙ read.kind_is;
             program = subst (λ k. IsProgram k e.font.items f.program.items) (sym t.kind) (subst (λ (b : List ℕ). IsProgram n.kind e.font.items b) (sym t.program) read.program);
             maxp = read.maxp;
@@ -160,12 +162,12 @@ module _ (font : Font) (settings : List (Tag × ℤ)) (options : FontOptions) (u
           }
 
       -- of what was answered, whatever slice its widths were read of
-      pub all_answered : (within : IsWithin options.limits.bytes e.font.items) → IsTheAnswerAt font settings (numbering (glyphs_of us)) e.font.items → ((IsAtDefault (whole font) settings → ⊥) → HasGlyphsDrawn (whole font) settings (numbering (glyphs_of us)) e.font.items) → (p : Permission) (ws : List ℕ) → ws ≡ e.widths.items → (x : Result PdfFont Error) → IfOk x (λ f. IsFilled find settings options us ws f) → IfOk x (λ f. Takes n e.cids.items p f) → IfOk x (λ f. IsEmbeddedFor font settings options us f)
-      all_answered within same drawn p ws w (Ok f) filled t =
-          answered within same drawn f
+      pub all_answered : (within : IsWithin options.limits.bytes e.font.items) → IsTheAnswerAt font settings (numbering (glyphs_of us)) e.font.items → ((IsAtDefault (whole font) settings → ⊥) → HasGlyphsDrawn (whole font) settings (numbering (glyphs_of us)) e.font.items) → (IsCff2Font (whole font) → HasGlyphsBlended (whole font) settings (numbering (glyphs_of us)) e.font.items) → (p : Permission) (ws : List ℕ) → ws ≡ e.widths.items → (x : Result PdfFont Error) → IfOk x (λ f. IsFilled find settings options us ws f) → IfOk x (λ f. Takes n e.cids.items p f) → IfOk x (λ f. IsEmbeddedFor font settings options us f)
+      all_answered within same drawn blended p ws w (Ok f) filled t =
+          answered within same drawn blended f
           (record { kind = t.kind; program = t.program; count = t.count; widths = t.widths; values = t.values; cids = t.cids; permission = refl })
           (subst (λ (l : List ℕ). IsFilled find settings options us l f) w filled)
-      all_answered within same drawn p ws w (Err why) filled t = tt
+      all_answered within same drawn blended p ws w (Err why) filled t = tt
 
       pub widths_some : 0 < length n.profile.widths.items
       widths_some =

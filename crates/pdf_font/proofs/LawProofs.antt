@@ -16,7 +16,7 @@ use Rattle.subsetter_variable.specs.Subset.{IsStatic}
 use Rattle.subsetter_variable.proofs.Static.{one_static}
 use Rattle.cid_embed.specs.Embed.{HasEmbedFaultWithin, numbering, in_numbering as none_left, in_font, beyond}
 use Rattle.cid_embed.specs.declared.embedding.Embedded.{Embedded}
-use Rattle.cid_embed_at.specs.Embed.{HasEmbedFaultAt, IsEmbeddingAnswerAt, in_instance, in_numbering, in_static}
+use Rattle.cid_embed_at.specs.Embed.{HasEmbedFaultAt, IsEmbeddingAnswerAt, in_instance, in_cff_instance, in_numbering, in_static}
 use Rattle.pdf_codes.specs.Codes.{glyphs_of}
 use Rattle.pdf_codes.proofs.StayLaws.{codes_stay as stay, codes_are_determined}
 use Rattle.pdf_values.specs.Permission.{is_permitted, permission}
@@ -44,6 +44,7 @@ module _ (bound : Option ℕ) (tokens depth : ℕ) (font : Font) (settings : Lis
   pub no_embed_fault : (why : Error) → HasEmbedFaultAt bound tokens depth font settings glyphs order why → ⊥
   no_embed_fault _ (in_numbering all) = a.answer.clean OverflowError (none_left all)
   no_embed_fault why (in_instance n f) = a.made why n f
+  no_embed_fault why (in_cff_instance c f) = a.cff_made why c f
   no_embed_fault why (in_static static is f) = in_static_font why (subst (λ (s : Font). HasEmbedFaultWithin bound tokens depth s glyphs order why) (same_static static is) f)
 
   -- of a TrueType font without `maxp` the new font has none

@@ -174,7 +174,7 @@ module _ (font : Font) (settings : List (Tag × ℤ)) (options : FontOptions) (u
   statics = one_static font settings (numbering (glyphs_of us)) p.made.embedded.static q.made.embedded.static p.made.embedded.is_static q.made.embedded.is_static
 
   files : ours ≡ theirs
-  files = p.made.same options.limits.tokens options.limits.depth theirs (record { static = q.made.embedded.static; is_static = q.made.embedded.is_static; made = q.made.embedded.made; answer = q.made.embedded.answer.font_is })
+  files = p.made.same options.limits.tokens options.limits.depth theirs (record { static = q.made.embedded.static; is_static = q.made.embedded.is_static; made = q.made.embedded.made; cff_made = q.made.embedded.cff_made; answer = q.made.embedded.answer.font_is })
 
   flavors : p.made.embedded.answer.embedded.subset.keeps.kind ≡ q.made.embedded.answer.embedded.subset.keeps.kind
   flavors = just_is p.made.embedded.answer.embedded.subset.keeps.kind q.made.embedded.answer.embedded.subset.keeps.kind (sym p.made.embedded.answer.embedded.subset.keeps.kind_is ∙ ap flavor statics ∙ q.made.embedded.answer.embedded.subset.keeps.kind_is)

@@ -10,10 +10,8 @@ use Rattle.subsetter_sfnt.specs.Fault.{HasOpeningFault, no_kind, no_entry, entry
 use Rattle.subsetter_sfnt.specs.Read.{Font, stored, table_in}
 use Rattle.subsetter_sfnt.specs.declared.face.Face.{Face}
 use Rattle.subsetter.specs.Fault.{in_opening}
-use Rattle.subsetter_variable.specs.DefaultLocation.{IsAtDefault, no_outlines}
-use Rattle.subsetter_variable.specs.Subset.{whole, as_it_is}
-use Rattle.subsetter_variable.proofs.Static.{one_static}
-use Rattle.subsetter_variable.proofs.Unopened.{no_glyf, same_stored}
+use Rattle.subsetter_variable.specs.Subset.{HasOpeningFaultAt}
+use Rattle.subsetter_variable.proofs.Static.{one_static, closed}
 use Rattle.cid_embed.specs.Embed.{numbering, IsEmbeddingAnswer, in_font, in_subset}
 use Rattle.cid_embed_at.specs.Embed.{in_static}
 use Rattle.pdf_codes.specs.Codes.{Used, glyphs_of}
@@ -29,15 +27,18 @@ use Rattle.pdf_font.specs.declared.error.FontError.TheVariants.{Subset, NotPermi
 use Rattle.pdf_font.specs.declared.font.PdfFont.{PdfFont}
 
 -- opening takes no memory
-pub not_memory : (font : Font) (e : Error) → HasOpeningFault font e → e ≡ OutOfMemory → ⊥
-not_memory font _ (no_kind k) m = cc
-not_memory font _ (no_entry k d) m = cc
-not_memory font _ (entry_outside at k d lt) m = cc
-not_memory font _ (no_face at k d n) m = cc
-not_memory font _ (nested at k d n) m = cc
-not_memory font _ (cut_directory at h n) m = cc
-not_memory font _ (without_outlines r g k d) m = cc
-not_memory font _ (lone_cff2 g k d) m = cc
+fault_not_memory : (font : Font) (e : Error) → HasOpeningFault font e → e ≡ OutOfMemory → ⊥
+fault_not_memory font _ (no_kind k) m = cc
+fault_not_memory font _ (no_entry k d) m = cc
+fault_not_memory font _ (entry_outside at k d lt) m = cc
+fault_not_memory font _ (no_face at k d n) m = cc
+fault_not_memory font _ (nested at k d n) m = cc
+fault_not_memory font _ (cut_directory at h n) m = cc
+fault_not_memory font _ (without_outlines r g k d) m = cc
+fault_not_memory font _ (lone_cff2 g k d) m = cc
+
+pub not_memory : (font : Font) (e : Error) → HasOpeningFaultAt font e → e ≡ OutOfMemory → ⊥
+not_memory font e f m = fault_not_memory font e f.fault m
 
 -- an error of an embedding, under its name
 pub named : {X : Type 0} (e : Error) → (e ≡ OutOfMemory) ⊎ X → (Subset e ≡ Subset OutOfMemory) ⊎ X
@@ -49,18 +50,15 @@ pub permission_found : (font : Font) (face : Face) → IsOpened font face → (o
 permission_found font face opened os2 tag p t found is = is ∙ ap permission (found ∙ ap (table_in face.«data».now face.records.now) t ∙ ap (λ (find : List ℕ → Option (List ℕ)). find (codes "OS/2")) opened.find)
 
 module _ (font : Font) (settings : List (Tag × ℤ)) (options : FontOptions) (us : List Used) where
-  closed : (e : Error) → HasOpeningFault font e → IsAtDefault (whole font) settings
-  closed e fault = no_outlines (same_stored font (codes "glyf") ∙ no_glyf font e fault)
+  pub unopened : (e : Error) → HasOpeningFaultAt font e → (order : List ℕ) × HasFontFault font settings options us order (Subset e)
+  unopened e f = ([], in_embedding (in_static font (closed font settings (numbering (glyphs_of us)) e f) (in_font (in_subset (in_opening f.fault)))))
 
-  pub unopened : (e : Error) → HasOpeningFault font e → (order : List ℕ) × HasFontFault font settings options us order (Subset e)
-  unopened e fault = ([], in_embedding (in_static font (as_it_is (closed e fault)) (in_font (in_subset (in_opening fault)))))
-
-  pub unopened_final : (e : Error) → HasOpeningFault font e → HasNoPdfFont font settings options us
+  pub unopened_final : (e : Error) → HasOpeningFaultAt font e → HasNoPdfFont font settings options us
   unopened_final e fault = λ f p.
       let a = p.made.embedded in
-      let is : a.static ≡ font = one_static font settings (numbering (glyphs_of us)) a.static font a.is_static (as_it_is (closed e fault)) in
+      let is : a.static ≡ font = one_static font settings (numbering (glyphs_of us)) a.static font a.is_static (closed font settings (numbering (glyphs_of us)) e fault) in
       let answer : IsEmbeddingAnswer options.limits.tokens options.limits.depth font (glyphs_of us) p.made.new = subst (λ (x : Font). IsEmbeddingAnswer options.limits.tokens options.limits.depth x (glyphs_of us) p.made.new) is a.answer in
-      answer.clean e (in_subset (in_opening fault))
+      answer.clean e (in_subset (in_opening fault.fault))
 
   pub forbidden : (p : Permission) → p ≡ permission (stored font (codes "OS/2")) → is_permitted p options.rights ≡ false → (order : List ℕ) × HasFontFault font settings options us order (NotPermitted p)
   forbidden p is h =
@@ -86,7 +84,7 @@ module _ (font : Font) (settings : List (Tag × ℤ)) (options : FontOptions) (u
   abbrev Permitted : Bool → Type 0
   Permitted b = is_permitted (permission (stored font (codes "OS/2"))) options.rights ≡ b
 
-  pub first_unopened : (d : Error) → HasOpeningFault font d → First (Err (Subset d))
+  pub first_unopened : (d : Error) → HasOpeningFaultAt font d → First (Err (Subset d))
   first_unopened d fault = record {
     unopened = λ e f. (d, refl, fault);
     forbidden = λ clean no. absurd (clean d fault);

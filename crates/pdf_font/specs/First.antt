@@ -1,7 +1,7 @@
 -- What is found before memory is taken, in this order.
 use Rattle.std.specs.Prelude.{◌≡◌, List, true, false, codes, Result, Err}
 use Rattle.subsetter_base.specs.declared.error.Error.{Error}
-use Rattle.subsetter_sfnt.specs.Fault.{HasOpeningFault}
+use Rattle.subsetter_variable.specs.Subset.{HasOpeningFaultAt}
 use Rattle.subsetter_sfnt.specs.Read.{Font, stored}
 use Rattle.pdf_codes.specs.Codes.{Used}
 use Rattle.pdf_codes.specs.Shown.{has_long_text}
@@ -12,11 +12,11 @@ use Rattle.pdf_font.specs.declared.error.FontError.TheVariants.{Subset, NotPermi
 use Rattle.pdf_font.specs.declared.font.PdfFont.{PdfFont}
 
 abbrev pub CanBeOpened : Font → Type 0
-CanBeOpened font = (e : Error) → ¬ (HasOpeningFault font e)
+CanBeOpened font = (e : Error) → ¬ (HasOpeningFaultAt font e)
 
 pub record IsFoundFirst (font : Font) (options : FontOptions) (us : List Used) (r : Result PdfFont FontError) : Type 0 where
   -- a fault that stands against opening the font, under its name
-  pub unopened : (e : Error) → HasOpeningFault font e → (d : Error) × (r ≡ Err (Subset d)) × HasOpeningFault font d
+  pub unopened : (e : Error) → HasOpeningFaultAt font e → (d : Error) × (r ≡ Err (Subset d)) × HasOpeningFaultAt font d
   -- then that `fsType` forbids it, and the caller holds no rights
   pub forbidden : CanBeOpened font → is_permitted (permission (stored font (codes "OS/2"))) options.rights ≡ false → r ≡ Err (NotPermitted (permission (stored font (codes "OS/2"))))
   -- then a text that is too long

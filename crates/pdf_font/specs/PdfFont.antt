@@ -9,7 +9,8 @@ use Rattle.subsetter_sfnt.specs.FontAt.{font_at}
 use Rattle.subsetter_sfnt.specs.declared.flavor.FontFlavor.TheVariants.{TrueType}
 use Rattle.subsetter.specs.Bound.{IsWithin}
 use Rattle.subsetter_variable.specs.Afresh.{HasGlyphsDrawn}
-use Rattle.subsetter_variable.specs.DefaultLocation.{IsAtDefault}
+use Rattle.subsetter_variable.specs.Blended.{HasGlyphsBlended}
+use Rattle.subsetter_variable.specs.DefaultLocation.{IsAtDefault, IsCff2Font}
 use Rattle.subsetter_variable.specs.Subset.{IsStatic, IsTheAnswerAt, whole}
 use Rattle.cid_embed.specs.Embed.{numbering}
 use Rattle.cid_embed.specs.Width.{width}
@@ -77,7 +78,8 @@ pub record IsFilled (find : List ℕ → Option (List ℕ)) (settings : List (Ta
   pub cid_set : IsCidSetIf options.cid_set f.glyph_count (option_map (λ v. v.items) f.cid_set)
 
 pub record IsEmbeddedFor (font : Font) (settings : List (Tag × ℤ)) (options : FontOptions) (us : List Used) (f : PdfFont) : Type 0 where
-  -- the new font: an embedding of glyph 0 and the glyphs in use, of the font as it is or of its instance
+  -- the new font: an embedding of glyph 0 and the glyphs in use, of the font as it is, of its instance, or of the font with outlines in
+  -- `CFF ` that is made of outlines in CFF2
   pub new : Embedded
   pub embedded : IsEmbeddingAnswerAt options.limits.tokens options.limits.depth font settings (glyphs_of us) new
   pub within : IsWithin options.limits.bytes new.font.items
@@ -85,6 +87,8 @@ pub record IsEmbeddedFor (font : Font) (settings : List (Tag × ℤ)) (options :
   pub same : IsTheAnswerAt font settings (numbering (glyphs_of us)) new.font.items
   -- elsewhere than at its default it has each glyph exactly as it is drawn there
   pub drawn : ¬ (IsAtDefault (whole font) settings) → HasGlyphsDrawn (whole font) settings (numbering (glyphs_of us)) new.font.items
+  -- of outlines in CFF2 alone it has each glyph with the outline that it has there, each coordinate and each edge of a stem rounded once
+  pub drawn_cff : IsCff2Font (whole font) → HasGlyphsBlended (whole font) settings (numbering (glyphs_of us)) new.font.items
   -- the program is that font, or its `CFF `; one of TrueType has `maxp` (9.9)
   pub kind : f.kind ≡ kind_of embedded.answer.embedded.subset.keeps.kind options.program
   pub program : IsProgram f.kind new.font.items f.program.items

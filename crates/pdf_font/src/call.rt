@@ -3,7 +3,7 @@
 ghost use Rattle.std.specs.Prelude.{◌≡◌, ◌≢◌, ◌⊎◌, ℕ, List, Err, IfOk, IfErr, codes, false, true};
 ghost use Rattle.subsetter_base.specs.declared.error.Error.{Error as SpecError};
 ghost use Rattle.subsetter_base.specs.declared.error.Error.TheVariants.{OutOfMemory};
-ghost use Rattle.subsetter_sfnt.specs.Fault.{HasOpeningFault};
+ghost use Rattle.subsetter_variable.specs.Subset.{HasOpeningFaultAt};
 ghost use Rattle.subsetter_sfnt.specs.FontAt.{font_at};
 ghost use Rattle.subsetter_sfnt.specs.Read.{stored, table_in};
 ghost use Rattle.pdf_codes.specs.Shown.{uses_of};
@@ -21,17 +21,18 @@ use pdf_codes::{Shown, glyphs_of, has_long_text};
 use pdf_source::{FontOptions, new_font};
 use pdf_values::{Permission, is_permitted, permission_of};
 use std::alloc::Global;
-use subsetter::{Extras, Options, Tag, check_opening};
+use subsetter::{Extras, Options, Tag};
 use subsetter_base::Error;
 use subsetter_sfnt::face::Face;
 use subsetter_sfnt::parse::parse;
+use subsetter_variable::check_opening_at;
 
 /// The face of a font that can be opened.
 fn opened_face(data: &[u8], index: u32, extras: Extras) -> Result<Face<'_>, Error>
     ensures ok { IfOk result (λ face. IsOpened (font_at «data».now index extras) face) }
-    ensures err { IfErr result (λ e. HasOpeningFault (font_at «data».now index extras) e) }
+    ensures err { IfErr result (λ e. HasOpeningFaultAt (font_at «data».now index extras) e) }
 {
-    check_opening(data, index, extras)?;
+    check_opening_at(data, index, extras)?;
     parse(data, index, extras)
 }
 
@@ -114,7 +115,7 @@ pub fn pdf_font(
     // And, unless memory ran out, it has no answer.
     ensures no_answer { IfErr result (λ e. (e ≡ Subset OutOfMemory) ⊎ HasNoPdfFont (font_of «data».now index options.now) coordinates.now options.now (uses_of shown.now)) }
     // Where a fault is found before memory is taken, the answer isn't out of memory.
-    ensures before_memory { (e : SpecError) → HasOpeningFault (font_of «data».now index options.now) e → result ≢ Err (Subset OutOfMemory) }
+    ensures before_memory { (e : SpecError) → HasOpeningFaultAt (font_of «data».now index options.now) e → result ≢ Err (Subset OutOfMemory) }
     // Such faults come first, in this order: opening, permission, texts.
     ensures first { IsFoundFirst (font_of «data».now index options.now) options.now (uses_of shown.now) result }
 {

@@ -1,8 +1,8 @@
--- What advance heights vary by off a font's default (OpenType, "VVAR"): its items are found as those of "HVAR" are.
-use Rattle.std.specs.Prelude.{ℕ, ◌^◌, nat_lt, if◌then◌else◌, int_le, List, ℤ, pos, ◌+ℤ◌, unsigned_abs}
+-- What advance heights and the origins of "VORG" vary by off a font's default (OpenType, "VVAR"): its items are found as those of "HVAR" are.
+use Rattle.std.specs.Prelude.{ℕ, ◌^◌, nat_lt, if◌then◌else◌, ◌&&◌, int_le, int_lt, List, ℤ, pos, neg_ℤ, ◌+ℤ◌, unsigned_abs}
 use Rattle.std.specs.Result.{result_unwrap_or}
 use Rattle.subsetter_variation.specs.Items.ItemVariations.{whole_or_fault}
-use Rattle.subsetter_variation.specs.Items.Advances.{advance_delta}
+use Rattle.subsetter_variation.specs.Items.Advances.{advance_delta, origin_delta}
 use Rattle.pdf_glyphs.specs.declared.heights.HeightVariation.{HeightVariation}
 
 -- the normalized coordinates, in 16384ths, and the bytes of "VVAR"
@@ -24,3 +24,15 @@ if_height sum a = if int_le sum (pos 0) then 0 else if nat_lt (unsigned_abs sum)
 -- an advance height with what it varies by
 abbrev pub varied_height : Variation → ℕ → ℕ → ℕ
 varied_height v g a = if_height (pos a +ℤ height_delta v g) a
+
+-- what the y of a glyph's origin varies by, in whole units, halves up; 0 where nothing is there to be read
+abbrev pub origin_shift : Variation → ℕ → ℤ
+origin_shift v g = result_unwrap_or (whole_or_fault (origin_delta v.vvar v.at g)) (pos 0)
+
+-- a sum as the y of an origin; past 16 bits with a sign the y stays
+abbrev pub if_origin : ℤ → ℤ → ℤ
+if_origin sum y = if int_le (neg_ℤ (pos (2 ^ 15))) sum && int_lt sum (pos (2 ^ 15)) then sum else y
+
+-- the y of an origin with what it varies by
+abbrev pub varied_origin : Variation → ℕ → ℤ → ℤ
+varied_origin v g y = if_origin (y +ℤ origin_shift v g) y

@@ -64,9 +64,9 @@ fn each_column(
 
 /// The columns of a font for the glyphs in use, in order of use, whose CIDs have these widths.
 ///
-/// `variation` is where the font is off its default, if it is and has `VVAR`: advance heights vary as that says, and
-/// origins are those of the default. Where the font has no advance height of a glyph its column is PDF's own: 880 and
-/// -1000.
+/// `variation` is where the font is off its default, if it is and has `VVAR`: advance heights vary as that says, and so do
+/// origins by `VORG`; those of TrueType outlines are the default's. Where the font has no advance height of a glyph its
+/// column is PDF's own: 880 and -1000.
 ///
 /// # Errors
 ///

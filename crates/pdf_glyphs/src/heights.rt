@@ -1,11 +1,11 @@
-//! What advance heights vary by off a font's default (OpenType, "VVAR").
+//! What advance heights and the origins of `VORG` vary by off a font's default (OpenType, "VVAR").
 
-ghost use Rattle.std.specs.Prelude.{◌≡◌};
-ghost use Rattle.pdf_glyphs.specs.HeightVariation.{height_delta, if_height, variation_view, varied_height};
+ghost use Rattle.std.specs.Prelude.{◌≡◌, ◌≤◌, ◌^◌, unsigned_abs};
+ghost use Rattle.pdf_glyphs.specs.HeightVariation.{height_delta, if_height, if_origin, origin_shift, variation_view, varied_height, varied_origin};
 
-use subsetter_variation::items::advances::advance_delta;
+use subsetter_variation::items::advances::{advance_delta, origin_delta};
 
-/// Where a font is off its default, and what its advance heights vary by.
+/// Where a font is off its default, and what its advance heights and the origins of `VORG` vary by.
 #[derive(Clone, Copy)]
 pub struct HeightVariation<'a> {
     /// The normalized coordinates, in 16384ths.
@@ -43,4 +43,32 @@ pub fn varied_height(variation: HeightVariation<'_>, glyph: u16, advance: u16) -
 {
     let delta = height_delta(variation, glyph);
     if_height(i128::from(advance) + i128::from(delta), advance)
+}
+
+/// What the y of a glyph's origin varies by, in whole units; 0 where nothing is there to be read.
+fn origin_shift(variation: HeightVariation<'_>, glyph: u16) -> i64
+    ensures { result ≡ origin_shift (variation_view variation.entry) glyph }
+{
+    match origin_delta(variation.vvar, variation.at, glyph) {
+        Ok(shift) => shift,
+        Err(_) => 0,
+    }
+}
+
+/// A sum as the y of an origin; past 16 bits the y stays.
+fn if_origin(sum: i128, y: i16) -> i16
+    ensures { result ≡ if_origin sum y }
+{
+    if -32768 <= sum && sum < 32768 {
+        return sum as i16;
+    }
+    y
+}
+
+/// The y of a glyph's origin in `VORG` with what it varies by.
+pub fn varied_origin(variation: HeightVariation<'_>, glyph: u16, y: i16) -> i16
+    ensures { result ≡ varied_origin (variation_view variation.entry) glyph y }
+{
+    let shift = origin_shift(variation, glyph);
+    if_origin(i128::from(y) + i128::from(shift), y)
 }

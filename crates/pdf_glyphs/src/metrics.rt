@@ -1,14 +1,14 @@
 //! Vertical metrics of a glyph (OpenType, "vhea", "vmtx"), as a PDF has them (ISO 32000-1, 9.7.4.3).
 
-ghost use Rattle.std.specs.Prelude.{◌≡◌, ◌≤◌, ◌<◌, ◌^◌, ◌+ℤ◌, IfSome, neg_ℤ, pos, unsigned_abs};
+ghost use Rattle.std.specs.Prelude.{◌≡◌, ◌≤◌, ◌<◌, ◌^◌, ◌+ℤ◌, IfSome, None, neg_ℤ, pos, unsigned_abs};
 ghost use Rattle.std.specs.Option.{option_map, option_map_or};
 ghost use Rattle.pdf_values.specs.Rounding.{thousandths};
 ghost use Rattle.pdf_glyphs.specs.Boxes.{outlines_view};
 ghost use Rattle.pdf_glyphs.specs.HeightVariation.{variation_view};
-ghost use Rattle.pdf_glyphs.specs.Vertical.{advance_at, advance_of, bearing_of, box_top, half, metric_at, origin_of, origin_y, pair_count, vertical_view};
+ghost use Rattle.pdf_glyphs.specs.Vertical.{advance_at, advance_of, bearing_of, box_top, half, metric_at, moved_by, origin_of, origin_y_at, pair_count, vertical_view, vorg_y};
 
 use crate::boxes::{OutlineTables, glyph_box};
-use crate::heights::{HeightVariation, varied_height};
+use crate::heights::{HeightVariation, varied_height, varied_origin};
 use crate::origins::default_origin;
 use pdf_text::Column;
 use pdf_values::{thousandths, units_per_em};
@@ -98,19 +98,49 @@ fn origin_of_box(tables: VerticalTables<'_>, glyph: u16) -> Option<i32>
     Some(i32::from(box_top(tables.outlines, glyph)) + i32::from(bearing))
 }
 
-/// The y of the origin: of TrueType outlines by box and bearing, else by VORG.
-fn origin_y(tables: VerticalTables<'_>, glyph: u16, recorded: Option<i16>) -> Option<i32>
+/// The y of the origin that VORG has: its record's, else the default one.
+fn vorg_y(tables: VerticalTables<'_>, glyph: u16, recorded: Option<i16>) -> Option<i16>
     requires { recorded ≡ origin_of (vertical_view tables).vorg glyph }
-    ensures exact { result ≡ origin_y (vertical_view tables.entry) glyph }
+    ensures { result ≡ vorg_y (vertical_view tables.entry).vorg glyph }
+{
+    match recorded {
+        Some(y) => Some(y),
+        None => default_origin(tables.vorg),
+    }
+}
+
+/// The same with what it varies by, if it does.
+fn vorg_y_at(
+    tables: VerticalTables<'_>,
+    variation: Option<HeightVariation<'_>>,
+    glyph: u16,
+    recorded: Option<i16>,
+) -> Option<i16>
+    requires { recorded ≡ origin_of (vertical_view tables).vorg glyph }
+    ensures { result ≡ moved_by (option_map variation_view variation.entry) None glyph (vorg_y (vertical_view tables.entry).vorg glyph) }
+{
+    let y = vorg_y(tables, glyph, recorded)?;
+    match variation {
+        None => Some(y),
+        Some(variation) => Some(varied_origin(variation, glyph, y)),
+    }
+}
+
+/// The y of the origin: of TrueType outlines by box and bearing, else by VORG with what it varies by.
+fn origin_y_at(
+    tables: VerticalTables<'_>,
+    variation: Option<HeightVariation<'_>>,
+    glyph: u16,
+    recorded: Option<i16>,
+) -> Option<i32>
+    requires { recorded ≡ origin_of (vertical_view tables).vorg glyph }
+    ensures exact { result ≡ origin_y_at (vertical_view tables.entry) (option_map variation_view variation.entry) glyph }
     ensures small { IfSome result (λ v. unsigned_abs v ≤ 2 ^ 16) }
 {
     if tables.outlines.glyf.is_some() {
         return origin_of_box(tables, glyph);
     }
-    match recorded {
-        Some(y) => Some(i32::from(y)),
-        None => Some(i32::from(default_origin(tables.vorg)?)),
-    }
+    Some(i32::from(vorg_y_at(tables, variation, glyph, recorded)?))
 }
 
 /// Half of a width.
@@ -140,7 +170,7 @@ fn scaled_y(y: Option<i32>, units: u16) -> i32
     }
 }
 
-/// The column of a glyph with a width, of which VORG has this y. Its advance varies, its origin is that of the default.
+/// The column of a glyph with a width, of which VORG has this y. Its advance and an origin by VORG vary.
 pub fn metric_at(
     tables: VerticalTables<'_>,
     variation: Option<HeightVariation<'_>>,
@@ -162,6 +192,6 @@ pub fn metric_at(
     Column {
         advance: downwards(advance, units),
         x: half(width),
-        y: scaled_y(origin_y(tables, glyph, recorded), units),
+        y: scaled_y(origin_y_at(tables, variation, glyph, recorded), units),
     }
 }

@@ -9,7 +9,7 @@ use Rattle.pdf_values.specs.Head.{units_per_em}
 use Rattle.pdf_values.specs.Looks.ItalicAngle.{angle}
 use Rattle.pdf_values.specs.Rounding.{thousandths}
 use Rattle.pdf_values.specs.Looks.Weight.{font_weight, stem_v, weight_of}
-use Rattle.pdf_values.specs.declared.looks.bounds.Bounds.TheVariants.{Kept}
+use Rattle.pdf_values.specs.declared.looks.bounds.Bounds.{Bounds}
 use Rattle.pdf_values.specs.declared.descriptor.Known.{Known}
 use Rattle.pdf_values.specs.declared.descriptor.Values.{Values}
 use Rattle.pdf_moved.specs.Heights.{heights_at}
@@ -30,15 +30,15 @@ weight_by c = weight_in (nearest c 65536)
 abbrev pub weight_at : Movement → Option (List ℕ) → Option (List ℕ) → ℕ
 weight_at m os2 head = option_map_or weight_by (coordinate_on (codes "wght") m) (weight_of os2 head)
 
--- all of them: FontBBox is the least box around the kept glyphs
-abbrev pub values_at : SourceTables → Known → Movement → Values
-values_at t known m =
+-- all of them: FontBBox holds the glyphs that are chosen, and the box of `head` is that of the default
+abbrev pub values_at : SourceTables → Known → Movement → Bounds → Values
+values_at t known m choice =
     let units = units_per_em t.head in
     let lean = angle_at m t.post in
     let weight = weight_at m t.os2 t.head in
     record {
       flags = flags_of t.post t.os2 t.head lean;
-      bounds = bounds_of Kept t.head known.kept units;
+      bounds = bounds_of choice t.head known.kept units;
       italic_angle = lean;
       heights = heights_at m t.hhea t.os2 t.head known.cap_top known.x_top units;
       stem_v = stem_v known.stem weight;

@@ -10,3 +10,12 @@ cff_values_of units (Some cff) = cff_values_in units cff
 
 unfoldable pub cff_values_by : (List ℕ → Option (List ℕ)) → CffValues
 cff_values_by find = cff_values_of (units_per_em (find (codes "head"))) (find (codes "CFF "))
+
+-- the stem of the `CFF ` of the source; of a source without one that of the new font, whose private dicts have the blends of outlines in
+-- CFF2 resolved
+abbrev pub font_stem_by : Option (List ℕ) → (List ℕ → Option (List ℕ)) → (List ℕ → Option (List ℕ)) → Option ℕ
+font_stem_by None find new = (cff_values_by new).stem
+font_stem_by (Some cff) find new = (cff_values_by find).stem
+
+abbrev pub font_stem : (List ℕ → Option (List ℕ)) → (List ℕ → Option (List ℕ)) → Option ℕ
+font_stem find new = font_stem_by (find (codes "CFF ")) find new

@@ -1,5 +1,5 @@
 -- Where a font is off its default (OpenType, "fvar", "avar"), and the values of its descriptor there ("MVAR").
-use Rattle.std.specs.Prelude.{ℕ, Bool, if◌then◌else◌, List, codes, Option, Some, None, ℤ, pos}
+use Rattle.std.specs.Prelude.{ℕ, Bool, true, false, if◌then◌else◌, List, codes, Option, Some, None, is_some, ℤ, pos}
 use Rattle.std.specs.List.{list_all}
 use Rattle.std.specs.Option.{option_and_then}
 use Rattle.std.specs.Ordering.{int_eq}
@@ -10,10 +10,11 @@ use Rattle.subsetter_variation.specs.declared.locations.axes.Axis.{Axis}
 use Rattle.subsetter_instance.specs.Source.{normalized_coordinates}
 use Rattle.pdf_values.specs.Descriptor.{values_of}
 use Rattle.pdf_values.specs.declared.looks.bounds.Bounds.{Bounds}
+use Rattle.pdf_values.specs.declared.looks.bounds.Bounds.TheVariants.{Kept}
 use Rattle.pdf_values.specs.declared.descriptor.Values.{Values}
 use Rattle.pdf_moved.specs.Movement.{Movement}
 use Rattle.pdf_moved.specs.Values.{values_at}
-use Rattle.pdf_source.specs.Cff.{cff_values_by}
+use Rattle.pdf_source.specs.Cff.{font_stem}
 use Rattle.pdf_source.specs.Source.{bounds_by, known_of, tables_of}
 use Rattle.pdf_source.specs.declared.moved.Location.{Location as GivenLocation}
 
@@ -40,21 +41,31 @@ location_by None axes = None
 location_by (Some at) None = None
 location_by (Some at) (Some axes) = unless_zero at axes
 
--- elsewhere than at its default; none of outlines that aren't in `glyf`
-abbrev pub location_of : Option (List ℕ) → (List ℕ → Option (List ℕ)) → List (Tag × ℤ) → Option Location
-location_of None find settings = None
-location_of (Some glyf) find settings = location_by (result_ok (normalized_coordinates find settings)) (axes_in (find (codes "fvar")))
+-- outlines in `glyf` move along axes, and those of `CFF2` alone; those of `CFF ` don't
+abbrev pub can_move : Option (List ℕ) → Option (List ℕ) → Option (List ℕ) → Bool
+can_move (Some glyf) cff cff2 = true
+can_move None (Some cff) cff2 = false
+can_move None None cff2 = is_some cff2
+
+abbrev pub moves : (List ℕ → Option (List ℕ)) → Bool
+moves find = can_move (find (codes "glyf")) (find (codes "CFF ")) (find (codes "CFF2"))
+
+-- elsewhere than at its default; none of outlines that don't move
+abbrev pub location_of : Bool → (List ℕ → Option (List ℕ)) → List (Tag × ℤ) → Option Location
+location_of false find settings = None
+location_of true find settings = location_by (result_ok (normalized_coordinates find settings)) (axes_in (find (codes "fvar")))
 
 abbrev pub location_in : (List ℕ → Option (List ℕ)) → List (Tag × ℤ) → Option Location
-location_in find settings = location_of (find (codes "glyf")) find settings
+location_in find settings = location_of (moves find) find settings
 
 abbrev pub movement_of : (List ℕ → Option (List ℕ)) → List (Tag × ℤ) → Location → Movement
 movement_of find settings p = record { at = p.at; axes = p.axes; settings = settings; mvar = find (codes "MVAR") }
 
+-- off its default FontBBox holds the kept glyphs, where their boxes are known
 abbrev pub values_by : Option Location → Option ℕ → (List ℕ → Option (List ℕ)) → (List ℕ → Option (List ℕ)) → ℕ → Bounds → List (Tag × ℤ) → Values
 values_by None stem find new count choice settings = values_of (tables_of find) (known_of stem find new count) (bounds_by (find (codes "glyf")) choice)
-values_by (Some p) stem find new count choice settings = values_at (tables_of find) (known_of stem find new count) (movement_of find settings p)
+values_by (Some p) stem find new count choice settings = values_at (tables_of find) (known_of stem find new count) (movement_of find settings p) (bounds_by (find (codes "glyf")) Kept)
 
 -- the values of the descriptor, of the tables that look-ups find in the source and in the new font
 abbrev pub values_in : (List ℕ → Option (List ℕ)) → (List ℕ → Option (List ℕ)) → ℕ → Bounds → List (Tag × ℤ) → Values
-values_in find new count choice settings = values_by (location_in find settings) (cff_values_by find).stem find new count choice settings
+values_in find new count choice settings = values_by (location_in find settings) (font_stem find new) find new count choice settings

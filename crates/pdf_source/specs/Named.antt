@@ -14,7 +14,7 @@ name_by (Some p) find settings = name_at (find (codes "name")) (find (codes "fva
 abbrev pub name_there : (List ℕ → Option (List ℕ)) → List (Tag × ℤ) → List ℕ
 name_there find settings = name_by (location_in find settings) find settings
 
--- what advance heights vary by: by `VVAR`, off the default
+-- what advance heights and the origins of `VORG` vary by: by `VVAR`, off the default
 abbrev pub heights_by : Option Location → Option (List ℕ) → Option Variation
 heights_by None vvar = None
 heights_by (Some p) None = None

@@ -21,7 +21,7 @@ outlines_of find = record { head = find (codes "head"); loca = find (codes "loca
 abbrev pub vertical_of : (List ℕ → Option (List ℕ)) → Vertical
 vertical_of find = record { vhea = find (codes "vhea"); vmtx = find (codes "vmtx"); vorg = find (codes "VORG"); outlines = outlines_of find }
 
--- the tops of "H" (72) and "x" (120), the box around so many glyphs of the new font, and a stem
+-- the tops of "H" (72) and "x" (120), the box around so many glyphs of the new font, which is known of outlines in `glyf` alone, and a stem
 abbrev pub known_of : Option ℕ → (List ℕ → Option (List ℕ)) → (List ℕ → Option (List ℕ)) → ℕ → Known
 known_of stem find new count = record {
   cap_top = top_of (outlines_of find) (find (codes "cmap")) 72;

@@ -5,7 +5,7 @@ ghost use Rattle.subsetter_base.specs.Gives.{Gives};
 ghost use Rattle.subsetter_base.specs.declared.error.Error.TheVariants.{OutOfMemory};
 ghost use Rattle.subsetter_sfnt.specs.Read.{table_in};
 ghost use Rattle.pdf_cff.specs.View.{cff_values_view};
-ghost use Rattle.pdf_source.specs.Cff.{cff_values_by};
+ghost use Rattle.pdf_source.specs.Cff.{cff_values_by, font_stem};
 
 use pdf_cff::{CffValues, cff_values_in};
 use pdf_values::units_per_em;
@@ -25,5 +25,26 @@ pub fn cff_values_by<'a>(alloc: Global, face: &Face<'a>) -> Result<CffValues<'a>
             stem: None,
         }),
         Some(cff) => cff_values_in(alloc, cff, units_per_em(face.stored(Tag::HEAD))),
+    }
+}
+
+/// The stem that the `CFF ` of a font says.
+fn stem_of(alloc: Global, face: &Face<'_>) -> Result<Option<u32>, Error>
+    ensures value { Gives (λ stem. stem) result (Ok ((cff_values_by (table_in face.now.«data».now face.now.records.now)).stem)) }
+    ensures err { IfErr result (λ e. e ≡ OutOfMemory) }
+{
+    let said = cff_values_by(alloc, face)?;
+    Ok(said.stem)
+}
+
+/// The vertical stem of a font: the one that its `CFF ` says, else that of the new font, whose private dicts have the blends of
+/// outlines in `CFF2` resolved.
+pub fn font_stem(alloc: Global, face: &Face<'_>, new: &Face<'_>) -> Result<Option<u32>, Error>
+    ensures value { Gives (λ stem. stem) result (Ok (font_stem (table_in face.now.«data».now face.now.records.now) (table_in new.now.«data».now new.now.records.now))) }
+    ensures err { IfErr result (λ e. e ≡ OutOfMemory) }
+{
+    match face.stored(Tag::CFF) {
+        None => stem_of(alloc, new),
+        Some(_) => stem_of(alloc, face),
     }
 }

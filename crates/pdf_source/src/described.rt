@@ -93,7 +93,7 @@ fn bounds_by(glyf: Option<&[u8]>, choice: Bounds) -> Bounds
 }
 
 /// The values of a font that says this stem, of which the new font has so many glyphs, at coordinates that are off its
-/// default, if they are.
+/// default, if they are. There FontBBox holds the kept glyphs, where their boxes are known.
 pub fn values_by(
     location: &Option<Location>,
     stem: Option<u32>,
@@ -109,7 +109,12 @@ pub fn values_by(
     let known = known_of(stem, face, new, count);
     match location {
         None => values_of(tables, known, bounds_by(face.stored(Tag::GLYF), choice)),
-        Some(location) => values_at(tables, known, movement_of(face, settings, location)),
+        Some(location) => values_at(
+            tables,
+            known,
+            movement_of(face, settings, location),
+            bounds_by(face.stored(Tag::GLYF), Bounds::Kept),
+        ),
     }
 }
 
@@ -180,7 +185,7 @@ pub fn name_in(
     font_name(alloc, &tag_in(program, tag), &name)
 }
 
-/// What advance heights vary by at a location.
+/// What advance heights and the origins of `VORG` vary by at a location.
 pub fn heights_by<'a>(
     face: &Face<'a>,
     location: &'a Option<Location>,

@@ -7,7 +7,7 @@ ghost use Rattle.subsetter_base.specs.Gives.{Gives};
 ghost use Rattle.subsetter_sfnt.specs.Read.{table_in};
 ghost use Rattle.subsetter_instance.specs.Source.{normalized_coordinates};
 ghost use Rattle.pdf_moved.specs.Movement.{movement_view};
-ghost use Rattle.pdf_source.specs.Moved.{are_zero, axes_in, movement_of, location_by, location_in, location_seen, unless_zero};
+ghost use Rattle.pdf_source.specs.Moved.{are_zero, axes_in, can_move, movement_of, moves, location_by, location_in, location_seen, unless_zero};
 
 use pdf_cff::unless_memory;
 use pdf_moved::Movement;
@@ -77,7 +77,30 @@ fn location_by(at: Option<Vec<i32>>, axes: Option<Vec<Axis>>) -> Option<Location
     Some(Location { at, axes })
 }
 
-/// Where a font of outlines in `glyf` is off its default; none at its default.
+/// Whether outlines move along axes, by what was found: those of `glyf` do, and those of `CFF2` alone.
+fn can_move(glyf: Option<&[u8]>, cff: Option<&[u8]>, cff2: Option<&[u8]>) -> bool
+    ensures { result ≡ can_move (option_copied glyf.entry) (option_copied cff.entry) (option_copied cff2.entry) }
+{
+    match glyf {
+        Some(_) => true,
+        None => match cff {
+            Some(_) => false,
+            None => cff2.is_some(),
+        },
+    }
+}
+
+/// Whether the outlines of a font move along axes.
+fn moves(face: &Face<'_>) -> bool
+    ensures { result ≡ moves (table_in face.now.«data».now face.now.records.now) }
+{
+    let glyf = face.stored(Tag::GLYF);
+    let cff = face.stored(Tag::CFF);
+    let cff2 = face.stored(Tag::CFF2);
+    can_move(glyf, cff, cff2)
+}
+
+/// Where a font is off its default; none at its default, and none of outlines in `CFF `.
 pub fn location_in(
     alloc: Global,
     face: &Face<'_>,
@@ -85,7 +108,7 @@ pub fn location_in(
 ) -> Result<Option<Location>, Error>
     ensures { Gives (λ o. option_map location_seen o) result (Ok (location_in (table_in face.now.«data».now face.now.records.now) settings.now)) }
 {
-    if face.stored(Tag::GLYF).is_none() {
+    if !moves(face) {
         return Ok(None);
     }
     let at = coordinates_of(alloc, face, settings)?;

@@ -7,7 +7,7 @@ ghost use Rattle.subsetter_sfnt.specs.Read.{table_in};
 ghost use Rattle.pdf_source.specs.Made.{made_in, made_seen, profile_in, profile_seen};
 ghost use Rattle.pdf_source.specs.Program.{bare_cff, count_in, flavor_by, flavor_in, kind_of, program_in};
 
-use crate::cff::cff_values_by;
+use crate::cff::font_stem;
 use crate::choice::{FontOptions, ProgramChoice};
 use crate::described::values_by;
 use crate::moved::location_in;
@@ -105,16 +105,8 @@ fn profile_of(
     let count = count_in(&new, flavor_in(file), requested)?;
     let widths = widths_of(alloc, &new, count)?;
     let location = location_in(alloc, face, settings)?;
-    let said = cff_values_by(alloc, face)?;
-    let values = values_by(
-        &location,
-        said.stem,
-        face,
-        &new,
-        count,
-        options.bounds,
-        settings,
-    );
+    let stem = font_stem(alloc, face, &new)?;
+    let values = values_by(&location, stem, face, &new, count, options.bounds, settings);
     Ok(Profile {
         count,
         widths,

@@ -80,6 +80,6 @@ abbrev pub coordinates_of : List (List ℕ) → Option (List (Tag × ℤ))
 coordinates_of [] = Some []
 coordinates_of (part ∷ parts) = option_and_then (λ c. option_map (λ more. c ∷ more) (coordinates_of parts)) (coordinate_in part)
 
--- with a comma (44) between each two
+-- with a comma (44) between each two; a text without bytes has none, which is the default
 abbrev pub coordinates_in : List ℕ → Option (List (Tag × ℤ))
-coordinates_in text = coordinates_of (slice_split (λ b. b == 44) text)
+coordinates_in text = if length text == 0 then Some [] else coordinates_of (slice_split (λ b. b == 44) text)

@@ -234,13 +234,16 @@ fn coordinates_of(alloc: Global, parts: &[&str]) -> Result<Vec<(Tag, i32)>, Args
 }
 
 /// The coordinates of a text, as `wght=650,wdth=87.5`: the tag of an axis, four bytes, and a decimal number, in 65536ths. It is
-/// rounded to the nearest, halves up.
+/// rounded to the nearest, halves up. An empty text has none, which is the default.
 ///
 /// `Usage` where a part isn't one.
 pub fn read_coordinates(alloc: Global, text: &str) -> Result<Vec<(Tag, i32)>, ArgsError>
     ensures ok { IfOk result (λ v. coordinates_in text.now ≡ Some v.items) }
     ensures err { IfErr result (λ e. (e ≡ OutOfMemory) ⊎ ((e ≡ Usage) × (coordinates_in text.now ≡ None))) }
 {
+    if text.len() == 0 {
+        return Ok(Vec::new(alloc));
+    }
     let parts = parts_of(alloc, text)?;
     coordinates_of(alloc, &parts)
 }

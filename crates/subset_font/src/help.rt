@@ -69,7 +69,9 @@ What the new font has:
   --at TAG=VALUE[,TAG=VALUE..]
                     a variable font at coordinates, as
                     wght=650,wdth=87.5, or at a named
-                    instance, as Bold or bold
+                    instance, as Bold or bold; empty: at the
+                    default. CFF2 outlines need this option,
+                    and become CFF
   --no-hinting      leaves out the instructions of TrueType
                     outlines
   --no-names        leaves out the table name
@@ -89,9 +91,10 @@ What is printed:
   --verbose         also each table's bytes before and after
   --json            one JSON object in place of the lines
   --quiet           no lines
-  --axes            must be the first argument: the axes of
-                    IN, by tag, least, default and greatest
-                    coordinate; and its named instances
+  --axes            must be the first argument: the outlines
+                    of IN; its axes, by tag, least, default
+                    and greatest coordinate; and its named
+                    instances
   --info            must be the first argument: outlines,
                     glyphs and tables of IN, what its maker
                     permits, and whether a subset is made

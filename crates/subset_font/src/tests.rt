@@ -281,6 +281,10 @@ fn each_hint_of_a_file_has_its_text(rt: HostRuntime) -> Result<(), Fail> {
             "the file is cut: table glyf ends at byte 46248, the file at 3000",
         ),
         (Hint::NoOutlines, "the face has no table glyf, CFF or CFF2"),
+        (
+            Hint::Cff2,
+            "CFF2: choose coordinates by --at; \"\" is the default",
+        ),
         (Hint::NoAxes, "no axes in the font"),
         (Hint::NoMetrics, "hhea: numberOfHMetrics is 0"),
         (

@@ -2,5 +2,6 @@
 pub mod Axes
 pub mod Info
 pub mod Names
+pub mod Outlines
 pub mod Settings
 pub mod Sizes

@@ -1,7 +1,7 @@
 //! The text of the new numbers of glyphs, as lines or as JSON, of the axes of a variable font, and of what a face is.
 //!
 //! [`write_lines`] writes a line `old -> new` for each glyph, with its character where there is one, and then a text;
-//! [`write_json`] one object. [`write_axes`] writes a line for each axis of a variable font and each named instance.
+//! [`write_json`] one object. [`write_axes`] writes a line for the outlines, each axis of a variable font and each named instance.
 //!
 //! ```text
 //! let numbering = Numbering { characters: &[], names: &[], glyphs: &[36, 68], mapper: &mapper };
@@ -20,9 +20,10 @@ mod text;
 
 pub use entry::{Numbering, Unwritten, take_first};
 pub use faces::axes::{FontAxes, name_of, read_axes, write_axes};
-pub use faces::info::face::{Info, Outlines};
+pub use faces::info::face::Info;
 pub use faces::info::json::write_info_json;
 pub use faces::info::lines::write_info;
+pub use faces::outlines::Outlines;
 pub use faces::sizes::{TableSize, size_lines};
 pub use notes::{Note, note_lines};
 pub use objects::axes_json::{text_of_name, write_axes_json};

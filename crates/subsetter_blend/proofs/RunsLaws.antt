@@ -3,4 +3,5 @@ pub mod Acts
 pub mod BlendLaws
 pub mod Blends
 pub mod Runs
+pub mod Smalls
 pub mod Stacks

@@ -1,4 +1,5 @@
 -- The charstring that is written.
+pub mod Behind
 pub mod Fits
 pub mod FittingLaws
 pub mod Places

@@ -5,3 +5,4 @@ pub mod Machine
 pub mod MachineView
 pub mod Number
 pub mod Operands
+pub mod Small

@@ -1,5 +1,6 @@
 -- The charstring that is written.
 pub mod Flex
+pub mod Laid
 pub mod Placed
 pub mod Marks
 pub mod Split

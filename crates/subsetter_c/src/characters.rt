@@ -4,9 +4,9 @@ ghost use Rattle.std.specs.Prelude.{◌≡◌, ◌⊎◌, IfOk, IfErr, Some, cod
 ghost use Rattle.std.specs.Option.{option_and_then, option_map};
 ghost use Rattle.subsetter_base.specs.declared.error.Error.{Error as SpecError};
 ghost use Rattle.subsetter_sfnt.specs.Extras.{all_extras};
-ghost use Rattle.subsetter_sfnt.specs.Fault.{HasOpeningFault};
 ghost use Rattle.subsetter_sfnt.specs.FontAt.{font_at};
 ghost use Rattle.subsetter_sfnt.specs.Read.{table_in};
+ghost use Rattle.subsetter_variable.specs.Subset.{HasOpeningFaultAt};
 ghost use Rattle.cmap.specs.Faces.{face_mapping};
 ghost use Rattle.cmap.specs.Subtable.{mapping};
 ghost use Rattle.cmap.specs.View.{mapping_view};
@@ -16,17 +16,18 @@ ghost use Rattle.subsetter_c.specs.Documents.PdfGlyphs.{AreGlyphsOf, HasNoMappin
 
 use cmap::{Subtable, find_subtable};
 use std::alloc::Global;
-use subsetter::{Error, Extras, Tag, check_opening};
+use subsetter::{Error, Extras, Tag};
 use subsetter_pdf_c::glyphs_by;
 use subsetter_sfnt::face::Face;
 use subsetter_sfnt::parse::parse;
+use subsetter_variable::check_opening_at;
 
 /// The face of a font that can be opened.
 fn opened_face(font: &[u8], index: u32) -> Result<Face<'_>, Error>
     ensures ok { IfOk result (λ face. IsOpened (font_at font.now index all_extras) face) }
-    ensures err { IfErr result (λ e. HasOpeningFault (font_at font.now index all_extras) e) }
+    ensures err { IfErr result (λ e. HasOpeningFaultAt (font_at font.now index all_extras) e) }
 {
-    check_opening(font, index, Extras::ALL)?;
+    check_opening_at(font, index, Extras::ALL)?;
     parse(font, index, Extras::ALL)
 }
 
@@ -41,8 +42,8 @@ fn mapping_by<'a>(face: &Face<'a>) -> Option<Subtable<'a>>
 /// The table of a font by which the glyphs of Unicode characters are found.
 fn mapping_for(font: &[u8], index: u32) -> Result<Subtable<'_>, Error>
     ensures ok { IfOk result (λ table. face_mapping (font_at font.now index all_extras) ≡ Some (mapping_view table)) }
-    ensures opens { IfOk result (λ table. (e : SpecError) → ¬ (HasOpeningFault (font_at font.now index all_extras) e)) }
-    ensures err { IfErr result (λ e. HasOpeningFault (font_at font.now index all_extras) e ⊎ HasNoMapping (font_at font.now index all_extras) e) }
+    ensures opens { IfOk result (λ table. (e : SpecError) → ¬ (HasOpeningFaultAt (font_at font.now index all_extras) e)) }
+    ensures err { IfErr result (λ e. HasOpeningFaultAt (font_at font.now index all_extras) e ⊎ HasNoMapping (font_at font.now index all_extras) e) }
 {
     let face = opened_face(font, index)?;
     match mapping_by(&face) {

@@ -3,12 +3,13 @@
 ghost use Rattle.std.specs.Prelude.{◌≡◌, ◌≢◌, ◌⊎◌, ◌++◌, IfOk, IfErr, Err, map, drop};
 ghost use Rattle.subsetter_base.specs.declared.error.Error.{Error as SpecError};
 ghost use Rattle.subsetter_base.specs.declared.error.Error.TheVariants.{OutOfMemory};
-ghost use Rattle.subsetter_sfnt.specs.Fault.{HasOpeningFault};
 ghost use Rattle.subsetter_sfnt.specs.FontAt.{font_at};
+ghost use Rattle.subsetter_variable.specs.Subset.{HasOpeningFaultAt};
 ghost use Rattle.subsetter_c.specs.Settings.{setting, settings_of};
 
 use std::alloc::Global;
-use subsetter::{Error, Extras, Tag, check_opening};
+use subsetter::{Error, Extras, Tag};
+use subsetter_variable::check_opening_at;
 
 /// A value on an axis.
 #[derive(Clone, Copy)]
@@ -43,7 +44,7 @@ fn settings_of(alloc: Global, coordinates: &[Coordinate]) -> Result<Vec<(Tag, i3
 ///
 /// # Errors
 ///
-/// `OutOfMemory`: a request for memory was refused. For a font that can't be opened it is what `check_opening` answers.
+/// `OutOfMemory`: a request for memory was refused. For a font that can't be opened it is what `check_opening_at` answers.
 pub fn settings_for(
     alloc: Global,
     font: &[u8],
@@ -52,14 +53,14 @@ pub fn settings_for(
     extras: Extras,
 ) -> Result<Vec<(Tag, i32)>, Error>
     ensures ok { IfOk result (λ v. v.items ≡ settings_of coordinates.now) }
-    ensures err { IfErr result (λ e. (e ≡ OutOfMemory) ⊎ HasOpeningFault (font_at font.now index extras) e) }
+    ensures err { IfErr result (λ e. (e ≡ OutOfMemory) ⊎ HasOpeningFaultAt (font_at font.now index extras) e) }
     // Where a fault stands that is found before memory is taken, the answer isn't out of memory.
-    ensures before_memory { (e : SpecError) → HasOpeningFault (font_at font.now index extras) e → result ≢ Err OutOfMemory }
+    ensures before_memory { (e : SpecError) → HasOpeningFaultAt (font_at font.now index extras) e → result ≢ Err OutOfMemory }
 {
     match settings_of(alloc, coordinates) {
         Ok(settings) => Ok(settings),
         Err(error) => {
-            check_opening(font, index, extras)?;
+            check_opening_at(font, index, extras)?;
             Err(error)
         }
     }

@@ -13,8 +13,8 @@ use crate::answers::making::{self, Made};
 use crate::answers::status;
 use crate::options::options_of;
 use crate::settings::{Coordinate, settings_for};
-use cid_embed::{Embedded, mapper_for};
-use cid_embed_at::embed_with_variations_and_options;
+use cid_embed::Embedded;
+use cid_embed_at::{embed_with_variations_and_options, mapper_at};
 use std::alloc::Global;
 use subsetter::{Error, Options};
 use subsetter_variable::subset_with_variations_and_options;
@@ -32,7 +32,7 @@ fn subset_for(
     ensures err { IfErr result (λ e. IsRefusalAt options.now.limits.bytes options.now.limits.tokens options.now.limits.depth (record { bytes = font.now; index = index; extras = options.now.extras }) (settings_of coordinates.now) glyphs.now e) }
 {
     let settings = settings_for(alloc, font, index, coordinates, options.extras)?;
-    let mapper = mapper_for(alloc, font, index, glyphs, options.extras)?;
+    let mapper = mapper_at(alloc, font, index, glyphs, options.extras)?;
     subset_with_variations_and_options(alloc, font, index, &settings, &mapper, options)
 }
 
@@ -55,7 +55,8 @@ fn embedded_for(
 /// As `subsetter_subset_by_words`, with the glyphs as they are at coordinates.
 ///
 /// A font that is at its default there, as one without axes does, is subset as it is, with its hints; else its instance
-/// is.
+/// is. Of a font with outlines in `CFF2`, and neither `glyf` nor `CFF `, the font with outlines in `CFF ` that is made of them is, at
+/// the default too.
 #[unsafe(no_mangle)]
 pub extern "C" fn subsetter_subset_at_by_words(
     alloc: Global,
@@ -111,7 +112,8 @@ pub extern "C" fn subsetter_make_subset_at_by_words(
 
 /// As `subsetter_embed_by_words`, with the glyphs and the widths as they are at coordinates.
 ///
-/// A font that is at its default there is embedded as it is; else its instance is.
+/// A font that is at its default there is embedded as it is; else its instance is. Of a font with outlines in `CFF2`, and neither
+/// `glyf` nor `CFF `, the font with outlines in `CFF ` that is made of them is, at the default too.
 #[unsafe(no_mangle)]
 pub extern "C" fn subsetter_embed_at_by_words(
     alloc: Global,

@@ -11,8 +11,9 @@ ghost use Rattle.subsetter_cff_at.specs.View.{opened_of, AreTexts, DrawsNext, Ar
 use crate::opening::OpenTable;
 use std::alloc::Global;
 use subsetter_base::error::Error;
-use subsetter_blend::resolving::resolve;
+use subsetter_blend::resolving::resolve_in;
 use subsetter_blend::runs::machine::Subroutines;
+use subsetter_blend::runs::running::Room;
 use subsetter_cff2::made::PlacedDict;
 use subsetter_type2::limits::Limits;
 use subsetter_type2::operators::first_byte;
@@ -32,10 +33,11 @@ pub struct Texts {
 /// The charstring of a requested glyph under a private dict. An advance past 32,767, for which a charstring has no number, is
 /// `OverflowError`; a charstring that isn't there is `MalformedFont`.
 #[tactic(auto, unfolding(crate::specs::Plain::glyph_text))]
-fn glyph_text(
+fn glyph_text<'a>(
     alloc: Global,
-    opened: &OpenTable<'_>,
-    dict: &PlacedDict<'_>,
+    room: &mut Room<'a>,
+    opened: &OpenTable<'a>,
+    dict: &PlacedDict<'a>,
     glyph: u16,
     advance: u16,
     limits: Limits,
@@ -52,8 +54,9 @@ fn glyph_text(
         global: SubroutineHandler::new(opened.table.subroutines),
         local: SubroutineHandler::new(dict.subroutines),
     };
-    resolve(
+    resolve_in(
         alloc,
+        room,
         &subroutines,
         &opened.variation,
         &limits,
@@ -65,10 +68,11 @@ fn glyph_text(
 
 /// The charstring of a requested glyph, by the place of its private dict.
 #[tactic(auto, unfolding(crate::specs::Plain::placed_text))]
-fn placed_text(
+fn placed_text<'a>(
     alloc: Global,
-    opened: &OpenTable<'_>,
-    dicts: &[PlacedDict<'_>],
+    room: &mut Room<'a>,
+    opened: &OpenTable<'a>,
+    dicts: &[PlacedDict<'a>],
     place: u8,
     glyph: u16,
     advance: u16,
@@ -81,6 +85,7 @@ fn placed_text(
     }
     glyph_text(
         alloc,
+        room,
         opened,
         &dicts[usize::from(place)],
         glyph,
@@ -121,10 +126,11 @@ fn put(texts: Texts, bytes: &[u8], requested: usize) -> Result<Texts, Error>
 }
 
 /// Draws a glyph more. `OverflowError` also where the charstrings of the requested glyphs pass the bound on bytes.
-fn draw_next(
+fn draw_next<'a>(
     alloc: Global,
-    opened: &OpenTable<'_>,
-    dicts: &[PlacedDict<'_>],
+    room: &mut Room<'a>,
+    opened: &OpenTable<'a>,
+    dicts: &[PlacedDict<'a>],
     place: u8,
     glyph: u16,
     advance: Option<u16>,
@@ -141,7 +147,7 @@ fn draw_next(
             put(texts, &[first_byte::ENDCHAR], requested)
         }
         Some(advance) => {
-            let text = placed_text(alloc, opened, dicts, place, glyph, advance, limits)?;
+            let text = placed_text(alloc, room, opened, dicts, place, glyph, advance, limits)?;
             let requested = texts.requested.saturating_add(text.len());
             if limits.is_past(requested) {
                 return Err(Error::OverflowError);
@@ -153,10 +159,10 @@ fn draw_next(
 
 /// Draws all glyphs: the requested ones, and `endchar` for every other one. `OverflowError` where the charstrings of the requested
 /// glyphs pass the bound on bytes, before the next one is drawn.
-pub fn draw_texts(
+pub fn draw_texts<'a>(
     alloc: Global,
-    opened: &OpenTable<'_>,
-    dicts: &[PlacedDict<'_>],
+    opened: &OpenTable<'a>,
+    dicts: &[PlacedDict<'a>],
     places: &[u8],
     glyphs: &[Option<u16>],
     limits: Limits,
@@ -167,10 +173,12 @@ pub fn draw_texts(
     ensures within { IfOk result (λ t. is_past limits.bytes t.requested ≡ false) }
     ensures err { IfErr result (λ e. FailsWithin limits.bytes texts_size e (texts_from (opened_of opened.now).cff (opened_of opened.now).variation limits.tokens limits.depth (map dict_view dicts.now) places.now 0 glyphs.now)) }
 {
+    let mut room = Room::new(opened.table.bytes);
     let mut texts = no_texts(alloc, glyphs.len(), limits)?;
     for glyph in 0..glyphs.len() {
         texts = draw_next(
             alloc,
+            &mut room,
             opened,
             dicts,
             places[glyph],

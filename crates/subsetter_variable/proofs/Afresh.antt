@@ -1,5 +1,5 @@
 -- A subset of an instance, read afresh: the glyphs that were asked for and no other, each as it is drawn.
-use Rattle.std.proofs.Common.{◌≡◌, ℕ, ◌^◌, ◌<◌, List, [], ◌∷◌, ◌++◌, length, get_or, Some, Result, Ok, Err, ℤ, refl, sym, ap, subst, ◌∙◌, arith}
+use Rattle.std.proofs.Common.{◌≡◌, ℕ, ◌^◌, ◌<◌, List, [], ◌∷◌, ◌++◌, length, get_or, Some, Result, Ok, Err, ℤ, refl, sym, ap, subst, ◌∙◌, inl, inr, arith}
 use Rattle.std.specs.Prelude.{codes, Contains, IfOk}
 use Rattle.std.specs.Option.{option_and_then}
 use Rattle.std.specs.Int.{w16, cast_unsigned}
@@ -28,7 +28,7 @@ use Rattle.subsetter.specs.Truetype.Read.{KeepsOutlines}
 use Rattle.subsetter_instance.specs.Instance.{IsInstance, IsDrawn}
 use Rattle.subsetter_instance.proofs.FileLaws.Fitting.{drawn_fits}
 use Rattle.subsetter_variable.specs.Afresh.{IsDrawnAs, HasGlyphsDrawn}
-use Rattle.subsetter_variable.specs.DefaultLocation.{IsAtDefault}
+use Rattle.subsetter_variable.specs.DefaultLocation.{IsAtDefault, no_outlines, IsStaticFile}
 use Rattle.subsetter_variable.specs.Subset.{whole}
 use Rattle.subsetter_variable.proofs.Simple.{IsLow, low_bytes, no_components, bare_already, shown, asked_parts, even, same_bytes}
 use Rattle.subsetter_variable.proofs.SourceRead.{IsRead, is_read, hmtx_found, is_truetype, outline_found, metric_found}
@@ -139,3 +139,9 @@ module _ (tokens depth : ℕ) (font : Font) (settings : List (Tag × ℤ)) (glyp
 pub not_drawn : (font : Font) (settings : List (Tag × ℤ)) (glyphs : List ℕ) → IsAtDefault (whole font) settings → {X : Type 0} (view : X → List ℕ) (r : Result X Error) → IfOk r (λ v. (IsAtDefault (whole font) settings → ⊥) → HasGlyphsDrawn (whole font) settings glyphs (view v))
 not_drawn font settings glyphs d view (Ok v) = λ not. absurd (not d)
 not_drawn font settings glyphs d view (Err e) = tt
+
+-- of a file that is made; outlines of CFF2 alone have none in `glyf` that move
+module _ (tokens depth : ℕ) (font : Font) (settings : List (Tag × ℤ)) (glyphs file : List ℕ) where
+  pub drawn_by : IsStaticFile (whole font) settings glyphs file → {X : Type 0} (view : X → List ℕ) (r : Result X Error) → IfOk r (λ v. IsSubset tokens depth (font_at file 0 font.extras) glyphs (view v)) → IfOk r (λ v. (IsAtDefault (whole font) settings → ⊥) → HasGlyphsDrawn (whole font) settings glyphs (view v))
+  drawn_by (inl i) view r s = drawn_at tokens depth font settings glyphs file i.1 view r s
+  drawn_by (inr i) view r s = not_drawn font settings glyphs (no_outlines i.0.no_glyf) view r

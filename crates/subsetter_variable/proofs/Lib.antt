@@ -4,5 +4,6 @@ pub mod Static
 pub mod Simple
 pub mod SourceRead
 pub mod Afresh
+pub mod Blended
 pub mod Redrawn
 pub mod Again

@@ -1,5 +1,5 @@
 -- The tables of an instance, read as those of a font that is subset.
-use Rattle.std.proofs.Common.{◌≡◌, ℕ, ◌-◌, Bool, true, false, List, Option, Some, refl, sym, ap, ◌∙◌}
+use Rattle.std.proofs.Common.{◌≡◌, ℕ, Bool, true, false, List, Option, Some, refl, sym, ap, ◌∙◌}
 use Rattle.std.specs.Prelude.{codes, not, ◌==◌}
 use Rattle.std.specs.Option.{option_and_then}
 use Rattle.std.specs.Str.{bytes_eq}
@@ -107,11 +107,14 @@ abbrev by_choice : Bool → Bool → Bool → List ℕ → Option (List ℕ) →
 by_choice h n g tag found = by_glyph_names g tag (by_names n tag (by_hinting h tag found))
 
 -- neither a program, nor maxp, nor name, nor post
-record IsAlways (tag : List ℕ) : Type 0 where
-  program : is_hinting_table tag ≡ false
-  profile : bytes_eq tag (codes "maxp") ≡ false
-  names : bytes_eq tag (codes "name") ≡ false
-  glyph_names : bytes_eq tag (codes "post") ≡ false
+pub record IsAlways (tag : List ℕ) : Type 0 where
+  pub program : is_hinting_table tag ≡ false
+  pub profile : bytes_eq tag (codes "maxp") ≡ false
+  pub names : bytes_eq tag (codes "name") ≡ false
+  pub glyph_names : bytes_eq tag (codes "post") ≡ false
+
+pub plain : {tag : List ℕ} → is_hinting_table tag ≡ false → bytes_eq tag (codes "maxp") ≡ false → bytes_eq tag (codes "name") ≡ false → bytes_eq tag (codes "post") ≡ false → IsAlways tag
+plain p m n g = record { program = p; profile = m; names = n; glyph_names = g }
 
 module _ (tag : List ℕ) (a : IsAlways tag) where
   hinted : (h : Bool) (found : Option (List ℕ)) → by_hinting h tag found ≡ found
@@ -130,13 +133,13 @@ module _ (tag : List ℕ) (a : IsAlways tag) where
   always h n g found = ap (λ o. by_glyph_names g tag (by_names n tag o)) (hinted h found) ∙ ap (λ o. by_glyph_names g tag o) (named n found) ∙ numbered g found
 
 module _ (file : List ℕ) (x : Extras) where
+  pub same_table : (tag : List ℕ) → IsAlways tag → table (font_at file 0 x) tag ≡ stored (as_font file) tag
+  same_table tag a = always tag a x.hinting x.names x.glyph_names (stored (font_at file 0 x) tag) ∙ sym (same_stored (font_at file 0 x) tag)
+
   found : (tag bytes : List ℕ) → IsAlways tag → stored (as_font file) tag ≡ Some bytes → table (font_at file 0 x) tag ≡ Some bytes
-  found tag bytes a h = always tag a x.hinting x.names x.glyph_names (stored (font_at file 0 x) tag) ∙ sym (same_stored (font_at file 0 x) tag) ∙ h
+  found tag bytes a h = same_table tag a ∙ h
 
   module _ (s : Source) (r : IsRead (stored (as_font file)) 0 s) where
-    plain : {tag : List ℕ} → is_hinting_table tag ≡ false → bytes_eq tag (codes "maxp") ≡ false → bytes_eq tag (codes "name") ≡ false → bytes_eq tag (codes "post") ≡ false → IsAlways tag
-    plain p m n g = record { program = p; profile = m; names = n; glyph_names = g }
-
     pub glyf_found : table (font_at file 0 x) (codes "glyf") ≡ Some s.glyf
     glyf_found = found (codes "glyf") s.glyf (plain refl refl refl refl) r.glyf_is
 

@@ -14,8 +14,8 @@ use Rattle.subsetter_sfnt.proofs.Laws.Fault.{opened_refused}
 use Rattle.subsetter_instance.specs.Source.{normalized_coordinates}
 use Rattle.subsetter_instance.proofs.FaultLaws.Opening.{same_find}
 use Rattle.subsetter_instance.proofs.FaultLaws.Place.{place_refused}
-use Rattle.subsetter_variable.specs.DefaultLocation.{IsAtDefault, HasNoLocation, no_outlines, no_move}
-use Rattle.subsetter_variable.proofs.Unopened.{no_glyf}
+use Rattle.subsetter_variable.specs.DefaultLocation.{IsAtDefault, HasNoLocation, no_outlines, no_move, IsCff2Font, is_cff2_alone}
+use Rattle.subsetter_variable.proofs.Unopened.{no_glyf, nothing_stored}
 
 -- what fails, but for want of memory, fails by its reading
 pub fails_is : {Y : Type 0} (e : Error) (read : Result Y Error) → Fails e read → (e ≡ OutOfMemory) ⊎ (read ≡ Err e)
@@ -66,3 +66,31 @@ one_found font d seen o same found h some =
 -- so nothing is said of a font without
 pub still_there : (font : Font) → IsSome (stored font (codes "glyf")) → (r : Result Bool Error) → stored font (codes "glyf") ≡ None → r ≡ Ok true
 still_there font there r none = absurd (let both = rw none at there in cc)
+
+-- ---- outlines of CFF2
+
+pub found_is : (font : Font) (d seen tag : List ℕ) → opened font ≡ Ok d → seen ≡ font.bytes → (found : Option (Bor (List ℕ))) → option_copied found ≡ table_in seen d tag → is_some found ≡ is_some (stored font tag)
+found_is font d seen tag o same found h = copied found ∙ ap is_some (h ∙ ap (λ (f : List ℕ → Option (List ℕ)). f tag) (find_is font d seen o same))
+  where
+    copied : (found : Option (Bor (List ℕ))) → is_some found ≡ is_some (option_copied found)
+    copied None = refl
+    copied (Some bytes) = refl
+
+abbrev AreAlone : Option (List ℕ) → Option (List ℕ) → Option (List ℕ) → Type 0
+AreAlone glyf cff cff2 = (glyf ≡ None) × (cff ≡ None) × IsSome cff2
+
+by_tables : (glyf cff cff2 : Option (List ℕ)) → IsTrue (is_cff2_alone (is_some glyf) (is_some cff) (is_some cff2)) ↔ AreAlone glyf cff cff2
+by_tables None None (Some c) = (λ yes. (refl, refl, refl), λ all. refl)
+by_tables None None None = (λ yes. absurd cc, λ all. absurd (let none = all.2 in cc))
+by_tables None (Some f) cff2 = (λ yes. absurd cc, λ all. absurd (let none = all.1 in cc))
+by_tables (Some g) cff cff2 = (λ yes. absurd cc, λ all. absurd (let none = all.0 in cc))
+
+module _ (font : Font) where
+  pub by_found : (glyf cff cff2 : Bool) → glyf ≡ is_some (stored font (codes "glyf")) → cff ≡ is_some (stored font (codes "CFF ")) → cff2 ≡ is_some (stored font (codes "CFF2")) → IsTrue (is_cff2_alone glyf cff cff2) ↔ IsCff2Font font
+  by_found glyf cff cff2 g f c =
+      let same : is_cff2_alone glyf cff cff2 ≡ is_cff2_alone (is_some (stored font (codes "glyf"))) (is_some (stored font (codes "CFF "))) (is_some (stored font (codes "CFF2"))) = rw (g, f, c) refl in
+      let both = by_tables (stored font (codes "glyf")) (stored font (codes "CFF ")) (stored font (codes "CFF2")) in
+      (λ yes. let all = both.0 (sym same ∙ yes) in record { no_glyf = all.0; no_cff = all.1; cff2 = all.2 }, λ is. same ∙ both.1 (is.no_glyf, is.no_cff, is.cff2))
+
+  pub unopened_cff2 : (e : Error) → opened font ≡ Err e → IsTrue false ↔ IsCff2Font font
+  unopened_cff2 e h = (λ yes. absurd cc, λ is. absurd (let some = is.cff2 in let none = nothing_stored font (codes "CFF2") e h in cc))

@@ -1,4 +1,5 @@
 pub mod DefaultLocation
 pub mod Subset
 pub mod Afresh
+pub mod Blended
 pub mod Laws

@@ -8,7 +8,8 @@ use crate::proved::pdf_font::{
     ProgramChoice, ProgramKind, Rights, Usage, Values,
 };
 use crate::proved::pdf_objects::{write_objects, write_sheet, Layout};
-use crate::proved::subsetter::{self as subsetting, check_opening};
+use crate::proved::subsetter as subsetting;
+use crate::proved::subsetter_variable::check_opening_at;
 use crate::rattle::alloc::Global;
 use crate::rattle::prelude::Vec as List;
 use crate::Error;
@@ -311,7 +312,7 @@ pub fn pdf_font(
     let open = open.ok_or(Refusal::Text)?;
     let or_opening = |error: EntryError| match error {
         EntryError::Text => Refusal::Text,
-        EntryError::OutOfMemory => match check_opening(data, index, open.0.extras) {
+        EntryError::OutOfMemory => match check_opening_at(data, index, open.0.extras) {
             Ok(()) => Error::OutOfMemory.into(),
             Err(fault) => refused(fault).into(),
         },

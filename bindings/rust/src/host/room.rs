@@ -23,9 +23,14 @@ pub fn ask(bytes: usize) -> Result<()> {
 /// The names of so many bytes for which `std` asks for room; a shorter one it copies to the stack (since Rust 1.67, or so).
 const LONG_NAME: usize = 384;
 
+/// Whether `std` asks for room for a name.
+pub fn is_long(name: &str) -> bool {
+    name.len() >= LONG_NAME
+}
+
 /// `OutOfMemory` where there is no room for a long name as the system wants it: with a zero behind.
 pub fn ask_for_name(name: &str) -> Result<()> {
-    if name.len() < LONG_NAME {
+    if !is_long(name) {
         return Ok(());
     }
     ask(name.len().saturating_add(1))

@@ -6,6 +6,7 @@
 #![allow(
     clippy::len_zero,
     clippy::manual_find,
+    clippy::manual_flatten,
     clippy::manual_map,
     clippy::manual_ok_err,
     clippy::manual_range_contains,
@@ -58,6 +59,8 @@ pub mod pdf_values;
 #[cfg(feature = "program")]
 pub mod subset_args;
 #[cfg(feature = "program")]
+pub mod subset_batch;
+#[cfg(feature = "program")]
 pub mod subset_font;
 #[cfg(feature = "program")]
 pub mod subset_lines;
@@ -65,7 +68,15 @@ pub mod subset_lines;
 pub mod subset_pdf;
 pub mod subsetter;
 pub mod subsetter_base;
+#[cfg(feature = "variable-fonts")]
+pub mod subsetter_blend;
 pub mod subsetter_cff;
+#[cfg(feature = "variable-fonts")]
+pub mod subsetter_cff2;
+#[cfg(feature = "variable-fonts")]
+pub mod subsetter_cff_at;
+#[cfg(feature = "variable-fonts")]
+pub mod subsetter_cff_instance;
 pub mod subsetter_cffdata;
 #[cfg(feature = "variable-fonts")]
 pub mod subsetter_instance;

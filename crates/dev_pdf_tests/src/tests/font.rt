@@ -5,12 +5,13 @@ mod wanted;
 
 use self::rows::blocks::{CHARACTERS, TWO_BLOCKS};
 use self::rows::cff::{BARE, OPEN_TYPE};
+use self::rows::cff2;
 use self::rows::texts::{EIGHT_UNITS, GLYPH_ZERO, LEFT_OUT, NINE_UNITS, NONE_SHOWN};
 use self::rows::truetype::{BY_SOURCE, BY_TEXT, VERTICAL};
 use self::rows::variable::{AT_DEFAULT, BETWEEN_MASTERS, LIGHTEST};
 use self::wanted::{NO_SUBSETS, Wanted, is_answered, with_cid_set, without_hints};
 use crate::tests::made::expected::SHOWN;
-use crate::tests::made::fonts::{CFF, TRUE_TYPE, VARIABLE};
+use crate::tests::made::fonts::{CFF, CFF2, TRUE_TYPE, VARIABLE};
 use pdf_font::{
     Bounds, Codes, Direction, FontError, FontOptions, Permission, ProgramChoice, Rights, Shown,
     pdf_font,
@@ -101,6 +102,31 @@ fn variable_rows(rt: HostRuntime) -> Result<(), Fail> {
     assert!(rt; is_answered(alloc, &VARIABLE, &at, &LETTERS, &options, &LIGHTEST)?);
     let at = [(Tag::new(b"wght"), 26214400)];
     assert!(rt; is_answered(alloc, &VARIABLE, &at, &SHOWN, &options, &AT_DEFAULT)?);
+    Ok(())
+}
+
+/// Outlines in `CFF2` are placed at the default too, and origins vary by the map of `VVAR`.
+#[test]
+fn cff2_rows(rt: HostRuntime) -> Result<(), Fail> {
+    let alloc = rt.alloc();
+    let options = FontOptions {
+        direction: Direction::Vertical,
+        ..with_cid_set()
+    };
+    let at = [(Tag::new(b"wght"), 42598400)];
+    assert!(rt; is_answered(alloc, &CFF2, &at, &cff2::LETTERS, &options, &cff2::AT_650)?);
+    let at = [(Tag::new(b"wght"), 13107200)];
+    assert!(rt; is_answered(alloc, &CFF2, &at, &cff2::LETTERS, &options, &cff2::AT_200)?);
+    assert!(rt;
+        is_answered(
+            alloc,
+            &CFF2,
+            &[],
+            &cff2::LETTERS,
+            &options,
+            &cff2::AT_DEFAULT
+        )?
+    );
     Ok(())
 }
 

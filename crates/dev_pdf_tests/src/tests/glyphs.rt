@@ -179,3 +179,60 @@ fn moved_columns(rt: HostRuntime) -> Result<(), Fail> {
     assert!(rt; moved_are(alloc, &[8192], &vertical::VVAR, default)?);
     Ok(())
 }
+
+/// Whether the origins at a coordinate, by these bytes of `VVAR`, are these; no advance varies.
+fn origins_are(
+    alloc: Global,
+    outlines: OutlineTables<'_>,
+    at: i32,
+    vvar: &[u8],
+    origins: [i32; 5],
+) -> Result<bool, subsetter_base::Error> {
+    let tables = VerticalTables {
+        vhea: Some(&vertical::VHEA),
+        vmtx: Some(&vertical::VMTX),
+        vorg: Some(&vertical::VORG),
+        outlines,
+    };
+    let variation = Some(HeightVariation { at: &[at], vvar });
+    let widths = [500, 667, 667, 244, 488];
+    let made = columns_at(alloc, tables, variation, &[1, 2, 3, 4], &widths)?;
+    let [a, b, c, d, e] = origins;
+    let wanted = [
+        [-1000, 250, a],
+        [-1000, 334, b],
+        [-977, 334, c],
+        [-500, 122, d],
+        [-732, 244, e],
+    ];
+    Ok(are(&made.each, &wanted))
+}
+
+/// The origins of `VORG` vary by the map of `VVAR`, past whose end the last entry counts.
+#[test]
+fn moved_origins(rt: HostRuntime) -> Result<(), Fail> {
+    let alloc = rt.alloc();
+    let vvar = &vertical::VVAR_OF_ORIGINS;
+    let cff = OutlineTables {
+        head: Some(&vertical::HEAD),
+        loca: None,
+        glyf: None,
+    };
+    assert!(rt; origins_are(alloc, cff, 8192, vvar, [890, 840, 8880, -156, 870])?);
+    // An origin past 16 bits stays.
+    assert!(rt; origins_are(alloc, cff, 16384, vvar, [900, 830, 880, -167, 860])?);
+    // Without a map, and where it can't be read, all stay.
+    let mut unmapped = Vec::from_slice(alloc, vvar)?;
+    unmapped[23] = 0;
+    let default = [880, 850, 880, -146, 880];
+    assert!(rt; origins_are(alloc, cff, 16384, &unmapped, default)?);
+    assert!(rt; origins_are(alloc, cff, 16384, &vvar[..81], default)?);
+    // Origins of TrueType outlines are the default's.
+    let outlines = OutlineTables {
+        head: Some(&vertical::HEAD),
+        loca: Some(&vertical::LOCA),
+        glyf: Some(&vertical::GLYF),
+    };
+    assert!(rt; origins_are(alloc, outlines, 16384, vvar, [880, 880, 880, 430, 880])?);
+    Ok(())
+}

@@ -4,7 +4,7 @@
 use crate::tests::made::expected::{BETWEEN, LIGHT};
 use crate::tests::made::tables::{regular, variable};
 use pdf_moved::{Movement, values_at};
-use pdf_values::{GlyphBox, Known, Tables, Values};
+use pdf_values::{Bounds, GlyphBox, Known, Tables, Values};
 use std::test::*;
 use subsetter_base::Tag;
 use subsetter_variation::locations::axes::Axis;
@@ -42,7 +42,7 @@ fn values(movement: Movement<'_>, kept: GlyphBox) -> Values {
         kept: Some(kept),
         stem: None,
     };
-    values_at(tables, known, movement)
+    values_at(tables, known, movement, Bounds::Kept)
 }
 
 #[test]

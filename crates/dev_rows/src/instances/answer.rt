@@ -1,5 +1,9 @@
 //! What a call answers, as it is printed.
 
+ghost use Rattle.std.specs.Prelude.{◌≡◌, [], ◌∷◌, IfOk, IfErr};
+ghost use Rattle.dev_base.specs.declared.failure.Failure.TheVariants.{Memory};
+ghost use Rattle.dev_rows.specs.Shown.{Numbers, shown};
+
 use dev_base::failure::Failure;
 use std::alloc::Global;
 use std::fmt;
@@ -54,24 +58,12 @@ impl fmt::Display for Answer {
     }
 }
 
-/// The list of numbers that go into 64 bits.
-pub fn list<T: Copy>(alloc: Global, numbers: &[T]) -> Result<Vec<i64>, Failure>
-where
-    i64: From<T>,
-{
-    let mut list = Vec::with_capacity(alloc, numbers.len())?;
-    for number in numbers {
-        list.push(i64::from(*number))?;
-    }
-    Ok(list)
-}
-
-/// The answer that is these lists.
-pub fn lists<const N: usize>(alloc: Global, lists: [Vec<i64>; N]) -> Result<Answer, Failure> {
-    Ok(Answer::Lists(Vec::from_array(alloc, lists)?))
-}
-
 /// The answer that is one number.
-pub fn one(alloc: Global, number: i64) -> Result<Answer, Failure> {
-    lists(alloc, [list(alloc, &[number])?])
+pub fn one(alloc: Global, number: i64) -> Result<Answer, Failure>
+    ensures ok { IfOk result (λ a. shown a ≡ Numbers ((number ∷ []) ∷ [])) }
+    ensures err { IfErr result (λ e. e ≡ Memory) }
+{
+    let list = Vec::from_array(alloc, [number])?;
+    let lists = Vec::from_array(alloc, [list])?;
+    Ok(Answer::Lists(lists))
 }

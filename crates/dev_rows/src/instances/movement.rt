@@ -1,13 +1,21 @@
 //! The tuples of a glyph, and its points moved by them.
 
-ghost use Rattle.std.specs.Prelude.{◌≡◌, true, IfOk, IfSome, length};
+ghost use Rattle.std.specs.Prelude.{◌≡◌, ◌⊎◌, ◌∷◌, [], true, Some, None, IfOk, IfErr, IfSome, length};
+ghost use Rattle.dev_base.specs.declared.failure.Failure.TheVariants.{Row, Memory};
+ghost use Rattle.dev_rows.specs.Shown.{IsAnswer};
+ghost use Rattle.dev_rows.specs.Tuples.{first_tuple, scalars, counts, tuple_shown, tuple_row};
+ghost use Rattle.dev_rows.specs.Moves.{are_ends, is_outline, points_at, moved_shown, moved_row};
+ghost use Rattle.dev_rows.specs.Words.{short_numbers_of};
 ghost use Rattle.subsetter_variation.specs.Glyphs.Movement.{IsOutline};
 ghost use Rattle.subsetter_variation.specs.Glyphs.Varied.{AreEnds};
 
-use crate::instances::answer::{Answer, list, lists};
-use crate::instances::words::{coordinates, count, glyph, numbers, short_numbers};
+use crate::instances::answer::Answer;
+use crate::instances::number::list;
+use crate::instances::tables::listed;
+use crate::words::{coordinates, count, glyph, numbers, short_numbers};
 use dev_base::failure::Failure;
 use std::alloc::Global;
+use std::marker::Model;
 use subsetter_base::Error;
 use subsetter_variation::glyphs::movement::{Outline, moved_points};
 use subsetter_variation::glyphs::tuples::{
@@ -24,84 +32,112 @@ struct FirstTuple<'a> {
     behind: u16,
 }
 
-/// The first tuple of a glyph.
-fn first_tuple<'a>(gvar: &Gvar<'a>, glyph: u16) -> Result<Option<FirstTuple<'a>>, Error>
-    ensures { IfOk result (λ o. IfSome o (λ t. length t.header.region ≡ gvar.now.axis_count)) }
+impl<'a> Model for FirstTuple<'a> {
+    ghost use Rattle.dev_rows.specs.Tuples.{FirstTuple};
+
+    ghost Value = { FirstTuple };
+
+    ghost view = { λ f. record { is_shared = f.is_shared; left = f.left; header = f.header; behind = f.behind } };
+}
+
+/// The first tuple of a glyph, by the bytes of its variations.
+#[tactic(auto, unfolding(crate::specs::Tuples::first_tuple))]
+fn first_tuple<'a>(gvar: &Gvar<'a>, bytes: &'a [u8]) -> Option<FirstTuple<'a>>
+    ensures value { result ≡ first_tuple gvar.now bytes.now }
+    ensures axes { IfSome result (λ f. length f.header.region ≡ gvar.now.axis_count) }
 {
-    let Some(bytes) = gvar.variations_of(glyph) else {
-        return Ok(None);
-    };
-    let (is_shared, headers) = tuple_headers(bytes).ok_or(Error::MalformedFont)?;
+    let (is_shared, headers) = tuple_headers(bytes)?;
     let left = headers.left();
-    let (header, headers) = next_header(gvar, headers).ok_or(Error::MalformedFont)?;
-    Ok(Some(FirstTuple {
+    let (header, headers) = next_header(gvar, headers)?;
+    let behind = headers.left();
+    Some(FirstTuple {
         is_shared,
         left,
         header,
-        behind: headers.left(),
-    }))
+        behind,
+    })
 }
 
-/// Where on the one axis it is said how far a tuple counts, in 16384ths.
-const COORDINATES: [i32; 4] = [-1, 4096, 16384, 16385];
-
-/// How far a tuple of a table of one axis counts there, in parts of 2^30.
+/// How far a tuple of a table of one axis counts at -1, 4096, 16384 and 16385, in parts of 2^30.
 fn scalars_of(alloc: Global, header: &TupleHeader<'_>) -> Result<Vec<i64>, Failure>
     requires { length header.now.region ≡ 1 }
+    ensures ok { IfOk result (λ v. v.items ≡ scalars header.now.region) }
+    ensures err { IfErr result (λ e. e ≡ Memory) }
 {
-    let mut scalars = Vec::new(alloc);
-    for place in COORDINATES {
-        scalars.push(header.scalar(&[place]))?;
-    }
+    let scalars = [
+        header.scalar(&[-1]),
+        header.scalar(&[4096]),
+        header.scalar(&[16384]),
+        header.scalar(&[16385]),
+    ];
+    let scalars = Vec::from_array(alloc, scalars)?;
     Ok(scalars)
+}
+
+/// Whether point numbers are shared, how many tuples there are, whether the first has point numbers of its own, and how many are
+/// behind it.
+fn counts_of(alloc: Global, tuple: &FirstTuple<'_>) -> Result<Vec<i64>, Failure>
+    ensures ok { IfOk result (λ v. v.items ≡ counts tuple.now) }
+    ensures err { IfErr result (λ e. e ≡ Memory) }
+{
+    let counts = [
+        i64::from(tuple.is_shared),
+        i64::from(tuple.left),
+        i64::from(tuple.header.has_private_numbers()),
+        i64::from(tuple.behind),
+    ];
+    let counts = Vec::from_array(alloc, counts)?;
+    Ok(counts)
 }
 
 /// What a tuple of a glyph of so many points holds.
 fn tuple_of(alloc: Global, points: u32, tuple: &FirstTuple<'_>) -> Result<Answer, Failure>
     requires { length tuple.now.header.region ≡ 1 }
+    ensures ok { IfOk result (λ a. IsAnswer a (tuple_shown tuple.now points)) }
+    ensures err { IfErr result (λ e. e ≡ Memory) }
 {
-    let header = &tuple.header;
-    let front = [
-        u32::from(tuple.is_shared),
-        u32::from(tuple.left),
-        u32::from(header.has_private_numbers()),
-        u32::from(tuple.behind),
-    ];
-    match numbers_and_deltas(alloc, points, header.packed()) {
-        Ok((numbers, xs, ys)) => lists(
-            alloc,
-            [
-                list(alloc, &front)?,
-                scalars_of(alloc, header)?,
-                list(alloc, numbers.as_deref().unwrap_or(&[]))?,
-                list(alloc, &xs)?,
-                list(alloc, &ys)?,
-            ],
-        ),
+    match numbers_and_deltas(alloc, points, tuple.header.packed()) {
+        Ok((numbers, xs, ys)) => {
+            let counts = counts_of(alloc, tuple)?;
+            let scalars = scalars_of(alloc, &tuple.header)?;
+            let numbers = listed(alloc, &numbers)?;
+            let xs = list(alloc, &xs)?;
+            let ys = list(alloc, &ys)?;
+            let lists = Vec::from_array(alloc, [counts, scalars, numbers, xs, ys])?;
+            Ok(Answer::Lists(lists))
+        }
         Err(error) => Ok(Answer::Refused(error)),
     }
 }
 
 /// The first tuple of a glyph of so many points, of a table of one axis: whether point numbers are shared (1, else 0), how many
-/// tuples there are, whether it has point numbers of its own, and how many tuples are behind it; how far it counts at each of
-/// `COORDINATES`; its point numbers, none for all; its deltas.
-pub fn tuple(alloc: Global, gvar: &[u8], word: &str, points: &str) -> Result<Answer, Failure> {
+/// tuples there are, whether it has point numbers of its own, and how many tuples are behind it; how far it counts at -1, 4096,
+/// 16384 and 16385; its point numbers, none for all; its deltas.
+pub fn tuple(alloc: Global, gvar: &[u8], word: &str, points: &str) -> Result<Answer, Failure>
+    ensures ok { IfOk result (λ a. IsAnswer a (tuple_row gvar.now word.now points.now)) }
+    ensures err { IfErr result (λ e. (e ≡ Memory) ⊎ ((e ≡ Row) × (tuple_row gvar.now word.now points.now ≡ None))) }
+{
     let Some(table) = gvar_table(gvar) else {
         return Ok(Answer::Nothing);
     };
     if table.axis_count() != 1 {
         return Ok(Answer::Nothing);
     }
-    match first_tuple(&table, glyph(word)?) {
-        Ok(Some(tuple)) => tuple_of(alloc, count(points)?, &tuple),
-        Ok(None) => Ok(Answer::Nothing),
-        Err(error) => Ok(Answer::Refused(error)),
-    }
+    let glyph = glyph(word)?;
+    let Some(bytes) = table.variations_of(glyph) else {
+        return Ok(Answer::Nothing);
+    };
+    let Some(tuple) = first_tuple(&table, bytes) else {
+        return Ok(Answer::Refused(Error::MalformedFont));
+    };
+    let points = count(points)?;
+    tuple_of(alloc, points, &tuple)
 }
 
 /// Whether these are the last points of contours, from one point up to so many.
 fn are_ends(start: usize, ends: &[usize], points: usize) -> bool
-    ensures { result ≡ true → AreEnds start ends.now points }
+    ensures value { result ≡ are_ends start ends.now points }
+    ensures are_ends { result ≡ true → AreEnds start ends.now points }
 {
     let [end, behind @ ..] = ends else {
         return start == points;
@@ -111,23 +147,28 @@ fn are_ends(start: usize, ends: &[usize], points: usize) -> bool
 
 /// Whether an outline has as many coordinates of both kinds, and its contours end with its last point.
 fn is_outline(outline: &Outline<'_>) -> bool
-    ensures { result ≡ true → IsOutline outline.now }
+    ensures value { result ≡ is_outline outline.now }
+    ensures is_outline { result ≡ true → IsOutline outline.now }
 {
     outline.ys.len() == outline.xs.len()
-        && u32::try_from(outline.xs.len()).is_ok()
+        && (outline.xs.len() as u64) < 0x1_0000_0000
         && are_ends(0, outline.ends, outline.xs.len())
 }
 
 /// The last points of a list.
-fn ends_of(alloc: Global, word: &str) -> Result<Vec<usize>, Failure> {
+fn ends_of(alloc: Global, word: &str) -> Result<Vec<usize>, Failure>
+    ensures ok { IfOk result (λ v. short_numbers_of word.now ≡ Some v.items) }
+    ensures err { IfErr result (λ e. (e ≡ Memory) ⊎ ((e ≡ Row) × (short_numbers_of word.now ≡ None))) }
+{
+    let short = short_numbers(alloc, word)?;
     let mut ends = Vec::new(alloc);
-    for end in &short_numbers(alloc, word)? {
+    for end in &short {
         ends.push(usize::from(*end))?;
     }
     Ok(ends)
 }
 
-/// Where the points of a glyph go at a place in so many steps: the coordinates in parts of 2^30, and the steps that are left.
+/// Where the points of a glyph go at a location in so many steps: the coordinates in parts of 2^30, and the steps that are left.
 fn points_moved(
     alloc: Global,
     table: &Gvar<'_>,
@@ -135,12 +176,19 @@ fn points_moved(
     outline: &Outline<'_>,
     at: &[i32],
     steps: u32,
-) -> Result<Answer, Failure> {
+) -> Result<Answer, Failure>
+    ensures ok { IfOk result (λ a. IsAnswer a (points_at table.now glyph outline.now at.now steps)) }
+    ensures err { IfErr result (λ e. (e ≡ Memory) ⊎ ((e ≡ Row) × (points_at table.now glyph outline.now at.now steps ≡ None))) }
+{
     if table.axis_count() as usize != at.len() || !is_outline(outline) {
         return Err(Failure::Row);
     }
     match moved_points(alloc, table, glyph, outline, at, steps) {
-        Ok((xs, ys, left)) => lists(alloc, [xs, ys, list(alloc, &[left])?]),
+        Ok((xs, ys, left)) => {
+            let left = Vec::from_array(alloc, [i64::from(left)])?;
+            let lists = Vec::from_array(alloc, [xs, ys, left])?;
+            Ok(Answer::Lists(lists))
+        }
         Err(error) => Ok(Answer::Refused(error)),
     }
 }
@@ -156,8 +204,27 @@ pub struct Moved<'a> {
     pub steps: &'a str,
 }
 
+/// The same, where the outline is known.
+fn outline_moved(
+    alloc: Global,
+    table: &Gvar<'_>,
+    words: &Moved<'_>,
+    outline: &Outline<'_>,
+) -> Result<Answer, Failure>
+    ensures ok { IfOk result (λ a. IsAnswer a (moved_shown table.now words.now outline.now)) }
+    ensures err { IfErr result (λ e. (e ≡ Memory) ⊎ ((e ≡ Row) × (moved_shown table.now words.now outline.now ≡ None))) }
+{
+    let at = numbers(alloc, words.at)?;
+    let glyph = glyph(words.glyph)?;
+    let steps = count(words.steps)?;
+    points_moved(alloc, table, glyph, outline, &at, steps)
+}
+
 /// Where the points that words write go.
-pub fn moved_by_words(alloc: Global, gvar: &[u8], words: &Moved<'_>) -> Result<Answer, Failure> {
+pub fn moved_by_words(alloc: Global, gvar: &[u8], words: &Moved<'_>) -> Result<Answer, Failure>
+    ensures ok { IfOk result (λ a. IsAnswer a (moved_row gvar.now words.now)) }
+    ensures err { IfErr result (λ e. (e ≡ Memory) ⊎ ((e ≡ Row) × (moved_row gvar.now words.now ≡ None))) }
+{
     let Some(table) = gvar_table(gvar) else {
         return Ok(Answer::Nothing);
     };
@@ -169,13 +236,5 @@ pub fn moved_by_words(alloc: Global, gvar: &[u8], words: &Moved<'_>) -> Result<A
         ys: &ys,
         ends: &ends,
     };
-    let at = numbers(alloc, words.at)?;
-    points_moved(
-        alloc,
-        &table,
-        glyph(words.glyph)?,
-        &outline,
-        &at,
-        count(words.steps)?,
-    )
+    outline_moved(alloc, &table, words, &outline)
 }

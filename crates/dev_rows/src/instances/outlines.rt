@@ -1,7 +1,15 @@
 //! Simple outlines, read and written.
 
-use crate::instances::answer::{Answer, list, lists, one};
-use crate::instances::words::{coordinates, short_numbers};
+ghost use Rattle.std.specs.Prelude.{◌≡◌, ◌⊎◌, Some, None, IfOk, IfErr};
+ghost use Rattle.dev_base.specs.declared.failure.Failure.TheVariants.{Row, Memory};
+ghost use Rattle.dev_rows.specs.Outlines.{points_shown, read_row, bytes_shown, written_row, points_of, fits_row};
+ghost use Rattle.dev_rows.specs.Shown.{IsAnswer, shown};
+ghost use Rattle.subsetter_base.specs.declared.error.Error.TheVariants.{OutOfMemory};
+ghost use Rattle.subsetter_points.specs.Simple.{parts};
+
+use crate::instances::answer::{Answer, one};
+use crate::instances::number::list;
+use crate::words::{coordinates, short_numbers};
 use dev_base::failure::Failure;
 use std::alloc::Global;
 use subsetter_base::Error;
@@ -9,29 +17,39 @@ use subsetter_points::{Outline, Point, fits, read_simple, write_simple};
 
 /// The points of an outline: the numbers from left to right, from below to above, and 1 for each on the curve, then the
 /// last points of its contours.
-fn points_of(alloc: Global, outline: &Outline) -> Result<Answer, Failure> {
-    let mut xs = Vec::new(alloc);
-    let mut ys = Vec::new(alloc);
-    let mut on_curve = Vec::new(alloc);
-    for point in &outline.points {
-        xs.push(i64::from(point.x))?;
-        ys.push(i64::from(point.y))?;
-        on_curve.push(i64::from(point.on_curve))?;
-    }
-    lists(alloc, [xs, ys, on_curve, list(alloc, &outline.ends)?])
+fn answer_of(alloc: Global, outline: &Outline) -> Result<Answer, Failure>
+    ensures ok { IfOk result (λ a. shown a ≡ points_shown (Some (outline.now.ends.items, outline.now.points.items))) }
+    ensures err { IfErr result (λ e. e ≡ Memory) }
+{
+    let points = outline.points.as_slice();
+    let xs: Vec<i64> = points.iter().map(|p| i64::from(p.x)).collect(alloc)?;
+    let ys: Vec<i64> = points.iter().map(|p| i64::from(p.y)).collect(alloc)?;
+    let on_curve: Vec<i64> = points.iter().map(|p| i64::from(p.on_curve)).collect(alloc)?;
+    let ends = list(alloc, &outline.ends)?;
+    let lists = Vec::from_array(alloc, [xs, ys, on_curve, ends])?;
+    Ok(Answer::Lists(lists))
 }
 
 /// The points of a simple glyph description.
-pub fn read(alloc: Global, description: &[u8]) -> Result<Answer, Failure> {
+pub fn read(alloc: Global, description: &[u8]) -> Result<Answer, Failure>
+    ensures ok { IfOk result (λ a. IsAnswer a (Some (read_row description.now))) }
+    ensures err { IfErr result (λ e. e ≡ Memory) }
+{
     match read_simple(alloc, description) {
-        Ok(Some(outline)) => points_of(alloc, &outline),
+        Ok(Some(outline)) => {
+            let answer = answer_of(alloc, &outline)?;
+            Ok(answer)
+        }
         Ok(None) => Ok(Answer::Nothing),
         Err(error) => Ok(Answer::Refused(error)),
     }
 }
 
 /// The bytes of an outline; none where it doesn't fit.
-fn bytes_of(alloc: Global, outline: &Outline) -> Result<Answer, Error> {
+fn bytes_of(alloc: Global, outline: &Outline) -> Result<Answer, Error>
+    ensures ok { IfOk result (λ a. shown a ≡ bytes_shown outline.now.ends.items outline.now.points.items) }
+    ensures err { IfErr result (λ e. e ≡ OutOfMemory) }
+{
     if !fits(outline) {
         return Ok(Answer::Nothing);
     }
@@ -41,38 +59,54 @@ fn bytes_of(alloc: Global, outline: &Outline) -> Result<Answer, Error> {
 }
 
 /// The bytes that a simple glyph description is written as when it was read.
-fn bytes_again(alloc: Global, description: &[u8]) -> Result<Answer, Error> {
-    match read_simple(alloc, description)? {
-        Some(outline) => bytes_of(alloc, &outline),
-        None => Ok(Answer::Nothing),
-    }
+fn bytes_again(alloc: Global, description: &[u8]) -> Result<Answer, Error>
+    ensures ok { IfOk result (λ a. shown a ≡ written_row description.now) }
+    ensures err { IfErr result (λ e. e ≡ OutOfMemory) }
+{
+    let Some(outline) = read_simple(alloc, description)? else {
+        return Ok(Answer::Nothing);
+    };
+    let answer = bytes_of(alloc, &outline)?;
+    Ok(answer)
 }
 
 /// The same as an answer.
-pub fn read_and_written(alloc: Global, description: &[u8]) -> Answer {
+pub fn read_and_written(alloc: Global, description: &[u8]) -> Answer
+    ensures { IsAnswer result (Some (written_row description.now)) }
+{
     match bytes_again(alloc, description) {
         Ok(answer) => answer,
         Err(error) => Answer::Refused(error),
     }
 }
 
-/// The outline of these points, all on the curve, and last points.
-fn outline_of(alloc: Global, xs: &str, ys: &str, ends: &str) -> Result<Outline, Failure> {
-    let mut outline = Outline::new(alloc);
-    let ys = coordinates(alloc, ys)?;
-    for (x, y) in coordinates(alloc, xs)?.iter().zip(&ys) {
-        outline.points.push(Point {
+/// The points of these coordinates, all on the curve.
+fn points_of(alloc: Global, xs: &[i16], ys: &[i16]) -> Result<Vec<Point>, Failure>
+    ensures ok { IfOk result (λ v. v.items ≡ points_of xs.now ys.now) }
+    ensures err { IfErr result (λ e. e ≡ Memory) }
+{
+    let points: Vec<Point> = xs
+        .iter()
+        .zip(ys)
+        .map(|(x, y)| Point {
             x: *x,
             y: *y,
             on_curve: true,
-        })?;
-    }
-    outline.ends = short_numbers(alloc, ends)?;
-    Ok(outline)
+        })
+        .collect(alloc)?;
+    Ok(points)
 }
 
 /// Whether an outline can be written: 1, else 0.
-pub fn is_fit(alloc: Global, xs: &str, ys: &str, ends: &str) -> Result<Answer, Failure> {
-    let outline = outline_of(alloc, xs, ys, ends)?;
-    one(alloc, i64::from(fits(&outline)))
+pub fn is_fit(alloc: Global, xs: &str, ys: &str, ends: &str) -> Result<Answer, Failure>
+    ensures ok { IfOk result (λ a. fits_row xs.now ys.now ends.now ≡ Some (shown a)) }
+    ensures err { IfErr result (λ e. (e ≡ Memory) ⊎ ((e ≡ Row) × (fits_row xs.now ys.now ends.now ≡ None))) }
+{
+    let ys = coordinates(alloc, ys)?;
+    let xs = coordinates(alloc, xs)?;
+    let ends = short_numbers(alloc, ends)?;
+    let points = points_of(alloc, &xs, &ys)?;
+    let outline = Outline { points, ends };
+    let answer = one(alloc, i64::from(fits(&outline)))?;
+    Ok(answer)
 }

@@ -1,5 +1,8 @@
 //! A table of rows of what an instance is made of.
 
+ghost use Rattle.std.specs.Prelude.{◌≡◌, ◌⊎◌, IfErr};
+ghost use Rattle.dev_base.specs.declared.failure.Failure.TheVariants.{Row, Memory, Write};
+
 use crate::digits::word_bytes;
 use crate::instances::answer::Answer;
 use crate::instances::fonts::{Instance, instance_by_words};
@@ -19,7 +22,9 @@ struct Named<'a> {
 }
 
 /// The bytes of a name.
-fn bytes_named<'a>(all: &'a [Named<'_>], name: &str) -> Result<&'a [u8], Failure> {
+fn bytes_named<'a>(all: &'a [Named<'_>], name: &str) -> Result<&'a [u8], Failure>
+    ensures { IfErr result (λ e. e ≡ Row) }
+{
     for one in all {
         if one.name == name {
             return Ok(&one.bytes);
@@ -29,7 +34,9 @@ fn bytes_named<'a>(all: &'a [Named<'_>], name: &str) -> Result<&'a [u8], Failure
 }
 
 /// The bytes of a name, none for `-`.
-fn named_if_any<'a>(all: &'a [Named<'_>], name: &str) -> Result<Option<&'a [u8]>, Failure> {
+fn named_if_any<'a>(all: &'a [Named<'_>], name: &str) -> Result<Option<&'a [u8]>, Failure>
+    ensures { IfErr result (λ e. e ≡ Row) }
+{
     if name == "-" {
         return Ok(None);
     }
@@ -42,7 +49,9 @@ fn answer_of_one(
     all: &[Named<'_>],
     kind: &str,
     name: &str,
-) -> Result<Answer, Failure> {
+) -> Result<Answer, Failure>
+    ensures { IfErr result (λ e. (e ≡ Memory) ⊎ (e ≡ Row)) }
+{
     let bytes = bytes_named(all, name)?;
     match kind {
         "axes" => axis_count(alloc, bytes),
@@ -53,7 +62,9 @@ fn answer_of_one(
 }
 
 /// The same of two words.
-fn answer_of_two(alloc: Global, kind: &str, first: &str, second: &str) -> Result<Answer, Failure> {
+fn answer_of_two(alloc: Global, kind: &str, first: &str, second: &str) -> Result<Answer, Failure>
+    ensures { IfErr result (λ e. (e ≡ Memory) ⊎ (e ≡ Row)) }
+{
     match kind {
         "nearest" => quotient(alloc, first, second),
         "scalar" => region_scalar(alloc, first, second),
@@ -71,7 +82,9 @@ fn answer_of_three(
     first: &str,
     second: &str,
     third: &str,
-) -> Result<Answer, Failure> {
+) -> Result<Answer, Failure>
+    ensures { IfErr result (λ e. (e ≡ Memory) ⊎ (e ≡ Row)) }
+{
     if kind == "fits" {
         return is_fit(alloc, first, second, third);
     }
@@ -90,7 +103,9 @@ fn answer_of_more(
     all: &[Named<'_>],
     kind: &str,
     words: &[&str],
-) -> Result<Answer, Failure> {
+) -> Result<Answer, Failure>
+    ensures { IfErr result (λ e. (e ≡ Memory) ⊎ (e ≡ Row)) }
+{
     match (kind, words) {
         ("moved", [gvar, glyph, xs, ys, ends, at, steps]) => {
             let words = Moved {
@@ -117,7 +132,9 @@ fn answer_of_more(
 }
 
 /// What the calls answer for a row, by its kind and the words behind its name.
-fn answer(alloc: Global, all: &[Named<'_>], kind: &str, words: &[&str]) -> Result<Answer, Failure> {
+fn answer(alloc: Global, all: &[Named<'_>], kind: &str, words: &[&str]) -> Result<Answer, Failure>
+    ensures { IfErr result (λ e. (e ≡ Memory) ⊎ (e ≡ Row)) }
+{
     match words {
         [name] => answer_of_one(alloc, all, kind, name),
         [first, second] => answer_of_two(alloc, kind, first, second),
@@ -132,7 +149,9 @@ fn run_line<'a, R: Print>(
     alloc: Global,
     all: &mut Vec<Named<'a>>,
     line: &'a str,
-) -> Result<(), Failure> {
+) -> Result<(), Failure>
+    ensures { IfErr result (λ e. (e ≡ Write) ⊎ ((e ≡ Memory) ⊎ (e ≡ Row))) }
+{
     if line.is_empty() || line.starts_with('#') {
         return Ok(());
     }
@@ -150,7 +169,9 @@ fn run_line<'a, R: Print>(
 }
 
 /// Does what each line of a table says; a line that is no row is reported with its number.
-pub fn run_table<R: Print + AllocGlobal>(rt: &R, table: &str) -> Result<(), Failure> {
+pub fn run_table<R: Print + AllocGlobal>(rt: &R, table: &str) -> Result<(), Failure>
+    ensures { IfErr result (λ e. (e ≡ Write) ⊎ ((e ≡ Memory) ⊎ (e ≡ Row))) }
+{
     let mut all = Vec::new(rt.alloc());
     for (index, line) in table.lines().enumerate() {
         let ended = run_line(rt, rt.alloc(), &mut all, line);

@@ -1,5 +1,8 @@
 //! A table of rows of subsets.
 
+ghost use Rattle.std.specs.Prelude.{◌≡◌, ◌≢◌, ◌⊎◌, IfErr};
+ghost use Rattle.dev_base.specs.declared.failure.Failure.TheVariants.{Row, Font, Memory, Write};
+
 use crate::digits::word_bytes;
 use crate::subsets::answer::status_of;
 use crate::subsets::calls::{Miss, miss_at, miss_of};
@@ -57,7 +60,9 @@ const ERRORS: [Error; 7] = [
 ];
 
 /// Whether the error of a status has this text.
-fn run_text<'a>(alloc: Global, status: &'a str, text: &str) -> Result<Outcome<'a>, Failure> {
+fn run_text<'a>(alloc: Global, status: &'a str, text: &str) -> Result<Outcome<'a>, Failure>
+    ensures { IfErr result (λ e. (e ≡ Memory) ⊎ (e ≡ Row)) }
+{
     let number = u32_of(status).ok_or(Failure::Row)?;
     let expected = word_bytes(alloc, text)?;
     for error in ERRORS {
@@ -85,7 +90,9 @@ fn run_row<'a>(
     fonts: &[SourceFont<'_>],
     kind: Kind,
     words: &[&'a str],
-) -> Result<Outcome<'a>, Failure> {
+) -> Result<Outcome<'a>, Failure>
+    ensures { IfErr result (λ e. (e ≡ Memory) ⊎ ((e ≡ Row) ⊎ (e ≡ Font))) }
+{
     let row = read_row(alloc, kind, words)?;
     let font = font_named(fonts, row.font).ok_or(Failure::Font)?;
     Ok(match &row.options {
@@ -112,7 +119,9 @@ fn run_line<'a>(
     alloc: Global,
     fonts: &mut Vec<SourceFont<'a>>,
     line: &'a str,
-) -> Result<Outcome<'a>, Failure> {
+) -> Result<Outcome<'a>, Failure>
+    ensures { IfErr result (λ e. (e ≡ Memory) ⊎ ((e ≡ Row) ⊎ (e ≡ Font))) }
+{
     if line.is_empty() || line.starts_with('#') {
         return Ok(Outcome::Nothing);
     }
@@ -130,7 +139,9 @@ fn run_line<'a>(
 }
 
 /// Prints why the line of an index is wrong. Another failure is returned as it is.
-fn print_wrong<R: Print>(rt: &R, index: usize, why: Failure) -> Result<(), Failure> {
+fn print_wrong<R: Print>(rt: &R, index: usize, why: Failure) -> Result<(), Failure>
+    ensures { IfErr result (λ e. (e ≡ Write) ⊎ ((e ≡ why) × (why ≢ Row) × (why ≢ Font))) }
+{
     match why {
         Failure::Row | Failure::Font => {
             let number = index.saturating_add(1);
@@ -141,7 +152,9 @@ fn print_wrong<R: Print>(rt: &R, index: usize, why: Failure) -> Result<(), Failu
 }
 
 /// Does what each line of a table says, prints what became of it, and last the counts. Whether all is as expected.
-pub fn run_table<R: Print + AllocGlobal>(rt: &R, table: &str) -> Result<bool, Failure> {
+pub fn run_table<R: Print + AllocGlobal>(rt: &R, table: &str) -> Result<bool, Failure>
+    ensures { IfErr result (λ e. (e ≡ Write) ⊎ (e ≡ Memory)) }
+{
     let mut fonts = Vec::new(rt.alloc());
     let mut right = 0u64;
     let mut wrong = 0u64;

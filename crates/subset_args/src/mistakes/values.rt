@@ -94,7 +94,7 @@ fn wrong_codes(list: &str) -> Option<Mistake<'_>>
 fn wrong_position(text: &str) -> Option<Mistake<'_>>
     ensures { IfSome result (λ m. IsWrong m.wrong m.word.now) }
 {
-    if is_name(text) {
+    if text.len() == 0 || is_name(text) {
         return None;
     }
     wrong_coordinate(text)

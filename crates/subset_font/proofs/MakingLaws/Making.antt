@@ -13,10 +13,9 @@ use Rattle.cid_embed.specs.Embed.{numbering, HasEmbedFaultWithin, in_numbering, 
 use Rattle.subset_font.specs.Making.Requested.{IsRequested, IsUnasked}
 use Rattle.subsetter_base.specs.declared.tag.Tag.{Tag}
 use Rattle.subsetter_sfnt.specs.FontAt.{font_at}
-use Rattle.subsetter_instance.specs.Fault.{HasInstanceFault}
-use Rattle.subsetter_instance.specs.Instance.{IsInstance}
-use Rattle.subsetter_variable.specs.DefaultLocation.{IsAtDefault}
-use Rattle.subsetter_variable.specs.Subset.{as_it_is, instanced}
+use Rattle.subsetter_variable.specs.DefaultLocation.{IsAtDefault, IsCff2Font, IsStaticFile, HasStaticFault}
+use Rattle.subsetter_variable.specs.Subset.{as_it_is}
+use Rattle.subsetter_variable.proofs.Static.{static_of}
 use Rattle.subset_font.specs.Making.Made as made
 use Rattle.subset_font.specs.Making.Made.{face_of, font_of, taken_of, IsFaultless, IsFaultlessWithWidths, IsCleanSubset, IsWidthText, IsLastText, IsTaken, as_given, placed, IsMadeOf, IsMade, IsRefusal, IsRefusalOfWidths, IsRefused, IsUntaken, unplaced, HasRefusal, untaken, of_taken, IsRefusedFace, IsRefusedTask, IsUnmade}
 use Rattle.subset_font.specs.declared.making.requested.Picked.{Picked}
@@ -88,17 +87,20 @@ module _ (task : Task) (bytes : List ℕ) where
   given_of glyphs h = as_given (none_said task.at h)
 
   -- the static font, or the font as it is
-  pub placed_of : {X : Type 0} (view : X → List ℕ) (at : List (Tag × ℤ)) (mapper glyphs : List ℕ) → option_copied task.at ≡ Some at → mapper ≡ numbering glyphs → (r : Result (Option X) Refusal) → IfOk r (λ made. MatchOption made (IsAtDefault (face_of task bytes) at) (λ file. (IsAtDefault (face_of task bytes) at → ⊥) × IsInstance (face_of task bytes) at mapper (view file)))
+  pub placed_of : {X : Type 0} (view : X → List ℕ) (at : List (Tag × ℤ)) (mapper glyphs : List ℕ) → option_copied task.at ≡ Some at → mapper ≡ numbering glyphs → (r : Result (Option X) Refusal)
+      → IfOk r (λ made. MatchOption made (IsAtDefault (face_of task bytes) at × (IsCff2Font (face_of task bytes) → ⊥)) (λ file. IsStaticFile (face_of task bytes) at mapper (view file)))
       → IfOk r (λ made. IsTaken task bytes glyphs (taken_of task bytes (option_map view made)))
-  placed_of view at mapper glyphs said m (Ok None) d = placed at (font_of task bytes) said (as_it_is d)
-  placed_of view at mapper glyphs said m (Ok (Some file)) i = placed at (font_at (view file) 0 task.options.extras) said (instanced (view file) i.0 (subst (λ (l : List ℕ). IsInstance (face_of task bytes) at l (view file)) m i.1))
+  placed_of view at mapper glyphs said m (Ok None) d = placed at (font_of task bytes) said (as_it_is d.0 d.1)
+  placed_of view at mapper glyphs said m (Ok (Some file)) i =
+      let there : IsStaticFile (face_of task bytes) at (numbering glyphs) (view file) = subst (λ (l : List ℕ). IsStaticFile (face_of task bytes) at l (view file)) m i in
+      placed at (font_at (view file) 0 task.options.extras) said (static_of (font_of task bytes) at (numbering glyphs) (view file) there)
   placed_of view at mapper glyphs said m (Err e) h = tt
 
-  pub untaken_by : {X : Type 0} (at : List (Tag × ℤ)) (mapper glyphs : List ℕ) (steps : ℕ) → option_copied task.at ≡ Some at → mapper ≡ numbering glyphs → steps ≡ task.options.limits.tokens → (r : Result X Refusal) → IfErr r (λ e. (e ≡ OutOfMemory) ⊎ ((IsAtDefault (face_of task bytes) at → ⊥) × HasInstanceFault (face_of task bytes) at mapper steps e))
-      → IfErr r (λ e. (e ≡ OutOfMemory) ⊎ IsUntaken task bytes glyphs e)
-  untaken_by at mapper glyphs steps said m s (Ok x) h = tt
-  untaken_by at mapper glyphs steps said m s (Err e) (inl memory) = inl memory
-  untaken_by at mapper glyphs steps said m s (Err e) (inr f) = inr (unplaced at said f.0 (subst (λ (n : ℕ). HasInstanceFault (face_of task bytes) at (numbering glyphs) n e) s (subst (λ (l : List ℕ). HasInstanceFault (face_of task bytes) at l steps e) m f.1)))
+  pub untaken_by : {X : Type 0} (at : List (Tag × ℤ)) (mapper glyphs : List ℕ) → option_copied task.at ≡ Some at → mapper ≡ numbering glyphs → (r : Result X Refusal)
+      → IfErr r (λ e. (e ≡ OutOfMemory) ⊎ HasStaticFault (face_of task bytes) at mapper task.options.limits.tokens task.options.limits.depth e) → IfErr r (λ e. (e ≡ OutOfMemory) ⊎ IsUntaken task bytes glyphs e)
+  untaken_by at mapper glyphs said m (Ok x) h = tt
+  untaken_by at mapper glyphs said m (Err e) (inl memory) = inl memory
+  untaken_by at mapper glyphs said m (Err e) (inr f) = inr (unplaced at said (subst (λ (l : List ℕ). HasStaticFault (face_of task bytes) at l task.options.limits.tokens task.options.limits.depth e) m f))
 
   -- the glyphs leave no number for glyph 0
   pub unnumbered_at : (glyphs : List ℕ) (why : Refusal) → (why ≡ OutOfMemory) ⊎ ((why ≡ OverflowError) × HasAllAboveZero glyphs) → (why ≡ OutOfMemory) ⊎ IsUntaken task bytes glyphs why

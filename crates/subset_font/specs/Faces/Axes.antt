@@ -1,4 +1,4 @@
--- What is shown of the axes of a face.
+-- What is shown of the outlines and the axes of a face.
 use Rattle.std.specs.Prelude.{◌≡◌, ◌⊎◌, ℕ, Bool, true, false, if◌then◌else◌, List, [], ◌∷◌, Option, Some, None, codes}
 use Rattle.std.specs.Option.{option_map, option_and_then}
 use Rattle.std.specs.Str.{bytes_eq}
@@ -10,25 +10,27 @@ use Rattle.subsetter_variation.specs.Locations.Axes.{axes}
 use Rattle.subsetter_variation.specs.declared.locations.axes.Axis.{Axis}
 use Rattle.subset_lines.specs.Faces.Axes.{instances, text_of}
 use Rattle.subset_lines.specs.Objects.AxesJson.{axes_json}
+use Rattle.subset_lines.specs.declared.faces.outlines.Outlines.{Outlines}
+use Rattle.subset_font.specs.Faces.Outlines.{outlines_of}
 use Rattle.subset_font.specs.Faces.Tables.{bytes_or_none}
 use Rattle.subset_font.specs.declared.refusals.failure.Failure.{Failure}
 use Rattle.subset_font.specs.declared.refusals.failure.Failure.TheVariants.{Error}
 
--- what is shown of `fvar`, where it can be read, with the names of `name`: lines, or one JSON object
-abbrev pub axes_shown : Bool → List Axis → List ℕ → List (List ℕ) → List ℕ
-axes_shown false axes names records = text_of axes names records
-axes_shown true axes names records = axes_json axes names records
+-- what is shown of outlines, and of `fvar`, where it can be read, with the names of `name`: lines, or one JSON object
+abbrev pub axes_shown : Bool → Outlines → Bool → List Axis → List ℕ → List (List ℕ) → List ℕ
+axes_shown false outlines is_variable axes names records = text_of outlines is_variable axes names records
+axes_shown true outlines is_variable axes names records = axes_json outlines is_variable axes names records
 
-abbrev pub text_of_axes : Bool → List ℕ → List ℕ → Option (List ℕ)
-text_of_axes json names fvar = option_and_then (λ a. option_map (axes_shown json a names) (instances fvar)) (axes fvar)
+abbrev pub text_of_axes : Bool → Outlines → List ℕ → List ℕ → Option (List ℕ)
+text_of_axes json outlines names fvar = option_and_then (λ a. option_map (axes_shown json outlines true a names) (instances fvar)) (axes fvar)
 
 -- the text of a face; no axes of one that isn't variable
-abbrev pub axes_text : Bool → List ℕ → Option (List ℕ) → Option (List ℕ)
-axes_text json names None = Some (axes_shown json [] names [])
-axes_text json names (Some fvar) = text_of_axes json names fvar
+abbrev pub axes_text : Bool → Outlines → List ℕ → Option (List ℕ) → Option (List ℕ)
+axes_text json outlines names None = Some (axes_shown json outlines false [] names [])
+axes_text json outlines names (Some fvar) = text_of_axes json outlines names fvar
 
 abbrev pub face_text : Bool → Font → Option (List ℕ)
-face_text json font = axes_text json (bytes_or_none (stored font (codes "name"))) (stored font (codes "fvar"))
+face_text json font = axes_text json (outlines_of font) (bytes_or_none (stored font (codes "name"))) (stored font (codes "fvar"))
 
 -- a face's axes were shown
 pub record IsAxesReport (json : Bool) (font : Font) (old new : Option (List ℕ)) : Type 0 where

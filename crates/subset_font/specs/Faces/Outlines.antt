@@ -1,8 +1,8 @@
 -- What the outlines of a face are.
 use Rattle.std.specs.Prelude.{ℕ, List, Option, Some, None, codes}
 use Rattle.subsetter_sfnt.specs.Read.{Font, stored}
-use Rattle.subset_lines.specs.declared.faces.info.face.Outlines.{Outlines}
-use Rattle.subset_lines.specs.declared.faces.info.face.Outlines.TheVariants.{TrueType, Cff, Cff2, Missing}
+use Rattle.subset_lines.specs.declared.faces.outlines.Outlines.{Outlines}
+use Rattle.subset_lines.specs.declared.faces.outlines.Outlines.TheVariants.{TrueType, Cff, Cff2, Missing}
 
 -- by the tables `CFF ` and `CFF2`
 abbrev pub other_by : Option (List ℕ) → Option (List ℕ) → Outlines

@@ -11,8 +11,7 @@ use Rattle.subsetter_base.specs.Indexes.{HasAllAboveZero}
 use Rattle.subsetter_base.specs.declared.tag.Tag.{Tag}
 use Rattle.subsetter_base.specs.declared.error.Error.{Error as Refusal}
 use Rattle.subsetter_base.specs.declared.error.Error.TheVariants.{OutOfMemory, OverflowError}
-use Rattle.subsetter_instance.specs.Fault.{HasInstanceFault}
-use Rattle.subsetter_variable.specs.DefaultLocation.{IsAtDefault}
+use Rattle.subsetter_variable.specs.DefaultLocation.{HasStaticFault}
 use Rattle.subsetter_variable.specs.Subset.{IsStatic}
 use Rattle.cid_embed.specs.Embed.{numbering, HasEmbedFault, HasEmbedFaultWithin}
 use Rattle.cid_embed.specs.Text.{width_array}
@@ -94,10 +93,10 @@ IsRefusalOfWidths bound tokens depth font glyphs why = (order : List ℕ) × Has
 abbrev pub IsRefused : Task → Font → List ℕ → Refusal → Type 0
 IsRefused task font glyphs why = MatchBool task.widths (IsRefusalOfWidths task.options.limits.bytes task.options.limits.tokens task.options.limits.depth font glyphs why) (IsRefusal task.options.limits.bytes task.options.limits.tokens task.options.limits.depth font glyphs why)
 
--- why no font is taken: at user coordinates the glyphs leave no number for glyph 0, or a fault stands against the instance
+-- why no font is taken: at user coordinates the glyphs leave no number for glyph 0, or a fault stands against the static font
 pub data IsUntaken (task : Task) (bytes glyphs : List ℕ) : Refusal → Type 0 where
   unnumbered : HasAllAboveZero glyphs → IsUntaken task bytes glyphs OverflowError
-  unplaced : {why : Refusal} (at : List (Tag × ℤ)) → option_copied task.at ≡ Some at → ¬ (IsAtDefault (face_of task bytes) at) → HasInstanceFault (face_of task bytes) at (numbering glyphs) task.options.limits.tokens why → IsUntaken task bytes glyphs why
+  unplaced : {why : Refusal} (at : List (Tag × ℤ)) → option_copied task.at ≡ Some at → HasStaticFault (face_of task bytes) at (numbering glyphs) task.options.limits.tokens task.options.limits.depth why → IsUntaken task bytes glyphs why
 
 pub data HasRefusal (task : Task) (bytes glyphs : List ℕ) (why : Refusal) : Type 0 where
   untaken : IsUntaken task bytes glyphs why → HasRefusal task bytes glyphs why

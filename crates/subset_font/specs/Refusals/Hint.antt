@@ -1,5 +1,5 @@
 -- What a second line says of a font that is refused.
-use Rattle.std.specs.Prelude.{ℕ, ◌+◌, ◌-◌, ◌*◌, ◌==◌, nat_le, nat_lt, if◌then◌else◌, Bool, true, false, List, [], ◌∷◌, length, Option, Some, None, codes}
+use Rattle.std.specs.Prelude.{ℕ, ◌+◌, ◌-◌, ◌*◌, ◌==◌, nat_le, nat_lt, if◌then◌else◌, Bool, true, false, List, [], ◌∷◌, length, Option, Some, None, is_some, codes}
 use Rattle.std.specs.Option.{option_and_then, option_map}
 use Rattle.subsetter_base.specs.Bytes.{number}
 use Rattle.subsetter_base.specs.declared.error.Error.{Error as Refusal}
@@ -7,8 +7,8 @@ use Rattle.subsetter_base.specs.declared.error.Error.TheVariants.{UnknownKind, M
 use Rattle.subsetter_base.specs.declared.tag.Tag.{Tag}
 use Rattle.subsetter_sfnt.specs.Extras.{all_extras}
 use Rattle.subsetter_sfnt.specs.Read.{Font, find_record, records, stored}
-use Rattle.subset_lines.specs.declared.faces.info.face.Outlines.{Outlines}
-use Rattle.subset_lines.specs.declared.faces.info.face.Outlines.TheVariants.{TrueType, Cff, Cff2 as HasCff2, Missing}
+use Rattle.subset_lines.specs.declared.faces.outlines.Outlines.{Outlines}
+use Rattle.subset_lines.specs.declared.faces.outlines.Outlines.TheVariants.{TrueType, Cff, Cff2 as HasCff2, Missing}
 use Rattle.subset_font.specs.Making.Requested.{face_glyphs}
 use Rattle.subset_font.specs.Faces.Broken.{or_else, no_font, cut_table, missing_table}
 use Rattle.subset_font.specs.Faces.Outlines.{outlines_of}
@@ -100,12 +100,22 @@ abbrev pub no_outline : Task → List ℕ → Option Hint
 no_outline task bytes = wrong_tables (face_of task bytes) (listed task.requested) (stored (face_of task bytes) (codes "glyf")) (stored (face_of task bytes) (codes "loca")) (stored (face_of task bytes) (codes "head"))
 
 -- outlines of CFF2
-abbrev pub cff2_in : Option (List ℕ) → Option Hint
-cff2_in (Some bytes) = Some Cff2
-cff2_in None = None
+abbrev pub cff2_by : Outlines → Option Hint
+cff2_by TrueType = None
+cff2_by Cff = None
+cff2_by HasCff2 = Some Cff2
+cff2_by Missing = None
 
 abbrev pub is_cff2 : Font → Option Hint
-is_cff2 font = cff2_in (stored font (codes "CFF2"))
+is_cff2 font = cff2_by (outlines_of font)
+
+-- they are taken where coordinates are given, and are refused where none are
+abbrev pub cff2_without : Bool → Font → Option Hint
+cff2_without true font = None
+cff2_without false font = is_cff2 font
+
+abbrev pub no_coordinates : Task → List ℕ → Option Hint
+no_coordinates task bytes = cff2_without (is_some task.at) (face_of task bytes)
 
 -- `hhea` says at byte 34 how many metrics `hmtx` has, of four bytes each (OpenType, "hhea" and "hmtx"): none, or more than are there
 abbrev pub few_metrics_by : ℕ → Option ℕ → Option Hint
@@ -162,7 +172,7 @@ hint_of_unknown font = or_else (no_font font) (cut_or_bare font)
 abbrev pub hint_of_error : Refusal → Task → List ℕ → Option Hint
 hint_of_error UnknownKind task bytes = hint_of_unknown (face_of task bytes)
 hint_of_error MalformedFont task bytes = hint_of_malformed task bytes
-hint_of_error Unimplemented task bytes = is_cff2 (face_of task bytes)
+hint_of_error Unimplemented task bytes = no_coordinates task bytes
 hint_of_error SubsetError task bytes = None
 hint_of_error OverflowError task bytes = wrong_metrics (face_of task bytes)
 hint_of_error CFFError task bytes = None

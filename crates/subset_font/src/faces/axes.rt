@@ -1,6 +1,6 @@
-//! The axes of the font that is read.
+//! The outlines and the axes of the font that is read.
 
-ghost use Rattle.std.specs.Prelude.{◌≡◌, ◌⊎◌, ◌≢◌, IfOk, IfErr, IfSome, OnOk, codes, map, [], Some, None};
+ghost use Rattle.std.specs.Prelude.{◌≡◌, ◌⊎◌, ◌≢◌, IfOk, IfErr, IfSome, OnOk, codes, map, [], Some, None, false};
 ghost use Rattle.subsetter_base.specs.declared.error.Error.TheVariants.{OutOfMemory, MalformedFont};
 ghost use Rattle.subsetter_sfnt.specs.Extras.{all_extras};
 ghost use Rattle.subsetter_sfnt.specs.Read.{stored};
@@ -9,61 +9,66 @@ ghost use Rattle.subset_font.specs.Faces.Tables.{bytes_or_none};
 ghost use Rattle.subset_font.specs.declared.refusals.failure.Failure.TheVariants.{Error as Refused, Read as CannotRead, Output, Usage};
 ghost use Rattle.std.specs.Io.KnownBytes.{Appends};
 
+use crate::faces::outlines::outlines_of;
 use crate::making::carried::read_whole;
 use crate::refusals::failure::Failure;
 use std::alloc::Global;
 use std::io::{Read, Write};
-use subset_lines::{FontAxes, read_axes, write_axes, write_axes_json};
+use subset_lines::{FontAxes, Outlines, read_axes, write_axes, write_axes_json};
 use subsetter::{Error, Tag};
 use subsetter_sfnt::directory::{header_offset, table};
 use subsetter_variation::locations::axes::{Axis, axes};
 
-/// Writes axes, as lines or as JSON.
+/// Writes outlines and axes, as lines or as JSON.
 fn write_shown<L: Write>(
     alloc: Global,
+    outlines: Outlines,
+    is_variable: bool,
     all: &FontAxes<'_>,
     json: bool,
     lines: &mut L,
 ) -> Result<(), Failure>
-    ensures ok { OnOk result (Appends (L.contents lines.old) (L.contents lines.new) (axes_shown json all.now.axes.items all.now.names.now (map (λ bytes. bytes.now) all.now.instances.items))) }
+    ensures ok { OnOk result (Appends (L.contents lines.old) (L.contents lines.new) (axes_shown json outlines is_variable all.now.axes.items all.now.names.now (map (λ bytes. bytes.now) all.now.instances.items))) }
     ensures err { IfErr result (λ e. e ≡ Output) }
 {
     let written = if json {
-        write_axes_json(alloc, all, lines)
+        write_axes_json(alloc, outlines, is_variable, all, lines)
     } else {
-        write_axes(all, lines)
+        write_axes(outlines, is_variable, all, lines)
     };
     written.map_err(|_| Failure::Output)
 }
 
-/// Writes the axes of `fvar`, with the names of `name`.
+/// Writes outlines and the axes of `fvar`, with the names of `name`.
 fn report_fvar<L: Write>(
     alloc: Global,
+    outlines: Outlines,
     fvar: &[u8],
     names: &[u8],
     json: bool,
     lines: &mut L,
 ) -> Result<(), Failure>
-    ensures ok { OnOk result (IfSome (text_of_axes json names.now fvar.now) (λ text. Appends (L.contents lines.old) (L.contents lines.new) text)) }
-    ensures there { OnOk result (text_of_axes json names.now fvar.now ≢ None) }
-    ensures err { IfErr result (λ e. (e ≡ Output) ⊎ ((e ≡ Refused OutOfMemory) ⊎ ((e ≡ Refused MalformedFont) × (text_of_axes json names.now fvar.now ≡ None)))) }
+    ensures ok { OnOk result (IfSome (text_of_axes json outlines names.now fvar.now) (λ text. Appends (L.contents lines.old) (L.contents lines.new) text)) }
+    ensures there { OnOk result (text_of_axes json outlines names.now fvar.now ≢ None) }
+    ensures err { IfErr result (λ e. (e ≡ Output) ⊎ ((e ≡ Refused OutOfMemory) ⊎ ((e ≡ Refused MalformedFont) × (text_of_axes json outlines names.now fvar.now ≡ None)))) }
     ensures kind { IfErr result (λ e. e ≢ Usage) }
 {
     let all = match read_axes(alloc, fvar, names) {
         Ok(all) => all,
         Err(error) => return Err(Failure::Error(error)),
     };
-    write_shown(alloc, &all, json, lines)
+    write_shown(alloc, outlines, true, &all, json, lines)
 }
 
-/// Writes that a face has no axes.
+/// Writes outlines, and that a face has no axes.
 fn report_none<L: Write>(
     alloc: Global,
+    outlines: Outlines,
     names: &[u8],
     json: bool,
     lines: &mut L,
 ) -> Result<(), Failure>
-    ensures ok { OnOk result (Appends (L.contents lines.old) (L.contents lines.new) (axes_shown json [] names.now [])) }
+    ensures ok { OnOk result (Appends (L.contents lines.old) (L.contents lines.new) (axes_shown json outlines false [] names.now [])) }
     ensures err { IfErr result (λ e. e ≡ Output) }
 {
     let none = FontAxes {
@@ -71,7 +76,7 @@ fn report_none<L: Write>(
         instances: Vec::new(alloc),
         names,
     };
-    write_shown(alloc, &none, json, lines)
+    write_shown(alloc, outlines, false, &none, json, lines)
 }
 
 /// The names of a face, no bytes where it has none.
@@ -84,7 +89,7 @@ pub fn names_of(font: &[u8], index: u32) -> &[u8]
     }
 }
 
-/// Writes the axes and named instances of a face, as lines or as one JSON object; none of a face that isn't variable.
+/// Writes the outlines, the axes and the named instances of a face, as lines or as one JSON object; no axes of a face that isn't variable.
 ///
 /// `UnknownKind` where the file has no font at the index, `MalformedFont` where `fvar` is cut; `Output` where the writer fails.
 pub fn report_axes<L: Write>(
@@ -101,9 +106,10 @@ pub fn report_axes<L: Write>(
     if header_offset(font, index).is_none() {
         return Err(Failure::Error(Error::UnknownKind));
     }
+    let outlines = outlines_of(font, index);
     match table(font, index, Tag::new(b"fvar")) {
-        Some(fvar) => report_fvar(alloc, fvar, names_of(font, index), json, lines),
-        None => report_none(alloc, names_of(font, index), json, lines),
+        Some(fvar) => report_fvar(alloc, outlines, fvar, names_of(font, index), json, lines),
+        None => report_none(alloc, outlines, names_of(font, index), json, lines),
     }
 }
 

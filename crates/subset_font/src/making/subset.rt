@@ -129,8 +129,7 @@ fn static_of(
         return Ok(None);
     };
     let mapper = GlyphRemapper::new_from_glyphs(alloc, glyphs)?;
-    let steps = task.options.limits.tokens();
-    static_font(alloc, font, task.index, at, &mapper, steps)
+    static_font(alloc, font, task.index, at, &mapper, &task.options.limits)
 }
 
 /// The subset for the glyphs that were found.

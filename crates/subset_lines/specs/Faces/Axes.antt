@@ -1,11 +1,13 @@
--- The lines that tell the axes of a variable font, and its named instances (OpenType, "fvar").
-use Rattle.std.specs.Prelude.{ℕ, zero, suc, ◌+◌, ◌*◌, ◌==◌, ◌&&◌, nat_lt, nat_le, if◌then◌else◌, List, [], ◌∷◌, ◌++◌, map, drop, Option, Some, None, codes, ℤ}
+-- The lines of the outlines of a font, of its axes, and of its named instances (OpenType, "fvar").
+use Rattle.std.specs.Prelude.{ℕ, zero, suc, ◌+◌, ◌*◌, ◌==◌, ◌&&◌, nat_lt, nat_le, Bool, if◌then◌else◌, List, [], ◌∷◌, ◌++◌, map, drop, Option, Some, None, codes, ℤ}
 use Rattle.std.specs.Int.{w32, cast_signed}
 use Rattle.std.specs.Option.{option_map, option_and_then}
 use Rattle.subsetter_base.specs.Bytes.{range, number}
 use Rattle.subsetter_variation.specs.declared.locations.axes.Axis.{Axis}
 use Rattle.subset_lines.specs.Fixed.{fixed_text}
+use Rattle.subset_lines.specs.Faces.Outlines.{outlines_line}
 use Rattle.subset_lines.specs.Faces.Names.{name_of, behind_instance}
+use Rattle.subset_lines.specs.declared.faces.outlines.Outlines.{Outlines}
 
 -- ---- axes
 
@@ -62,6 +64,6 @@ abbrev pub instance_lines : List Axis → List ℕ → List (List ℕ) → List 
 instance_lines axes names [] = []
 instance_lines axes names (record_bytes ∷ more) = instance_line axes names record_bytes ++ instance_lines axes names more
 
--- a line for each axis, and one for each named instance
-abbrev pub text_of : List Axis → List ℕ → List (List ℕ) → List ℕ
-text_of axes names records = axis_lines axes ++ instance_lines axes names records
+-- a line for the outlines, one for each axis, and one for each named instance
+abbrev pub text_of : Outlines → Bool → List Axis → List ℕ → List (List ℕ) → List ℕ
+text_of outlines is_variable axes names records = outlines_line outlines is_variable ++ axis_lines axes ++ instance_lines axes names records

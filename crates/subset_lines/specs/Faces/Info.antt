@@ -1,12 +1,11 @@
 -- What a face is, as lines and as one JSON object (RFC 8259).
-use Rattle.std.specs.Prelude.{ℕ, ◌/◌, ◌%◌, ◌==◌, not, Bool, true, false, if◌then◌else◌, List, [], ◌∷◌, ◌++◌, map, Option, Some, None, codes, decimal}
+use Rattle.std.specs.Prelude.{ℕ, ◌/◌, ◌%◌, ◌==◌, not, Bool, true, false, List, [], ◌∷◌, ◌++◌, map, Option, Some, None, codes, decimal}
 use Rattle.std.specs.Option.{option_copied}
 use Rattle.subsetter_base.specs.declared.tag.Tag.{Tag}
 use Rattle.subset_lines.specs.Faces.Axes.{shown}
+use Rattle.subset_lines.specs.Faces.Outlines.{outlines_line, outlines_members}
 use Rattle.subset_lines.specs.Objects.Json.{number_or_null}
 use Rattle.subset_lines.specs.Objects.Quoted.{quoted}
-use Rattle.subset_lines.specs.declared.faces.info.face.Outlines.{Outlines}
-use Rattle.subset_lines.specs.declared.faces.info.face.Outlines.TheVariants.{TrueType, Cff, Cff2, Missing}
 use Rattle.subset_lines.specs.declared.faces.info.face.Info.{Info}
 
 -- ---- what its maker permits (OpenType, "OS/2", "fsType")
@@ -33,12 +32,6 @@ abbrev pub permission_words : Option ℕ → List (List ℕ)
 permission_words None = []
 permission_words (Some bits) = words_of_bits bits
 
-abbrev pub outlines_name : Outlines → List ℕ
-outlines_name TrueType = codes "TrueType"
-outlines_name Cff = codes "CFF"
-outlines_name Cff2 = codes "CFF2"
-outlines_name Missing = codes "none"
-
 -- ---- lines
 
 abbrev pub line_behind : List ℕ → List ℕ → List ℕ
@@ -51,12 +44,6 @@ lines_behind front (word ∷ words) = line_behind front word ++ lines_behind fro
 
 abbrev pub permission_lines : List (List ℕ) → List ℕ
 permission_lines words = lines_behind (codes "permission ") words
-
-abbrev pub outlines_end : Bool → List ℕ
-outlines_end is_variable = if is_variable then codes ", variable\n" else codes "\n"
-
-abbrev pub outlines_line : Info → List ℕ
-outlines_line info = codes "outlines " ++ outlines_name info.outlines ++ outlines_end info.is_variable
 
 abbrev pub glyphs_line : Option ℕ → List ℕ
 glyphs_line None = codes "glyphs not given\n"
@@ -84,7 +71,7 @@ table_lines [] = []
 table_lines (t ∷ tables) = table_line t.0 t.1 ++ table_lines tables
 
 abbrev pub head_lines : Info → List (List ℕ) → List ℕ
-head_lines info words = outlines_line info ++ counts_lines info.faces info.bytes ++ glyphs_line info.glyphs ++ permission_lines words ++ refusal_lines (option_copied info.refusal) (option_copied info.reason)
+head_lines info words = outlines_line info.outlines info.is_variable ++ counts_lines info.faces info.bytes ++ glyphs_line info.glyphs ++ permission_lines words ++ refusal_lines (option_copied info.refusal) (option_copied info.reason)
 
 abbrev pub info_lines : Info → List ℕ
 info_lines info = head_lines info (permission_words info.permission) ++ table_lines info.tables.now
@@ -107,12 +94,6 @@ abbrev pub table_objects : List ℕ → List (Tag × ℕ) → List ℕ
 table_objects before [] = []
 table_objects before (t ∷ tables) = (before ++ table_object t.0 t.1) ++ table_objects (codes ",") tables
 
-abbrev pub variable_member : Bool → List ℕ
-variable_member is_variable = if is_variable then codes ",\"variable\":true" else codes ",\"variable\":false"
-
-abbrev pub outlines_members : Info → List ℕ
-outlines_members info = codes "{\"outlines\":" ++ quoted (outlines_name info.outlines) ++ variable_member info.is_variable
-
 abbrev pub counts_members : Info → List ℕ
 counts_members info = codes ",\"faces\":" ++ decimal info.faces ++ codes ",\"bytes\":" ++ decimal info.bytes ++ codes ",\"glyphs\":" ++ number_or_null info.glyphs
 
@@ -123,7 +104,7 @@ abbrev pub tables_member : List (Tag × ℕ) → List ℕ
 tables_member tables = codes ",\"tables\":[" ++ table_objects [] tables ++ codes "]}\n"
 
 abbrev pub info_members : Info → List (List ℕ) → List ℕ
-info_members info words = outlines_members info ++ counts_members info ++ refusal_members info words ++ tables_member info.tables.now
+info_members info words = outlines_members info.outlines info.is_variable ++ counts_members info ++ refusal_members info words ++ tables_member info.tables.now
 
 abbrev pub info_json : Info → List ℕ
 info_json info = info_members info (permission_words info.permission)

@@ -1,12 +1,14 @@
--- The axes of a variable font and its named instances as one JSON object (RFC 8259).
-use Rattle.std.specs.Prelude.{ℕ, ℤ, List, [], ◌∷◌, ◌++◌, map, drop, Option, Some, None, codes}
+-- The outlines of a font, its axes and its named instances as one JSON object (RFC 8259).
+use Rattle.std.specs.Prelude.{ℕ, ℤ, Bool, List, [], ◌∷◌, ◌++◌, map, drop, Option, Some, None, codes}
 use Rattle.subsetter_base.specs.Bytes.{number}
 use Rattle.subsetter_base.specs.declared.tag.Tag.{Tag}
 use Rattle.subsetter_variation.specs.declared.locations.axes.Axis.{Axis}
 use Rattle.subset_lines.specs.Faces.Axes.{shown, coordinate_text}
 use Rattle.subset_lines.specs.Fixed.{fixed_text}
 use Rattle.subset_lines.specs.Faces.Names.{name_of, text_of_units}
+use Rattle.subset_lines.specs.Faces.Outlines.{outlines_members}
 use Rattle.subset_lines.specs.Objects.Quoted.{quoted}
+use Rattle.subset_lines.specs.declared.faces.outlines.Outlines.{Outlines}
 
 abbrev pub tag_open : Tag → List ℕ
 tag_open tag = codes "{\"tag\":" ++ quoted (map shown tag.0)
@@ -52,10 +54,10 @@ instance_objects before axes names [] = []
 instance_objects before axes names (record_bytes ∷ more) = (before ++ instance_object axes names record_bytes) ++ instance_objects (codes ",") axes names more
 
 abbrev pub axes_member : List Axis → List ℕ
-axes_member axes = codes "{\"axes\":[" ++ axis_objects [] axes ++ codes "],"
+axes_member axes = codes ",\"axes\":[" ++ axis_objects [] axes ++ codes "],"
 
 abbrev pub instances_member : List Axis → List ℕ → List (List ℕ) → List ℕ
 instances_member axes names records = codes "\"instances\":[" ++ instance_objects [] axes names records ++ codes "]}\n"
 
-abbrev pub axes_json : List Axis → List ℕ → List (List ℕ) → List ℕ
-axes_json axes names records = axes_member axes ++ instances_member axes names records
+abbrev pub axes_json : Outlines → Bool → List Axis → List ℕ → List (List ℕ) → List ℕ
+axes_json outlines is_variable axes names records = outlines_members outlines is_variable ++ axes_member axes ++ instances_member axes names records

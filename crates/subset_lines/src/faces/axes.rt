@@ -13,6 +13,7 @@ ghost use Rattle.subsetter_base.specs.Bytes.{number};
 
 use crate::entry::Unwritten;
 use crate::faces::names::{string_for, write_behind};
+use crate::faces::outlines::{Outlines, write_outlines};
 use crate::faces::settings::{SettingForm, write_each};
 use crate::fixed::write_fixed;
 use crate::plain::flush;
@@ -234,12 +235,19 @@ fn write_instance_lines<W: Write>(
     Ok(())
 }
 
-/// Writes a line for each axis, as `axis wght 100 400 900` (the tag, the least coordinate, the default and the greatest one),
-/// and one for each named instance, as `instance wght=650,wdth=87.5 Semi Bold`. Then it passes on what the writer keeps back.
+/// Writes a line for the outlines, as `outlines TrueType, variable`; one for each axis, as `axis wght 100 400 900` (the tag, the least
+/// coordinate, the default and the greatest one); and one for each named instance, as `instance wght=650,wdth=87.5 Semi Bold`. Then it
+/// passes on what the writer keeps back.
 #[tactic(auto, using(crate::proofs::Written::both, crate::proofs::Written::flushed))]
-pub fn write_axes<W: Write>(all: &FontAxes<'_>, out: &mut W) -> Result<(), Unwritten>
-    ensures { OnOk result (Appends (W.contents out.old) (W.contents out.new) (text_of all.now.axes.items all.now.names.now (map (λ bytes. bytes.now) all.now.instances.items))) }
+pub fn write_axes<W: Write>(
+    outlines: Outlines,
+    is_variable: bool,
+    all: &FontAxes<'_>,
+    out: &mut W,
+) -> Result<(), Unwritten>
+    ensures { OnOk result (Appends (W.contents out.old) (W.contents out.new) (text_of outlines is_variable all.now.axes.items all.now.names.now (map (λ bytes. bytes.now) all.now.instances.items))) }
 {
+    write_outlines(outlines, is_variable, out)?;
     write_axis_lines(&all.axes, out)?;
     write_instance_lines(&all.axes, all.names, &all.instances, out)?;
     flush(out)

@@ -1,4 +1,4 @@
-//! The axes of a variable font and its named instances as one JSON object (RFC 8259).
+//! The outlines of a font, its axes and its named instances as one JSON object (RFC 8259).
 
 ghost use Rattle.std.specs.Prelude.{◌≡◌, ◌++◌, [], OnOk, IfOk, codes, map, drop};
 ghost use Rattle.std.specs.Io.KnownBytes.{Appends};
@@ -12,6 +12,7 @@ ghost use Rattle.subsetter_base.specs.Bytes.{number};
 use crate::entry::Unwritten;
 use crate::faces::axes::{FontAxes, name_of, tag_bytes};
 use crate::faces::names::write_units;
+use crate::faces::outlines::{Outlines, write_outlines_members};
 use crate::faces::settings::{SettingForm, write_each};
 use crate::fixed::write_labelled;
 use crate::objects::quoted::write_quoted;
@@ -185,12 +186,12 @@ fn write_instances<W: Write>(
     Ok(())
 }
 
-/// Writes the member of the axes, which opens the object.
+/// Writes the member of the axes.
 #[tactic(auto, using(crate::proofs::Written::both))]
 fn write_axes_member<W: Write>(axes: &[Axis], out: &mut W) -> Result<(), Unwritten>
     ensures { OnOk result (Appends (W.contents out.old) (W.contents out.new) (axes_member axes.now)) }
 {
-    write_text(b"{\"axes\":[", out)?;
+    write_text(b",\"axes\":[", out)?;
     write_axis_objects(axes, out)?;
     write_text(b"],", out)
 }
@@ -209,15 +210,18 @@ fn write_instances_member<W: Write>(
     write_text(b"]}\n", out)
 }
 
-/// Writes the axes and the named instances as one JSON object. Then it passes on what the writer keeps back.
+/// Writes the outlines, the axes and the named instances as one JSON object. Then it passes on what the writer keeps back.
 #[tactic(auto, using(crate::proofs::Written::both, crate::proofs::Written::flushed))]
 pub fn write_axes_json<W: Write>(
     alloc: Global,
+    outlines: Outlines,
+    is_variable: bool,
     all: &FontAxes<'_>,
     out: &mut W,
 ) -> Result<(), Unwritten>
-    ensures { OnOk result (Appends (W.contents out.old) (W.contents out.new) (axes_json all.now.axes.items all.now.names.now (map (λ bytes. bytes.now) all.now.instances.items))) }
+    ensures { OnOk result (Appends (W.contents out.old) (W.contents out.new) (axes_json outlines is_variable all.now.axes.items all.now.names.now (map (λ bytes. bytes.now) all.now.instances.items))) }
 {
+    write_outlines_members(outlines, is_variable, out)?;
     write_axes_member(&all.axes, out)?;
     write_instances_member(alloc, all, out)?;
     flush(out)

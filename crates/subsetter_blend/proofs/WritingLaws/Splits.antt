@@ -7,7 +7,7 @@ use Rattle.std.proofs.lemmas.List.Elements.{All-append, All-cons}
 use Rattle.subsetter_base.specs.declared.error.Error.{Error}
 use Rattle.subsetter_cffdata.specs.declared.dicts.operator.Operator.{Operator}
 use Rattle.subsetter_blend.specs.Hint.{is_hint}
-use Rattle.subsetter_blend.specs.Writing.Split.{cut, piece_type, sum_of, moved_by, sum_before, front_of, rest_of, next_cut, pieces}
+use Rattle.subsetter_blend.specs.Writing.Split.{cut, piece_type, sum_of, moved_by, sum_before, front_of, rest_of, next_cut, pieces, split}
 use Rattle.subsetter_blend.specs.Writing.Taking.{Event, Did, and_then, all_taken}
 use Rattle.subsetter_blend.specs.Writing.Written.{width, Fitted, fitted_piece}
 use Rattle.subsetter_blend.proofs.WritingLaws.SplitLaws.Pieces.{is_cut, length_moved, moved_drop, moved_take, split_more, split_last}
@@ -41,6 +41,10 @@ part_more part initial rest new i v h e f g =
 and_none : (o : Result Fitted Error) → and_then o (all_taken fitted_piece []) ≡ o
 and_none (Ok f) = refl
 and_none (Err e) = refl
+
+-- an event of few operands stands as it is
+pub piece_alone : (e : Event) (f : Fitted) → length (width f.pen.advance) + length e.operands ≤ 48 → all_taken fitted_piece (split (length (width f.pen.advance)) e) f ≡ fitted_piece e f
+piece_alone e f h = ap (λ (l : List Event). all_taken fitted_piece l f) (split_last e (length (width f.pen.advance)) (length e.operands) h) ∙ and_none (fitted_piece e f)
 
 module _ (operator : Operator) (mask : List ℕ) (operands : List ℤ) (start len : ℕ) (before next : ℤ) (f : Fitted) where
   abbrev left : ℕ → ℤ → Event

@@ -26,6 +26,7 @@ pub enum Kind {
 }
 
 /// What both kinds of charstrings have: CFF2 has no return and no endchar.
+#[inline(always)]
 pub fn kind_of(effect: Option<Effect>) -> Option<Kind>
     ensures { result ≡ kind_of effect }
 {
@@ -41,6 +42,7 @@ pub fn kind_of(effect: Option<Effect>) -> Option<Kind>
 }
 
 /// What the operator of this byte does.
+#[inline(always)]
 pub fn one_byte_kind(first: u8) -> Option<Kind>
     ensures { result ≡ one_byte_kind first }
 {
@@ -52,6 +54,7 @@ pub fn one_byte_kind(first: u8) -> Option<Kind>
 }
 
 /// The operator of this byte takes so many operands.
+#[inline(always)]
 fn one_byte_accepts(first: u8, count: usize) -> bool
     ensures { result ≡ one_byte_accepts first count }
 {
@@ -90,6 +93,7 @@ fn two_byte_accepts(second: u8, count: usize) -> bool
 }
 
 /// The operator takes so many operands.
+#[inline(always)]
 #[tactic(auto, unfolding(crate::specs::Runs::Kind::accepts))]
 pub fn accepts(operator: Operator, count: usize) -> bool
     ensures { result ≡ accepts operator count }

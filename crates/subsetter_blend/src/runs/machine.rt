@@ -1,7 +1,7 @@
 //! What a token does to the stack, the stems and the data, which event it has, and what runs next (OpenType, "CFF2
 //! CharString Format"; Technical Note 5177, section 4).
 
-ghost use Rattle.std.specs.Prelude.{◌≡◌, ◌<◌, ◌≤◌, ◌^◌, [], false, IfOk, IfErr, unsigned_abs};
+ghost use Rattle.std.specs.Prelude.{◌≡◌, ◌<◌, ◌≤◌, ◌^◌, ◌-ℤ◌, pos, [], false, IfOk, IfErr, unsigned_abs};
 ghost use Rattle.std.specs.Option.{option_copied};
 ghost use Rattle.subsetter_cffdata.specs.Numerals.CharStringNumber.{NumberFits};
 ghost use Rattle.subsetter_type2.specs.Token.{two_byte_token};
@@ -9,7 +9,7 @@ ghost use Rattle.subsetter_blend.specs.Runs.Machine.{subroutine, push, emit, ste
 ghost use Rattle.subsetter_blend.specs.Runs.MachineView.{registers_of, setting_of, Performs, Silently};
 
 use crate::runs::kind::{Kind, accepts, kind_of, one_byte_kind};
-use crate::runs::operands::{MAX_OPERANDS, Operands};
+use crate::runs::operands::{GREATEST_SMALL, MAX_OPERANDS, Operands};
 use crate::runs::parts::{in_parts, natural_in, whole_in};
 use crate::runs::regions::Regions;
 use crate::writing::taking::Takes;
@@ -72,7 +72,19 @@ impl Machine {
         }
     }
 
+    /// Begins anew, where these item variation data count.
+    pub fn start(&mut self, data_index: u16)
+        ensures { registers_of self.new ≡ record { operands = []; stems = 0; mask_len = 0; data_index = data_index; settled = false } }
+    {
+        self.operands.clear();
+        self.stems = 0;
+        self.mask_len = 0;
+        self.data_index = data_index;
+        self.settled = false;
+    }
+
     /// A number is put onto the stack.
+    #[inline(always)]
     fn push<'a>(&mut self, number: CharStringNumber, rest: &'a [u8]) -> Result<Flow<'a>, Error>
         requires { NumberFits number }
         ensures { Silently (push number rest.now (registers_of self.old)) self.new result }
@@ -84,7 +96,18 @@ impl Machine {
         Ok(Flow::GoesOn(rest))
     }
 
+    /// A number of this byte alone is put onto the stack.
+    #[inline(always)]
+    fn push_small<'a>(&mut self, first: u8, rest: &'a [u8]) -> Result<Flow<'a>, Error>
+        requires low { 32 ≤ first }
+        requires high { first < 247 }
+        ensures { Silently (push (CharStringNumber.Integer (pos first -ℤ pos 139)) rest.now (registers_of self.old)) self.new result }
+    {
+        self.push(CharStringNumber::Integer(first as i16 - 139), rest)
+    }
+
     /// An operator that takes all operands, and its mask.
+    #[inline(always)]
     fn emit<'a, S: Takes>(
         &mut self,
         sink: &mut S,
@@ -103,6 +126,7 @@ impl Machine {
     }
 
     /// The stems with those of the operands.
+    #[inline(always)]
     fn stems_after(&self) -> Result<u16, Error>
         ensures ok { IfOk result (λ stems. (stems ≡ stems_after (registers_of self.now)) × (stems ≤ 65535)) }
         ensures err { IfErr result (λ e. (e ≡ Error.CFFError) × (65535 < stems_after (registers_of self.now))) }
@@ -115,6 +139,7 @@ impl Machine {
     }
 
     /// Stems, two operands each.
+    #[inline(always)]
     fn count_stems<'a, S: Takes>(
         &mut self,
         sink: &mut S,
@@ -150,6 +175,7 @@ impl Machine {
     }
 
     /// A call of one of these subroutines.
+    #[inline(always)]
     fn call<'a>(
         &mut self,
         subroutines: &SubroutineHandler<'a>,
@@ -195,6 +221,7 @@ impl Machine {
 
 impl Machine {
     /// An operator of this kind, with what follows it in its charstring.
+    #[inline(always)]
     fn operate<'a, S: Takes, R: Regions>(
         &mut self,
         sink: &mut S,
@@ -219,6 +246,7 @@ impl Machine {
     }
 
     /// An operator of two bytes, the second of them at the front of these.
+    #[inline(always)]
     #[tactic(auto, unfolding(crate::specs::Runs::Kind::operator_kind, subsetter_type2::specs::Token::effect_of))]
     fn operate_by_two<'a, S: Takes, R: Regions>(
         &mut self,
@@ -243,6 +271,7 @@ impl Machine {
     }
 
     /// A number at the front of these bytes.
+    #[inline(always)]
     #[tactic(auto, unfolding(crate::specs::Runs::Machine::push_at))]
     fn push_at<'a>(&mut self, bytes: &'a [u8]) -> Result<Flow<'a>, Error>
         ensures { Silently (push_at bytes.now (registers_of self.old)) self.new result }
@@ -252,7 +281,8 @@ impl Machine {
     }
 
     /// The token at the front of these bytes, by the first byte.
-    #[tactic(auto, unfolding(crate::specs::Runs::Machine::act_at, crate::specs::Runs::Machine::push_at, subsetter_type2::specs::Token::token_of, crate::specs::Runs::Kind::operator_kind))]
+    #[inline(always)]
+    #[tactic(auto, unfolding(crate::specs::Runs::Machine::act_at, crate::specs::Runs::Machine::push_at, subsetter_type2::specs::Token::token_of, subsetter_cffdata::specs::Numerals::CharStringNumber::number_at, crate::specs::Runs::Kind::operator_kind))]
     pub fn act_at<'a, S: Takes, R: Regions>(
         &mut self,
         sink: &mut S,
@@ -266,6 +296,9 @@ impl Machine {
             return Err(Error::CFFError);
         };
         if *first >= first_byte::LEAST_NUMBER {
+            if *first <= GREATEST_SMALL {
+                return self.push_small(*first, rest);
+            }
             return self.push_at(bytes);
         }
         if *first == first_byte::SHORT_INT {

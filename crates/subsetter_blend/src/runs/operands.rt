@@ -1,6 +1,7 @@
 //! The operands on the stack.
 
-ghost use Rattle.std.specs.Prelude.{◌≡◌, ◌≤◌, ◌<◌, ◌^◌, ◌++◌, ◌∷◌, [], Some, All, IfSome, OnOk, IfErr, length, unsigned_abs};
+ghost use Rattle.std.specs.Prelude.{◌≡◌, ◌≤◌, ◌<◌, ◌+◌, ◌^◌, ◌++◌, ◌∷◌, [], Some, All, IfSome, OnOk, IfErr, length, map, take, unsigned_abs};
+ghost use Rattle.subsetter_blend.specs.Runs.Small.{IsSmall, small};
 ghost use Rattle.subsetter_blend.specs.Runs.Blend.{blended, scalars_in};
 ghost use Rattle.subsetter_blend.specs.Runs.Machine.{last_operand, but_last};
 ghost use Rattle.subsetter_blend.specs.Runs.Number.{IsWithin};
@@ -10,9 +11,32 @@ use crate::runs::regions::Regions;
 use crate::runs::sharing::vary_front;
 use std::marker::Model;
 use subsetter_base::error::Error;
+use subsetter_type2::operators::first_byte;
 
 /// How many operands the stack holds (OpenType, "CFF2 CharString Format").
 pub const MAX_OPERANDS: usize = 513;
+
+/// The greatest first byte of a number that has no other.
+pub const GREATEST_SMALL: u8 = 246;
+
+/// The lesser of two counts.
+fn least(one: usize, other: usize) -> usize
+    ensures one { result ≤ one }
+    ensures other { result ≤ other }
+{
+    if one < other { one } else { other }
+}
+
+/// The number of this byte alone, in parts.
+#[inline(always)]
+fn small_in_parts(first: u8) -> i64
+    requires low { 32 ≤ first }
+    requires high { first < 247 }
+    ensures value { result ≡ small first }
+    ensures within { unsigned_abs result ≤ 2 ^ 45 }
+{
+    (i64::from(first) - 139) * 1073741824
+}
 
 /// The numbers that no operator has taken yet, in parts.
 #[derive(Drop)]
@@ -44,6 +68,7 @@ impl Operands {
     }
 
     /// How many operands there are.
+    #[inline(always)]
     pub fn len(&self) -> usize
         ensures len { result ≡ length self.now }
         ensures room { length self.now ≤ 513 }
@@ -52,6 +77,7 @@ impl Operands {
     }
 
     /// The operands, the last one pushed last.
+    #[inline(always)]
     pub fn as_slice(&self) -> &[i64]
         ensures same { result.now ≡ self.now }
         ensures few { length self.now ≤ 513 }
@@ -61,6 +87,7 @@ impl Operands {
     }
 
     /// Puts an operand on the top.
+    #[inline(always)]
     pub fn push(&mut self, operand: i64)
         requires room { length self.old < 513 }
         requires within { unsigned_abs operand ≤ 2 ^ 45 }
@@ -70,7 +97,28 @@ impl Operands {
         self.len += 1;
     }
 
+    /// Puts the numbers of one byte each that are at the front of these bytes on the top, so many at most. It answers how many.
+    #[inline(always)]
+    pub fn push_all_small(&mut self, bytes: &[u8], most: usize) -> usize
+        ensures most { result ≤ most }
+        ensures inside { result ≤ length bytes.now }
+        ensures room { length self.old + result ≤ 513 }
+        ensures small { All IsSmall (take result bytes.now) }
+        ensures pushed { self.new ≡ self.old ++ map small (take result bytes.now) }
+    {
+        let limit = least(bytes.len(), least(most, MAX_OPERANDS - self.len()));
+        for count in 0..limit {
+            let first = bytes[count];
+            if first < first_byte::LEAST_NUMBER || first > GREATEST_SMALL {
+                return count;
+            }
+            self.push(small_in_parts(first));
+        }
+        limit
+    }
+
     /// Takes the operand at the top.
+    #[inline(always)]
     pub fn pop(&mut self) -> Option<i64>
         ensures value { result ≡ last_operand self.old }
         ensures rest { self.new ≡ but_last self.old }
@@ -84,6 +132,7 @@ impl Operands {
     }
 
     /// Takes all operands away.
+    #[inline(always)]
     pub fn clear(&mut self)
         ensures { self.new ≡ [] }
     {

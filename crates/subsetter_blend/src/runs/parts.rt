@@ -5,12 +5,12 @@ ghost use Rattle.subsetter_cffdata.specs.Numerals.CharStringNumber.{NumberFits};
 ghost use Rattle.subsetter_blend.specs.Runs.Number.{in_parts, is_within, whole, whole_in, natural_in};
 
 use subsetter_cffdata::numerals::charstring_number::CharStringNumber;
-use subsetter_variation::rounding::nearest;
 
 /// The parts of a unit.
 pub const UNIT: i64 = 1 << 30;
 
 /// A number in parts.
+#[inline(always)]
 pub fn in_parts(number: CharStringNumber) -> i64
     requires { NumberFits number }
     ensures value { result ≡ in_parts number }
@@ -23,6 +23,7 @@ pub fn in_parts(number: CharStringNumber) -> i64
 }
 
 /// Whether parts are within 32768 units.
+#[inline(always)]
 pub fn is_within(parts: i64) -> bool
     ensures { result ≡ is_within parts }
 {
@@ -30,16 +31,19 @@ pub fn is_within(parts: i64) -> bool
 }
 
 /// The nearest whole number of units, halves up.
-#[tactic(auto, unfolding(crate::specs::Runs::Number::whole))]
+#[inline(always)]
+#[tactic(auto, unfolding(crate::specs::Runs::Number::whole, subsetter_variation::specs::Nearest::nearest))]
 pub fn whole(parts: i64) -> i64
     requires { unsigned_abs parts ≤ 2 ^ 59 }
     ensures value { result ≡ whole parts }
     ensures bound { unsigned_abs result ≤ 2 ^ 29 }
 {
-    nearest(parts, 1073741824)
+    let above = (parts + 1152921505143717888) as u64;
+    (above / 1073741824) as i64 - 1073741824
 }
 
 /// The whole number that parts are, where they are one.
+#[inline(always)]
 #[tactic(auto, unfolding(crate::specs::Runs::Number::whole_in))]
 pub fn whole_in(parts: i64) -> Option<i32>
     requires { unsigned_abs parts ≤ 2 ^ 45 }
@@ -53,6 +57,7 @@ pub fn whole_in(parts: i64) -> Option<i32>
 }
 
 /// The same, where it isn't below 0.
+#[inline(always)]
 #[tactic(auto, unfolding(crate::specs::Runs::Number::natural_in))]
 pub fn natural_in(parts: i64) -> Option<u16>
     requires { unsigned_abs parts ≤ 2 ^ 45 }

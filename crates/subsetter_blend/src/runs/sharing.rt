@@ -18,7 +18,8 @@ fn product(scalar: i64, delta: i64) -> i128
     i128::from(scalar) * i128::from(delta)
 }
 
-/// What a delta counts at a region's scalar.
+/// What a delta counts at a region's scalar. 2^76 parts of 2^30 are added, so that the shift rounds a number above 0, and half a part.
+#[inline(always)]
 #[tactic(auto, unfolding(crate::specs::Runs::Blend::share, subsetter_variation::specs::Nearest::nearest))]
 pub fn share(scalar: i64, delta: i64) -> i64
     requires first { unsigned_abs scalar ≤ 2 ^ 30 }
@@ -26,13 +27,8 @@ pub fn share(scalar: i64, delta: i64) -> i64
     ensures value { result ≡ share scalar delta }
     ensures bound { unsigned_abs result ≤ 2 ^ 46 }
 {
-    let both = product(scalar, delta);
-    let size = both.unsigned_abs();
-    if both < 0 {
-        -(((2 * size + 1073741823) / 2147483648) as i64)
-    } else {
-        ((2 * size + 1073741824) / 2147483648) as i64
-    }
+    let above = (product(scalar, delta) + 75557863725914860290048) as u128;
+    (above / 1073741824) as i64 - 70368744177664
 }
 
 /// A sum that has had few terms.
@@ -46,6 +42,7 @@ pub fn plus(sum: i64, more: i64) -> i64
 }
 
 /// A default with the shares of its deltas, one for each of so many regions.
+#[inline(always)]
 fn vary<R: Regions>(default: i64, regions: &R, data_index: u16, count: usize, deltas: &[i64]) -> i64
     requires few { count ≤ 513 }
     requires regions { count ≡ length (scalars_in (R.scalars regions.now data_index)) }

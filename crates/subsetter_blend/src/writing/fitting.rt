@@ -2,7 +2,8 @@
 
 ghost use Rattle.std.specs.Prelude.{◌≡◌, ◌≤◌, ◌+◌, ◌^◌, ◌++◌, ◌∷◌, [], All, true, None, Some, OnOk, IfOk, IfErr, length, unsigned_abs, if◌then◌else◌};
 ghost use Rattle.subsetter_base.specs.declared.error.Error.TheVariants.{OutOfMemory};
-ghost use Rattle.subsetter_type2.specs.Flat.{flat_event, flat_operands};
+ghost use Rattle.subsetter_type2.specs.Flat.{flat_operands};
+ghost use Rattle.subsetter_cffdata.specs.Views.{operator_of};
 ghost use Rattle.subsetter_cffdata.specs.declared.dicts.operator.OperatorType.{OperatorType};
 ghost use Rattle.subsetter_blend.specs.Writing.Flex.{opened_by};
 ghost use Rattle.subsetter_blend.specs.Hint.{is_hint};
@@ -13,7 +14,7 @@ ghost use Rattle.subsetter_blend.specs.Writing.Taking.{Did, all_taken};
 ghost use Rattle.subsetter_blend.specs.Writing.Written.{width, begins, may_begin, start_point, end_point, fitted_piece, fitted, fitted_start, finished};
 
 use crate::writing::flex::{open_flex1, open_hflex, open_hflex1};
-use crate::writing::placing::{Numbers, Position, place_all};
+use crate::writing::placing::{Position, place_all};
 use crate::writing::splitting::{carried, cut, part_of, piece_operator};
 use crate::writing::taking::Takes;
 use std::alloc::Global;
@@ -23,7 +24,6 @@ use subsetter_cffdata::dicts::operator::{Operator, OperatorType};
 use subsetter_cffdata::numerals::charstring_number::CharStringNumber;
 use subsetter_type2::argstack::MAX_OPERANDS;
 use subsetter_type2::operators::{FLEX, first_byte, second_byte};
-use subsetter_type2::runs::fixed_stack::FixedStack;
 
 /// The bytes so far, where the path has come, and the advance as long as it isn't written.
 #[derive(Drop)]
@@ -45,6 +45,7 @@ impl Model for Fitting {
 }
 
 /// The operator counts stems.
+#[inline(always)]
 fn is_hint(operator: OperatorType) -> bool
     ensures { result ≡ is_hint operator }
 {
@@ -65,6 +66,7 @@ fn is_hint(operator: OperatorType) -> bool
 }
 
 /// A glyph may begin with this operator.
+#[inline(always)]
 fn begins(operator: OperatorType) -> bool
     ensures { result ≡ begins operator }
 {
@@ -88,6 +90,7 @@ fn begins(operator: OperatorType) -> bool
 }
 
 /// The operator may be here.
+#[inline(always)]
 fn may_begin(advance: Option<i16>, operator: OperatorType) -> bool
     ensures { result ≡ may_begin advance operator }
 {
@@ -97,46 +100,31 @@ fn may_begin(advance: Option<i16>, operator: OperatorType) -> bool
     }
 }
 
-/// The advance, where it isn't written yet.
-fn width(advance: Option<i16>) -> Numbers
-    ensures value { result ≡ width advance }
-    ensures few { length result ≤ 1 }
-{
-    let mut numbers = FixedStack::new(CharStringNumber::Integer(0));
-    if let Some(advance) = advance {
-        numbers.push(CharStringNumber::Integer(advance));
-    }
-    numbers
-}
-
-/// Writes numbers behind these bytes.
-fn append_numbers(bytes: &mut Vec<u8>, numbers: &[CharStringNumber]) -> Result<(), Error>
-    ensures ok { OnOk result (bytes.new.items ≡ bytes.old.items ++ flat_operands numbers.now) }
+/// Writes the advance behind these bytes, where it isn't written yet.
+#[inline(always)]
+fn append_width(bytes: &mut Vec<u8>, advance: Option<i16>) -> Result<(), Error>
+    ensures ok { OnOk result (bytes.new.items ≡ bytes.old.items ++ flat_operands (width advance)) }
     ensures err { IfErr result (λ e. e ≡ OutOfMemory) }
 {
-    for number in numbers {
-        number.append(bytes)?;
+    if let Some(advance) = advance {
+        CharStringNumber::Integer(advance).append(bytes)?;
     }
     Ok(())
 }
 
-/// Writes an event behind these bytes.
-fn append_event(
-    bytes: &mut Vec<u8>,
-    numbers: &Numbers,
-    operator: Operator,
-    mask: &[u8],
-) -> Result<(), Error>
-    ensures ok { OnOk result (bytes.new.items ≡ bytes.old.items ++ flat_event (record { operator = operator; operands = numbers.now; mask = mask.now })) }
+/// Writes an operator and its mask behind these bytes.
+#[inline(always)]
+fn append_operator(bytes: &mut Vec<u8>, operator: Operator, mask: &[u8]) -> Result<(), Error>
+    ensures ok { OnOk result (bytes.new.items ≡ bytes.old.items ++ (operator_of operator ++ mask.now)) }
     ensures err { IfErr result (λ e. e ≡ OutOfMemory) }
 {
-    append_numbers(bytes, numbers.as_slice())?;
     bytes.extend_from_slice(operator.as_slice())?;
     bytes.extend_from_slice(mask)?;
     Ok(())
 }
 
 /// The position that an operator begins at.
+#[inline(always)]
 fn start_point(hint: bool, at: Position) -> Position
     requires { IsPosition at }
     ensures value { result ≡ start_point hint at }
@@ -146,6 +134,7 @@ fn start_point(hint: bool, at: Position) -> Position
 }
 
 /// The position behind an operator.
+#[inline(always)]
 fn end_point(hint: bool, old: Position, new: Position) -> Position
     requires old { IsPosition old }
     requires new { IsPosition new }
@@ -156,18 +145,20 @@ fn end_point(hint: bool, old: Position, new: Position) -> Position
 }
 
 impl Fitting {
-    /// Nothing is written yet.
-    pub fn new(alloc: Global, advance: i16) -> Self
-        ensures { result ≡ fitted_start advance }
+    /// Nothing is written yet; there is room for so many bytes.
+    pub fn with_room(alloc: Global, advance: i16, room: usize) -> Result<Self, Error>
+        ensures ok { IfOk result (λ f. f ≡ fitted_start advance) }
+        ensures err { IfErr result (λ e. e ≡ OutOfMemory) }
     {
-        Fitting {
-            bytes: Vec::new(alloc),
+        Ok(Fitting {
+            bytes: Vec::with_capacity(alloc, room)?,
             at: Position { x: 0, y: 0 },
             advance: Some(advance),
-        }
+        })
     }
 
     /// How many numbers are in front of the next operands.
+    #[inline(always)]
     fn front(&self) -> usize
         ensures value { result ≡ length (width self.now.pen.advance) }
         ensures few { result ≤ 1 }
@@ -179,24 +170,30 @@ impl Fitting {
     }
 
     /// An operator that is open already, and has few operands.
+    #[inline(always)]
     fn draw_piece(&mut self, operator: Operator, operands: &[i64], mask: &[u8]) -> Result<(), Error>
         requires few { length (width self.old.pen.advance) + length operands.now ≤ 48 }
         requires small { All (λ v. unsigned_abs v ≤ 2 ^ 59) operands.now }
         ensures did { Did (fitted_piece (record { operator = operator; operands = operands.now; mask = mask.now })) self.old self.new result }
         ensures written { OnOk result (self.new.pen.advance ≡ None) }
     {
-        let mut numbers = width(self.advance);
         let hint = is_hint(operator.0);
         let start = start_point(hint, self.at);
-        let end = place_all(operator, operands, start, &mut numbers).ok_or(Error::OverflowError)?;
-        append_event(&mut self.bytes, &numbers, operator, mask)?;
+        append_width(&mut self.bytes, self.advance)?;
+        let end = place_all(operator, operands, start, &mut self.bytes)?;
+        append_operator(&mut self.bytes, operator, mask)?;
         self.at = end_point(hint, self.at, end);
         self.advance = None;
         Ok(())
     }
 
     /// An operator that is open already, in as many pieces as it takes.
-    fn draw(&mut self, operator: Operator, operands: &[i64], mask: &[u8]) -> Result<(), Error>
+    fn draw_pieces(
+        &mut self,
+        operator: Operator,
+        operands: &[i64],
+        mask: &[u8],
+    ) -> Result<(), Error>
         requires few { length operands.now ≤ 513 }
         requires small { All (λ v. unsigned_abs v ≤ 2 ^ 48) operands.now }
         ensures { Did (λ f. all_taken fitted_piece (split (length (width f.pen.advance)) (record { operator = operator; operands = operands.now; mask = mask.now })) f) self.old self.new result }
@@ -222,6 +219,19 @@ impl Fitting {
         )
     }
 
+    /// An operator that is open already, in as many pieces as it takes: mostly one.
+    #[inline(always)]
+    fn draw(&mut self, operator: Operator, operands: &[i64], mask: &[u8]) -> Result<(), Error>
+        requires few { length operands.now ≤ 513 }
+        requires small { All (λ v. unsigned_abs v ≤ 2 ^ 48) operands.now }
+        ensures { Did (λ f. all_taken fitted_piece (split (length (width f.pen.advance)) (record { operator = operator; operands = operands.now; mask = mask.now })) f) self.old self.new result }
+    {
+        if self.front() + operands.len() <= MAX_OPERANDS {
+            return self.draw_piece(operator, operands, mask);
+        }
+        self.draw_pieces(operator, operands, mask)
+    }
+
     /// A form of flex, by the second byte of its operator.
     fn flex(&mut self, second: u8, operands: &[i64], mask: &[u8]) -> Result<(), Error>
         requires few { length operands.now ≤ 513 }
@@ -242,7 +252,7 @@ impl Fitting {
         ensures err { IfErr result (λ e. e ≡ OutOfMemory) }
     {
         let mut bytes = self.bytes;
-        append_numbers(&mut bytes, width(self.advance).as_slice())?;
+        append_width(&mut bytes, self.advance)?;
         bytes.push(first_byte::ENDCHAR)?;
         Ok(bytes)
     }

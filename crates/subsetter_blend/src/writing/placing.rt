@@ -1,13 +1,15 @@
 //! Exact operands as whole ones.
 
-ghost use Rattle.std.specs.Prelude.{◌≡◌, ◌≤◌, ◌+◌, ◌^◌, All, None, Some, IfSome, MatchOption, length, unsigned_abs};
+ghost use Rattle.std.specs.Prelude.{◌≡◌, ◌≤◌, ◌+◌, ◌^◌, ◌⊎◌, [], All, None, Some, IfSome, IfOk, IfErr, length, unsigned_abs};
+ghost use Rattle.subsetter_base.specs.declared.error.Error.TheVariants.{OutOfMemory, OverflowError};
+ghost use Rattle.subsetter_blend.specs.Writing.Laid.{laid};
 ghost use Rattle.subsetter_blend.specs.Writing.Placed.{IsPosition, position_after, number_of, is_short, step, whole_operand, placed, short};
 
 use crate::axes::{Along, moves_along};
 use crate::runs::parts::{is_within, whole};
+use subsetter_base::error::Error;
 use subsetter_cffdata::dicts::operator::Operator;
 use subsetter_cffdata::numerals::charstring_number::CharStringNumber;
-use subsetter_type2::runs::fixed_stack::FixedStack;
 use subsetter_variation::rounding::minus;
 
 /// An exact position, in parts.
@@ -16,9 +18,6 @@ pub struct Position {
     pub x: i64,
     pub y: i64,
 }
-
-/// The whole operands of an operator, its width among them.
-pub type Numbers = FixedStack<CharStringNumber, 48>;
 
 /// A number of 16 bits.
 fn is_short(value: i64) -> bool
@@ -38,6 +37,7 @@ fn short(value: i64) -> Option<CharStringNumber>
 }
 
 /// From a coordinate to the next one.
+#[inline(always)]
 #[tactic(auto, unfolding(crate::specs::Writing::Placed::step))]
 fn step(old: i64, new: i64) -> Option<CharStringNumber>
     requires old { unsigned_abs old ≤ 2 ^ 45 }
@@ -68,6 +68,7 @@ fn whole_operand(value: i64) -> Option<CharStringNumber>
 }
 
 /// The position after a move.
+#[inline(always)]
 fn position_after(along: Along, by: i64, at: Position) -> Position
     requires at { IsPosition at }
     requires by { unsigned_abs by ≤ 2 ^ 59 }
@@ -89,6 +90,7 @@ fn position_after(along: Along, by: i64, at: Position) -> Position
 }
 
 /// The whole operand of a move.
+#[inline(always)]
 fn number_of(along: Along, by: i64, at: Position, to: Position) -> Option<CharStringNumber>
     requires at { IsPosition at }
     requires by { unsigned_abs by ≤ 2 ^ 59 }
@@ -103,25 +105,31 @@ fn number_of(along: Along, by: i64, at: Position, to: Position) -> Option<CharSt
     }
 }
 
-/// All moves of an operator: the position after them, if all numbers fit. The whole operands are behind those that there are.
+/// All moves of an operator: their whole operands are written behind these bytes, and the position after them is the answer.
+/// `OverflowError` where one doesn't fit.
+#[inline(always)]
 pub fn place_all(
     operator: Operator,
     operands: &[i64],
     start: Position,
-    numbers: &mut Numbers,
-) -> Option<Position>
-    requires room { length numbers.old + length operands.now ≤ 48 }
+    bytes: &mut Vec<u8>,
+) -> Result<Position, Error>
+    requires few { length operands.now ≤ 513 }
     requires start { IsPosition start }
     requires small { All (λ v. unsigned_abs v ≤ 2 ^ 59) operands.now }
-    ensures value { MatchOption result (placed operator (length operands.now) 0 operands.now (record { at = start; numbers = numbers.old }) ≡ None) (λ at. placed operator (length operands.now) 0 operands.now (record { at = start; numbers = numbers.old }) ≡ Some (record { at = at; numbers = numbers.new })) }
-    ensures within { IfSome result IsPosition }
+    ensures ok { IfOk result (λ at. laid bytes.old.items (placed operator (length operands.now) 0 operands.now (record { at = start; numbers = [] })) ≡ Some (record { at = at; bytes = bytes.new.items })) }
+    ensures within { IfOk result IsPosition }
+    ensures err { IfErr result (λ e. (e ≡ OutOfMemory) ⊎ ((e ≡ OverflowError) × (placed operator (length operands.now) 0 operands.now (record { at = start; numbers = [] }) ≡ None))) }
 {
     let mut at = start;
     for i in 0..operands.len() {
         let along = moves_along(operator, operands.len(), i);
         let to = position_after(along, operands[i], at);
-        numbers.push(number_of(along, operands[i], at, to)?);
+        let Some(number) = number_of(along, operands[i], at, to) else {
+            return Err(Error::OverflowError);
+        };
+        number.append(bytes)?;
         at = to;
     }
-    Some(at)
+    Ok(at)
 }

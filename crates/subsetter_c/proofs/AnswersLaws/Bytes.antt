@@ -12,7 +12,9 @@ use Rattle.subsetter.specs.Answer.{IsAnswer, HasNoAnswer, IsTheAnswer}
 use Rattle.subsetter_sfnt.specs.Fault.{HasOpeningFault}
 use Rattle.subsetter.specs.Bound.{IsWithin, HasFaultWithin, HasNoAnswerWithin, in_font}
 use Rattle.subsetter.specs.Fault.{in_opening}
+use Rattle.subsetter.proofs.Headline.{not_memory}
 use Rattle.cid_embed.specs.Embed.{numbering, HasMapperFault, all_asked, unopened}
+use Rattle.subsetter_variable.specs.Subset.{HasOpeningFaultAt}
 use Rattle.subsetter_c.specs.Answers.Handed.{begun_with, IsHandedOver, whole, short, refused, IsAnswered, IsSoundSubset, IsOutOfMemory, IsRefusal, in_numbering, in_subset}
 use Rattle.subsetter_c.specs.Answers.Status.{too_small}
 
@@ -40,8 +42,12 @@ abbrev pub failed : {X : Type 0} → Error → Result X Error
 failed e = Err e
 
 -- want of memory, where no fault stands that is found before memory is taken
-pub wanting : {X : Type 0} (font : Font) (e : Error) → e ≡ OutOfMemory → ((why : Error) → HasOpeningFault font why → failed {X = X} e ≡ Err OutOfMemory → ⊥) → IsOutOfMemory font e
-wanting {X = X} font e memory before = record { is = memory; opens = λ why fault. before why fault (ap (failed {X = X}) memory) }
+pub wanting : {X : Type 0} (HasEarlyFault : Error → Type 0) (e : Error) → e ≡ OutOfMemory → ((why : Error) → HasEarlyFault why → failed {X = X} e ≡ Err OutOfMemory → ⊥) → IsOutOfMemory HasEarlyFault e
+wanting {X = X} HasEarlyFault e memory before = record { is = memory; opens = λ why fault. before why fault (ap (failed {X = X}) memory) }
+
+-- a fault against opening is never want of memory
+pub never_memory : {X : Type 0} (font : Font) (e : Error) → HasOpeningFaultAt font e → (why : Error) → HasOpeningFaultAt font why → failed {X = X} e ≡ Err OutOfMemory → ⊥
+never_memory font e f why g m = not_memory font e f.fault cc
 
 module _ (bound : Option ℕ) (tokens depth : ℕ) (font : Font) (glyphs : List ℕ) where
   -- a subset has fewer than 65536 glyphs
@@ -52,14 +58,14 @@ module _ (bound : Option ℕ) (tokens depth : ℕ) (font : Font) (glyphs : List 
       room_left_for_zero glyphs (omega (arith, a.subset.keeps.few, ap length o.begins, length-append (numbering glyphs) o.others)) all
 
   pub mapper_refused : {X : Type 0} (e : Error) → (e ≡ OutOfMemory) ⊎ HasMapperFault font glyphs e → ((why : Error) → HasOpeningFault font why → failed {X = X} e ≡ Err OutOfMemory → ⊥) → IsRefusal bound tokens depth font glyphs e
-  mapper_refused e (inl memory) before = inl (wanting font e memory before)
+  mapper_refused e (inl memory) before = inl (wanting (HasOpeningFault font) e memory before)
   mapper_refused e (inr (all_asked all)) before = inr (in_numbering all, λ out within a. no_room all out a)
   mapper_refused e (inr (unopened fault)) before = inr (in_subset [] (in_font (in_opening fault)), λ out within a. a.clean e (in_opening fault))
 
   pub subset_refused : (mapper : List ℕ) (r : Result (Vec ℕ Global) Error) → mapper ≡ numbering glyphs → IfErr r (λ e. (e ≡ OutOfMemory) ⊎ ((order : List ℕ) × HasFaultWithin bound tokens depth font mapper order e)) → IfErr r (λ e. (e ≡ OutOfMemory) ⊎ HasNoAnswerWithin bound tokens depth font mapper) → ((why : Error) → HasOpeningFault font why → r ≡ Err OutOfMemory → ⊥) → IfErr r (IsRefusal bound tokens depth font glyphs)
   subset_refused mapper (Ok v) m h none before = h
-  subset_refused mapper (Err e) m (inl memory) none before = inl (wanting font e memory before)
-  subset_refused mapper (Err e) m (inr fault) (inl memory) before = inl (wanting font e memory before)
+  subset_refused mapper (Err e) m (inl memory) none before = inl (wanting (HasOpeningFault font) e memory before)
+  subset_refused mapper (Err e) m (inr fault) (inl memory) before = inl (wanting (HasOpeningFault font) e memory before)
   subset_refused mapper (Err e) m (inr fault) (inr none) before =
       inr (in_subset fault.0 (subst (λ (l : List ℕ). HasFaultWithin bound tokens depth font l fault.0 e) m fault.1), subst (HasNoAnswerWithin bound tokens depth font) m none)
 

@@ -61,8 +61,8 @@ module _ (bound : Option ℕ) (tokens depth : ℕ) (font : Font) (glyphs : List 
 
   pub embedding_refused : (r : Result Embedded Error) → IfErr r (λ why. (why ≡ OutOfMemory) ⊎ ((order : List ℕ) × HasEmbedFaultWithin bound tokens depth font glyphs order why)) → IfErr r (λ why. (why ≡ OutOfMemory) ⊎ HasNoEmbeddingWithin bound tokens depth font glyphs) → ((e : Error) → HasOpeningFault font e → r ≡ Err OutOfMemory → ⊥) → IfErr r (IsEmbeddingRefusal bound tokens depth font glyphs)
   embedding_refused (Ok e) fault none before = fault
-  embedding_refused (Err why) (inl memory) none before = inl (wanting font why memory before)
-  embedding_refused (Err why) (inr fault) (inl memory) before = inl (wanting font why memory before)
+  embedding_refused (Err why) (inl memory) none before = inl (wanting (HasOpeningFault font) why memory before)
+  embedding_refused (Err why) (inr fault) (inl memory) before = inl (wanting (HasOpeningFault font) why memory before)
   embedding_refused (Err why) (inr fault) (inr none) before = inr (fault, none)
 
 -- ---- where no bound is set

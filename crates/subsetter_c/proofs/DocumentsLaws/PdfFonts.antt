@@ -4,11 +4,11 @@ use Rattle.std.specs.Prelude.{IfOk, IfErr, codes}
 use Rattle.subsetter_base.specs.declared.error.Error.{Error}
 use Rattle.subsetter_base.specs.declared.error.Error.TheVariants.{OutOfMemory}
 use Rattle.subsetter_base.specs.declared.tag.Tag.{Tag}
-use Rattle.subsetter_sfnt.specs.Fault.{HasOpeningFault}
 use Rattle.subsetter_sfnt.specs.FontAt.{font_at}
 use Rattle.subsetter_sfnt.specs.declared.extras.Extras.{Extras}
 use Rattle.pdf_source.specs.Chosen.{extras_of}
 use Rattle.subsetter_sfnt.specs.Read.{Font, stored}
+use Rattle.subsetter_variable.specs.Subset.{HasOpeningFaultAt}
 use Rattle.cid_embed_at.proofs.AtPlace.{opening_fault, opening_final}
 use Rattle.pdf_codes.specs.Codes.{Used, glyphs_of}
 use Rattle.pdf_codes.specs.Shown.{has_long_text, uses_of, texts_of}
@@ -35,11 +35,11 @@ uses_there shown given glyphs characters text ends s g t c =
     ap uses_of s ∙ uses_split shown ∙ ap (λ (l : List ℕ). uses_with l (texts_of shown)) g ∙ ap (uses_with glyphs) (t ∙ ap (λ (l : List ℕ). texts_from l 0 ends) c)
 
 module _ (font : Font) (settings : List (Tag × ℤ)) (options : FontOptions) (us : List Used) where
-  unopened_final : (e : Error) → HasOpeningFault font e → HasNoPdfFont font settings options us
+  unopened_final : (e : Error) → HasOpeningFaultAt font e → HasNoPdfFont font settings options us
   unopened_final e fault f is = opening_final options.limits.bytes options.limits.tokens options.limits.depth font settings (glyphs_of us) e fault is.made.new is.made.within is.made.embedded
 
   -- before the call: memory ran out, and the font can be opened, or it can't
-  pub unopened : {X : Type 0} (e : Error) → (e ≡ OutOfMemory) ⊎ HasOpeningFault font e → ((why : Error) → HasOpeningFault font why → failed {X = X} e ≡ Err OutOfMemory → ⊥) → IsFontRefused font settings options us (Subset e)
+  pub unopened : {X : Type 0} (e : Error) → (e ≡ OutOfMemory) ⊎ HasOpeningFaultAt font e → ((why : Error) → HasOpeningFaultAt font why → failed {X = X} e ≡ Err OutOfMemory → ⊥) → IsFontRefused font settings options us (Subset e)
   unopened {X} e (inl memory) before = record {
     why = inl (ap Subset memory);
     unopened = λ fault h. absurd (before fault h (ap (failed {X = X}) memory));
@@ -68,7 +68,7 @@ module _ (font : Font) (settings : List (Tag × ℤ)) (options : FontOptions) (u
     answered (Ok f) ok = there (λ s l. IsPdfFont font s options l f) ok
     answered (Err e) ok = tt
 
-    first : (e : FontError) → IsFoundFirst font options used (Err e) → (fault : Error) → HasOpeningFault font fault → (d : Error) × (e ≡ Subset d) × HasOpeningFault font d
+    first : (e : FontError) → IsFoundFirst font options used (Err e) → (fault : Error) → HasOpeningFaultAt font fault → (d : Error) × (e ≡ Subset d) × HasOpeningFaultAt font d
     first e found fault h = let d = found.unopened fault h in (d.0, same_error e (Subset d.0) d.1, d.2)
 
     forbidden_by : (e : FontError) → IsFoundFirst font options used (Err e) → CanBeOpened font → is_permitted (permission (stored font (codes "OS/2"))) options.rights ≡ false → (e ≡ Subset OutOfMemory) ⊎ (e ≡ NotPermitted (permission (stored font (codes "OS/2"))))
@@ -89,11 +89,11 @@ module _ (font : Font) (settings : List (Tag × ℤ)) (options : FontOptions) (u
     }
 
 -- the same for extras that are those of the options
-pub unopened_at : {X : Type 0} (bytes : List ℕ) (index : ℕ) (settings : List (Tag × ℤ)) (options : FontOptions) (us : List Used) (extras : Extras) → extras ≡ extras_of options → (e : Error) → (e ≡ OutOfMemory) ⊎ HasOpeningFault (font_at bytes index extras) e → ((why : Error) → HasOpeningFault (font_at bytes index extras) why → failed {X = X} e ≡ Err OutOfMemory → ⊥) → IsFontRefused (font_of bytes index options) settings options us (Subset e)
+pub unopened_at : {X : Type 0} (bytes : List ℕ) (index : ℕ) (settings : List (Tag × ℤ)) (options : FontOptions) (us : List Used) (extras : Extras) → extras ≡ extras_of options → (e : Error) → (e ≡ OutOfMemory) ⊎ HasOpeningFaultAt (font_at bytes index extras) e → ((why : Error) → HasOpeningFaultAt (font_at bytes index extras) why → failed {X = X} e ≡ Err OutOfMemory → ⊥) → IsFontRefused (font_of bytes index options) settings options us (Subset e)
 unopened_at {X} bytes index settings options us extras is e err before =
     unopened (font_of bytes index options) settings options us {X = X} e
-    (subst (λ (x : Extras). (e ≡ OutOfMemory) ⊎ HasOpeningFault (font_at bytes index x) e) is err)
-    (subst (λ (x : Extras). (why : Error) → HasOpeningFault (font_at bytes index x) why → failed {X = X} e ≡ Err OutOfMemory → ⊥) is before)
+    (subst (λ (x : Extras). (e ≡ OutOfMemory) ⊎ HasOpeningFaultAt (font_at bytes index x) e) is err)
+    (subst (λ (x : Extras). (why : Error) → HasOpeningFaultAt (font_at bytes index x) why → failed {X = X} e ≡ Err OutOfMemory → ⊥) is before)
 
 -- ---- handing over
 

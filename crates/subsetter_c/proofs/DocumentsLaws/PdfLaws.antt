@@ -18,7 +18,7 @@ use Rattle.pdf_objects.specs.Glyphs.{AreGlyphsOf as AreGlyphsOfFont, advance_by 
 use Rattle.pdf_objects.specs.Values.{AreValuesOf as AreValuesOfFont, IsDescriptorOf as IsDescriptorOfFont, default_column as font_default, w2_text as font_w2}
 use Rattle.pdf_sheet.specs.declared.glyphs.SheetGlyph.{SheetGlyph}
 use Rattle.pdf_source.specs.Chosen.{is_vertical}
-use Rattle.pdf_source.specs.Cff.{cff_values_by}
+use Rattle.pdf_source.specs.Cff.{font_stem}
 use Rattle.pdf_source.specs.Moved.{Location, location_in, movement_of, values_by}
 use Rattle.pdf_source.specs.Source.{tables_of}
 use Rattle.pdf_source.specs.declared.choice.FontOptions.{FontOptions}
@@ -186,7 +186,7 @@ some_cid font settings options us f p =
     omega arith
 
 weight_is : (font : Font) (settings : List (Tag × ℤ)) (options : FontOptions) (us : List Used) (f : PdfFont) → IsPdfFont font settings options us f → weight_of f.descriptor.values.font_weight ≡ f.descriptor.values.font_weight
-weight_is font settings options us f p = rw p.made.values (weight_back (location_in (stored font) settings) (cff_values_by (stored font)).stem (stored font) (stored (as_font p.made.new.font.items)) f.glyph_count options.bounds settings)
+weight_is font settings options us f p = rw p.made.values (weight_back (location_in (stored font) settings) (font_stem (stored font) (stored (as_font p.made.new.font.items))) (stored font) (stored (as_font p.made.new.font.items)) f.glyph_count options.bounds settings)
 
 pub values_are_of_the_font : (font : Font) (settings : List (Tag × ℤ)) (options : FontOptions) (us : List Used) (f : PdfFont) (made : PdfMade) → IsPdfFont font settings options us f → IsLaidOut f made → (v : FontValues) → AreValuesOf made v → AreValuesOfFont f v
 values_are_of_the_font font settings options us f made p laid v h =

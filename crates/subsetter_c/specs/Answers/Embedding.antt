@@ -1,6 +1,7 @@
 -- How a subset with its CIDs and widths is handed to C: in three buffers of the caller, by sizes and a status.
 use Rattle.std.specs.Prelude.{◌≡◌, ◌⊎◌, ◌≤◌, ℕ, List, length, Option}
 use Rattle.subsetter_base.specs.declared.error.Error.{Error}
+use Rattle.subsetter_sfnt.specs.Fault.{HasOpeningFault}
 use Rattle.subsetter_sfnt.specs.Read.{Font}
 use Rattle.cid_embed.specs.Embed.{HasEmbedFaultWithin, IsEmbeddingAnswer, HasNoEmbeddingWithin}
 use Rattle.subsetter.specs.Bound.{IsWithin}
@@ -52,7 +53,7 @@ pub record IsSoundEmbedding (bound : Option ℕ) (tokens depth : ℕ) (font : Fo
 
 -- why nothing is answered: memory ran out, or a fault stands, and then no call answers anything
 abbrev pub IsEmbeddingRefusal : Option ℕ → ℕ → ℕ → Font → List ℕ → Error → Type 0
-IsEmbeddingRefusal bound tokens depth font glyphs why = IsOutOfMemory font why ⊎ (((order : List ℕ) × HasEmbedFaultWithin bound tokens depth font glyphs order why) × HasNoEmbeddingWithin bound tokens depth font glyphs)
+IsEmbeddingRefusal bound tokens depth font glyphs why = IsOutOfMemory (HasOpeningFault font) why ⊎ (((order : List ℕ) × HasEmbedFaultWithin bound tokens depth font glyphs order why) × HasNoEmbeddingWithin bound tokens depth font glyphs)
 
 -- nothing is handed over, for the reason of a status
 pub record AreNoneHanded (why : ℕ) (before after : Buffers) (told : Sizes) (status : ℕ) : Type 0 where

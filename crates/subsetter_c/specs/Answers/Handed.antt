@@ -53,14 +53,14 @@ pub data HasCallFault (bound : Option ℕ) (tokens depth : ℕ) (font : Font) (g
   in_numbering : HasAllAboveZero glyphs → HasCallFault bound tokens depth font glyphs OverflowError
   in_subset : {e : Error} → (order : List ℕ) → HasFaultWithin bound tokens depth font (numbering glyphs) order e → HasCallFault bound tokens depth font glyphs e
 
--- memory ran out, and no fault stands that is found before memory is taken
-pub record IsOutOfMemory (font : Font) (e : Error) : Type 0 where
+-- memory ran out, and none of these faults stands, which are found before memory is taken
+pub record IsOutOfMemory (HasEarlyFault : Error → Type 0) (e : Error) : Type 0 where
   pub is : e ≡ OutOfMemory
-  pub opens : (why : Error) → ¬ (HasOpeningFault font why)
+  pub opens : (why : Error) → ¬ (HasEarlyFault why)
 
 -- why no subset is answered: memory ran out, or a fault stands, and then no call answers one
 abbrev pub IsRefusal : Option ℕ → ℕ → ℕ → Font → List ℕ → Error → Type 0
-IsRefusal bound tokens depth font glyphs e = IsOutOfMemory font e ⊎ (HasCallFault bound tokens depth font glyphs e × HasNoAnswerWithin bound tokens depth font (numbering glyphs))
+IsRefusal bound tokens depth font glyphs e = IsOutOfMemory (HasOpeningFault font) e ⊎ (HasCallFault bound tokens depth font glyphs e × HasNoAnswerWithin bound tokens depth font (numbering glyphs))
 
 -- a subset is handed over
 abbrev pub IsSubsetHanded : Option ℕ → ℕ → ℕ → Font → List ℕ → List ℕ → List ℕ → ℕ → ℕ → Type 0

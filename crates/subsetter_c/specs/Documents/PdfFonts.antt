@@ -4,8 +4,8 @@ use Rattle.std.specs.Global.{Global}
 use Rattle.subsetter_base.specs.declared.error.Error.{Error}
 use Rattle.subsetter_base.specs.declared.error.Error.TheVariants.{OutOfMemory}
 use Rattle.subsetter_base.specs.declared.tag.Tag.{Tag}
-use Rattle.subsetter_sfnt.specs.Fault.{HasOpeningFault}
 use Rattle.subsetter_sfnt.specs.Read.{Font, stored}
+use Rattle.subsetter_variable.specs.Subset.{HasOpeningFaultAt}
 use Rattle.pdf_text.specs.declared.metrics.columns.Column.{Column}
 use Rattle.pdf_text.specs.declared.cmaps.named.NamedCmap.{NamedCmap}
 use Rattle.pdf_text.specs.declared.values.ProgramKind.{ProgramKind}
@@ -149,7 +149,7 @@ pub record IsFontRefused (font : Font) (settings : List (Tag × ℤ)) (options :
   -- memory ran out, or the font or the request has a fault of that name, and then no call answers a font
   pub why : (e ≡ Subset OutOfMemory) ⊎ (((order : List ℕ) × HasFontFault font settings options us order e) × HasNoPdfFont font settings options us)
   -- a font that can't be opened is refused for that, also without memory
-  pub unopened : (fault : Error) → HasOpeningFault font fault → (d : Error) × (e ≡ Subset d) × HasOpeningFault font d
+  pub unopened : (fault : Error) → HasOpeningFaultAt font fault → (d : Error) × (e ≡ Subset d) × HasOpeningFaultAt font d
   -- then one that `fsType` forbids, unless memory ran out
   pub forbidden : CanBeOpened font → is_permitted (permission (stored font (codes "OS/2"))) options.rights ≡ false → (e ≡ Subset OutOfMemory) ⊎ (e ≡ NotPermitted (permission (stored font (codes "OS/2"))))
   -- then one with a text that is too long

@@ -3,8 +3,8 @@
 ghost use Rattle.std.specs.Prelude.{◌≡◌, ◌≢◌, ◌⊎◌, IfOk, IfErr, Ok, Err, map, true, length};
 ghost use Rattle.subsetter_base.specs.declared.error.Error.{Error as SpecError};
 ghost use Rattle.subsetter_base.specs.declared.error.Error.TheVariants.{OutOfMemory};
-ghost use Rattle.subsetter_sfnt.specs.Fault.{HasOpeningFault};
 ghost use Rattle.subsetter_sfnt.specs.FontAt.{font_at};
+ghost use Rattle.subsetter_variable.specs.Subset.{HasOpeningFaultAt};
 ghost use Rattle.pdf_codes.specs.declared.shown.Shown.{Shown as SpecShown};
 ghost use Rattle.pdf_font.specs.PdfFont.{IsPdfFont, font_of};
 ghost use Rattle.pdf_font.specs.declared.error.FontError.TheVariants.{Subset};
@@ -22,8 +22,9 @@ use pdf_font::{
     pdf_font,
 };
 use std::alloc::Global;
-use subsetter::{Error, Extras, Tag, check_opening};
+use subsetter::{Error, Extras, Tag};
 use subsetter_pdf_c::{PdfColumn, PdfMade, PdfNumbers, characters_of, shown_of};
+use subsetter_variable::check_opening_at;
 
 // ---- numbers
 
@@ -284,13 +285,13 @@ fn characters_for(
 ) -> Result<Vec<char>, Error>
     requires { are_scalars text.now ≡ true }
     ensures ok { IfOk result (λ v. v.items ≡ text.now) }
-    ensures err { IfErr result (λ e. (e ≡ OutOfMemory) ⊎ HasOpeningFault (font_at font.now index extras) e) }
-    ensures before_memory { (e : SpecError) → HasOpeningFault (font_at font.now index extras) e → result ≢ Err OutOfMemory }
+    ensures err { IfErr result (λ e. (e ≡ OutOfMemory) ⊎ HasOpeningFaultAt (font_at font.now index extras) e) }
+    ensures before_memory { (e : SpecError) → HasOpeningFaultAt (font_at font.now index extras) e → result ≢ Err OutOfMemory }
 {
     match characters_of(alloc, text) {
         Ok(characters) => Ok(characters),
         Err(error) => {
-            check_opening(font, index, extras)?;
+            check_opening_at(font, index, extras)?;
             Err(error)
         }
     }
@@ -310,13 +311,13 @@ fn shown_for<'a>(
     requires ascending { are_ascending 0 ends.now (length characters.now) ≡ true }
     ensures glyphs { IfOk result (λ shown. map (λ (s : SpecShown). s.glyph) shown.items ≡ glyphs.now) }
     ensures texts { IfOk result (λ shown. texts_of shown.items ≡ texts_from characters.now 0 ends.now) }
-    ensures err { IfErr result (λ e. (e ≡ OutOfMemory) ⊎ HasOpeningFault (font_at font.now index extras) e) }
-    ensures before_memory { (e : SpecError) → HasOpeningFault (font_at font.now index extras) e → result ≢ Err OutOfMemory }
+    ensures err { IfErr result (λ e. (e ≡ OutOfMemory) ⊎ HasOpeningFaultAt (font_at font.now index extras) e) }
+    ensures before_memory { (e : SpecError) → HasOpeningFaultAt (font_at font.now index extras) e → result ≢ Err OutOfMemory }
 {
     match shown_of(alloc, glyphs, characters, ends) {
         Ok(shown) => Ok(shown),
         Err(error) => {
-            check_opening(font, index, extras)?;
+            check_opening_at(font, index, extras)?;
             Err(error)
         }
     }
@@ -334,8 +335,8 @@ fn prepare(
     requires { are_scalars text.now ≡ true }
     ensures settings { IfOk result (λ p. p.settings.items ≡ settings_of coordinates.now) }
     ensures characters { IfOk result (λ p. p.characters.items ≡ text.now) }
-    ensures err { IfErr result (λ e. (e ≡ OutOfMemory) ⊎ HasOpeningFault (font_at font.now index extras) e) }
-    ensures before_memory { (e : SpecError) → HasOpeningFault (font_at font.now index extras) e → result ≢ Err OutOfMemory }
+    ensures err { IfErr result (λ e. (e ≡ OutOfMemory) ⊎ HasOpeningFaultAt (font_at font.now index extras) e) }
+    ensures before_memory { (e : SpecError) → HasOpeningFaultAt (font_at font.now index extras) e → result ≢ Err OutOfMemory }
 {
     let settings = settings_for(alloc, font, index, coordinates, extras)?;
     let characters = characters_for(alloc, font, index, text, extras)?;

@@ -105,7 +105,7 @@ fn size_of_blend(count: usize, regions: usize) -> usize
     requires regions { regions ≤ 65535 }
     ensures { result ≡ count * (regions + 1) }
 {
-    count * (regions + 1)
+    count.saturating_mul(regions + 1)
 }
 
 impl PrivateStack {

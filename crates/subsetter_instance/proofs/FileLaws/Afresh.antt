@@ -29,7 +29,7 @@ use Rattle.subsetter_sfnt.specs.Fields.Head.{format_bytes}
 use Rattle.subsetter_instance.proofs.FileLaws.Head.{head_length, head_front, head_middle, head_box, head_style, head_end, head_format, format_back}
 use Rattle.subsetter_instance.proofs.FileLaws.Laid.{has_room}
 use Rattle.subsetter_instance.proofs.FileLaws.Lines.{lines_long}
-use Rattle.subsetter_instance.proofs.FileLaws.Metrics.{metric_back, pairs_back, hhea_length, hhea_front, hhea_extremes, hhea_middle, hhea_end, count_back}
+use Rattle.subsetter_instance.proofs.FileLaws.Metrics.{metric_back, eight_bytes, pairs_back, hhea_length, hhea_front, hhea_extremes, hhea_middle, hhea_end, count_back}
 use Rattle.subsetter_instance.proofs.FileLaws.Outlines.{room, description_back}
 use Rattle.subsetter_instance.proofs.FileLaws.Steps.{SourceSteps, source_steps, source_by, InstanceSteps}
 
@@ -103,7 +103,7 @@ module _ (font : Font) (settings : List (Tag × ℤ)) (glyphs : List ℕ) (steps
   pub read_back : source_in (stored (as_font made)) 0 ≡ Some afresh
   read_back =
       source_by (stored (as_font made)) (glyf_bytes all) (loca_bytes long (offsets_from 0 all)) new_head (be (format_bytes long)) (maxp_bytes count i.ds) count (hhea_bytes count i.ds hhea) count (hmtx_of all) (back (codes "glyf") refl) (back (codes "loca") refl) head_back (head_format word long i.ds i.head long_head)
-      (back (codes "maxp") refl) (count_back count i.ds few) (back (codes "hhea") refl) (pairs_back count i.ds hhea long_hhea few) (back (codes "hmtx") refl) (back (codes "gvar") refl) (back (codes "HVAR") refl)
+      (back (codes "maxp") refl) (count_back count i.ds few) (back (codes "hhea") refl) (pairs_back count (extreme_bytes i.ds) hhea (eight_bytes i.ds) long_hhea few) (back (codes "hmtx") refl) (back (codes "gvar") refl) (back (codes "HVAR") refl)
       ∙ ap (λ (l : Bool). Some (record { glyf = glyf_bytes all; loca = loca_bytes long (offsets_from 0 all); long = l; count = count; number_of_h_metrics = count; hmtx = hmtx_of all; gvar = None; hvar = None })) (format_back long)
 
   -- ---- glyphs
@@ -153,14 +153,14 @@ module _ (font : Font) (settings : List (Tag × ℤ)) (glyphs : List ℕ) (steps
   new_hhea = hhea_bytes count i.ds hhea
 
   pub keeps_hhea : KeepsHeader find (as_font made) (codes "hhea") 10 36
-  keeps_hhea = record { source = hhea; source_is = refl; copy = new_hhea; copy_is = back (codes "hhea") refl; same_length = hhea_length count i.ds hhea long_hhea; front = hhea_front count i.ds hhea long_hhea; end = hhea_end count i.ds hhea long_hhea }
+  keeps_hhea = record { source = hhea; source_is = refl; copy = new_hhea; copy_is = back (codes "hhea") refl; same_length = hhea_length count (extreme_bytes i.ds) hhea (eight_bytes i.ds) long_hhea; front = hhea_front count (extreme_bytes i.ds) hhea (eight_bytes i.ds) long_hhea; end = hhea_end count (extreme_bytes i.ds) hhea (eight_bytes i.ds) long_hhea }
 
   pub has_extremes : HasBytes (as_font made) (codes "hhea") 10 18 (extreme_bytes i.ds)
-  has_extremes copy c = ap (λ (l : List ℕ). slice_range l 10 18) (just_is copy new_hhea (sym c ∙ back (codes "hhea") refl)) ∙ hhea_extremes count i.ds hhea long_hhea
+  has_extremes copy c = ap (λ (l : List ℕ). slice_range l 10 18) (just_is copy new_hhea (sym c ∙ back (codes "hhea") refl)) ∙ hhea_extremes count (extreme_bytes i.ds) hhea (eight_bytes i.ds) long_hhea
 
   pub keeps_hhea_middle : KeepsBytes find (as_font made) (codes "hhea") 18 34
   keeps_hhea_middle source copy s c =
-      ap (λ (l : List ℕ). slice_range l 18 34) (just_is copy new_hhea (sym c ∙ back (codes "hhea") refl)) ∙ hhea_middle count i.ds hhea long_hhea ∙ ap (λ (l : List ℕ). slice_range l 18 34) (just_is hhea source s)
+      ap (λ (l : List ℕ). slice_range l 18 34) (just_is copy new_hhea (sym c ∙ back (codes "hhea") refl)) ∙ hhea_middle count (extreme_bytes i.ds) hhea (eight_bytes i.ds) long_hhea ∙ ap (λ (l : List ℕ). slice_range l 18 34) (just_is hhea source s)
 
   pub keeps_name : KeepsTable (stored font) (as_font made) (codes "name")
   keeps_name = back (codes "name") refl

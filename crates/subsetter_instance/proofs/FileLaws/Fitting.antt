@@ -86,7 +86,8 @@ small_advance v n h = by (int_le v (pos 0)) (nat_lt (unsigned_abs v) (2 ^ 16)) r
     by false true e k = omega (arith, ltb-true (unsigned_abs v) (2 ^ 16) e, done_is (unsigned_abs v) n k)
     by false false e k = absurd cc
 
-small_width : (hvar : Option (List ℕ)) (at : List ℤ) (g before : ℕ) (width : ℤ) (n : ℕ) → advance hvar at g before width ≡ Ok n → n < 2 ^ 16
+-- an advance that HVAR varies has 16 bits
+pub small_width : (hvar : Option (List ℕ)) (at : List ℤ) (g before : ℕ) (width : ℤ) (n : ℕ) → advance hvar at g before width ≡ Ok n → n < 2 ^ 16
 small_width None at g before width n h = small_advance (whole width) n h
 small_width (Some hvar) at g before width n h =
     let d = bind_ok (whole_or_fault (advance_delta hvar at g)) (λ d. advance_or_fault (pos before +ℤ d)) n h in

@@ -8,13 +8,14 @@ use Rattle.std.proofs.lemmas.List.{length-append, length-map, length-take, lengt
 use Rattle.subsetter_base.specs.Bytes.{number}
 use Rattle.subsetter_base.proofs.ByteLemmas.{be-u16, number_at}
 use Rattle.subsetter_sfnt.specs.declared.fields.hmtx.LongHorMetric.{LongHorMetric}
+use Rattle.subsetter_sfnt.specs.Fields.Hhea.{hhea_with}
 use Rattle.subsetter_sfnt.specs.Fields.Hmtx.{metric_at, metric_in, metric_bytes}
 use Rattle.subsetter_sfnt.proofs.Laws.FieldsLaws.HmtxLaws.{IsSmall, metric_in_pairs, all_pairs}
 use Rattle.subsetter_instance.specs.Source.{Source, metric}
 use Rattle.subsetter_instance.specs.declared.tables.extremes.Extents.{Extents}
 use Rattle.subsetter_instance.specs.Glyphs.Drawn.{Drawn}
 use Rattle.subsetter_instance.specs.Tables.Extremes.{all_extents, widest, side_bytes, extreme_bytes}
-use Rattle.subsetter_instance.specs.Tables.Written.{drawn_metric, hmtx_of, hhea_bytes, most_points, most_contours, maxp_bytes}
+use Rattle.subsetter_instance.specs.Tables.Written.{drawn_metric, hmtx_of, most_points, most_contours, maxp_bytes}
 use Rattle.subsetter_instance.proofs.FileLaws.Head.{slice_at}
 
 -- ---- hmtx
@@ -58,10 +59,11 @@ pub eight_bytes : (ds : List Drawn) → length (extreme_bytes ds) ≡ 8
 eight_bytes ds = omega (arith, length-append (to_be_bytes w16 (widest ds)) (side_bytes (all_extents ds)), six_bytes (all_extents ds))
 
 -- what stands before numberOfHMetrics
-abbrev front_bytes : List Drawn → List ℕ → List ℕ
-front_bytes ds hhea = take 10 hhea ++ extreme_bytes ds ++ slice_range hhea 18 34
+abbrev front_bytes : List ℕ → List ℕ → List ℕ
+front_bytes extremes hhea = take 10 hhea ++ extremes ++ slice_range hhea 18 34
 
-module _ (n : ℕ) (ds : List Drawn) (hhea : List ℕ) (long : 36 ≤ length hhea) where
+-- with extremes of whatever glyphs
+module _ (n : ℕ) (extremes hhea : List ℕ) (eight : length extremes ≡ 8) (long : 36 ≤ length hhea) where
   abbrev front : List ℕ
   front = take 10 hhea
 
@@ -77,33 +79,33 @@ module _ (n : ℕ) (ds : List Drawn) (hhea : List ℕ) (long : 36 ≤ length hhe
   length-middle : length middle ≡ 16
   length-middle = omega (arith, length-take 16 (drop 18 hhea), length-drop 18 hhea)
 
-  length-before : length (front_bytes ds hhea) ≡ 34
-  length-before = omega (arith, length-append (front ++ extreme_bytes ds) middle, length-append front (extreme_bytes ds), length-front, eight_bytes ds, length-middle)
+  length-before : length (front_bytes extremes hhea) ≡ 34
+  length-before = omega (arith, length-append (front ++ extremes) middle, length-append front extremes, length-front, eight, length-middle)
 
-  whole : hhea_bytes n ds hhea ≡ front_bytes ds hhea ++ behind
-  whole = append_assoc (front_bytes ds hhea) (to_be_bytes w16 n) (drop 36 hhea)
+  whole : hhea_with extremes n hhea ≡ front_bytes extremes hhea ++ behind
+  whole = append_assoc (front_bytes extremes hhea) (to_be_bytes w16 n) (drop 36 hhea)
 
-  in_parts : hhea_bytes n ds hhea ≡ front ++ (extreme_bytes ds ++ (middle ++ behind))
-  in_parts = whole ∙ append_assoc (front ++ extreme_bytes ds) middle behind ∙ append_assoc front (extreme_bytes ds) (middle ++ behind)
+  pub hhea_parts : hhea_with extremes n hhea ≡ front ++ (extremes ++ (middle ++ behind))
+  hhea_parts = whole ∙ append_assoc (front ++ extremes) middle behind ∙ append_assoc front extremes (middle ++ behind)
 
-  pub pairs_back : n < 2 ^ 16 → number (hhea_bytes n ds hhea) 34 2 ≡ Some n
-  pairs_back small = number_at (hhea_bytes n ds hhea) (front_bytes ds hhea) (to_be_bytes w16 n) (drop 36 hhea) 34 2 n whole (sym length-before) refl (be-u16 n small)
+  pub pairs_back : n < 2 ^ 16 → number (hhea_with extremes n hhea) 34 2 ≡ Some n
+  pairs_back small = number_at (hhea_with extremes n hhea) (front_bytes extremes hhea) (to_be_bytes w16 n) (drop 36 hhea) 34 2 n whole (sym length-before) refl (be-u16 n small)
 
-  pub hhea_length : length (hhea_bytes n ds hhea) ≡ length hhea
-  hhea_length = omega (arith, length-append (front_bytes ds hhea ++ to_be_bytes w16 n) (drop 36 hhea), length-append (front_bytes ds hhea) (to_be_bytes w16 n), length-before, length-drop 36 hhea)
+  pub hhea_length : length (hhea_with extremes n hhea) ≡ length hhea
+  hhea_length = omega (arith, length-append (front_bytes extremes hhea ++ to_be_bytes w16 n) (drop 36 hhea), length-append (front_bytes extremes hhea) (to_be_bytes w16 n), length-before, length-drop 36 hhea)
 
-  pub hhea_front : take 10 (hhea_bytes n ds hhea) ≡ take 10 hhea
-  hhea_front = ap (take 10) in_parts ∙ take_at front (extreme_bytes ds ++ (middle ++ behind)) 10 length-front
+  pub hhea_front : take 10 (hhea_with extremes n hhea) ≡ take 10 hhea
+  hhea_front = ap (take 10) hhea_parts ∙ take_at front (extremes ++ (middle ++ behind)) 10 length-front
 
-  pub hhea_extremes : slice_range (hhea_bytes n ds hhea) 10 18 ≡ extreme_bytes ds
-  hhea_extremes = slice_at _ front (extreme_bytes ds) (middle ++ behind) 10 8 in_parts length-front (eight_bytes ds)
+  pub hhea_extremes : slice_range (hhea_with extremes n hhea) 10 18 ≡ extremes
+  hhea_extremes = slice_at _ front extremes (middle ++ behind) 10 8 hhea_parts length-front eight
 
-  pub hhea_middle : slice_range (hhea_bytes n ds hhea) 18 34 ≡ slice_range hhea 18 34
+  pub hhea_middle : slice_range (hhea_with extremes n hhea) 18 34 ≡ slice_range hhea 18 34
   hhea_middle =
-      slice_at _ (front ++ extreme_bytes ds) middle behind 18 16 (in_parts ∙ sym (append_assoc front (extreme_bytes ds) (middle ++ behind))) (omega (arith, length-append front (extreme_bytes ds), length-front, eight_bytes ds)) length-middle
+      slice_at _ (front ++ extremes) middle behind 18 16 (hhea_parts ∙ sym (append_assoc front extremes (middle ++ behind))) (omega (arith, length-append front extremes, length-front, eight)) length-middle
 
-  pub hhea_end : drop 36 (hhea_bytes n ds hhea) ≡ drop 36 hhea
-  hhea_end = drop_at (front_bytes ds hhea ++ to_be_bytes w16 n) (drop 36 hhea) 36 (omega (arith, length-append (front_bytes ds hhea) (to_be_bytes w16 n), length-before))
+  pub hhea_end : drop 36 (hhea_with extremes n hhea) ≡ drop 36 hhea
+  hhea_end = drop_at (front_bytes extremes hhea ++ to_be_bytes w16 n) (drop 36 hhea) 36 (omega (arith, length-append (front_bytes extremes hhea) (to_be_bytes w16 n), length-before))
 
 -- ---- maxp
 

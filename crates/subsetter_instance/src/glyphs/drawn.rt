@@ -143,7 +143,7 @@ fn advance_or_fault(width: i128) -> Result<u16, Error>
 }
 
 /// The advance by `HVAR`, or by the width between the phantom points where there is none.
-fn advance(
+pub fn advance(
     hvar: Option<&[u8]>,
     at: &[i32],
     glyph: u16,

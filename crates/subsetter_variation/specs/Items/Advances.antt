@@ -1,4 +1,5 @@
--- The advances of `HVAR`, and the maps that lead from a glyph to its item (OpenType, "HVAR" and "Associating Target Items to Variation Data").
+-- The advances of `HVAR`, the vertical origins of `VVAR`, and the maps that lead from a glyph to its item (OpenType, "HVAR", "VVAR" and
+-- "Associating Target Items to Variation Data").
 use Rattle.std.specs.Prelude.{ℕ, ◌+◌, ◌-◌, ◌*◌, ◌/◌, ◌%◌, ◌^◌, ◌==◌, List, length, map, Option, Some, None, nat_lt, if◌then◌else◌, ℤ}
 use Rattle.std.specs.Option.{option_map}
 use Rattle.subsetter_base.specs.Bytes.{number, from_offset}
@@ -46,4 +47,18 @@ unfoldable pub advance_delta : List ℕ → List ℤ → ℕ → Option ℤ
 advance_delta hvar at g = do
   s ← store_of hvar (length at)
   index ← advance_index hvar g
+  item_delta s at index.0 index.1
+
+-- the outer and the inner index of a glyph's vertical origin, by vOrgMapping of `VVAR`; without the map there are none
+unfoldable pub origin_index : List ℕ → ℕ → Option (ℕ × ℕ)
+origin_index vvar g = do
+  at ← nullable_offset vvar 20
+  map ← from_offset vvar at
+  mapped_index map g
+
+-- what the y of a glyph's vertical origin in `VORG` varies by at a place, in parts of 2^30
+unfoldable pub origin_delta : List ℕ → List ℤ → ℕ → Option ℤ
+origin_delta vvar at g = do
+  s ← store_of vvar (length at)
+  index ← origin_index vvar g
   item_delta s at index.0 index.1

@@ -1,14 +1,14 @@
-//! The advances of `HVAR`, and the maps that lead from a glyph to its item (OpenType, "HVAR" and "Associating Target Items
-//! to Variation Data").
+//! The advances of `HVAR`, the vertical origins of `VVAR`, and the maps that lead from a glyph to its item (OpenType,
+//! "HVAR", "VVAR" and "Associating Target Items to Variation Data").
 //!
-//! A map of indexes without entries has no reading (FreeType and HarfBuzz take 0 there). The version of `HVAR` isn't
-//! looked at.
+//! A map of indexes without entries has no reading (FreeType and HarfBuzz take 0 there). The version of `HVAR` and `VVAR`
+//! isn't looked at. Both tables have the store and the map of advances at the same offsets.
 
 ghost use Rattle.std.specs.Prelude.{[], ◌≡◌, ◌+◌, ◌*◌, ◌<◌, ◌≤◌, ◌^◌, Some, IfSome};
 ghost use Rattle.std.specs.Option.{ok_or};
 ghost use Rattle.subsetter_base.specs.declared.error.Error.TheVariants.{MalformedFont};
 ghost use Rattle.subsetter_variation.specs.Items.ItemVariations.{nullable_offset, item_store, item_delta, in_whole_units, whole_or_fault};
-ghost use Rattle.subsetter_variation.specs.Items.Advances.{map_head, split_index, mapped_index, advance_index, store_of, advance_delta, entry_index};
+ghost use Rattle.subsetter_variation.specs.Items.Advances.{map_head, split_index, mapped_index, advance_index, store_of, advance_delta, entry_index, origin_index, origin_delta};
 
 use crate::items::item_variations::{
     Store, in_whole_units, item_delta, item_store, nullable_offset,
@@ -21,6 +21,8 @@ use subsetter_base::read::{Reader, from_offset};
 const ITEM_VARIATION_STORE_OFFSET: usize = 4;
 /// advanceWidthMappingOffset of `HVAR`, four bytes.
 const ADVANCE_WIDTH_MAPPING_OFFSET: usize = 8;
+/// vOrgMappingOffset of `VVAR`, four bytes.
+const V_ORG_MAPPING_OFFSET: usize = 20;
 
 /// entryFormat of a map, one byte, behind format.
 const ENTRY_FORMAT: usize = 1;
@@ -125,4 +127,31 @@ pub fn advance_delta(hvar: &[u8], at: &[i32], glyph: u16) -> Result<i64, Error>
     ensures { result ≡ whole_or_fault (advance_delta hvar.now at.now glyph) }
 {
     in_whole_units(varied_advance(hvar, at, glyph).ok_or(Error::MalformedFont)?)
+}
+
+/// The indexes of a glyph's vertical origin: without a map there are none.
+#[tactic(auto, unfolding(crate::specs::Items::Advances::origin_index))]
+fn origin_index(vvar: &[u8], glyph: u16) -> Option<(u32, u32)>
+    ensures { result ≡ origin_index vvar.now glyph }
+{
+    let at = nullable_offset(vvar, V_ORG_MAPPING_OFFSET)?;
+    mapped_index(from_offset(vvar, at as usize)?, glyph)
+}
+
+/// What the y of a glyph's vertical origin varies by at a place, in parts of 2^30.
+#[tactic(auto, unfolding(crate::specs::Items::Advances::origin_delta))]
+fn varied_origin(vvar: &[u8], at: &[i32], glyph: u16) -> Option<i128>
+    ensures { result ≡ origin_delta vvar.now at.now glyph }
+{
+    let s = store_of(vvar, at.len())?;
+    let (outer, inner) = origin_index(vvar, glyph)?;
+    item_delta(&s, at, outer, inner)
+}
+
+/// What the y of a glyph's vertical origin in `VORG` varies by at a location, in whole units. A table that is cut, or has no
+/// map of origins or no item for the glyph, is `MalformedFont`, 2^32 units or more `OverflowError`.
+pub fn origin_delta(vvar: &[u8], at: &[i32], glyph: u16) -> Result<i64, Error>
+    ensures { result ≡ whole_or_fault (origin_delta vvar.now at.now glyph) }
+{
+    in_whole_units(varied_origin(vvar, at, glyph).ok_or(Error::MalformedFont)?)
 }

@@ -267,8 +267,9 @@ pub fn data_regions<'a>(s: &Store<'a>, outer: u32) -> Option<&'a [u8]>
     ensures data_count { IfSome result (λ _. outer < 65536) }
 {
     let at = data_offset(s, outer)? as usize;
-    let count = Reader::new_at(s.bytes, at + REGION_INDEX_COUNT).read::<u16>()?;
-    Reader::new_at(s.bytes, at + REGION_INDEXES).read_bytes(count as usize * REGION_INDEX_SIZE)
+    let count = Reader::new_at(s.bytes, at.saturating_add(REGION_INDEX_COUNT)).read::<u16>()?;
+    let indexes = at.saturating_add(REGION_INDEXES);
+    Reader::new_at(s.bytes, indexes).read_bytes(count as usize * REGION_INDEX_SIZE)
 }
 
 /// A delta that is a word.

@@ -2,9 +2,29 @@
 //! Embedding a font at user coordinates.
 
 use crate::proved::cid_embed::{embed_with_options, mapper_for, Embedded};
-use crate::proved::subsetter::{Error, Options, Tag};
-use crate::proved::subsetter_variable::static_font;
+use crate::proved::subsetter::{Error, Extras, GlyphRemapper, Options, Tag};
+use crate::proved::subsetter_variable::{is_cff2_font, static_font};
 use crate::rattle::alloc::Global;
+
+/// The mapper of glyph 0 and the given glyphs of a font, as `mapper_for` of `cid_embed` makes it, where outlines of `CFF2` are taken.
+///
+/// # Errors
+///
+/// - `OverflowError`: all glyphs above 0 are given, which leaves no number for glyph 0.
+/// - `OutOfMemory`: a request for memory was refused. For a font that can't be opened it is what `check_opening` answers, unless its
+///   outlines are those of `CFF2`.
+pub fn mapper_at(
+    alloc: Global,
+    data: &[u8],
+    index: u32,
+    glyphs: &[u16],
+    extras: Extras,
+) -> Result<GlyphRemapper, Error> {
+    if is_cff2_font(data, index) {
+        return GlyphRemapper::new_from_glyphs(alloc, glyphs);
+    }
+    mapper_for(alloc, data, index, glyphs, extras)
+}
 
 /// As `embed_with_variations`, with the limits and the extras of `embed_with_options`. In an instance each glyph may take
 /// `limits.tokens()` steps.
@@ -21,9 +41,8 @@ pub fn embed_with_variations_and_options(
     glyphs: &[u16],
     options: &Options,
 ) -> Result<Embedded, Error> {
-    let mapper = mapper_for(alloc, data, index, glyphs, options.extras)?;
-    let steps = options.limits.tokens();
-    let made = static_font(alloc, data, index, coordinates, &mapper, steps)?;
+    let mapper = mapper_at(alloc, data, index, glyphs, options.extras)?;
+    let made = static_font(alloc, data, index, coordinates, &mapper, &options.limits)?;
     match made {
         None => embed_with_options(alloc, data, index, glyphs, options),
         Some(file) => embed_with_options(alloc, &file, 0, glyphs, options),

@@ -3,7 +3,7 @@
 
 use crate::rattle::prelude::String;
 
-use crate::proved::late_file::temporary::make_beside;
+use crate::proved::late_file::temporary::{make_beside, replace};
 use crate::rattle::alloc::Global;
 use crate::rattle::fs::{OpenFile, OpenOptions};
 use crate::rattle::io::{ErrorKind, Write};
@@ -86,7 +86,7 @@ impl<'a, R: Files> LateFile<'a, R> {
     /// Gives the file its name.
     fn take_name(&mut self) -> io::Result<()> {
         match &self.beside {
-            Some(other) => fs::rename(self.rt, other.as_str(), self.name)?,
+            Some(other) => replace(self.rt, self.alloc, other.as_str(), self.name)?,
             None => return Ok(()),
         }
         self.beside = None;

@@ -7,15 +7,16 @@ use crate::proved::pdf_font::error::FontError;
 use crate::proved::pdf_font::font::{filled, PdfFont};
 use crate::proved::pdf_source::{new_font, FontOptions};
 use crate::proved::pdf_values::{is_permitted, permission_of, Permission};
-use crate::proved::subsetter::{check_opening, Extras, Options, Tag};
+use crate::proved::subsetter::{Extras, Options, Tag};
 use crate::proved::subsetter_base::Error;
 use crate::proved::subsetter_sfnt::face::Face;
 use crate::proved::subsetter_sfnt::parse::parse;
+use crate::proved::subsetter_variable::check_opening_at;
 use crate::rattle::alloc::Global;
 
 /// The face of a font that can be opened.
 fn opened_face(data: &[u8], index: u32, extras: Extras) -> Result<Face<'_>, Error> {
-    check_opening(data, index, extras)?;
+    check_opening_at(data, index, extras)?;
     parse(data, index, extras)
 }
 

@@ -2,7 +2,7 @@
 //! Vertical metrics of a glyph (OpenType, "vhea", "vmtx"), as a PDF has them (ISO 32000-1, 9.7.4.3).
 
 use crate::proved::pdf_glyphs::boxes::{glyph_box, OutlineTables};
-use crate::proved::pdf_glyphs::heights::{varied_height, HeightVariation};
+use crate::proved::pdf_glyphs::heights::{varied_height, varied_origin, HeightVariation};
 use crate::proved::pdf_glyphs::origins::default_origin;
 use crate::proved::pdf_text::Column;
 use crate::proved::pdf_values::{thousandths, units_per_em};
@@ -82,15 +82,39 @@ fn origin_of_box(tables: VerticalTables<'_>, glyph: u16) -> Option<i32> {
     Some(i32::from(box_top(tables.outlines, glyph)) + i32::from(bearing))
 }
 
-/// The y of the origin: of TrueType outlines by box and bearing, else by VORG.
-fn origin_y(tables: VerticalTables<'_>, glyph: u16, recorded: Option<i16>) -> Option<i32> {
+/// The y of the origin that VORG has: its record's, else the default one.
+fn vorg_y(tables: VerticalTables<'_>, _glyph: u16, recorded: Option<i16>) -> Option<i16> {
+    match recorded {
+        Some(y) => Some(y),
+        None => default_origin(tables.vorg),
+    }
+}
+
+/// The same with what it varies by, if it does.
+fn vorg_y_at(
+    tables: VerticalTables<'_>,
+    variation: Option<HeightVariation<'_>>,
+    glyph: u16,
+    recorded: Option<i16>,
+) -> Option<i16> {
+    let y = vorg_y(tables, glyph, recorded)?;
+    match variation {
+        None => Some(y),
+        Some(variation) => Some(varied_origin(variation, glyph, y)),
+    }
+}
+
+/// The y of the origin: of TrueType outlines by box and bearing, else by VORG with what it varies by.
+fn origin_y_at(
+    tables: VerticalTables<'_>,
+    variation: Option<HeightVariation<'_>>,
+    glyph: u16,
+    recorded: Option<i16>,
+) -> Option<i32> {
     if tables.outlines.glyf.is_some() {
         return origin_of_box(tables, glyph);
     }
-    match recorded {
-        Some(y) => Some(i32::from(y)),
-        None => Some(i32::from(default_origin(tables.vorg)?)),
-    }
+    Some(i32::from(vorg_y_at(tables, variation, glyph, recorded)?))
 }
 
 /// Half of a width.
@@ -111,7 +135,7 @@ fn scaled_y(y: Option<i32>, units: u16) -> i32 {
     }
 }
 
-/// The column of a glyph with a width, of which VORG has this y. Its advance varies, its origin is that of the default.
+/// The column of a glyph with a width, of which VORG has this y. Its advance and an origin by VORG vary.
 pub fn metric_at(
     tables: VerticalTables<'_>,
     variation: Option<HeightVariation<'_>>,
@@ -133,6 +157,6 @@ pub fn metric_at(
     Column {
         advance: downwards(advance, units),
         x: half(width),
-        y: scaled_y(origin_y(tables, glyph, recorded), units),
+        y: scaled_y(origin_y_at(tables, variation, glyph, recorded), units),
     }
 }

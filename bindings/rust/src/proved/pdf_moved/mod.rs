@@ -6,7 +6,7 @@
 //!
 //! ```text
 //! let movement = Movement { at: &at, axes: &axes, settings: &coordinates, mvar };
-//! let values = values_at(tables, known, movement);     // values.heights.ascent: 916
+//! let values = values_at(tables, known, movement, Bounds::Kept);     // values.heights.ascent: 916
 //! ```
 
 mod heights;

@@ -37,14 +37,19 @@ fn weight_at(movement: Movement<'_>, os2: Option<&[u8]>, head: Option<&[u8]>) ->
     }
 }
 
-/// The values of a font that is moved. FontBBox is the least box around the kept glyphs.
-pub fn values_at(tables: Tables<'_>, known: Known, movement: Movement<'_>) -> Values {
+/// The values of a font that is moved. FontBBox holds the glyphs that are chosen; the box of `head` is that of the default.
+pub fn values_at(
+    tables: Tables<'_>,
+    known: Known,
+    movement: Movement<'_>,
+    choice: Bounds,
+) -> Values {
     let units = units_per_em(tables.head);
     let angle = angle_at(movement, tables.post);
     let weight = weight_at(movement, tables.os2, tables.head);
     Values {
         flags: flags_of(tables.post, tables.os2, tables.head, angle),
-        bounds: bounds_of(Bounds::Kept, tables.head, known.kept, units),
+        bounds: bounds_of(choice, tables.head, known.kept, units),
         italic_angle: angle,
         heights: heights_at(
             movement,

@@ -17,3 +17,18 @@ pub fn cff_values_by<'a>(alloc: Global, face: &Face<'a>) -> Result<CffValues<'a>
         Some(cff) => cff_values_in(alloc, cff, units_per_em(face.stored(Tag::HEAD))),
     }
 }
+
+/// The stem that the `CFF ` of a font says.
+fn stem_of(alloc: Global, face: &Face<'_>) -> Result<Option<u32>, Error> {
+    let said = cff_values_by(alloc, face)?;
+    Ok(said.stem)
+}
+
+/// The vertical stem of a font: the one that its `CFF ` says, else that of the new font, whose private dicts have the blends of
+/// outlines in `CFF2` resolved.
+pub fn font_stem(alloc: Global, face: &Face<'_>, new: &Face<'_>) -> Result<Option<u32>, Error> {
+    match face.stored(Tag::CFF) {
+        None => stem_of(alloc, new),
+        Some(_) => stem_of(alloc, face),
+    }
+}

@@ -65,13 +65,32 @@ fn location_by(at: Option<Vec<i32>>, axes: Option<Vec<Axis>>) -> Option<Location
     Some(Location { at, axes })
 }
 
-/// Where a font of outlines in `glyf` is off its default; none at its default.
+/// Whether outlines move along axes, by what was found: those of `glyf` do, and those of `CFF2` alone.
+fn can_move(glyf: Option<&[u8]>, cff: Option<&[u8]>, cff2: Option<&[u8]>) -> bool {
+    match glyf {
+        Some(_) => true,
+        None => match cff {
+            Some(_) => false,
+            None => cff2.is_some(),
+        },
+    }
+}
+
+/// Whether the outlines of a font move along axes.
+fn moves(face: &Face<'_>) -> bool {
+    let glyf = face.stored(Tag::GLYF);
+    let cff = face.stored(Tag::CFF);
+    let cff2 = face.stored(Tag::CFF2);
+    can_move(glyf, cff, cff2)
+}
+
+/// Where a font is off its default; none at its default, and none of outlines in `CFF `.
 pub fn location_in(
     alloc: Global,
     face: &Face<'_>,
     settings: &[(Tag, i32)],
 ) -> Result<Option<Location>, Error> {
-    if face.stored(Tag::GLYF).is_none() {
+    if !moves(face) {
         return Ok(None);
     }
     let at = coordinates_of(alloc, face, settings)?;

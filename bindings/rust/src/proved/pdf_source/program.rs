@@ -3,7 +3,7 @@
 
 use crate::rattle::prelude::Vec;
 
-use crate::proved::pdf_source::cff::cff_values_by;
+use crate::proved::pdf_source::cff::font_stem;
 use crate::proved::pdf_source::choice::{FontOptions, ProgramChoice};
 use crate::proved::pdf_source::described::values_by;
 use crate::proved::pdf_source::moved::location_in;
@@ -88,16 +88,8 @@ fn profile_of(
     let count = count_in(&new, flavor_in(file), requested)?;
     let widths = widths_of(alloc, &new, count)?;
     let location = location_in(alloc, face, settings)?;
-    let said = cff_values_by(alloc, face)?;
-    let values = values_by(
-        &location,
-        said.stem,
-        face,
-        &new,
-        count,
-        options.bounds,
-        settings,
-    );
+    let stem = font_stem(alloc, face, &new)?;
+    let values = values_by(&location, stem, face, &new, count, options.bounds, settings);
     Ok(Profile {
         count,
         widths,

@@ -12,6 +12,7 @@ pub const HELP: &str = "usage: subset_font [OPTIONS] IN OUT INDEX GID[,GID..]
        subset_font [OPTIONS] IN --pdf FILE [OPTIONS]
        subset_font --axes [--json] IN [INDEX]
        subset_font --info [--json] IN [INDEX]
+       subset_font --batch FILE
 
 Writes a font with glyph 0 and the requested glyphs of IN,
 under new numbers from 1, and prints a line `old -> new`
@@ -69,7 +70,9 @@ What the new font has:
   --at TAG=VALUE[,TAG=VALUE..]
                     a variable font at coordinates, as
                     wght=650,wdth=87.5, or at a named
-                    instance, as Bold or bold
+                    instance, as Bold or bold; empty: at the
+                    default. CFF2 outlines need this option,
+                    and become CFF
   --no-hinting      leaves out the instructions of TrueType
                     outlines
   --no-names        leaves out the table name
@@ -89,13 +92,21 @@ What is printed:
   --verbose         also each table's bytes before and after
   --json            one JSON object in place of the lines
   --quiet           no lines
-  --axes            must be the first argument: the axes of
-                    IN, by tag, least, default and greatest
-                    coordinate; and its named instances
+  --axes            must be the first argument: the outlines
+                    of IN; its axes, by tag, least, default
+                    and greatest coordinate; and its named
+                    instances
   --info            must be the first argument: outlines,
                     glyphs and tables of IN, what its maker
                     permits, and whether a subset is made
                     of it
+  --batch FILE      must be the first argument: does what
+                    each line of FILE requests, a JSON
+                    object with the members in, out, index
+                    and the long options' names, and prints
+                    an object for each, like --json; - is
+                    standard input. Built by Cargo also with
+                    --jobs N: in N threads
   -h, --help        this text
   --version         the version
 
@@ -106,7 +117,8 @@ or a glyph is refused, may not be embedded, or memory ran
 out, 2 an argument is wrong, 3 a file can't be read or
 written. With --axes and --info: 0 it is printed, for --info
 also where a subset would be refused, 1 IN is no font, or
-with --axes its table fvar is cut.
+with --axes its table fvar is cut. With --batch: 1 a request
+failed, 2 FILE can't be read.
 
 Examples:
   subset_font DejaVuSans.ttf subset.ttf 0 36,37,38

@@ -7,6 +7,7 @@
 
 use crate::rattle::prelude::HostRuntime;
 
+mod batch;
 mod faces;
 mod help;
 mod making;
@@ -17,7 +18,7 @@ mod run;
 mod streams;
 mod task;
 
-use run::program::Ended;
+pub use run::program::Ended;
 
 pub fn main(rt: HostRuntime) -> Ended {
     run::program::run(&rt)

@@ -2,7 +2,7 @@
 //! The text of the new numbers of glyphs, as lines or as JSON, of the axes of a variable font, and of what a face is.
 //!
 //! [`write_lines`] writes a line `old -> new` for each glyph, with its character where there is one, and then a text;
-//! [`write_json`] one object. [`write_axes`] writes a line for each axis of a variable font and each named instance.
+//! [`write_json`] one object. [`write_axes`] writes a line for the outlines, each axis of a variable font and each named instance.
 //!
 //! ```text
 //! let numbering = Numbering { characters: &[], names: &[], glyphs: &[36, 68], mapper: &mapper };
@@ -18,11 +18,12 @@ mod objects;
 mod plain;
 mod text;
 
-pub use entry::{take_first, Numbering};
+pub use entry::{take_first, Numbering, Unwritten};
 pub use faces::axes::{name_of, read_axes, write_axes, FontAxes};
-pub use faces::info::face::{Info, Outlines};
+pub use faces::info::face::Info;
 pub use faces::info::json::write_info_json;
 pub use faces::info::lines::write_info;
+pub use faces::outlines::Outlines;
 pub use faces::sizes::{size_lines, TableSize};
 pub use notes::{note_lines, Note};
 pub use objects::axes_json::{text_of_name, write_axes_json};
@@ -30,3 +31,4 @@ pub use objects::json::{json_numbers, write_json};
 pub use objects::members::json_members;
 pub use objects::pdf::json_pdf;
 pub use plain::write_lines;
+pub use text::write_text;

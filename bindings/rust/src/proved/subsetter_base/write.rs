@@ -15,6 +15,14 @@ pub struct Writer {
 }
 
 impl Writer {
+    /// No bytes yet.
+    #[cfg(feature = "variable-fonts")]
+    pub fn new(alloc: Global) -> Self {
+        Self {
+            bytes: Vec::new(alloc),
+        }
+    }
+
     /// No bytes yet, with room for as many.
     pub fn with_capacity(alloc: Global, capacity: usize) -> Result<Self, Error> {
         Ok(Self {

@@ -3,7 +3,8 @@
 
 use crate::rattle::prelude::Vec;
 
-use crate::proved::subsetter::{Error, Extras, GlyphRemapper, Tag};
+use crate::proved::subsetter::{Error, Extras, GlyphRemapper, Limits, Tag};
+use crate::proved::subsetter_cff_instance::cff_instance;
 use crate::proved::subsetter_instance::instance;
 use crate::proved::subsetter_instance::source::normalized_coordinates;
 use crate::proved::subsetter_sfnt::parse::parse;
@@ -41,17 +42,27 @@ fn is_at_default(
     Ok(are_zero(&at))
 }
 
-/// The static font that a font is at user coordinates: None where it is at its default, and is to be taken as it is, with
-/// its hints. Else it is what `instance` answers for the mapper's glyphs, each of which may take so many `steps`: a file with
-/// one font, of index 0, in which the glyphs have their old numbers.
-///
-/// # Errors
-///
-/// - `MalformedFont`: there is `glyf`, and `fvar` or `avar` is cut.
-/// - `Unimplemented`: there is `glyf`, and `fvar` or `avar` has a major version other than 1.
-/// - Those of `instance`, for a font that isn't at its default.
-/// - `OutOfMemory`: a request for memory was refused. None is made for a font without outlines in `glyf`.
-pub fn static_font(
+/// Whether outlines are those of `CFF2` alone, by what was found.
+fn is_cff2_alone(has_glyf: bool, has_cff: bool, has_cff2: bool) -> bool {
+    !has_glyf && (!has_cff && has_cff2)
+}
+
+/// Whether the outlines of a font are those of `CFF2` alone: it has neither `glyf` nor `CFF `. A file that can't be opened has none.
+pub fn is_cff2_font(data: &[u8], index: u32) -> bool {
+    let face = match parse(data, index, Extras::ALL) {
+        Ok(face) => face,
+        _ => {
+            return false;
+        }
+    };
+    let has_glyf = face.stored(Tag::GLYF).is_some();
+    let has_cff = face.stored(Tag::CFF).is_some();
+    let has_cff2 = face.stored(Tag::CFF2).is_some();
+    is_cff2_alone(has_glyf, has_cff, has_cff2)
+}
+
+/// The instance of a font that isn't at its default; None where it is.
+fn moved_instance(
     alloc: Global,
     data: &[u8],
     index: u32,
@@ -65,4 +76,49 @@ pub fn static_font(
     }
     let file = instance(alloc, data, index, coordinates, mapper, steps)?;
     Ok(Some(file))
+}
+
+/// The font with outlines in `CFF ` that is made of outlines in `CFF2`, whose charstrings have no bound on bytes.
+fn static_cff(
+    alloc: Global,
+    data: &[u8],
+    index: u32,
+    coordinates: &[(Tag, i32)],
+    mapper: &GlyphRemapper,
+    limits: &Limits,
+) -> Result<Vec<u8>, Error> {
+    // What `depth` says of the limits, that it isn't 0, makes them limits again.
+    // (the depth of limits isn't 0, for which alone there are none)
+    let unbounded = Limits::new(limits.tokens(), limits.depth()).unwrap();
+    cff_instance(alloc, data, index, coordinates, mapper, unbounded)
+}
+
+/// The static font that a font is at user coordinates: None where it is at its default, and is to be taken as it is, with
+/// its hints. Else it is a file with one font, of index 0, in which the mapper's glyphs have their old numbers.
+///
+/// - Of outlines in `glyf` it is what `instance` answers, where each glyph may take as many steps as `limits` has tokens.
+/// - Of outlines in `CFF2`, without `glyf` and `CFF `, it is what `cff_instance` answers, at the font's default too, where each
+///   charstring may run within the tokens and the depth of `limits`.
+/// - The bytes of `limits` bound neither.
+///
+/// # Errors
+///
+/// - `MalformedFont`: there is `glyf` or `CFF2`, and `fvar` or `avar` is cut.
+/// - `Unimplemented`: there is `glyf` or `CFF2`, and `fvar` or `avar` has a major version other than 1.
+/// - Those of `instance`, for a font that isn't at its default, and those of `cff_instance`.
+/// - `OutOfMemory`: a request for memory was refused. None is made for a font without outlines in `glyf` and `CFF2`.
+pub fn static_font(
+    alloc: Global,
+    data: &[u8],
+    index: u32,
+    coordinates: &[(Tag, i32)],
+    mapper: &GlyphRemapper,
+    limits: &Limits,
+) -> Result<Option<Vec<u8>>, Error> {
+    if is_cff2_font(data, index) {
+        let file = static_cff(alloc, data, index, coordinates, mapper, limits)?;
+        return Ok(Some(file));
+    }
+    let steps = limits.tokens();
+    moved_instance(alloc, data, index, coordinates, mapper, steps)
 }

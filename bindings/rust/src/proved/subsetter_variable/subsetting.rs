@@ -3,9 +3,23 @@
 
 use crate::rattle::prelude::Vec;
 
-use crate::proved::subsetter::{subset_with_options, Error, GlyphRemapper, Options, Tag};
-use crate::proved::subsetter_variable::default_location::static_font;
+use crate::proved::subsetter::{
+    check_opening, subset_with_options, Error, Extras, GlyphRemapper, Options, Tag,
+};
+use crate::proved::subsetter_variable::default_location::{is_cff2_font, static_font};
 use crate::rattle::alloc::Global;
+
+/// Whether a font can be opened, as `check_opening` says, where outlines of `CFF2` are taken too.
+///
+/// # Errors
+///
+/// Those of `check_opening`, but for the one of `CFF2`.
+pub fn check_opening_at(data: &[u8], index: u32, extras: Extras) -> Result<(), Error> {
+    if is_cff2_font(data, index) {
+        return Ok(());
+    }
+    check_opening(data, index, extras)
+}
 
 /// As `subset_with_variations_and_limits`, where the new font has only those of its extras that are requested, as in
 /// `subset_with_options`. An instance has no hinting, whatever is requested.
@@ -21,8 +35,7 @@ pub fn subset_with_variations_and_options(
     mapper: &GlyphRemapper,
     options: &Options,
 ) -> Result<Vec<u8>, Error> {
-    let steps = options.limits.tokens();
-    let made = static_font(alloc, data, index, coordinates, mapper, steps)?;
+    let made = static_font(alloc, data, index, coordinates, mapper, &options.limits)?;
     match made {
         None => subset_with_options(alloc, data, index, mapper, options),
         Some(file) => subset_with_options(alloc, &file, 0, mapper, options),

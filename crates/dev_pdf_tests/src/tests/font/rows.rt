@@ -2,6 +2,7 @@
 
 pub mod blocks;
 pub mod cff;
+pub mod cff2;
 pub mod texts;
 pub mod truetype;
 pub mod variable;

@@ -1,6 +1,6 @@
 use Rattle.std.proofs.Common.{arith}
 use Rattle.std.proofs.lemmas.Str.Pattern.{strip_prefix_char}
-use Rattle.dev_rows.proofs.Words.{after_dot_is}
+use Rattle.dev_rows.proofs.DigitLemmas.{after_dot_is}
 use Rattle.dev_rows.proofs.digits.after_dot.Goals as goal
 
 pub returns : goal.returns

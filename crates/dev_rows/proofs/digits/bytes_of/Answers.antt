@@ -1,5 +1,5 @@
 use Rattle.std.proofs.Common.{length}
-use Rattle.dev_rows.proofs.Words.{fewer, next_in}
+use Rattle.dev_rows.proofs.DigitLemmas.{fewer, next_in}
 use Rattle.dev_rows.proofs.digits.bytes_of.Goals as goal
 
 pub loop-preserved : goal.loop-preserved

@@ -5,7 +5,7 @@ use Rattle.std.specs.Option.{option_map}
 use Rattle.dev_base.specs.Ranges.{numbers_between}
 use Rattle.dev_rows.specs.Digits.{part_numbers, all_numbers}
 use Rattle.subsetter_words.proofs.Numbers.{texts}
-use Rattle.dev_rows.proofs.Words.{next_part}
+use Rattle.dev_rows.proofs.DigitLemmas.{next_part}
 use Rattle.dev_rows.proofs.digits.numbers_of.Goals as goal
 
 pub loop-part-preserved : goal.loop-part-preserved

@@ -2,7 +2,8 @@ use Rattle.std.proofs.Common.{◌≡◌, ◌<◌, ℕ, List, length, refl, subst
 use Rattle.std.proofs.lemmas.Result.{err_from_is_err_and}
 use Rattle.subsetter_sfnt.specs.Read.{Font, table_in}
 use Rattle.subsetter_variable.specs.Afresh.{HasGlyphsDrawn}
-use Rattle.subsetter_variable.specs.DefaultLocation.{IsAtDefault}
+use Rattle.subsetter_variable.specs.Blended.{HasGlyphsBlended}
+use Rattle.subsetter_variable.specs.DefaultLocation.{IsAtDefault, IsCff2Font}
 use Rattle.subsetter_variable.specs.Subset.{IsTheAnswerAt, whole}
 use Rattle.cid_embed.specs.Embed.{numbering}
 use Rattle.pdf_codes.specs.Shown.{uses_of}
@@ -105,7 +106,8 @@ returns-clause-ok c =
     let a = at_us font c.args.coordinates.now c.args.options.now (uses_of c.args.shown.now) c.deref.result.now eg e c.in_ok-embedded.ensures.ok in
     let same = subst (λ (l : List ℕ). IsTheAnswerAt font c.args.coordinates.now (numbering l) e.font.items) eg c.in_ok-embedded.ensures.same in
     let drawn = subst (λ (l : List ℕ). (IsAtDefault (whole font) c.args.coordinates.now → ⊥) → HasGlyphsDrawn (whole font) c.args.coordinates.now (numbering l) e.font.items) eg c.in_ok-embedded.ensures.drawn in
-    all_answered font c.args.coordinates.now c.args.options.now (uses_of c.args.shown.now) e a find c.requires.find c.len-requested.result size c.in_ok-new.new c.in_ok-new.ensures c.in_ok-embedded.ensures.within same drawn c.args.permission c.deref-3.result.now c.deref-3.ensures.value c.filled.result c.filled.ensures.ok c.filled.ensures.takes
+    let blended = subst (λ (l : List ℕ). IsCff2Font (whole font) → HasGlyphsBlended (whole font) c.args.coordinates.now (numbering l) e.font.items) eg c.in_ok-embedded.ensures.drawn_cff in
+    all_answered font c.args.coordinates.now c.args.options.now (uses_of c.args.shown.now) e a find c.requires.find c.len-requested.result size c.in_ok-new.new c.in_ok-new.ensures c.in_ok-embedded.ensures.within same drawn blended c.args.permission c.deref-3.result.now c.deref-3.ensures.value c.filled.result c.filled.ensures.ok c.filled.ensures.takes
 
 pub returns-clause-permission : goal.returns-clause-permission
 returns-clause-permission c =

@@ -1,6 +1,6 @@
 use Rattle.std.proofs.Common.{◌≡◌, true, false, sym, ap, subst, ◌∙◌, inr}
 use Rattle.subsetter_base.specs.declared.error.Error.TheVariants.{OutOfMemory}
-use Rattle.subsetter_sfnt.specs.Fault.{HasOpeningFault}
+use Rattle.subsetter_variable.specs.Subset.{HasOpeningFaultAt}
 use Rattle.subsetter_sfnt.specs.FontAt.{font_at}
 use Rattle.subsetter_sfnt.specs.Read.{Font}
 use Rattle.subsetter_sfnt.specs.declared.extras.Extras.{Extras}
@@ -15,25 +15,25 @@ use Rattle.pdf_font.proofs.call.pdf_font.Goals as goal
 pub returns-in-Err-clause-err : goal.returns-in-Err-clause-err
 returns-in-Err-clause-err c =
     let font : Font = font_of c.args.«data».now c.args.index c.args.options.now in
-    let fault = subst (λ (x : Extras). HasOpeningFault (font_at c.args.«data».now c.args.index x) c.in-Err.error) c.extras.ensures c.in-Err.ensures.err in
+    let fault = subst (λ (x : Extras). HasOpeningFaultAt (font_at c.args.«data».now c.args.index x) c.in-Err.error) c.extras.ensures c.in-Err.ensures.err in
     inr (unopened font c.args.coordinates.now c.args.options.now (uses_of c.args.shown.now) c.in-Err.error fault)
 
 pub returns-in-Err-clause-no_answer : goal.returns-in-Err-clause-no_answer
 returns-in-Err-clause-no_answer c =
     let font : Font = font_of c.args.«data».now c.args.index c.args.options.now in
-    let fault = subst (λ (x : Extras). HasOpeningFault (font_at c.args.«data».now c.args.index x) c.in-Err.error) c.extras.ensures c.in-Err.ensures.err in
+    let fault = subst (λ (x : Extras). HasOpeningFaultAt (font_at c.args.«data».now c.args.index x) c.in-Err.error) c.extras.ensures c.in-Err.ensures.err in
     inr (unopened_final font c.args.coordinates.now c.args.options.now (uses_of c.args.shown.now) c.in-Err.error fault)
 
 pub returns-in-Err-clause-before_memory : goal.returns-in-Err-clause-before_memory
 returns-in-Err-clause-before_memory c =
     let font : Font = font_of c.args.«data».now c.args.index c.args.options.now in
-    let fault = subst (λ (x : Extras). HasOpeningFault (font_at c.args.«data».now c.args.index x) c.in-Err.error) c.extras.ensures c.in-Err.ensures.err in
+    let fault = subst (λ (x : Extras). HasOpeningFaultAt (font_at c.args.«data».now c.args.index x) c.in-Err.error) c.extras.ensures c.in-Err.ensures.err in
     λ e f h. not_memory font c.in-Err.error fault (let m : c.in-Err.error ≡ OutOfMemory = cc in m)
 
 pub returns-in-Err-clause-first : goal.returns-in-Err-clause-first
 returns-in-Err-clause-first c =
     let font : Font = font_of c.args.«data».now c.args.index c.args.options.now in
-    let fault = subst (λ (x : Extras). HasOpeningFault (font_at c.args.«data».now c.args.index x) c.in-Err.error) c.extras.ensures c.in-Err.ensures.err in
+    let fault = subst (λ (x : Extras). HasOpeningFaultAt (font_at c.args.«data».now c.args.index x) c.in-Err.error) c.extras.ensures c.in-Err.ensures.err in
     first_unopened font c.args.coordinates.now c.args.options.now (uses_of c.args.shown.now) c.in-Err.error fault
 
 pub returns-then-not-is_permitted-clause-err : goal.returns-then-not-is_permitted-clause-err

@@ -9,7 +9,7 @@ use crate::faces::face::range_of;
 use crate::faces::tables::directory_of;
 use crate::refusals::failure::Failure;
 use crate::refusals::hint::parts::{
-    is_cff2, no_glyph, no_outline, no_outlines, no_table, no_table_for, wrong_metrics,
+    no_coordinates, no_glyph, no_outline, no_outlines, no_table, no_table_for, wrong_metrics,
 };
 use crate::refusals::hint::text::Hint;
 use crate::task::Task;
@@ -76,7 +76,7 @@ fn hint_of_error(error: Error, font: &[u8], task: &Task<'_>) -> Option<Hint>
     match error {
         Error::UnknownKind => hint_of_unknown(font, task.index),
         Error::MalformedFont => hint_of_malformed(font, task),
-        Error::Unimplemented => is_cff2(font, task.index),
+        Error::Unimplemented => no_coordinates(font, task),
         Error::OverflowError => wrong_metrics(font, task.index),
         _ => None,
     }

@@ -3,7 +3,7 @@
 ghost use Rattle.std.specs.Prelude.{◌≡◌, ◌≤◌};
 ghost use Rattle.subsetter_sfnt.specs.Extras.{all_extras};
 ghost use Rattle.subset_font.specs.Making.Made.{face_of};
-ghost use Rattle.subset_font.specs.Refusals.Hint.{first_past, no_glyph, no_table, no_table_for_widths, no_table_for, entry, wrong_range, wrong_between, wrong_outline, first_wrong, listed, no_outline, is_cff2, wrong_metrics_of, wrong_metrics, no_outlines};
+ghost use Rattle.subset_font.specs.Refusals.Hint.{first_past, no_glyph, no_table, no_table_for_widths, no_table_for, entry, wrong_range, wrong_between, wrong_outline, first_wrong, listed, no_outline, is_cff2, no_coordinates, wrong_metrics_of, wrong_metrics, no_outlines};
 
 use crate::faces::broken::missing_table;
 use crate::faces::face::{count_glyphs, range_of};
@@ -162,12 +162,22 @@ pub fn no_outline(font: &[u8], task: &Task<'_>) -> Option<Hint>
 }
 
 /// Whether a face has outlines of `CFF2`.
-pub fn is_cff2(font: &[u8], index: u32) -> Option<Hint>
+fn is_cff2(font: &[u8], index: u32) -> Option<Hint>
     ensures { result ≡ is_cff2 (record { bytes = font.now; index = index; extras = all_extras }) }
 {
-    match table(font, index, Tag::CFF2) {
-        Some(_) => Some(Hint::Cff2),
-        None => None,
+    match outlines_of(font, index) {
+        Outlines::Cff2 => Some(Hint::Cff2),
+        _ => None,
+    }
+}
+
+/// Whether a face has outlines of `CFF2`, where no coordinates are given.
+pub fn no_coordinates(font: &[u8], task: &Task<'_>) -> Option<Hint>
+    ensures { result ≡ no_coordinates task.now font.now }
+{
+    match task.at {
+        Some(_) => None,
+        None => is_cff2(font, task.index),
     }
 }
 

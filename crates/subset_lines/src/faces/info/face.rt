@@ -1,23 +1,11 @@
 //! What a face is: its outlines, its tables, and what its maker permits.
 
 ghost use Rattle.std.specs.Prelude.{◌≡◌, ◌++◌, ◌<◌, IfOk, map};
-ghost use Rattle.subset_lines.specs.Faces.Info.{has_bit, word_if, words_of_bits, permission_words, outlines_name};
+ghost use Rattle.subset_lines.specs.Faces.Info.{has_bit, word_if, words_of_bits, permission_words};
 
+use crate::faces::outlines::Outlines;
 use std::alloc::{AllocError, Global};
 use subsetter_base::Tag;
-
-/// What the outlines of a face are.
-#[derive(Clone, Copy, PartialEq, Eq, Debug)]
-pub enum Outlines {
-    /// Those of the table `glyf`.
-    TrueType,
-    /// Those of the table `CFF `.
-    Cff,
-    /// Those of the table `CFF2`.
-    Cff2,
-    /// The face has no such table.
-    Missing,
-}
 
 /// What a face is.
 #[derive(Clone, Copy)]
@@ -85,17 +73,5 @@ pub fn permission_words(alloc: Global, bits: Option<u16>) -> Result<Vec<&'static
     match bits {
         Some(bits) => words_of_bits(alloc, bits),
         None => Ok(Vec::new(alloc)),
-    }
-}
-
-/// The name of outlines.
-pub fn outlines_name(outlines: Outlines) -> &'static [u8]
-    ensures { result.now ≡ outlines_name outlines }
-{
-    match outlines {
-        Outlines::TrueType => b"TrueType",
-        Outlines::Cff => b"CFF",
-        Outlines::Cff2 => b"CFF2",
-        Outlines::Missing => b"none",
     }
 }

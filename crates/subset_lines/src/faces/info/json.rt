@@ -4,11 +4,12 @@ ghost use Rattle.std.specs.Prelude.{◌++◌, [], OnOk, map};
 ghost use Rattle.std.specs.Io.KnownBytes.{Appends};
 ghost use Rattle.std.specs.Option.{option_copied};
 ghost use Rattle.subset_lines.specs.Objects.Quoted.{quoted};
-ghost use Rattle.subset_lines.specs.Faces.Info.{strings, string_or_null, table_object, table_objects, variable_member, outlines_members, counts_members, refusal_members, tables_member, info_members, info_json};
+ghost use Rattle.subset_lines.specs.Faces.Info.{strings, string_or_null, table_object, table_objects, counts_members, refusal_members, tables_member, info_members, info_json};
 
 use crate::entry::Unwritten;
 use crate::faces::axes::tag_bytes;
-use crate::faces::info::face::{Info, outlines_name, permission_words};
+use crate::faces::info::face::{Info, permission_words};
+use crate::faces::outlines::write_outlines_members;
 use crate::objects::quoted::write_quoted;
 use crate::plain::flush;
 use crate::text::write_text;
@@ -75,26 +76,6 @@ fn write_objects<W: Write>(tables: &[(Tag, u32)], out: &mut W) -> Result<(), Unw
     Ok(())
 }
 
-/// Writes the member that says whether the outlines vary.
-fn write_variable_member<W: Write>(is_variable: bool, out: &mut W) -> Result<(), Unwritten>
-    ensures { OnOk result (Appends (W.contents out.old) (W.contents out.new) (variable_member is_variable)) }
-{
-    if is_variable {
-        return write_text(b",\"variable\":true", out);
-    }
-    write_text(b",\"variable\":false", out)
-}
-
-/// Writes the members of the outlines.
-#[tactic(auto, using(crate::proofs::Written::both))]
-fn write_outlines_members<W: Write>(info: &Info<'_>, out: &mut W) -> Result<(), Unwritten>
-    ensures { OnOk result (Appends (W.contents out.old) (W.contents out.new) (outlines_members info.now)) }
-{
-    write_text(b"{\"outlines\":", out)?;
-    write_quoted(outlines_name(info.outlines), out)?;
-    write_variable_member(info.is_variable, out)
-}
-
 /// Writes the members of numbers.
 #[tactic(auto, using(crate::proofs::Written::both))]
 fn write_counts_members<W: Write>(info: &Info<'_>, out: &mut W) -> Result<(), Unwritten>
@@ -142,7 +123,7 @@ fn write_tables_member<W: Write>(tables: &[(Tag, u32)], out: &mut W) -> Result<(
 fn write_members<W: Write>(info: &Info<'_>, words: &[&str], out: &mut W) -> Result<(), Unwritten>
     ensures { OnOk result (Appends (W.contents out.old) (W.contents out.new) (info_members info.now (map (λ w. w.now) words.now))) }
 {
-    write_outlines_members(info, out)?;
+    write_outlines_members(info.outlines, info.is_variable, out)?;
     write_counts_members(info, out)?;
     write_refusal_members(info, words, out)?;
     write_tables_member(info.tables, out)

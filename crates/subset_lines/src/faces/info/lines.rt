@@ -3,11 +3,12 @@
 ghost use Rattle.std.specs.Prelude.{OnOk, Some, map};
 ghost use Rattle.std.specs.Io.KnownBytes.{Appends};
 ghost use Rattle.std.specs.Option.{option_copied};
-ghost use Rattle.subset_lines.specs.Faces.Info.{line_behind, lines_behind, permission_lines, outlines_end, outlines_line, glyphs_line, counts_lines, if_any, refusal_lines, table_line, table_lines, head_lines, info_lines};
+ghost use Rattle.subset_lines.specs.Faces.Info.{line_behind, lines_behind, permission_lines, glyphs_line, counts_lines, if_any, refusal_lines, table_line, table_lines, head_lines, info_lines};
 
 use crate::entry::Unwritten;
 use crate::faces::axes::write_tag;
-use crate::faces::info::face::{Info, outlines_name, permission_words};
+use crate::faces::info::face::{Info, permission_words};
+use crate::faces::outlines::write_outlines;
 use crate::plain::flush;
 use crate::text::write_text;
 use std::alloc::Global;
@@ -40,26 +41,6 @@ fn write_permissions<W: Write>(words: &[&str], out: &mut W) -> Result<(), Unwrit
     ensures { OnOk result (Appends (W.contents out.old) (W.contents out.new) (permission_lines (map (λ w. w.now) words.now))) }
 {
     write_lines_behind(b"permission ", words, out)
-}
-
-/// Writes the end of the line of the outlines.
-fn write_outlines_end<W: Write>(is_variable: bool, out: &mut W) -> Result<(), Unwritten>
-    ensures { OnOk result (Appends (W.contents out.old) (W.contents out.new) (outlines_end is_variable)) }
-{
-    if is_variable {
-        return write_text(b", variable\n", out);
-    }
-    write_text(b"\n", out)
-}
-
-/// Writes the line of the outlines.
-#[tactic(auto, using(crate::proofs::Written::both))]
-fn write_outlines<W: Write>(info: &Info<'_>, out: &mut W) -> Result<(), Unwritten>
-    ensures { OnOk result (Appends (W.contents out.old) (W.contents out.new) (outlines_line info.now)) }
-{
-    write_text(b"outlines ", out)?;
-    write_text(outlines_name(info.outlines), out)?;
-    write_outlines_end(info.is_variable, out)
 }
 
 /// Writes the line of the count of glyphs.
@@ -149,7 +130,7 @@ fn write_tables<W: Write>(tables: &[(Tag, u32)], out: &mut W) -> Result<(), Unwr
 fn write_head<W: Write>(info: &Info<'_>, words: &[&str], out: &mut W) -> Result<(), Unwritten>
     ensures { OnOk result (Appends (W.contents out.old) (W.contents out.new) (head_lines info.now (map (λ w. w.now) words.now))) }
 {
-    write_outlines(info, out)?;
+    write_outlines(info.outlines, info.is_variable, out)?;
     write_counts(info.faces, info.bytes, out)?;
     write_glyphs(info.glyphs, out)?;
     write_permissions(words, out)?;

@@ -78,7 +78,7 @@ fn wrong_codes(list: &str) -> Option<Mistake<'_>> {
 
 /// What is wrong with a position on the axes.
 fn wrong_position(text: &str) -> Option<Mistake<'_>> {
-    if is_name(text) {
+    if text.len() == 0 || is_name(text) {
         return None;
     }
     wrong_coordinate(text)

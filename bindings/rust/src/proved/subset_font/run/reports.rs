@@ -16,6 +16,7 @@ use crate::proved::subset_font::refusals::hint::text::Hint;
 use crate::proved::subset_font::refusals::limit_hint::find_limit_hint;
 use crate::proved::subset_font::task::{Form, Plan, Task};
 use crate::proved::subset_lines::note_lines;
+use crate::proved::subsetter::Tag;
 use crate::rattle::io;
 
 /// Prints why a run failed, if it did, and answers the status.
@@ -138,8 +139,16 @@ fn report_names<R: Eprint + AllocGlobal>(rt: &R, font: &[u8], index: u32) {
     }
 }
 
-/// The task of a plan with the widths, where they are printed, or a PDF has them.
-fn task_with_widths<'a>(plan: &Plan<'a>) -> Task<'a> {
+/// The coordinates of a plan; none, but given, where they are those of a named instance.
+fn at_given<'a>(plan: &Plan<'a>) -> Option<&'a [(Tag, i32)]> {
+    match plan.instance {
+        Some(_) => Some(&[]),
+        None => plan.task.at,
+    }
+}
+
+/// The task of a plan as a hint sees it: with the widths, where they are printed, or a PDF has them.
+fn task_for_hint<'a>(plan: &Plan<'a>) -> Task<'a> {
     let task = plan.task;
     Task {
         requested: task.requested,
@@ -147,13 +156,13 @@ fn task_with_widths<'a>(plan: &Plan<'a>) -> Task<'a> {
         options: task.options,
         widths: task.widths || plan.pdf.is_some(),
         form: task.form,
-        at: task.at,
+        at: at_given(plan),
     }
 }
 
 /// Reports more of a run that failed, as far as it can be seen in the font.
 fn report_more<R: Eprint + AllocGlobal>(rt: &R, failure: &Failure, font: &[u8], plan: &Plan<'_>) {
-    match find_hint(failure, font, &task_with_widths(plan)) {
+    match find_hint(failure, font, &task_for_hint(plan)) {
         Some(hint) => report_hint(rt, Some(hint)),
         None => report_hint(rt, find_limit_hint(rt.alloc(), failure, font, plan)),
     }

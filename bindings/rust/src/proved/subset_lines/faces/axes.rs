@@ -5,6 +5,7 @@ use crate::rattle::prelude::{Cast, Vec};
 
 use crate::proved::subset_lines::entry::Unwritten;
 use crate::proved::subset_lines::faces::names::{string_for, write_behind};
+use crate::proved::subset_lines::faces::outlines::{write_outlines, Outlines};
 use crate::proved::subset_lines::faces::settings::{write_each, SettingForm};
 use crate::proved::subset_lines::fixed::write_fixed;
 use crate::proved::subset_lines::plain::flush;
@@ -189,9 +190,16 @@ fn write_instance_lines<W: Write>(
     Ok(())
 }
 
-/// Writes a line for each axis, as `axis wght 100 400 900` (the tag, the least coordinate, the default and the greatest one),
-/// and one for each named instance, as `instance wght=650,wdth=87.5 Semi Bold`. Then it passes on what the writer keeps back.
-pub fn write_axes<W: Write>(all: &FontAxes<'_>, out: &mut W) -> Result<(), Unwritten> {
+/// Writes a line for the outlines, as `outlines TrueType, variable`; one for each axis, as `axis wght 100 400 900` (the tag, the least
+/// coordinate, the default and the greatest one); and one for each named instance, as `instance wght=650,wdth=87.5 Semi Bold`. Then it
+/// passes on what the writer keeps back.
+pub fn write_axes<W: Write>(
+    outlines: Outlines,
+    is_variable: bool,
+    all: &FontAxes<'_>,
+    out: &mut W,
+) -> Result<(), Unwritten> {
+    write_outlines(outlines, is_variable, out)?;
     write_axis_lines(&all.axes, out)?;
     write_instance_lines(&all.axes, all.names, &all.instances, out)?;
     flush(out)

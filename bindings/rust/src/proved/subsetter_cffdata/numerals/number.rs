@@ -142,6 +142,13 @@ impl Number {
         Some(())
     }
 
+    /// An integer.
+    #[cfg(feature = "variable-fonts")]
+    #[cfg(feature = "variable-fonts")]
+    pub fn from_i32(num: i32) -> Self {
+        Number::Integer(IntegerNumber(num))
+    }
+
     /// The integer 0.
     pub fn zero() -> Self {
         Number::Integer(IntegerNumber(0))

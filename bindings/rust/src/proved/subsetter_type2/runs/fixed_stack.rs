@@ -23,6 +23,13 @@ impl<T: Copy, const N: usize> FixedStack<T, N> {
         self.len
     }
 
+    /// The items, the last one pushed last.
+    #[cfg(feature = "variable-fonts")]
+    #[cfg(feature = "variable-fonts")]
+    pub fn as_slice(&self) -> &[T] {
+        &self.items[..self.len]
+    }
+
     /// Puts an item on the top.
     #[inline(always)]
     pub fn push(&mut self, item: T) {

@@ -16,4 +16,4 @@ pub returns-clause-ok : goal.returns-clause-ok
 returns-clause-ok c = placed_of c.args.task.now c.args.font.now {X = Vec ℕ Global} (λ v. v.items) c.in-Some.at.now c.in_ok-mapper.mapper c.args.glyphs.now (ap option_copied c.in-Some.is) c.in_ok-mapper.ensures.ok c.static_font.result c.static_font.ensures.ok
 
 pub returns-clause-err : goal.returns-clause-err
-returns-clause-err c = untaken_by c.args.task.now c.args.font.now c.in-Some.at.now c.in_ok-mapper.mapper c.args.glyphs.now c.tokens-steps.result (ap option_copied c.in-Some.is) c.in_ok-mapper.ensures.ok c.tokens-steps.ensures c.static_font.result c.static_font.ensures.err
+returns-clause-err c = untaken_by c.args.task.now c.args.font.now c.in-Some.at.now c.in_ok-mapper.mapper c.args.glyphs.now (ap option_copied c.in-Some.is) c.in_ok-mapper.ensures.ok c.static_font.result c.static_font.ensures.err

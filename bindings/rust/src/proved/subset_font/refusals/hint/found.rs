@@ -5,7 +5,7 @@ use crate::proved::subset_font::faces::broken::{cut_table, missing_table, no_fon
 use crate::proved::subset_font::faces::tables::directory_of;
 use crate::proved::subset_font::refusals::failure::Failure;
 use crate::proved::subset_font::refusals::hint::parts::{
-    is_cff2, no_glyph, no_outline, no_outlines, no_table, no_table_for, wrong_metrics,
+    no_coordinates, no_glyph, no_outline, no_outlines, no_table, no_table_for, wrong_metrics,
 };
 use crate::proved::subset_font::refusals::hint::text::Hint;
 use crate::proved::subset_font::task::Task;
@@ -53,7 +53,7 @@ fn hint_of_error(error: Error, font: &[u8], task: &Task<'_>) -> Option<Hint> {
     match error {
         Error::UnknownKind => hint_of_unknown(font, task.index),
         Error::MalformedFont => hint_of_malformed(font, task),
-        Error::Unimplemented => is_cff2(font, task.index),
+        Error::Unimplemented => no_coordinates(font, task),
         Error::OverflowError => wrong_metrics(font, task.index),
         _ => None,
     }

@@ -141,10 +141,18 @@ pub fn no_outline(font: &[u8], task: &Task<'_>) -> Option<Hint> {
 }
 
 /// Whether a face has outlines of `CFF2`.
-pub fn is_cff2(font: &[u8], index: u32) -> Option<Hint> {
-    match table(font, index, Tag::CFF2) {
-        Some(_) => Some(Hint::Cff2),
-        None => None,
+fn is_cff2(font: &[u8], index: u32) -> Option<Hint> {
+    match outlines_of(font, index) {
+        Outlines::Cff2 => Some(Hint::Cff2),
+        _ => None,
+    }
+}
+
+/// Whether a face has outlines of `CFF2`, where no coordinates are given.
+pub fn no_coordinates(font: &[u8], task: &Task<'_>) -> Option<Hint> {
+    match task.at {
+        Some(_) => None,
+        None => is_cff2(font, task.index),
     }
 }
 

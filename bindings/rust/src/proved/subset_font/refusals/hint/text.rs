@@ -35,7 +35,7 @@ pub enum Hint {
     Descends(u16),
     /// The outline of this glyph isn't inside `glyf`.
     Outside(u16),
-    /// The outlines are those of `CFF2`.
+    /// The outlines are those of `CFF2`, and no coordinates are given.
     Cff2,
     /// `cmap` has no table for Unicode that is read.
     NoUnicode,
@@ -191,7 +191,7 @@ impl fmt::Display for Hint {
                 );
                 write!(f, "{text}")
             }
-            Hint::Cff2 => f.write_str("CFF2: its outlines aren't read"),
+            Hint::Cff2 => f.write_str("CFF2: choose coordinates by --at; \"\" is the default"),
             Hint::NoUnicode => f.write_str("cmap: no table for Unicode in format 4 or 12"),
             Hint::WrongAxes => f.write_str("fvar: the table can't be read"),
             Hint::NoAxes => f.write_str("no axes in the font"),

@@ -3,21 +3,9 @@
 
 use crate::rattle::prelude::Vec;
 
+use crate::proved::subset_lines::faces::outlines::Outlines;
 use crate::proved::subsetter_base::Tag;
 use crate::rattle::alloc::{AllocError, Global};
-
-/// What the outlines of a face are.
-#[derive(Clone, Copy, PartialEq, Eq, Debug)]
-pub enum Outlines {
-    /// Those of the table `glyf`.
-    TrueType,
-    /// Those of the table `CFF `.
-    Cff,
-    /// Those of the table `CFF2`.
-    Cff2,
-    /// The face has no such table.
-    Missing,
-}
 
 /// What a face is.
 #[derive(Clone, Copy)]
@@ -76,15 +64,5 @@ pub fn permission_words(alloc: Global, bits: Option<u16>) -> Result<Vec<&'static
     match bits {
         Some(bits) => words_of_bits(alloc, bits),
         None => Ok(Vec::new(alloc)),
-    }
-}
-
-/// The name of outlines.
-pub fn outlines_name(outlines: Outlines) -> &'static [u8] {
-    match outlines {
-        Outlines::TrueType => b"TrueType",
-        Outlines::Cff => b"CFF",
-        Outlines::Cff2 => b"CFF2",
-        Outlines::Missing => b"none",
     }
 }

@@ -3,7 +3,8 @@
 
 use crate::proved::subset_lines::entry::Unwritten;
 use crate::proved::subset_lines::faces::axes::tag_bytes;
-use crate::proved::subset_lines::faces::info::face::{outlines_name, permission_words, Info};
+use crate::proved::subset_lines::faces::info::face::{permission_words, Info};
+use crate::proved::subset_lines::faces::outlines::write_outlines_members;
 use crate::proved::subset_lines::objects::quoted::write_quoted;
 use crate::proved::subset_lines::plain::flush;
 use crate::proved::subset_lines::text::write_text;
@@ -61,21 +62,6 @@ fn write_objects<W: Write>(tables: &[(Tag, u32)], out: &mut W) -> Result<(), Unw
     Ok(())
 }
 
-/// Writes the member that says whether the outlines vary.
-fn write_variable_member<W: Write>(is_variable: bool, out: &mut W) -> Result<(), Unwritten> {
-    if is_variable {
-        return write_text(b",\"variable\":true", out);
-    }
-    write_text(b",\"variable\":false", out)
-}
-
-/// Writes the members of the outlines.
-fn write_outlines_members<W: Write>(info: &Info<'_>, out: &mut W) -> Result<(), Unwritten> {
-    write_text(b"{\"outlines\":", out)?;
-    write_quoted(outlines_name(info.outlines), out)?;
-    write_variable_member(info.is_variable, out)
-}
-
 /// Writes the members of numbers.
 fn write_counts_members<W: Write>(info: &Info<'_>, out: &mut W) -> Result<(), Unwritten> {
     let (faces, bytes) = (info.faces, info.bytes);
@@ -112,7 +98,7 @@ fn write_tables_member<W: Write>(tables: &[(Tag, u32)], out: &mut W) -> Result<(
 
 /// Writes all members, which are one JSON object.
 fn write_members<W: Write>(info: &Info<'_>, words: &[&str], out: &mut W) -> Result<(), Unwritten> {
-    write_outlines_members(info, out)?;
+    write_outlines_members(info.outlines, info.is_variable, out)?;
     write_counts_members(info, out)?;
     write_refusal_members(info, words, out)?;
     write_tables_member(info.tables, out)

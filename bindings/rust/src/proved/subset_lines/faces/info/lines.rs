@@ -3,7 +3,8 @@
 
 use crate::proved::subset_lines::entry::Unwritten;
 use crate::proved::subset_lines::faces::axes::write_tag;
-use crate::proved::subset_lines::faces::info::face::{outlines_name, permission_words, Info};
+use crate::proved::subset_lines::faces::info::face::{permission_words, Info};
+use crate::proved::subset_lines::faces::outlines::write_outlines;
 use crate::proved::subset_lines::plain::flush;
 use crate::proved::subset_lines::text::write_text;
 use crate::proved::subsetter_base::Tag;
@@ -32,21 +33,6 @@ fn write_lines_behind<W: Write>(
 /// Writes a line for each of the words of permission.
 fn write_permissions<W: Write>(words: &[&str], out: &mut W) -> Result<(), Unwritten> {
     write_lines_behind(b"permission ", words, out)
-}
-
-/// Writes the end of the line of the outlines.
-fn write_outlines_end<W: Write>(is_variable: bool, out: &mut W) -> Result<(), Unwritten> {
-    if is_variable {
-        return write_text(b", variable\n", out);
-    }
-    write_text(b"\n", out)
-}
-
-/// Writes the line of the outlines.
-fn write_outlines<W: Write>(info: &Info<'_>, out: &mut W) -> Result<(), Unwritten> {
-    write_text(b"outlines ", out)?;
-    write_text(outlines_name(info.outlines), out)?;
-    write_outlines_end(info.is_variable, out)
 }
 
 /// Writes the line of the count of glyphs.
@@ -126,7 +112,7 @@ fn write_tables<W: Write>(tables: &[(Tag, u32)], out: &mut W) -> Result<(), Unwr
 
 /// Writes the lines before those of the tables.
 fn write_head<W: Write>(info: &Info<'_>, words: &[&str], out: &mut W) -> Result<(), Unwritten> {
-    write_outlines(info, out)?;
+    write_outlines(info.outlines, info.is_variable, out)?;
     write_counts(info.faces, info.bytes, out)?;
     write_glyphs(info.glyphs, out)?;
     write_permissions(words, out)?;

@@ -1,0 +1,198 @@
+"""Damaged CFF2 fonts, and what the program may answer of them: what cff2.py --damage takes.
+
+A new font has to draw what HarfBuzz draws of the damaged copy, each coordinate rounded once. Where HarfBuzz draws something else, as it goes on
+where a table is broken and knows other limits, it has to be what fontTools reads, in exact fractions. Of a table with a font dict or a private
+dict that can't be read to its end both read nothing; there it has to be what a third reading (cff2_dicts.py) has. The advance is HarfBuzz's, or that of
+the second reading (variable.py).
+"""
+import os
+import random
+import resource
+import tempfile
+
+import cff2_dicts
+import copies
+import font_at
+import fonts
+import variable
+from cff2_drawn import CLOSED, HarfBuzz, contours
+from cff2_exact import Source, drawn_exactly, half_up
+from cff2_others import advance_by
+from cff2_whole import Broken, Face, Refused, Report, subset_at
+
+DAMAGED = ["CFF2", "fvar", "avar", "HVAR"]
+GLYPHS, SECONDS = 12, 1
+# A copy's tables are changed where these glyphs are, so that the change is seen.
+KINDS = copies.KINDS
+# HarfBuzz's floats have 24 bits, and a coordinate is a sum of many.
+NEAR, PART = 0.001, 2 ** -19
+THIRD = "a third reading"
+# Pieces of so many copies.
+PIECE = 50
+
+
+def ranges(face, glyphs):
+    """The parts of the table CFF2 that a damage is aimed at, as names with their first byte and the one behind the last."""
+    top = face.source.top
+    charstrings, offsets = top.CharStrings.charStringsIndex, []
+    for glyph in glyphs:
+        first, last = (charstrings.offsets[glyph + k] + charstrings.offsetBase for k in (0, 1))
+        offsets += [("charstring", first, last)]
+    found = [("front", 0, 64)] + offsets
+    for it in top.FDArray:
+        size, first = it.rawDict["Private"]
+        found += [("private dict", first, first + size)]
+        if "Subrs" in it.Private.rawDict:
+            first += it.Private.rawDict["Subrs"]
+            found += [("subroutines", first, first + 400)]
+    for name in ("VarStore", "FDSelect", "FDArray", "CharStrings"):
+        if name in top.rawDict:
+            found += [(name, top.rawDict[name], top.rawDict[name] + 300)]
+    size = len(face.tables[b"CFF2"])
+    return [(name, first, min(last, size)) for name, first, last in found if first < min(last, size)]
+
+
+def damaged(rng, data, face, glyphs):
+    """A copy with a part changed, and what was done to it."""
+    tables = fonts.directory(data, face.index)
+    tag = "CFF2" if rng.random() < 0.6 else rng.choice([it for it in DAMAGED if it in tables])
+    at, size = tables[tag]
+    first, last, name = at, at + size, tag
+    if tag == "CFF2":
+        found = ranges(face, glyphs)
+        name = rng.choice(sorted({it[0] for it in found}))
+        _, first, last = rng.choice([it for it in found if it[0] == name])
+        first, last = at + first, at + last
+    copy = bytearray(data)
+    done = [rng.choice(KINDS)(rng, copy, first, last) for _ in range(rng.choice((1, 1, 2)))]
+    return bytes(copy), f"{name}: {', '.join(done)}"
+
+
+# ---- what is drawn
+
+def agree(ours, theirs):
+    """Whether whole coordinates are those of a path, each rounded once; where one is near a half, to either side."""
+    def near(value):
+        slack = NEAR + abs(value) * PART
+        return {half_up(value - slack), half_up(value + slack)}
+
+    choices = [part for contour in contours(theirs, CLOSED) for part in contour]
+    if [part[0] for part in ours] != [part[0] for part in choices]:
+        # (a line back may be closed by rounding alone)
+        choices = [part for contour in contours([(part[0], *map(half_up, part[1:])) for part in choices]) for part in contour]
+        if [part[0] for part in ours] != [part[0] for part in choices]:
+            return False
+    return all(a in near(b) for one, other in zip(ours, choices) for a, b in zip(one[1:], other[1:]))
+
+
+class Copy:
+    """A damaged copy, as HarfBuzz and fontTools read it."""
+
+    def __init__(self, path, face, place):
+        self.path, self.index = path, face.index
+        with open(path, "rb") as file:
+            data = file.read()
+        self.tables = {tag.encode("latin-1"): data[at:at + size] for tag, (at, size) in fonts.directory(data, face.index).items()}
+        self.at = variable.place_of(self.tables, [(tag.encode("latin-1"), value) for tag, value in place])
+        self.harfbuzz = HarfBuzz(path, face.index)
+        self.harfbuzz.place(self.at)
+        self.metrics, self.names = face.metrics, face.names
+
+    def draws(self, glyph, ours):
+        """Who draws this of a glyph: HarfBuzz, fontTools, the third reading where fontTools reads nothing, or nobody."""
+        if agree(ours, self.harfbuzz.drawn(glyph)):
+            return "HarfBuzz"
+        try:
+            exact, who = drawn_exactly(Source(self.path, self.index).events(glyph, self.at)), "fontTools"
+        except Exception:
+            exact, who = self.read_by_dicts(glyph), THIRD
+        return who if exact is not None and agree(ours, exact) else "nobody"
+
+    def read_by_dicts(self, glyph):
+        try:
+            return drawn_exactly(cff2_dicts.Table(self.tables[b"CFF2"]).events(glyph, self.at))
+        except Exception:
+            return None
+
+    def has_advance(self, glyph, advance):
+        """Whether an advance is HarfBuzz's, or that of the second reading."""
+        default = self.metrics[self.names[glyph]][0]
+        if b"HVAR" in self.tables:
+            exact = default + variable.advance_delta(self.tables[b"HVAR"], self.at, glyph) / variable.UNIT
+        else:
+            exact = default
+        return advance in (max(half_up(exact), 0), max(advance_by(self.harfbuzz, glyph), 0))
+
+
+def judge(report, copy, data, old, room, label):
+    """Whether a new font is what the damaged copy draws."""
+    path = os.path.join(room, "answer.otf")
+    with open(path, "wb") as file:
+        file.write(data)
+    new = HarfBuzz(path)
+    for number, glyph in enumerate(old):
+        ours = [part for contour in contours(new.drawn(number)) for part in contour]
+        who = copy.draws(glyph, ours)
+        report.counts[f"drawn as by {who}"] += 1
+        if who == "nobody":
+            report.say("damage", f"{label}: glyph {glyph} is drawn otherwise")
+            return
+        try:
+            sound = copy.has_advance(glyph, advance_by(new, number))
+        except variable.Fault as it:
+            report.say("damage", f"{label}: glyph {glyph} has an advance, and not {it.args[0]}")
+            return
+        if not sound:
+            report.say("damage", f"{label}: glyph {glyph} has an advance of {advance_by(new, number)}")
+            return
+
+
+# ---- pieces
+
+def spent():
+    """The seconds on a processor of the programs that have ended."""
+    used = resource.getrusage(resource.RUSAGE_CHILDREN)
+    return used.ru_utime + used.ru_stime
+
+
+def one_copy(words, report, face, data, rng, room, label):
+    count = len(face.names)
+    place, glyphs = font_at.random_place(face.axes, rng), rng.sample(range(count), min(GLYPHS, count))
+    made, done = damaged(rng, data, face, glyphs)
+    path = os.path.join(room, "copy")
+    with open(path, "wb") as file:
+        file.write(made)
+    report.counts["copies"] += 1
+    before = spent()
+    try:
+        answer, old = subset_at(words.program, path, face.index, place, glyphs, room)
+    except Refused as it:
+        report.counts["refused"] += 1
+        report.counts[str(it)] += 1
+        return
+    except Broken as it:
+        report.say("damage", f"{label}, {done}: {it}")
+        return
+    finally:
+        took = spent() - before
+        report.worst = max(report.worst, took)
+    if took > words.seconds:
+        report.say("damage", f"{label}, {done}: {took:.1f} seconds")
+    try:
+        copy = Copy(path, face, place)
+    except variable.Fault as it:
+        report.say("damage", f"{label}, {done}: answered, and not {it.args[0]}")
+        return
+    judge(report, copy, answer, old, room, f"{label}, {done}")
+
+
+def piece(words, path, index, number):
+    """So many damaged copies of a face."""
+    face = Face(path, index)
+    report, rng = Report(face.label), random.Random(f"{words.seed} {os.path.basename(path)} {index} {number}")
+    with open(path, "rb") as file:
+        data = file.read()
+    with tempfile.TemporaryDirectory(prefix="damaged-") as room:
+        for k in range(min(PIECE, words.damage)):
+            one_copy(words, report, face, data, rng, room, f"piece {number}, copy {k}")
+    return report

@@ -1,0 +1,116 @@
+"""A third reading of CFF2 tables, for damaged ones of which HarfBuzz and fontTools read nothing (OpenType, "CFF2"): a dict ends before the
+first byte that can't be read, the last entry of an operator counts, and a font dict that names no private dict has an empty one."""
+import types
+
+import cff2_private
+from cff2_exact import Source, recorder
+from variable import cut, number
+
+CHARSTRINGS, SELECT, DICTS, STORE = (17,), (12, 37), (12, 36), (24,)
+PRIVATE, SUBROUTINES, VSINDEX = (18,), (19,), (22,)
+# The bytes of a range's first glyph and of its font dict, by FDSelect's format.
+RANGES = {3: (2, 1), 4: (4, 2)}
+LAST_OPERATOR = 27
+ONE = 16384
+
+
+def last_entries(data):
+    """The last operands of each operator, of what can be read."""
+    found, operands, at = {}, [], 0
+    try:
+        while at < len(data):
+            if data[at] > LAST_OPERATOR:
+                value, at = cff2_private.number_at(data, at)
+                operands.append(value)
+            else:
+                size = 2 if data[at] == 12 else 1
+                found[tuple(cut(data, at, size))], operands, at = operands, [], at + size
+    except Exception:
+        pass
+    return found
+
+
+def index(table, at):
+    """The entries of an INDEX whose count has four bytes."""
+    count = number(table, at, 4)
+    if not count:
+        return []
+    size = number(table, at + 4, 1)
+    ends = [number(table, at + 5 + k * size, size) for k in range(count + 1)]
+    first = at + 4 + (count + 1) * size
+    return [table[first + begin:first + end] for begin, end in zip(ends, ends[1:])]
+
+
+def selected(table, at, glyph):
+    """The font dict of a glyph by FDSelect."""
+    kind = number(table, at, 1)
+    if kind == 0:
+        return number(table, at + 1 + glyph, 1)
+    wide, narrow = RANGES[kind]
+    first, size = at + 1 + wide, wide + narrow
+    for k in range(number(table, at + 1, wide)):
+        record = first + k * size
+        if number(table, record, wide) <= glyph < number(table, record + size, wide):
+            return number(table, record + wide, narrow)
+    raise LookupError(f"no font dict of glyph {glyph}")
+
+
+def offset(entry):
+    (value,) = entry
+    return int(value)
+
+
+def subroutines(table, at):
+    from fontTools.misc.psCharStrings import T2CharString
+
+    return [T2CharString(bytecode=it) for it in index(table, at)]
+
+
+def private(table, font_dict):
+    """The data that a private dict chooses, and its subroutines."""
+    said = last_entries(font_dict).get(PRIVATE)
+    if said is None:
+        return types.SimpleNamespace(vsindex=0, Subrs=[])
+    size, at = map(int, said)
+    found = last_entries(cut(table, at, size))
+    subrs = subroutines(table, at + offset(found[SUBROUTINES])) if SUBROUTINES in found else []
+    return types.SimpleNamespace(vsindex=offset(found.get(VSINDEX, [0])), Subrs=subrs)
+
+
+def store(table, at):
+    """The regions and the item variation data of an item variation store, as fontTools names them."""
+    listed = at + number(table, at + 2, 4)
+    axes = number(table, listed)
+
+    def region(k):
+        first = listed + 4 + 6 * axes * k
+        ends = [[number(table, first + 6 * axis + 2 * end, 2, True) / ONE for end in range(3)] for axis in range(axes)]
+        return types.SimpleNamespace(VarRegionAxis=[types.SimpleNamespace(StartCoord=it[0], PeakCoord=it[1], EndCoord=it[2]) for it in ends])
+
+    def data(k):
+        first = at + number(table, at + 8 + 4 * k, 4)
+        return types.SimpleNamespace(VarRegionIndex=[number(table, first + 6 + 2 * j) for j in range(number(table, first + 4))])
+
+    regions = [region(k) for k in range(number(table, listed + 2))]
+    return types.SimpleNamespace(VarRegionList=types.SimpleNamespace(Region=regions), VarData=[data(k) for k in range(number(table, at + 6))])
+
+
+class Table(Source):
+    """The glyphs of a CFF2 table."""
+
+    def __init__(self, table):
+        size, top_size = number(table, 2, 1), number(table, 3)
+        top = last_entries(cut(table, size, top_size))
+        self.table, self.drawn, self.shared = table, index(table, offset(top[CHARSTRINGS])), subroutines(table, size + top_size)
+        self.dicts, self.select = index(table, offset(top[DICTS])), offset(top[SELECT]) if SELECT in top else None
+        self.top = types.SimpleNamespace(CharStrings=types.SimpleNamespace(charStringsIndex=self))
+        if STORE in top:
+            self.top.VarStore = types.SimpleNamespace(otVarStore=store(table, offset(top[STORE]) + 2))
+        self.recorder, self.scalars = recorder(), {}
+
+    def __getitem__(self, glyph):
+        """A charstring, with what it may call."""
+        from fontTools.misc.psCharStrings import T2CharString
+
+        number_of_dict = 0 if self.select is None else selected(self.table, self.select, glyph)
+        return T2CharString(bytecode=self.drawn[glyph], private=private(self.table, self.dicts[number_of_dict]), globalSubrs=self.shared)

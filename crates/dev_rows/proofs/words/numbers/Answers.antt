@@ -1,0 +1,15 @@
+use Rattle.std.proofs.Common.{◌≡◌, ℕ, List, [], ◌∷◌, ◌++◌, Bor, Some, arith, get_or, sym, ◌∙◌}
+use Rattle.std.proofs.lemmas.Grind.{common_steps}
+use Rattle.std.proofs.lemmas.Int.{to_z-of_z}
+use Rattle.dev_base.specs.Numbers.{signed_in_bits}
+use Rattle.dev_base.proofs.Each.{next_text}
+use Rattle.dev_rows.proofs.words.numbers.Goals as goal
+
+pub loop-part-preserved : goal.loop-part-preserved
+loop-part-preserved c =
+    let none : Bor (List ℕ) = record { ref_ptr = (0, 0); now = [] } in
+    let items = c.deref-part-items.result.now in
+    let i = c.loop-part.part-index in
+    let is : signed_in_bits 31 (get_or items i none).now ≡ Some c.in_ok-number.number = sym c.i32_of.ensures ∙ c.in_ok-number.ensures.ok_part in
+    let same : c.push.new.self.items ≡ c.loop-part.numbers.items ++ c.in_ok-number.number ∷ [] = grind (arith, to_z-of_z, common_steps) in
+    next_text (signed_in_bits 31) items i none c.loop-part.numbers.items c.push.new.self.items c.in_ok-number.number _ c.loop-part-test.true is same c.loop-part.invariant

@@ -1,0 +1,49 @@
+-- Metrics of glyphs, one after another.
+use Rattle.std.proofs.Common.{◌≡◌, ℕ, ◌+◌, List, [], ◌∷◌, ◌++◌, map, Option, Result, Ok, Err, ℤ, refl, sym, ap, ◌∙◌, append_assoc, arith}
+use Rattle.std.specs.List.{range_with_len}
+use Rattle.std.proofs.lemmas.List.{append-nil}
+use Rattle.std.proofs.lemmas.List.FromFn.{map-range_with_len_more}
+use Rattle.subsetter_base.specs.Bytes.{◌>>=◌}
+use Rattle.subsetter_base.specs.Gives.{Fails}
+use Rattle.subsetter_base.specs.declared.error.Error.{Error}
+use Rattle.subsetter_base.proofs.Results.{with_front}
+use Rattle.subsetter_sfnt.specs.declared.fields.hmtx.LongHorMetric.{LongHorMetric}
+use Rattle.subsetter_instance.proofs.GlyphsLaws.Points.{fails}
+use Rattle.subsetter_cff_instance.specs.Metrics.{metric_if, varied_metrics, metric_among}
+use Rattle.subsetter_cff_instance.specs.Source.{Source}
+
+-- ---- of the glyphs that are asked for
+
+abbrev onto : LongHorMetric → Result (List LongHorMetric) Error → Result (List LongHorMetric) Error
+onto m r = r >>= λ rest. Ok (m ∷ rest)
+
+push_front : (front : List LongHorMetric) (m : LongHorMetric) (r : Result (List LongHorMetric) Error) → with_front front (onto m r) ≡ with_front (front ++ m ∷ []) r
+push_front front m (Ok rest) = ap (λ l. Ok l) (sym (append_assoc front (m ∷ []) rest))
+push_front front m (Err e) = refl
+
+-- the others follow the first one
+abbrev after_first : List LongHorMetric → Result (List LongHorMetric) Error → Result LongHorMetric Error → Result (List LongHorMetric) Error
+after_first front others first = with_front front (first >>= λ m. onto m others)
+
+pub metrics_start : (r : Result (List LongHorMetric) Error) → with_front [] r ≡ r
+metrics_start (Ok rest) = refl
+metrics_start (Err e) = refl
+
+pub metrics_step : (s : Source) (at : List ℤ) (front : List LongHorMetric) (g : ℕ) (all rest : List ℕ) (m : LongHorMetric) → all ≡ g ∷ rest → metric_if s at g ≡ Ok m → with_front front (varied_metrics s at all) ≡ with_front (front ++ m ∷ []) (varied_metrics s at rest)
+metrics_step s at front g all rest m e h = ap (λ l. with_front front (varied_metrics s at l)) e ∙ ap (after_first front (varied_metrics s at rest)) h ∙ push_front front m (varied_metrics s at rest)
+
+-- where the first one fails, all do
+pub metrics_cut : (s : Source) (at : List ℤ) (front : List LongHorMetric) (g : ℕ) (all rest : List ℕ) (whole : Result (List LongHorMetric) Error) (e : Error) → all ≡ g ∷ rest → with_front front (varied_metrics s at all) ≡ whole → metric_if s at g ≡ Err e → Fails e whole
+metrics_cut s at front g all rest whole e h same f = fails e whole (sym same ∙ ap (λ l. with_front front (varied_metrics s at l)) h ∙ ap (after_first front (varied_metrics s at rest)) f)
+
+pub metrics_end : (s : Source) (at : List ℤ) (front : List LongHorMetric) (all : List ℕ) → all ≡ [] → with_front front (varied_metrics s at all) ≡ Ok front
+metrics_end s at front all e = ap (λ l. with_front front (varied_metrics s at l)) e ∙ ap (λ l. Ok l) (append-nil front)
+
+-- ---- of all glyphs
+
+-- one more
+pub among_more : (glyphs : List ℕ) (metrics : List LongHorMetric) (all more : List (Option LongHorMetric)) (k : ℕ) (m : Option LongHorMetric) → all ≡ map (metric_among glyphs metrics) (range_with_len 0 k) → m ≡ metric_among glyphs metrics k → more ≡ all ++ m ∷ []
+    → more ≡ map (metric_among glyphs metrics) (range_with_len 0 (k + 1))
+among_more glyphs metrics all more k m e is pushed =
+    let h = metric_among glyphs metrics in
+    pushed ∙ ap (λ (l : List (Option LongHorMetric)). l ++ m ∷ []) e ∙ ap (λ (y : Option LongHorMetric). map h (range_with_len 0 k) ++ y ∷ []) is ∙ sym (map-range_with_len_more h 0 k k (omega arith))

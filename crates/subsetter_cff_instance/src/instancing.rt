@@ -1,0 +1,206 @@
+//! Making a static font.
+//!
+//! The font is opened, and its outlines are found, before any memory is taken.
+
+ghost use Rattle.std.specs.Prelude.{◌≡◌, ◌≢◌, ◌⊎◌, IfOk, IfErr, Ok, Err};
+ghost use Rattle.subsetter_base.specs.Bytes.{IsBytes};
+ghost use Rattle.subsetter_base.specs.Gives.{Gives};
+ghost use Rattle.subsetter_base.specs.Within.{IsTooLong};
+ghost use Rattle.subsetter_base.specs.declared.error.Error.{Error as SpecError};
+ghost use Rattle.subsetter_base.specs.declared.error.Error.TheVariants.{OutOfMemory, OverflowError};
+ghost use Rattle.subsetter_sfnt.specs.Extras.{all_extras};
+ghost use Rattle.subsetter_sfnt.specs.FontAt.{font_at};
+ghost use Rattle.subsetter_sfnt.specs.Plain.{opened};
+ghost use Rattle.subsetter_sfnt.specs.Read.{table_in};
+ghost use Rattle.subsetter_cff.specs.Write.Laying.TableBy.{table_bytes};
+ghost use Rattle.subsetter_cff_at.specs.Fault.{HasFault};
+ghost use Rattle.subsetter_cff_at.specs.Plain.{drawn_of, made_table};
+ghost use Rattle.subsetter_cff_at.specs.View.{drawn_size, KeepsBound};
+ghost use Rattle.subsetter_cff_instance.specs.Answer.{IsCffAnswer, HasNoCffAnswer, IsTheCffAnswer, IsClosedToCff, PassesBound, FailsInstance};
+ghost use Rattle.subsetter_cff_instance.specs.CffInstance.{IsCffInstance};
+ghost use Rattle.subsetter_cff_instance.specs.Fault.{HasCffInstanceFault, HasOutlinesFault};
+ghost use Rattle.subsetter_cff_instance.specs.Plain.{prepared, request_at, cff_instance_in, charstrings_in, charstrings_of};
+ghost use Rattle.subsetter_cff_instance.specs.Source.{outlines_or_fault};
+
+use crate::metrics::{advances, metrics_by_glyph, varied_metrics};
+use crate::source::{Source, outlines_or_fault, source_or_fault};
+use crate::tables::laid;
+use std::alloc::{AllocError, Global};
+use std::marker::Model;
+use subsetter_base::{Error, GlyphRemapper, Tag};
+use subsetter_cff::CffPieces;
+use subsetter_cff_at::making::make_table;
+use subsetter_cff_at::request::TableRequest;
+use subsetter_instance::source::normalized_coordinates;
+use subsetter_instance::tables::lines::{Lines, lines_of};
+use subsetter_sfnt::extras::Extras;
+use subsetter_sfnt::face::Face;
+use subsetter_sfnt::fields::hmtx::LongHorMetric;
+use subsetter_sfnt::parse::parse;
+use subsetter_type2::limits::Limits;
+
+/// What is read of a font at a location: the normalized coordinates, the tables, the metrics of the glyphs that are requested, in the mapper's
+/// order, and the metrics of the font that vary.
+#[derive(Drop)]
+struct Prepared<'a> {
+    at: Vec<i32>,
+    source: Source<'a>,
+    metrics: Vec<LongHorMetric>,
+    lines: Lines,
+}
+
+impl<'a> Model for Prepared<'a> {
+    ghost use Rattle.subsetter_cff_instance.specs.Plain.{Prepared};
+
+    ghost Value = { Prepared };
+
+    ghost view = { λ p. record { at = p.at.items; source = p.source; metrics = p.metrics.items; lines = p.lines } };
+}
+
+/// Reads that.
+#[tactic(auto, unfolding(crate::specs::Plain::prepared))]
+fn prepare<'a>(
+    alloc: Global,
+    face: &Face<'a>,
+    coordinates: &[(Tag, i32)],
+    mapper: &GlyphRemapper,
+) -> Result<Prepared<'a>, Error>
+    ensures { Gives (λ p. p) result (prepared (table_in face.now.«data».now face.now.records.now) coordinates.now mapper.now) }
+{
+    let at = normalized_coordinates(alloc, face, coordinates)?;
+    let source = source_or_fault(face)?;
+    let metrics = varied_metrics(alloc, &source, &at, mapper)?;
+    let lines = lines_of(alloc, face, &at)?;
+    Ok(Prepared {
+        at,
+        source,
+        metrics,
+        lines,
+    })
+}
+
+/// The two pieces of a table, one behind the other.
+fn joined(pieces: CffPieces) -> Result<Vec<u8>, AllocError>
+    ensures { IfOk result (λ v. v.items ≡ table_bytes pieces) }
+{
+    let CffPieces {
+        front,
+        char_strings,
+    } = pieces;
+    let mut table = front;
+    table.extend_from_slice(&char_strings)?;
+    Ok(table)
+}
+
+/// The `CFF ` of a `CFF2`, each glyph that is requested with its advance.
+fn make_cff(
+    alloc: Global,
+    cff2: &[u8],
+    prepared: &Prepared<'_>,
+    mapper: &GlyphRemapper,
+    limits: Limits,
+) -> Result<Vec<u8>, Error>
+    ensures ok { IfOk result (λ v. made_table cff2.now (request_at mapper.now prepared.now) limits.tokens limits.depth ≡ Ok v.items) }
+    ensures within { IfOk result (λ _. KeepsBound limits.bytes (drawn_of cff2.now (request_at mapper.now prepared.now) limits.tokens limits.depth)) }
+    ensures err { IfErr result (λ e. (e ≡ OutOfMemory) ⊎ (HasFault cff2.now (request_at mapper.now prepared.now) limits.tokens limits.depth e ⊎ ((e ≡ OverflowError) × IsTooLong limits.bytes drawn_size (drawn_of cff2.now (request_at mapper.now prepared.now) limits.tokens limits.depth)))) }
+{
+    let source = &prepared.source;
+    let all = metrics_by_glyph(alloc, mapper, &prepared.metrics, source.count())?;
+    let glyphs = advances(alloc, &all)?;
+    let request = TableRequest {
+        coordinates: &prepared.at,
+        glyphs: &glyphs,
+        font_box: source.font_box(),
+        units_per_em: source.units_per_em(),
+    };
+    let pieces = make_table(alloc, cff2, &request, limits)?;
+    Ok(joined(pieces)?)
+}
+
+/// The directory of a font, and its `CFF2` where its outlines are in that alone. No memory is taken.
+fn open(data: &[u8], index: u32) -> Result<(Face<'_>, &[u8]), Error>
+    ensures bytes { IsBytes «data».now }
+    ensures same { IfOk result (λ r. r.0.«data».now ≡ «data».now) }
+    ensures opened { IfOk result (λ r. opened (font_at «data».now index all_extras) ≡ Ok r.0.records.now) }
+    ensures outlines { IfOk result (λ r. outlines_or_fault (table_in «data».now r.0.records.now) ≡ Ok r.1.now) }
+    ensures err { IfErr result (λ e. IsClosedToCff (font_at «data».now index all_extras) e) }
+{
+    let face = parse(data, index, Extras::ALL)?;
+    let cff2 = outlines_or_fault(&face)?;
+    Ok((face, cff2))
+}
+
+/// The static font of a font whose directory was read, and of its `CFF2`.
+#[tactic(auto, unfolding(crate::specs::Plain::cff_instance_in, crate::specs::Plain::charstrings_in))]
+fn make(
+    alloc: Global,
+    face: &Face<'_>,
+    cff2: &[u8],
+    coordinates: &[(Tag, i32)],
+    mapper: &GlyphRemapper,
+    limits: Limits,
+) -> Result<Vec<u8>, Error>
+    ensures ok { IfOk result (λ v. cff_instance_in (table_in face.now.«data».now face.now.records.now) cff2.now coordinates.now mapper.now limits.tokens limits.depth ≡ Ok v.items) }
+    ensures within { IfOk result (λ _. KeepsBound limits.bytes (charstrings_in (table_in face.now.«data».now face.now.records.now) cff2.now coordinates.now mapper.now limits.tokens limits.depth)) }
+    ensures err { IfErr result (λ e. FailsInstance (table_in face.now.«data».now face.now.records.now) cff2.now coordinates.now mapper.now limits.tokens limits.depth limits.bytes e) }
+{
+    let prepared = prepare(alloc, face, coordinates, mapper)?;
+    let cff = make_cff(alloc, cff2, &prepared, mapper, limits)?;
+    laid(
+        alloc,
+        face,
+        &prepared.source,
+        &prepared.lines,
+        mapper,
+        &prepared.metrics,
+        &cff,
+    )
+}
+
+/// A static font with a CID-keyed `CFF `: the mapper's glyphs, glyph 0 among them, as a font with outlines in `CFF2` has them at these
+/// coordinates, each under its old number with its width and without subroutines. Every other glyph is empty.
+///
+/// `data` is a font file or a collection, of which `index` names a face (it is ignored for a single font). A coordinate is the
+/// tag of an axis and a value in 65536ths; where a tag comes twice the last value counts, and an axis without a value stays at
+/// its default. A font without `fvar` has no axes. Each charstring may take so many tokens and go so deep as the `limits` say, and
+/// together they may have so many bytes.
+///
+/// # Errors
+///
+/// Each names what is in the source (`HasCffInstanceFault`), but where a bound on bytes is set; a font without a fault whose charstrings don't
+/// pass that bound is refused only when out of memory.
+///
+/// - `UnknownKind`: the file doesn't begin with a known kind of font, or has none of `glyf`, `CFF ` and `CFF2`.
+/// - `Unimplemented`: there is `glyf` or `CFF `; or `fvar`, `avar`, `HVAR` or `MVAR` has a major version other than 1.
+/// - `MalformedFont`: the directory, `fvar`, `avar`, `HVAR`, `MVAR` or `CFF2` is cut, or a table of metrics is missing or cut; a glyph isn't one of
+///   the font's, or its metric, its variations, its font dict, its private dict or its charstring can't be read.
+/// - `CFFError`: a charstring can't be run, or not within the limits.
+/// - `OverflowError`: a number of a charstring, an advance or a metric of `hhea` or `post` has no room; a size of the new `CFF ` is past its limit
+///   (`make_table` of `subsetter_cff_at`); the file passes 2^32 bytes; or the charstrings pass the bound on bytes.
+pub fn cff_instance(
+    alloc: Global,
+    data: &[u8],
+    index: u32,
+    coordinates: &[(Tag, i32)],
+    mapper: &GlyphRemapper,
+    limits: Limits,
+) -> Result<Vec<u8>, Error>
+    // What is answered is a static font, read afresh from its bytes.
+    ensures ok { IfOk result (λ out. IsCffInstance (font_at «data».now index all_extras) coordinates.now mapper.now out.items) }
+    // And then there is no fault.
+    ensures clean { IfOk result (λ _. (e : SpecError) → ¬ (HasCffInstanceFault (font_at «data».now index all_extras) coordinates.now mapper.now limits.tokens limits.depth e)) }
+    // There is one answer, within whatever limits.
+    ensures exact { IfOk result (λ out. IsCffAnswer (font_at «data».now index all_extras) coordinates.now mapper.now limits.tokens limits.depth out.items) }
+    ensures same { IfOk result (λ out. IsTheCffAnswer (font_at «data».now index all_extras) coordinates.now mapper.now out.items) }
+    // And its charstrings have no more bytes than they may have.
+    ensures within { IfOk result (λ _. KeepsBound limits.bytes (charstrings_of (font_at «data».now index all_extras) coordinates.now mapper.now limits.tokens limits.depth)) }
+    // What is refused has a fault of that name, or its charstrings pass the bound on bytes.
+    ensures err { IfErr result (λ e. (e ≡ OutOfMemory) ⊎ (HasCffInstanceFault (font_at «data».now index all_extras) coordinates.now mapper.now limits.tokens limits.depth e ⊎ PassesBound (font_at «data».now index all_extras) coordinates.now mapper.now limits.tokens limits.depth limits.bytes e)) }
+    // And, unless out of memory or past that bound, it has no answer within these limits.
+    ensures no_answer { IfErr result (λ e. (e ≡ OutOfMemory) ⊎ (HasNoCffAnswer (font_at «data».now index all_extras) coordinates.now mapper.now limits.tokens limits.depth ⊎ PassesBound (font_at «data».now index all_extras) coordinates.now mapper.now limits.tokens limits.depth limits.bytes e)) }
+    // Where there is a fault that is found before memory is taken, the answer isn't out of memory.
+    ensures before_memory { (e : SpecError) → HasOutlinesFault (font_at «data».now index all_extras) e → result ≢ Err OutOfMemory }
+{
+    let (face, cff2) = open(data, index)?;
+    make(alloc, &face, cff2, coordinates, mapper, limits)
+}
