@@ -46,7 +46,7 @@ PLANTS = [
     ("standard output taken too late", "host/env.rs", "streams::prepare()?;", ""),
     ("standard input not asked for", "host/streams.rs", "            room::ask(BUFFER_ROOM)?;\n            self.is_ready", "            self.is_ready"),
     ("no room for a long name", "host/fs.rs", "            room::keep_for_name(name)?;", ""),
-    ("the room for a long name not given back", "host/fs.rs", "    room::give_back();\n    Ok(std::fs::rename", "    Ok(std::fs::rename"),
+    ("the room for a long name not given back", "host/fs.rs", "    room::give_back(from);\n    Ok(std::fs::rename", "    Ok(std::fs::rename"),
     # messages, ranges and inputs
     ("a wrong argument named", "proved/subset_args/mistakes/values.rs", "return mistake_at(Wrong::Glyph, part);", "return mistake_at(Wrong::Glyph, list);"),
     ("an option after IN not seen", "proved/subset_args/mistakes/plain.rs", "_ => return mistake_at(Wrong::Late, word),", "_ => return None,"),

@@ -6,14 +6,14 @@ use Rattle.subset_batch.specs.Written.{escaped_text}
 abbrev pub answer_front : ℕ → ℕ → List ℕ
 answer_front line status = codes "{\"line\":" ++ decimal line ++ codes ",\"status\":" ++ decimal status
 
--- members of the answer, behind these
+-- what follows these: the members of an object that is a line, and what closes it
 abbrev pub further : List ℕ → List ℕ
-further [] = []
-further (b ∷ members) = codes "," ++ (b ∷ members)
+further [] = codes "}\n"
+further (brace ∷ members) = codes "," ++ members
 
--- a request that was done, with these members
+-- a request that was done, with the members of this object, if there is one
 abbrev pub done_line : ℕ → List ℕ → List ℕ
-done_line line members = answer_front line 0 ++ further members ++ codes "}\n"
+done_line line object = answer_front line 0 ++ further object
 
 -- a request that failed, and why
 abbrev pub failed_line : ℕ → ℕ → List ℕ → List ℕ

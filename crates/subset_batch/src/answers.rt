@@ -53,27 +53,28 @@ fn write_front<W: Write>(line: usize, status: u8, out: &mut W) -> Result<(), Unw
     Ok(())
 }
 
-/// Writes members behind others.
+/// Writes the members of an object that is a line behind others, and what closes it.
 #[tactic(auto, using(subset_lines::proofs::Written::both))]
-fn write_further<W: Write>(members: &[u8], out: &mut W) -> Result<(), Unwritten>
-    ensures { OnOk result (Appends (W.contents out.old) (W.contents out.new) (further members.now)) }
+fn write_further<W: Write>(object: &[u8], out: &mut W) -> Result<(), Unwritten>
+    ensures { OnOk result (Appends (W.contents out.old) (W.contents out.new) (further object.now)) }
 {
-    if members.is_empty() {
-        return Ok(());
+    match object {
+        [] => write_text(b"}\n", out),
+        [_, members @ ..] => {
+            write_text(b",", out)?;
+            write_text(members, out)
+        }
     }
-    write_text(b",", out)?;
-    write_text(members, out)
 }
 
 /// Writes the answer to the request of a line, counted from 1, that was done: `{"line":3,"status":0}` and a line end, with
-/// these members behind the status.
+/// the members of an object behind the status, if there is one: `{"notes":[]}` and a line end.
 #[tactic(auto, using(subset_lines::proofs::Written::both))]
-pub fn write_done<W: Write>(line: usize, members: &[u8], out: &mut W) -> Result<(), Unwritten>
-    ensures { OnOk result (Appends (W.contents out.old) (W.contents out.new) (done_line line members.now)) }
+pub fn write_done<W: Write>(line: usize, object: &[u8], out: &mut W) -> Result<(), Unwritten>
+    ensures { OnOk result (Appends (W.contents out.old) (W.contents out.new) (done_line line object.now)) }
 {
     write_front(line, 0, out)?;
-    write_further(members, out)?;
-    write_text(b"}\n", out)
+    write_further(object, out)
 }
 
 /// Writes the answer to the request of a line, counted from 1, that failed:

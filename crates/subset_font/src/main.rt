@@ -19,7 +19,7 @@ mod run;
 mod streams;
 mod task;
 
-pub use batch::making::{answer_of, read_source};
+pub use batch::making::{answer_of, carry_answer, read_source};
 pub use batch::requests::{Batch, Request, State, due, due_of, set_answer};
 pub use batch::running::{Answers, read_batch, status_of_batch};
 pub use faces::accepted::InfoParts;

@@ -1,8 +1,8 @@
 //! What is answered to a request of a batch.
 
-ghost use Rattle.std.specs.Prelude.{◌≡◌, true, OnOk};
+ghost use Rattle.std.specs.Prelude.{◌≡◌, OnOk};
 ghost use Rattle.std.specs.Io.KnownBytes.{Appends};
-ghost use Rattle.subset_font.specs.Batch.{answer_line, has_failed};
+ghost use Rattle.subset_font.specs.Batch.Answers.{answer_line, has_failed, IsFailedBy};
 
 use std::alloc::AllocError;
 use std::io::Write;
@@ -12,7 +12,7 @@ use subset_lines::Unwritten;
 /// What is answered to a request of a batch.
 #[derive(Drop)]
 pub enum Answer {
-    /// It was done: the further members of its line.
+    /// It was done: the object that a run of its own prints, as a line; nothing where that prints nothing.
     Done(Vec<u8>),
     /// It failed: the status that the program would end with, and why.
     Failed(u8, String),
@@ -26,7 +26,7 @@ const NO_MEMORY: &str = "out of memory";
 
 /// The answer to a request that failed, by a text that memory may not have sufficed for.
 pub fn failed(status: u8, text: Result<String, AllocError>) -> Answer
-    ensures { has_failed result ≡ true }
+    ensures { IsFailedBy status result }
 {
     match text {
         Ok(text) => Answer::Failed(status, text),
@@ -49,7 +49,7 @@ pub fn write_answer<W: Write>(line: usize, answer: &Answer, out: &mut W) -> Resu
     ensures { OnOk result (Appends (W.contents out.old) (W.contents out.new) (answer_line line answer.now)) }
 {
     match answer {
-        Answer::Done(members) => write_done(line, members, out),
+        Answer::Done(object) => write_done(line, object, out),
         Answer::Failed(status, text) => write_failed(line, *status, text, out),
         Answer::NoMemory => write_failed(line, NO_MEMORY_STATUS, NO_MEMORY, out),
     }

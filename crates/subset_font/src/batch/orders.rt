@@ -1,10 +1,10 @@
 //! What a line of a batch requests.
 
-ghost use Rattle.std.specs.Prelude.{◌≡◌, ◌⊎◌, map, string_bytes, IfOk, IfErr, Some, None};
+ghost use Rattle.std.specs.Prelude.{◌≡◌, map, string_bytes, IfOk, IfErr, Some};
 ghost use Rattle.std.specs.Option.{option_copied};
 ghost use Rattle.subset_args.specs.View.{job_view};
-ghost use Rattle.subset_font.specs.Batch.{is_given_stream, uses_streams, with_answer, order_by, order_of, with_json};
-ghost use Rattle.subset_font.specs.declared.batch.answers.Answer.TheVariants.{NoMemory};
+ghost use Rattle.subset_font.specs.Batch.Answers.{IsFailedBy};
+ghost use Rattle.subset_font.specs.Batch.Orders.{is_given_stream, uses_streams, with_json, with_answer, order_by, order_of, IsNoOrder};
 
 use crate::batch::answers::{Answer, failed};
 use crate::refusals::failure::{Failure, given, list_file, pdf_file};
@@ -16,7 +16,9 @@ use subset_batch::{Unread, read_request};
 const WRONG: u8 = 2;
 
 /// Why a line requests nothing whose words are wrong.
-fn mistake_of(alloc: Global, words: &[String]) -> Answer {
+fn mistake_of(alloc: Global, words: &[String]) -> Answer
+    ensures { IsFailedBy 2 result }
+{
     match find_mistake(words) {
         Some(mistake) => failed(WRONG, format!(in alloc; "{mistake}")),
         None => failed(WRONG, format!(in alloc; "{}", Failure::Usage)),
@@ -60,7 +62,7 @@ fn with_json(switches: Switches) -> Switches
 /// A request that uses no standard stream, as the answers are written to one. Its answer has the members of `--json`.
 fn with_answer(alloc: Global, job: Job) -> Result<Job, Answer>
     ensures ok { IfOk result (λ made. with_answer (job_view job) ≡ Some (job_view made)) }
-    ensures err { IfErr result (λ e. (e ≡ NoMemory) ⊎ (with_answer (job_view job) ≡ None)) }
+    ensures err { IfErr result (IsNoOrder (with_answer (job_view job))) }
 {
     if uses_streams(&job) {
         let text = "- is no file of a request";
@@ -82,7 +84,7 @@ fn with_answer(alloc: Global, job: Job) -> Result<Job, Answer>
 /// What words request, or why they request nothing.
 fn order_by(alloc: Global, words: &[String]) -> Result<Job, Answer>
     ensures ok { IfOk result (λ job. order_by (map (λ word. string_bytes word) words.now) ≡ Some (job_view job)) }
-    ensures err { IfErr result (λ e. (e ≡ NoMemory) ⊎ (order_by (map (λ word. string_bytes word) words.now) ≡ None)) }
+    ensures err { IfErr result (IsNoOrder (order_by (map (λ word. string_bytes word) words.now))) }
 {
     match read_words(alloc, words) {
         Ok(Command::Subset(job)) => with_answer(alloc, job),
@@ -93,10 +95,10 @@ fn order_by(alloc: Global, words: &[String]) -> Result<Job, Answer>
 }
 
 /// What a line requests, or why it requests nothing.
-#[tactic(auto, unfolding(crate::specs::Batch::order_of))]
+#[tactic(auto, unfolding(crate::specs::Batch::Orders::order_of))]
 pub fn order_of(alloc: Global, line: &[u8]) -> Result<Job, Answer>
     ensures ok { IfOk result (λ job. order_of line.now ≡ Some (job_view job)) }
-    ensures err { IfErr result (λ e. (e ≡ NoMemory) ⊎ (order_of line.now ≡ None)) }
+    ensures err { IfErr result (IsNoOrder (order_of line.now)) }
 {
     match read_request(alloc, line) {
         Ok(words) => order_by(alloc, &words),

@@ -1,9 +1,10 @@
 //! The requests of a batch, and the answers to them.
 
-ghost use Rattle.std.specs.Prelude.{◌≡◌, ◌+◌, ◌++◌, ◌∷◌, [], map, length, OnOk, IfOk};
+ghost use Rattle.std.specs.Prelude.{◌≡◌, OnOk, IfOk, if◌then◌else◌, is_some, slice_get, slice_set};
 ghost use Rattle.std.specs.Option.{option_copied};
 ghost use Rattle.subset_batch.specs.Lines.{request_lines};
-ghost use Rattle.subset_font.specs.Batch.{due, of_source, line_numbers};
+ghost use Rattle.subset_batch.specs.View.{line_view};
+ghost use Rattle.subset_font.specs.Batch.Requests.{writes, is_written, is_written_if, is_named_before, IsFirst, IsBegun, AddsLine, AreBegun, due, of_source, answer_in};
 
 use crate::batch::answers::{Answer, failed};
 use crate::batch::orders::order_of;
@@ -44,38 +45,53 @@ pub struct Batch {
 }
 
 /// Whether a request writes a file of this name.
-fn writes(job: &Job, name: &str) -> bool {
+fn writes(job: &Job, name: &str) -> bool
+    ensures { result ≡ writes job.now name.now }
+{
     given(&job.output) == Some(name) || pdf_file(job) == Some(name)
 }
 
 /// Whether one of the requests writes a file of this name.
-fn is_written(requests: &[Request], name: &str) -> bool {
-    for request in requests {
+fn is_written(requests: &[Request], name: &str) -> bool
+    ensures { result ≡ is_written requests.now name.now }
+{
+    let mut rest = requests;
+    while let [request, behind @ ..] = rest {
         if let Some(job) = &request.job {
             if writes(job, name) {
                 return true;
             }
         }
+        rest = behind;
     }
     false
 }
 
-/// A file that a request writes, and one before does, too.
-fn written_twice<'a>(before: &[Request], job: &'a Job) -> Option<&'a str> {
-    if let Some(name) = given(&job.output) {
-        if is_written(before, name) {
-            return Some(name);
-        }
-    }
-    match pdf_file(job) {
+/// This name, if one of the requests writes a file of it.
+fn if_written<'a>(before: &[Request], name: Option<&'a str>) -> Option<&'a str>
+    ensures { is_some result ≡ is_written_if before.now (option_copied name.entry) }
+{
+    match name {
         Some(name) if is_written(before, name) => Some(name),
         _ => None,
     }
 }
 
+/// A file that a request writes, and one before does, too.
+fn named_before<'a>(before: &[Request], job: &'a Job) -> Option<&'a str>
+    ensures { is_some result ≡ is_named_before before.now job.now }
+{
+    match if_written(before, given(&job.output)) {
+        Some(name) => Some(name),
+        None => if_written(before, pdf_file(job)),
+    }
+}
+
 /// How far a request is before anything is made: that it fails is known where it writes a file which one before writes, too.
-fn first_state(alloc: Global, before: &[Request], job: &Job) -> State {
-    match written_twice(before, job) {
+fn first_state(alloc: Global, before: &[Request], job: &Job) -> State
+    ensures { IsFirst (is_named_before before.now job.now) result }
+{
+    match named_before(before, job) {
         Some(name) => {
             let text = format!(in alloc; "a line before names {name}, too");
             State::Answered(failed(NAMED_TWICE, text))
@@ -84,29 +100,35 @@ fn first_state(alloc: Global, before: &[Request], job: &Job) -> State {
     }
 }
 
-/// Adds the request of a line.
-fn push_line(alloc: Global, batch: &mut Batch, line: Line<'_>) -> Result<(), AllocError>
-    ensures lines { OnOk result (line_numbers batch.new.requests.items ≡ line_numbers batch.old.requests.items ++ line.number ∷ []) }
-    ensures states { OnOk result (length batch.new.states.items ≡ length batch.old.states.items + 1) }
+/// The request of a line behind others, and how far it is.
+fn begin(alloc: Global, before: &[Request], line: &[u8]) -> (Option<Job>, State)
+    ensures { IsBegun before.now line.now result.0 result.1 }
 {
-    let (job, state) = match order_of(alloc, line.bytes) {
+    match order_of(alloc, line) {
         Ok(job) => {
-            let state = first_state(alloc, &batch.requests, &job);
+            let state = first_state(alloc, before, &job);
             (Some(job), state)
         }
         Err(answer) => (None, State::Answered(answer)),
-    };
+    }
+}
+
+/// Adds the request of a line.
+fn push_line(alloc: Global, batch: &mut Batch, line: Line<'_>) -> Result<(), AllocError>
+    ensures { OnOk result (AddsLine (line_view line.entry) batch.old batch.new) }
+{
+    let (job, state) = begin(alloc, &batch.requests, line.bytes);
     let line = line.number;
     batch.requests.push(Request { line, job })?;
     batch.states.push(state)?;
     Ok(())
 }
 
-/// The requests of a file: one for each line that isn't blank.
-#[tactic(auto, using(subset_batch::proofs::Appends::at_first, subset_batch::proofs::Appends::after_part, subset_batch::proofs::Appends::at_last))]
+/// The requests of a file: one for each line that isn't blank, and how far it is: it is to be done unless it is wrong, or a
+/// line before it writes its file, too.
+#[tactic(auto, using(crate::proofs::BatchLaws::so_far_first, crate::proofs::BatchLaws::so_far_next, crate::proofs::BatchLaws::so_far_last))]
 pub fn requests_of(alloc: Global, file: &[u8]) -> Result<Batch, AllocError>
-    ensures lines { IfOk result (λ b. line_numbers b.requests.items ≡ map (λ l. l.0) (request_lines file.now)) }
-    ensures states { IfOk result (λ b. length b.states.items ≡ length b.requests.items) }
+    ensures { IfOk result (λ b. AreBegun (request_lines file.now) b.requests.items b.states.items) }
 {
     let mut batch = Batch {
         requests: Vec::new(alloc),
@@ -151,7 +173,7 @@ pub fn due_of<'a>(
 
 /// Sets the answer to the request of an index.
 pub fn set_answer(states: &mut [State], index: usize, answer: Answer)
-    ensures { length states.new ≡ length states.old }
+    ensures { states.new ≡ slice_set states.old index (State.Answered answer) }
 {
     if let Some(state) = states.get_mut(index) {
         *state = State::Answered(answer);
@@ -160,7 +182,8 @@ pub fn set_answer(states: &mut [State], index: usize, answer: Answer)
 
 /// The answer to the request of an index, if there is one that isn't written. It is taken as written.
 pub fn take_answer(states: &mut [State], index: usize) -> Option<Answer>
-    ensures { length states.new ≡ length states.old }
+    ensures answer { result ≡ answer_in (slice_get states.old index) }
+    ensures states { states.new ≡ (if is_some result then slice_set states.old index State.Written else states.old) }
 {
     let state = states.get_mut(index)?;
     match mem::replace(state, State::Written) {

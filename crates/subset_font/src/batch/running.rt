@@ -1,6 +1,7 @@
 //! A run of a batch: the requests of one source after those of another, and the answers in the order of their lines.
 
 ghost use Rattle.std.specs.Prelude.{◌≡◌, ◌≤◌, false, IfErr};
+ghost use Rattle.subset_font.specs.Batch.Running.{status_of_batch};
 ghost use Rattle.subset_font.specs.declared.refusals.failure.Failure.TheVariants.{Output};
 
 use crate::batch::answers::{has_failed, write_answer};
@@ -24,7 +25,7 @@ const UNUSABLE: u8 = 2;
 
 /// Reports that FILE can't be used, and answers the status.
 fn refuse_file<R: Eprint>(rt: &R, name: &str, reason: Option<io::Error>) -> u8
-    ensures { result ≤ 3 }
+    ensures { result ≡ 2 }
 {
     let _ = report_refused(rt, &Err(Failure::Read), Some(name), reason);
     UNUSABLE
@@ -32,7 +33,7 @@ fn refuse_file<R: Eprint>(rt: &R, name: &str, reason: Option<io::Error>) -> u8
 
 /// The requests of FILE, or the status where it can't be used.
 pub fn read_batch<R: Files + Input + Eprint + AllocGlobal>(rt: &R, name: &str) -> Result<Batch, u8>
-    ensures { IfErr result (λ status. status ≤ 3) }
+    ensures { IfErr result (λ status. status ≡ 2) }
 {
     let mut file = match open_source(rt, name) {
         Ok(file) => Noted::new(file),
@@ -186,7 +187,8 @@ pub fn status_of_batch<R: Eprint>(
     has_failed: bool,
     is_shown: bool,
 ) -> u8
-    ensures { result ≤ 3 }
+    ensures status { result ≡ status_of_batch ended.now has_failed }
+    ensures range { result ≤ 3 }
 {
     if is_shown {
         let _ = rt.eprint("\n");

@@ -42,21 +42,22 @@ fn write_front<W: Write>(line: usize, status: u8, out: &mut W) -> Result<(), Unw
     Ok(())
 }
 
-/// Writes members behind others.
-fn write_further<W: Write>(members: &[u8], out: &mut W) -> Result<(), Unwritten> {
-    if members.is_empty() {
-        return Ok(());
+/// Writes the members of an object that is a line behind others, and what closes it.
+fn write_further<W: Write>(object: &[u8], out: &mut W) -> Result<(), Unwritten> {
+    match object {
+        [] => write_text(b"}\n", out),
+        [_, members @ ..] => {
+            write_text(b",", out)?;
+            write_text(members, out)
+        }
     }
-    write_text(b",", out)?;
-    write_text(members, out)
 }
 
 /// Writes the answer to the request of a line, counted from 1, that was done: `{"line":3,"status":0}` and a line end, with
-/// these members behind the status.
-pub fn write_done<W: Write>(line: usize, members: &[u8], out: &mut W) -> Result<(), Unwritten> {
+/// the members of an object behind the status, if there is one: `{"notes":[]}` and a line end.
+pub fn write_done<W: Write>(line: usize, object: &[u8], out: &mut W) -> Result<(), Unwritten> {
     write_front(line, 0, out)?;
-    write_further(members, out)?;
-    write_text(b"}\n", out)
+    write_further(object, out)
 }
 
 /// Writes the answer to the request of a line, counted from 1, that failed:

@@ -10,7 +10,7 @@ use crate::rattle::io::Write;
 
 /// What is answered to a request of a batch.
 pub enum Answer {
-    /// It was done: the further members of its line.
+    /// It was done: the object that a run of its own prints, as a line; nothing where that prints nothing.
     Done(Vec<u8>),
     /// It failed: the status that the program would end with, and why.
     Failed(u8, String),
@@ -41,7 +41,7 @@ pub fn has_failed(answer: &Answer) -> bool {
 /// Writes the line of answer to the request of a line.
 pub fn write_answer<W: Write>(line: usize, answer: &Answer, out: &mut W) -> Result<(), Unwritten> {
     match answer {
-        Answer::Done(members) => write_done(line, members, out),
+        Answer::Done(object) => write_done(line, object, out),
         Answer::Failed(status, text) => write_failed(line, *status, text, out),
         Answer::NoMemory => write_failed(line, NO_MEMORY_STATUS, NO_MEMORY, out),
     }

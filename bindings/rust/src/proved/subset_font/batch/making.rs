@@ -4,19 +4,18 @@
 use crate::rattle::prelude::{AllocGlobal, Input, Print, String, Vec};
 
 use crate::proved::subset_args::Job;
-use crate::proved::subset_font::batch::answers::{failed, Answer};
+use crate::proved::subset_font::batch::answers::Answer;
 use crate::proved::subset_font::making::carried::read_whole;
 use crate::proved::subset_font::making::outcome::{make_planned, Outcome};
-use crate::proved::subset_font::output::emit;
-use crate::proved::subset_font::refusals::failure::{
-    file_by, given, list_file, pdf_file, Failure, Report,
-};
+use crate::proved::subset_font::output::{write_font, write_numbers, write_page};
+use crate::proved::subset_font::refusals::failure::{file_by, given, list_file, pdf_file, Failure};
 use crate::proved::subset_font::run::job::{open_font, room_of};
 use crate::proved::subset_font::run::request::{list_of, plan_of};
 use crate::proved::subset_font::streams::Target;
-use crate::proved::subset_font::task::{form_of, Form};
+use crate::proved::subset_font::task::{Form, Plan};
 use crate::proved::subsetter::Error;
 use crate::rattle::alloc::{AllocError, Global};
+use crate::rattle::io::Write;
 use crate::rattle::rt::Files;
 
 /// The bytes of a source.
@@ -27,73 +26,73 @@ pub fn read_source<R: Files + Input + AllocGlobal>(rt: &R, name: &str) -> Result
     read_whole(rt.alloc(), &mut source, room)
 }
 
-/// What is made of a source.
-fn make<R: Files + Input + AllocGlobal>(
-    rt: &R,
-    font: &[u8],
-    job: &Job,
-) -> Result<Outcome, Failure> {
-    let mut text = Vec::new(rt.alloc());
-    let mut reason = None;
-    let list = list_of(rt, &job.glyphs, &mut text, &mut reason)?;
-    make_planned(rt.alloc(), font, &plan_of(job, &list))
-}
-
-/// The members of an object that is a line.
-fn members_of(line: &[u8]) -> &[u8] {
-    match line {
-        [b'{', members @ .., b'}', b'\n'] => members,
-        _ => &[],
-    }
-}
-
-/// The members that are answered. No file is written.
-fn answer_members<R: Files + Print + AllocGlobal>(
-    rt: &R,
-    outcome: &Outcome,
-    form: Form,
-) -> Result<Vec<u8>, Failure> {
-    let mut line = Vec::new(rt.alloc());
-    let mut page = Target::new(rt, None);
-    let mut output = Target::new(rt, None);
-    if emit(outcome, form, &mut page, &mut output, &mut line).is_err() {
-        return Err(Failure::Error(Error::OutOfMemory));
-    }
-    match Vec::from_slice(rt.alloc(), members_of(&line)) {
-        Ok(members) => Ok(members),
+/// What is printed of what was made.
+fn printed(alloc: Global, outcome: &Outcome, form: Form) -> Result<Vec<u8>, Failure> {
+    let mut object = Vec::new(alloc);
+    match write_numbers(outcome, form, &mut object) {
+        Ok(()) => Ok(object),
         Err(_) => Err(Failure::Error(Error::OutOfMemory)),
     }
 }
 
-/// Does a request on the bytes of its source: the members of its answer are made first, and then its files.
+/// Writes the PDF, if there is one, to one writer, and then the font to another.
+fn write_files<P: Write, W: Write>(
+    outcome: &Outcome,
+    page: &mut P,
+    output: &mut W,
+) -> Result<(), Failure> {
+    write_page(&outcome.sheet, page)?;
+    write_font(&outcome.made.font, output)
+}
+
+/// Makes what a plan requests of a font, and what is printed of it; then writes the PDF of its glyphs to one writer, if one is
+/// requested, and its subset to another. What is answered and written is what `carry_out` prints and writes between a reader
+/// of these bytes and three writers.
+///
+/// It fails as `carry_out` does.
+pub fn carry_answer<P: Write, W: Write>(
+    alloc: Global,
+    font: &[u8],
+    plan: &Plan<'_>,
+    page: &mut P,
+    output: &mut W,
+) -> Result<Vec<u8>, Failure> {
+    let outcome = make_planned(alloc, font, plan)?;
+    let object = printed(alloc, &outcome, plan.task.form)?;
+    write_files(&outcome, page, output)?;
+    Ok(object)
+}
+
+/// Does a request on the bytes of its source: what is printed of it, which isn't printed here.
 fn perform<R: Files + Print + Input + AllocGlobal>(
     rt: &R,
     font: &[u8],
     job: &Job,
 ) -> Result<Vec<u8>, Failure> {
-    let outcome = make(rt, font, job)?;
-    let members = answer_members(rt, &outcome, form_of(job.switches))?;
+    let mut text = Vec::new(rt.alloc());
+    let mut reason = None;
+    let list = list_of(rt, &job.glyphs, &mut text, &mut reason)?;
+    let plan = plan_of(job, &list);
     let mut page = Target::new(rt, pdf_file(job));
     let mut output = Target::new(rt, given(&job.output));
-    let mut nothing = Target::new(rt, None);
-    emit(
-        &outcome,
-        Form::Silence,
-        &mut page,
-        &mut output,
-        &mut nothing,
-    )?;
-    Ok(members)
+    carry_answer(rt.alloc(), font, &plan, &mut page, &mut output)
+}
+
+/// A text with the name of a file, if there is one.
+fn named_text(alloc: Global, text: &str, name: Option<&str>) -> Result<String, AllocError> {
+    match name {
+        Some(name) => format!(in alloc; "{text} {name}"),
+        None => String::from_str(alloc, text),
+    }
 }
 
 /// Why a request failed, in words.
 fn text_of(alloc: Global, failure: &Failure, job: &Job) -> Result<String, AllocError> {
     if let Failure::List = failure {
-        let name = list_file(&job.glyphs).unwrap_or("");
-        return format!(in alloc; "no list of glyphs in {name}");
+        return named_text(alloc, "no list of glyphs in", list_file(&job.glyphs));
     }
-    let file = file_by(failure, job);
-    format!(in alloc; "{}", Report { failure, file })
+    let text = format!(in alloc; "{failure}")?;
+    named_text(alloc, &text, file_by(failure, job))
 }
 
 /// The answer to a request that failed.
@@ -101,7 +100,10 @@ fn answer_failed(alloc: Global, failure: &Failure, job: &Job) -> Answer {
     if let Failure::Error(Error::OutOfMemory) = failure {
         return Answer::NoMemory;
     }
-    failed(failure.status(), text_of(alloc, failure, job))
+    match text_of(alloc, failure, job) {
+        Ok(text) => Answer::Failed(failure.status(), text),
+        Err(_) => Answer::NoMemory,
+    }
 }
 
 /// Does a request on the bytes of its source, or on why these can't be read, and answers it.
@@ -115,7 +117,7 @@ pub fn answer_of<R: Files + Print + Input + AllocGlobal>(
         Err(failure) => return answer_failed(rt.alloc(), failure, job),
     };
     match perform(rt, font, job) {
-        Ok(members) => Answer::Done(members),
+        Ok(object) => Answer::Done(object),
         Err(failure) => answer_failed(rt.alloc(), &failure, job),
     }
 }

@@ -45,32 +45,37 @@ fn writes(job: &Job, name: &str) -> bool {
 
 /// Whether one of the requests writes a file of this name.
 fn is_written(requests: &[Request], name: &str) -> bool {
-    for request in requests {
+    let mut rest = requests;
+    while let [request, behind @ ..] = rest {
         if let Some(job) = &request.job {
             if writes(job, name) {
                 return true;
             }
         }
+        rest = behind;
     }
     false
 }
 
-/// A file that a request writes, and one before does, too.
-fn written_twice<'a>(before: &[Request], job: &'a Job) -> Option<&'a str> {
-    if let Some(name) = given(&job.output) {
-        if is_written(before, name) {
-            return Some(name);
-        }
-    }
-    match pdf_file(job) {
+/// This name, if one of the requests writes a file of it.
+fn if_written<'a>(before: &[Request], name: Option<&'a str>) -> Option<&'a str> {
+    match name {
         Some(name) if is_written(before, name) => Some(name),
         _ => None,
     }
 }
 
+/// A file that a request writes, and one before does, too.
+fn named_before<'a>(before: &[Request], job: &'a Job) -> Option<&'a str> {
+    match if_written(before, given(&job.output)) {
+        Some(name) => Some(name),
+        None => if_written(before, pdf_file(job)),
+    }
+}
+
 /// How far a request is before anything is made: that it fails is known where it writes a file which one before writes, too.
 fn first_state(alloc: Global, before: &[Request], job: &Job) -> State {
-    match written_twice(before, job) {
+    match named_before(before, job) {
         Some(name) => {
             let text = format!(in alloc; "a line before names {name}, too");
             State::Answered(failed(NAMED_TWICE, text))
@@ -79,22 +84,28 @@ fn first_state(alloc: Global, before: &[Request], job: &Job) -> State {
     }
 }
 
-/// Adds the request of a line.
-fn push_line(alloc: Global, batch: &mut Batch, line: Line<'_>) -> Result<(), AllocError> {
-    let (job, state) = match order_of(alloc, line.bytes) {
+/// The request of a line behind others, and how far it is.
+fn begin(alloc: Global, before: &[Request], line: &[u8]) -> (Option<Job>, State) {
+    match order_of(alloc, line) {
         Ok(job) => {
-            let state = first_state(alloc, &batch.requests, &job);
+            let state = first_state(alloc, before, &job);
             (Some(job), state)
         }
         Err(answer) => (None, State::Answered(answer)),
-    };
+    }
+}
+
+/// Adds the request of a line.
+fn push_line(alloc: Global, batch: &mut Batch, line: Line<'_>) -> Result<(), AllocError> {
+    let (job, state) = begin(alloc, &batch.requests, line.bytes);
     let line = line.number;
     batch.requests.push(Request { line, job })?;
     batch.states.push(state)?;
     Ok(())
 }
 
-/// The requests of a file: one for each line that isn't blank.
+/// The requests of a file: one for each line that isn't blank, and how far it is: it is to be done unless it is wrong, or a
+/// line before it writes its file, too.
 pub fn requests_of(alloc: Global, file: &[u8]) -> Result<Batch, AllocError> {
     let mut batch = Batch {
         requests: Vec::new(alloc),

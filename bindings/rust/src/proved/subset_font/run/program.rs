@@ -9,12 +9,10 @@ use crate::proved::subset_font::help::{HELP, VERSION_LINE};
 use crate::proved::subset_font::refusals::failure::Failure;
 use crate::proved::subset_font::run::job::run_job;
 use crate::proved::subset_font::run::reports::report;
-use crate::proved::subset_font::run::request::read_arguments;
 use crate::proved::subset_font::run::showing::{print_text, run_shown};
-use crate::proved::subset_font::streams::hold_streams;
 use crate::proved::subsetter::Error;
 use crate::rattle::process::{ExitCode, Termination};
-use crate::rattle::rt::{Env, Files};
+use crate::rattle::rt::Files;
 
 /// The end of a run, with its status. Only `run_by` makes one, and it can't be dropped, so that `main` ends with no other
 /// status than the run's.
@@ -73,10 +71,4 @@ pub fn run_by<R: Files + Print + Eprint + Input + AllocGlobal>(
         Err(failure) => refuse_unread(rt, failure),
     };
     Ended { status }
-}
-
-/// Runs the program, and answers its status: 0 where all is done, else the failure's.
-pub fn run<R: Env + Files + Print + Eprint + Input + AllocGlobal>(rt: &R) -> Ended {
-    let _held = hold_streams(rt);
-    run_by(rt, read_arguments(rt))
 }
