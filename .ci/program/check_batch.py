@@ -1,9 +1,10 @@
 """Many requests in one run: what single runs make, each source opened once, threads, and the line on a terminal."""
 import json
 import os
+import select
 import subprocess
 
-from check_refused import refuser, start_refused
+from check_refused import ended_by_std, refuser, start_refused
 from made_fonts import FONTS
 from running import put, remove, take
 
@@ -132,6 +133,60 @@ def check_opened(table, room):
     good = [it | {"gids": [1]} for it in one]
     each = opened(*good[:2]) - opened(*good[:1])
     table.demand(opened(*good) - none == 1 + 10 * each, "ten new fonts", f"{opened(*good) - none} files are opened, {each} for each")
+
+
+# What a request is answered where memory is refused, beside its line.
+NO_MEMORY = ({"status": 1, "error": "out of memory"}, *({"status": 3, "error": f"cannot {it}"} for it in ("read six", "read small", "write one", "write two", "write three")))
+
+
+def is_refused(line, number):
+    """Whether a line says that memory ran out for its request."""
+    said = json.loads(line)
+    return said.pop("line") == number and said in NO_MEMORY
+
+
+def check_refused_batch(table, room):
+    """Each request for memory is refused in turn, by compare/drivers/refuse.c: a request fails alone, or FILE can't be used."""
+    library = refuser(table, room)
+    if not library:
+        return
+    put_fonts(room)
+    requests = [{"in": "six", "out": "one", "gids": [2, 1]}, {"in": "small", "out": "two", "text": "A"}, {"in": "six", "out": "three", "gids": [1]}]
+    put(room, "requests", lines_of(requests))
+
+    def ran(number):
+        got = start_refused(table, room, library, ["--batch", "requests"], out="old", REFUSE=number)
+        return got, got.answer[1].splitlines(), [taken(room, it)[0] for it in requests], [it for it in got.names if ".part" in it]
+    _, lines, files, _ = ran(0)
+    table.demand(len(lines) == 3 and all(files), "a batch", (lines, files))
+    alone = 0
+    for number in range(1, 10000):
+        got, said, made, left = ran(number)
+        if got.refused == 0:
+            break
+        by_std = table.is_cargo and ended_by_std(got)
+        table.otherwise += bool(by_std)
+        each = [(line, file) == (lines[k], files[k]) or (file is None and is_refused(line, k + 1)) for k, (line, file) in enumerate(zip(said, made))]
+        unused = not said and (got.answer[0], got.answer[2]) in ((2, b"cannot read requests\nout of memory\n"), (1, b"out of memory\n")) and not any(made)
+        table.demand(not left and all(each) and (len(said) == 3 or unused or by_std), f"a batch, refusal {number}", (got.answer, left))
+        alone += len(said) == 3 and sum(line == lines[k] for k, line in enumerate(said)) == 2
+    table.demand(number > 20 and alone > 5, "a batch: refusals", (number, alone))
+
+
+def check_soon(table, room):
+    """An answer is written as soon as those in front of it are, before the next source is read."""
+    put_fonts(room)
+    pipe = os.path.join(room, "pipe")
+    os.mkfifo(pipe)
+    put(room, "requests", lines_of({"in": it, "out": f"{it}-1", "gids": [1], "quiet": True} for it in ("six", "pipe")))
+    run = subprocess.Popen([*table.command, "--batch", "requests"], cwd=room, stdout=subprocess.PIPE)
+    is_there = bool(select.select([run.stdout], [], [], 20)[0])
+    table.demand(is_there, "a batch", "the first answer waits for the second request")
+    with open(pipe, "wb") as file:
+        file.write(FONTS["six"])
+    out = run.communicate(timeout=60)[0]
+    table.demand((run.returncode, out) == (0, b'{"line":1,"status":0}\n{"line":2,"status":0}\n'), "a batch with a pipe", (run.returncode, out))
+    table.demand(take(os.path.join(room, "six-1")) == take(os.path.join(room, "pipe-1")), "a batch with a pipe", "another font")
 
 
 def check_progress(table, room):
