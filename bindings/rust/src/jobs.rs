@@ -67,7 +67,7 @@ fn count_of(number: &str) -> Option<usize> {
         return None;
     }
     let count = number.parse().ok()?;
-    (1..=MOST).contains(&count).then(|| count)
+    (1..=MOST).contains(&count).then_some(count)
 }
 
 /// Reports a wrong N, and answers the status.
