@@ -68,6 +68,7 @@ fn member_step(alloc: Global, bytes: &[u8]) -> Result<(Member, bool, &[u8]), Unr
 }
 
 /// One or more members, up to the brace, `count` at most.
+#[tactic(auto, using(crate::proofs::Loop::no_front, crate::proofs::Loop::more_follow, crate::proofs::Loop::none_follow, crate::proofs::Loop::refused, crate::proofs::Loop::all_steps))]
 fn many_members(alloc: Global, count: usize, bytes: &[u8]) -> Result<(Vec<Member>, &[u8]), Unread>
     ensures { Gives (λ x. (members_view x.0.items, x.1.now)) result (many member_step CommaOrBrace count bytes.now) }
 {

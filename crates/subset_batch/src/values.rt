@@ -61,6 +61,7 @@ fn item_step(alloc: Global, bytes: &[u8]) -> Result<(String, bool, &[u8]), Unrea
 }
 
 /// One or more members of an array, up to its bracket, `count` at most.
+#[tactic(auto, using(crate::proofs::Loop::no_front, crate::proofs::Loop::more_follow, crate::proofs::Loop::none_follow, crate::proofs::Loop::refused, crate::proofs::Loop::all_steps))]
 fn many_items(alloc: Global, count: usize, bytes: &[u8]) -> Result<(Vec<String>, &[u8]), Unread>
     ensures { Gives (λ x. (map (λ t. string_bytes t) x.0.items, x.1.now)) result (many item_step CommaOrBracket count bytes.now) }
 {

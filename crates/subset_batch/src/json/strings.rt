@@ -34,6 +34,7 @@ fn char_step(bytes: &[u8]) -> Result<(Character, bool, &[u8]), Unread>
 }
 
 /// One or more characters, up to the quotation mark, `count` at most.
+#[tactic(auto, using(crate::proofs::Loop::no_front, crate::proofs::Loop::more_follow, crate::proofs::Loop::none_follow, crate::proofs::Loop::refused, crate::proofs::Loop::all_steps))]
 fn many_chars(alloc: Global, count: usize, bytes: &[u8]) -> Result<(Vec<u8>, &[u8]), Unread>
     ensures { Gives (λ x. (x.0.items, x.1.now)) result (many char_step Quote count bytes.now) }
 {
