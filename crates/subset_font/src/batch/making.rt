@@ -69,6 +69,7 @@ fn write_files<P: Write, W: Write>(
 /// of these bytes and three writers.
 ///
 /// It fails as `carry_out` does.
+#[tactic(auto, using(crate::proofs::BatchLaws::carried, crate::proofs::RefusalsLaws::Failing::unmade))]
 pub fn carry_answer<P: Write, W: Write>(
     alloc: Global,
     font: &[u8],
@@ -92,6 +93,7 @@ pub fn carry_answer<P: Write, W: Write>(
 }
 
 /// Does a request on the bytes of its source: what is printed of it, which isn't printed here.
+#[tactic(auto, using(crate::proofs::BatchLaws::done_of, crate::proofs::BatchLaws::undone_of))]
 fn perform<R: Files + Print + Input + AllocGlobal>(
     rt: &R,
     font: &[u8],
@@ -144,6 +146,7 @@ fn answer_failed(alloc: Global, failure: &Failure, job: &Job) -> Answer
 }
 
 /// Does a request on the bytes of its source, or on why these can't be read, and answers it.
+#[tactic(auto, using(crate::proofs::BatchLaws::failed_answer))]
 pub fn answer_of<R: Files + Print + Input + AllocGlobal>(
     rt: &R,
     source: &Result<Vec<u8>, Failure>,

@@ -114,6 +114,7 @@ fn begin(alloc: Global, before: &[Request], line: &[u8]) -> (Option<Job>, State)
 }
 
 /// Adds the request of a line.
+#[tactic(auto, using(crate::proofs::BatchLaws::adds_line))]
 fn push_line(alloc: Global, batch: &mut Batch, line: Line<'_>) -> Result<(), AllocError>
     ensures { OnOk result (AddsLine (line_view line.entry) batch.old batch.new) }
 {
