@@ -183,7 +183,7 @@ PLANTS = [
     ("a batch: no comma between the members of an array", "proved/subset_batch/request.rs", '        before = ",";', '        before = "";'),
     ("a batch: IN taken for an option", "proved/subset_batch/request.rs", "        push_word(alloc, words, \"--\")?;\n", ""),
     ("a batch: `index` for another option", "proved/subset_batch/request.rs", '"index" => String::from_str(alloc, "--face-index"),', '"index" => String::from_str(alloc, "--limits"),'),
-    ("a batch: blank lines not counted", "proved/subset_batch/lines.rs", "parts.len().saturating_sub(behind.len())", "lines.len() + 1"),
+    ("a batch: blank lines not counted", "proved/subset_batch/lines.rs", "push_line(&mut lines, parts.len().saturating_sub(behind.len()), part)?;", "let number = lines.len() + 1;\n        push_line(&mut lines, number, part)?;"),
     ("a batch: a control character in an answer", "proved/subset_batch/answers.rs", "    if b < 32 {", "    if b < 31 {"),
     ("a batch: the answer of a request without `line`", "proved/subset_batch/answers.rs", "{{\\\"line\\\":{line},\\\"status\\\":{status}", "{{\\\"line\\\":{status},\\\"status\\\":{status}"),
     ("a batch: an OUT that a line before names", "proved/subset_font/batch/requests.rs", "    match if_written(before, given(&job.output)) {", "    match if_written(&before[before.len()..], given(&job.output)) {"),
