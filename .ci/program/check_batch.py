@@ -62,12 +62,20 @@ def lines_of(requests):
     return "".join(json.dumps(it) + "\n" for it in requests).encode()
 
 
+def said_in(line):
+    """The object that a line is, an empty one where it is none."""
+    try:
+        return json.loads(line)
+    except ValueError:
+        return {}
+
+
 def is_answer(line, number, single):
     """Whether a line is the answer to a request that a single run does so."""
     if single.returncode:
         first = single.stderr.splitlines()[0].decode("utf-8", "replace") if single.returncode != 2 else None
-        said = json.loads(line)
-        return (said["line"], said["status"]) == (number, single.returncode) and first in (None, said["error"])
+        said = said_in(line)
+        return (said.get("line"), said.get("status")) == (number, single.returncode) and first in (None, said.get("error"))
     return line + b"\n" == b'{"line":%d,"status":0,' % number + single.stdout[1:]
 
 
@@ -141,8 +149,8 @@ NO_MEMORY = ({"status": 1, "error": "out of memory"}, *({"status": 3, "error": f
 
 def is_refused(line, number):
     """Whether a line says that memory ran out for its request."""
-    said = json.loads(line)
-    return said.pop("line") == number and said in NO_MEMORY
+    said = said_in(line)
+    return said.pop("line", None) == number and said in NO_MEMORY
 
 
 def check_refused_batch(table, room):
@@ -184,7 +192,11 @@ def check_soon(table, room):
     table.demand(is_there, "a batch", "the first answer waits for the second request")
     with open(pipe, "wb") as file:
         file.write(FONTS["six"])
-    out = run.communicate(timeout=60)[0]
+    try:
+        out = run.communicate(timeout=60)[0]
+    except subprocess.TimeoutExpired:
+        run.kill()
+        out = run.communicate()[0]
     table.demand((run.returncode, out) == (0, b'{"line":1,"status":0}\n{"line":2,"status":0}\n'), "a batch with a pipe", (run.returncode, out))
     table.demand(take(os.path.join(room, "six-1")) == take(os.path.join(room, "pipe-1")), "a batch with a pipe", "another font")
 
