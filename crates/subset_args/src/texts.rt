@@ -53,9 +53,7 @@ impl fmt::Display for Mistake<'_> {
                 write!(f, "\"{word}\" is one argument too many")
             }
             Wrong::Late => write!(f, "{word} is after IN"),
-            Wrong::ShownLate | Wrong::BatchLate => {
-                write!(f, "{word} isn't the first argument")
-            }
+            Wrong::ShownLate | Wrong::BatchLate => { write!(f, "{word} isn't the first argument") }
             Wrong::NoBatchFile => write!(f, "FILE is missing"),
             Wrong::Unknown => write!(f, "{word} is no option"),
             Wrong::Twice => write!(f, "{word} is given twice"),

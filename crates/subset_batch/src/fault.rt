@@ -97,7 +97,10 @@ impl fmt::Display for Fault {
     fn fmt<W: fmt::Write>(&self, f: &mut fmt::Formatter<W>) -> fmt::Result {
         match self {
             Fault::Expected(wanted, at) => write!(f, "expected after {at} bytes: {wanted}"),
-            Fault::Unknown(name, at) => write!(f, "no member has the name after {at} bytes: {name}"),
+            Fault::Unknown(name, at) => write!(
+                f,
+                "no member has the name after {at} bytes: {name}"
+            ),
             Fault::Twice(name) => write!(f, "two members have the name {name}"),
         }
     }

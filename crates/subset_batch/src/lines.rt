@@ -25,7 +25,11 @@ fn is_blank_line(bytes: &[u8]) -> bool
 }
 
 /// Adds a line, if it isn't blank.
-fn push_line<'a>(lines: &mut Vec<Line<'a>>, number: usize, bytes: &'a [u8]) -> Result<(), AllocError>
+fn push_line<'a>(
+    lines: &mut Vec<Line<'a>>,
+    number: usize,
+    bytes: &'a [u8],
+) -> Result<(), AllocError>
     ensures { OnOk result (lines_view lines.new.items ≡ lines_view lines.old.items ++ line_if number bytes.now) }
 {
     if is_blank_line(bytes) {

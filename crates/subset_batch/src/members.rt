@@ -7,10 +7,10 @@ ghost use Rattle.subset_batch.specs.Reading.{many, name_at, fitting_at, member_a
 ghost use Rattle.subset_batch.specs.declared.fault.Wanted.TheVariants.{CommaOrBrace};
 ghost use Rattle.subset_batch.specs.View.{Gives, value_view, member_view, members_view};
 
-use crate::json::blanks::{behind, byte_at, separator_at, skip_ws};
 use crate::fault::{Fault, Unread, Wanted, missing};
-use crate::kinds::{Kind, fits, kind_of};
+use crate::json::blanks::{behind, byte_at, separator_at, skip_ws};
 use crate::json::strings::string_at;
+use crate::kinds::{Kind, fits, kind_of};
 use crate::values::{Value, value_at};
 use std::alloc::Global;
 

@@ -4,8 +4,8 @@ ghost use Rattle.std.specs.Prelude.{◌≡◌};
 ghost use Rattle.subset_batch.specs.Reading.{distinct, at_end, object_of};
 ghost use Rattle.subset_batch.specs.View.{Gives, members_view};
 
-use crate::json::blanks::{byte_at, skip_ws};
 use crate::fault::{Fault, Unread, Wanted, missing};
+use crate::json::blanks::{byte_at, skip_ws};
 use crate::members::{Member, members_in, repeated};
 use std::alloc::Global;
 

@@ -7,8 +7,8 @@ ghost use Rattle.subset_batch.specs.Reading.{many, number_at, item_at, item_step
 ghost use Rattle.subset_batch.specs.declared.fault.Wanted.TheVariants.{CommaOrBracket};
 ghost use Rattle.subset_batch.specs.View.{Gives, value_view};
 
-use crate::json::blanks::{behind, separator_at, skip_ws, split_word};
 use crate::fault::{Unread, Wanted, missing};
+use crate::json::blanks::{behind, separator_at, skip_ws, split_word};
 use crate::json::numbers::is_number;
 use crate::json::strings::{string_at, text_of};
 use std::alloc::Global;

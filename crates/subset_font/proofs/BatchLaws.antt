@@ -59,7 +59,7 @@ so_far_next line left all old new h a =
     record {
       lines = h.lines ++ line ∷ [];
       are_begun = subst (λ (states : List State). AreBegun (h.lines ++ line ∷ []) new.requests.items states) (sym a.states) (subst (λ (requests : List Request). AreBegun (h.lines ++ line ∷ []) requests (old.states.items ++ a.state ∷ [])) (sym a.requests) next);
-      whole = append_assoc h.lines (line ∷ []) left ∙ h.whole
+      whole = append_assoc h.lines (line ∷ []) left ∙ h.whole;
     }
 
 pub so_far_last : (all : List (ℕ × List ℕ)) (requests : List Request) (states : List State) → AreSoFar [] all requests states → AreBegun all requests states

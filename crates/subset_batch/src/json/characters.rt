@@ -5,17 +5,20 @@ ghost use Rattle.subset_batch.specs.Bytes.{escaped, hex_digit, is_high, is_low};
 ghost use Rattle.subset_batch.specs.Reading.{digit_at, unit_at, low_at, coded, unicode_at, escape_at, char_at};
 ghost use Rattle.subset_batch.specs.View.{Gives, character_view};
 
-use crate::json::blanks::byte_at;
 use crate::fault::{Unread, Wanted, missing};
+use crate::json::blanks::byte_at;
 use std::alloc::AllocError;
 
 /// The first code unit that is the first half of a surrogate pair, the first that is the second half, and the first behind these.
 const FIRST_HIGH: u32 = 0xD800;
+
 const FIRST_LOW: u32 = 0xDC00;
+
 const BEHIND_LOW: u32 = 0xE000;
 
 /// The first character that one code unit doesn't write, and how many characters have the same first half.
 const BEHIND_UNITS: u32 = 65536;
+
 const OF_EACH_HIGH: u32 = 1024;
 
 /// What one step reads of a string.
@@ -139,7 +142,9 @@ fn unicode_at(bytes: &[u8]) -> Result<(Character, &[u8]), Unread>
         return coded(unit, rest, bytes);
     }
     let (low, rest) = low_at(rest)?;
-    let code = BEHIND_UNITS + unit.saturating_sub(FIRST_HIGH) * OF_EACH_HIGH + low.saturating_sub(FIRST_LOW);
+    let code = BEHIND_UNITS
+        + unit.saturating_sub(FIRST_HIGH) * OF_EACH_HIGH
+        + low.saturating_sub(FIRST_LOW);
     coded(code, rest, bytes)
 }
 

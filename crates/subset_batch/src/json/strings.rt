@@ -7,9 +7,9 @@ ghost use Rattle.subset_batch.specs.Reading.{goes_on, char_step, many, chars_at,
 ghost use Rattle.subset_batch.specs.declared.fault.Wanted.TheVariants.{Quote};
 ghost use Rattle.subset_batch.specs.View.{Gives, character_view};
 
+use crate::fault::{Unread, Wanted, missing};
 use crate::json::blanks::behind;
 use crate::json::characters::{Character, char_at, push_character};
-use crate::fault::{Unread, Wanted, missing};
 use std::alloc::{AllocError, Global};
 
 /// Whether a string goes on, and the bytes behind its quotation mark if it doesn't.
