@@ -9,11 +9,14 @@ use crate::rattle::alloc::AllocError;
 
 /// The first code unit that is the first half of a surrogate pair, the first that is the second half, and the first behind these.
 const FIRST_HIGH: u32 = 0xD800;
+
 const FIRST_LOW: u32 = 0xDC00;
+
 const BEHIND_LOW: u32 = 0xE000;
 
 /// The first character that one code unit doesn't write, and how many characters have the same first half.
 const BEHIND_UNITS: u32 = 65536;
+
 const OF_EACH_HIGH: u32 = 1024;
 
 /// What one step reads of a string.

@@ -20,6 +20,7 @@ pub enum Answer {
 
 /// The status of a request where memory ran out, and why it failed.
 const NO_MEMORY_STATUS: u8 = 1;
+
 const NO_MEMORY: &str = "out of memory";
 
 /// The answer to a request that failed, by a text that memory may not have sufficed for.

@@ -20,6 +20,7 @@ use crate::rattle::{fmt, io};
 
 /// The status where a request failed, and that where FILE can't be used.
 const ONE_FAILED: u8 = 1;
+
 const UNUSABLE: u8 = 2;
 
 /// Reports that FILE can't be used, and answers the status.
