@@ -35,7 +35,7 @@ hex_back (suc (suc (suc (suc (suc (suc (suc (suc (suc (suc (suc (suc (suc (suc (
 hex_back (suc (suc (suc (suc (suc (suc (suc (suc (suc (suc (suc (suc (suc (suc (suc (suc d)))))))))))))))) h = absurd (omega arith)
 
 unit_back : (q r b : ℕ) (rest : List ℕ) → q < 16 → r < 16 → b ≡ q * 16 + r → unit_at (48 ∷ 48 ∷ hex_of q ∷ hex_of r ∷ rest) ≡ Ok (b, rest)
-unfolding unit_at
+unfolding unit_at hex_digit
 unit_back q r b rest hq hr e =
     let f : ℕ → Result (ℕ × List ℕ) Fault = λ n. Ok (n, rest) in
     let value : ((0 * 16 + 0) * 16 + q) * 16 + r ≡ b = omega arith in
@@ -95,7 +95,7 @@ open_text : (b : ℕ) (t rest : List ℕ) → behind 34 (escaped_text (b ∷ t) 
 open_text b t rest = ap (behind 34) (regrouped b t rest) ∙ open_byte b (escaped_text t ++ rest)
 
 went_on : (bytes : List ℕ) → behind 34 bytes ≡ None → goes_on bytes ≡ (true, bytes)
-went_on bytes h = rw h refl
+went_on bytes h = rw (h, goes_on) refl
 
 more_chars : (b : ℕ) (bytes : List ℕ) (n : ℕ) → behind 34 bytes ≡ None → many char_step Quote (suc n) (escaped_byte b ++ bytes) ≡ with_front (b ∷ []) (many char_step Quote n bytes)
 unfolding many
@@ -137,7 +137,7 @@ all_chars_back [] rest = refl
 all_chars_back (b ∷ t) rest =
     let bytes = escaped_text (b ∷ t) ++ 34 ∷ rest in
     let more : many char_step Quote (length bytes) bytes ≡ Ok (b ∷ t, rest) = chars_back t b (length bytes) rest (omega (arith, enough (b ∷ t) rest)) in
-    rw (open_text b t (34 ∷ rest)) more
+    rw (open_text b t (34 ∷ rest), chars_at) more
 
 pub string_back : (t rest : List ℕ) → is_utf8 t ≡ true → string_at (escaped_text t ++ 34 ∷ rest) ≡ Ok (t, rest)
 unfolding string_at

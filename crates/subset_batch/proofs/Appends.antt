@@ -16,3 +16,6 @@ at_last now all h = sym (append-nil now) ∙ h.is
 
 pub two_words : (old now new : List (List ℕ)) (a b : List ℕ) → now ≡ old ++ a ∷ [] → new ≡ now ++ b ∷ [] → new ≡ old ++ a ∷ b ∷ []
 two_words old now new a b p q = q ∙ ap (λ ws. ws ++ b ∷ []) p ∙ append_assoc old (a ∷ []) (b ∷ [])
+
+pub both_texts : (old now new a b : List ℕ) → now ≡ old ++ a → new ≡ now ++ b → new ≡ old ++ (a ++ b)
+both_texts old now new a b p q = q ∙ ap (λ bytes. bytes ++ b) p ∙ append_assoc old a b

@@ -1,11 +1,15 @@
 -- What a step reads again and again, as a loop does.
-use Rattle.std.proofs.Common.{◌≡◌, ℕ, suc, ◌-◌, ◌+◌, ◌≤◌, ◌<◌, Bool, true, false, List, [], ◌∷◌, ◌++◌, length, Result, Ok, Err, refl, sym, ap, ◌∙◌, append_assoc, arith}
+use Rattle.std.proofs.Common.{◌≡◌, ℕ, suc, ◌-◌, ◌+◌, ◌≤◌, ◌<◌, Bool, true, false, List, [], ◌∷◌, ◌++◌, map, length, Result, Ok, Err, refl, sym, ap, ◌∙◌, append_assoc, arith}
 use Rattle.std.proofs.lemmas.List.{append-nil}
 use Rattle.subset_batch.specs.declared.fault.Wanted.{Wanted}
 use Rattle.subset_batch.specs.declared.fault.Unread.{Unread}
 use Rattle.subset_batch.specs.declared.fault.Unread.TheVariants as unread
 use Rattle.subset_batch.specs.Reading.{Fault, ◌>>=◌, missing, with_front, many}
 use Rattle.subset_batch.specs.View.{Fails, fault_view}
+
+pub map_last : {A B : Type 0} (f : A → B) (xs : List A) (x : A) → map f (xs ++ x ∷ []) ≡ map f xs ++ f x ∷ []
+map_last f [] x = refl
+map_last f (y ∷ xs) x = ap (λ ys. f y ∷ ys) (map_last f xs x)
 
 regroup : {A : Type 0} (front piece : List A) (read : Result (List A × List ℕ) Fault) → with_front front (with_front piece read) ≡ with_front (front ++ piece) read
 regroup {A} front piece (Ok x) = ap (λ (xs : List A). Ok (xs, x.1)) (sym (append_assoc front piece x.0))

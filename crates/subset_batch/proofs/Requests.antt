@@ -4,10 +4,11 @@ use Rattle.std.specs.Str.{is_utf8}
 use Rattle.std.proofs.lemmas.Bool.{and_parts}
 use Rattle.subset_batch.specs.declared.fault.Wanted.{Wanted}
 use Rattle.subset_batch.specs.declared.fault.Wanted.TheVariants.{Item, Value as AnyValue, CommaOrBracket, CommaOrBrace}
+use Rattle.subset_batch.specs.declared.kinds.Kind.{Kind}
 use Rattle.subset_batch.specs.Bytes.{behind, skip_ws}
 use Rattle.subset_batch.specs.Members.{Value, absent, present, text, texts, Member, kind_of, fits, repeated}
 use Rattle.subset_batch.specs.Words.{request_words}
-use Rattle.subset_batch.specs.Reading.{Fault, ◌>>=◌, with_front, many, string_at, item_at, item_step, items_in, literal, plain_at, value_at, name_at, fitting_at, member_at, member_step, members_in, distinct, object_of, request_in, request_of}
+use Rattle.subset_batch.specs.Reading.{Fault, unknown, ◌>>=◌, with_front, many, string_at, item_at, item_step, items_in, literal, plain_at, value_at, name_at, fitting_at, member_at, member_step, members_in, distinct, object_of, request_in, request_of}
 use Rattle.subset_batch.specs.Written.{escaped_text, quoted, strings, written_value, written_members, written, all_utf8, value_utf8, IsWritable, AllWritable, AreWritable}
 use Rattle.subset_batch.proofs.Again.{longer, string_back}
 
@@ -107,7 +108,9 @@ skip_value (texts ts) rest = refl
 
 name_back : (m : Member) (rest : List ℕ) → (w : IsWritable m) → name_at (quoted m.name ++ rest) ≡ Ok (w.kind, m.name, rest)
 unfolding name_at
-name_back m rest w = ap name_at (quoted_back m.name rest) ∙ rw (string_back m.name rest w.name_in_utf8, w.known) refl
+name_back m rest w =
+    let step : Option Kind → Result (Kind × List ℕ × List ℕ) Fault = λ found. elim found [ Some kind ↦ Ok (kind, m.name, rest) | None ↦ Err (unknown m.name (length (34 ∷ (escaped_text m.name ++ 34 ∷ rest)))) ] in
+    ap name_at (quoted_back m.name rest) ∙ rw (string_back m.name rest w.name_in_utf8) (ap step w.known)
 
 fitting_back : (m : Member) (d : ℕ) (rest : List ℕ) → Ends d → (w : IsWritable m) → fitting_at w.kind (written_value m.value ++ d ∷ rest) ≡ Ok (m.value, d ∷ rest)
 unfolding fitting_at
@@ -165,9 +168,12 @@ all_members_back (m ∷ ms) rest ws =
     let bytes = written_members [] (m ∷ ms) ++ 125 ∷ rest in
     ap members_in (no_ws_members m ms (125 ∷ rest)) ∙ members_back ms m (length bytes) rest (omega (arith, enough_members (m ∷ ms) [] rest)) ws.0 ws.1
 
+distinct_back : (ms : List Member) → repeated ms ≡ None → distinct ms ≡ Ok ms
+distinct_back ms h = rw (h, distinct) refl
+
 object_back : (ms : List Member) → AreWritable ms → object_of (written ms) ≡ Ok ms
 unfolding object_of
-object_back ms w = rw (all_members_back ms [] w.each, w.distinct) refl
+object_back ms w = rw (all_members_back ms [] w.each) (distinct_back ms w.distinct)
 
 -- a request that is written is read again
 pub request_back : (ms : List Member) → AreWritable ms → request_of (written ms) ≡ Ok (request_words ms)

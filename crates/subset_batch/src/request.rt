@@ -1,6 +1,6 @@
 //! The words of a request.
 
-ghost use Rattle.std.specs.Prelude.{◌≡◌, ◌++◌, ◌∷◌, [], string_bytes, OnOk, IfOk};
+ghost use Rattle.std.specs.Prelude.{◌≡◌, ◌++◌, ◌∷◌, [], string_bytes, codes, OnOk, IfOk};
 ghost use Rattle.subset_batch.specs.Words.{is_input, option_of, joined, value_words, input_words, words_of, input_of, option_words, last_words, request_words};
 ghost use Rattle.subset_batch.specs.Reading.{request_in, request_of};
 ghost use Rattle.subset_batch.specs.View.{Gives, value_view, member_view, members_view, words_view};
@@ -29,21 +29,41 @@ fn option_of(alloc: Global, name: &str) -> Result<String, AllocError>
     }
 }
 
-/// Texts with a comma between each two.
+/// Adds two texts.
+#[tactic(auto, using(crate::proofs::Appends::both_texts))]
+fn push_both(text: &mut String, first: &str, second: &str) -> Result<(), AllocError>
+    ensures { OnOk result (string_bytes text.new ≡ string_bytes text.old ++ (first.now ++ second.now)) }
+{
+    text.push_str(first)?;
+    text.push_str(second)?;
+    Ok(())
+}
+
+/// Adds texts, each behind a comma.
 #[tactic(auto, using(crate::proofs::Appends::at_first, crate::proofs::Appends::after_part, crate::proofs::Appends::at_last))]
+fn push_behind(text: &mut String, texts: &[String]) -> Result<(), AllocError>
+    ensures { OnOk result (string_bytes text.new ≡ string_bytes text.old ++ joined (codes ",") (words_view texts.now)) }
+{
+    let mut rest = texts;
+    while let [t, behind @ ..] = rest {
+        push_both(text, ",", t.as_str())?;
+        rest = behind;
+    }
+    Ok(())
+}
+
+/// Texts with a comma between each two.
 fn joined(alloc: Global, texts: &[String]) -> Result<String, AllocError>
     ensures { IfOk result (λ t. string_bytes t ≡ joined [] (words_view texts.now)) }
 {
-    let mut text = String::new(alloc);
-    let mut before = "";
-    let mut rest = texts;
-    while let [t, behind @ ..] = rest {
-        text.push_str(before)?;
-        text.push_str(t.as_str())?;
-        before = ",";
-        rest = behind;
+    match texts {
+        [] => Ok(String::new(alloc)),
+        [first, behind @ ..] => {
+            let mut text = String::from_str(alloc, first.as_str())?;
+            push_behind(&mut text, behind)?;
+            Ok(text)
+        }
     }
-    Ok(text)
 }
 
 /// Adds a word.

@@ -23,18 +23,33 @@ fn option_of(alloc: Global, name: &str) -> Result<String, AllocError> {
     }
 }
 
-/// Texts with a comma between each two.
-fn joined(alloc: Global, texts: &[String]) -> Result<String, AllocError> {
-    let mut text = String::new(alloc);
-    let mut before = "";
+/// Adds two texts.
+fn push_both(text: &mut String, first: &str, second: &str) -> Result<(), AllocError> {
+    text.push_str(first)?;
+    text.push_str(second)?;
+    Ok(())
+}
+
+/// Adds texts, each behind a comma.
+fn push_behind(text: &mut String, texts: &[String]) -> Result<(), AllocError> {
     let mut rest = texts;
     while let [t, behind @ ..] = rest {
-        text.push_str(before)?;
-        text.push_str(t.as_str())?;
-        before = ",";
+        push_both(text, ",", t.as_str())?;
         rest = behind;
     }
-    Ok(text)
+    Ok(())
+}
+
+/// Texts with a comma between each two.
+fn joined(alloc: Global, texts: &[String]) -> Result<String, AllocError> {
+    match texts {
+        [] => Ok(String::new(alloc)),
+        [first, behind @ ..] => {
+            let mut text = String::from_str(alloc, first.as_str())?;
+            push_behind(&mut text, behind)?;
+            Ok(text)
+        }
+    }
 }
 
 /// Adds a word.
