@@ -43,10 +43,14 @@ fn word_len(bytes: &[u8]) -> usize
     ensures value { result ≡ position_or_len ends_word bytes.now }
     ensures within { result ≤ length bytes.now }
 {
-    match bytes.iter().position(|b| ends_word(*b)) {
-        Some(len) => len,
-        None => bytes.len(),
+    let mut rest = bytes;
+    while let [b, behind @ ..] = rest {
+        if ends_word(*b) {
+            return bytes.len().saturating_sub(rest.len());
+        }
+        rest = behind;
     }
+    bytes.len()
 }
 
 /// The word at the front, and the bytes behind it.

@@ -1,16 +1,31 @@
 //! Numbers.
 
-ghost use Rattle.std.specs.Prelude.{◌≡◌, ℕ, List, Some, None, if◌then◌else◌, ◌==◌};
+ghost use Rattle.std.specs.Prelude.{◌≡◌, ◌≤◌, ℕ, List, Some, None, if◌then◌else◌, ◌==◌, length};
 ghost use Rattle.std.specs.Option.{option_map};
-ghost use Rattle.std.specs.List.{before_first, after_first};
+ghost use Rattle.std.specs.Str.{all_ascii_digits};
+ghost use Rattle.std.specs.List.{position_or_len, before_first, after_first};
 ghost use Rattle.subset_args.specs.Coordinates.{has_byte};
 ghost use Rattle.subset_batch.specs.Numbers.{is_digits, is_int, is_decimal, is_sign, is_exponent, is_unsigned, is_number};
+
+/// Whether bytes are digits.
+fn are_digits(bytes: &[u8]) -> bool
+    ensures { result ≡ all_ascii_digits bytes.now }
+{
+    let mut rest = bytes;
+    while let [b, behind @ ..] = rest {
+        if !b.is_ascii_digit() {
+            return false;
+        }
+        rest = behind;
+    }
+    true
+}
 
 /// Whether bytes are one or more digits.
 fn is_digits(bytes: &[u8]) -> bool
     ensures { result ≡ is_digits bytes.now }
 {
-    !bytes.is_empty() && bytes.iter().all(|b| b.is_ascii_digit())
+    !bytes.is_empty() && are_digits(bytes)
 }
 
 /// Whether bytes are 0, or digits of which the first isn't 0.
@@ -21,14 +36,38 @@ fn is_int(bytes: &[u8]) -> bool
     is_digits(bytes) && (bytes.len() == 1 || !matches!(bytes, [b'0', ..]))
 }
 
+/// Whether two bytes are the same.
+fn is_same(one: u8, other: u8) -> bool
+    ensures { result ≡ (one == other) }
+{
+    one == other
+}
+
+/// The place of the first byte that is this one, or the number of bytes.
+#[tactic(auto, using(crate::proofs::Loop::place_next))]
+fn place_of(byte: u8, bytes: &[u8]) -> usize
+    ensures value { result ≡ position_or_len (λ b. b == byte) bytes.now }
+    ensures within { result ≤ length bytes.now }
+{
+    let mut rest = bytes;
+    while let [b, behind @ ..] = rest {
+        if is_same(*b, byte) {
+            return bytes.len().saturating_sub(rest.len());
+        }
+        rest = behind;
+    }
+    bytes.len()
+}
+
 /// What is in front of a byte, and behind it.
 fn split_once(byte: u8, bytes: &[u8]) -> Option<(&[u8], &[u8])>
     ensures { option_map {U = List ℕ × List ℕ} (λ p. (p.0.now, p.1.now)) result ≡ (if has_byte (λ b. b == byte) bytes.now then Some (before_first (λ b. b == byte) bytes.now, after_first (λ b. b == byte) bytes.now) else None) }
 {
-    match bytes.iter().position(|b| *b == byte) {
-        Some(at) => Some((&bytes[..at], &bytes[at + 1..])),
-        None => None,
+    let at = place_of(byte, bytes);
+    if at < bytes.len() {
+        return Some((&bytes[..at], &bytes[at + 1..]));
     }
+    None
 }
 
 /// Whether bytes are a number without a sign and an exponent.

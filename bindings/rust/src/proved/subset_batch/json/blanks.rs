@@ -28,10 +28,14 @@ fn ends_word(b: u8) -> bool {
 
 /// How many bytes the word at the front has.
 fn word_len(bytes: &[u8]) -> usize {
-    match bytes.iter().position(|b| ends_word(*b)) {
-        Some(len) => len,
-        None => bytes.len(),
+    let mut rest = bytes;
+    while let [b, behind @ ..] = rest {
+        if ends_word(*b) {
+            return bytes.len().saturating_sub(rest.len());
+        }
+        rest = behind;
     }
+    bytes.len()
 }
 
 /// The word at the front, and the bytes behind it.
