@@ -180,7 +180,7 @@ PLANTS = [
     ("a batch: half a surrogate pair", "proved/subset_batch/json/characters.rs", "    if !is_low(unit) {", "    if !is_low(unit) && unit == 0 {"),
     ("a batch: a comma behind the last member", "proved/subset_batch/json/blanks.rs", "Ok((true, skip_ws(rest)))", 'Ok((skip_ws(rest) != b"}", skip_ws(rest)))'),
     ("a batch: a string that isn't UTF-8", "proved/subset_batch/json/strings.rs", "        None => Err(missing(Wanted::Utf8, bytes)),", '        None => Ok((String::from_str(alloc, "")?, rest)),'),
-    ("a batch: no comma between the members of an array", "proved/subset_batch/request.rs", '        before = ",";', '        before = "";'),
+    ("a batch: no comma between the members of an array", "proved/subset_batch/request.rs", 'push_both(text, ",", t.as_str())?;', 'push_both(text, "", t.as_str())?;'),
     ("a batch: IN taken for an option", "proved/subset_batch/request.rs", "        push_word(alloc, words, \"--\")?;\n", ""),
     ("a batch: `index` for another option", "proved/subset_batch/request.rs", '"index" => String::from_str(alloc, "--face-index"),', '"index" => String::from_str(alloc, "--limits"),'),
     ("a batch: blank lines not counted", "proved/subset_batch/lines.rs", "push_line(&mut lines, parts.len().saturating_sub(behind.len()), part)?;", "let number = lines.len() + 1;\n        push_line(&mut lines, number, part)?;"),
