@@ -107,11 +107,12 @@ def faults_of_document(path):
         text = repository.read(path)
     except repository.Trouble as trouble:
         return [str(trouble)]
-    faults = missing_pages(path, text) + faults_of_commits(path)
+    faults = faults_of_commits(path)
     if path.startswith("compare/results/"):
         return faults
     try:
         wanted = figures.refreshed(path)
+        faults += missing_pages(path, figures.without_waiting(text))
         faults += figures_by_hand(path, text)
     except repository.Trouble as trouble:
         return [*faults, str(trouble)]

@@ -74,7 +74,7 @@ ANSWERS = [
     *((f"{pattern} and {path}", bool(repository.pattern(pattern).search(f"x\n{path}\ny")), wanted) for pattern, path, wanted in [
         ("crates/*/src/**", "crates/a/src/b/c.rt", True), ("crates/*/src/**", "crates/a/b/src/c.rt", False), ("crates/*/src/**", "crates/a/src/c.rt", True),
         ("bindings/c/*", "bindings/c/x.c", True), ("bindings/c/*", "bindings/c/x/y.c", False), ("bindings/c/*", "of/bindings/c/x.c", False),
-        ("bindings/plants", "bindings/plants", True), ("bindings/plants", "bindings/plants2", False)]),
+        ("bindings/test", "bindings/test", True), ("bindings/test", "bindings/test2", False)]),
 ]
 
 

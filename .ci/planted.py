@@ -18,26 +18,31 @@ def git(folder, *words, environment=None):
     return subprocess.run(["git", "-C", folder, *words], env=environment or ENVIRONMENT, check=True, capture_output=True, text=True).stdout
 
 
-@contextlib.contextmanager
-def copy():
-    """A clone with the files as they stand here, in a folder of its own."""
+def clone(room):
+    """A clone with the files as they stand here, in a folder that isn't there yet."""
     try:
         git(ROOT, "rev-parse", "--verify", "-q", "HEAD", environment=os.environ)
     except (OSError, subprocess.CalledProcessError) as error:
         raise SystemExit(f"{ROOT} can't be copied by git: {getattr(error, 'stderr', None) or error}") from None
+    subprocess.run(["git", "clone", "-q", "--shared", ROOT, room], check=True)
+    changed = [git(ROOT, *words, environment=os.environ) for words in (["diff", "--name-only", "-z", "--no-renames", "HEAD"],
+                                                                       ["ls-files", "-z", "--others", "--exclude-standard"])]
+    for path in filter(None, "".join(changed).split("\0")):
+        source, target = os.path.join(ROOT, path), os.path.join(room, path)
+        if os.path.lexists(source):
+            os.makedirs(os.path.dirname(target), exist_ok=True)
+            shutil.copy2(source, target, follow_symlinks=False)
+        elif os.path.lexists(target):
+            os.unlink(target)
+    git(room, "add", "-A")
+
+
+@contextlib.contextmanager
+def copy():
+    """Such a clone, in a folder of its own."""
     with tempfile.TemporaryDirectory(prefix="planted-") as top:
         room = os.path.join(top, "room")
-        subprocess.run(["git", "clone", "-q", "--shared", ROOT, room], check=True)
-        changed = [git(ROOT, *words, environment=os.environ) for words in (["diff", "--name-only", "-z", "--no-renames", "HEAD"],
-                                                                           ["ls-files", "-z", "--others", "--exclude-standard"])]
-        for path in filter(None, "".join(changed).split("\0")):
-            source, target = os.path.join(ROOT, path), os.path.join(room, path)
-            if os.path.lexists(source):
-                os.makedirs(os.path.dirname(target), exist_ok=True)
-                shutil.copy2(source, target, follow_symlinks=False)
-            elif os.path.lexists(target):
-                os.unlink(target)
-        git(room, "add", "-A")
+        clone(room)
         yield room
 
 

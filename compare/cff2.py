@@ -33,10 +33,11 @@ glyphs 300), in random order. The location is that of a second reading (lib/vari
     advance       hmtx has HarfBuzz's advance, and what a second reading of HVAR comes to; the bearing is the source's
     width         the charstring's width, as fontTools reads it by the private dict, is that of hmtx
     private dict  the glyph's has the operators that CFF and CFF2 share, each edge and number at the location rounded once
-    FreeType      its hinted outline at 16 pixels an em is within a pixel of the source's there. Of the fonts of cff2_fonts.py, whose
-                  stems are random, one of a hundred glyphs may be hinted otherwise, as half a unit decides which stems FreeType keeps;
-                  each is printed. It has to be hinted as the same glyph of a static font that lib/cff2_static.py makes of the
-                  source's exact numbers by fontTools, in each point, and without hints within 3 64ths of a pixel of the source's
+    FreeType      its hinted outline at 16 pixels an em is within a pixel of the source's there. Where half a unit of rounding decides
+                  where FreeType puts a stem, one of a thousand glyphs may be up to 1.1 pixels off, and one of a hundred of the fonts of
+                  cff2_fonts.py, whose stems are random, more; each is printed. It has to be hinted as the same glyph of a static font
+                  that lib/cff2_static.py makes of the source's exact numbers by fontTools, in each point, and without hints within 3
+                  64ths of a pixel of the source's
     fontTools     its mutator, which rounds each operand, draws it within 16 units (not where a private dict has `vsindex`, which that
                   doesn't read, nor of more than 5,000 glyphs)
     file          OTTO; the tables CFF, head, hhea, hmtx, maxp, name and post (those two where the source has them) and no others, with
@@ -50,7 +51,8 @@ messages, within S seconds (1) of a processor. --hostile makes four families of 
 each, or refuse it where its tokens are too many, with at most the source, three times the new font, 32 bytes for each glyph and 1 MB of
 memory, and in a time that grows no more than the work (bytes and tokens) does.
 
-A glyph that the port refuses is counted as a difference. The last line says how many were compared, and the status is 1
+A glyph that the port refuses is counted as a difference, but where a charstring has no number for the advance that the second reading of HVAR
+comes to at the location (above 32,767: it is refused as an overflow). The last line says how many were compared, and the status is 1
 where one differs, or nothing was compared.
 """
 import glob

@@ -237,6 +237,14 @@ REASON = b"Input/output error (os error 5)\n"
 DISPENSABLE = {("open", 3), *(("size", number) for number in (1, 2, 4, 5, 6))}
 
 
+def is_dispensable(what, number, calls):
+    """Whether the program does without a call. Once the new file has OUT's name, the file that had it gets the bytes and the name again; where
+    that fails the new one stays."""
+    copied = calls["write"] // 2
+    last = {"open": 3, "size": 3, "read": copied + 1, "write": copied, "rename": 1, "sync": 1}
+    return (what, number) in DISPENSABLE or number > calls[what] - last.get(what, 0)
+
+
 def check_files(name, data, glyphs, room):
     """The program ends with its status at each failed call."""
     base, (whole,) = base_of(name, data, glyphs, room)
@@ -246,7 +254,7 @@ def check_files(name, data, glyphs, room):
             got = run_font(room, glyphs, FAIL=f"{what}:{number}")
             told, out = (got.status, got.err), take(room, "out")
             case = f"subset_font on {name}, {what} {number}"
-            if (what, number) in DISPENSABLE:
+            if is_dispensable(what, number, base.calls):
                 demand(told == (0, b"") and got.out == base.out and out == whole, case, got)
             elif what == "write1":
                 demand(told == (3, b"cannot write standard output\n" + REASON) and out == whole, case, got)

@@ -956,6 +956,13 @@ def check_pdf():
     return f"{rows} rows for PDF"
 
 
+def check_faults():
+    """Where the system or the interpreter is otherwise: a program of its own."""
+    ran = subprocess.run([sys.executable, os.path.join(HERE, "faults_test.py"), *sys.argv[1:]], stdout=subprocess.PIPE, stderr=subprocess.STDOUT, text=True)
+    print(ran.stdout, end="")
+    check(ran.returncode == 0 and re.search(r"^faults: \d+ checks, 0 failed$", ran.stdout, re.M), f"faults_test.py ends with {ran.returncode}")
+
+
 def main():
     fonts, texts = {}, {}
     rows = read_rows(os.path.join(HERE, "../../crates/dev_rows/data/subset.txt"), fonts, texts)
@@ -980,6 +987,7 @@ def main():
     check_memory(fonts)
     check_threads(rows)
     check_other_threads(fonts)
+    check_faults()
     print(f"Python: {check_pdf()}")
     print(f"Python: {len(rows)} rows, {checks} checks, {len(failures)} failed")
     return bool(failures) or len(rows) < 80 or checks < 350

@@ -1,13 +1,20 @@
 /* Measures HarfBuzz: `harfbuzz_bench --list FILE`, where FILE has one line FONT INDEX GLYPHS COUNT [OUT].
  *
  * The words and the line that it prints are those of the other drivers. The face is preprocessed once, before the
- * clock starts, and the clock runs round each call of `hb_subset_or_fail` and the bytes of its answer. Subroutines are
- * resolved, glyph 0 keeps its outline and glyphs their names, and no layout tables and no `cmap` are kept, as in the
- * other drivers (a `cmap` of thousands of jumbled glyphs would also overflow, which HarfBuzz refuses). It takes a set of
- * glyphs and numbers them by their old order, so its bytes aren't those of the others. */
+ * clock starts; where PLAIN is defined each call makes it of the font's bytes. The clock runs round each call of
+ * `hb_subset_or_fail` and the bytes of its answer. Subroutines are resolved, glyph 0 keeps its outline and glyphs their
+ * names, and no layout tables and no `cmap` are kept, as in the other drivers (a `cmap` of thousands of jumbled glyphs would
+ * also overflow, which HarfBuzz refuses). It takes a set of glyphs and numbers them by their old order, so its bytes aren't
+ * those of the others. */
 #include "timing.h"
 #include <hb-ot.h>
 #include <hb-subset.h>
+
+#ifdef PLAIN
+enum { IS_PLAIN = 1 };
+#else
+enum { IS_PLAIN = 0 };
+#endif
 
 /* Adds the glyphs of a list of numbers and ranges, as `3,10-12`. */
 static void add_glyphs(hb_set_t *set, const char *list) {
@@ -34,24 +41,30 @@ static hb_subset_input_t *input_of(const char *glyphs) {
     return input;
 }
 
-/* The face of a font, preprocessed; an end with status 1 where HarfBuzz has none. */
-static hb_face_t *face_of(const char *font, unsigned index) {
+/* The bytes of a font; an end with status 1 where they can't be read. */
+static hb_blob_t *blob_of(const char *font) {
     hb_blob_t *blob = hb_blob_create_from_file_or_fail(font);
-    hb_face_t *face, *ready;
     if (!blob) exit(1);
-    face = hb_face_create(blob, index);
-    ready = hb_subset_preprocess(face);
+    return blob;
+}
+
+/* The face of a font, preprocessed; an end with status 1 where HarfBuzz has none. */
+static hb_face_t *ready_face(hb_blob_t *font, unsigned index) {
+    hb_face_t *face = hb_face_create(font, index);
+    hb_face_t *ready = hb_subset_preprocess(face);
     if (!ready) exit(1);
     return ready;
 }
 
 /* One call: its time, and the output's bytes. */
-static hb_blob_t *subset_once(hb_face_t *face, hb_subset_input_t *input, uint64_t *time) {
+static hb_blob_t *subset_once(hb_blob_t *font, unsigned index, hb_face_t *ready, hb_subset_input_t *input, uint64_t *time) {
     uint64_t start = now();
+    hb_face_t *face = ready ? hb_face_reference(ready) : hb_face_create(font, index);
     hb_face_t *made = hb_subset_or_fail(face, input);
     hb_blob_t *bytes = made ? hb_face_reference_blob(made) : NULL;
     *time = now() - start;
     hb_face_destroy(made);
+    hb_face_destroy(face);
     return bytes;
 }
 
@@ -76,11 +89,12 @@ int main(int count, char **words) {
     calls = strtoul(next_word(&line), NULL, 10);
     out = next_word(&line);
     times = room_for_times(calls);
-    hb_face_t *face = face_of(font, index);
+    hb_blob_t *source = blob_of(font);
+    hb_face_t *ready = IS_PLAIN ? NULL : ready_face(source, index);
     hb_subset_input_t *input = input_of(glyphs);
     for (call = 0; call < calls; call++) {
         hb_blob_destroy(bytes);
-        bytes = subset_once(face, input, times + call);
+        bytes = subset_once(source, index, ready, input, times + call);
         if (!bytes) {
             puts("error");
             return 0;

@@ -13,7 +13,7 @@ class Snippets:
     """Lines that have a file of the generated crate and texts of its code."""
 
     def __init__(self, changes, files):
-        self.changes, self.files = changes, files
+        self.changes, self.files, self.planted_in = changes, files, None
 
     def module(self, crate, path):
         old = next((it for it, new in self.changes.crates.items() if new == crate), crate)
@@ -53,9 +53,13 @@ class Snippets:
         return "\t".join([self.path(found[1], found[2]), "::".join(names), self.code(parts[2], module), *parts[3:]])
 
     def plant(self, line):
-        """A line with `proved/CRATE/PATH.rs`: its other texts are code of that file."""
+        """A line with `proved/CRATE/PATH.rs`: its other texts are code of that file, and behind `file:` the lines of text that follow."""
+        if line[:2] in ("- ", "+ ") and self.planted_in:
+            return line[:2] + self.code(line[2:], self.planted_in)
         found = PROVED.search(line)
         module = self.module(found[2], found[3]) if found else None
+        if not line.startswith(("-", "+")):
+            self.planted_in = module if line.startswith("file: ") else None
         if module is None:
             return line
         new = TEXT.sub(lambda text: text[0] if found[0] in text[0] else text[0][0] + self.code(text[0][1:-1], module) + text[0][-1], line)

@@ -7,11 +7,14 @@ from cff2_exact import Pen
 from instance_others import advance_by
 
 PPEM, PIXEL = 16, 64
-# Stems of made fonts are random, so some lie where half a unit decides which of them FreeType keeps: of so many glyphs one may be hinted
-# otherwise. What may be is judged without the program: FreeType has to hint the glyph of a static font alike, which cff2_static.py makes
-# of the source's exact numbers, each rounded once (as far apart, in 64ths of a pixel, as ALIKE); and without hints it has to be as near to
-# the source's as UNHINTED: half a unit of rounding and the unit that FreeType cuts down, 1.6 of them at 1000 units an em.
-MADE, SELDOM, ALIKE, UNHINTED = "Made ", 100, 0, 3
+# Where a stem lies so that half a unit decides where FreeType puts it, rounding alone moves it by more than a pixel. What rounding does is
+# judged without the program: FreeType has to hint the glyph of a static font alike, which cff2_static.py makes of the source's exact
+# numbers, each rounded once (as far apart, in 64ths of a pixel, as ALIKE); and without hints it has to be as near to the source's as
+# UNHINTED: half a unit of rounding and the unit that FreeType cuts down, 1.6 of them at 1000 units an em. Of SELDOM glyphs one may be so,
+# and at most NEARLY off; of made fonts, whose stems are random, so that rounding decides which of them FreeType keeps, one of
+# SELDOM_MADE, however far off.
+MADE, ALIKE, UNHINTED = "Made ", 0, 3
+SELDOM, SELDOM_MADE, NEARLY = 1000, 100, 1.1
 MUTATOR_BOUND = 16
 # A contour that is as small may lack: one whose points become one (in 64ths of a pixel).
 TINY = 4
@@ -77,6 +80,11 @@ def apart(ours, theirs):
     return worst
 
 
+def is_seldom(face, few, all_of_them):
+    """Whether so few of a face's glyphs may be hinted otherwise: one may always be."""
+    return (SELDOM_MADE if face.is_made(MADE) else SELDOM) * (few - 1) <= all_of_them
+
+
 def is_alike(ours, theirs, most):
     return ours is not None and theirs is not None and apart(ours, theirs) <= most
 
@@ -130,7 +138,7 @@ def parts_apart(ours, theirs):
 
 def judge_far(report, far, may_be):
     """What becomes of glyphs that are hinted more than a pixel off: those of `may_be` are noted, the others are wrong."""
-    for number, _, text in far:
+    for number, _, _, text in far:
         if number in may_be:
             report.counts["hinted otherwise"] += 1
             report.otherwise.append(f"{report.label}: {text}")
@@ -162,16 +170,17 @@ class Others:
             off = math.inf if ours is None else apart(ours, theirs)
             report.worst = max(report.worst, off)
             if off > PIXEL:
-                far.append((number, glyph, f"glyph {glyph} at {at}: {off / PIXEL:.2f} pixels off at {PPEM} pixels an em"))
+                far.append((number, glyph, off, f"glyph {glyph} at {at}: {off / PIXEL:.2f} pixels off at {PPEM} pixels an em"))
         if far:
-            judge_far(report, far, self.hinted_otherwise(at, source, new, path + ".static", far) if self.face.is_made(MADE) else set())
+            may_be = [it for it in far if self.face.is_made(MADE) or it[2] <= NEARLY * PIXEL]
+            judge_far(report, far, self.hinted_otherwise(at, source, new, path + ".static", may_be) if may_be else set())
 
     def hinted_otherwise(self, at, source, new, path, far):
         """The new numbers of those glyphs that are hinted as they are in a static font made by another way."""
         with open(path, "wb") as file:
-            file.write(cff2_static.static_font(self.face, at, [0, *(glyph for _, glyph, _ in far)]))
+            file.write(cff2_static.static_font(self.face, at, [0, *(glyph for _, glyph, *_ in far)]))
         static = FreeType(path)
-        return {number for place, (number, glyph, _) in enumerate(far, 1) if is_alike(new.contours(number), static.contours(place), ALIKE)
+        return {number for place, (number, glyph, *_) in enumerate(far, 1) if is_alike(new.contours(number), static.contours(place), ALIKE)
                 and is_alike(new.contours(number, False), source.contours(glyph, False), UNHINTED)}
 
     def beside_fonttools(self, report, at, path, old):

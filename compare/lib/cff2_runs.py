@@ -83,8 +83,8 @@ def whole(words):
     print("".join(f"\nHinted otherwise: {line}" for it in reports for line in it.otherwise))
     print("", *by_font.lines(wrong), sep="\n")
     print(f"{len(reports)} faces, {counts['file']} new fonts: {counts['drawing']} glyphs drawn as by HarfBuzz, {sum(it.halves for it in reports)} coordinates near a half, "
-          f"{counts['FreeType']} glyphs hinted by FreeType, at most {max((it.worst for it in reports), default=0) / 64:.2f} pixels off, of which {counts['hinted otherwise']} of made fonts "
-          f"more than one (hinted as in a static font that fontTools makes), {counts['fontTools']} beside fontTools; {len(wrong)} differ.")
+          f"{counts['FreeType']} glyphs hinted by FreeType, at most {max((it.worst for it in reports), default=0) / 64:.2f} pixels off, of which {counts['hinted otherwise']} "
+          f"more than one (hinted as in a static font that fontTools makes), {counts['fontTools']} beside fontTools; {counts['too wide']} refused for an advance past 32767; {len(wrong)} differ.")
     return wrong, min([counts[kind] for kind in cff2_whole.KINDS if kind != "fontTools"], default=0)
 
 

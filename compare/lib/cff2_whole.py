@@ -20,6 +20,8 @@ CHECKSUM = 0xB1B0AFBA
 NAMES = set(range(15)) - {10}
 # The first line on standard error of a font that is refused (docs/CLI.md); these can be the answer to a damaged CFF2 font.
 REFUSALS = {"malformed font", "unsupported feature in font", "overflow occurred", "processing CFF table failed", "unknown font kind"}
+# The one that is right where an advance is past the numbers of a charstring, in which its width is.
+TOO_LARGE, WIDEST = "overflow occurred", 32767
 # No run takes as many seconds.
 LONG = 120
 # fontTools' mutator reads a whole font, so it takes none of more glyphs.
@@ -273,6 +275,11 @@ def compare_font(report, face, at, data, old, others, room):
 
 # ---- faces
 
+def is_too_wide(face, at, glyphs):
+    """Whether a glyph has an advance there for which a charstring has no number."""
+    return any(face.rounded_advance(glyph, at) > WIDEST for glyph in glyphs)
+
+
 def random_glyphs(rng, count, most):
     """So many glyphs (0: all), in a random order."""
     return rng.sample(range(count), min(most or count, count))
@@ -289,9 +296,12 @@ def compare_face(words, path, index, room):
         try:
             data, old = subset_at(words.program, path, index, place, glyphs, room)
         except (Refused, Broken) as it:
+            if is_too_wide(face, face.at(place), glyphs) and str(it) == TOO_LARGE:
+                report.counts["too wide"] += 1
+                continue
             report.say("answer", f"at {pdf_variable.words_at(place) or 'the default'}: {it}")
             continue
         compare_font(report, face, face.at(place), data, old, cff2_others.Others(face, place, count <= MUTATED), room)
-    if cff2_others.SELDOM * (report.counts["hinted otherwise"] - 1) > report.counts["FreeType"]:
+    if not cff2_others.is_seldom(face, report.counts["hinted otherwise"], report.counts["FreeType"]):
         report.say("FreeType", f"{report.counts['hinted otherwise']} of {report.counts['FreeType']} glyphs are hinted otherwise")
     return report

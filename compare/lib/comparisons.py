@@ -21,7 +21,8 @@ CFF2 = sources("subsetter_cff_at", "subsetter_cff_instance", "subsetter_cff2", "
 BENCH = sources("dev_bench")
 PROGRAM = sources("subset_font", "subset_args", "subset_batch", "subset_lines", "subset_pdf", "pdf_objects", "pdf_sheet", "pdf_font", "glyph_names", "cid_embed", "cmap", "late_file")
 C = sources("subsetter_c", "subsetter_pdf_c", "cid_embed", "cid_embed_at") + ("bindings/c/*",)
-BINDINGS = C + ("bindings/python/**", "bindings/rust-native/**", "bindings/plants", "bindings/test")
+# What no proof covers, and its tests.
+PLANTED = ("bindings/**", "dist/*", "demo/*", "examples/*", ".ci/**", "Makefile")
 PORTABLE = SUBSET + INSTANCE + C + ("bindings/rust/src/**",)
 # The harness has the crate alone, with its module `pdf`.
 PDF = ("bindings/rust/src/**",)
@@ -105,6 +106,8 @@ COMPARISONS = [
                ("crates/*/src/**", "crates/*/specs/**", "compare/wrong_bodies/**"), data=("wrong_bodies.csv",)),
     Comparison("refusals", "Does each request for memory and each call for files that is refused end as it should?", "compare/refusals.py --more",
                lines_like(r"\d+ requests for memory were refused\. All ended as they should|\w.*FAILED.*"), ("crates/*/src/**",), "compare/refusals.py"),
+    Comparison("faults", "Does the program end as it should where any system call fails, a signal comes, a disk is full or a stream is closed?", "compare/faults.py",
+               lines_like(r"^\d+ runs with a fault of the system.*|^Known: \d+ runs ended [\w, ]+"), PROGRAM + ("bindings/rust/src/host/**",)),
     Comparison("hostile", "How much work can a small file ask for?", "compare/hostile.py", slowest, SUBSET + BENCH, timed=True),
     Comparison("hostile, families", "Does a call under a bound hold no more memory than it may?", "compare/hostile.py --families",
                lines_like(r"^\d+ runs, of which.*"), SUBSET + PROGRAM, timed=True),
@@ -169,7 +172,8 @@ COMPARISONS = [
     Comparison("javascript, times", "What does a call take in JavaScript, beside the native library?", "node bindings/js/tests/compare.mjs --times",
                lambda result: f"at most {at_most(max(float(row['Opened : native']) for row in result.tables[0]), 1)} times the native library's time",
                SUBSET + JAVASCRIPT, timed=True),
-    Comparison("plants", "Does each planted bug in the bindings fail a test?", "bindings/plants", lines_like(r"\d+ bugs planted.*"), BINDINGS, data=("plants.txt",)),
+    Comparison("plants", "Does each planted bug fail a test?", ".ci/plants.py --results compare/results/plants.txt", lines_like(r"^(all )?\d+ (of \d+ )?bugs\b.*|^\d+ bugs planted.*"),
+               PLANTED, ".ci/plants.py --draw 30", data=("plants.txt",)),
     Comparison("binding", "What does the Rust binding cost beside the program and the Rust crate?", f"{DEBIAN} compare/binding.py", cost_of_binding,
                SUBSET + C + ("bindings/rust-native/src/**",), original=True, timed=True),
     Comparison("faces", "Are the answers for every installed face those of the Rust crate?", "compare/faces.py", lines_like(r"\d+ faces, \d+ answers.*"),
@@ -189,6 +193,12 @@ COMPARISONS = [
                SUBSET + BENCH, original=True, timed=True),
     Comparison("times", "What do calls take beside the Rust crate and HarfBuzz?", "compare/run.py --all --seconds 0.03 --copies 0 --results compare/results",
                parts_of_time, SUBSET + BENCH, original=True, data=("truetype.csv", "cff.csv"), timed=True),
+    Comparison("speed", "Which rows meet the goals of speed, and what memory do calls hold?", "compare/speed.py --results compare/results",
+               lines_like(r"^The geometric mean.*|\d+ rows, \d+ past their goal"), SUBSET + BENCH + ("bindings/rust/src/**",), original=True,
+               data=("speed.csv",), timed=True),
+    Comparison("speed, growth", "Is a glyph's time the same from 10 to 60,000 glyphs?", "compare/speed.py --growth --results compare/results",
+               lines_like(r"^.* ns a glyph from.*|\d+ rows of growth"), SUBSET + BENCH + ("bindings/rust/src/**",), original=True,
+               data=("growth.csv",), timed=True),
     Comparison("portable", "Does the generated crate answer the proved library's bytes and errors, without a panic?",
                "compare/portable.py --copies 1000000 --results compare/results/portable.jsonl", lines_like(r"\d+ calls, \d+ differ"),
                PORTABLE, "compare/portable.py", data=("portable.jsonl",)),

@@ -66,17 +66,36 @@ def blocks(text):
     return found
 
 
+def lacking_of(key):
+    """The comparisons of a block that were never run, where the block may wait for them."""
+    return [it for it in BLOCKS[key][1] if it in MAY_WAIT and not results_of.is_run(it)]
+
+
+def not_measured(names):
+    return f"Not measured yet: {', '.join(f'`compare/all {it!r}`' for it in names)}."
+
+
+def without_waiting(text):
+    """A document without the comments of blocks that wait for a result."""
+    for found in reversed(blocks(text)):
+        if found[2] in BLOCKS and lacking_of(found[2]):
+            text = text[:found.start()] + text[found.end():]
+    return text
+
+
 def written(path, found):
     """What a block of a document says by the results."""
     key = found[2]
     if key not in BLOCKS:
         raise repository.Trouble(f"no figure is called {key!r}; compare/lib/figures.py has {', '.join(sorted(BLOCKS))}")
     function, names = BLOCKS[key]
-    for name in names:
-        results_of.result(name)
     to_results = os.path.relpath("compare/results", os.path.dirname(path) or ".")
+    lacking = lacking_of(key)
+    for name in names:
+        if name not in lacking:
+            results_of.result(name)
     try:
-        text = function().replace("](results:", f"]({to_results}/")
+        text = not_measured(lacking) if lacking else function().replace("](results:", f"]({to_results}/")
     except (LookupError, TypeError, ValueError, ZeroDivisionError) as error:
         raise repository.Trouble(f"{key!r} can't be made of {' and '.join(names)}: {error!r}") from None
     text = f"\n{text}\n" if found[3].startswith("\n") else text
@@ -279,8 +298,13 @@ BLOCKS = {
     "javascript, times": (as_table("javascript, times"), ["javascript, times"]),
     "source of javascript, times": (lambda: results_of.source("javascript, times", is_linked=False) + ".", ["javascript, times"]),
 }
-# (the README's blocks, and what else has to hold of it)
+# Comparisons that a document may name before their first run.
+MAY_WAIT = ("speed", "speed, growth")
+# (the README's blocks, and what else has to hold of it; those of speed)
 import readme_figures  # noqa: E402
+import speed_figures  # noqa: E402
 
 BLOCKS.update(readme_figures.BLOCKS)
+BLOCKS.update(speed_figures.BLOCKS)
+BLOCKS.update({f"source of {it}": (source_of(it), [it]) for it in MAY_WAIT})
 MORE_FAULTS = readme_figures.faults

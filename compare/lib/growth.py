@@ -8,6 +8,11 @@ SHOWN = [
     ("FreeSerif.otf", 0, "FreeSerif (CFF, SID-keyed)"),
     ("NotoSansCJK-Regular.ttc", 0, "Noto Sans CJK JP (CFF, CID-keyed)"),
 ]
+# The fonts of which a glyph's time is shown, by file name and face, with their titles, and the numbers of spread glyphs.
+LONG = [*SHOWN, ("BabelStoneHan.ttf", 0, "BabelStone Han (TrueType)")]
+LONG_SIZES = [10, 30, 100, 300, 1000, 3000, 10_000, 30_000, 60_000]
+# From so many glyphs on the fixed part of a call is small.
+MANY = 1000
 COLOURS = {"original": "#b03a2e", "harfbuzz": "#b9770e", "port": "#1f618d", "floor": "#808b96"}
 TITLES = {"original": "Rust crate", "harfbuzz": "HarfBuzz", "port": "port", "floor": "floor"}
 # A panel's plot, and the room beside it for labels, in units of the picture.

@@ -383,6 +383,46 @@ async function memoryEnds({ library, subsetter, wasm }) {
     for (const [what, times] of Object.entries(seen)) ok(times > 0, `no cap on the memory met this: ${what}`);
 }
 
+/** What is loaded twice from one module, and from two, shares nothing: neither fonts nor memory, nor an instance that is spoilt. */
+async function besideEachOther({ library, wasm }) {
+    const module = await WebAssembly.compile(wasm), { least, capped } = memoryOf(wasm);
+    const small = plainFont(40, 16), other = plainFont(30, 20), large = plainFont(3000, 300);
+    let isTrap = false;
+    const change = (exports) => {
+        const call = exports.subsetter_subset;
+        exports.subsetter_subset = (...words) => {
+            if (isTrap) throw new WebAssembly.RuntimeError("unreachable");
+            return call(...words);
+        };
+        return exports;
+    };
+    await watched(async (made) => {
+        const all = [await library.load(module), await library.load(module), await library.load(wasm), await library.load(capped(least + 2))];
+        equal(new Set(made.map((it) => it.memory)).size, 4, "memories");
+        const wanted = [small, other].map((font) => all[0].subset(font, [7, 3])), widths = all[0].embed(small, [7, 3]).widths;
+        const opened = all.map((it) => [it.open(small), it.open(other)]);
+        const check = (what) => all.forEach((it, i) => {
+            opened[i].forEach((font, k) => font && same(font.subset([7, 3]), wanted[k], `${what}: an open font of ${i}`));
+            same(it.subset(other, [7, 3]), wanted[1], `${what}: a call of ${i}`);
+            same(it.embed(small, [7, 3]).widths, widths, `${what}: widths of ${i}`);
+        });
+        check("all open");
+        opened[1][0].close();
+        opened[1][0] = null;
+        check("a font of another is closed");
+        throws(() => all[3].open(large), library.OutOfMemory, "no memory in one of them");
+        same(all[1].open(large).subset([1, 2]), all[0].subset(large, [1, 2]), "memory in another");
+        check("one has no memory");
+        const [before] = made.map((it) => it.memory.buffer.byteLength);
+        isTrap = true;
+        throws(() => all[2].subset(small, [1]), WebAssembly.RuntimeError, "a trap");
+        isTrap = false;
+        check("one is spoilt");
+        equal(made.length, 5, "instances");
+        equal(made[0].memory.buffer.byteLength, before, "the memory of one that wasn't spoilt");
+    }, change);
+}
+
 /** A call that doesn't come back takes a new instance, and the open fonts move there. */
 async function trapsPass({ library, wasm }) {
     const sources = [plainFont(30, 16), plainFont(2000, 400)];
@@ -488,7 +528,7 @@ async function waysToLoad({ library, wasm, fonts }) {
 export async function runCalls(library, wasm, table, count) {
     const { fonts } = readRows(table), subsetter = await library.load(wasm);
     const all = { library, subsetter, fonts, wasm };
-    const parts = [wrongArguments, valuesOfCoordinates, kindsOfArguments, longLists, otherRealms, answersAreCopies, openedFonts, memoryStays, memoryEnds, trapsPass, stackEnds, waysToLoad];
+    const parts = [wrongArguments, valuesOfCoordinates, kindsOfArguments, longLists, otherRealms, answersAreCopies, openedFonts, memoryStays, memoryEnds, besideEachOther, trapsPass, stackEnds, waysToLoad];
     for (const part of parts) {
         try {
             await part(all, count);

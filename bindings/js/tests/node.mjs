@@ -30,8 +30,26 @@ async function rows() {
     return `${count} rows, and ${real} of a real font`;
 }
 
+/** The module itself twice: each has errors of its own, and fonts of its own. */
+async function moduleTwice() {
+    const other = await import("../subsetter.mjs?twice"), font = exampleFont(), module = await WebAssembly.compile(wasm);
+    ok(other.load !== library.load && other.UnknownKind !== library.UnknownKind, "a second module");
+    const both = [[library, await library.load(module)], [other, await other.load(module)]];
+    const wanted = both[0][1].subset(font, [2, 1]), opened = both.map(([, it]) => it.open(font));
+    for (let turn = 0; turn < 3; turn++) {
+        both.forEach(([own, it], i) => {
+            same(it.subset(font, [2, 1]), wanted, "a call by turns");
+            same(opened[i].subset([2, 1]), wanted, "an open font by turns");
+            equal(throws(() => it.subset(new Uint8Array(), []), own.UnknownKind, "an error of its own").name, "UnknownKind", "its name");
+        });
+    }
+    opened[0].close();
+    same(opened[1].subset([2, 1]), wanted, "a font that is open while the other's is closed");
+}
+
 async function calls() {
     const parts = await runCalls(library, wasm, table, 10000);
+    await moduleTwice();
     return `${parts.length} parts: ${parts.join(", ")}`;
 }
 

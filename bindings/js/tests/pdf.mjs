@@ -1,5 +1,6 @@
 /** The calls for PDF: each row of pdf_rows.txt, arguments, opened fonts, and calls that don't come back. */
 import { equal, ok, same, throws } from "./assert.mjs";
+import { memoryOf } from "./made.mjs";
 
 const OPTIONS = {
     "direction=Vertical": { vertical: true }, "codes=Source": { codes: "source" }, "codes=EachText": { codes: "eachText" },
@@ -207,6 +208,54 @@ function copies(subsetter, files) {
     ok(made.columns === undefined && made.encoding === undefined && made.cidSet === undefined, "what isn't there");
 }
 
+/** Opens fonts until there is no memory for another. */
+function filled(it, { OutOfMemory }) {
+    const opened = [];
+    for (const size of [65536, 1024, 16]) {
+        for (;;) {
+            try {
+                opened.push(it.open(new Uint8Array(size)));
+            } catch (error) {
+                if (error.constructor !== OutOfMemory) throw error;
+                break;
+            }
+        }
+    }
+    return opened;
+}
+
+/** With each cap on the memory a call answers what it does without, or OutOfMemory; and the next call is as good as any. */
+async function memoryEnds(library, wasm, files) {
+    const { least, capped } = memoryOf(wasm), font = files("made.ttf");
+    const shown = Array.from({ length: 20000 }, (_, i) => ({ glyph: 1 + i % 9, text: String.fromCodePoint(0x4e00 + i) }));
+    const calls = (it, made) => [
+        () => textOfAll(it.pdfFont(font, shown, { codes: "eachText" }).toUnicode), () => JSON.stringify(it.glyphsOf(font, "AH".repeat(20000))),
+        () => textOfAll(made.objects(4).bytes), () => textOfAll(made.sheet("grid")),
+    ];
+    const whole = await library.load(wasm), made = whole.pdfFont(font, shown), wanted = calls(whole, made).map((call) => call());
+    const seen = wanted.map(() => ({ refused: 0, done: 0 }));
+    for (let pages = least + 1; pages < least + 130; pages += pages < least + 12 ? 1 : 9) {
+        const it = await library.load(capped(pages));
+        calls(it).slice(0, 2).forEach((call, i) => {
+            try {
+                equal(call(), wanted[i], `${pages} pages, call ${i}`);
+                seen[i].done++;
+            } catch (error) {
+                if (error.constructor !== library.OutOfMemory) throw error;
+                seen[i].refused++;
+            }
+            equal(JSON.stringify(it.glyphsOf(font, "AH")), '[{"glyph":1,"text":"A"},{"glyph":9,"text":"H"}]', "the next call");
+        });
+    }
+    // What was made of a font is written of it once there is memory again.
+    const it = await library.load(capped(least + 400)), own = it.pdfFont(font, shown), fillers = filled(it, library);
+    ok(fillers.length > 100, `${fillers.length} fonts fill the memory`);
+    calls(it, own).forEach((call, i) => throws(call, library.OutOfMemory, `no memory, call ${i}`));
+    fillers.forEach((one) => one.close());
+    calls(it, own).forEach((call, i) => equal(call(), wanted[i], `memory again, call ${i}`));
+    seen.slice(0, 2).forEach(({ refused, done }, i) => ok(refused > 0 && done > 0, `call ${i}: ${refused} times no memory, ${done} times done`));
+}
+
 /** The number of rows. `files` gives the bytes of a font by its name. */
 export async function runPdf(library, wasm, text, files) {
     const subsetter = await library.load(wasm), rows = rowsOf(text);
@@ -215,5 +264,6 @@ export async function runPdf(library, wasm, text, files) {
     choices(subsetter, library, files);
     faces(subsetter, library, files("made.ttf"));
     copies(subsetter, files);
+    await memoryEnds(library, wasm, files);
     return rows.length;
 }

@@ -276,11 +276,10 @@ def _declare(library: ctypes.CDLL) -> ctypes.CDLL:
         "subsetter_make_pdf_font_by_words": (
             make_at[:5] + [pointer, size] * 4 + [ctypes.POINTER(_PdfFont)], ctypes.c_uint32),
         "subsetter_free_pdf_font": ([ctypes.POINTER(_PdfFont)], None),
-        "subsetter_make_pdf_objects": (
-            [ctypes.POINTER(_PdfFont), ctypes.c_uint32, ctypes.POINTER(_Objects)], ctypes.c_uint32),
+        # (a font may be older than this declaration, where the module is loaded again: any pointer will do)
+        "subsetter_make_pdf_objects": ([pointer, ctypes.c_uint32, ctypes.POINTER(_Objects)], ctypes.c_uint32),
         "subsetter_make_pdf_sheet": (
-            [ctypes.POINTER(_PdfFont)] + [pointer, size] * 3 + [ctypes.c_uint32, ctypes.POINTER(_Objects)],
-            ctypes.c_uint32),
+            [pointer] + [pointer, size] * 3 + [ctypes.c_uint32, ctypes.POINTER(_Objects)], ctypes.c_uint32),
         "subsetter_free_pdf_objects": ([ctypes.POINTER(_Objects)], None),
     }
     # (a library has all of these or, if it is older than they are, none)
@@ -297,6 +296,16 @@ def _declare(library: ctypes.CDLL) -> ctypes.CDLL:
 
 _lock = threading.Lock()
 _loaded: Optional[ctypes.CDLL] = None
+
+
+def _new_lock() -> None:
+    global _lock
+    _lock = threading.Lock()
+
+
+# (in a forked process the thread that may have held the lock isn't there to give it back)
+if sys.platform != "win32":
+    os.register_at_fork(after_in_child=_new_lock)
 
 
 def _library() -> ctypes.CDLL:
@@ -320,9 +329,10 @@ class _View(ctypes.Structure):
     ]
 
 
-_get_buffer = ctypes.pythonapi.PyObject_GetBuffer
+# (by their names in brackets they are this module's alone: as attributes all share them, with what was declared last)
+_get_buffer = ctypes.pythonapi["PyObject_GetBuffer"]
 _get_buffer.argtypes, _get_buffer.restype = [ctypes.py_object, ctypes.POINTER(_View), ctypes.c_int], ctypes.c_int
-_release_buffer = ctypes.pythonapi.PyBuffer_Release
+_release_buffer = ctypes.pythonapi["PyBuffer_Release"]
 _release_buffer.argtypes, _release_buffer.restype = [ctypes.POINTER(_View)], None
 _SIMPLE = 0
 

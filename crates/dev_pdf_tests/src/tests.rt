@@ -1,5 +1,6 @@
 //! Calls against values from outside, a module for each crate.
 
+mod boxes;
 mod cff;
 mod codes;
 mod font;

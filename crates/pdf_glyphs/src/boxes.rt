@@ -97,7 +97,7 @@ fn around(a: GlyphBox, b: GlyphBox) -> GlyphBox
 }
 
 /// The least box around those that are there.
-fn joined(first: Option<GlyphBox>, second: Option<GlyphBox>) -> Option<GlyphBox>
+pub fn joined(first: Option<GlyphBox>, second: Option<GlyphBox>) -> Option<GlyphBox>
     ensures { result ≡ joined first second }
 {
     let Some(a) = first else {

@@ -15,7 +15,7 @@ mod metrics;
 mod origins;
 mod tops;
 
-pub use boxes::{OutlineTables, box_around, glyph_box};
+pub use boxes::{OutlineTables, box_around, glyph_box, joined};
 pub use columns::{Columns, columns_at, columns_of};
 pub use frequent::is_most_of_all;
 pub use heights::HeightVariation;

@@ -12,10 +12,12 @@ use Rattle.pdf_values.specs.Descriptor.{values_of}
 use Rattle.pdf_values.specs.declared.looks.bounds.Bounds.{Bounds}
 use Rattle.pdf_values.specs.declared.looks.bounds.Bounds.TheVariants.{Kept}
 use Rattle.pdf_values.specs.declared.descriptor.Values.{Values}
+use Rattle.pdf_values.specs.declared.looks.bounds.GlyphBox.{GlyphBox}
+use Rattle.pdf_glyphs.specs.Boxes.{boxes_from}
 use Rattle.pdf_moved.specs.Movement.{Movement}
 use Rattle.pdf_moved.specs.Values.{values_at}
-use Rattle.pdf_source.specs.Cff.{font_stem}
-use Rattle.pdf_source.specs.Source.{bounds_by, known_of, tables_of}
+use Rattle.pdf_source.specs.Cff.{cff_box, font_stem}
+use Rattle.pdf_source.specs.Source.{bounds_by, known_of, outlines_of, tables_of}
 use Rattle.pdf_source.specs.declared.moved.Location.{Location as GivenLocation}
 
 -- the normalized coordinates, in 16384ths, and the axes
@@ -50,6 +52,16 @@ can_move None None cff2 = is_some cff2
 abbrev pub moves : (List ℕ → Option (List ℕ)) → Bool
 moves find = can_move (find (codes "glyf")) (find (codes "CFF ")) (find (codes "CFF2"))
 
+-- the least box around so many glyphs of the new font: by the headers of its `glyf`, or by the charstrings of its `CFF ` where they were
+-- made of `CFF2`; of other outlines it isn't known
+abbrev pub kept_by : Option (List ℕ) → Bool → (List ℕ → Option (List ℕ)) → ℕ → Option GlyphBox
+kept_by (Some glyf) moving new count = boxes_from (outlines_of new) 0 count
+kept_by None true new count = cff_box (new (codes "CFF ")) count
+kept_by None false new count = None
+
+abbrev pub kept_in : (List ℕ → Option (List ℕ)) → (List ℕ → Option (List ℕ)) → ℕ → Option GlyphBox
+kept_in find new count = kept_by (find (codes "glyf")) (moves find) new count
+
 -- elsewhere than at its default; none of outlines that don't move
 abbrev pub location_of : Bool → (List ℕ → Option (List ℕ)) → List (Tag × ℤ) → Option Location
 location_of false find settings = None
@@ -62,10 +74,10 @@ abbrev pub movement_of : (List ℕ → Option (List ℕ)) → List (Tag × ℤ) 
 movement_of find settings p = record { at = p.at; axes = p.axes; settings = settings; mvar = find (codes "MVAR") }
 
 -- off its default FontBBox holds the kept glyphs, where their boxes are known
-abbrev pub values_by : Option Location → Option ℕ → (List ℕ → Option (List ℕ)) → (List ℕ → Option (List ℕ)) → ℕ → Bounds → List (Tag × ℤ) → Values
-values_by None stem find new count choice settings = values_of (tables_of find) (known_of stem find new count) (bounds_by (find (codes "glyf")) choice)
-values_by (Some p) stem find new count choice settings = values_at (tables_of find) (known_of stem find new count) (movement_of find settings p) (bounds_by (find (codes "glyf")) Kept)
+abbrev pub values_by : Option Location → Option ℕ → Option GlyphBox → (List ℕ → Option (List ℕ)) → Bounds → List (Tag × ℤ) → Values
+values_by None stem kept find choice settings = values_of (tables_of find) (known_of stem kept find) (bounds_by (moves find) choice)
+values_by (Some p) stem kept find choice settings = values_at (tables_of find) (known_of stem kept find) (movement_of find settings p) (bounds_by (moves find) Kept)
 
 -- the values of the descriptor, of the tables that look-ups find in the source and in the new font
 abbrev pub values_in : (List ℕ → Option (List ℕ)) → (List ℕ → Option (List ℕ)) → ℕ → Bounds → List (Tag × ℤ) → Values
-values_in find new count choice settings = values_by (location_in find settings) (font_stem find new) find new count choice settings
+values_in find new count choice settings = values_by (location_in find settings) (font_stem find new) (kept_in find new count) find choice settings

@@ -1,14 +1,16 @@
 //! What `CFF ` says of a font (Technical Note 5176).
 
 ghost use Rattle.std.specs.Prelude.{◌≡◌, Ok, IfErr};
+ghost use Rattle.std.specs.Option.{option_copied};
 ghost use Rattle.subsetter_base.specs.Gives.{Gives};
 ghost use Rattle.subsetter_base.specs.declared.error.Error.TheVariants.{OutOfMemory};
 ghost use Rattle.subsetter_sfnt.specs.Read.{table_in};
 ghost use Rattle.pdf_cff.specs.View.{cff_values_view};
-ghost use Rattle.pdf_source.specs.Cff.{cff_values_by, font_stem};
+ghost use Rattle.pdf_source.specs.Cff.{cff_box, cff_values_by, font_stem};
 
+use pdf_boxes::kept_box;
 use pdf_cff::{CffValues, cff_values_in};
-use pdf_values::units_per_em;
+use pdf_values::{GlyphBox, units_per_em};
 use std::alloc::Global;
 use subsetter_base::{Error, Tag};
 use subsetter_sfnt::face::Face;
@@ -25,6 +27,17 @@ pub fn cff_values_by<'a>(alloc: Global, face: &Face<'a>) -> Result<CffValues<'a>
             stem: None,
         }),
         Some(cff) => cff_values_in(alloc, cff, units_per_em(face.stored(Tag::HEAD))),
+    }
+}
+
+/// The least box around the first glyphs of a `CFF `, so many from glyph 0 on.
+pub fn cff_box(alloc: Global, cff: Option<&[u8]>, count: u16) -> Result<Option<GlyphBox>, Error>
+    ensures value { Gives (λ kept. kept) result (Ok (cff_box (option_copied cff.entry) count)) }
+    ensures err { IfErr result (λ e. e ≡ OutOfMemory) }
+{
+    match cff {
+        None => Ok(None),
+        Some(cff) => kept_box(alloc, cff, count),
     }
 }
 

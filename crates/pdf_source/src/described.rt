@@ -1,7 +1,8 @@
 //! The font descriptor.
 
-ghost use Rattle.std.specs.Prelude.{◌≡◌, codes, IfOk, IfErr};
+ghost use Rattle.std.specs.Prelude.{◌≡◌, codes, Ok, IfOk, IfErr};
 ghost use Rattle.std.specs.Option.{option_copied, option_map};
+ghost use Rattle.subsetter_base.specs.Gives.{Gives};
 ghost use Rattle.subsetter_base.specs.declared.error.Error.TheVariants.{OutOfMemory};
 ghost use Rattle.subsetter_sfnt.specs.Read.{table_in};
 ghost use Rattle.pdf_glyphs.specs.Boxes.{outlines_view};
@@ -10,17 +11,17 @@ ghost use Rattle.pdf_glyphs.specs.Vertical.{vertical_view};
 ghost use Rattle.pdf_text.specs.SubsetName.{font_name, IsTag};
 ghost use Rattle.pdf_values.specs.Descriptor.{tables_view};
 ghost use Rattle.pdf_source.specs.Named.{heights_by, name_by};
-ghost use Rattle.pdf_source.specs.Moved.{location_seen, values_by};
+ghost use Rattle.pdf_source.specs.Moved.{kept_by, kept_in, location_seen, values_by};
 ghost use Rattle.pdf_source.specs.Source.{bounds_by, known_of, outlines_of, source_name, tables_of, tag_in, vertical_of};
 
-use crate::cff::cff_values_by;
-use crate::moved::{Location, movement_of};
+use crate::cff::{cff_box, cff_values_by};
+use crate::moved::{Location, movement_of, moves};
 use crate::tag::SubsetTag;
 use pdf_glyphs::{HeightVariation, OutlineTables, VerticalTables, box_around, top_of};
 use pdf_moved::values_at;
 use pdf_names::name_at;
 use pdf_text::{font_name, tag_of};
-use pdf_values::{Bounds, Known, Tables, Values, postscript_name, values_of};
+use pdf_values::{Bounds, GlyphBox, Known, Tables, Values, postscript_name, values_of};
 use std::alloc::Global;
 use subsetter_base::{Error, Tag};
 use subsetter_sfnt::face::Face;
@@ -68,52 +69,84 @@ fn tables_of<'a>(face: &Face<'a>) -> Tables<'a>
     }
 }
 
-/// What is known of glyphs: of the source, which says this stem, and of so many of the new font.
-fn known_of(stem: Option<u32>, face: &Face<'_>, new: &Face<'_>, count: u16) -> Known
-    ensures { result ≡ known_of stem (table_in face.now.«data».now face.now.records.now) (table_in new.now.«data».now new.now.records.now) count }
+/// What is known of glyphs of the source: the tops of two, and the stem and the box of the kept ones, which are given.
+fn known_of(stem: Option<u32>, kept: Option<GlyphBox>, face: &Face<'_>) -> Known
+    ensures { result ≡ known_of stem kept (table_in face.now.«data».now face.now.records.now) }
 {
     let outlines = outlines_of(face);
     let cmap = face.stored(Tag::new(b"cmap"));
     Known {
         cap_top: top_of(outlines, cmap, 'H'),
         x_top: top_of(outlines, cmap, 'x'),
-        kept: box_around(outlines_of(new), count),
+        kept,
         stem,
     }
 }
 
-/// Which glyphs FontBBox is to hold, where boxes are known of outlines in `glyf` alone.
-fn bounds_by(glyf: Option<&[u8]>, choice: Bounds) -> Bounds
-    ensures { result ≡ bounds_by (option_copied glyf.entry) choice }
+/// Which glyphs FontBBox is to hold, where boxes are known of outlines that may move.
+fn bounds_by(moving: bool, choice: Bounds) -> Bounds
+    ensures { result ≡ bounds_by moving choice }
+{
+    if moving { choice } else { Bounds::Font }
+}
+
+/// The least box around so many glyphs of the new font, by the `glyf` of the source, and whether its outlines move.
+fn kept_by(
+    alloc: Global,
+    glyf: Option<&[u8]>,
+    moving: bool,
+    new: &Face<'_>,
+    count: u16,
+) -> Result<Option<GlyphBox>, Error>
+    ensures value { Gives (λ kept. kept) result (Ok (kept_by (option_copied glyf.entry) moving (table_in new.now.«data».now new.now.records.now) count)) }
+    ensures err { IfErr result (λ e. e ≡ OutOfMemory) }
 {
     match glyf {
-        None => Bounds::Font,
-        Some(_) => choice,
+        Some(_) => Ok(box_around(outlines_of(new), count)),
+        None => {
+            if moving {
+                return cff_box(alloc, new.stored(Tag::CFF), count);
+            }
+            Ok(None)
+        }
     }
 }
 
-/// The values of a font that says this stem, of which the new font has so many glyphs, at coordinates that are off its
-/// default, if they are. There FontBBox holds the kept glyphs, where their boxes are known.
-pub fn values_by(
-    location: &Option<Location>,
-    stem: Option<u32>,
+/// The least box around so many glyphs of the new font, where it is known.
+pub fn kept_in(
+    alloc: Global,
     face: &Face<'_>,
     new: &Face<'_>,
     count: u16,
+) -> Result<Option<GlyphBox>, Error>
+    ensures value { Gives (λ kept. kept) result (Ok (kept_in (table_in face.now.«data».now face.now.records.now) (table_in new.now.«data».now new.now.records.now) count)) }
+    ensures err { IfErr result (λ e. e ≡ OutOfMemory) }
+{
+    kept_by(alloc, face.stored(Tag::GLYF), moves(face), new, count)
+}
+
+/// The values of a font that says this stem, whose kept glyphs have this box, at coordinates that are off its default, if they
+/// are. There FontBBox holds the kept glyphs, where their boxes are known.
+pub fn values_by(
+    location: &Option<Location>,
+    stem: Option<u32>,
+    kept: Option<GlyphBox>,
+    face: &Face<'_>,
     choice: Bounds,
     settings: &[(Tag, i32)],
 ) -> Values
-    ensures { result ≡ values_by (option_map location_seen location.now) stem (table_in face.now.«data».now face.now.records.now) (table_in new.now.«data».now new.now.records.now) count choice settings.now }
+    ensures { result ≡ values_by (option_map location_seen location.now) stem kept (table_in face.now.«data».now face.now.records.now) choice settings.now }
 {
     let tables = tables_of(face);
-    let known = known_of(stem, face, new, count);
+    let known = known_of(stem, kept, face);
+    let moving = moves(face);
     match location {
-        None => values_of(tables, known, bounds_by(face.stored(Tag::GLYF), choice)),
+        None => values_of(tables, known, bounds_by(moving, choice)),
         Some(location) => values_at(
             tables,
             known,
             movement_of(face, settings, location),
-            bounds_by(face.stored(Tag::GLYF), Bounds::Kept),
+            bounds_by(moving, Bounds::Kept),
         ),
     }
 }

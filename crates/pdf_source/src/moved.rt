@@ -91,7 +91,7 @@ fn can_move(glyf: Option<&[u8]>, cff: Option<&[u8]>, cff2: Option<&[u8]>) -> boo
 }
 
 /// Whether the outlines of a font move along axes.
-fn moves(face: &Face<'_>) -> bool
+pub fn moves(face: &Face<'_>) -> bool
     ensures { result ≡ moves (table_in face.now.«data».now face.now.records.now) }
 {
     let glyf = face.stored(Tag::GLYF);

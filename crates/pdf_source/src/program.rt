@@ -9,7 +9,7 @@ ghost use Rattle.pdf_source.specs.Program.{bare_cff, count_in, flavor_by, flavor
 
 use crate::cff::font_stem;
 use crate::choice::{FontOptions, ProgramChoice};
-use crate::described::values_by;
+use crate::described::{kept_in, values_by};
 use crate::moved::location_in;
 use crate::widths::widths_of;
 use pdf_text::ProgramKind;
@@ -106,7 +106,8 @@ fn profile_of(
     let widths = widths_of(alloc, &new, count)?;
     let location = location_in(alloc, face, settings)?;
     let stem = font_stem(alloc, face, &new)?;
-    let values = values_by(&location, stem, face, &new, count, options.bounds, settings);
+    let kept = kept_in(alloc, face, &new, count)?;
+    let values = values_by(&location, stem, kept, face, options.bounds, settings);
     Ok(Profile {
         count,
         widths,

@@ -1,6 +1,6 @@
 -- What calls in memory answer, as the plain way does.
 use Rattle.std.proofs.Common.{◌≡◌, ℕ, ◌+◌, ◌-◌, ◌^◌, ◌<◌, ◌≤◌, true, false, List, [], ◌∷◌, ◌++◌, length, map, Option, Some, refl, ap, arith, ◌∙◌, sym, inl, inr}
-use Rattle.std.specs.Prelude.{min, IfOk, Result, Ok, Err}
+use Rattle.std.specs.Prelude.{min, IfOk, OnOk, Result, Ok, Err}
 use Rattle.std.proofs.lemmas.List.{length-map}
 use Rattle.subsetter_base.specs.Gives.{Fails}
 use Rattle.subsetter_base.specs.Within.{FailsWithin, is_past}
@@ -27,16 +27,16 @@ requested_text : (cff : Cff2) (v : Option Variation) (tokens depth : ℕ) (dicts
     → text_if cff v tokens depth dicts place glyph (Some advance) ≡ Ok (Some text)
 requested_text cff v tokens depth dicts place glyph advance text e = rw e refl
 
-pub drawn_next : (r : Result Texts Error) (cff : Cff2) (v : Option Variation) (tokens depth : ℕ) (dicts : List NewDict) (place glyph advance : ℕ) (old : Texts) (bytes text : List ℕ) (requested : ℕ)
-    → IfOk r (λ t. t.char_strings.items ≡ old.char_strings.items ++ bytes) → IfOk r (λ t. t.ends.items ≡ old.ends.items ++ (length t.char_strings.items + 1) ∷ []) → IfOk r (λ t. t.requested ≡ requested)
+pub drawn_more : {X : Type 0} (r : Result X Error) (cff : Cff2) (v : Option Variation) (tokens depth : ℕ) (dicts : List NewDict) (place glyph advance : ℕ) (old new : Texts) (bytes text : List ℕ) (requested : ℕ)
+    → OnOk r (new.char_strings.items ≡ old.char_strings.items ++ bytes) → OnOk r (new.ends.items ≡ old.ends.items ++ (length new.char_strings.items + 1) ∷ []) → new.requested ≡ requested
     → bytes ≡ text → requested ≡ min (old.requested + length text) (2 ^ 64 - 1) → placed_text cff v tokens depth dicts place glyph advance ≡ Ok text
-    → IfOk r (λ t. DrawsNext cff v tokens depth dicts place glyph (Some advance) old t)
-drawn_next (Ok t) cff v tokens depth dicts place glyph advance old bytes text requested chars ends size same counted is = record {
+    → OnOk r (DrawsNext cff v tokens depth dicts place glyph (Some advance) old new)
+drawn_more (Ok x) cff v tokens depth dicts place glyph advance old new bytes text requested chars ends size same counted is = record {
   text = Some text;
   is = requested_text cff v tokens depth dicts place glyph advance text is;
   put = record { char_strings = chars ∙ ap (λ (l : List ℕ). old.char_strings.items ++ l) same; ends = ends; requested = size ∙ counted };
 }
-drawn_next (Err e) cff v tokens depth dicts place glyph advance old bytes text requested chars ends size same counted is = tt
+drawn_more (Err e) cff v tokens depth dicts place glyph advance old new bytes text requested chars ends size same counted is = tt
 
 -- ---- all glyphs
 pub drawn_is : (cff : Cff2) (v : Option Variation) (tokens depth : ℕ) (glyphs numbers : List (Option ℕ)) (used : List ℕ) (dicts : List NewDict) (texts : List (Option (List ℕ)))

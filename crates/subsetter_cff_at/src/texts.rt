@@ -1,11 +1,11 @@
 //! The charstrings of the requested glyphs at coordinates (OpenType, "CFF2 CharString Format").
 
-ghost use Rattle.std.specs.Prelude.{◌≡◌, ◌≤◌, ◌+◌, ◌++◌, ◌∷◌, [], false, length, map, IfOk, IfErr};
+ghost use Rattle.std.specs.Prelude.{◌≡◌, ◌≤◌, ◌+◌, ◌++◌, ◌∷◌, [], false, length, map, Some, IfOk, IfErr, OnOk};
 ghost use Rattle.subsetter_base.specs.Gives.{Gives};
 ghost use Rattle.subsetter_base.specs.declared.error.Error.TheVariants.{OutOfMemory};
 ghost use Rattle.subsetter_base.specs.Within.{FailsWithin, is_past};
 ghost use Rattle.subsetter_cff2.specs.Made2View.{dict_view};
-ghost use Rattle.subsetter_cff_at.specs.Plain.{glyph_text, placed_text, text_if, texts_from, texts_size, text_size};
+ghost use Rattle.subsetter_cff_at.specs.Plain.{glyph_text, no_glyph, placed_text, text_if, texts_from, texts_size, text_size};
 ghost use Rattle.subsetter_cff_at.specs.View.{opened_of, AreTexts, DrawsNext, AreAllDrawn};
 
 use crate::opening::OpenTable;
@@ -108,24 +108,57 @@ fn no_texts(alloc: Global, count: usize, limits: Limits) -> Result<Texts, Error>
 }
 
 /// Puts the bytes of a charstring behind the others.
-fn put(texts: Texts, bytes: &[u8], requested: usize) -> Result<Texts, Error>
-    ensures char_strings { IfOk result (λ t. t.char_strings.items ≡ texts.char_strings.items ++ bytes.now) }
-    ensures ends { IfOk result (λ t. t.ends.items ≡ texts.ends.items ++ (length t.char_strings.items + 1) ∷ []) }
-    ensures requested { IfOk result (λ t. t.requested ≡ requested) }
+fn put(texts: &mut Texts, bytes: &[u8]) -> Result<(), Error>
+    ensures char_strings { OnOk result (texts.new.char_strings.items ≡ texts.old.char_strings.items ++ bytes.now) }
+    ensures ends { OnOk result (texts.new.ends.items ≡ texts.old.ends.items ++ (length texts.new.char_strings.items + 1) ∷ []) }
+    ensures requested { texts.new.requested ≡ texts.old.requested }
     ensures err { IfErr result (λ e. e ≡ OutOfMemory) }
 {
-    let mut char_strings = texts.char_strings;
-    let mut ends = texts.ends;
-    char_strings.extend_from_slice(bytes)?;
-    ends.push(char_strings.len() + 1)?;
-    Ok(Texts {
-        char_strings,
-        ends,
-        requested,
-    })
+    texts.char_strings.extend_from_slice(bytes)?;
+    texts.ends.push(texts.char_strings.len() + 1)?;
+    Ok(())
 }
 
-/// Draws a glyph more. `OverflowError` also where the charstrings of the requested glyphs pass the bound on bytes.
+/// Puts `endchar` behind the others.
+#[inline(always)]
+fn put_end(texts: &mut Texts) -> Result<(), Error>
+    ensures char_strings { OnOk result (texts.new.char_strings.items ≡ texts.old.char_strings.items ++ no_glyph) }
+    ensures ends { OnOk result (texts.new.ends.items ≡ texts.old.ends.items ++ (length texts.new.char_strings.items + 1) ∷ []) }
+    ensures requested { texts.new.requested ≡ texts.old.requested }
+    ensures err { IfErr result (λ e. e ≡ OutOfMemory) }
+{
+    texts.char_strings.push(first_byte::ENDCHAR)?;
+    texts.ends.push(texts.char_strings.len() + 1)?;
+    Ok(())
+}
+
+/// Draws a requested glyph more. `OverflowError` also where the charstrings of the requested glyphs pass the bound on bytes.
+fn draw_requested<'a>(
+    alloc: Global,
+    room: &mut Room<'a>,
+    opened: &OpenTable<'a>,
+    dicts: &[PlacedDict<'a>],
+    place: u8,
+    glyph: u16,
+    advance: u16,
+    limits: Limits,
+    texts: &mut Texts,
+) -> Result<(), Error>
+    ensures ok { OnOk result (DrawsNext (opened_of opened.now).cff (opened_of opened.now).variation limits.tokens limits.depth (map dict_view dicts.now) place glyph (Some advance) texts.old texts.new) }
+    ensures within { OnOk result (is_past limits.bytes texts.new.requested ≡ false) }
+    ensures err { IfErr result (λ e. FailsWithin limits.bytes (λ text. texts.old.requested + text_size text) e (text_if (opened_of opened.now).cff (opened_of opened.now).variation limits.tokens limits.depth (map dict_view dicts.now) place glyph (Some advance))) }
+{
+    let text = placed_text(alloc, room, opened, dicts, place, glyph, advance, limits)?;
+    let requested = texts.requested.saturating_add(text.len());
+    if limits.is_past(requested) {
+        return Err(Error::OverflowError);
+    }
+    texts.requested = requested;
+    put(texts, &text)
+}
+
+/// Draws a glyph more. The texts stay where they are: moved in and out they cost more than `endchar`.
+#[inline(always)]
 fn draw_next<'a>(
     alloc: Global,
     room: &mut Room<'a>,
@@ -135,25 +168,17 @@ fn draw_next<'a>(
     glyph: u16,
     advance: Option<u16>,
     limits: Limits,
-    texts: Texts,
-) -> Result<Texts, Error>
-    ensures ok { IfOk result (λ t. DrawsNext (opened_of opened.now).cff (opened_of opened.now).variation limits.tokens limits.depth (map dict_view dicts.now) place glyph advance texts t) }
-    ensures within { IfOk result (λ t. is_past limits.bytes texts.requested ≡ false → is_past limits.bytes t.requested ≡ false) }
-    ensures err { IfErr result (λ e. FailsWithin limits.bytes (λ text. texts.requested + text_size text) e (text_if (opened_of opened.now).cff (opened_of opened.now).variation limits.tokens limits.depth (map dict_view dicts.now) place glyph advance)) }
+    texts: &mut Texts,
+) -> Result<(), Error>
+    ensures ok { OnOk result (DrawsNext (opened_of opened.now).cff (opened_of opened.now).variation limits.tokens limits.depth (map dict_view dicts.now) place glyph advance texts.old texts.new) }
+    ensures within { OnOk result (is_past limits.bytes texts.old.requested ≡ false → is_past limits.bytes texts.new.requested ≡ false) }
+    ensures err { IfErr result (λ e. FailsWithin limits.bytes (λ text. texts.old.requested + text_size text) e (text_if (opened_of opened.now).cff (opened_of opened.now).variation limits.tokens limits.depth (map dict_view dicts.now) place glyph advance)) }
 {
     match advance {
-        None => {
-            let requested = texts.requested;
-            put(texts, &[first_byte::ENDCHAR], requested)
-        }
-        Some(advance) => {
-            let text = placed_text(alloc, room, opened, dicts, place, glyph, advance, limits)?;
-            let requested = texts.requested.saturating_add(text.len());
-            if limits.is_past(requested) {
-                return Err(Error::OverflowError);
-            }
-            put(texts, &text, requested)
-        }
+        None => put_end(texts),
+        Some(advance) => draw_requested(
+            alloc, room, opened, dicts, place, glyph, advance, limits, texts,
+        ),
     }
 }
 
@@ -176,7 +201,7 @@ pub fn draw_texts<'a>(
     let mut room = Room::new(opened.table.bytes);
     let mut texts = no_texts(alloc, glyphs.len(), limits)?;
     for glyph in 0..glyphs.len() {
-        texts = draw_next(
+        draw_next(
             alloc,
             &mut room,
             opened,
@@ -185,7 +210,7 @@ pub fn draw_texts<'a>(
             glyph as u16,
             glyphs[glyph],
             limits,
-            texts,
+            &mut texts,
         )?;
     }
     Ok(texts)

@@ -2,7 +2,7 @@
 //!
 //! The font is opened, and its outlines are found, before any memory is taken.
 
-ghost use Rattle.std.specs.Prelude.{◌≡◌, ◌≢◌, ◌⊎◌, IfOk, IfErr, Ok, Err};
+ghost use Rattle.std.specs.Prelude.{◌≡◌, ◌≢◌, ◌≤◌, ◌⊎◌, length, IfOk, IfErr, Ok, Err};
 ghost use Rattle.subsetter_base.specs.Bytes.{IsBytes};
 ghost use Rattle.subsetter_base.specs.Gives.{Gives};
 ghost use Rattle.subsetter_base.specs.Within.{IsTooLong};
@@ -19,6 +19,7 @@ ghost use Rattle.subsetter_cff_at.specs.View.{drawn_size, KeepsBound};
 ghost use Rattle.subsetter_cff_instance.specs.Answer.{IsCffAnswer, HasNoCffAnswer, IsTheCffAnswer, IsClosedToCff, PassesBound, FailsInstance};
 ghost use Rattle.subsetter_cff_instance.specs.CffInstance.{IsCffInstance};
 ghost use Rattle.subsetter_cff_instance.specs.Fault.{HasCffInstanceFault, HasOutlinesFault};
+ghost use Rattle.subsetter_cff_instance.specs.Metrics.{metrics_by_glyph};
 ghost use Rattle.subsetter_cff_instance.specs.Plain.{prepared, request_at, cff_instance_in, charstrings_in, charstrings_of};
 ghost use Rattle.subsetter_cff_instance.specs.Source.{outlines_or_fault};
 
@@ -92,21 +93,23 @@ fn joined(pieces: CffPieces) -> Result<Vec<u8>, AllocError>
     Ok(table)
 }
 
-/// The `CFF ` of a `CFF2`, each glyph that is requested with its advance.
+/// The `CFF ` of a `CFF2`, each glyph that is requested with its advance. These are the metrics of all glyphs.
 fn make_cff(
     alloc: Global,
     cff2: &[u8],
     prepared: &Prepared<'_>,
     mapper: &GlyphRemapper,
+    all: &[Option<LongHorMetric>],
     limits: Limits,
 ) -> Result<Vec<u8>, Error>
+    requires all { all.now ≡ metrics_by_glyph mapper.now prepared.now.metrics prepared.now.source.count }
+    requires few { length all.now ≤ 65535 }
     ensures ok { IfOk result (λ v. made_table cff2.now (request_at mapper.now prepared.now) limits.tokens limits.depth ≡ Ok v.items) }
     ensures within { IfOk result (λ _. KeepsBound limits.bytes (drawn_of cff2.now (request_at mapper.now prepared.now) limits.tokens limits.depth)) }
     ensures err { IfErr result (λ e. (e ≡ OutOfMemory) ⊎ (HasFault cff2.now (request_at mapper.now prepared.now) limits.tokens limits.depth e ⊎ ((e ≡ OverflowError) × IsTooLong limits.bytes drawn_size (drawn_of cff2.now (request_at mapper.now prepared.now) limits.tokens limits.depth)))) }
 {
     let source = &prepared.source;
-    let all = metrics_by_glyph(alloc, mapper, &prepared.metrics, source.count())?;
-    let glyphs = advances(alloc, &all)?;
+    let glyphs = advances(alloc, all)?;
     let request = TableRequest {
         coordinates: &prepared.at,
         glyphs: &glyphs,
@@ -145,7 +148,9 @@ fn make(
     ensures err { IfErr result (λ e. FailsInstance (table_in face.now.«data».now face.now.records.now) cff2.now coordinates.now mapper.now limits.tokens limits.depth limits.bytes e) }
 {
     let prepared = prepare(alloc, face, coordinates, mapper)?;
-    let cff = make_cff(alloc, cff2, &prepared, mapper, limits)?;
+    let count = prepared.source.count();
+    let all = metrics_by_glyph(alloc, mapper, &prepared.metrics, count)?;
+    let cff = make_cff(alloc, cff2, &prepared, mapper, &all, limits)?;
     laid(
         alloc,
         face,
@@ -153,6 +158,7 @@ fn make(
         &prepared.lines,
         mapper,
         &prepared.metrics,
+        &all,
         &cff,
     )
 }

@@ -13,7 +13,7 @@ ghost use Rattle.subsetter_sfnt.specs.View.{font_seen};
 ghost use Rattle.subsetter_cff_instance.specs.Metrics.{metrics_by_glyph, no_metric, widest};
 ghost use Rattle.subsetter_cff_instance.specs.Tables.{hmtx_of, hhea_bytes, head_bytes, laid};
 
-use crate::metrics::{metrics_by_glyph, widest};
+use crate::metrics::widest;
 use crate::source::Source;
 use std::alloc::{AllocError, Global};
 use subsetter_base::{Error, GlyphRemapper, Tag};
@@ -107,18 +107,17 @@ fn new_tables(
     alloc: Global,
     source: &Source<'_>,
     hhea_there: &[u8],
-    mapper: &GlyphRemapper,
     metrics: &[LongHorMetric],
+    all: &[Option<LongHorMetric>],
 ) -> Result<NewTables, Error>
     requires head { 44 ≤ length source.now.head }
     requires hhea { 36 ≤ length hhea_there.now }
     ensures head { IfOk result (λ t. t.head.items ≡ head_bytes source.now.head) }
     ensures hhea { IfOk result (λ t. t.hhea.items ≡ hhea_bytes source.now.count metrics.now hhea_there.now) }
-    ensures hmtx { IfOk result (λ t. t.hmtx.items ≡ hmtx_of (metrics_by_glyph mapper.now metrics.now source.now.count)) }
+    ensures hmtx { IfOk result (λ t. t.hmtx.items ≡ hmtx_of all.now) }
     ensures err { IfErr result (λ e. e ≡ OutOfMemory) }
 {
-    let all = metrics_by_glyph(alloc, mapper, metrics, source.count())?;
-    let hmtx = hmtx(alloc, &all)?;
+    let hmtx = hmtx(alloc, all)?;
     let head = head(alloc, source.head())?;
     let hhea = hhea(alloc, hhea_there, source.count(), metrics)?;
     Ok(NewTables { head, hhea, hmtx })
@@ -150,8 +149,8 @@ fn font_tables<'a>(
     }
 }
 
-/// The file of a `CFF `, with the metrics of the glyphs that were requested, in the mapper's order, and 0 and 0 for every other glyph. `hhea` and
-/// `post` are those of the location. `OverflowError` where a table's offset or length is 2^32 or more.
+/// The file of a `CFF `, with the metrics of the glyphs that were requested, in the mapper's order, those of all glyphs, and 0 and 0 where there is none.
+/// `hhea` and `post` are those of the location. `OverflowError` where a table's offset or length is 2^32 or more.
 #[tactic(auto, unfolding(crate::specs::Tables::laid))]
 pub fn laid(
     alloc: Global,
@@ -160,13 +159,15 @@ pub fn laid(
     lines: &Lines,
     mapper: &GlyphRemapper,
     metrics: &[LongHorMetric],
+    all: &[Option<LongHorMetric>],
     cff: &[u8],
 ) -> Result<Vec<u8>, Error>
+    requires all { all.now ≡ metrics_by_glyph mapper.now metrics.now source.now.count }
     requires head { 44 ≤ length source.now.head }
     requires hhea { 36 ≤ length lines.now.hhea }
     ensures { Gives (λ v. v.items) result (laid (table_in face.now.«data».now face.now.records.now) source.now lines.now mapper.now metrics.now cff.now) }
 {
-    let new = new_tables(alloc, source, lines.hhea(), mapper, metrics)?;
+    let new = new_tables(alloc, source, lines.hhea(), metrics, all)?;
     let tables = font_tables(
         &new,
         cff,

@@ -35,6 +35,8 @@ pub mod glyph_names;
 #[cfg(feature = "program")]
 pub mod late_file;
 #[cfg(feature = "variable-fonts")]
+pub mod pdf_boxes;
+#[cfg(feature = "variable-fonts")]
 pub mod pdf_cff;
 #[cfg(feature = "variable-fonts")]
 pub mod pdf_codes;

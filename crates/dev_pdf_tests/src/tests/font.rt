@@ -1,6 +1,7 @@
 //! `pdf_font`: the rows of fonts made for this, against the values of an independent program.
 
 mod rows;
+mod square;
 mod wanted;
 
 use self::rows::blocks::{CHARACTERS, TWO_BLOCKS};

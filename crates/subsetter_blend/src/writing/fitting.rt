@@ -17,7 +17,7 @@ use crate::writing::flex::{open_flex1, open_hflex, open_hflex1};
 use crate::writing::placing::{Position, place_all};
 use crate::writing::splitting::{carried, cut, part_of, piece_operator};
 use crate::writing::taking::Takes;
-use std::alloc::Global;
+use std::alloc::{AllocError, Global};
 use std::marker::Model;
 use subsetter_base::error::Error;
 use subsetter_cffdata::dicts::operator::{Operator, OperatorType};
@@ -112,14 +112,41 @@ fn append_width(bytes: &mut Vec<u8>, advance: Option<i16>) -> Result<(), Error>
     Ok(())
 }
 
+/// Writes an operator behind these bytes.
+#[inline(always)]
+fn append_code(bytes: &mut Vec<u8>, operator: Operator) -> Result<(), AllocError>
+    ensures { OnOk result (bytes.new.items ≡ bytes.old.items ++ operator_of operator) }
+{
+    match operator.0 {
+        OperatorType::OneByteOperator(code) => match code {
+            [first] => {
+                bytes.push(first)?;
+                Ok(())
+            }
+        },
+        OperatorType::TwoByteOperator(code) => bytes.extend_from_slice(&code),
+    }
+}
+
+/// Writes a mask behind these bytes: most operators have none.
+#[inline(always)]
+fn append_mask(bytes: &mut Vec<u8>, mask: &[u8]) -> Result<(), AllocError>
+    ensures { OnOk result (bytes.new.items ≡ bytes.old.items ++ mask.now) }
+{
+    if mask.is_empty() {
+        return Ok(());
+    }
+    bytes.extend_from_slice(mask)
+}
+
 /// Writes an operator and its mask behind these bytes.
 #[inline(always)]
 fn append_operator(bytes: &mut Vec<u8>, operator: Operator, mask: &[u8]) -> Result<(), Error>
     ensures ok { OnOk result (bytes.new.items ≡ bytes.old.items ++ (operator_of operator ++ mask.now)) }
     ensures err { IfErr result (λ e. e ≡ OutOfMemory) }
 {
-    bytes.extend_from_slice(operator.as_slice())?;
-    bytes.extend_from_slice(mask)?;
+    append_code(bytes, operator)?;
+    append_mask(bytes, mask)?;
     Ok(())
 }
 

@@ -19,7 +19,7 @@ use Rattle.pdf_objects.specs.Values.{AreValuesOf as AreValuesOfFont, IsDescripto
 use Rattle.pdf_sheet.specs.declared.glyphs.SheetGlyph.{SheetGlyph}
 use Rattle.pdf_source.specs.Chosen.{is_vertical}
 use Rattle.pdf_source.specs.Cff.{font_stem}
-use Rattle.pdf_source.specs.Moved.{Location, location_in, movement_of, values_by}
+use Rattle.pdf_source.specs.Moved.{Location, kept_in, location_in, movement_of, values_by}
 use Rattle.pdf_source.specs.Source.{tables_of}
 use Rattle.pdf_source.specs.declared.choice.FontOptions.{FontOptions}
 use Rattle.pdf_text.specs.Metrics.Arrays.{array_text, entries}
@@ -34,6 +34,7 @@ use Rattle.pdf_text.specs.declared.values.ProgramKind.{ProgramKind}
 use Rattle.pdf_text.specs.declared.values.ProgramKind.TheVariants.{TrueType, BareCff, OpenType}
 use Rattle.pdf_values.specs.Looks.Weight.{font_weight, weight_of as weight_said}
 use Rattle.pdf_values.specs.declared.looks.bounds.Bounds.{Bounds}
+use Rattle.pdf_values.specs.declared.looks.bounds.GlyphBox.{GlyphBox}
 use Rattle.pdf_codes.specs.Shown.{texts_of}
 use Rattle.subsetter_pdf_c.specs.Made.{AreValuesOf, IsDescriptorOf, column_of, columns_text_of, default_column as default_by, is_yes, kind_of, no_column, unless_empty, weight_of}
 use Rattle.subsetter_pdf_c.specs.Written.{AreGlyphsOf, advance_by, advance_of, size_of}
@@ -64,9 +65,9 @@ weight_fits : (w : ℕ) → min (font_weight w) 1000 ≡ font_weight w
 weight_fits w = omega arith
 
 -- FontWeight is at most 1000
-weight_back : (p : Option Location) (stem : Option ℕ) (find new : List ℕ → Option (List ℕ)) (count : ℕ) (choice : Bounds) (settings : List (Tag × ℤ)) → weight_of (values_by p stem find new count choice settings).font_weight ≡ (values_by p stem find new count choice settings).font_weight
-weight_back None stem find new count choice settings = weight_fits (weight_said (tables_of find).os2 (tables_of find).head)
-weight_back (Some p) stem find new count choice settings = weight_fits (weight_at (movement_of find settings p) (tables_of find).os2 (tables_of find).head)
+weight_back : (p : Option Location) (stem : Option ℕ) (kept : Option GlyphBox) (find : List ℕ → Option (List ℕ)) (choice : Bounds) (settings : List (Tag × ℤ)) → weight_of (values_by p stem kept find choice settings).font_weight ≡ (values_by p stem kept find choice settings).font_weight
+weight_back None stem kept find choice settings = weight_fits (weight_said (tables_of find).os2 (tables_of find).head)
+weight_back (Some p) stem kept find choice settings = weight_fits (weight_at (movement_of find settings p) (tables_of find).os2 (tables_of find).head)
 
 -- ---- columns
 
@@ -186,7 +187,7 @@ some_cid font settings options us f p =
     omega arith
 
 weight_is : (font : Font) (settings : List (Tag × ℤ)) (options : FontOptions) (us : List Used) (f : PdfFont) → IsPdfFont font settings options us f → weight_of f.descriptor.values.font_weight ≡ f.descriptor.values.font_weight
-weight_is font settings options us f p = rw p.made.values (weight_back (location_in (stored font) settings) (font_stem (stored font) (stored (as_font p.made.new.font.items))) (stored font) (stored (as_font p.made.new.font.items)) f.glyph_count options.bounds settings)
+weight_is font settings options us f p = rw p.made.values (weight_back (location_in (stored font) settings) (font_stem (stored font) (stored (as_font p.made.new.font.items))) (kept_in (stored font) (stored (as_font p.made.new.font.items)) f.glyph_count) (stored font) options.bounds settings)
 
 pub values_are_of_the_font : (font : Font) (settings : List (Tag × ℤ)) (options : FontOptions) (us : List Used) (f : PdfFont) (made : PdfMade) → IsPdfFont font settings options us f → IsLaidOut f made → (v : FontValues) → AreValuesOf made v → AreValuesOfFont f v
 values_are_of_the_font font settings options us f made p laid v h =

@@ -1,6 +1,6 @@
 //! The stretch at the front of a charstring.
 //!
-//! Numbers in their shortest form, operators that take all operands, and masks whose length is known are in the flat
+//! Numbers in their shortest form (those of 65536ths have one form), operators that take all operands, and masks whose length is known are in the flat
 //! form as they are in the source. So a stretch of them is appended at once, and all else token by token. A
 //! stretch has at most as many bytes as tokens are left, so its tokens needn't be counted down one by one.
 
@@ -40,6 +40,31 @@ fn longer_by_short(
         return None;
     }
     Some(stretch.with_number(stretch.len + 3))
+}
+
+/// One token longer, where a number of 65536ths follows. Its five bytes are its one form.
+#[inline(always)]
+fn longer_by_fixed(
+    stretch: Stretch,
+    charstring: &[u8],
+    most: usize,
+    mask_len: u16,
+) -> Option<Stretch>
+    requires here { stretch.len < most }
+    requires most { most ≤ length charstring.now }
+    requires sound { IsSound stretch }
+    ensures { IfSome result (IsLonger charstring.now most mask_len stretch) }
+{
+    if charstring[stretch.len] != first_byte::FIXED_16_16 {
+        return None;
+    }
+    if stretch.count >= MAX_OPERANDS {
+        return None;
+    }
+    if stretch.len + 4 >= charstring.len() {
+        return None;
+    }
+    Some(stretch.with_number(stretch.len + 5))
 }
 
 /// One token longer, where a mask of so many bytes follows, whose length is known: it isn't the first one.
@@ -83,6 +108,9 @@ fn longer_by_rare(
 {
     if charstring[stretch.len] == first_byte::SHORT_INT {
         return longer_by_short(stretch, charstring, most, mask_len);
+    }
+    if charstring[stretch.len] == first_byte::FIXED_16_16 {
+        return longer_by_fixed(stretch, charstring, most, mask_len);
     }
     longer_by_mask(stretch, charstring, most, mask_len)
 }

@@ -84,7 +84,7 @@ fn around(a: GlyphBox, b: GlyphBox) -> GlyphBox {
 }
 
 /// The least box around those that are there.
-fn joined(first: Option<GlyphBox>, second: Option<GlyphBox>) -> Option<GlyphBox> {
+pub fn joined(first: Option<GlyphBox>, second: Option<GlyphBox>) -> Option<GlyphBox> {
     let a = match first {
         Some(a) => a,
         _ => {

@@ -8,11 +8,13 @@ use crate::proved::pdf_glyphs::{
 };
 use crate::proved::pdf_moved::values_at;
 use crate::proved::pdf_names::name_at;
-use crate::proved::pdf_source::cff::cff_values_by;
-use crate::proved::pdf_source::moved::{movement_of, Location};
+use crate::proved::pdf_source::cff::{cff_box, cff_values_by};
+use crate::proved::pdf_source::moved::{movement_of, moves, Location};
 use crate::proved::pdf_source::tag::SubsetTag;
 use crate::proved::pdf_text::{font_name, tag_of};
-use crate::proved::pdf_values::{postscript_name, values_of, Bounds, Known, Tables, Values};
+use crate::proved::pdf_values::{
+    postscript_name, values_of, Bounds, GlyphBox, Known, Tables, Values,
+};
 use crate::proved::subsetter_base::{Error, Tag};
 use crate::proved::subsetter_sfnt::face::Face;
 use crate::rattle::alloc::Global;
@@ -53,46 +55,76 @@ fn tables_of<'a>(face: &Face<'a>) -> Tables<'a> {
     }
 }
 
-/// What is known of glyphs: of the source, which says this stem, and of so many of the new font.
-fn known_of(stem: Option<u32>, face: &Face<'_>, new: &Face<'_>, count: u16) -> Known {
+/// What is known of glyphs of the source: the tops of two, and the stem and the box of the kept ones, which are given.
+fn known_of(stem: Option<u32>, kept: Option<GlyphBox>, face: &Face<'_>) -> Known {
     let outlines = outlines_of(face);
     let cmap = face.stored(Tag::new(b"cmap"));
     Known {
         cap_top: top_of(outlines, cmap, 'H'),
         x_top: top_of(outlines, cmap, 'x'),
-        kept: box_around(outlines_of(new), count),
+        kept,
         stem,
     }
 }
 
-/// Which glyphs FontBBox is to hold, where boxes are known of outlines in `glyf` alone.
-fn bounds_by(glyf: Option<&[u8]>, choice: Bounds) -> Bounds {
-    match glyf {
-        None => Bounds::Font,
-        Some(_) => choice,
+/// Which glyphs FontBBox is to hold, where boxes are known of outlines that may move.
+fn bounds_by(moving: bool, choice: Bounds) -> Bounds {
+    if moving {
+        choice
+    } else {
+        Bounds::Font
     }
 }
 
-/// The values of a font that says this stem, of which the new font has so many glyphs, at coordinates that are off its
-/// default, if they are. There FontBBox holds the kept glyphs, where their boxes are known.
-pub fn values_by(
-    location: &Option<Location>,
-    stem: Option<u32>,
+/// The least box around so many glyphs of the new font, by the `glyf` of the source, and whether its outlines move.
+fn kept_by(
+    alloc: Global,
+    glyf: Option<&[u8]>,
+    moving: bool,
+    new: &Face<'_>,
+    count: u16,
+) -> Result<Option<GlyphBox>, Error> {
+    match glyf {
+        Some(_) => Ok(box_around(outlines_of(new), count)),
+        None => {
+            if moving {
+                return cff_box(alloc, new.stored(Tag::CFF), count);
+            }
+            Ok(None)
+        }
+    }
+}
+
+/// The least box around so many glyphs of the new font, where it is known.
+pub fn kept_in(
+    alloc: Global,
     face: &Face<'_>,
     new: &Face<'_>,
     count: u16,
+) -> Result<Option<GlyphBox>, Error> {
+    kept_by(alloc, face.stored(Tag::GLYF), moves(face), new, count)
+}
+
+/// The values of a font that says this stem, whose kept glyphs have this box, at coordinates that are off its default, if they
+/// are. There FontBBox holds the kept glyphs, where their boxes are known.
+pub fn values_by(
+    location: &Option<Location>,
+    stem: Option<u32>,
+    kept: Option<GlyphBox>,
+    face: &Face<'_>,
     choice: Bounds,
     settings: &[(Tag, i32)],
 ) -> Values {
     let tables = tables_of(face);
-    let known = known_of(stem, face, new, count);
+    let known = known_of(stem, kept, face);
+    let moving = moves(face);
     match location {
-        None => values_of(tables, known, bounds_by(face.stored(Tag::GLYF), choice)),
+        None => values_of(tables, known, bounds_by(moving, choice)),
         Some(location) => values_at(
             tables,
             known,
             movement_of(face, settings, location),
-            bounds_by(face.stored(Tag::GLYF), Bounds::Kept),
+            bounds_by(moving, Bounds::Kept),
         ),
     }
 }

@@ -77,7 +77,7 @@ fn can_move(glyf: Option<&[u8]>, cff: Option<&[u8]>, cff2: Option<&[u8]>) -> boo
 }
 
 /// Whether the outlines of a font move along axes.
-fn moves(face: &Face<'_>) -> bool {
+pub fn moves(face: &Face<'_>) -> bool {
     let glyf = face.stored(Tag::GLYF);
     let cff = face.stored(Tag::CFF);
     let cff2 = face.stored(Tag::CFF2);

@@ -5,7 +5,7 @@ use crate::rattle::prelude::Vec;
 
 use crate::proved::pdf_source::cff::font_stem;
 use crate::proved::pdf_source::choice::{FontOptions, ProgramChoice};
-use crate::proved::pdf_source::described::values_by;
+use crate::proved::pdf_source::described::{kept_in, values_by};
 use crate::proved::pdf_source::moved::location_in;
 use crate::proved::pdf_source::widths::widths_of;
 use crate::proved::pdf_text::ProgramKind;
@@ -89,7 +89,8 @@ fn profile_of(
     let widths = widths_of(alloc, &new, count)?;
     let location = location_in(alloc, face, settings)?;
     let stem = font_stem(alloc, face, &new)?;
-    let values = values_by(&location, stem, face, &new, count, options.bounds, settings);
+    let kept = kept_in(alloc, face, &new, count)?;
+    let values = values_by(&location, stem, kept, face, options.bounds, settings);
     Ok(Profile {
         count,
         widths,

@@ -11,6 +11,9 @@ use crate::proved::subsetter_blend::writing::fitting::Fitting;
 use crate::proved::subsetter_type2::limits::Limits;
 use crate::rattle::alloc::Global;
 
+/// Room for what the subroutines of a charstring draw, in bytes: most glyphs take no more.
+const SUBROUTINES_ROOM: usize = 512;
+
 /// The bytes of a Type 2 charstring without subroutines, in which all blends are resolved, with the advance as its width. It runs in
 /// this room.
 ///
@@ -25,7 +28,8 @@ pub fn resolve_in<'a, R: Regions>(
     advance: i16,
     charstring: &'a [u8],
 ) -> Result<Vec<u8>, Error> {
-    let mut fitting = Fitting::with_room(alloc, advance, charstring.len())?;
+    let room_of_text = charstring.len().saturating_add(SUBROUTINES_ROOM);
+    let mut fitting = Fitting::with_room(alloc, advance, room_of_text)?;
     run_in(
         &mut fitting,
         room,

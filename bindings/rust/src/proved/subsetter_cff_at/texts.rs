@@ -95,19 +95,43 @@ fn no_texts(alloc: Global, count: usize, _limits: Limits) -> Result<Texts, Error
 }
 
 /// Puts the bytes of a charstring behind the others.
-fn put(texts: Texts, bytes: &[u8], requested: usize) -> Result<Texts, Error> {
-    let mut char_strings = texts.char_strings;
-    let mut ends = texts.ends;
-    char_strings.extend_from_slice(bytes)?;
-    ends.push(char_strings.len() + 1)?;
-    Ok(Texts {
-        char_strings,
-        ends,
-        requested,
-    })
+fn put(texts: &mut Texts, bytes: &[u8]) -> Result<(), Error> {
+    texts.char_strings.extend_from_slice(bytes)?;
+    texts.ends.push(texts.char_strings.len() + 1)?;
+    Ok(())
 }
 
-/// Draws a glyph more. `OverflowError` also where the charstrings of the requested glyphs pass the bound on bytes.
+/// Puts `endchar` behind the others.
+#[inline(always)]
+fn put_end(texts: &mut Texts) -> Result<(), Error> {
+    texts.char_strings.push(first_byte::ENDCHAR)?;
+    texts.ends.push(texts.char_strings.len() + 1)?;
+    Ok(())
+}
+
+/// Draws a requested glyph more. `OverflowError` also where the charstrings of the requested glyphs pass the bound on bytes.
+fn draw_requested<'a>(
+    alloc: Global,
+    room: &mut Room<'a>,
+    opened: &OpenTable<'a>,
+    dicts: &[PlacedDict<'a>],
+    place: u8,
+    glyph: u16,
+    advance: u16,
+    limits: Limits,
+    texts: &mut Texts,
+) -> Result<(), Error> {
+    let text = placed_text(alloc, room, opened, dicts, place, glyph, advance, limits)?;
+    let requested = texts.requested.saturating_add(text.len());
+    if limits.is_past(requested) {
+        return Err(Error::OverflowError);
+    }
+    texts.requested = requested;
+    put(texts, &text)
+}
+
+/// Draws a glyph more. The texts stay where they are: moved in and out they cost more than `endchar`.
+#[inline(always)]
 fn draw_next<'a>(
     alloc: Global,
     room: &mut Room<'a>,
@@ -117,21 +141,13 @@ fn draw_next<'a>(
     glyph: u16,
     advance: Option<u16>,
     limits: Limits,
-    texts: Texts,
-) -> Result<Texts, Error> {
+    texts: &mut Texts,
+) -> Result<(), Error> {
     match advance {
-        None => {
-            let requested = texts.requested;
-            put(texts, &[first_byte::ENDCHAR], requested)
-        }
-        Some(advance) => {
-            let text = placed_text(alloc, room, opened, dicts, place, glyph, advance, limits)?;
-            let requested = texts.requested.saturating_add(text.len());
-            if limits.is_past(requested) {
-                return Err(Error::OverflowError);
-            }
-            put(texts, &text, requested)
-        }
+        None => put_end(texts),
+        Some(advance) => draw_requested(
+            alloc, room, opened, dicts, place, glyph, advance, limits, texts,
+        ),
     }
 }
 
@@ -148,7 +164,7 @@ pub fn draw_texts<'a>(
     let mut room = Room::new(opened.table.bytes);
     let mut texts = no_texts(alloc, glyphs.len(), limits)?;
     for glyph in 0..glyphs.len() {
-        texts = draw_next(
+        draw_next(
             alloc,
             &mut room,
             opened,
@@ -157,7 +173,7 @@ pub fn draw_texts<'a>(
             glyph as u16,
             glyphs[glyph],
             limits,
-            texts,
+            &mut texts,
         )?;
     }
     Ok(texts)

@@ -60,17 +60,17 @@ fn joined(pieces: CffPieces) -> Result<Vec<u8>, AllocError> {
     Ok(table)
 }
 
-/// The `CFF ` of a `CFF2`, each glyph that is requested with its advance.
+/// The `CFF ` of a `CFF2`, each glyph that is requested with its advance. These are the metrics of all glyphs.
 fn make_cff(
     alloc: Global,
     cff2: &[u8],
     prepared: &Prepared<'_>,
-    mapper: &GlyphRemapper,
+    _mapper: &GlyphRemapper,
+    all: &[Option<LongHorMetric>],
     limits: Limits,
 ) -> Result<Vec<u8>, Error> {
     let source = &prepared.source;
-    let all = metrics_by_glyph(alloc, mapper, &prepared.metrics, source.count())?;
-    let glyphs = advances(alloc, &all)?;
+    let glyphs = advances(alloc, all)?;
     let request = TableRequest {
         coordinates: &prepared.at,
         glyphs: &glyphs,
@@ -98,7 +98,9 @@ fn make(
     limits: Limits,
 ) -> Result<Vec<u8>, Error> {
     let prepared = prepare(alloc, face, coordinates, mapper)?;
-    let cff = make_cff(alloc, cff2, &prepared, mapper, limits)?;
+    let count = prepared.source.count();
+    let all = metrics_by_glyph(alloc, mapper, &prepared.metrics, count)?;
+    let cff = make_cff(alloc, cff2, &prepared, mapper, &all, limits)?;
     laid(
         alloc,
         face,
@@ -106,6 +108,7 @@ fn make(
         &prepared.lines,
         mapper,
         &prepared.metrics,
+        &all,
         &cff,
     )
 }

@@ -7,7 +7,7 @@
 use crate::rattle::prelude::Vec;
 
 use crate::proved::subsetter_base::{Error, GlyphRemapper, Tag};
-use crate::proved::subsetter_cff_instance::metrics::{metrics_by_glyph, widest};
+use crate::proved::subsetter_cff_instance::metrics::widest;
 use crate::proved::subsetter_cff_instance::source::Source;
 use crate::proved::subsetter_instance::tables::lines::Lines;
 use crate::proved::subsetter_sfnt::face::Face;
@@ -91,11 +91,10 @@ fn new_tables(
     alloc: Global,
     source: &Source<'_>,
     hhea_there: &[u8],
-    mapper: &GlyphRemapper,
     metrics: &[LongHorMetric],
+    all: &[Option<LongHorMetric>],
 ) -> Result<NewTables, Error> {
-    let all = metrics_by_glyph(alloc, mapper, metrics, source.count())?;
-    let hmtx = hmtx(alloc, &all)?;
+    let hmtx = hmtx(alloc, all)?;
     let head = head(alloc, source.head())?;
     let hhea = hhea(alloc, hhea_there, source.count(), metrics)?;
     Ok(NewTables { head, hhea, hmtx })
@@ -125,18 +124,19 @@ fn font_tables<'a>(
     }
 }
 
-/// The file of a `CFF `, with the metrics of the glyphs that were requested, in the mapper's order, and 0 and 0 for every other glyph. `hhea` and
-/// `post` are those of the location. `OverflowError` where a table's offset or length is 2^32 or more.
+/// The file of a `CFF `, with the metrics of the glyphs that were requested, in the mapper's order, those of all glyphs, and 0 and 0 where there is none.
+/// `hhea` and `post` are those of the location. `OverflowError` where a table's offset or length is 2^32 or more.
 pub fn laid(
     alloc: Global,
     face: &Face<'_>,
     source: &Source<'_>,
     lines: &Lines,
-    mapper: &GlyphRemapper,
+    _mapper: &GlyphRemapper,
     metrics: &[LongHorMetric],
+    all: &[Option<LongHorMetric>],
     cff: &[u8],
 ) -> Result<Vec<u8>, Error> {
-    let new = new_tables(alloc, source, lines.hhea(), mapper, metrics)?;
+    let new = new_tables(alloc, source, lines.hhea(), metrics, all)?;
     let tables = font_tables(
         &new,
         cff,

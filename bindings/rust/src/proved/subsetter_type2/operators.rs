@@ -56,6 +56,8 @@ pub mod first_byte {
     pub const VH_CURVE_TO: u8 = 30;
     /// hvcurveto.
     pub const HV_CURVE_TO: u8 = 31;
+    /// A number of 65536ths of four bytes follows.
+    pub const FIXED_16_16: u8 = 255;
     /// The least first byte of a number in one or two bytes.
     pub const LEAST_NUMBER: u8 = 32;
 }

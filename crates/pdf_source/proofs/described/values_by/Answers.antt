@@ -1,4 +1,4 @@
-use Rattle.std.proofs.Common.{◌≡◌, ℕ, List, Option, Some, sym, ap, ◌∙◌}
+use Rattle.std.proofs.Common.{◌≡◌, Bool, Option, Some, sym, ap, ◌∙◌}
 use Rattle.std.specs.Option.{option_map}
 use Rattle.subsetter_sfnt.specs.Read.{table_in}
 use Rattle.pdf_values.specs.Descriptor.{SourceTables, values_of}
@@ -14,24 +14,22 @@ use Rattle.pdf_source.proofs.described.values_by.Goals as goal
 pub returns-in-None : goal.returns-in-None
 returns-in-None c =
     let find = table_in c.args.face.now.«data».now c.args.face.now.records.now in
-    let new = table_in c.args.new.now.«data».now c.args.new.now.records.now in
-    let bounds = c.bounds_by.ensures ∙ ap (λ (glyf : Option (List ℕ)). bounds_by glyf c.args.choice) c.stored.ensures in
+    let bounds = c.bounds_by.ensures ∙ ap (λ (moving : Bool). bounds_by moving c.args.choice) c.moves-moving.ensures in
     c.values_of.ensures.value
     ∙ ap (λ (t : SourceTables). values_of t c.known_of-known.result c.bounds_by.result) c.tables_of-tables.ensures
     ∙ ap (λ (known : Known). values_of (tables_of find) known c.bounds_by.result) c.known_of-known.ensures
-    ∙ ap (λ (b : Bounds). values_of (tables_of find) (known_of c.args.stem find new c.args.count) b) bounds
-    ∙ ap (λ (location : Option Location). values_by location c.args.stem find new c.args.count c.args.choice c.args.settings.now) (sym (ap (option_map location_seen) c.in-None.is))
+    ∙ ap (λ (b : Bounds). values_of (tables_of find) (known_of c.args.stem c.args.kept find) b) bounds
+    ∙ ap (λ (location : Option Location). values_by location c.args.stem c.args.kept find c.args.choice c.args.settings.now) (sym (ap (option_map location_seen) c.in-None.is))
 
 pub returns-in-Some : goal.returns-in-Some
 returns-in-Some c =
     let find = table_in c.args.face.now.«data».now c.args.face.now.records.now in
-    let new = table_in c.args.new.now.«data».now c.args.new.now.records.now in
-    let bounds = c.bounds_by-in-Some.ensures ∙ ap (λ (glyf : Option (List ℕ)). bounds_by glyf Kept) c.stored-in-Some.ensures in
+    let bounds = c.bounds_by-in-Some.ensures ∙ ap (λ (moving : Bool). bounds_by moving Kept) c.moves-moving.ensures in
     let is : c.args.location.now ≡ Some c.in-Some.location = c.in-Some.is in
     let movement : movement_view c.movement_of.result ≡ movement_of find c.args.settings.now (location_seen c.in-Some.location) = c.movement_of.ensures in
     c.values_at.ensures
     ∙ ap (λ (t : SourceTables). values_at t c.known_of-known.result (movement_view c.movement_of.result) c.bounds_by-in-Some.result) c.tables_of-tables.ensures
     ∙ ap (λ (known : Known). values_at (tables_of find) known (movement_view c.movement_of.result) c.bounds_by-in-Some.result) c.known_of-known.ensures
-    ∙ ap (λ (m : Movement). values_at (tables_of find) (known_of c.args.stem find new c.args.count) m c.bounds_by-in-Some.result) movement
-    ∙ ap (λ (b : Bounds). values_at (tables_of find) (known_of c.args.stem find new c.args.count) (movement_of find c.args.settings.now (location_seen c.in-Some.location)) b) bounds
-    ∙ ap (λ (location : Option Location). values_by location c.args.stem find new c.args.count c.args.choice c.args.settings.now) (sym (ap (option_map location_seen) is))
+    ∙ ap (λ (m : Movement). values_at (tables_of find) (known_of c.args.stem c.args.kept find) m c.bounds_by-in-Some.result) movement
+    ∙ ap (λ (b : Bounds). values_at (tables_of find) (known_of c.args.stem c.args.kept find) (movement_of find c.args.settings.now (location_seen c.in-Some.location)) b) bounds
+    ∙ ap (λ (location : Option Location). values_by location c.args.stem c.args.kept find c.args.choice c.args.settings.now) (sym (ap (option_map location_seen) is))

@@ -9,7 +9,7 @@ ghost use Rattle.std.specs.Option.{option_copied, option_map};
 ghost use Rattle.std.specs.Cow.{cow_slice_items};
 ghost use Rattle.subsetter_base.specs.Gives.{Gives};
 ghost use Rattle.subsetter_base.specs.declared.error.Error.TheVariants.{OutOfMemory};
-ghost use Rattle.subsetter.specs.Common.Post.Read.{names_in, pascal_bytes};
+ghost use Rattle.subsetter.specs.Common.Post.Read.{names_in};
 ghost use Rattle.subsetter_sfnt.specs.Extras.{without_glyph_names};
 ghost use Rattle.subsetter.specs.Common.Post.Plain.{seen_post, custom_count, new_indexes, entry_of, post_of_indexes, subset_glyph_names, new_post};
 
@@ -79,16 +79,6 @@ fn write_indexes(w: &mut Writer, indexes: &[u16]) -> Result<(), Error>
     Ok(())
 }
 
-/// Writes a name behind its length byte. A name has at most 255 bytes, as it came from behind such a byte.
-fn write_name(w: &mut Writer, name: &[u8]) -> Result<(), Error>
-    ensures ok { OnOk result (w.new ≡ w.old ++ pascal_bytes name.now) }
-    ensures err { IfErr result (λ e. e ≡ OutOfMemory) }
-{
-    w.write(&((name.len() % 256) as u8))?;
-    w.extend(name)?;
-    Ok(())
-}
-
 /// Writes the names that the indexes name, an empty one where none is there.
 fn write_names(w: &mut Writer, indexes: &[u16], names: &NameList<'_>) -> Result<(), Error>
     ensures ok { OnOk result (w.new ≡ w.old ++ flat_map (entry_of names.now) indexes.now) }
@@ -97,7 +87,7 @@ fn write_names(w: &mut Writer, indexes: &[u16], names: &NameList<'_>) -> Result<
     for index in indexes {
         if *index >= STANDARD_NAMES {
             let place = usize::from(*index) - FIRST_CUSTOM;
-            write_name(w, names.name(place))?;
+            w.extend(names.entry(place))?;
         }
     }
     Ok(())
@@ -112,9 +102,7 @@ fn room_for_names(indexes: &[u16], names: &NameList<'_>) -> usize {
     for index in indexes {
         if *index >= STANDARD_NAMES {
             let place = usize::from(*index) - FIRST_CUSTOM;
-            room = room
-                .saturating_add(names.name(place).len())
-                .saturating_add(1);
+            room = room.saturating_add(names.entry_len(place));
         }
     }
     room

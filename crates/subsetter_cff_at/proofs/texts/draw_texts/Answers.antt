@@ -18,7 +18,7 @@ loop-glyph-preserved c =
     let glyphs = c.args.glyphs.now in
     let i = c.loop-glyph.glyph in
     let inv = c.loop-glyph.invariant in
-    let next = c.in_ok-texts-2.ensures.ok in
+    let next = c.in_ok-draw_next.ensures.ok in
     let lt : i < length glyphs = omega arith in
     let also : i < length places = omega arith in
     record {
@@ -27,13 +27,13 @@ loop-glyph-preserved c =
           (ap (λ (l : List ℕ). with_texts inv.before (texts_from cff v tokens depth dicts l i (get_or glyphs i None ∷ drop (i + 1) glyphs))) (sym (drop_more places i 0 also))
           ∙ ap (λ (l : List (Option ℕ)). with_texts inv.before (texts_from cff v tokens depth dicts (drop i places) i l)) (sym (drop_more glyphs i None lt))
           ∙ inv.whole) next.is;
-      shown = one_more inv.before c.loop-glyph.texts c.in_ok-texts-2.texts next.text inv.shown next.put;
-      within = c.in_ok-texts-2.ensures.within inv.within;
+      shown = one_more inv.before c.loop-glyph.texts c.draw_next.new.texts next.text inv.shown next.put;
+      within = c.in_ok-draw_next.ensures.within inv.within;
     }
 
-pub returns-in_err-texts-2-clause-err : goal.returns-in_err-texts-2-clause-err
-returns-in_err-texts-2-clause-err c =
-    let p = err_from_is_err_and c.from_residual-in_err-texts-2.result c.from_residual-in_err-texts-2.ensures.1 in
+pub returns-in_err-draw_next-clause-err : goal.returns-in_err-draw_next-clause-err
+returns-in_err-draw_next-clause-err c =
+    let p = err_from_is_err_and c.from_residual-in_err-draw_next.result c.from_residual-in_err-draw_next.ensures.1 in
     let cff = (opened_of c.args.opened.now).cff in
     let v = (opened_of c.args.opened.now).variation in
     let tokens = c.args.limits.tokens in
@@ -46,7 +46,7 @@ returns-in_err-texts-2-clause-err c =
     let lt : i < length glyphs = omega arith in
     let also : i < length places = omega arith in
     let size : c.loop-glyph.texts.requested ≤ texts_size inv.before = omega (arith, inv.shown.requested) in
-    rw (p.1, p.2) (text_past cff v tokens depth dicts c.args.limits.bytes (get_or places i 0) i (get_or glyphs i None) (drop (i + 1) places) (drop (i + 1) glyphs) inv.before c.loop-glyph.texts.requested c.in_err-texts-2.field-0.0 _
+    rw (p.1, p.2) (text_past cff v tokens depth dicts c.args.limits.bytes (get_or places i 0) i (get_or glyphs i None) (drop (i + 1) places) (drop (i + 1) glyphs) inv.before c.loop-glyph.texts.requested c.in_err-draw_next.field-0.0 _
     (ap (λ (l : List ℕ). with_texts inv.before (texts_from cff v tokens depth dicts l i (get_or glyphs i None ∷ drop (i + 1) glyphs))) (sym (drop_more places i 0 also))
     ∙ ap (λ (l : List (Option ℕ)). with_texts inv.before (texts_from cff v tokens depth dicts (drop i places) i l)) (sym (drop_more glyphs i None lt))
-    ∙ inv.whole) size c.in_err-texts-2.ensures.err)
+    ∙ inv.whole) size c.in_err-draw_next.ensures.err)

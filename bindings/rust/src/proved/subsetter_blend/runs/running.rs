@@ -96,3 +96,24 @@ pub fn run_in<'a, S: Takes, R: Regions>(
         charstring,
     )
 }
+
+/// Runs a glyph's own charstring, where these item variation data count.
+pub fn run<'a, S: Takes, R: Regions>(
+    sink: &mut S,
+    subroutines: &Subroutines<'a>,
+    regions: &R,
+    limits: &Limits,
+    data_index: u16,
+    charstring: &'a [u8],
+) -> Result<(), Error> {
+    let mut room = Room::new(charstring);
+    run_in(
+        sink,
+        &mut room,
+        subroutines,
+        regions,
+        limits,
+        data_index,
+        charstring,
+    )
+}

@@ -12,7 +12,7 @@ use crate::proved::subsetter_cffdata::dicts::operator::{Operator, OperatorType};
 use crate::proved::subsetter_cffdata::numerals::charstring_number::CharStringNumber;
 use crate::proved::subsetter_type2::argstack::MAX_OPERANDS;
 use crate::proved::subsetter_type2::operators::{first_byte, second_byte, FLEX};
-use crate::rattle::alloc::Global;
+use crate::rattle::alloc::{AllocError, Global};
 
 /// The bytes so far, where the path has come, and the advance as long as it isn't written.
 pub struct Fitting {
@@ -80,11 +80,34 @@ fn append_width(bytes: &mut Vec<u8>, advance: Option<i16>) -> Result<(), Error> 
     Ok(())
 }
 
+/// Writes an operator behind these bytes.
+#[inline(always)]
+fn append_code(bytes: &mut Vec<u8>, operator: Operator) -> Result<(), AllocError> {
+    match operator.0 {
+        OperatorType::OneByteOperator(code) => match code {
+            [first] => {
+                bytes.push(first)?;
+                Ok(())
+            }
+        },
+        OperatorType::TwoByteOperator(code) => bytes.extend_from_slice(&code),
+    }
+}
+
+/// Writes a mask behind these bytes: most operators have none.
+#[inline(always)]
+fn append_mask(bytes: &mut Vec<u8>, mask: &[u8]) -> Result<(), AllocError> {
+    if mask.is_empty() {
+        return Ok(());
+    }
+    bytes.extend_from_slice(mask)
+}
+
 /// Writes an operator and its mask behind these bytes.
 #[inline(always)]
 fn append_operator(bytes: &mut Vec<u8>, operator: Operator, mask: &[u8]) -> Result<(), Error> {
-    bytes.extend_from_slice(operator.as_slice())?;
-    bytes.extend_from_slice(mask)?;
+    append_code(bytes, operator)?;
+    append_mask(bytes, mask)?;
     Ok(())
 }
 

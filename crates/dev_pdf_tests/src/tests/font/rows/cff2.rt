@@ -32,27 +32,65 @@ const INSTALLABLE: Permission = Permission {
     outlines: true,
 };
 
-/// The values where the ascent, the stem and the weight are these.
-const fn values(ascent: i32, stem_v: u32, font_weight: u16) -> Values {
-    Values {
-        flags: 68,
-        bounds: Edges {
-            x_min: 0,
-            y_min: -20,
-            x_max: 1000,
-            y_max: 900,
-        },
-        italic_angle: -12500,
-        heights: Heights {
-            ascent,
-            descent: -200,
-            cap_height: 600,
-            x_height: Some(400),
-        },
-        stem_v,
-        font_weight,
-    }
-}
+/// The values at 650. The box is around 125 0 476 704, 0 0 200 200 and 50 -10 480 490, of glyphs 1 to 3 of the new font.
+const VALUES_AT_650: Values = Values {
+    flags: 68,
+    bounds: Edges {
+        x_min: 0,
+        y_min: -10,
+        x_max: 480,
+        y_max: 704,
+    },
+    italic_angle: -12500,
+    heights: Heights {
+        ascent: 806,
+        descent: -200,
+        cap_height: 600,
+        x_height: Some(400),
+    },
+    stem_v: 100,
+    font_weight: 700,
+};
+
+/// The values at 200. The box is around 87 0 360 694, 0 0 200 200 and 50 -10 429 490.
+const VALUES_AT_200: Values = Values {
+    flags: 68,
+    bounds: Edges {
+        x_min: 0,
+        y_min: -10,
+        x_max: 429,
+        y_max: 694,
+    },
+    italic_angle: -12500,
+    heights: Heights {
+        ascent: 796,
+        descent: -200,
+        cap_height: 600,
+        x_height: Some(400),
+    },
+    stem_v: 60,
+    font_weight: 200,
+};
+
+/// The values at 400, where the box of `head` is chosen.
+const VALUES_AT_DEFAULT: Values = Values {
+    flags: 68,
+    bounds: Edges {
+        x_min: 0,
+        y_min: -20,
+        x_max: 1000,
+        y_max: 900,
+    },
+    italic_angle: -12500,
+    heights: Heights {
+        ascent: 800,
+        descent: -200,
+        cap_height: 600,
+        x_height: Some(400),
+    },
+    stem_v: 80,
+    font_weight: 400,
+};
 
 const TO_UNICODE: &[u8] =
     b"/CIDInit /ProcSet findresource begin\n12 dict begin\nbegincmap\n/CIDSystemInfo << /Registry (Adobe) /Ordering (UCS) /Supplement 0 >> def\n/CMapName /Adobe-Identity-UCS def\n/CMapType 2 def\n1 begincodespacerange\n<0000> <FFFF>\nendcodespacerange\n3 beginbfchar\n<0001> <0041>\n<0002> <0043>\n<0003> <0042>\nendbfchar\nendcmap\nCMapName currentdict /CMap defineresource pop\nend\nend\n";
@@ -85,7 +123,7 @@ pub const AT_650: Wanted<'static> = Wanted {
     ],
     default_column: (881, -1000),
     name: b"HJRUMR+TwoColumns_650wght",
-    values: values(806, 100, 700),
+    values: VALUES_AT_650,
     permission: INSTALLABLE,
     cid_set: &[0xF0],
     to_unicode: TO_UNICODE,
@@ -121,7 +159,7 @@ pub const AT_200: Wanted<'static> = Wanted {
     ],
     default_column: (880, -1000),
     name: b"GHBAKG+TwoColumns_200wght",
-    values: values(796, 60, 200),
+    values: VALUES_AT_200,
     permission: INSTALLABLE,
     cid_set: &[0xF0],
     to_unicode: TO_UNICODE,
@@ -157,7 +195,7 @@ pub const AT_DEFAULT: Wanted<'static> = Wanted {
     ],
     default_column: (880, -1000),
     name: b"KGHEZW+TwoColumns-Regular",
-    values: values(800, 80, 400),
+    values: VALUES_AT_DEFAULT,
     permission: INSTALLABLE,
     cid_set: &[0xF0],
     to_unicode: TO_UNICODE,

@@ -7,7 +7,6 @@
 
 use crate::rattle::prelude::Vec;
 
-use crate::proved::subsetter::common::post::read::Names;
 use crate::proved::subsetter_base::fields::byte_in;
 use crate::proved::subsetter_base::Error;
 use crate::rattle::alloc::Global;
@@ -84,7 +83,7 @@ fn skip_eight(bytes: &[u8], at: usize, len: u8) -> (usize, u8) {
     match alike_len(&bytes[at..], 8, len) {
         Some(size) => (at + size, len),
         None => {
-            let end = skip(bytes, at, 8);
+            let end = pass(bytes, at, 8);
             (end, length_byte(bytes, end))
         }
     }
@@ -106,6 +105,21 @@ fn mark_of(is_dense: bool, number: usize) -> (usize, usize) {
     } else {
         (number / 8, number % 8)
     }
+}
+
+/// The first name of some bytes, behind its length byte; an empty one where no name is there.
+fn first_entry(bytes: &[u8]) -> &[u8] {
+    let (len, rest) = match bytes {
+        [len, rest @ ..] => (len, rest),
+        _ => {
+            return &[0];
+        }
+    };
+    let size = usize::from(*len);
+    if size > rest.len() {
+        return &[0];
+    }
+    &bytes[..size + 1]
 }
 
 /// The bytes from a place on.
@@ -145,7 +159,7 @@ impl<'a> NameList<'a> {
             if at > 0xffff_ffff {
                 break;
             }
-            marks.push(at as u32)?;
+            marks.push_reserved(at as u32);
             let (next, next_len) = skip_step(all, at, len, is_dense);
             at = next;
             len = next_len;
@@ -172,14 +186,27 @@ impl<'a> NameList<'a> {
         }
     }
 
-    /// The name with a number, an empty one where none is there.
-    pub(crate) fn name(&self, number: usize) -> &'a [u8] {
+    /// The name with a number behind its length byte, an empty one where none is there.
+    pub(crate) fn entry(&self, number: usize) -> &'a [u8] {
         let Mark { bytes, count } = self.from_mark(number);
         let at = skip(bytes, 0, count);
-        let mut names = Names::new(&bytes[at..]);
-        match names.next() {
-            Some(name) => name,
-            None => &[],
+        first_entry(&bytes[at..])
+    }
+
+    /// An offset that is kept, 0 where there is none.
+    fn mark(&self, place: usize) -> usize {
+        match self.marks.get(place) {
+            Some(mark) => *mark as usize,
+            None => 0,
         }
+    }
+
+    /// How many bytes the name with a number takes with its length byte. It isn't looked at where every offset is kept.
+    pub(crate) fn entry_len(&self, number: usize) -> usize {
+        if !self.is_dense {
+            return self.entry(number).len();
+        }
+        let behind = self.mark(number.saturating_add(1));
+        behind.saturating_sub(self.mark(number))
     }
 }

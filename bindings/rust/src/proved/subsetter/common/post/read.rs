@@ -11,34 +11,6 @@ use crate::proved::subsetter_base::{Error, GlyphRemapper};
 use crate::proved::subsetter_sfnt::fields::post::{version, HEADER_SIZE, VERSION_2_0};
 use crate::rattle::alloc::Global;
 
-/// Names, each behind its length byte. An empty name is a name; a cut one ends them.
-pub struct Names<'a> {
-    rest: &'a [u8],
-}
-
-impl<'a> Names<'a> {
-    /// The names that stand in some bytes.
-    pub(crate) fn new(bytes: &'a [u8]) -> Self {
-        Self { rest: bytes }
-    }
-}
-
-impl<'a> Iterator for Names<'a> {
-    type Item = &'a [u8];
-
-    fn next(&mut self) -> Option<&'a [u8]> {
-        let bytes = self.rest;
-        self.rest = &[];
-        let (len, rest) = bytes.split_first()?;
-        let len = usize::from(*len);
-        if len > rest.len() {
-            return None;
-        }
-        self.rest = &rest[len..];
-        Some(&rest[..len])
-    }
-}
-
 /// A table of version 2.0.
 pub struct Version2Table<'a> {
     pub header: &'a [u8],

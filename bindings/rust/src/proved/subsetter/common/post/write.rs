@@ -66,19 +66,12 @@ fn write_indexes(w: &mut Writer, indexes: &[u16]) -> Result<(), Error> {
     Ok(())
 }
 
-/// Writes a name behind its length byte. A name has at most 255 bytes, as it came from behind such a byte.
-fn write_name(w: &mut Writer, name: &[u8]) -> Result<(), Error> {
-    w.write(&((name.len() % 256) as u8))?;
-    w.extend(name)?;
-    Ok(())
-}
-
 /// Writes the names that the indexes name, an empty one where none is there.
 fn write_names(w: &mut Writer, indexes: &[u16], names: &NameList<'_>) -> Result<(), Error> {
     for index in indexes {
         if *index >= STANDARD_NAMES {
             let place = usize::from(*index) - FIRST_CUSTOM;
-            write_name(w, names.name(place))?;
+            w.extend(names.entry(place))?;
         }
     }
     Ok(())
@@ -93,9 +86,7 @@ fn room_for_names(indexes: &[u16], names: &NameList<'_>) -> usize {
     for index in indexes {
         if *index >= STANDARD_NAMES {
             let place = usize::from(*index) - FIRST_CUSTOM;
-            room = room
-                .saturating_add(names.name(place).len())
-                .saturating_add(1);
+            room = room.saturating_add(names.entry_len(place));
         }
     }
     room

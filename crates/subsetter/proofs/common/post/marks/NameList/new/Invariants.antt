@@ -1,4 +1,4 @@
-use Rattle.std.proofs.Common.{◌≡◌, ◌≤◌, ◌*◌, drop, length}
+use Rattle.std.proofs.Common.{◌≡◌, ◌≤◌, ◌*◌, ◌+◌, ◌-◌, drop, length, vec_len, vec_capacity}
 use Rattle.subsetter.specs.Common.Post.Read.{names_in}
 use Rattle.subsetter.specs.Common.Post.Marks.{AreMarks, step_of}
 use Rattle.subsetter.proofs.common.post.marks.NameList.new.Given as goal
@@ -8,4 +8,5 @@ invariant-loop l = record {
   at : names_in (drop l.at l.all) ≡ drop (step_of l.is_dense * length l.marks.items) (names_in l.all);
   within : l.at ≤ length l.all;
   marks : AreMarks (step_of l.is_dense) l.all (names_in l.all) l.marks.items;
+  room : vec_len l.marks + (l.count - l.counter) ≤ vec_capacity l.marks;
 }

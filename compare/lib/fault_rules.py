@@ -1,0 +1,262 @@
+"""How a run of the program may end in which a system call fails, by docs/CLI.md: for faults.py."""
+import errno
+import fcntl
+import os
+import re
+
+# A second name that OUT has until it is whole.
+BESIDE = re.compile(r"(.+)\.part\d+")
+MEMORY = ("brk", "mmap", "mremap", "munmap", "mprotect", "madvise")
+READING = ("open", "openat", "read", "pread64")
+WRITING = ("write", "pwrite64", "writev", "fdatasync", "fsync", "rename", "renameat", "renameat2", "ftruncate")
+RENAMING = ("rename", "renameat", "renameat2")
+# Those that a signal can interrupt where a disk is slow, and that are made again then.
+INTERRUPTED = ("open", "openat", "read", "write", "fdatasync", "fsync", "fchmod")
+# What a file says that has no disk which its bytes could reach.
+NO_SYNC = (errno.EINVAL, errno.ENOSYS, errno.EOPNOTSUPP)
+# The other errors that manual pages list, by the call.
+DISK = (errno.EDQUOT, errno.EIO, errno.ENOSPC, errno.EROFS)
+USUAL = {
+    "open": (errno.EACCES, errno.EINTR, errno.EMFILE, errno.ENFILE, errno.ENOMEM, *DISK),
+    "openat": (errno.EACCES, errno.EINTR, errno.EMFILE, errno.ENFILE, errno.ENOMEM, *DISK),
+    "read": (errno.EINTR, errno.EIO, errno.ENOMEM),
+    "write": (errno.EFBIG, errno.EINTR, errno.EPIPE, *DISK),
+    "fdatasync": (errno.EINTR, errno.EINVAL, *DISK),
+    "fsync": (errno.EINTR, errno.EINVAL, *DISK),
+    "rename": (errno.EACCES, errno.EBUSY, errno.ENOMEM, *DISK),
+    "renameat2": (errno.EACCES, errno.EBUSY, errno.ENOMEM, *DISK),
+    "linkat": (errno.EACCES, errno.EMLINK, errno.EPERM, *DISK),
+    "statx": (errno.EACCES, errno.EIO, errno.ENOMEM),
+    "newfstatat": (errno.EACCES, errno.EIO, errno.ENOMEM),
+    "fstat": (errno.EIO, errno.ENOMEM),
+    "fchmod": (errno.EINTR, errno.EIO, errno.EPERM, errno.EROFS),
+    "copy_file_range": (errno.EFBIG, errno.ENOSYS, errno.EXDEV, *DISK),
+    "close": (errno.EINTR, *DISK[:3]),
+    "fcntl": (errno.EMFILE, errno.EINVAL),
+    **dict.fromkeys(MEMORY, (errno.ENOMEM,)),
+}
+OTHERS = (errno.EINTR, errno.EIO, errno.ENOMEM)
+# Ends that docs/CLI.md doesn't have: OUT is whole, but a new file with the usual rights, and its second name has what was there before; and
+# OUT is whole, and a file beside it is left.
+NEW_FILE, FILE_LEFT = "whole, as a new file", "whole, with a file beside it"
+# What `fcntl` does besides giving a descriptor a second number is a look at it.
+SECOND_NUMBER = (fcntl.F_DUPFD, fcntl.F_DUPFD_CLOEXEC)
+# These can't fail.
+NEVER = ("exit", "exit_group", "rt_sigreturn")
+
+
+def reason_of(number):
+    return f"{os.strerror(number)} (os error {number})"
+
+
+def names_of(room, step):
+    """The files that a step names: those of the folder by their names there, and the standard streams."""
+    found = []
+    for it in step.names:
+        name = it[1:] if it.startswith("n") else it.partition(":")[2].removesuffix(" (deleted)")
+        for folder in (room.work, room.streams):
+            name = name.removeprefix(folder + os.sep)
+        if name:
+            found.append(name)
+    return found
+
+
+def opens_for_reading(step):
+    return step.call in ("open", "openat") and step.arguments[1 + (step.call == "openat")] & os.O_ACCMODE == os.O_RDONLY
+
+
+def makes_new(step):
+    """Whether a file is made that must not be there."""
+    return step.call in ("open", "openat") and step.arguments[1 + (step.call == "openat")] & os.O_EXCL != 0
+
+
+class Roles:
+    """What each step of a way is about: `read`, `write`, `stdin`, `stdout`, `stderr`, or `own`, with the file's name."""
+
+    def __init__(self, room, way, steps):
+        self.way, self.steps = way, steps
+        self.names = [names_of(room, it) for it in steps]
+        self.beside = next((at for at, names in enumerate(self.names) if any(BESIDE.fullmatch(it) for it in names)), len(steps))
+        self.first = next((at for at in range(len(steps)) if self.role(at)[0] != "own"), len(steps))
+        # (behind the lines there is a message of no bytes)
+        self.last_message = max((at for at, it in enumerate(steps) if it.call == "write" and "stderr" in self.names[at]), default=0) + 1
+        # behind these OUT, or the PDF, is whole
+        self.named = {}
+        for at, it in enumerate(steps):
+            if it.call in RENAMING and it.gave == 0:
+                self.named.setdefault(self.names[at][-1], at)
+
+    def file(self, name):
+        """The file of a message that a name stands for: that of a second name, and the link by which it is written."""
+        found = BESIDE.fullmatch(name)
+        name = found[1] if found else name
+        return next((link for link, target in self.way.links.items() if target == name), name)
+
+    def role(self, at):
+        step, names = self.steps[at], self.names[at]
+        for name in names:
+            if name in ("stdin", "stdout", "stderr"):
+                return name, "-"
+            file = self.file(name)
+            is_written = name in self.way.written or file in self.way.written or file in self.way.links
+            is_read = file in self.way.reads()
+            if is_read and is_written:
+                is_written = at >= self.beside or (step.call in ("open", "openat") and not opens_for_reading(step))
+            if is_written:
+                return "write", file
+            if is_read:
+                return "read", file
+        return "own", ""
+
+
+# ---- how a run ended
+
+def as_before(got, before, names):
+    return all(got.get(it) == before.get(it) for it in names)
+
+
+def ended(way, before, base, got, number):
+    """How a run ended, in words; empty where that isn't one of the ends that docs/CLI.md has."""
+    beside = {it for it in got.files if (found := BESIDE.fullmatch(it)) and found[1] in way.written}
+    rest = (before.keys() | got.files.keys() | base.files.keys()) - {*way.written, *way.second_names, *beside}
+    others = as_before(got.files, before, rest)
+    untouched = others and not beside and as_before(got.files, before, way.written)
+    is_whole = got.files == base.files
+    if got.signal is not None or got.status not in (0, 1, 2, 3):
+        return "stopped" if untouched and got.out == b"" else ""
+    if got.status == base.status and got.out == base.out and is_whole and (got.err == base.err or is_cut(base.err, got.err)):
+        return "whole" if got.err == base.err else "silent"
+    if got.status == base.status == 0 and others and not is_whole and (got.out, got.err) == (base.out, base.err):
+        return ended_otherwise(way, base, got)
+    others = others and not beside
+    are_well = way.in_place or all(got.files.get(it) in (before.get(it), base.files.get(it)) for it in way.written)
+    if got.status in (1, 2, 3) and got.err == b"" and others and are_well:
+        return "mute"
+    if got.status == 1 and got.err == b"out of memory\n" and untouched and got.out == b"":
+        return "out of memory"
+    if got.status != 3:
+        return ""
+    return ended_by_lines(way, base, got, number) or ended_by_file(way, before, base, got, number, others)
+
+
+def ended_otherwise(way, base, got):
+    """An end that isn't in docs/CLI.md, where OUT is whole; empty for another."""
+    left = got.files.keys() - base.files.keys()
+    if all(data_of(got, it) == data_of(base, it) for it in way.written) and not left:
+        return NEW_FILE
+    return FILE_LEFT if {it: file for it, file in got.files.items() if it not in left} == base.files else ""
+
+
+def data_of(ended_run, name):
+    return ended_run.files[name].data if name in ended_run.files else None
+
+
+def is_cut(whole, part):
+    """Whether a part is a text without what is in the middle, at its begin or at its end: what one write of several lost."""
+    same = len(os.path.commonprefix([whole, part]))
+    return len(part) < len(whole) and whole.endswith(part[same:])
+
+
+def ended_by_lines(way, base, got, number):
+    """The same where the lines go to standard error, and a part of them is in front of the message."""
+    found = re.fullmatch(rb"(.*?)cannot write standard output\n([^\n]*)\n", got.err, re.S)
+    if not found or "-" not in way.words or (got.files, got.out) != (base.files, base.out):
+        return ""
+    is_well = base.err.startswith(found[1]) and (not number or found[2].decode(errors="replace") == reason_of(number))
+    return "cannot write standard output" if is_well else ""
+
+
+def ended_by_file(way, before, base, got, number, others):
+    """The same where the message names a file, with the system's reason."""
+    line, _, reason = got.err.decode(errors="replace").partition("\n")
+    memory = "out of memory\n"
+    if number and reason not in (reason_of(number) + "\n", memory if number == errno.ENOMEM else None):
+        return ""
+    if line.startswith("cannot read "):
+        is_well = others and as_before(got.files, before, way.written) and got.out == b""
+        return line if is_well and line.removeprefix("cannot read ") in way.reads() else ""
+    if line == "cannot write standard output":
+        return line if got.files == base.files and base.out.startswith(got.out) else ""
+    if line == "cannot write -":
+        return line if "-" in way.words and base.out.startswith(got.out) and others and as_before(got.files, before, way.written) else ""
+    names = [next((link for link, target in way.links.items() if target == it), it) for it in way.written]
+    name = line.removeprefix("cannot write ")
+    if name not in names or not others or got.out != b"":
+        return ""
+    at = names.index(name)
+    is_well = as_before(got.files, base.files, way.written[:at]) and as_before(got.files, before, way.written[at + way.in_place:])
+    return line if is_well else ""
+
+
+# ---- how it may end
+
+def allowed(roles, at, how, number, is_start):
+    """The ends that a run may have where something is done to the step `at`."""
+    step, (role, name) = roles.steps[at], roles.role(at)
+    if how == "short" or (how == "error" and number == errno.EINTR and step.call in INTERRUPTED):
+        return {"whole"} if not is_start else {"whole", "stopped"}
+    if is_start:
+        return {"whole", "stopped", "out of memory"}
+    if step.call in MEMORY:
+        return {"whole", "out of memory", *(f"cannot read {it}" for it in roles.way.reads())}
+    by_role = {"read": of_reading, "stdin": of_reading, "write": of_writing, "stdout": of_output, "stderr": of_messages}
+    return by_role[role](roles, at, number, name) if role in by_role else {"whole", "out of memory"}
+
+
+def is_look(step):
+    """Whether a call about a stream neither reads nor writes it, nor opens it."""
+    return step.call == "close" or step.call == "fcntl" and step.arguments[1] not in SECOND_NUMBER
+
+
+def of_reading(roles, at, number, name):
+    must = roles.steps[at].call in (*READING, "fcntl", "dup") and not is_look(roles.steps[at])
+    return {f"cannot read {name}"} if must else {"whole", f"cannot read {name}"}
+
+
+def of_writing(roles, at, number, name):
+    step = roles.steps[at]
+    whole_at = roles.named.get(roles.way.links.get(name, name), len(roles.steps))
+    if at > whole_at or makes_new(step) or (step.call in ("fdatasync", "fsync") and number in NO_SYNC):
+        return {"whole"}
+    if step.call in WRITING or step.call in ("open", "openat"):
+        return {f"cannot write {name}"}
+    return {"whole"}
+
+
+def of_output(roles, at, number, name):
+    if is_look(roles.steps[at]):
+        return {"whole"}
+    return {"cannot write -"} if "-" in roles.way.words and not roles.way.stdin else {"cannot write standard output"}
+
+
+def of_messages(roles, at, number, name):
+    """Standard error has messages, or the lines where standard output has the font or the PDF."""
+    must = not is_look(roles.steps[at]) and "-" in roles.way.words and not roles.way.stdin and at < roles.last_message
+    return {"cannot write standard output"} if must else {"whole", "silent"}
+
+
+def allowed_from(roles, at, number, is_start):
+    """The same where each such call from the step `at` on fails: standard error may fail, too."""
+    once = allowed(roles, at, "errors", number, is_start)
+    if "whole" not in once:
+        return once | {"silent", "mute"}
+    names = {roles.file(it) for it in roles.way.written} | {"standard output", "-"}
+    return once | {"whole", "silent", "mute", "out of memory", *(f"cannot write {it}" for it in names), *(f"cannot read {it}" for it in roles.way.reads())}
+
+
+# ---- in each run
+
+def early_name(room, steps):
+    """A file that gets its name before its bytes are on the disk; None where there is none."""
+    dirty = set()
+    for step in steps:
+        names = names_of(room, step)
+        if step.gave is None or not names:
+            continue
+        if step.call in ("write", "pwrite64", "writev", "copy_file_range", "sendfile", "ftruncate") and step.gave > 0:
+            dirty.add(names[-1])
+        if step.call in ("fdatasync", "fsync") and (step.gave == 0 or -step.gave in NO_SYNC):
+            dirty.discard(names[0])
+        if step.call in RENAMING and step.gave == 0 and names[0] in dirty:
+            return names[0]
+    return None

@@ -1,0 +1,9 @@
+mod Around
+mod CurvePoints
+mod Followed
+mod Fronts
+mod Glyphs
+mod Runs
+mod Shapes
+mod Turns
+mod Walks
