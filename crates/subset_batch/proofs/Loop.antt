@@ -1,19 +1,11 @@
 -- What a step reads again and again, as a loop does.
-use Rattle.std.proofs.Common.{◌≡◌, ℕ, suc, ◌-◌, ◌+◌, ◌≤◌, ◌<◌, Bool, true, false, eqb, List, [], ◌∷◌, ◌++◌, map, length, Result, Ok, Err, refl, sym, ap, ◌∙◌, append_assoc, arith}
-use Rattle.std.specs.Prelude.{◌==◌}
-use Rattle.std.specs.List.{position_or_len}
+use Rattle.std.proofs.Common.{◌≡◌, ℕ, suc, ◌-◌, ◌+◌, ◌≤◌, ◌<◌, Bool, true, false, List, [], ◌∷◌, ◌++◌, map, Result, Ok, Err, refl, sym, ap, ◌∙◌, append_assoc, arith}
 use Rattle.std.proofs.lemmas.List.{append-nil}
 use Rattle.subset_batch.specs.declared.fault.Wanted.{Wanted}
 use Rattle.subset_batch.specs.declared.fault.Unread.{Unread}
 use Rattle.subset_batch.specs.declared.fault.Unread.TheVariants as unread
 use Rattle.subset_batch.specs.Reading.{Fault, ◌>>=◌, missing, with_front, many}
 use Rattle.subset_batch.specs.View.{Fails, fault_view}
-
--- a byte behind which the place is one less
-pub place_next : (byte b : ℕ) (behind bytes : List ℕ) → eqb b byte ≡ false → position_or_len (λ x. x == byte) bytes + length (b ∷ behind) ≡ length bytes + position_or_len (λ x. x == byte) (b ∷ behind) → position_or_len (λ x. x == byte) bytes + length behind ≡ length bytes + position_or_len (λ x. x == byte) behind
-place_next byte b behind bytes h e =
-    let k : position_or_len (λ x. x == byte) (b ∷ behind) ≡ 1 + position_or_len (λ x. x == byte) behind = rw h refl in
-    omega (arith, e, k)
 
 pub map_last : {A B : Type 0} (f : A → B) (xs : List A) (x : A) → map f (xs ++ x ∷ []) ≡ map f xs ++ f x ∷ []
 map_last f [] x = refl

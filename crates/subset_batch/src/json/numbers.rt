@@ -1,11 +1,11 @@
 //! Numbers.
 
-ghost use Rattle.std.specs.Prelude.{◌≡◌, ◌≤◌, ℕ, List, Some, None, if◌then◌else◌, ◌==◌, length};
+ghost use Rattle.std.specs.Prelude.{◌≡◌, ◌≤◌, ℕ, List, Some, None, if◌then◌else◌, length};
 ghost use Rattle.std.specs.Option.{option_map};
 ghost use Rattle.std.specs.Str.{all_ascii_digits};
 ghost use Rattle.std.specs.List.{position_or_len, before_first, after_first};
 ghost use Rattle.subset_args.specs.Coordinates.{has_byte};
-ghost use Rattle.subset_batch.specs.Numbers.{is_digits, is_int, is_decimal, is_sign, is_exponent, is_unsigned, is_number};
+ghost use Rattle.subset_batch.specs.Numbers.{is_byte, is_digits, is_int, is_decimal, is_sign, is_exponent, is_unsigned, is_number};
 
 /// Whether bytes are digits.
 fn are_digits(bytes: &[u8]) -> bool
@@ -36,22 +36,21 @@ fn is_int(bytes: &[u8]) -> bool
     is_digits(bytes) && (bytes.len() == 1 || !matches!(bytes, [b'0', ..]))
 }
 
-/// Whether two bytes are the same.
-fn is_same(one: u8, other: u8) -> bool
-    ensures { result ≡ (one == other) }
+/// Whether a byte is this one.
+fn is_byte(byte: u8, b: u8) -> bool
+    ensures { result ≡ is_byte byte b }
 {
-    one == other
+    b == byte
 }
 
-/// The place of the first byte that is this one, or the number of bytes.
-#[tactic(auto, using(crate::proofs::Loop::place_next))]
+/// The index of the first byte that is this one, or the number of bytes.
 fn place_of(byte: u8, bytes: &[u8]) -> usize
-    ensures value { result ≡ position_or_len (λ b. b == byte) bytes.now }
+    ensures value { result ≡ position_or_len (is_byte byte) bytes.now }
     ensures within { result ≤ length bytes.now }
 {
     let mut rest = bytes;
     while let [b, behind @ ..] = rest {
-        if is_same(*b, byte) {
+        if is_byte(byte, *b) {
             return bytes.len().saturating_sub(rest.len());
         }
         rest = behind;
@@ -61,7 +60,7 @@ fn place_of(byte: u8, bytes: &[u8]) -> usize
 
 /// What is in front of a byte, and behind it.
 fn split_once(byte: u8, bytes: &[u8]) -> Option<(&[u8], &[u8])>
-    ensures { option_map {U = List ℕ × List ℕ} (λ p. (p.0.now, p.1.now)) result ≡ (if has_byte (λ b. b == byte) bytes.now then Some (before_first (λ b. b == byte) bytes.now, after_first (λ b. b == byte) bytes.now) else None) }
+    ensures { option_map {U = List ℕ × List ℕ} (λ p. (p.0.now, p.1.now)) result ≡ (if has_byte (is_byte byte) bytes.now then Some (before_first (is_byte byte) bytes.now, after_first (is_byte byte) bytes.now) else None) }
 {
     let at = place_of(byte, bytes);
     if at < bytes.len() {

@@ -62,6 +62,7 @@ fn chars_at(alloc: Global, bytes: &[u8]) -> Result<(Vec<u8>, &[u8]), Unread>
 }
 
 /// The text of these bytes, if they are one in UTF-8.
+#[tactic(auto, using(crate::proofs::Texts::text_is, crate::proofs::Texts::none_is))]
 pub fn text_of(alloc: Global, bytes: &[u8]) -> Result<Option<String>, AllocError>
     ensures { IfOk result (λ t. option_map (λ t. string_bytes t) t ≡ (if is_utf8 bytes.now then Some bytes.now else None)) }
 {

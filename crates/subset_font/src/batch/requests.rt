@@ -1,6 +1,6 @@
 //! The requests of a batch, and the answers to them.
 
-ghost use Rattle.std.specs.Prelude.{◌≡◌, OnOk, IfOk, if◌then◌else◌, is_some, slice_get, slice_set};
+ghost use Rattle.std.specs.Prelude.{◌≡◌, OnOk, IfOk, is_some, slice_get, slice_set};
 ghost use Rattle.std.specs.Option.{option_copied};
 ghost use Rattle.subset_batch.specs.Lines.{request_lines};
 ghost use Rattle.subset_batch.specs.View.{line_view};
@@ -10,7 +10,6 @@ use crate::batch::answers::{Answer, failed};
 use crate::batch::orders::order_of;
 use crate::refusals::failure::{given, pdf_file};
 use std::alloc::{AllocError, Global};
-use std::mem;
 use subset_args::Job;
 use subset_batch::{Line, lines_of};
 
@@ -172,26 +171,35 @@ pub fn due_of<'a>(
     }
 }
 
+/// Sets how far the request of an index is.
+fn set_state(states: &mut [State], index: usize, state: State)
+    ensures { states.new ≡ slice_set states.old index state }
+{
+    if index < states.len() {
+        states[index] = state;
+    }
+}
+
 /// Sets the answer to the request of an index.
 pub fn set_answer(states: &mut [State], index: usize, answer: Answer)
     ensures { states.new ≡ slice_set states.old index (State.Answered answer) }
 {
-    if let Some(state) = states.get_mut(index) {
-        *state = State::Answered(answer);
-    }
+    set_state(states, index, State::Answered(answer));
 }
 
-/// The answer to the request of an index, if there is one that isn't written. It is taken as written.
-pub fn take_answer(states: &mut [State], index: usize) -> Option<Answer>
-    ensures answer { result ≡ answer_in (slice_get states.old index) }
-    ensures states { states.new ≡ (if is_some result then slice_set states.old index State.Written else states.old) }
+/// Takes the answer to the request of an index as written.
+pub fn set_written(states: &mut [State], index: usize)
+    ensures { states.new ≡ slice_set states.old index State.Written }
 {
-    let state = states.get_mut(index)?;
-    match mem::replace(state, State::Written) {
-        State::Answered(answer) => Some(answer),
-        other => {
-            *state = other;
-            None
-        }
+    set_state(states, index, State::Written);
+}
+
+/// The answer to the request of an index, if there is one that isn't written.
+pub fn answer_at(states: &[State], index: usize) -> Option<&Answer>
+    ensures { option_copied result ≡ answer_in (slice_get states.now index) }
+{
+    match states.get(index) {
+        Some(State::Answered(answer)) => Some(answer),
+        _ => None,
     }
 }

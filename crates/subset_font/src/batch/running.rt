@@ -7,7 +7,7 @@ ghost use Rattle.subset_font.specs.declared.refusals.failure.Failure.TheVariants
 use crate::batch::answers::{has_failed, write_answer};
 use crate::batch::making::{answer_of, read_source};
 use crate::batch::requests::{
-    Batch, Request, State, due, due_of, requests_of, set_answer, take_answer,
+    Batch, Request, State, answer_at, due, due_of, requests_of, set_answer, set_written,
 };
 use crate::making::carried::read_whole;
 use crate::refusals::failure::Failure;
@@ -102,15 +102,16 @@ impl<W: Write + Drop> Answers<W> {
     fn write_next(&mut self, request: &Request, states: &mut [State]) -> Result<bool, Failure>
         ensures { IfErr result (λ e. e ≡ Output) }
     {
-        let Some(answer) = take_answer(states, self.next) else {
+        let Some(answer) = answer_at(states, self.next) else {
             return Ok(false);
         };
-        if write_answer(request.line, &answer, &mut self.lines).is_err()
+        if write_answer(request.line, answer, &mut self.lines).is_err()
             || self.lines.flush().is_err()
         {
             return Err(Failure::Output);
         }
-        self.has_failed = self.has_failed || has_failed(&answer);
+        self.has_failed = self.has_failed || has_failed(answer);
+        set_written(states, self.next);
         self.next = self.next.saturating_add(1);
         Ok(true)
     }
