@@ -7,7 +7,7 @@ use crate::host::rt::{AllocGlobal, Eprint, HostRuntime};
 use crate::proved::subset_args::Shown;
 use crate::proved::subset_font::{
     answer_of, due, due_of, hold_streams, is_shown, read_arguments, read_batch, read_source,
-    run_by, set_answer, status_of_batch, Answers, Batch, Ended, Failure, Report, Request, State,
+    run_by, set_answer, status_of_batch, AnswerLines, Batch, Ended, Failure, Report, Request, State,
 };
 use crate::proved::subsetter::Error;
 use crate::rattle::io::{self, BufWriter, Write};
@@ -105,7 +105,7 @@ fn run_requests(rt: &HostRuntime, batch: Batch, count: usize) -> u8 {
         requests,
         mut states,
     } = batch;
-    let mut answers = Answers::new(lines, is_shown);
+    let mut answers = AnswerLines::new(lines, is_shown);
     let ended = answer_all(rt, &requests, &mut states, count, &mut answers);
     status_of_batch(rt, &ended, answers.has_failed(), is_shown)
 }
@@ -116,7 +116,7 @@ fn answer_all<W: Write>(
     requests: &[Request],
     states: &mut [State],
     count: usize,
-    answers: &mut Answers<W>,
+    answers: &mut AnswerLines<W>,
 ) -> Result<(), Failure> {
     answers.write_ready(rt, requests, states)?;
     for first in 0..requests.len() {
@@ -140,7 +140,7 @@ fn answer_source<W: Write>(
     input: &str,
     indexes: &[usize],
     count: usize,
-    answers: &mut Answers<W>,
+    answers: &mut AnswerLines<W>,
 ) -> Result<(), Failure> {
     let source = read_source(rt, input);
     let next = AtomicUsize::new(0);

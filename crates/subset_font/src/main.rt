@@ -21,7 +21,7 @@ mod task;
 
 pub use batch::making::{answer_of, carry_answer, read_source};
 pub use batch::requests::{Batch, Request, State, due, due_of, set_answer};
-pub use batch::running::{Answers, read_batch, status_of_batch};
+pub use batch::running::{AnswerLines, read_batch, status_of_batch};
 pub use faces::accepted::InfoParts;
 pub use faces::axes::{axes_there, carry_axes};
 pub use faces::info::carry_info;

@@ -13,7 +13,7 @@ is_given_stream (Some name) = is_stream name
 is_given_stream None = false
 
 -- a request that reads or writes a standard stream, by its name
-abbrev pub uses_streams : Wanted → Bool
+unfoldable pub uses_streams : Wanted → Bool
 uses_streams r = (is_stream r.input || lists_in_stream r.glyphs) || (is_given_stream r.output || is_given_stream (option_map (λ pdf. pdf.file) r.pdf))
 
 -- its answer has the members of `--json`

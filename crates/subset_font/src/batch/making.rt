@@ -69,7 +69,7 @@ fn write_files<P: Write, W: Write>(
 /// of these bytes and three writers.
 ///
 /// It fails as `carry_out` does.
-#[tactic(auto, using(crate::proofs::BatchLaws::carried, crate::proofs::RefusalsLaws::Failing::unmade))]
+#[tactic(auto, using(crate::proofs::RefusalsLaws::Failing::unmade, crate::proofs::BatchLaws::no_memory))]
 pub fn carry_answer<P: Write, W: Write>(
     alloc: Global,
     font: &[u8],
@@ -93,7 +93,6 @@ pub fn carry_answer<P: Write, W: Write>(
 }
 
 /// Does a request on the bytes of its source: what is printed of it, which isn't printed here.
-#[tactic(auto, using(crate::proofs::BatchLaws::done_of, crate::proofs::BatchLaws::undone_of))]
 fn perform<R: Files + Print + Input + AllocGlobal>(
     rt: &R,
     font: &[u8],
@@ -122,6 +121,7 @@ fn named_text(alloc: Global, text: &str, name: Option<&str>) -> Result<String, A
 }
 
 /// Why a request failed, in words.
+#[tactic(auto, using(crate::proofs::BatchLaws::message_is))]
 fn text_of(alloc: Global, failure: &Failure, job: &Job) -> Result<String, AllocError>
     ensures { IfOk result (λ text. string_bytes text ≡ message_of failure.now job.now) }
 {

@@ -36,6 +36,7 @@ fn is_given_stream(name: Option<&str>) -> bool
 }
 
 /// Whether a request reads or writes a standard stream, by its name.
+#[tactic(auto, using(crate::proofs::BatchLaws::list_stream, crate::proofs::BatchLaws::pdf_stream), unfolding(crate::specs::Batch::Orders::uses_streams))]
 fn uses_streams(job: &Job) -> bool
     ensures { result ≡ uses_streams (job_view job.now) }
 {
@@ -88,7 +89,9 @@ fn order_by(alloc: Global, words: &[String]) -> Result<Job, Answer>
 {
     match read_words(alloc, words) {
         Ok(Command::Subset(job)) => with_answer(alloc, job),
-        Ok(_) => Err(failed(WRONG, format!(in alloc; "{}", Failure::Usage))),
+        Ok(Command::Help | Command::Version | Command::Batch(_) | Command::Show(_, _, _, _)) => {
+            Err(failed(WRONG, format!(in alloc; "{}", Failure::Usage)))
+        }
         Err(ArgsError::Usage) => Err(mistake_of(alloc, words)),
         Err(ArgsError::OutOfMemory) => Err(Answer::NoMemory),
     }

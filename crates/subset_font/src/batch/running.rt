@@ -68,7 +68,7 @@ impl fmt::Display for Progress {
 
 /// Where the answers are written, and what is known of those that are.
 #[derive(Drop)]
-pub struct Answers<W: Write + Drop> {
+pub struct AnswerLines<W: Write + Drop> {
     lines: W,
     // The index of the first whose answer isn't written.
     next: usize,
@@ -77,13 +77,13 @@ pub struct Answers<W: Write + Drop> {
     is_shown: bool,
 }
 
-impl<W: Write + Drop> Answers<W> {
+impl<W: Write + Drop> AnswerLines<W> {
     /// None are written.
     pub fn new(lines: W, is_shown: bool) -> Self
         ensures next { result.next ≡ 0 }
         ensures has_failed { result.has_failed ≡ false }
     {
-        Answers {
+        AnswerLines {
             lines,
             next: 0,
             has_failed: false,
@@ -125,12 +125,10 @@ impl<W: Write + Drop> Answers<W> {
     ) -> Result<(), Failure>
         ensures { IfErr result (λ e. e ≡ Output) }
     {
-        let mut rest = requests.get(self.next..).unwrap_or(&[]);
-        while let [request, behind @ ..] = rest {
+        for request in requests.get(self.next..).unwrap_or(&[]) {
             if !self.write_next(request, states)? {
                 break;
             }
-            rest = behind;
         }
         if self.is_shown {
             let all = requests.len();
@@ -149,7 +147,7 @@ fn answer_source<R: Files + Print + Eprint + Input + AllocGlobal, W: Write + Dro
     requests: &[Request],
     states: &mut [State],
     first: usize,
-    answers: &mut Answers<W>,
+    answers: &mut AnswerLines<W>,
 ) -> Result<(), Failure>
     ensures { IfErr result (λ e. e ≡ Output) }
 {
@@ -171,7 +169,7 @@ fn answer_all<R: Files + Print + Eprint + Input + AllocGlobal, W: Write + Drop>(
     rt: &R,
     requests: &[Request],
     states: &mut [State],
-    answers: &mut Answers<W>,
+    answers: &mut AnswerLines<W>,
 ) -> Result<(), Failure>
     ensures { IfErr result (λ e. e ≡ Output) }
 {
@@ -213,7 +211,7 @@ fn run_requests<R: Files + Print + Eprint + Input + AllocGlobal>(rt: &R, batch: 
         requests,
         mut states,
     } = batch;
-    let mut answers = Answers::new(lines, is_shown);
+    let mut answers = AnswerLines::new(lines, is_shown);
     let ended = answer_all(rt, &requests, &mut states, &mut answers);
     status_of_batch(rt, &ended, answers.has_failed(), is_shown)
 }
