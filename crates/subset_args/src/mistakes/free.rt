@@ -3,7 +3,7 @@
 ghost use Rattle.std.specs.Prelude.{IfSome};
 ghost use Rattle.subset_args.specs.Mistakes.{IsWrong};
 
-use crate::jobs::reading::{first_topic, is_batch, topic_of};
+use crate::jobs::reading::{begins_batch, first_topic, is_batch, topic_of};
 use crate::mistakes::mistake::{Mistake, Wrong, mistake_at};
 use crate::mistakes::plain::{
     is_no_option, wrong_behind_index, wrong_from_option, wrong_setting, wrong_topic,
@@ -144,14 +144,14 @@ fn wrong_with_pdf(words: &[String]) -> Option<Mistake<'_>>
     }
 }
 
-/// What is wrong with the arguments behind `--batch`.
+/// What is wrong with arguments that begin with `--batch`.
 fn wrong_batch(words: &[String]) -> Option<Mistake<'_>>
     ensures { IfSome result (λ m. IsWrong m.wrong m.word.now) }
 {
     match words {
-        [] => mistake_at(Wrong::NoBatchFile, ""),
-        [_] => None,
-        [_, word, ..] => mistake_at(Wrong::BehindBatch, word),
+        [_, _, word, ..] => mistake_at(Wrong::BehindBatch, word),
+        [_, _] => None,
+        _ => mistake_at(Wrong::NoBatchFile, ""),
     }
 }
 
@@ -171,8 +171,9 @@ fn wrong_single(words: &[String]) -> Option<Mistake<'_>>
 pub fn find_mistake(words: &[String]) -> Option<Mistake<'_>>
     ensures { IfSome result (λ m. IsWrong m.wrong m.word.now) }
 {
-    match words {
-        [word, behind @ ..] if is_batch(word) => wrong_batch(behind),
-        _ => wrong_single(words),
+    if begins_batch(words) {
+        wrong_batch(words)
+    } else {
+        wrong_single(words)
     }
 }

@@ -4,7 +4,7 @@ ghost use Rattle.std.specs.Prelude.{◌≡◌, OnOk, IfOk, is_some, slice_get, s
 ghost use Rattle.std.specs.Option.{option_copied};
 ghost use Rattle.subset_batch.specs.Lines.{request_lines};
 ghost use Rattle.subset_batch.specs.View.{line_view};
-ghost use Rattle.subset_font.specs.Batch.Requests.{writes, is_written, is_written_if, is_named_before, IsFirst, IsBegun, AddsLine, AreBegun, due, of_source, answer_in};
+ghost use Rattle.subset_font.specs.Batch.Requests.{is_of_name, writes, is_written, is_written_if, is_named_before, IsFirst, IsBegun, AddsLine, AreBegun, due, of_source, answer_in};
 
 use crate::batch::answers::{Answer, failed};
 use crate::batch::orders::order_of;
@@ -43,11 +43,21 @@ pub struct Batch {
     pub states: Vec<State>,
 }
 
+/// Whether a file that may be given has this name.
+fn is_of_name(name: &str, file: Option<&str>) -> bool
+    ensures { result ≡ is_of_name name.now (option_copied file.entry) }
+{
+    match file {
+        Some(file) => file == name,
+        None => false,
+    }
+}
+
 /// Whether a request writes a file of this name.
 fn writes(job: &Job, name: &str) -> bool
     ensures { result ≡ writes job.now name.now }
 {
-    given(&job.output) == Some(name) || pdf_file(job) == Some(name)
+    is_of_name(name, given(&job.output)) || is_of_name(name, pdf_file(job))
 }
 
 /// Whether one of the requests writes a file of this name.
@@ -72,7 +82,8 @@ fn if_written<'a>(before: &[Request], name: Option<&'a str>) -> Option<&'a str>
 {
     match name {
         Some(name) if is_written(before, name) => Some(name),
-        _ => None,
+        Some(_) => None,
+        None => None,
     }
 }
 
@@ -152,7 +163,10 @@ pub fn due<'a>(requests: &'a [Request], states: &[State], index: usize) -> Optio
             Some(job) => Some(job),
             None => None,
         },
-        _ => None,
+        (Some(_), Some(State::Answered(_))) => None,
+        (Some(_), Some(State::Written)) => None,
+        (Some(_), None) => None,
+        (None, _) => None,
     }
 }
 
@@ -167,7 +181,8 @@ pub fn due_of<'a>(
 {
     match due(requests, states, index) {
         Some(job) if job.input.as_str() == input => Some(job),
-        _ => None,
+        Some(_) => None,
+        None => None,
     }
 }
 
@@ -200,6 +215,8 @@ pub fn answer_at(states: &[State], index: usize) -> Option<&Answer>
 {
     match states.get(index) {
         Some(State::Answered(answer)) => Some(answer),
-        _ => None,
+        Some(State::Due) => None,
+        Some(State::Written) => None,
+        None => None,
     }
 }
