@@ -4,7 +4,7 @@ ghost use Rattle.std.specs.Prelude.{◌≡◌, OnOk, IfOk, is_some, slice_get, s
 ghost use Rattle.std.specs.Option.{option_copied};
 ghost use Rattle.subset_batch.specs.Lines.{request_lines};
 ghost use Rattle.subset_batch.specs.View.{line_view};
-ghost use Rattle.subset_font.specs.Batch.Requests.{is_of_name, writes, is_written, is_written_if, is_named_before, IsFirst, IsBegun, AddsLine, AreBegun, due, of_source, answer_in};
+ghost use Rattle.subset_font.specs.Batch.Requests.{is_of_name, writes, writes_if, is_written, is_written_if, is_named_before, IsFirst, IsBegun, AddsLine, AreBegun, due, of_source, answer_in};
 
 use crate::batch::answers::{Answer, failed};
 use crate::batch::orders::order_of;
@@ -60,16 +60,24 @@ fn writes(job: &Job, name: &str) -> bool
     is_of_name(name, given(&job.output)) || is_of_name(name, pdf_file(job))
 }
 
+/// Whether a request that may be wrong writes a file of this name.
+fn writes_if(job: &Option<Job>, name: &str) -> bool
+    ensures { result ≡ writes_if job.now name.now }
+{
+    match job {
+        Some(job) => writes(job, name),
+        None => false,
+    }
+}
+
 /// Whether one of the requests writes a file of this name.
 fn is_written(requests: &[Request], name: &str) -> bool
     ensures { result ≡ is_written requests.now name.now }
 {
     let mut rest = requests;
     while let [request, behind @ ..] = rest {
-        if let Some(job) = &request.job {
-            if writes(job, name) {
-                return true;
-            }
+        if writes_if(&request.job, name) {
+            return true;
         }
         rest = behind;
     }
