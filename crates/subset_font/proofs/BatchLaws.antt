@@ -3,7 +3,7 @@ use Rattle.std.proofs.Common.{◌≡◌, ◌⊎◌, inl, inr, ℕ, List, [], ◌
 use Rattle.std.specs.Prelude.{IfOk, IfErr, Vec, string_bytes}
 use Rattle.std.specs.Global.{Global}
 use Rattle.std.specs.Option.{option_map}
-use Rattle.subset_args.specs.Request.{lists_in_stream}
+use Rattle.subset_args.specs.Request.{lists_in_stream, PdfRequest}
 use Rattle.subset_args.specs.View.{requested_view, pdf_view}
 use Rattle.subset_args.specs.declared.jobs.command.Glyphs.{Glyphs}
 use Rattle.subset_args.specs.declared.jobs.command.Glyphs.TheVariants.{Listed, Characters, InFile, ByText, Every}
@@ -39,7 +39,7 @@ list_stream (Characters found) = refl
 list_stream (InFile kind name) = refl
 list_stream (ByText text) = refl
 
-pub pdf_stream : (pdf : Option PdfJob) → is_given_stream (option_map (λ p. p.file) (option_map pdf_view pdf)) ≡ is_given_stream (option_map (λ p. string_bytes p.file) pdf)
+pub pdf_stream : (pdf : Option PdfJob) → is_given_stream (option_map (λ (p : PdfRequest). p.file) (option_map pdf_view pdf)) ≡ is_given_stream (option_map (λ (p : PdfJob). string_bytes p.file) pdf)
 pdf_stream (Some pdf) = refl
 pdf_stream None = refl
 
