@@ -191,10 +191,18 @@ pub fn is_batch(word: &str) -> bool {
     word == "--batch"
 }
 
-/// What the arguments `FILE` behind `--batch` request.
+/// Whether the first argument is `--batch`.
+pub fn begins_batch(words: &[String]) -> bool {
+    match words {
+        [] => false,
+        [word, ..] => is_batch(word),
+    }
+}
+
+/// What the arguments `--batch FILE` request.
 fn read_batch(words: &[String]) -> Result<Command, ArgsError> {
     match words {
-        [file] => Ok(Command::Batch(file.clone()?)),
+        [_, file] => Ok(Command::Batch(file.clone()?)),
         _ => Err(ArgsError::Usage),
     }
 }
@@ -208,8 +216,9 @@ fn read_batch(words: &[String]) -> Result<Command, ArgsError> {
 /// numbers that fit `u32` and `u8`, or the depth is 0, where standard input is to be read twice, where OUT and a PDF are one
 /// file, or where an option says how a PDF is made and there is none.
 pub fn read_words(alloc: Global, words: &[String]) -> Result<Command, ArgsError> {
-    match words {
-        [word, behind @ ..] if is_batch(word) => read_batch(behind),
-        _ => read_single(alloc, words),
+    if begins_batch(words) {
+        read_batch(words)
+    } else {
+        read_single(alloc, words)
     }
 }

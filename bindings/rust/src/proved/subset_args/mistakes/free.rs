@@ -3,7 +3,7 @@
 
 use crate::rattle::prelude::String;
 
-use crate::proved::subset_args::jobs::reading::{first_topic, is_batch, topic_of};
+use crate::proved::subset_args::jobs::reading::{begins_batch, first_topic, is_batch, topic_of};
 use crate::proved::subset_args::mistakes::mistake::{mistake_at, Mistake, Wrong};
 use crate::proved::subset_args::mistakes::plain::{
     is_no_option, wrong_behind_index, wrong_from_option, wrong_setting, wrong_topic,
@@ -136,12 +136,12 @@ fn wrong_with_pdf(words: &[String]) -> Option<Mistake<'_>> {
     }
 }
 
-/// What is wrong with the arguments behind `--batch`.
+/// What is wrong with arguments that begin with `--batch`.
 fn wrong_batch(words: &[String]) -> Option<Mistake<'_>> {
     match words {
-        [] => mistake_at(Wrong::NoBatchFile, ""),
-        [_] => None,
-        [_, word, ..] => mistake_at(Wrong::BehindBatch, word),
+        [_, _, word, ..] => mistake_at(Wrong::BehindBatch, word),
+        [_, _] => None,
+        _ => mistake_at(Wrong::NoBatchFile, ""),
     }
 }
 
@@ -157,8 +157,9 @@ fn wrong_single(words: &[String]) -> Option<Mistake<'_>> {
 
 /// What is wrong with arguments for which `read_words` answers `Usage`: the first mistake.
 pub fn find_mistake(words: &[String]) -> Option<Mistake<'_>> {
-    match words {
-        [word, behind @ ..] if is_batch(word) => wrong_batch(behind),
-        _ => wrong_single(words),
+    if begins_batch(words) {
+        wrong_batch(words)
+    } else {
+        wrong_single(words)
     }
 }

@@ -23,16 +23,16 @@ fn is_int(bytes: &[u8]) -> bool {
     is_digits(bytes) && (bytes.len() == 1 || !matches!(bytes, [b'0', ..]))
 }
 
-/// Whether two bytes are the same.
-fn is_same(one: u8, other: u8) -> bool {
-    one == other
+/// Whether a byte is this one.
+fn is_byte(byte: u8, b: u8) -> bool {
+    b == byte
 }
 
-/// The place of the first byte that is this one, or the number of bytes.
+/// The index of the first byte that is this one, or the number of bytes.
 fn place_of(byte: u8, bytes: &[u8]) -> usize {
     let mut rest = bytes;
     while let [b, behind @ ..] = rest {
-        if is_same(*b, byte) {
+        if is_byte(byte, *b) {
             return bytes.len().saturating_sub(rest.len());
         }
         rest = behind;

@@ -73,7 +73,9 @@ fn with_answer(alloc: Global, job: Job) -> Result<Job, Answer> {
 fn order_by(alloc: Global, words: &[String]) -> Result<Job, Answer> {
     match read_words(alloc, words) {
         Ok(Command::Subset(job)) => with_answer(alloc, job),
-        Ok(_) => Err(failed(WRONG, format!(in alloc; "{}", Failure::Usage))),
+        Ok(Command::Help | Command::Version | Command::Batch(_) | Command::Show(_, _, _, _)) => {
+            Err(failed(WRONG, format!(in alloc; "{}", Failure::Usage)))
+        }
         Err(ArgsError::Usage) => Err(mistake_of(alloc, words)),
         Err(ArgsError::OutOfMemory) => Err(Answer::NoMemory),
     }

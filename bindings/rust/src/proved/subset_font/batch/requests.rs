@@ -9,7 +9,6 @@ use crate::proved::subset_font::batch::answers::{failed, Answer};
 use crate::proved::subset_font::batch::orders::order_of;
 use crate::proved::subset_font::refusals::failure::{given, pdf_file};
 use crate::rattle::alloc::{AllocError, Global};
-use crate::rattle::mem;
 
 /// The status of a request whose OUT a line before has named, as of wrong arguments.
 const NAMED_TWICE: u8 = 2;
@@ -38,19 +37,33 @@ pub struct Batch {
     pub states: Vec<State>,
 }
 
+/// Whether a file that may be given has this name.
+fn is_of_name(name: &str, file: Option<&str>) -> bool {
+    match file {
+        Some(file) => file == name,
+        None => false,
+    }
+}
+
 /// Whether a request writes a file of this name.
 fn writes(job: &Job, name: &str) -> bool {
-    given(&job.output) == Some(name) || pdf_file(job) == Some(name)
+    is_of_name(name, given(&job.output)) || is_of_name(name, pdf_file(job))
+}
+
+/// Whether a request that may be wrong writes a file of this name.
+fn writes_if(job: &Option<Job>, name: &str) -> bool {
+    match job {
+        Some(job) => writes(job, name),
+        None => false,
+    }
 }
 
 /// Whether one of the requests writes a file of this name.
 fn is_written(requests: &[Request], name: &str) -> bool {
     let mut rest = requests;
     while let [request, behind @ ..] = rest {
-        if let Some(job) = &request.job {
-            if writes(job, name) {
-                return true;
-            }
+        if writes_if(&request.job, name) {
+            return true;
         }
         rest = behind;
     }
@@ -61,7 +74,8 @@ fn is_written(requests: &[Request], name: &str) -> bool {
 fn if_written<'a>(before: &[Request], name: Option<&'a str>) -> Option<&'a str> {
     match name {
         Some(name) if is_written(before, name) => Some(name),
-        _ => None,
+        Some(_) => None,
+        None => None,
     }
 }
 
@@ -127,7 +141,10 @@ pub fn due<'a>(requests: &'a [Request], states: &[State], index: usize) -> Optio
             Some(job) => Some(job),
             None => None,
         },
-        _ => None,
+        (Some(_), Some(State::Answered(_))) => None,
+        (Some(_), Some(State::Written)) => None,
+        (Some(_), None) => None,
+        (None, _) => None,
     }
 }
 
@@ -140,25 +157,34 @@ pub fn due_of<'a>(
 ) -> Option<&'a Job> {
     match due(requests, states, index) {
         Some(job) if job.input.as_str() == input => Some(job),
-        _ => None,
+        Some(_) => None,
+        None => None,
+    }
+}
+
+/// Sets how far the request of an index is.
+fn set_state(states: &mut [State], index: usize, state: State) {
+    if index < states.len() {
+        states[index] = state;
     }
 }
 
 /// Sets the answer to the request of an index.
 pub fn set_answer(states: &mut [State], index: usize, answer: Answer) {
-    if let Some(state) = states.get_mut(index) {
-        *state = State::Answered(answer);
-    }
+    set_state(states, index, State::Answered(answer));
 }
 
-/// The answer to the request of an index, if there is one that isn't written. It is taken as written.
-pub fn take_answer(states: &mut [State], index: usize) -> Option<Answer> {
-    let state = states.get_mut(index)?;
-    match mem::replace(state, State::Written) {
-        State::Answered(answer) => Some(answer),
-        other => {
-            *state = other;
-            None
-        }
+/// Takes the answer to the request of an index as written.
+pub fn set_written(states: &mut [State], index: usize) {
+    set_state(states, index, State::Written);
+}
+
+/// The answer to the request of an index, if there is one that isn't written.
+pub fn answer_at(states: &[State], index: usize) -> Option<&Answer> {
+    match states.get(index) {
+        Some(State::Answered(answer)) => Some(answer),
+        Some(State::Due) => None,
+        Some(State::Written) => None,
+        None => None,
     }
 }

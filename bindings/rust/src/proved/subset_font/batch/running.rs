@@ -6,7 +6,7 @@ use crate::rattle::prelude::{AllocGlobal, Eprint, Input, Print};
 use crate::proved::subset_font::batch::answers::{has_failed, write_answer};
 use crate::proved::subset_font::batch::making::{answer_of, read_source};
 use crate::proved::subset_font::batch::requests::{
-    due, due_of, requests_of, set_answer, take_answer, Batch, Request, State,
+    answer_at, due, due_of, requests_of, set_answer, set_written, Batch, Request, State,
 };
 use crate::proved::subset_font::making::carried::read_whole;
 use crate::proved::subset_font::refusals::failure::Failure;
@@ -64,7 +64,7 @@ impl fmt::Display for Progress {
 }
 
 /// Where the answers are written, and what is known of those that are.
-pub struct Answers<W: Write> {
+pub struct AnswerLines<W: Write> {
     lines: W,
     // The index of the first whose answer isn't written.
     next: usize,
@@ -73,10 +73,10 @@ pub struct Answers<W: Write> {
     is_shown: bool,
 }
 
-impl<W: Write> Answers<W> {
+impl<W: Write> AnswerLines<W> {
     /// None are written.
     pub fn new(lines: W, is_shown: bool) -> Self {
-        Answers {
+        AnswerLines {
             lines,
             next: 0,
             has_failed: false,
@@ -91,18 +91,19 @@ impl<W: Write> Answers<W> {
 
     /// Writes the answer to a request, if there is one, and says so.
     fn write_next(&mut self, request: &Request, states: &mut [State]) -> Result<bool, Failure> {
-        let answer = match take_answer(states, self.next) {
+        let answer = match answer_at(states, self.next) {
             Some(answer) => answer,
             _ => {
                 return Ok(false);
             }
         };
-        if write_answer(request.line, &answer, &mut self.lines).is_err()
+        if write_answer(request.line, answer, &mut self.lines).is_err()
             || self.lines.flush().is_err()
         {
             return Err(Failure::Output);
         }
-        self.has_failed = self.has_failed || has_failed(&answer);
+        self.has_failed = self.has_failed || has_failed(answer);
+        set_written(states, self.next);
         self.next = self.next.saturating_add(1);
         Ok(true)
     }
@@ -114,12 +115,10 @@ impl<W: Write> Answers<W> {
         requests: &[Request],
         states: &mut [State],
     ) -> Result<(), Failure> {
-        let mut rest = requests.get(self.next..).unwrap_or(&[]);
-        while let [request, behind @ ..] = rest {
+        for request in requests.get(self.next..).unwrap_or(&[]) {
             if !self.write_next(request, states)? {
                 break;
             }
-            rest = behind;
         }
         if self.is_shown {
             let all = requests.len();
@@ -138,7 +137,7 @@ fn answer_source<R: Files + Print + Eprint + Input + AllocGlobal, W: Write>(
     requests: &[Request],
     states: &mut [State],
     first: usize,
-    answers: &mut Answers<W>,
+    answers: &mut AnswerLines<W>,
 ) -> Result<(), Failure> {
     let job = match due(requests, states, first) {
         Some(job) => job,
@@ -161,7 +160,7 @@ fn answer_all<R: Files + Print + Eprint + Input + AllocGlobal, W: Write>(
     rt: &R,
     requests: &[Request],
     states: &mut [State],
-    answers: &mut Answers<W>,
+    answers: &mut AnswerLines<W>,
 ) -> Result<(), Failure> {
     answers.write_ready(rt, requests, states)?;
     for first in 0..requests.len() {
@@ -199,7 +198,7 @@ fn run_requests<R: Files + Print + Eprint + Input + AllocGlobal>(rt: &R, batch: 
         requests,
         mut states,
     } = batch;
-    let mut answers = Answers::new(lines, is_shown);
+    let mut answers = AnswerLines::new(lines, is_shown);
     let ended = answer_all(rt, &requests, &mut states, &mut answers);
     status_of_batch(rt, &ended, answers.has_failed(), is_shown)
 }
