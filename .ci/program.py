@@ -28,6 +28,7 @@ sys.path.insert(0, os.path.join(HERE, "program"))
 sys.dont_write_bytecode = True
 
 import row_files  # noqa: E402
+from check_batch import check_batch, check_opened, check_progress, check_refused_batch, check_soon  # noqa: E402
 from check_files import check_attributes, check_device, check_links, check_places, check_rights  # noqa: E402
 from check_pdf import check_pdf  # noqa: E402
 from check_refused import check_failed_calls, check_inodes, check_kept_room, check_killed, check_little_room, check_refused_memory, check_refused_names  # noqa: E402
@@ -38,7 +39,8 @@ from running import Table, messages  # noqa: E402
 from systems import OTHERWISE, UNCHECKED  # noqa: E402
 
 CHECKS = (check_words, check_names, check_pdf, check_places, check_links, check_attributes, check_device, check_rights, check_streams, check_closed, check_number_of_output, check_many, check_memory,
-          check_refused_memory, check_refused_names, check_little_room, check_kept_room, check_failed_calls, check_killed, check_inodes)
+          check_refused_memory, check_refused_names, check_little_room, check_kept_room, check_failed_calls, check_killed, check_inodes,
+          check_batch, check_opened, check_refused_batch, check_soon, check_progress)
 
 
 def read_words():

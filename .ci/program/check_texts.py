@@ -10,7 +10,7 @@ from row_files import USAGE
 from running import ROOT, put
 
 
-OPTIONS = ["-o", "--output-file", "--face-index", "--gids", "--widths", "--limits", "--at", "--axes", "--info", "--no-hinting", "--no-names", "--no-glyph-names", "--gids-file",
+OPTIONS = ["-o", "--output-file", "--face-index", "--gids", "--widths", "--limits", "--at", "--axes", "--info", "--batch", "--no-hinting", "--no-names", "--no-glyph-names", "--gids-file",
            "--text", "--text-file", "--unicodes", "--unicodes-file", "--pdf", "--vertical", "--codes", "--rights", "--json", "--verbose", "--quiet", "--help", "-h", "--version", "--"]
 
 
@@ -50,7 +50,8 @@ or a glyph is refused, may not be embedded, or memory ran
 out, 2 an argument is wrong, 3 a file can't be read or
 written. With --axes and --info: 0 it is printed, for --info
 also where a subset would be refused, 1 IN is no font, or
-with --axes its table fvar is cut.
+with --axes its table fvar is cut. With --batch: 1 a request
+failed, 2 FILE can't be read.
 """
 
 
@@ -98,8 +99,8 @@ def check_words(table, room):
             there = re.search(r"(^|[^-\w])" + re.escape(option) + r"($|[^-\w])", text, re.M)
             table.demand(there, option, f"it doesn't stand in {name}")
     for option in set(re.findall(r"(?:^|[\s`,|])(--[a-z][a-z-]*)", "".join(texts.values()))):
-        # (fc-scan and Cargo have some of their own, and one is an example of a wrong one)
-        table.demand(option in OPTIONS or option in ("--format", "--path", "--features", "--no-hintings"), option, "no such option")
+        # (fc-scan and Cargo have some of their own, one is an example of a wrong one, and the build by Cargo alone has --jobs)
+        table.demand(option in OPTIONS or option in ("--format", "--path", "--features", "--no-hintings", "--jobs"), option, "no such option")
     with open(os.path.join(ROOT, "VERSION")) as file:
         wanted = f"subset_font {file.read().strip()}, a port of the Rust crate subsetter 0.2.6\n".encode()
     for words in (["--version"], ["--version", "--help"]):

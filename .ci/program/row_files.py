@@ -203,6 +203,10 @@ class Reader:
             row.out_font = part.value
         elif part.key == "stderr":
             row.err += self.line(part)
+        elif part.key == "line":
+            if not rest:
+                raise Trouble(f"{part.where}: line wants the name of a file, and what is in it")
+            row.files[first] = row.files.get(first, b"") + text_of(Part(part.where, part.key, rest)) + b"\n"
         elif part.key == "message":
             row.err += self.messages.text(first, words_of(rest, part.where), part.where)
         else:
@@ -211,7 +215,7 @@ class Reader:
                 raise Trouble(f"{part.where}: " + (f"the {part.key} {first} is there twice" if rest else f"{part.key} wants a name, and what is in it"))
             there[first] = self.content(Part(part.where, part.key, rest)) if part.key == "file" else rest
 
-    KEYS = ("stdin", "file", "status", "stdout", "stdout-font", "stderr", "message", "after")
+    KEYS = ("stdin", "file", "line", "status", "stdout", "stdout-font", "stderr", "message", "after")
 
     def row(self, record):
         """The row of a record."""

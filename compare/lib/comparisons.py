@@ -19,7 +19,7 @@ SUBSET = sources("subsetter", "subsetter_base", "subsetter_sfnt", "subsetter_cff
 INSTANCE = sources("subsetter_instance", "subsetter_points", "subsetter_variation", "subsetter_variable")
 CFF2 = sources("subsetter_cff_at", "subsetter_cff_instance", "subsetter_cff2", "subsetter_blend", "subsetter_variation", "subsetter_cff", "subsetter_type2", "subsetter_cffdata", "subsetter_base")
 BENCH = sources("dev_bench")
-PROGRAM = sources("subset_font", "subset_args", "subset_lines", "subset_pdf", "pdf_objects", "pdf_sheet", "pdf_font", "glyph_names", "cid_embed", "cmap", "late_file")
+PROGRAM = sources("subset_font", "subset_args", "subset_batch", "subset_lines", "subset_pdf", "pdf_objects", "pdf_sheet", "pdf_font", "glyph_names", "cid_embed", "cmap", "late_file")
 C = sources("subsetter_c", "subsetter_pdf_c", "cid_embed", "cid_embed_at") + ("bindings/c/*",)
 # What no proof covers, and its tests.
 PLANTED = ("bindings/**", "dist/*", "demo/*", "examples/*", ".ci/**", "Makefile")
@@ -207,6 +207,8 @@ COMPARISONS = [
     Comparison("portable", "Does the generated crate answer the proved library's bytes and errors, without a panic?",
                "compare/portable.py --copies 1000000 --results compare/results/portable.jsonl", lines_like(r"\d+ calls, \d+ differ"),
                PORTABLE, "compare/portable.py", data=("portable.jsonl",)),
+    Comparison("batch", "What do many requests in one run take, in threads, beside a run each?", "compare/batch.py",
+               lines_like(r"`--jobs 4` is [\d.]+ times as fast as `--jobs 1`; \d+ faults"), SUBSET + PROGRAM + ("bindings/rust/src/**",), timed=True),
     Comparison("portable, times", "What does the generated crate take beside the proved library and the Rust crate?",
                "compare/portable_times.py --results compare/results/portable_times.csv", lines_like(r"^The geometric mean.*|\d+ rows, \d+ past a bound"),
                PORTABLE, data=("portable_times.csv",), timed=True),

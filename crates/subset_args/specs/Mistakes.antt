@@ -3,13 +3,13 @@ use Rattle.std.specs.Prelude.{◌≡◌, ◌≢◌, ◌⊎◌, ℕ, true, false,
 use Rattle.std.specs.Str.{IsUtf8}
 use Rattle.subset_args.specs.Listing.Lists.{ends_in, descends}
 use Rattle.subset_args.specs.Listing.Characters.{codes_in, codes_descend}
-use Rattle.subset_args.specs.Request.{topic_of}
+use Rattle.subset_args.specs.Request.{topic_of, is_batch}
 use Rattle.subsetter_words.specs.Numbers.{number_in_bits}
 use Rattle.subset_args.specs.Coordinates.{coordinate_in}
 use Rattle.subset_args.specs.Options.{kind_of, looks_like_option, coding_in, holds_rights}
 use Rattle.subset_args.specs.declared.options.names.Kind.TheVariants.{Place}
 use Rattle.subset_args.specs.declared.mistakes.mistake.Wrong.{Wrong}
-use Rattle.subset_args.specs.declared.mistakes.mistake.Wrong.TheVariants.{NoInput, NoOutput, NoIndex, NoGlyphs, Further, BehindShown, Late, ShownLate, Unknown, Twice, NoValue, GlyphsTwice, BesideOption, InputTwice, Index, FaceIndex, Glyph, Limits, Coordinate, Part, Descends, Codes, CodesDescend, BesideInput, NoOutputOption, NoSource, Coding, Rights, NoPdf, OutputTwice}
+use Rattle.subset_args.specs.declared.mistakes.mistake.Wrong.TheVariants.{NoInput, NoOutput, NoIndex, NoGlyphs, Further, BehindShown, Late, ShownLate, NoBatchFile, BehindBatch, BatchLate, Unknown, Twice, NoValue, GlyphsTwice, BesideOption, InputTwice, Index, FaceIndex, Glyph, Limits, Coordinate, Part, Descends, Codes, CodesDescend, BesideInput, NoOutputOption, NoSource, Coding, Rights, NoPdf, OutputTwice}
 
 -- what is said of an argument, or of a value that it lists, is so as far as its own bytes show
 abbrev pub IsWrong : Wrong → List ℕ → Type 0
@@ -21,6 +21,9 @@ IsWrong Further word = Unit {0}
 IsWrong BehindShown word = Unit {0}
 IsWrong Late word = kind_of word ≢ Place
 IsWrong ShownLate word = topic_of word ≢ None
+IsWrong NoBatchFile word = Unit {0}
+IsWrong BehindBatch word = Unit {0}
+IsWrong BatchLate word = is_batch word ≡ true
 IsWrong Unknown word = (kind_of word ≡ Place) × (looks_like_option word ≡ true)
 IsWrong Twice word = kind_of word ≢ Place
 IsWrong NoValue word = kind_of word ≢ Place

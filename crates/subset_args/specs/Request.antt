@@ -67,6 +67,8 @@ pub data Command : Type 0 where
   help : Command
   version : Command
   subset : Request → Command
+  -- to do what the lines of a file request
+  batch : List ℕ → Command
   -- to show the axes of a face, or what it is, as JSON or not: its file and its index
   show : Topic → Bool → List ℕ → ℕ → Command
 
@@ -197,9 +199,26 @@ abbrev pub behind_first : List (List ℕ) → List (List ℕ)
 behind_first [] = []
 behind_first (word ∷ words) = words
 
--- what the arguments request: `--axes [--json] FONT [INDEX]` or `--info [--json] FONT [INDEX]`, `[OPTIONS] IN OUT INDEX [GID[,GID..]]`, or IN with options before and after it, one of which gives OUT or a PDF
-abbrev pub command : List (List ℕ) → Option Command
-command words = elim (first_topic words) [
+-- what the arguments request that don't begin with `--batch`: `--axes [--json] FONT [INDEX]` or `--info [--json] FONT [INDEX]`, `[OPTIONS] IN OUT INDEX [GID[,GID..]]`, or IN with options before and after it, one of which gives OUT or a PDF
+abbrev pub single_command : List (List ℕ) → Option Command
+single_command words = elim (first_topic words) [
   | Some topic ↦ shown_by topic (behind_first words)
   | None ↦ command_or (command_by_options words) (command_free words)
 ]
+
+-- whether the first argument is `--batch`
+abbrev pub is_batch : List ℕ → Bool
+is_batch word = bytes_eq word (codes "--batch")
+
+abbrev pub begins_batch : List (List ℕ) → Bool
+begins_batch [] = false
+begins_batch (word ∷ words) = is_batch word
+
+-- the file behind it, alone
+abbrev pub batch_of : List (List ℕ) → Option Command
+batch_of (file ∷ []) = Some (batch file)
+batch_of _ = None
+
+-- what the arguments request
+abbrev pub command : List (List ℕ) → Option Command
+command words = if begins_batch words then batch_of (behind_first words) else single_command words

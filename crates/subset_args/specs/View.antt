@@ -3,7 +3,7 @@ use Rattle.std.specs.Prelude.{map, string_bytes}
 use Rattle.std.specs.Option.{option_copied, option_map}
 use Rattle.subset_args.specs.Limits.{limits_view}
 use Rattle.subset_args.specs.Options.{GlyphSource, in_file, by_text, in_list, in_codes, Choice, Free as FreeSaid, Options, helped, versioned, chosen}
-use Rattle.subset_args.specs.Request.{RequestedGlyphs, listed, every_glyph, of_characters, from, Position as Requested, at_coordinates, at_instance, PdfRequest, Request, Command as Wanted, help, version, subset, show}
+use Rattle.subset_args.specs.Request.{RequestedGlyphs, listed, every_glyph, of_characters, from, Position as Requested, at_coordinates, at_instance, PdfRequest, Request, Command as Wanted, help, version, subset, batch, show}
 use Rattle.subset_args.specs.declared.options.names.Source.{Source}
 use Rattle.subset_args.specs.declared.options.names.Source.TheVariants.{File, Text, InList, Characters as InCodes}
 use Rattle.subset_args.specs.declared.options.chosen.Chosen.{Chosen}
@@ -17,7 +17,7 @@ use Rattle.subset_args.specs.declared.jobs.command.Position.TheVariants.{Coordin
 use Rattle.subset_args.specs.declared.jobs.command.PdfJob.{PdfJob}
 use Rattle.subset_args.specs.declared.jobs.command.Job.{Job}
 use Rattle.subset_args.specs.declared.jobs.command.Command.{Command}
-use Rattle.subset_args.specs.declared.jobs.command.Command.TheVariants.{Help as ForHelp, Version as ForVersion, Subset, Show}
+use Rattle.subset_args.specs.declared.jobs.command.Command.TheVariants.{Help as ForHelp, Version as ForVersion, Subset, Batch, Show}
 
 abbrev pub source_view : Source → GlyphSource
 source_view (File kind name) = in_file kind name.now
@@ -57,4 +57,5 @@ abbrev pub command_view : Command → Wanted
 command_view ForHelp = help
 command_view ForVersion = version
 command_view (Subset job) = subset (job_view job)
+command_view (Batch file) = batch (string_bytes file)
 command_view (Show topic json input index) = show topic json (string_bytes input) index

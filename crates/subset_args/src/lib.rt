@@ -5,6 +5,7 @@
 //! ```text
 //! match read_words(alloc, &words)? {
 //!     Command::Subset(job) => ..,
+//!     Command::Batch(file) => ..,
 //!     Command::Help | Command::Version => ..,
 //! }
 //! ```
@@ -26,7 +27,7 @@ pub use jobs::reading::read_words;
 pub use limits::RunLimits;
 pub use listing::characters::codes_descend;
 pub use listing::files::{find_wrong, read_list};
-pub use listing::lists::{FileKind, GlyphList, descends};
+pub use listing::lists::{FileKind, GlyphList, descends, is_blank};
 pub use mistakes::free::find_mistake;
 pub use mistakes::mistake::{Mistake, Wrong};
 pub use options::chosen::{PdfChoice, Switches};

@@ -49,11 +49,12 @@ impl fmt::Display for Mistake<'_> {
             Wrong::NoOutput => write!(f, "OUT is missing"),
             Wrong::NoIndex => write!(f, "INDEX is missing"),
             Wrong::NoGlyphs => write!(f, "GID is missing"),
-            Wrong::Further | Wrong::BehindShown => {
+            Wrong::Further | Wrong::BehindShown | Wrong::BehindBatch => {
                 write!(f, "\"{word}\" is one argument too many")
             }
             Wrong::Late => write!(f, "{word} is after IN"),
-            Wrong::ShownLate => write!(f, "{word} isn't the first argument"),
+            Wrong::ShownLate | Wrong::BatchLate => { write!(f, "{word} isn't the first argument") }
+            Wrong::NoBatchFile => write!(f, "FILE is missing"),
             Wrong::Unknown => write!(f, "{word} is no option"),
             Wrong::Twice => write!(f, "{word} is given twice"),
             Wrong::NoValue => write!(f, "{word}: its value is missing"),
@@ -109,6 +110,9 @@ fn expected(wrong: Wrong) -> &'static str {
         Wrong::Further => "expected: IN OUT INDEX GID, with no blanks between glyph numbers",
         Wrong::BehindShown | Wrong::ShownLate => {
             "expected: --axes or --info, and then [--json] IN [INDEX]"
+        }
+        Wrong::NoBatchFile | Wrong::BehindBatch | Wrong::BatchLate => {
+            "expected: --batch and a FILE of requests, and no more"
         }
         Wrong::Late => "expected: options before IN",
         Wrong::Unknown => "see subset_font --help",

@@ -3,7 +3,7 @@ _subset_font() {
     local word=${COMP_WORDS[COMP_CWORD]}
     COMPREPLY=()
     case ${COMP_WORDS[COMP_CWORD - 1]} in
-    --gids-file | --text-file | --unicodes-file | -o | --output-file | --pdf)
+    --gids-file | --text-file | --unicodes-file | -o | --output-file | --pdf | --batch)
         mapfile -t COMPREPLY < <(compgen -f -- "$word")
         return
         ;;
@@ -12,7 +12,7 @@ _subset_font() {
         ;;
     esac
     case $word in
-    -*) mapfile -t COMPREPLY < <(compgen -W "--gids --gids-file --text --text-file --unicodes --unicodes-file -o --output-file --face-index --pdf --vertical --codes --rights --at --no-hinting --no-names --no-glyph-names --limits --widths --verbose --json --quiet --axes --info -h --help --version" -- "$word") ;;
+    -*) mapfile -t COMPREPLY < <(compgen -W "--gids --gids-file --text --text-file --unicodes --unicodes-file -o --output-file --face-index --pdf --vertical --codes --rights --at --no-hinting --no-names --no-glyph-names --limits --widths --verbose --json --quiet --axes --info --batch -h --help --version" -- "$word") ;;
     *) mapfile -t COMPREPLY < <(compgen -f -- "$word") ;;
     esac
 }

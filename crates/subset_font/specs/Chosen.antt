@@ -1,5 +1,5 @@
 -- What the options in front of IN choose for a task.
-use Rattle.std.specs.Prelude.{◌≡◌, ℕ, ℤ, List, [], not, if◌then◌else◌, Option, Some, None, string_bytes}
+use Rattle.std.specs.Prelude.{◌≡◌, ◌⊎◌, ℕ, ℤ, List, [], not, if◌then◌else◌, Option, Some, None, string_bytes}
 use Rattle.std.specs.Option.{option_copied, option_and_then, option_map}
 use Rattle.subsetter.specs.Limits.{token_limit, depth_limit}
 use Rattle.subsetter_sfnt.specs.declared.extras.Extras.{Extras}
@@ -16,6 +16,9 @@ use Rattle.subset_args.specs.declared.listing.lists.GlyphList.{GlyphList}
 use Rattle.subset_args.specs.declared.listing.lists.GlyphList.TheVariants.{Every as EveryGlyph, These as TheseGlyphs, Characters as TheseCharacters, Text as OfText}
 use Rattle.subset_font.specs.declared.task.RequestedGlyphs.{RequestedGlyphs}
 use Rattle.subset_font.specs.declared.task.RequestedGlyphs.TheVariants.{These, Every, ByText, ByCharacters}
+use Rattle.subsetter_base.specs.declared.error.Error.TheVariants.{OutOfMemory}
+use Rattle.subset_font.specs.declared.refusals.failure.Failure.{Failure}
+use Rattle.subset_font.specs.declared.refusals.failure.Failure.TheVariants.{Error as Refused, List as WrongList, ReadList}
 use Rattle.subset_font.specs.declared.task.Plan.{Plan}
 use Rattle.subset_font.specs.declared.task.Task.{Task}
 use Rattle.subset_font.specs.declared.task.Form.{Form}
@@ -55,6 +58,10 @@ IsListFor WholeFace list = Unit {0}
 IsListFor (ListedCharacters given) list = Unit {0}
 IsListFor (InFile kind name) (Some list) = Unit {0}
 IsListFor (InFile kind name) None = ⊥
+
+-- why none was read: the file can't be read or has no such list, or memory ran out
+abbrev pub IsUnlisted : Failure → Type 0
+IsUnlisted failure = (failure ≡ ReadList) ⊎ ((failure ≡ WrongList) ⊎ (failure ≡ Refused OutOfMemory))
 
 -- those that a file requests
 abbrev pub kept_by : GlyphList → KeptGlyphs

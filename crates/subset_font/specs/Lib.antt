@@ -1,3 +1,4 @@
+pub mod Batch
 pub mod Chosen
 pub mod Making
 pub mod Report

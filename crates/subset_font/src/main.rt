@@ -8,6 +8,7 @@
 //! of which it is proved what is written.
 #![tactic(auto)]
 
+mod batch;
 mod faces;
 mod help;
 mod making;
@@ -18,6 +19,9 @@ mod run;
 mod streams;
 mod task;
 
+pub use batch::making::{answer_of, carry_answer, read_source};
+pub use batch::requests::{Batch, Request, State, due, due_of, set_answer};
+pub use batch::running::{AnswerLines, read_batch, status_of_batch};
 pub use faces::accepted::InfoParts;
 pub use faces::axes::{axes_there, carry_axes};
 pub use faces::info::carry_info;
@@ -32,12 +36,13 @@ pub use output::emit;
 pub use refusals::failure::{Failure, Report, status_of_run};
 pub use refusals::hint::found::{find_axes_hint, find_hint};
 pub use refusals::hint::text::Hint;
+pub use run::program::{Ended, run_by};
+pub use run::request::read_arguments;
+pub use streams::{hold_streams, is_shown};
 pub use task::{Form, Plan, RequestedGlyphs, Task};
 
 #[cfg(test)]
 mod tests;
-
-use run::program::Ended;
 
 fn main(rt: HostRuntime) -> Ended {
     run::program::run(&rt)

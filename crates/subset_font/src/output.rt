@@ -40,7 +40,7 @@ pub fn emit<P: Write, W: Write, L: Write>(
 }
 
 /// Writes the PDF, if there is one, and passes on what the writer keeps back.
-fn write_page<P: Write>(sheet: &Option<Sheet>, page: &mut P) -> Result<(), Failure>
+pub fn write_page<P: Write>(sheet: &Option<Sheet>, page: &mut P) -> Result<(), Failure>
     ensures bytes { OnOk result (Appends (P.contents page.old) (P.contents page.new) (page_of sheet.now)) }
     ensures err { IfErr result (λ e. e ≡ CannotWritePdf) }
 {
@@ -54,7 +54,7 @@ fn write_page<P: Write>(sheet: &Option<Sheet>, page: &mut P) -> Result<(), Failu
 }
 
 /// Writes the font, and passes on what the writer keeps back.
-fn write_font<W: Write>(font: &[u8], output: &mut W) -> Result<(), Failure>
+pub fn write_font<W: Write>(font: &[u8], output: &mut W) -> Result<(), Failure>
     ensures bytes { OnOk result (Appends (W.contents output.old) (W.contents output.new) font.now) }
     ensures err { IfErr result (λ e. e ≡ CannotWrite) }
 {
@@ -65,7 +65,7 @@ fn write_font<W: Write>(font: &[u8], output: &mut W) -> Result<(), Failure>
 }
 
 /// Writes the new numbers.
-fn write_numbers<L: Write>(outcome: &Outcome, form: Form, lines: &mut L) -> Result<(), Failure>
+pub fn write_numbers<L: Write>(outcome: &Outcome, form: Form, lines: &mut L) -> Result<(), Failure>
     ensures bytes { OnOk result (Appends (L.contents lines.old) (L.contents lines.new) (report_of form outcome.now)) }
     ensures err { IfErr result (λ e. e ≡ Output) }
 {

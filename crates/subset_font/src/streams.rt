@@ -134,6 +134,19 @@ fn is_standard_output<R: Files>(rt: &R, name: &str) -> bool {
     }
 }
 
+/// The bits of a mode that say what a file is, and what they are of a device of characters, as a terminal is.
+const KIND: u32 = 0o170000;
+
+const CHARACTERS: u32 = 0o020000;
+
+/// Whether standard error is a terminal, or another device of characters, where nothing is lost.
+pub fn is_shown<R: Files>(rt: &R) -> bool {
+    match fs::metadata(rt, "/dev/stderr") {
+        Ok(about) => about.mode() & KIND == CHARACTERS,
+        Err(_) => false,
+    }
+}
+
 /// Whether the font or a PDF goes to standard output, if it is named.
 pub fn is_to_standard_output<R: Files>(rt: &R, name: Option<&str>) -> bool
     ensures unnamed { name.entry ≡ None → result ≡ false }

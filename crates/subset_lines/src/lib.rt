@@ -31,3 +31,4 @@ pub use objects::json::{json_numbers, write_json};
 pub use objects::members::json_members;
 pub use objects::pdf::json_pdf;
 pub use plain::write_lines;
+pub use text::write_text;

@@ -36,23 +36,29 @@ pub fn ask_for_name(name: &str) -> Result<()> {
     ask(name.len().saturating_add(1))
 }
 
-/// Room for two names, from before a new file is made until it is renamed or removed: neither may fail for want of memory.
-static KEPT: Mutex<Option<(Room, Room)>> = Mutex::new(None);
+/// Room for two names of a file, the first of which has its name.
+type Kept = (Room, Room);
+
+/// The room of each new file, from before it is made until it is renamed or removed: neither may fail for want of memory. (With
+/// `--jobs` there are several such files at a time.)
+static KEPT: Mutex<::alloc::vec::Vec<Kept>> = Mutex::new(::alloc::vec::Vec::new());
 
 /// Keeps room to rename and to remove the file of a name.
 pub fn keep_for_name(name: &str) -> Result<()> {
     let bytes = name.len().saturating_add(1);
-    let both = (take(bytes)?, take(bytes)?);
+    let (mut one, other) = (take(bytes)?, take(bytes)?);
+    one.extend_from_slice(name.as_bytes());
     if let Ok(mut kept) = KEPT.lock() {
-        *kept = Some(both);
+        kept.try_reserve(1).map_err(|_| ErrorKind::OutOfMemory)?;
+        kept.push((one, other));
     }
     Ok(())
 }
 
-/// Gives back the room that is kept.
-pub fn give_back() {
+/// Gives back the room that is kept for the file of a name, if any is.
+pub fn give_back(name: &str) {
     if let Ok(mut kept) = KEPT.lock() {
-        *kept = None;
+        kept.retain(|(one, _)| one != name.as_bytes());
     }
 }
 
@@ -60,19 +66,23 @@ pub fn give_back() {
 mod tests {
     use super::*;
 
-    /// How many bytes the smaller one of the two rooms has that are kept.
-    fn kept() -> Option<usize> {
-        let kept = KEPT.lock().unwrap();
-        kept.as_ref()
-            .map(|(one, other)| one.capacity().min(other.capacity()))
+    /// How many bytes the smaller one of the two rooms has that are kept for a name.
+    fn kept(name: &str) -> Option<usize> {
+        let all = KEPT.lock().unwrap();
+        let of_name = all.iter().find(|(one, _)| one == name.as_bytes());
+        of_name.map(|(one, other)| one.capacity().min(other.capacity()))
     }
 
     #[test]
     fn room_for_two_names_is_kept_until_it_is_given_back() {
-        assert_eq!(kept(), None);
+        assert_eq!(kept("name"), None);
         keep_for_name("name").unwrap();
-        assert!(kept() >= Some("name\0".len()), "{:?}", kept());
-        give_back();
-        assert_eq!(kept(), None);
+        keep_for_name("another").unwrap();
+        assert!(kept("name") >= Some("name\0".len()), "{:?}", kept("name"));
+        give_back("name");
+        assert_eq!(kept("name"), None);
+        assert!(kept("another") >= Some("another\0".len()));
+        give_back("another");
+        assert_eq!(kept("another"), None);
     }
 }

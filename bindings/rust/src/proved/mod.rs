@@ -61,6 +61,8 @@ pub mod pdf_values;
 #[cfg(feature = "program")]
 pub mod subset_args;
 #[cfg(feature = "program")]
+pub mod subset_batch;
+#[cfg(feature = "program")]
 pub mod subset_font;
 #[cfg(feature = "program")]
 pub mod subset_lines;

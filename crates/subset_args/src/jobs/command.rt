@@ -101,6 +101,8 @@ pub enum Command {
     Version,
     /// To make a subset.
     Subset(Job),
+    /// To do what the lines of the file of this name request.
+    Batch(String),
     /// To show something of a face, as JSON or not: the name of its file, and its index in a collection, from 0.
     Show(Topic, bool, String, u32),
 }

@@ -2,7 +2,7 @@
 
 ghost use Rattle.std.specs.Prelude.{◌≡◌, ◌⊎◌, map, IfOk, IfErr, IfSome, Some, None, string_bytes};
 ghost use Rattle.std.specs.Option.{option_copied, option_map};
-ghost use Rattle.subset_args.specs.Request.{request_of, request_behind, request_plain, names_position, has_output, request_with, request_free, command_by_options, command_free, command_or, shown_of, shown_by, topic_of, first_topic, behind_first, command};
+ghost use Rattle.subset_args.specs.Request.{request_of, request_behind, request_plain, names_position, has_output, request_with, request_free, command_by_options, command_free, command_or, shown_of, shown_by, topic_of, first_topic, behind_first, single_command, is_batch, begins_batch, batch_of, command};
 ghost use Rattle.subset_args.specs.View.{chosen_view, free_view, requested_view, job_view, command_view};
 ghost use Rattle.subset_args.specs.declared.jobs.command.ArgsError.TheVariants.{Usage, OutOfMemory};
 
@@ -211,8 +211,47 @@ pub fn first_topic(words: &[String]) -> Option<(Topic, &[String])>
     }
 }
 
-/// What the arguments after the program's name request: `--axes [--json] FONT [INDEX]` or `--info` in its place, or
-/// `[OPTIONS] IN OUT INDEX GID[,GID..]`, where the last one is left out with an option that requests glyphs; or IN with options
+/// What arguments that don't begin with `--batch` request.
+fn read_single(alloc: Global, words: &[String]) -> Result<Command, ArgsError>
+    ensures ok { IfOk result (λ c. single_command (map (λ word. string_bytes word) words.now) ≡ Some (command_view c)) }
+    ensures err { IfErr result (λ e. (e ≡ OutOfMemory) ⊎ ((e ≡ Usage) × (single_command (map (λ word. string_bytes word) words.now) ≡ None))) }
+{
+    match first_topic(words) {
+        Some((topic, behind)) => read_topic(topic, behind),
+        None => read_either(alloc, words),
+    }
+}
+
+/// Whether an argument is `--batch`.
+pub fn is_batch(word: &str) -> bool
+    ensures { result ≡ is_batch word.now }
+{
+    word == "--batch"
+}
+
+/// Whether the first argument is `--batch`.
+pub fn begins_batch(words: &[String]) -> bool
+    ensures { result ≡ begins_batch (map (λ word. string_bytes word) words.now) }
+{
+    match words {
+        [] => false,
+        [word, ..] => is_batch(word),
+    }
+}
+
+/// What the arguments `--batch FILE` request.
+fn read_batch(words: &[String]) -> Result<Command, ArgsError>
+    ensures ok { IfOk result (λ c. batch_of (behind_first (map (λ word. string_bytes word) words.now)) ≡ Some (command_view c)) }
+    ensures err { IfErr result (λ e. (e ≡ OutOfMemory) ⊎ ((e ≡ Usage) × (batch_of (behind_first (map (λ word. string_bytes word) words.now)) ≡ None))) }
+{
+    match words {
+        [_, file] => Ok(Command::Batch(file.clone()?)),
+        _ => Err(ArgsError::Usage),
+    }
+}
+
+/// What the arguments after the program's name request: `--batch FILE`, `--axes [--json] FONT [INDEX]` or `--info` in its place,
+/// or `[OPTIONS] IN OUT INDEX GID[,GID..]`, where the last one is left out with an option that requests glyphs; or IN with options
 /// before and after it, where one gives OUT or the file of a PDF.
 ///
 /// `Usage` where an option is given twice or isn't followed by its value, where the count of the other arguments is another,
@@ -223,8 +262,9 @@ pub fn read_words(alloc: Global, words: &[String]) -> Result<Command, ArgsError>
     ensures ok { IfOk result (λ c. command (map (λ word. string_bytes word) words.now) ≡ Some (command_view c)) }
     ensures err { IfErr result (λ e. (e ≡ OutOfMemory) ⊎ ((e ≡ Usage) × (command (map (λ word. string_bytes word) words.now) ≡ None))) }
 {
-    match first_topic(words) {
-        Some((topic, behind)) => read_topic(topic, behind),
-        None => read_either(alloc, words),
+    if begins_batch(words) {
+        read_batch(words)
+    } else {
+        read_single(alloc, words)
     }
 }

@@ -3,7 +3,7 @@
 ghost use Rattle.std.specs.Prelude.{IfSome};
 ghost use Rattle.subset_args.specs.Mistakes.{IsWrong};
 
-use crate::jobs::reading::{first_topic, topic_of};
+use crate::jobs::reading::{begins_batch, first_topic, is_batch, topic_of};
 use crate::mistakes::mistake::{Mistake, Wrong, mistake_at};
 use crate::mistakes::plain::{
     is_no_option, wrong_behind_index, wrong_from_option, wrong_setting, wrong_topic,
@@ -71,6 +71,9 @@ fn wrong_argument<'a>(input: Option<&str>, word: &'a str) -> Option<Mistake<'a>>
 {
     if topic_of(word).is_some() {
         return mistake_at(Wrong::ShownLate, word);
+    }
+    if is_batch(word) {
+        return mistake_at(Wrong::BatchLate, word);
     }
     if looks_like_option(word) && is_no_option(word) {
         return mistake_at(Wrong::Unknown, word);
@@ -141,8 +144,19 @@ fn wrong_with_pdf(words: &[String]) -> Option<Mistake<'_>>
     }
 }
 
-/// What is wrong with arguments for which `read_words` answers `Usage`: the first mistake.
-pub fn find_mistake(words: &[String]) -> Option<Mistake<'_>>
+/// What is wrong with arguments that begin with `--batch`.
+fn wrong_batch(words: &[String]) -> Option<Mistake<'_>>
+    ensures { IfSome result (λ m. IsWrong m.wrong m.word.now) }
+{
+    match words {
+        [_, _, word, ..] => mistake_at(Wrong::BehindBatch, word),
+        [_, _] => None,
+        _ => mistake_at(Wrong::NoBatchFile, ""),
+    }
+}
+
+/// What is wrong with arguments that don't begin with `--batch`.
+fn wrong_single(words: &[String]) -> Option<Mistake<'_>>
     ensures { IfSome result (λ m. IsWrong m.wrong m.word.now) }
 {
     match first_topic(words) {
@@ -150,5 +164,16 @@ pub fn find_mistake(words: &[String]) -> Option<Mistake<'_>>
         None if names_output(words) => wrong_free(Chosen::NOTHING, None, words),
         None if requests_pdf(words) => wrong_with_pdf(words),
         None => wrong_from_option(Chosen::NOTHING, words),
+    }
+}
+
+/// What is wrong with arguments for which `read_words` answers `Usage`: the first mistake.
+pub fn find_mistake(words: &[String]) -> Option<Mistake<'_>>
+    ensures { IfSome result (λ m. IsWrong m.wrong m.word.now) }
+{
+    if begins_batch(words) {
+        wrong_batch(words)
+    } else {
+        wrong_single(words)
     }
 }

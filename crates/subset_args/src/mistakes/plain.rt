@@ -5,7 +5,7 @@ ghost use Rattle.subset_args.specs.Mistakes.{IsWrong};
 ghost use Rattle.subset_args.specs.Options.{kind_of};
 ghost use Rattle.subset_args.specs.declared.options.names.Kind.TheVariants.{Place};
 
-use crate::jobs::reading::topic_of;
+use crate::jobs::reading::{is_batch, topic_of};
 use crate::mistakes::mistake::{Mistake, Wrong, mistake_at};
 use crate::mistakes::values::{
     wrong_coding, wrong_face_index, wrong_glyph, wrong_index, wrong_rest, wrong_rights,
@@ -23,6 +23,9 @@ fn late_option(words: &[String]) -> Option<Mistake<'_>>
         match kind_of(word) {
             Kind::Place if topic_of(word).is_some() => {
                 return mistake_at(Wrong::ShownLate, word);
+            }
+            Kind::Place if is_batch(word) => {
+                return mistake_at(Wrong::BatchLate, word);
             }
             Kind::Place | Kind::End => {}
             _ => return mistake_at(Wrong::Late, word),
@@ -141,6 +144,9 @@ fn wrong_from_position<'a>(
 {
     if topic_of(word).is_some() {
         return mistake_at(Wrong::ShownLate, word);
+    }
+    if is_batch(word) {
+        return mistake_at(Wrong::BatchLate, word);
     }
     if looks_like_option(word) && is_no_option(word) {
         return mistake_at(Wrong::Unknown, word);

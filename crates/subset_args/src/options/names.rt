@@ -97,7 +97,7 @@ pub enum Kind {
 }
 
 /// The options with a name, in the order of the help.
-pub const OPTIONS: [&str; 25] = [
+pub const OPTIONS: [&str; 26] = [
     "--gids",
     "--gids-file",
     "--text",
@@ -121,6 +121,7 @@ pub const OPTIONS: [&str; 25] = [
     "--quiet",
     "--axes",
     "--info",
+    "--batch",
     "--help",
     "--version",
 ];

@@ -63,6 +63,10 @@ pub unmade_of_read : (plan : Plan) (known : Option (List ℕ)) (items bytes : Li
 unmade_of_read plan known items bytes (Ok outcome) h b m = tt
 unmade_of_read plan known items bytes (Err e) h b m = inr (no_outcome_kind plan bytes e m, known_of known items bytes (λ all. IsNoOutcome plan all e) h b m)
 
+-- nothing is made of known bytes
+pub unmade : (plan : Plan) (bytes : List ℕ) (failure : Failure) → IsNoOutcome plan bytes failure → IsFailureOf plan (Some bytes) failure
+unmade plan bytes failure h = inr (no_outcome_kind plan bytes failure h, h)
+
 making_before : (failure : Failure) → IsOfMaking failure → IsBeforeWriting failure
 making_before (Error e) h = tt
 making_before NoMapping h = tt

@@ -116,7 +116,7 @@ pub fn pdf_file(job: &Job) -> Option<&str>
 }
 
 /// The name of the file that lists the glyphs, if one does.
-fn list_file(glyphs: &Glyphs) -> Option<&str>
+pub fn list_file(glyphs: &Glyphs) -> Option<&str>
     ensures { option_copied result ≡ list_name glyphs.now }
 {
     match glyphs {
@@ -126,7 +126,7 @@ fn list_file(glyphs: &Glyphs) -> Option<&str>
 }
 
 /// The name of the file that a failure is of, if it is of one.
-fn file_by<'a>(failure: &Failure, job: &'a Job) -> Option<&'a str>
+pub fn file_by<'a>(failure: &Failure, job: &'a Job) -> Option<&'a str>
     ensures { option_copied result ≡ name_by failure.now job.now }
 {
     match failure {

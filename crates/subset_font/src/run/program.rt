@@ -3,11 +3,12 @@
 ghost use Rattle.std.specs.Prelude.{◌≡◌, ◌≤◌};
 ghost use Rattle.std.specs.Process.{exit_status};
 
+use crate::batch::running::run_batch;
 use crate::help::{HELP, VERSION_LINE};
 use crate::refusals::failure::Failure;
 use crate::run::job::run_job;
 use crate::run::reports::report;
-use crate::run::request::words;
+use crate::run::request::read_arguments;
 use crate::run::showing::{print_text, run_shown};
 use crate::streams::hold_streams;
 use std::process::{ExitCode, Termination};
@@ -15,7 +16,7 @@ use std::rt::{Env, Files};
 use subset_args::{Advice, ArgsError, Command, find_mistake, read_words};
 use subsetter::Error;
 
-/// The end of a run, with its status. Only `run` makes one, and it can't be dropped, so that `main` ends with no other
+/// The end of a run, with its status. Only `run_by` makes one, and it can't be dropped, so that `main` ends with no other
 /// status than the run's.
 pub struct Ended {
     status: u8,
@@ -50,6 +51,7 @@ fn run_words<R: Files + Print + Eprint + Input + AllocGlobal>(rt: &R, words: &[S
         Ok(Command::Help) => print_text(rt, HELP),
         Ok(Command::Version) => print_text(rt, VERSION_LINE),
         Ok(Command::Subset(job)) => run_job(rt, &job),
+        Ok(Command::Batch(file)) => run_batch(rt, &file),
         Ok(Command::Show(topic, json, input, index)) => run_shown(rt, topic, json, &input, index),
         Err(ArgsError::Usage) => refuse(rt, words),
         Err(ArgsError::OutOfMemory) => {
@@ -71,14 +73,24 @@ fn refuse_unread<R: Eprint>(rt: &R, failure: Failure) -> u8
     status
 }
 
+/// Runs the program by the arguments after its name, or by why they can't be read.
+pub fn run_by<R: Files + Print + Eprint + Input + AllocGlobal>(
+    rt: &R,
+    words: Result<Vec<String>, Failure>,
+) -> Ended
+    ensures { result.status ≤ 3 }
+{
+    let status = match words {
+        Ok(words) => run_words(rt, &words),
+        Err(failure) => refuse_unread(rt, failure),
+    };
+    Ended { status }
+}
+
 /// Runs the program, and answers its status: 0 where all is done, else the failure's.
 pub fn run<R: Env + Files + Print + Eprint + Input + AllocGlobal>(rt: &R) -> Ended
     ensures { result.status ≤ 3 }
 {
     let _held = hold_streams(rt);
-    let status = match words(rt) {
-        Ok(words) => run_words(rt, &words),
-        Err(failure) => refuse_unread(rt, failure),
-    };
-    Ended { status }
+    run_by(rt, read_arguments(rt))
 }

@@ -1,8 +1,8 @@
 //! What the arguments of a run request to be made.
 
-ghost use Rattle.std.specs.Prelude.{◌≡◌, ◌≢◌, ◌⊎◌, drop, IfErr, IfOk};
+ghost use Rattle.std.specs.Prelude.{◌≡◌, ◌⊎◌, drop, IfErr, IfOk};
 ghost use Rattle.std.specs.Vec.Iter.{into_iter_items};
-ghost use Rattle.subset_font.specs.Chosen.{IsListFor, kept_of, kept_by, kept_for, IsTaskOf, IsPlanOf};
+ghost use Rattle.subset_font.specs.Chosen.{IsListFor, IsUnlisted, kept_of, kept_by, kept_for, IsTaskOf, IsPlanOf};
 ghost use Rattle.subset_font.specs.declared.refusals.failure.Failure.TheVariants.{Error as Refused, Usage};
 ghost use Rattle.subsetter_base.specs.declared.error.Error.TheVariants.{OutOfMemory};
 
@@ -32,7 +32,7 @@ fn after_name(alloc: Global, all: env::Args) -> Result<Vec<String>, Failure>
 }
 
 /// The arguments after the program's name. One that isn't UTF-8 is a wrong argument.
-pub fn words<R: Env + AllocGlobal>(rt: &R) -> Result<Vec<String>, Failure>
+pub fn read_arguments<R: Env + AllocGlobal>(rt: &R) -> Result<Vec<String>, Failure>
     ensures { IfErr result (λ e. (e ≡ Refused OutOfMemory) ⊎ (e ≡ Usage)) }
 {
     match env::args(rt) {
@@ -50,7 +50,7 @@ fn read_list_file<R: Files + Input + AllocGlobal>(
     text: &mut Vec<u8>,
     reason: &mut Option<io::Error>,
 ) -> Result<GlyphList, Failure>
-    ensures { IfErr result (λ e. e ≢ Usage) }
+    ensures { IfErr result IsUnlisted }
 {
     let mut file = match open_source(rt, name) {
         Ok(file) => Noted::new(file),
@@ -81,7 +81,7 @@ pub fn list_of<R: Files + Input + AllocGlobal>(
     reason: &mut Option<io::Error>,
 ) -> Result<Option<GlyphList>, Failure>
     ensures ok { IfOk result (IsListFor glyphs.now) }
-    ensures err { IfErr result (λ e. e ≢ Usage) }
+    ensures err { IfErr result IsUnlisted }
 {
     match glyphs {
         Glyphs::InFile(kind, name) => Ok(Some(read_list_file(rt, *kind, name, text, reason)?)),

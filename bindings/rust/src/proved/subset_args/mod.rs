@@ -6,6 +6,7 @@
 //! ```text
 //! match read_words(alloc, &words)? {
 //!     Command::Subset(job) => ..,
+//!     Command::Batch(file) => ..,
 //!     Command::Help | Command::Version => ..,
 //! }
 //! ```
@@ -25,7 +26,7 @@ pub use jobs::reading::read_words;
 pub use limits::RunLimits;
 pub use listing::characters::codes_descend;
 pub use listing::files::{find_wrong, read_list};
-pub use listing::lists::{descends, FileKind, GlyphList};
+pub use listing::lists::{descends, is_blank, FileKind, GlyphList};
 pub use mistakes::free::find_mistake;
 pub use options::chosen::{PdfChoice, Switches};
 pub use options::names::Coding;

@@ -12,6 +12,7 @@ pub const HELP: &str = "usage: subset_font [OPTIONS] IN OUT INDEX GID[,GID..]
        subset_font [OPTIONS] IN --pdf FILE [OPTIONS]
        subset_font --axes [--json] IN [INDEX]
        subset_font --info [--json] IN [INDEX]
+       subset_font --batch FILE
 
 Writes a font with glyph 0 and the requested glyphs of IN,
 under new numbers from 1, and prints a line `old -> new`
@@ -99,6 +100,13 @@ What is printed:
                     glyphs and tables of IN, what its maker
                     permits, and whether a subset is made
                     of it
+  --batch FILE      must be the first argument: does what
+                    each line of FILE requests, a JSON
+                    object with the members in, out, index
+                    and the long options' names, and prints
+                    an object for each, like --json; - is
+                    standard input. Built by Cargo also with
+                    --jobs N: in N threads
   -h, --help        this text
   --version         the version
 
@@ -109,7 +117,8 @@ or a glyph is refused, may not be embedded, or memory ran
 out, 2 an argument is wrong, 3 a file can't be read or
 written. With --axes and --info: 0 it is printed, for --info
 also where a subset would be refused, 1 IN is no font, or
-with --axes its table fvar is cut.
+with --axes its table fvar is cut. With --batch: 1 a request
+failed, 2 FILE can't be read.
 
 Examples:
   subset_font DejaVuSans.ttf subset.ttf 0 36,37,38

@@ -5,8 +5,7 @@
 //! subset_font --widths DejaVuSans.ttf subset.ttf 0 36,37,38
 //! ```
 
-use crate::rattle::prelude::HostRuntime;
-
+mod batch;
 mod faces;
 mod help;
 mod making;
@@ -17,8 +16,10 @@ mod run;
 mod streams;
 mod task;
 
-use run::program::Ended;
-
-pub fn main(rt: HostRuntime) -> Ended {
-    run::program::run(&rt)
-}
+pub use batch::making::{answer_of, read_source};
+pub use batch::requests::{due, due_of, set_answer, Batch, Request, State};
+pub use batch::running::{read_batch, status_of_batch, AnswerLines};
+pub use refusals::failure::{Failure, Report};
+pub use run::program::{run_by, Ended};
+pub use run::request::read_arguments;
+pub use streams::{hold_streams, is_shown};

@@ -24,7 +24,7 @@ pub fn emit<P: Write, W: Write, L: Write>(
 }
 
 /// Writes the PDF, if there is one, and passes on what the writer keeps back.
-fn write_page<P: Write>(sheet: &Option<Sheet>, page: &mut P) -> Result<(), Failure> {
+pub fn write_page<P: Write>(sheet: &Option<Sheet>, page: &mut P) -> Result<(), Failure> {
     let sheet = match sheet {
         Some(sheet) => sheet,
         _ => {
@@ -38,7 +38,7 @@ fn write_page<P: Write>(sheet: &Option<Sheet>, page: &mut P) -> Result<(), Failu
 }
 
 /// Writes the font, and passes on what the writer keeps back.
-fn write_font<W: Write>(font: &[u8], output: &mut W) -> Result<(), Failure> {
+pub fn write_font<W: Write>(font: &[u8], output: &mut W) -> Result<(), Failure> {
     if output.write_all(font).is_err() || output.flush().is_err() {
         return Err(Failure::Write);
     }
@@ -46,7 +46,11 @@ fn write_font<W: Write>(font: &[u8], output: &mut W) -> Result<(), Failure> {
 }
 
 /// Writes the new numbers.
-fn write_numbers<L: Write>(outcome: &Outcome, form: Form, lines: &mut L) -> Result<(), Failure> {
+pub fn write_numbers<L: Write>(
+    outcome: &Outcome,
+    form: Form,
+    lines: &mut L,
+) -> Result<(), Failure> {
     let made = &outcome.made;
     let numbering = Numbering {
         characters: &made.picked.characters,

@@ -18,7 +18,7 @@ mod objects;
 mod plain;
 mod text;
 
-pub use entry::{take_first, Numbering};
+pub use entry::{take_first, Numbering, Unwritten};
 pub use faces::axes::{name_of, read_axes, write_axes, FontAxes};
 pub use faces::info::face::Info;
 pub use faces::info::json::write_info_json;
@@ -31,3 +31,4 @@ pub use objects::json::{json_numbers, write_json};
 pub use objects::members::json_members;
 pub use objects::pdf::json_pdf;
 pub use plain::write_lines;
+pub use text::write_text;

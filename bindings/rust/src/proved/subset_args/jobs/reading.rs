@@ -178,8 +178,37 @@ pub fn first_topic(words: &[String]) -> Option<(Topic, &[String])> {
     }
 }
 
-/// What the arguments after the program's name request: `--axes [--json] FONT [INDEX]` or `--info` in its place, or
-/// `[OPTIONS] IN OUT INDEX GID[,GID..]`, where the last one is left out with an option that requests glyphs; or IN with options
+/// What arguments that don't begin with `--batch` request.
+fn read_single(alloc: Global, words: &[String]) -> Result<Command, ArgsError> {
+    match first_topic(words) {
+        Some((topic, behind)) => read_topic(topic, behind),
+        None => read_either(alloc, words),
+    }
+}
+
+/// Whether an argument is `--batch`.
+pub fn is_batch(word: &str) -> bool {
+    word == "--batch"
+}
+
+/// Whether the first argument is `--batch`.
+pub fn begins_batch(words: &[String]) -> bool {
+    match words {
+        [] => false,
+        [word, ..] => is_batch(word),
+    }
+}
+
+/// What the arguments `--batch FILE` request.
+fn read_batch(words: &[String]) -> Result<Command, ArgsError> {
+    match words {
+        [_, file] => Ok(Command::Batch(file.clone()?)),
+        _ => Err(ArgsError::Usage),
+    }
+}
+
+/// What the arguments after the program's name request: `--batch FILE`, `--axes [--json] FONT [INDEX]` or `--info` in its place,
+/// or `[OPTIONS] IN OUT INDEX GID[,GID..]`, where the last one is left out with an option that requests glyphs; or IN with options
 /// before and after it, where one gives OUT or the file of a PDF.
 ///
 /// `Usage` where an option is given twice or isn't followed by its value, where the count of the other arguments is another,
@@ -187,8 +216,9 @@ pub fn first_topic(words: &[String]) -> Option<(Topic, &[String])> {
 /// numbers that fit `u32` and `u8`, or the depth is 0, where standard input is to be read twice, where OUT and a PDF are one
 /// file, or where an option says how a PDF is made and there is none.
 pub fn read_words(alloc: Global, words: &[String]) -> Result<Command, ArgsError> {
-    match first_topic(words) {
-        Some((topic, behind)) => read_topic(topic, behind),
-        None => read_either(alloc, words),
+    if begins_batch(words) {
+        read_batch(words)
+    } else {
+        read_single(alloc, words)
     }
 }

@@ -3,7 +3,7 @@
 
 use crate::rattle::prelude::String;
 
-use crate::proved::subset_args::jobs::reading::{first_topic, topic_of};
+use crate::proved::subset_args::jobs::reading::{begins_batch, first_topic, is_batch, topic_of};
 use crate::proved::subset_args::mistakes::mistake::{mistake_at, Mistake, Wrong};
 use crate::proved::subset_args::mistakes::plain::{
     is_no_option, wrong_behind_index, wrong_from_option, wrong_setting, wrong_topic,
@@ -63,6 +63,9 @@ fn wrong_behind_end<'a>(
 fn wrong_argument<'a>(input: Option<&str>, word: &'a str) -> Option<Mistake<'a>> {
     if topic_of(word).is_some() {
         return mistake_at(Wrong::ShownLate, word);
+    }
+    if is_batch(word) {
+        return mistake_at(Wrong::BatchLate, word);
     }
     if looks_like_option(word) && is_no_option(word) {
         return mistake_at(Wrong::Unknown, word);
@@ -133,12 +136,30 @@ fn wrong_with_pdf(words: &[String]) -> Option<Mistake<'_>> {
     }
 }
 
-/// What is wrong with arguments for which `read_words` answers `Usage`: the first mistake.
-pub fn find_mistake(words: &[String]) -> Option<Mistake<'_>> {
+/// What is wrong with arguments that begin with `--batch`.
+fn wrong_batch(words: &[String]) -> Option<Mistake<'_>> {
+    match words {
+        [_, _, word, ..] => mistake_at(Wrong::BehindBatch, word),
+        [_, _] => None,
+        _ => mistake_at(Wrong::NoBatchFile, ""),
+    }
+}
+
+/// What is wrong with arguments that don't begin with `--batch`.
+fn wrong_single(words: &[String]) -> Option<Mistake<'_>> {
     match first_topic(words) {
         Some((_, behind)) => wrong_topic(behind),
         None if names_output(words) => wrong_free(Chosen::NOTHING, None, words),
         None if requests_pdf(words) => wrong_with_pdf(words),
         None => wrong_from_option(Chosen::NOTHING, words),
+    }
+}
+
+/// What is wrong with arguments for which `read_words` answers `Usage`: the first mistake.
+pub fn find_mistake(words: &[String]) -> Option<Mistake<'_>> {
+    if begins_batch(words) {
+        wrong_batch(words)
+    } else {
+        wrong_single(words)
     }
 }

@@ -20,6 +20,12 @@ pub enum Wrong {
     Late,
     /// It is `--axes` or `--info`, and isn't the first argument.
     ShownLate,
+    /// The FILE of `--batch` is missing.
+    NoBatchFile,
+    /// It is one argument too many after `--batch FILE`.
+    BehindBatch,
+    /// It is `--batch`, and isn't the first argument.
+    BatchLate,
     /// It looks like an option, and is none.
     Unknown,
     /// It is an option that was given before.

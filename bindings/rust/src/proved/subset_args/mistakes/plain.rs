@@ -3,7 +3,7 @@
 
 use crate::rattle::prelude::String;
 
-use crate::proved::subset_args::jobs::reading::topic_of;
+use crate::proved::subset_args::jobs::reading::{is_batch, topic_of};
 use crate::proved::subset_args::mistakes::mistake::{mistake_at, Mistake, Wrong};
 use crate::proved::subset_args::mistakes::values::{
     wrong_coding, wrong_face_index, wrong_glyph, wrong_index, wrong_rest, wrong_rights,
@@ -19,6 +19,9 @@ fn late_option(words: &[String]) -> Option<Mistake<'_>> {
         match kind_of(word) {
             Kind::Place if topic_of(word).is_some() => {
                 return mistake_at(Wrong::ShownLate, word);
+            }
+            Kind::Place if is_batch(word) => {
+                return mistake_at(Wrong::BatchLate, word);
             }
             Kind::Place | Kind::End => {}
             _ => return mistake_at(Wrong::Late, word),
@@ -124,6 +127,9 @@ fn wrong_from_position<'a>(
 ) -> Option<Mistake<'a>> {
     if topic_of(word).is_some() {
         return mistake_at(Wrong::ShownLate, word);
+    }
+    if is_batch(word) {
+        return mistake_at(Wrong::BatchLate, word);
     }
     if looks_like_option(word) && is_no_option(word) {
         return mistake_at(Wrong::Unknown, word);

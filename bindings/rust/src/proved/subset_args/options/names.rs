@@ -95,7 +95,7 @@ pub enum Kind {
 }
 
 /// The options with a name, in the order of the help.
-pub const OPTIONS: [&str; 25] = [
+pub const OPTIONS: [&str; 26] = [
     "--gids",
     "--gids-file",
     "--text",
@@ -119,6 +119,7 @@ pub const OPTIONS: [&str; 25] = [
     "--quiet",
     "--axes",
     "--info",
+    "--batch",
     "--help",
     "--version",
 ];

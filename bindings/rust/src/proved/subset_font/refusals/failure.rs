@@ -98,7 +98,7 @@ pub fn pdf_file(job: &Job) -> Option<&str> {
 }
 
 /// The name of the file that lists the glyphs, if one does.
-fn list_file(glyphs: &Glyphs) -> Option<&str> {
+pub fn list_file(glyphs: &Glyphs) -> Option<&str> {
     match glyphs {
         Glyphs::InFile(_, name) => Some(name.as_str()),
         _ => None,
@@ -106,7 +106,7 @@ fn list_file(glyphs: &Glyphs) -> Option<&str> {
 }
 
 /// The name of the file that a failure is of, if it is of one.
-fn file_by<'a>(failure: &Failure, job: &'a Job) -> Option<&'a str> {
+pub fn file_by<'a>(failure: &Failure, job: &'a Job) -> Option<&'a str> {
     match failure {
         Failure::Read => Some(job.input.as_str()),
         Failure::ReadList => list_file(&job.glyphs),

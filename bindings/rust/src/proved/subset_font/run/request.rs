@@ -26,7 +26,7 @@ fn after_name(alloc: Global, all: env::Args) -> Result<Vec<String>, Failure> {
 }
 
 /// The arguments after the program's name. One that isn't UTF-8 is a wrong argument.
-pub fn words<R: Env + AllocGlobal>(rt: &R) -> Result<Vec<String>, Failure> {
+pub fn read_arguments<R: Env + AllocGlobal>(rt: &R) -> Result<Vec<String>, Failure> {
     match env::args(rt) {
         Ok(all) => after_name(rt.alloc(), all),
         Err(e) if e.kind() == ErrorKind::OutOfMemory => Err(Failure::Error(Error::OutOfMemory)),

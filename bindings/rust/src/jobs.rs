@@ -1,0 +1,176 @@
+//! The program, with `--jobs N` beside `--batch FILE`: the requests of a source are done in N threads. These share the source
+//! and the requests, which no call changes; each does one request after another by the call that does it without threads.
+//! One thread sets the answers and writes them, so that they are the same for each N.
+
+use crate::host::process::{ExitCode, Termination};
+use crate::host::rt::{AllocGlobal, Eprint, HostRuntime};
+use crate::proved::subset_args::Shown;
+use crate::proved::subset_font::{
+    answer_of, due, due_of, hold_streams, is_shown, read_arguments, read_batch, read_source,
+    run_by, set_answer, status_of_batch, AnswerLines, Batch, Ended, Failure, Report, Request, State,
+};
+use crate::proved::subsetter::Error;
+use crate::rattle::io::{self, BufWriter, Write};
+use crate::rattle::prelude::String;
+use std::sync::atomic::{AtomicUsize, Ordering};
+use std::sync::mpsc;
+use std::thread::{self, Builder};
+use std::vec::Vec;
+
+/// The options that belong together, and the most threads.
+const BATCH: &str = "--batch";
+const JOBS: &str = "--jobs";
+const MOST: usize = 64;
+
+/// How a run ended: as one without threads, or by its status.
+pub enum End {
+    /// Without threads.
+    Run(Ended),
+    /// A batch in threads.
+    Status(u8),
+}
+
+impl Termination for End {
+    fn report<R: Eprint>(self, rt: &R) -> ExitCode {
+        match self {
+            End::Run(ended) => ended.report(rt),
+            End::Status(status) => ExitCode::from(status),
+        }
+    }
+}
+
+/// Runs the program.
+pub fn main(rt: HostRuntime) -> End {
+    let _held = hold_streams(&rt);
+    let words = read_arguments(&rt);
+    match words.as_ref().map(|words| jobs_in(words)) {
+        Ok(Some((file, number))) => End::Status(run_jobs(&rt, file, number)),
+        _ => End::Run(run_by(&rt, words)),
+    }
+}
+
+/// FILE and N, where the arguments are `--batch FILE` and `--jobs N`.
+fn jobs_in(words: &[String]) -> Option<(&str, &str)> {
+    match words {
+        [batch, file, jobs, number] | [jobs, number, batch, file]
+            if batch.as_str() == BATCH && jobs.as_str() == JOBS =>
+        {
+            Some((file.as_str(), number.as_str()))
+        }
+        _ => None,
+    }
+}
+
+/// How many threads a number means.
+fn count_of(number: &str) -> Option<usize> {
+    if !number.bytes().all(|byte| byte.is_ascii_digit()) {
+        return None;
+    }
+    let count = number.parse().ok()?;
+    (1..=MOST).contains(&count).then_some(count)
+}
+
+/// Reports a wrong N, and answers the status.
+fn refuse(rt: &HostRuntime, number: &str) -> u8 {
+    let failure = &Failure::Usage;
+    let _ = eprintln!(rt; "{}", Report { failure, file: None });
+    let _ = eprintln!(rt; "{}: \"{}\" is not a number", JOBS, Shown(number));
+    let _ = eprintln!(rt; "expected: a number from 1 to {}", MOST);
+    failure.status()
+}
+
+/// Does what the lines of FILE request in N threads, and answers the status.
+fn run_jobs(rt: &HostRuntime, file: &str, number: &str) -> u8 {
+    let count = match count_of(number) {
+        Some(count) => count,
+        None => return refuse(rt, number),
+    };
+    match read_batch(rt, file) {
+        Ok(batch) => run_requests(rt, batch, count),
+        Err(status) => status,
+    }
+}
+
+/// Does the requests of a batch, and answers the status.
+fn run_requests(rt: &HostRuntime, batch: Batch, count: usize) -> u8 {
+    let is_shown = is_shown(rt);
+    let lines = match BufWriter::new(rt.alloc(), io::writer(rt)) {
+        Ok(lines) => lines,
+        Err(_) => {
+            let ended = Err(Failure::Error(Error::OutOfMemory));
+            return status_of_batch(rt, &ended, false, false);
+        }
+    };
+    let Batch {
+        requests,
+        mut states,
+    } = batch;
+    let mut answers = AnswerLines::new(lines, is_shown);
+    let ended = answer_all(rt, &requests, &mut states, count, &mut answers);
+    status_of_batch(rt, &ended, answers.has_failed(), is_shown)
+}
+
+/// Does all requests, source by source, and writes the answers.
+fn answer_all<W: Write>(
+    rt: &HostRuntime,
+    requests: &[Request],
+    states: &mut [State],
+    count: usize,
+    answers: &mut AnswerLines<W>,
+) -> Result<(), Failure> {
+    answers.write_ready(rt, requests, states)?;
+    for first in 0..requests.len() {
+        if let Some(job) = due(requests, states, first) {
+            let input = job.input.as_str();
+            let of_source = |index: &usize| due_of(requests, states, *index, input).is_some();
+            let indexes: Vec<usize> = (first..requests.len()).filter(of_source).collect();
+            answer_source(rt, requests, states, input, &indexes, count, answers)?;
+        }
+    }
+    Ok(())
+}
+
+/// Does the requests of these indexes, which are of one source, in so many threads, and writes the answers as they come. Where
+/// an answer can't be written no request is begun behind those that are under way. Where the system has no thread left, those
+/// that there are do all.
+fn answer_source<W: Write>(
+    rt: &HostRuntime,
+    requests: &[Request],
+    states: &mut [State],
+    input: &str,
+    indexes: &[usize],
+    count: usize,
+    answers: &mut AnswerLines<W>,
+) -> Result<(), Failure> {
+    let source = read_source(rt, input);
+    let next = AtomicUsize::new(0);
+    let (send, receive) = mpsc::channel();
+    let work = |send: mpsc::Sender<_>| {
+        while let Some(&index) = indexes.get(next.fetch_add(1, Ordering::Relaxed)) {
+            if let Some(job) = &requests[index].job {
+                if send.send((index, answer_of(rt, &source, job))).is_err() {
+                    return;
+                }
+            }
+        }
+    };
+    thread::scope(|scope| {
+        let work = &work;
+        let mut is_one_there = false;
+        for _ in 0..count.min(indexes.len()) {
+            let send = send.clone();
+            let made = Builder::new().spawn_scoped(scope, move || work(send));
+            is_one_there = is_one_there || made.is_ok();
+        }
+        if is_one_there {
+            drop(send);
+        } else {
+            work(send);
+        }
+        for (index, answer) in receive {
+            set_answer(states, index, answer);
+            answers.write_ready(rt, requests, states)?;
+        }
+        Ok(())
+    })
+}

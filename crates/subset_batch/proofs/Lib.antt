@@ -1,0 +1,5 @@
+pub mod Appends
+pub mod Loop
+pub mod Texts
+pub mod Again
+pub mod Requests

@@ -1,0 +1,9 @@
+pub mod Bytes
+pub mod Numbers
+pub mod Members
+pub mod Reading
+pub mod Words
+pub mod Lines
+pub mod Written
+pub mod Answers
+pub mod View

@@ -1,0 +1,107 @@
+-- The answers of a batch, and the requests of the lines so far.
+use Rattle.std.proofs.Common.{◌≡◌, ◌⊎◌, inl, inr, ℕ, List, [], ◌∷◌, ◌++◌, Option, Some, None, Result, Ok, Err, refl, sym, subst, ◌∙◌, append_assoc, append-nil}
+use Rattle.std.specs.Prelude.{IfOk, IfErr, Vec, string_bytes}
+use Rattle.std.specs.Global.{Global}
+use Rattle.std.specs.Option.{option_map}
+use Rattle.subset_args.specs.Request.{lists_in_stream, PdfRequest}
+use Rattle.subset_args.specs.View.{requested_view, pdf_view}
+use Rattle.subset_args.specs.declared.jobs.command.Glyphs.{Glyphs}
+use Rattle.subset_args.specs.declared.jobs.command.Glyphs.TheVariants.{Listed, Characters, InFile, ByText, Every}
+use Rattle.subset_args.specs.declared.jobs.command.Job.{Job}
+use Rattle.subset_args.specs.declared.jobs.command.PdfJob.{PdfJob}
+use Rattle.subset_args.specs.declared.listing.lists.GlyphList.{GlyphList}
+use Rattle.subsetter_base.specs.declared.error.Error.TheVariants.{OutOfMemory}
+use Rattle.subset_font.specs.Batch.Answers.{IsFailedWith}
+use Rattle.subset_font.specs.Batch.Making.{IsDone, IsUndone, named_text, message_of, IsAnswer}
+use Rattle.subset_font.specs.Batch.Orders.{is_given_stream}
+use Rattle.subset_font.specs.Batch.Requests.{IsBegun, AddsLine, AreBegun, none, one_more}
+use Rattle.subset_font.specs.Chosen.{IsPlanOf}
+use Rattle.subset_font.specs.Files.{list_name, name_by}
+use Rattle.subset_font.specs.Making.Carried.{IsFailureOf, WritesAll}
+use Rattle.subset_font.specs.Refusals.Failure.{status_of}
+use Rattle.subset_font.specs.Refusals.Texts.{failure_text}
+use Rattle.subset_font.specs.declared.batch.answers.Answer.{Answer}
+use Rattle.subset_font.specs.declared.batch.answers.Answer.TheVariants.{Done, Failed, NoMemory}
+use Rattle.subset_font.specs.declared.batch.requests.Batch.{Batch}
+use Rattle.subset_font.specs.declared.batch.requests.Request.{Request}
+use Rattle.subset_font.specs.declared.batch.requests.State.{State}
+use Rattle.subset_font.specs.declared.refusals.failure.Failure.{Failure}
+use Rattle.subset_font.specs.declared.refusals.failure.Failure.TheVariants.{Error, NoMapping, NoInstance, NotPermitted, Usage, List as WrongList, Read, ReadList, Write, WritePdf, Output}
+use Rattle.subset_font.specs.declared.task.Plan.{Plan}
+use Rattle.subset_font.proofs.RefusalsLaws.Failing.{unmade}
+
+-- ---- what a line requests
+
+pub list_stream : (glyphs : Glyphs) → lists_in_stream (requested_view glyphs) ≡ is_given_stream (list_name glyphs)
+list_stream (Listed glyphs) = refl
+list_stream Every = refl
+list_stream (Characters found) = refl
+list_stream (InFile kind name) = refl
+list_stream (ByText text) = refl
+
+pub pdf_stream : (pdf : Option PdfJob) → is_given_stream (option_map (λ (p : PdfRequest). p.file) (option_map pdf_view pdf)) ≡ is_given_stream (option_map (λ (p : PdfJob). string_bytes p.file) pdf)
+pdf_stream (Some pdf) = refl
+pdf_stream None = refl
+
+-- ---- answers
+
+pub done_of : (bytes : List ℕ) (job : Job) (list : Option GlyphList) (plan : Plan) (result : Result (Vec ℕ Global) Failure) (page_old page_new old new : Option (List ℕ)) → IsPlanOf job list plan → IfOk result (λ object. WritesAll plan (Some bytes) page_old page_new old new (Some []) (Some object.items)) → IfOk result (λ object. IsDone bytes job object.items)
+done_of bytes job list plan (Ok object) page_old page_new old new p w = record { list = list; plan = plan; is_plan = p; outcome = w.outcome; is_made = w.is_made; is_printed = w.is_reported }
+done_of bytes job list plan (Err failure) page_old page_new old new p w = tt
+
+undone : (bytes : List ℕ) (job : Job) (list : Option GlyphList) (plan : Plan) (failure : Failure) → IsPlanOf job list plan → IsFailureOf plan (Some bytes) failure ⊎ ((failure ≡ WritePdf) ⊎ (failure ≡ Write)) → IsUndone bytes job failure
+undone bytes job list plan failure p (inl why) = inr (inl (record { list = list; plan = plan; is_plan = p; why = why }))
+undone bytes job list plan failure p (inr unwritten) = inr (inr unwritten)
+
+pub undone_of : (bytes : List ℕ) (job : Job) (list : Option GlyphList) (plan : Plan) (result : Result (Vec ℕ Global) Failure) → IsPlanOf job list plan → IfErr result (λ e. IsFailureOf plan (Some bytes) e ⊎ ((e ≡ WritePdf) ⊎ (e ≡ Write))) → IfErr result (IsUndone bytes job)
+undone_of bytes job list plan (Ok object) p why = tt
+undone_of bytes job list plan (Err failure) p why = undone bytes job list plan failure p why
+
+-- memory ran out
+pub no_memory : (plan : Plan) (bytes : List ℕ) (failure : Failure) → failure ≡ Error OutOfMemory → IsFailureOf plan (Some bytes) failure
+no_memory plan bytes failure h = unmade plan bytes failure (inl h)
+
+-- the words for a failure, but for those of a list
+pub message_is : (failure : Failure) (job : Job) → (failure ≡ WrongList → ⊥) → named_text (failure_text failure) (name_by failure job) ≡ message_of failure job
+message_is (Error e) job h = refl
+message_is NoMapping job h = refl
+message_is NoInstance job h = refl
+message_is (NotPermitted permission) job h = refl
+message_is Usage job h = refl
+message_is WrongList job h = absurd (h refl)
+message_is Read job h = refl
+message_is ReadList job h = refl
+message_is Write job h = refl
+message_is WritePdf job h = refl
+message_is Output job h = refl
+
+pub failed_answer : (bytes : List ℕ) (job : Job) (failure : Failure) (answer : Answer) → IsUndone bytes job failure → IsFailedWith (status_of failure) (message_of failure job) answer → IsAnswer bytes job answer
+failed_answer bytes job failure (Done object) why h = elim h [ ]
+failed_answer bytes job failure (Failed status text) why h = record { failure = failure; why = why; status_is = h.0; text_is = h.1 }
+failed_answer bytes job failure NoMemory why h = tt
+
+-- ---- requests
+
+pub adds_line : (line : ℕ × List ℕ) (old new : Batch) (job : Option Job) (state : State) → IsBegun old.requests.items line.1 job state → new.requests.items ≡ old.requests.items ++ (record { line = line.0; job = job }) ∷ [] → new.states.items ≡ old.states.items ++ state ∷ [] → AddsLine line old new
+adds_line line old new job state begun requests states = record { job = job; state = state; is_begun = begun; requests = requests; states = states }
+
+-- these are left of all lines
+pub record AreSoFar (left all : List (ℕ × List ℕ)) (requests : List Request) (states : List State) : Type 0 where
+  pub lines : List (ℕ × List ℕ)
+  pub are_begun : AreBegun lines requests states
+  pub whole : lines ++ left ≡ all
+
+pub so_far_first : (all : List (ℕ × List ℕ)) → AreSoFar all all [] []
+so_far_first all = record { lines = []; are_begun = none; whole = refl }
+
+pub so_far_next : (line : ℕ × List ℕ) (left all : List (ℕ × List ℕ)) (old new : Batch) → AreSoFar (line ∷ left) all old.requests.items old.states.items → AddsLine line old new → AreSoFar left all new.requests.items new.states.items
+so_far_next line left all old new h a =
+    let next = one_more h.lines old.requests.items old.states.items line a.job a.state h.are_begun a.is_begun in
+    record {
+      lines = h.lines ++ line ∷ [];
+      are_begun = subst (λ (states : List State). AreBegun (h.lines ++ line ∷ []) new.requests.items states) (sym a.states) (subst (λ (requests : List Request). AreBegun (h.lines ++ line ∷ []) requests (old.states.items ++ a.state ∷ [])) (sym a.requests) next);
+      whole = append_assoc h.lines (line ∷ []) left ∙ h.whole;
+    }
+
+pub so_far_last : (all : List (ℕ × List ℕ)) (requests : List Request) (states : List State) → AreSoFar [] all requests states → AreBegun all requests states
+so_far_last all requests states h = subst (λ (lines : List (ℕ × List ℕ)). AreBegun lines requests states) (sym (append-nil h.lines) ∙ h.whole) h.are_begun

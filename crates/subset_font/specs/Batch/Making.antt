@@ -1,0 +1,79 @@
+-- What a request of a batch makes of its source, and its answer.
+use Rattle.std.specs.Prelude.{◌≡◌, ◌⊎◌, ℕ, List, ◌++◌, Option, Some, None, Result, Ok, Err, Vec, codes, string_bytes}
+use Rattle.std.specs.Global.{Global}
+use Rattle.subset_args.specs.declared.jobs.command.Job.{Job}
+use Rattle.subset_args.specs.declared.listing.lists.GlyphList.{GlyphList}
+use Rattle.subset_font.specs.Chosen.{IsUnlisted, IsPlanOf}
+use Rattle.subset_font.specs.Files.{list_name, name_by}
+use Rattle.subset_font.specs.Making.Outcome.{IsOutcome}
+use Rattle.subset_font.specs.Making.Carried.{IsFailureOf}
+use Rattle.subset_font.specs.Refusals.Failure.{status_of}
+use Rattle.subset_font.specs.Refusals.Texts.{failure_text}
+use Rattle.subset_font.specs.Report.{report_of}
+use Rattle.subset_font.specs.Batch.Answers.{IsFailedWith}
+use Rattle.subset_font.specs.declared.task.Plan.{Plan}
+use Rattle.subset_font.specs.declared.making.outcome.Outcome.{Outcome}
+use Rattle.subset_font.specs.declared.refusals.failure.Failure.{Failure}
+use Rattle.subset_font.specs.declared.refusals.failure.Failure.TheVariants.{Error, NoMapping, NoInstance, NotPermitted, Usage, List as WrongList, Read, ReadList, Write, WritePdf, Output}
+use Rattle.subset_font.specs.declared.batch.answers.Answer.{Answer}
+use Rattle.subset_font.specs.declared.batch.answers.Answer.TheVariants.{Done, Failed, NoMemory}
+
+-- ---- a request is done on the bytes of its source, or isn't
+
+-- the object is what a run of its own prints, of what its plan makes of these bytes
+pub record IsDone (bytes : List ℕ) (job : Job) (object : List ℕ) : Type 0 where
+  pub list : Option GlyphList
+  pub plan : Plan
+  pub is_plan : IsPlanOf job list plan
+  pub outcome : Outcome
+  pub is_made : IsOutcome plan bytes outcome
+  pub is_printed : object ≡ report_of plan.task.form outcome
+
+-- its plan makes nothing of them
+pub record IsRefusedJob (bytes : List ℕ) (job : Job) (failure : Failure) : Type 0 where
+  pub list : Option GlyphList
+  pub plan : Plan
+  pub is_plan : IsPlanOf job list plan
+  pub why : IsFailureOf plan (Some bytes) failure
+
+-- or it has no list of glyphs, or a file can't be written
+abbrev pub IsUndone : List ℕ → Job → Failure → Type 0
+IsUndone bytes job failure = IsUnlisted failure ⊎ (IsRefusedJob bytes job failure ⊎ ((failure ≡ WritePdf) ⊎ (failure ≡ Write)))
+
+-- ---- the answer
+
+-- with the name of the file that failed, if one did
+abbrev pub named_text : List ℕ → Option (List ℕ) → List ℕ
+named_text text None = text
+named_text text (Some name) = text ++ (codes " " ++ name)
+
+-- the first line of the message of a run that failed so; of one whose file of glyphs is no list, what is wrong with it
+abbrev pub message_of : Failure → Job → List ℕ
+message_of (Error e) job = failure_text (Error e)
+message_of NoMapping job = failure_text NoMapping
+message_of NoInstance job = failure_text NoInstance
+message_of (NotPermitted permission) job = failure_text (NotPermitted permission)
+message_of Usage job = failure_text Usage
+message_of WrongList job = named_text (codes "no list of glyphs in") (list_name job.glyphs)
+message_of Read job = named_text (failure_text Read) (name_by Read job)
+message_of ReadList job = named_text (failure_text ReadList) (name_by ReadList job)
+message_of Write job = named_text (failure_text Write) (name_by Write job)
+message_of WritePdf job = named_text (failure_text WritePdf) (name_by WritePdf job)
+message_of Output job = failure_text Output
+
+pub record HasFailed (bytes : List ℕ) (job : Job) (status : ℕ) (text : List ℕ) : Type 0 where
+  pub failure : Failure
+  pub why : IsUndone bytes job failure
+  pub status_is : status ≡ status_of failure
+  pub text_is : text ≡ message_of failure job
+
+-- the answer to a request on the bytes of its source
+abbrev pub IsAnswer : List ℕ → Job → Answer → Type 0
+IsAnswer bytes job (Done object) = IsDone bytes job object.items
+IsAnswer bytes job (Failed status text) = HasFailed bytes job status (string_bytes text)
+IsAnswer bytes job NoMemory = Unit {0}
+
+-- or on why these can't be read
+abbrev pub IsAnswerTo : Result (Vec ℕ Global) Failure → Job → Answer → Type 0
+IsAnswerTo (Ok font) job answer = IsAnswer font.items job answer
+IsAnswerTo (Err failure) job answer = IsFailedWith (status_of failure) (message_of failure job) answer

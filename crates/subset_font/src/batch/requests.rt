@@ -1,0 +1,230 @@
+//! The requests of a batch, and the answers to them.
+
+ghost use Rattle.std.specs.Prelude.{◌≡◌, OnOk, IfOk, is_some, slice_get, slice_set};
+ghost use Rattle.std.specs.Option.{option_copied};
+ghost use Rattle.subset_batch.specs.Lines.{request_lines};
+ghost use Rattle.subset_batch.specs.View.{line_view};
+ghost use Rattle.subset_font.specs.Batch.Requests.{is_of_name, writes, writes_if, is_written, is_written_if, is_named_before, IsFirst, IsBegun, AddsLine, AreBegun, due, of_source, answer_in};
+
+use crate::batch::answers::{Answer, failed};
+use crate::batch::orders::order_of;
+use crate::refusals::failure::{given, pdf_file};
+use std::alloc::{AllocError, Global};
+use subset_args::Job;
+use subset_batch::{Line, lines_of};
+
+/// The status of a request whose OUT a line before has named, as of wrong arguments.
+const NAMED_TWICE: u8 = 2;
+
+/// A request of a batch.
+#[derive(Drop)]
+pub struct Request {
+    /// The number of its line, from 1.
+    pub line: usize,
+    /// What it requests, unless its line is wrong.
+    pub job: Option<Job>,
+}
+
+/// How far a request is.
+#[derive(Drop)]
+pub enum State {
+    /// It is to be done.
+    Due,
+    /// It is answered.
+    Answered(Answer),
+    /// Its answer is written.
+    Written,
+}
+
+/// The requests of a batch in the order of their lines, and how far each is, at the same indexes.
+#[derive(Drop)]
+pub struct Batch {
+    pub requests: Vec<Request>,
+    pub states: Vec<State>,
+}
+
+/// Whether a file that may be given has this name.
+fn is_of_name(name: &str, file: Option<&str>) -> bool
+    ensures { result ≡ is_of_name name.now (option_copied file.entry) }
+{
+    match file {
+        Some(file) => file == name,
+        None => false,
+    }
+}
+
+/// Whether a request writes a file of this name.
+fn writes(job: &Job, name: &str) -> bool
+    ensures { result ≡ writes job.now name.now }
+{
+    is_of_name(name, given(&job.output)) || is_of_name(name, pdf_file(job))
+}
+
+/// Whether a request that may be wrong writes a file of this name.
+fn writes_if(job: &Option<Job>, name: &str) -> bool
+    ensures { result ≡ writes_if job.now name.now }
+{
+    match job {
+        Some(job) => writes(job, name),
+        None => false,
+    }
+}
+
+/// Whether one of the requests writes a file of this name.
+fn is_written(requests: &[Request], name: &str) -> bool
+    ensures { result ≡ is_written requests.now name.now }
+{
+    let mut rest = requests;
+    while let [request, behind @ ..] = rest {
+        if writes_if(&request.job, name) {
+            return true;
+        }
+        rest = behind;
+    }
+    false
+}
+
+/// This name, if one of the requests writes a file of it.
+fn if_written<'a>(before: &[Request], name: Option<&'a str>) -> Option<&'a str>
+    ensures { is_some result ≡ is_written_if before.now (option_copied name.entry) }
+{
+    match name {
+        Some(name) if is_written(before, name) => Some(name),
+        Some(_) => None,
+        None => None,
+    }
+}
+
+/// A file that a request writes, and one before does, too.
+fn named_before<'a>(before: &[Request], job: &'a Job) -> Option<&'a str>
+    ensures { is_some result ≡ is_named_before before.now job.now }
+{
+    match if_written(before, given(&job.output)) {
+        Some(name) => Some(name),
+        None => if_written(before, pdf_file(job)),
+    }
+}
+
+/// How far a request is before anything is made: that it fails is known where it writes a file which one before writes, too.
+fn first_state(alloc: Global, before: &[Request], job: &Job) -> State
+    ensures { IsFirst (is_named_before before.now job.now) result }
+{
+    match named_before(before, job) {
+        Some(name) => {
+            let text = format!(in alloc; "a line before names {name}, too");
+            State::Answered(failed(NAMED_TWICE, text))
+        }
+        None => State::Due,
+    }
+}
+
+/// The request of a line behind others, and how far it is.
+fn begin(alloc: Global, before: &[Request], line: &[u8]) -> (Option<Job>, State)
+    ensures { IsBegun before.now line.now result.0 result.1 }
+{
+    match order_of(alloc, line) {
+        Ok(job) => {
+            let state = first_state(alloc, before, &job);
+            (Some(job), state)
+        }
+        Err(answer) => (None, State::Answered(answer)),
+    }
+}
+
+/// Adds the request of a line.
+#[tactic(auto, using(crate::proofs::BatchLaws::adds_line))]
+fn push_line(alloc: Global, batch: &mut Batch, line: Line<'_>) -> Result<(), AllocError>
+    ensures { OnOk result (AddsLine (line_view line.entry) batch.old batch.new) }
+{
+    let (job, state) = begin(alloc, &batch.requests, line.bytes);
+    let line = line.number;
+    batch.requests.push(Request { line, job })?;
+    batch.states.push(state)?;
+    Ok(())
+}
+
+/// The requests of a file: one for each line that isn't blank, and how far it is: it is to be done unless it is wrong, or a
+/// line before it writes its file, too.
+#[tactic(auto, using(crate::proofs::BatchLaws::so_far_first, crate::proofs::BatchLaws::so_far_next, crate::proofs::BatchLaws::so_far_last))]
+pub fn requests_of(alloc: Global, file: &[u8]) -> Result<Batch, AllocError>
+    ensures { IfOk result (λ b. AreBegun (request_lines file.now) b.requests.items b.states.items) }
+{
+    let mut batch = Batch {
+        requests: Vec::new(alloc),
+        states: Vec::new(alloc),
+    };
+    let lines = lines_of(alloc, file)?;
+    let mut rest = lines.as_slice();
+    while let [line, behind @ ..] = rest {
+        push_line(alloc, &mut batch, *line)?;
+        rest = behind;
+    }
+    Ok(batch)
+}
+
+/// What the request of an index requests, if it is still to be done.
+pub fn due<'a>(requests: &'a [Request], states: &[State], index: usize) -> Option<&'a Job>
+    ensures { option_copied result ≡ due requests.now states.now index }
+{
+    match (requests.get(index), states.get(index)) {
+        (Some(request), Some(State::Due)) => match &request.job {
+            Some(job) => Some(job),
+            None => None,
+        },
+        (Some(_), Some(State::Answered(_))) => None,
+        (Some(_), Some(State::Written)) => None,
+        (Some(_), None) => None,
+        (None, _) => None,
+    }
+}
+
+/// The same if it is of this source.
+pub fn due_of<'a>(
+    requests: &'a [Request],
+    states: &[State],
+    index: usize,
+    input: &str,
+) -> Option<&'a Job>
+    ensures { option_copied result ≡ of_source input.now (due requests.now states.now index) }
+{
+    match due(requests, states, index) {
+        Some(job) if job.input.as_str() == input => Some(job),
+        Some(_) => None,
+        None => None,
+    }
+}
+
+/// Sets how far the request of an index is.
+fn set_state(states: &mut [State], index: usize, state: State)
+    ensures { states.new ≡ slice_set states.old index state }
+{
+    if index < states.len() {
+        states[index] = state;
+    }
+}
+
+/// Sets the answer to the request of an index.
+pub fn set_answer(states: &mut [State], index: usize, answer: Answer)
+    ensures { states.new ≡ slice_set states.old index (State.Answered answer) }
+{
+    set_state(states, index, State::Answered(answer));
+}
+
+/// Takes the answer to the request of an index as written.
+pub fn set_written(states: &mut [State], index: usize)
+    ensures { states.new ≡ slice_set states.old index State.Written }
+{
+    set_state(states, index, State::Written);
+}
+
+/// The answer to the request of an index, if there is one that isn't written.
+pub fn answer_at(states: &[State], index: usize) -> Option<&Answer>
+    ensures { option_copied result ≡ answer_in (slice_get states.now index) }
+{
+    match states.get(index) {
+        Some(State::Answered(answer)) => Some(answer),
+        Some(State::Due) => None,
+        Some(State::Written) => None,
+        None => None,
+    }
+}
