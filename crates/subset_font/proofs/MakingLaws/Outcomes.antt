@@ -2,9 +2,9 @@
 use Rattle.std.proofs.Common.{◌≡◌, ◌⊎◌, inl, inr, ℕ, List, map, Some, None, Result, Ok, Err, sym, ap, subst, ◌∙◌}
 use Rattle.std.specs.Prelude.{IfOk, IfErr}
 use Rattle.std.specs.Option.{option_copied}
-use Rattle.subsetter_base.specs.declared.error.Error.TheVariants.{OutOfMemory}
+use Rattle.subsetter_base.specs.declared.error.Error.TheVariants.{OutOfMemory, UnknownKind, MalformedFont}
 use Rattle.subset_font.specs.Making.Made.{face_of, IsMade, IsUnmade}
-use Rattle.subset_font.specs.Faces.Named.{face_settings, settings_refusal}
+use Rattle.subset_font.specs.Faces.Named.{face_settings}
 use Rattle.subset_font.specs.Making.Outcome.{more_text, names_for, IsTaskOfPlan, IsOutcome, IsNoOutcome}
 use Rattle.subset_font.specs.Making.Sheet.{IsSheetIf, IsUnshownIf}
 use Rattle.subset_font.specs.declared.task.Task.{Task}
@@ -12,7 +12,7 @@ use Rattle.subset_font.specs.declared.task.Plan.{Plan}
 use Rattle.subset_font.specs.declared.making.subset.Made.{Made}
 use Rattle.subset_font.specs.declared.making.outcome.Outcome.{Outcome}
 use Rattle.subset_font.specs.declared.refusals.failure.Failure.{Failure}
-use Rattle.subset_font.specs.declared.refusals.failure.Failure.TheVariants.{Error}
+use Rattle.subset_font.specs.declared.refusals.failure.Failure.TheVariants.{Error, NoInstance}
 
 module _ (plan : Plan) (bytes : List ℕ) where
   pub outcome_of : (task : Task) → IsTaskOfPlan plan bytes task → (made : Made) → IsMade task bytes made → (r : Result Outcome Failure) → IfOk r (λ o. o.made ≡ made) → IfOk r (λ o. IsSheetIf plan.pdf task bytes made o.sheet) → IfOk r (λ o. o.more.items ≡ more_text plan bytes made o.sheet) → IfOk r (λ o. map (λ name. name.items) o.names.items ≡ names_for plan bytes made.picked.glyphs.items) → IfOk r (IsOutcome plan bytes)
@@ -37,6 +37,6 @@ module _ (plan : Plan) (bytes : List ℕ) where
   pub unmade_of : (task : Task) → IsTaskOfPlan plan bytes task → (failure : Failure) → IsUnmade task bytes failure → IsNoOutcome plan bytes failure
   unmade_of task placed failure h = inr (inr (inl (record { task = task; is_placed = placed; is_unmade = h })))
 
-  pub unplaced_of : (name : List ℕ) (failure : Failure) → option_copied plan.instance ≡ Some name → (failure ≡ Error OutOfMemory) ⊎ ((failure ≡ settings_refusal (face_of plan.task bytes)) × (face_settings (face_of plan.task bytes) name ≡ None)) → IsNoOutcome plan bytes failure
+  pub unplaced_of : (name : List ℕ) (failure : Failure) → option_copied plan.instance ≡ Some name → (failure ≡ Error OutOfMemory) ⊎ (((failure ≡ Error UnknownKind) ⊎ ((failure ≡ Error MalformedFont) ⊎ (failure ≡ NoInstance))) × (face_settings (face_of plan.task bytes) name ≡ None)) → IsNoOutcome plan bytes failure
   unplaced_of name failure said (inl memory) = inl memory
   unplaced_of name failure said (inr h) = inr (inl (record { name = name; is_name = said; is_missing = h.1; failure_is = h.0 }))

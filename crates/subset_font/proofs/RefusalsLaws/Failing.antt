@@ -1,12 +1,11 @@
 -- Which failures there are where nothing is made.
-use Rattle.std.proofs.Common.{◌≡◌, ◌≢◌, ◌⊎◌, inl, inr, ℕ, Bool, true, false, List, Option, Some, None, Result, Ok, Err, sym, subst}
-use Rattle.std.specs.Prelude.{IfOk, IfErr, IfSome, OnOk, if◌then◌else◌, codes, is_some}
-use Rattle.subsetter_sfnt.specs.Read.{Font, header_offset, stored}
+use Rattle.std.proofs.Common.{◌≡◌, ◌≢◌, ◌⊎◌, inl, inr, ℕ, List, Option, Some, None, Result, Ok, Err, sym, subst}
+use Rattle.std.specs.Prelude.{IfOk, IfErr, IfSome, OnOk}
+use Rattle.subsetter_sfnt.specs.Read.{Font}
 use Rattle.subset_font.specs.Making.Requested.{IsUnasked}
-use Rattle.subsetter_base.specs.declared.error.Error.TheVariants.{MalformedFont}
+use Rattle.subsetter_base.specs.declared.error.Error.TheVariants.{UnknownKind, MalformedFont}
 use Rattle.subset_font.specs.Making.Made.{face_of, IsUnmade}
-use Rattle.subset_font.specs.Faces.Named.{records_of, refusal_by}
-use Rattle.subset_font.specs.Making.Outcome.{IsOutcome, IsUnplaced, IsNoOutcome}
+use Rattle.subset_font.specs.Making.Outcome.{IsOutcome, IsNoOutcome}
 use Rattle.subset_font.specs.Making.Carried.{IsOfMaking, IsFailureOf, IsBeforeWriting}
 use Rattle.subset_font.specs.declared.task.Task.{Task}
 use Rattle.subset_font.specs.declared.task.RequestedGlyphs.{RequestedGlyphs}
@@ -32,17 +31,10 @@ unmade_kind task bytes failure (inl memory) = subst IsOfMaking (sym memory) tt
 unmade_kind task bytes failure (inr (inl unasked)) = unasked_kind (face_of task bytes) task.requested failure unasked
 unmade_kind task bytes failure (inr (inr refused)) = subst IsOfMaking (sym refused.failure_is) tt
 
-refusal_kind : (fvar : Option (List ℕ)) (header : Option ℕ) → IsOfMaking (refusal_by fvar header)
-refusal_kind (Some bytes) header = by (is_some (records_of bytes))
-  where
-    by : (readable : Bool) → IsOfMaking (if readable then NoInstance else Error MalformedFont)
-    by true = tt
-    by false = tt
-refusal_kind None (Some offset) = tt
-refusal_kind None None = tt
-
-unplaced_kind : (plan : Plan) (bytes : List ℕ) (failure : Failure) → IsUnplaced plan bytes failure → IsOfMaking failure
-unplaced_kind plan bytes failure u = subst IsOfMaking (sym u.failure_is) (refusal_kind (stored (face_of plan.task bytes) (codes "fvar")) (header_offset (face_of plan.task bytes)))
+unplaced_kind : (failure : Failure) → (failure ≡ Error UnknownKind) ⊎ ((failure ≡ Error MalformedFont) ⊎ (failure ≡ NoInstance)) → IsOfMaking failure
+unplaced_kind failure (inl e) = subst IsOfMaking (sym e) tt
+unplaced_kind failure (inr (inl e)) = subst IsOfMaking (sym e) tt
+unplaced_kind failure (inr (inr e)) = subst IsOfMaking (sym e) tt
 
 sheet_error_kind : (why : SheetError) → IsOfMaking (failure_of why)
 sheet_error_kind (RefusedFont e) = tt
@@ -54,7 +46,7 @@ unshown_if_kind (Some choice) task bytes made failure u = subst IsOfMaking (sym 
 
 no_outcome_kind : (plan : Plan) (bytes : List ℕ) (failure : Failure) → IsNoOutcome plan bytes failure → IsOfMaking failure
 no_outcome_kind plan bytes failure (inl memory) = subst IsOfMaking (sym memory) tt
-no_outcome_kind plan bytes failure (inr (inl unplaced)) = unplaced_kind plan bytes failure unplaced
+no_outcome_kind plan bytes failure (inr (inl unplaced)) = unplaced_kind failure unplaced.failure_is
 no_outcome_kind plan bytes failure (inr (inr (inl unmade))) = unmade_kind unmade.task bytes failure unmade.is_unmade
 no_outcome_kind plan bytes failure (inr (inr (inr unshown))) = unshown_if_kind plan.pdf unshown.task bytes unshown.made failure unshown.is_unshown
 

@@ -5,16 +5,13 @@ use Rattle.std.specs.Int.{w32, cast_signed}
 use Rattle.std.specs.Option.{option_map, option_and_then}
 use Rattle.std.specs.Str.{bytes_eq}
 use Rattle.subsetter_base.specs.Bytes.{number}
-use Rattle.subsetter_base.specs.declared.error.Error.TheVariants.{UnknownKind, MalformedFont}
 use Rattle.subsetter_base.specs.declared.tag.Tag.{Tag}
-use Rattle.subsetter_sfnt.specs.Read.{Font, header_offset, stored}
+use Rattle.subsetter_sfnt.specs.Read.{Font, stored}
 use Rattle.subsetter_variation.specs.Locations.Axes.{axes}
 use Rattle.subsetter_variation.specs.declared.locations.axes.Axis.{Axis}
 use Rattle.subset_lines.specs.Faces.Axes.{instances}
 use Rattle.subset_lines.specs.Faces.Names.{name_of, text_of_units}
 use Rattle.subset_font.specs.Faces.Tables.{bytes_or_none}
-use Rattle.subset_font.specs.declared.refusals.failure.Failure.{Failure}
-use Rattle.subset_font.specs.declared.refusals.failure.Failure.TheVariants.{Error, NoInstance}
 
 -- the same name but for the case of ASCII letters
 abbrev pub is_same_name : List ℕ → List ℕ → Bool
@@ -53,19 +50,6 @@ instance_settings names name fvar = option_and_then (λ a. option_and_then (λ r
 abbrev pub face_settings : Font → List ℕ → Option (List (Tag × ℤ))
 face_settings font name = option_and_then (instance_settings (bytes_or_none (stored font (codes "name"))) name) (stored font (codes "fvar"))
 
--- the records of a `fvar` that can be read
-abbrev pub records_of : List ℕ → Option (List (List ℕ))
-records_of fvar = option_and_then (λ a. instances fvar) (axes fvar)
-
--- why a face has no such coordinates: its `fvar` is cut, or none of the instances has the name; without `fvar` it has none, if the file has it at all
-abbrev pub refusal_by : Option (List ℕ) → Option ℕ → Failure
-refusal_by (Some fvar) header = if is_some (records_of fvar) then NoInstance else Error MalformedFont
-refusal_by None (Some offset) = NoInstance
-refusal_by None None = Error UnknownKind
-
-abbrev pub settings_refusal : Font → Failure
-settings_refusal font = refusal_by (stored font (codes "fvar")) (header_offset font)
-
 -- ---- the line that lists the names
 
 -- a name behind a text, if there is one
@@ -86,6 +70,10 @@ names_behind before names (bytes ∷ more) = name_behind before (name_of names (
 abbrev pub line_of_names : List ℕ → List ℕ
 line_of_names [] = codes "the font has no named instances\n"
 line_of_names (b ∷ text) = (b ∷ text) ++ codes "\n"
+
+-- the records of a `fvar` that can be read
+abbrev pub records_of : List ℕ → Option (List (List ℕ))
+records_of fvar = option_and_then (λ a. instances fvar) (axes fvar)
 
 -- `named instances: Regular, Semi Bold`
 abbrev pub names_line : List ℕ → Option (List (List ℕ)) → List ℕ

@@ -2,7 +2,7 @@
 use Rattle.std.specs.Prelude.{◌≡◌, ◌⊎◌, ℕ, ℤ, Bool, if◌then◌else◌, List, [], ◌++◌, map, length, Option, Some, None, codes}
 use Rattle.std.specs.Borrow.{Bor}
 use Rattle.std.specs.Option.{option_copied}
-use Rattle.subsetter_base.specs.declared.error.Error.TheVariants.{OutOfMemory}
+use Rattle.subsetter_base.specs.declared.error.Error.TheVariants.{OutOfMemory, UnknownKind, MalformedFont}
 use Rattle.subsetter_base.specs.declared.tag.Tag.{Tag}
 use Rattle.subsetter_sfnt.specs.Read.{Font, as_font, records, stored}
 use Rattle.glyph_names.specs.Names.{glyph_name}
@@ -12,7 +12,7 @@ use Rattle.subset_lines.specs.declared.faces.sizes.TableSize.{TableSize}
 use Rattle.subset_font.specs.Faces.Axes.{axes_known}
 use Rattle.subset_font.specs.Making.Made.{face_of, IsMade, IsUnmade}
 use Rattle.subset_font.specs.Faces.Missing.{missing}
-use Rattle.subset_font.specs.Faces.Named.{face_settings, settings_refusal}
+use Rattle.subset_font.specs.Faces.Named.{face_settings}
 use Rattle.subset_font.specs.Notes.{notes_for}
 use Rattle.subset_font.specs.Making.Sheet.{pdf_text, IsSheetIf, IsUnshownIf}
 use Rattle.subset_pdf.specs.declared.sheet.Sheet.{Sheet}
@@ -24,7 +24,7 @@ use Rattle.subset_font.specs.declared.task.Form.TheVariants.{Lines, Json, Silenc
 use Rattle.subset_font.specs.declared.making.subset.Made.{Made}
 use Rattle.subset_font.specs.declared.making.outcome.Outcome.{Outcome}
 use Rattle.subset_font.specs.declared.refusals.failure.Failure.{Failure}
-use Rattle.subset_font.specs.declared.refusals.failure.Failure.TheVariants.{Error}
+use Rattle.subset_font.specs.declared.refusals.failure.Failure.TheVariants.{Error, NoInstance}
 
 -- ---- what is printed behind the numbers
 
@@ -77,12 +77,12 @@ pub record IsOutcome (plan : Plan) (bytes : List ℕ) (outcome : Outcome) : Type
   pub more_is : outcome.more.items ≡ more_text plan bytes outcome.made outcome.sheet
   pub names_are : map (λ name. name.items) outcome.names.items ≡ names_for plan bytes outcome.made.picked.glyphs.items
 
--- the font has no such instance, its `fvar` can't be read, or the file has no such font
+-- the font has no such instance, or its `fvar` can't be read
 pub record IsUnplaced (plan : Plan) (bytes : List ℕ) (failure : Failure) : Type 0 where
   pub name : List ℕ
   pub is_name : option_copied plan.instance ≡ Some name
   pub is_missing : face_settings (face_of plan.task bytes) name ≡ None
-  pub failure_is : failure ≡ settings_refusal (face_of plan.task bytes)
+  pub failure_is : (failure ≡ Error UnknownKind) ⊎ ((failure ≡ Error MalformedFont) ⊎ (failure ≡ NoInstance))
 
 -- or the task is refused
 pub record IsUnmadePlan (plan : Plan) (bytes : List ℕ) (failure : Failure) : Type 0 where

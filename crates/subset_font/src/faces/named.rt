@@ -3,10 +3,10 @@
 ghost use Rattle.std.specs.Prelude.{◌≡◌, ◌⊎◌, ◌++◌, map, drop, IfOk, IfErr, OnOk, Some, None, codes, is_some};
 ghost use Rattle.std.specs.Option.{option_copied, option_map};
 ghost use Rattle.subsetter_base.specs.Bytes.{number};
-ghost use Rattle.subsetter_base.specs.declared.error.Error.TheVariants.{OutOfMemory};
+ghost use Rattle.subsetter_base.specs.declared.error.Error.TheVariants.{OutOfMemory, UnknownKind, MalformedFont};
 ghost use Rattle.subsetter_sfnt.specs.Extras.{all_extras};
 ghost use Rattle.subsetter_sfnt.specs.Read.{header_offset, stored};
-ghost use Rattle.subset_font.specs.Faces.Named.{is_same_name, has_name, find_named, coordinate_in, settings_of, instance_settings, face_settings, settings_refusal, name_behind, before_next, names_behind, line_of_names, records_of, names_line, face_names};
+ghost use Rattle.subset_font.specs.Faces.Named.{is_same_name, has_name, find_named, coordinate_in, settings_of, instance_settings, face_settings, name_behind, before_next, names_behind, line_of_names, records_of, names_line, face_names};
 ghost use Rattle.subset_lines.specs.Faces.Names.{name_of};
 ghost use Rattle.subset_font.specs.Faces.Tables.{bytes_or_none};
 ghost use Rattle.subset_font.specs.declared.refusals.failure.Failure.TheVariants.{Error as Refused, NoInstance};
@@ -102,8 +102,8 @@ fn instance_settings(
 
 /// The coordinates of the named instance of a name, in 65536ths. Names are compared without the case of ASCII letters.
 ///
-/// `UnknownKind` where the file has no font at the index, `MalformedFont` where `fvar` is cut, else `NoInstance` where it has
-/// no such instance.
+/// `UnknownKind` where the file has no font at the index, `MalformedFont` where `fvar` is cut, `NoInstance` where it has no
+/// such instance.
 pub fn face_settings(
     alloc: Global,
     font: &[u8],
@@ -111,7 +111,7 @@ pub fn face_settings(
     name: &str,
 ) -> Result<Vec<(Tag, i32)>, Failure>
     ensures ok { IfOk result (λ v. face_settings (record { bytes = font.now; index = index; extras = all_extras }) name.now ≡ Some v.items) }
-    ensures err { IfErr result (λ e. (e ≡ Refused OutOfMemory) ⊎ ((e ≡ settings_refusal (record { bytes = font.now; index = index; extras = all_extras })) × (face_settings (record { bytes = font.now; index = index; extras = all_extras }) name.now ≡ None))) }
+    ensures err { IfErr result (λ e. (e ≡ Refused OutOfMemory) ⊎ (((e ≡ Refused UnknownKind) ⊎ ((e ≡ Refused MalformedFont) ⊎ (e ≡ NoInstance))) × (face_settings (record { bytes = font.now; index = index; extras = all_extras }) name.now ≡ None))) }
 {
     let Some(fvar) = table(font, index, Tag::new(b"fvar")) else {
         if header_offset(font, index).is_none() {
