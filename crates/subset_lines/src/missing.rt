@@ -1,7 +1,8 @@
 //! What is noted of characters that a font has no glyph for.
 
-ghost use Rattle.std.specs.Prelude.{◌≡◌, ◌++◌, [], OnOk, IfOk, codes, take};
+ghost use Rattle.std.specs.Prelude.{◌≡◌, ◌++◌, [], OnOk, IfOk, IsOk, codes, take};
 ghost use Rattle.std.specs.Io.KnownBytes.{Appends};
+ghost use Rattle.subset_lines.specs.Objects.Quoted.{quoted};
 ghost use Rattle.subset_lines.specs.Missing.{character_text, names_text, others_text, named_text, missing_text, missing_line, missing_string};
 
 use crate::entry::Unwritten;
@@ -97,20 +98,33 @@ fn missing_bytes(alloc: Global, characters: &[char]) -> Result<Vec<u8>, Unwritte
     Ok(text)
 }
 
-/// Writes the note as a JSON string behind a text; nothing where there are no characters.
+/// Writes the note as a JSON string behind a text.
 #[tactic(auto, using(crate::proofs::Written::both))]
+fn write_string<W: Write>(
+    alloc: Global,
+    before: &[u8],
+    characters: &[char],
+    out: &mut W,
+) -> Result<(), Unwritten>
+    ensures { OnOk result (Appends (W.contents out.old) (W.contents out.new) (before.now ++ quoted (missing_text characters.now))) }
+{
+    let text = missing_bytes(alloc, characters)?;
+    write_text(before, out)?;
+    write_quoted(&text, out)
+}
+
+/// Writes the note as a JSON string behind a text; nothing where there are no characters.
 pub fn write_missing_string<W: Write>(
     alloc: Global,
     before: &[u8],
     characters: &[char],
     out: &mut W,
 ) -> Result<(), Unwritten>
-    ensures { OnOk result (Appends (W.contents out.old) (W.contents out.new) (missing_string before.now characters.now)) }
+    ensures text { OnOk result (Appends (W.contents out.old) (W.contents out.new) (missing_string before.now characters.now)) }
+    ensures nothing { characters.now ≡ [] → IsOk result }
 {
-    if characters.is_empty() {
-        return Ok(());
+    match characters {
+        [] => Ok(()),
+        [_, ..] => write_string(alloc, before, characters, out),
     }
-    let text = missing_bytes(alloc, characters)?;
-    write_text(before, out)?;
-    write_quoted(&text, out)
 }

@@ -1,6 +1,6 @@
 //! A mistake, and what it says.
 
-ghost use Rattle.std.specs.Prelude.{IfSome};
+ghost use Rattle.std.specs.Prelude.{◌≡◌, IfSome, MatchOption};
 ghost use Rattle.subset_args.specs.Mistakes.{IsWrong};
 
 /// What is wrong with an argument, or with one of the values that it lists.
@@ -86,7 +86,8 @@ pub struct Mistake<'a> {
 /// A mistake in an argument.
 pub fn mistake_at(wrong: Wrong, word: &str) -> Option<Mistake<'_>>
     requires { IsWrong wrong word.now }
-    ensures { IfSome result (λ m. IsWrong m.wrong m.word.now) }
+    ensures wrong { IfSome result (λ m. IsWrong m.wrong m.word.now) }
+    ensures this { MatchOption result ⊥ (λ m. (m.wrong ≡ wrong) × (m.word.now ≡ word.now)) }
 {
     Some(Mistake { wrong, word })
 }

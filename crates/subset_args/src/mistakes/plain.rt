@@ -1,6 +1,6 @@
 //! What is wrong with `--axes` or `--info` and what follows, and with IN, OUT and INDEX behind options.
 
-ghost use Rattle.std.specs.Prelude.{◌≡◌, ◌≢◌, IfSome, IsTrue};
+ghost use Rattle.std.specs.Prelude.{◌≡◌, ◌≢◌, ◌<◌, IfSome, IsTrue, MatchOption, Some, length, map, slice_get, string_bytes};
 ghost use Rattle.subset_args.specs.Mistakes.{IsWrong};
 ghost use Rattle.subset_args.specs.Options.{kind_of};
 ghost use Rattle.subset_args.specs.declared.options.names.Kind.TheVariants.{Place};
@@ -91,7 +91,9 @@ pub fn wrong_behind_index<'a>(
     output: Option<&str>,
     words: &'a [String],
 ) -> Option<Mistake<'a>>
-    ensures { IfSome result (λ m. IsWrong m.wrong m.word.now) }
+    ensures wrong { IfSome result (λ m. IsWrong m.wrong m.word.now) }
+    // Of several arguments the second is one too many.
+    ensures further { 1 < length words.now → MatchOption result ⊥ (λ m. (m.wrong ≡ Wrong.Further) × (Some m.word.now ≡ slice_get (map (λ word. string_bytes word) words.now) 1)) }
 {
     let mistake = match (chosen.source, words) {
         (None, []) => mistake_at(Wrong::NoGlyphs, ""),

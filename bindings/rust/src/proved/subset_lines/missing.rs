@@ -75,6 +75,18 @@ fn missing_bytes(alloc: Global, characters: &[char]) -> Result<Vec<u8>, Unwritte
     Ok(text)
 }
 
+/// Writes the note as a JSON string behind a text.
+fn write_string<W: Write>(
+    alloc: Global,
+    before: &[u8],
+    characters: &[char],
+    out: &mut W,
+) -> Result<(), Unwritten> {
+    let text = missing_bytes(alloc, characters)?;
+    write_text(before, out)?;
+    write_quoted(&text, out)
+}
+
 /// Writes the note as a JSON string behind a text; nothing where there are no characters.
 pub fn write_missing_string<W: Write>(
     alloc: Global,
@@ -82,10 +94,8 @@ pub fn write_missing_string<W: Write>(
     characters: &[char],
     out: &mut W,
 ) -> Result<(), Unwritten> {
-    if characters.is_empty() {
-        return Ok(());
+    match characters {
+        [] => Ok(()),
+        [_, ..] => write_string(alloc, before, characters, out),
     }
-    let text = missing_bytes(alloc, characters)?;
-    write_text(before, out)?;
-    write_quoted(&text, out)
 }
