@@ -1,5 +1,5 @@
 -- The requested glyphs, from the lowest to the highest.
-use Rattle.std.proofs.Common.{◌≡◌, ℕ, zero, suc, ◌+◌, ◌<◌, ◌≤◌, false, List, [], ◌∷◌, ◌++◌, length, get_or, Option, Some, None, inl, inr, ◌⊎◌, refl, sym, ap, ◌∙◌, arith}
+use Rattle.std.proofs.Common.{◌≡◌, ℕ, ◌+◌, ◌<◌, ◌≤◌, List, [], ◌∷◌, ◌++◌, length, get_or, inl, inr, ◌⊎◌, subst, ◌∙◌, arith}
 use Rattle.std.specs.Prelude.{Contains}
 use Rattle.std.specs.List.Sorted.{IsPermutation, IsSorted}
 use Rattle.std.specs.Ordering.{nat_cmp}
@@ -9,7 +9,7 @@ use Rattle.std.proofs.lemmas.List.Sorted.{IsNonDecreasingBy-from_sort, Contains-
 use Rattle.subsetter_base.specs.Indexes.{index_of}
 use Rattle.subsetter_base.proofs.GlyphLemmas.{known, index-Contains}
 use Rattle.subsetter_base.proofs.Options.{none_of}
-use Rattle.subsetter_instance.specs.Tables.Requested.{IsGap, IsNext, IsEnd, IsOrder}
+use Rattle.subsetter_instance.specs.Tables.Requested.{IsGap, IsOrder}
 
 -- two gaps in turn
 gaps : (glyphs : List ℕ) (from mid to : ℕ) → IsGap glyphs from mid → IsGap glyphs mid to → IsGap glyphs from to
@@ -41,6 +41,13 @@ order_end glyphs n m from (x ∷ order) o le gap =
 -- the glyphs that were looked at are below a number, or none of the font's
 abbrev pub AreSeen : List ℕ → ℕ → ℕ → ℕ → Type 0
 AreSeen sorted next count k = (j : ℕ) → j < k → (get_or sorted j 0 < next) ⊎ (count ≤ get_or sorted j 0)
+
+-- one more of them
+pub seen_more : (sorted : List ℕ) (next later count k : ℕ) → AreSeen sorted next count k → next ≤ later → (get_or sorted k 0 < later) ⊎ (count ≤ get_or sorted k 0) → AreSeen sorted later count (k + 1)
+seen_more sorted next later count k seen le here j lt = elim (cases_lt j k) [
+  | inl before ↦ elim (seen j before) [ inl below ↦ inl (omega arith) | inr past ↦ inr past ]
+  | inr after ↦ let same : k ≡ j = omega arith in subst (λ (i : ℕ). (get_or sorted i 0 < later) ⊎ (count ≤ get_or sorted i 0)) same here
+]
 
 -- so those between that number and the next glyph weren't requested
 pub gap_before : (glyphs sorted : List ℕ) (next count k to : ℕ) → IsPermutation glyphs sorted → IsSorted nat_cmp sorted → AreSeen sorted next count k → to ≤ count → ((j : ℕ) → k ≤ j → j < length sorted → to ≤ get_or sorted j 0) → IsGap glyphs next to

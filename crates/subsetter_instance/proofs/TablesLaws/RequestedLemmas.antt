@@ -1,5 +1,5 @@
 -- Tables that are written by the requested glyphs alone.
-use Rattle.std.proofs.Common.{◌≡◌, ℕ, zero, suc, ◌+◌, ◌-◌, ◌*◌, ◌<◌, ◌≤◌, List, [], ◌∷◌, ◌++◌, length, get_or, take, drop, map, replicate, Option, Some, None, refl, sym, ap, subst, ◌∙◌, append_assoc, append-nil, arith}
+use Rattle.std.proofs.Common.{◌≡◌, ℕ, zero, suc, ◌+◌, ◌-◌, ◌*◌, ◌<◌, ◌≤◌, List, [], ◌∷◌, ◌++◌, length, get_or, take, drop, map, replicate, Option, None, refl, sym, ap, subst, ◌∙◌, append_assoc, append-nil, arith}
 use Rattle.std.specs.Prelude.{slice_get}
 use Rattle.std.specs.List.{flat_map, range_with_len}
 use Rattle.std.specs.Option.{option_and_then}
@@ -145,7 +145,7 @@ hmtx_next glyphs ds n g order w r v m size len i s l grown is pair =
     let from = i.from in
     let above = i.rest.0.above in
     let rest = pairs (all_from glyphs ds n (g + 1)) in
-    let zeros = replicate (4 * (g - from)) 0 in
+    let zeros : List ℕ = replicate (4 * (g - from)) 0 in
     let now : r ≡ w ++ zeros = filled w r from g size len i.size l s above grown in
     let four : length (metric_bytes (drawn_metric (glyph_among glyphs ds g))) ≡ 4 = refl in
     record {

@@ -1,4 +1,4 @@
-use Rattle.std.proofs.Common.{◌≡◌, ◌++◌, ◌≤◌, drop}
+use Rattle.std.proofs.Common.{◌≡◌, ◌++◌, drop}
 use Rattle.subsetter_sfnt.specs.Fields.Loca.{loca_bytes}
 use Rattle.subsetter_instance.specs.Tables.Requested.{offsets_by}
 use Rattle.subsetter_instance.proofs.tables.offsets.loca.Given as goal

@@ -6,6 +6,6 @@ use Rattle.subsetter_instance.proofs.tables.requested.requested_in_order.Given a
 abbrev pub invariant-loop-glyph : goal.invariant-loop-glyph
 invariant-loop-glyph l = record {
   order : IsOrder l.mapper l.next 0 l.order.items;
-  seen : AreSeen l.sorted.items l.next l.count l.glyph-index;
+  seen : AreSeen l.glyph-items l.next l.count l.glyph-index;
   small : l.next ≤ l.count;
 }

@@ -15,7 +15,7 @@ loop-glyph-preserved c =
       written = outlines_more among c.args.order.now w c.write_outline.new.glyf.items _ _ k g c.loop-glyph-test.true refl c.in_ok-write_outline.ensures.ok here c.loop-glyph.invariant.written;
       starts =
           starts_more among c.args.order.now c.loop-glyph.starts.items c.push.new.self.items _ (length w) (length c.write_outline.new.glyf.items) k g c.loop-glyph-test.true refl (c.in_ok-push.ensures.items ∙ ap (λ n. c.loop-glyph.starts.items ++ n ∷ []) (omega (arith, c.len.ensures, c.loop-glyph.glyf.ok.0)))
-          (omega (arith, ap length c.in_ok-write_outline.ensures.ok, length-append w (outline_bytes (among g)), ap length here)) c.loop-glyph.invariant.starts;
+          (omega (arith, ap length (c.in_ok-write_outline.ensures.ok ∙ ap (λ b. w ++ b) here), length-append w (outline_bytes (among g)))) c.loop-glyph.invariant.starts;
     }
 
 pub returns-clause-glyf : goal.returns-clause-glyf

@@ -1,4 +1,4 @@
-use Rattle.std.proofs.Common.{get_or, refl, sym, ap, ◌∙◌, arith}
+use Rattle.std.proofs.Common.{get_or, refl, ap, ◌∙◌, arith}
 use Rattle.subsetter_sfnt.specs.Fields.Hmtx.{metric_bytes}
 use Rattle.subsetter_instance.specs.Tables.Written.{drawn_metric}
 use Rattle.subsetter_instance.proofs.TablesLaws.RequestedLemmas.{hmtx_start, hmtx_more, hmtx_end}
@@ -16,4 +16,4 @@ loop-glyph-preserved c =
 pub returns-clause-ok : goal.returns-clause-ok
 returns-clause-ok c =
     hmtx_end c.args.mapper.now c.args.drawn.now c.args.count c.loop-glyph.glyph-index c.args.order.now c.loop-glyph.hmtx.items c.resize-2.new.self.items _ _
-    (omega (arith, c.loop-glyph-test.false)) c.loop-glyph.invariant (omega (arith, c.from.ensures)) c.loop-glyph.hmtx.ok.0 c.in_ok-resize-2.ensures.items
+    (omega (arith, c.loop-glyph-test.false)) c.loop-glyph.invariant (omega (arith, c.from-size.ensures)) c.loop-glyph.hmtx.ok.0 c.in_ok-resize-2.ensures.items
