@@ -4,4 +4,6 @@ pub mod extremes;
 pub mod file;
 pub mod headers;
 pub mod lines;
+pub mod offsets;
+pub mod requested;
 pub mod writing;

@@ -2,7 +2,8 @@
 use Rattle.std.proofs.Common.{◌≡◌, ℕ, zero, suc, ◌+◌, ◌-◌, ◌*◌, ◌<◌, ◌≤◌, ◌^◌, ℤ, pos, ◌+ℤ◌, unsigned_abs, Bool, true, false, List, [], ◌∷◌, ◌++◌, length, get_or, take, drop, map, All, refl, sym, ap, ◌∙◌, arith}
 use Rattle.std.specs.Prelude.{◌&&◌}
 use Rattle.std.specs.List.{range_with_len}
-use Rattle.std.proofs.lemmas.List.{drop_more, take_rest}
+use Rattle.std.proofs.lemmas.List.{drop_more, drop-drop}
+use Rattle.std.proofs.lemmas.Nat.{mul-le}
 use Rattle.std.proofs.lemmas.List.Elements.{All-head, All-tail}
 use Rattle.std.proofs.lemmas.Bool.{le-leb, leb-true}
 use Rattle.subsetter_blend.specs.Runs.Blend.{share, varied, result_at}
@@ -54,13 +55,33 @@ vary_more default value sum s scalar delta ss ds k a b same p q r t =
     ∙ sym (varied_step value ss ds k a b)
     ∙ same
 
+-- only as many deltas count as there are scalars
+pub varied_front : (v : ℤ) (ss ds : List ℤ) → varied v ss (take (length ss) ds) ≡ varied v ss ds
+varied_front v [] ds = refl
+varied_front v (s ∷ ss) [] = refl
+varied_front v (s ∷ ss) (d ∷ ds) = varied_front (v +ℤ share s d) ss ds
+
+-- the deltas of each default are there
+pub room_for : (n i count m : ℕ) → i < n → n * count ≤ m → i * count + count ≤ m
+room_for n i count m lt le =
+    let more : (i + 1) * count ≤ n * count = mul-le (i + 1) count n count (omega arith) (omega arith) in
+    let sum : (i + 1) * count ≡ i * count + count = grind arith in
+    omega arith
+
+-- behind the deltas of the default numbered i are those of the next one
+pub rest_more : (rest behind ds : List ℤ) (i count : ℕ) → rest ≡ drop (i * count) ds → behind ≡ drop count rest → behind ≡ drop ((i + 1) * count) ds
+rest_more rest behind ds i count r b =
+    let sum : i * count + count ≡ (i + 1) * count = grind arith in
+    b ∙ ap (drop count) r ∙ drop-drop count (i * count) ds ∙ ap (λ (n : ℕ). drop n ds) sum
+
 -- what is computed of the default numbered i is its result
-pub result_is : (ss old now ds : List ℤ) (i count : ℕ) (r : ℤ) → count ≡ length ss → get_or now i (pos 0) ≡ get_or old i (pos 0)
-    → r ≡ varied (get_or now i (pos 0)) ss (take (length ds - i * count) (drop (i * count) ds)) → r ≡ result_at ss old ds i
-result_is ss old now ds i count r n e h =
+pub result_is : (ss old now ds rest own : List ℤ) (i count : ℕ) (r : ℤ) → count ≡ length ss → get_or now i (pos 0) ≡ get_or old i (pos 0)
+    → rest ≡ drop (i * count) ds → own ≡ take count rest → r ≡ varied (get_or now i (pos 0)) ss own → r ≡ result_at ss old ds i
+result_is ss old now ds rest own i count r n e at o h =
     h
-    ∙ ap (λ (xs : List ℤ). varied (get_or now i (pos 0)) ss xs) (take_rest ds (i * count))
-    ∙ ap (λ (z : ℤ). varied z ss (drop (i * count) ds)) e
+    ∙ ap (λ (z : ℤ). varied z ss own) e
+    ∙ ap (λ (xs : List ℤ). varied (get_or old i (pos 0)) ss xs) (o ∙ ap (take count) at ∙ ap (λ (k : ℕ). take k (drop (i * count) ds)) n)
+    ∙ varied_front (get_or old i (pos 0)) ss (drop (i * count) ds)
     ∙ ap (λ (k : ℕ). varied (get_or old i (pos 0)) ss (drop (i * k) ds)) n
 
 pub within_from : (z : ℤ) → is_within z ≡ true → IsWithin z

@@ -41,18 +41,17 @@ pub fn plus(sum: i64, more: i64) -> i64
     sum + more
 }
 
-/// A default with the shares of its deltas, one for each of so many regions.
+/// A default with the shares of its deltas, one for each region.
 #[inline(always)]
-fn vary<R: Regions>(default: i64, regions: &R, data_index: u16, count: usize, deltas: &[i64]) -> i64
-    requires few { count ≤ 513 }
-    requires regions { count ≡ length (scalars_in (R.scalars regions.now data_index)) }
-    requires deltas { count ≤ length deltas.now }
+fn vary<R: Regions>(default: i64, regions: &R, data_index: u16, deltas: &[i64]) -> i64
+    requires few { length deltas.now ≤ 513 }
+    requires regions { length deltas.now ≡ length (scalars_in (R.scalars regions.now data_index)) }
     requires default { unsigned_abs default ≤ 2 ^ 45 }
     requires within { All IsWithin deltas.now }
     ensures { result ≡ varied default (scalars_in (R.scalars regions.now data_index)) deltas.now }
 {
     let mut value = default;
-    for k in 0..count {
+    for k in 0..deltas.len() {
         value = plus(value, share(regions.scalar(data_index, k), deltas[k]));
     }
     value
@@ -75,18 +74,15 @@ fn vary_each<R: Regions>(
     ensures within { All IsWithin defaults.new }
     ensures err { IfErr result (λ e. (e ≡ Error.OverflowError) × (are_within (results (scalars_in (R.scalars regions.now data_index)) defaults.old deltas.now) ≡ false)) }
 {
+    let mut rest = deltas;
     for i in 0..defaults.len() {
-        let value = vary(
-            defaults[i],
-            regions,
-            data_index,
-            count,
-            &deltas[i * count..],
-        );
+        let (own, behind) = rest.split_at(count);
+        let value = vary(defaults[i], regions, data_index, own);
         if !is_within(value) {
             return Err(Error::OverflowError);
         }
         defaults[i] = value;
+        rest = behind;
     }
     Ok(())
 }

@@ -1,10 +1,8 @@
 -- Bytes that are written in turn.
-use Rattle.std.proofs.Common.{◌≡◌, ℕ, ◌+◌, ◌-◌, ◌%◌, List, [], ◌∷◌, ◌++◌, length, Option, Some, None, refl, sym, ap, ◌∙◌, inl, inr, append_assoc, arith}
-use Rattle.std.specs.Prelude.{IsTrue, replicate, map, codes}
-use Rattle.std.specs.List.{range_with_len}
+use Rattle.std.proofs.Common.{◌≡◌, ℕ, ◌-◌, ◌%◌, List, [], ◌∷◌, ◌++◌, length, Option, Some, None, refl, sym, ap, ◌∙◌, inl, inr, append_assoc, arith}
+use Rattle.std.specs.Prelude.{IsTrue, replicate, codes}
 use Rattle.std.proofs.lemmas.Bool.{cases_lt}
-use Rattle.std.proofs.lemmas.List.{append-nil, length-append, map_push}
-use Rattle.std.proofs.lemmas.List.FromFn.{map-range_with_len_more}
+use Rattle.std.proofs.lemmas.List.{append-nil, length-append}
 use Rattle.subsetter_base.specs.Bytes.{aligned}
 use Rattle.subsetter_points.specs.declared.outline.Point.{Point}
 use Rattle.subsetter_points.specs.Simple.{parts_bytes, parts_fit, simple_bytes, contours}
@@ -32,10 +30,6 @@ padded_even out new es ps start end fits s is e even =
     let same : (end - start) % 2 ≡ 0 = elim (cases_lt ((end - start) % 2) 1) [ inl lt ↦ omega arith | inr le ↦ absurd (even (omega arith)) ] in
     let none : (2 - length p % 2) % 2 ≡ 0 = omega (arith, s, e, ap length written, length-append out p, same) in
     written ∙ ap (λ x. out ++ x) (sym (append-nil p)) ∙ ap (λ n. out ++ (p ++ replicate n 0)) (sym none)
-
--- one more of what a list is in order of its places
-pub mapped_more : {X Y : Type 0} (f : X → Y) (h : ℕ → Y) (xs : List X) (k : ℕ) (x : X) → map f xs ≡ map h (range_with_len 0 k) → f x ≡ h k → map f (xs ++ x ∷ []) ≡ map h (range_with_len 0 (k + 1))
-mapped_more f h xs k x e is = map_push f xs x ∙ ap (λ ys. ys ++ f x ∷ []) e ∙ ap (λ y. map h (range_with_len 0 k) ++ y ∷ []) is ∙ sym (map-range_with_len_more h 0 k k (omega arith))
 
 -- the tables, each with its bytes
 pub font_made : (find : List ℕ → Option (List ℕ)) (head hhea : List ℕ) (n : ℕ) (ds : List Drawn) (all : List (Option Drawn)) (t : FontTables) (g h hh m l p : List ℕ) (name post : Option (List ℕ))

@@ -17,6 +17,8 @@ ghost use Rattle.subsetter_instance.specs.Tables.Written.{by_glyph, glyf_bytes, 
 use crate::glyphs::drawn::Drawn;
 use crate::source::Source;
 use crate::tables::lines::Lines;
+use crate::tables::offsets::loca;
+use crate::tables::requested::requested_in_order;
 use crate::tables::{headers, writing};
 use std::alloc::Global;
 use subsetter_base::{Error, GlyphRemapper, Tag};
@@ -55,11 +57,12 @@ fn new_tables(
     ensures maxp { IfOk result (λ t. t.maxp.items ≡ maxp_bytes count drawn.now) }
     ensures err { IfErr result (λ e. e ≡ OutOfMemory) }
 {
-    let all = writing::by_glyph(alloc, mapper, drawn, count)?;
-    let outlines = writing::all_outlines(alloc, &all)?;
-    let hmtx = writing::hmtx(alloc, &all)?;
+    let order = requested_in_order(alloc, mapper, count)?;
+    let outlines = writing::all_outlines(alloc, mapper, drawn, &order)?;
+    let hmtx = writing::hmtx(alloc, mapper, drawn, count, &order)?;
+    let end = outlines.glyf.len();
     let long = writing::is_long(&outlines.glyf);
-    let loca = writing::loca(alloc, long, &outlines.offsets)?;
+    let loca = loca(alloc, long, count, &order, &outlines.starts, end)?;
     let head = headers::head(alloc, head, long, drawn)?;
     let hhea = headers::hhea(alloc, hhea, count, drawn)?;
     let maxp = headers::maxp(alloc, count, drawn)?;

@@ -1,19 +1,19 @@
-//! The tables of outlines and metrics of an instance (OpenType, "glyf", "loca" and "hmtx").
+//! The tables of outlines and metrics of an instance (OpenType, "glyf" and "hmtx").
 //!
 //! Each glyph of the font has its entry, in the order of the font. One that wasn't requested has no bytes in `glyf`, and the metric 0 and 0.
 
-ghost use Rattle.std.specs.Prelude.{◌≡◌, ◌++◌, IfOk, IfErr, OnOk, length, map};
+ghost use Rattle.std.specs.Prelude.{◌≡◌, ◌++◌, IfOk, IfErr, OnOk};
 ghost use Rattle.std.specs.Option.{option_copied};
 ghost use Rattle.subsetter_base.specs.declared.error.Error.TheVariants.{OutOfMemory};
 ghost use Rattle.subsetter_base.specs.Indexes.{index_of};
-ghost use Rattle.subsetter_instance.specs.Tables.Written.{by_glyph, glyph_among, outline_bytes, glyf_bytes, offsets_from, is_long, drawn_metric, hmtx_of};
-ghost use Rattle.subsetter_sfnt.specs.Fields.Loca.{loca_bytes};
+ghost use Rattle.subsetter_instance.specs.Tables.Requested.{IsOrder, outlines_by, starts_by};
+ghost use Rattle.subsetter_instance.specs.Tables.Written.{by_glyph, glyph_among, outline_bytes, is_long, drawn_metric, hmtx_of};
 
 use crate::glyphs::drawn::Drawn;
 use std::alloc::Global;
 use subsetter_base::{Error, GlyphRemapper};
 use subsetter_sfnt::fields::hmtx::{LONG_HOR_METRIC_SIZE, LongHorMetric};
-use subsetter_sfnt::fields::loca::{OFFSET16_MAX, OFFSET32_SIZE, write_offset};
+use subsetter_sfnt::fields::loca::OFFSET16_MAX;
 
 /// What is drawn of a glyph, if it was requested.
 fn glyph_among<'a>(mapper: &GlyphRemapper, drawn: &'a [Drawn], glyph: u16) -> Option<&'a Drawn>
@@ -21,23 +21,6 @@ fn glyph_among<'a>(mapper: &GlyphRemapper, drawn: &'a [Drawn], glyph: u16) -> Op
 {
     let place = mapper.get(glyph)?;
     drawn.get(usize::from(place))
-}
-
-/// What is drawn of each of so many glyphs.
-pub fn by_glyph<'a>(
-    alloc: Global,
-    mapper: &GlyphRemapper,
-    drawn: &'a [Drawn],
-    count: u16,
-) -> Result<Vec<Option<&'a Drawn>>, Error>
-    ensures ok { IfOk result (λ v. map option_copied v.items ≡ by_glyph mapper.now drawn.now count) }
-    ensures err { IfErr result (λ e. e ≡ OutOfMemory) }
-{
-    let mut all = Vec::with_capacity(alloc, usize::from(count))?;
-    for glyph in 0..count {
-        all.push_reserved(glyph_among(mapper, drawn, glyph));
-    }
-    Ok(all)
 }
 
 /// Appends the description of a glyph, of even length; nothing where it wasn't requested.
@@ -51,27 +34,31 @@ fn write_outline(glyf: &mut Vec<u8>, drawn: Option<&Drawn>) -> Result<(), Error>
     }
 }
 
-/// The descriptions of all glyphs, and where each begins, and where the last one ends.
+/// The descriptions of the requested glyphs, and where each begins.
 #[derive(Drop)]
 pub struct Outlines {
     pub glyf: Vec<u8>,
-    pub offsets: Vec<usize>,
+    pub starts: Vec<usize>,
 }
 
-/// `glyf`, with the offsets of `loca`.
-pub fn all_outlines(alloc: Global, all: &[Option<&Drawn>]) -> Result<Outlines, Error>
-    ensures glyf { IfOk result (λ o. o.glyf.items ≡ glyf_bytes (map option_copied all.now)) }
-    ensures offsets { IfOk result (λ o. o.offsets.items ≡ offsets_from 0 (map option_copied all.now)) }
+/// `glyf`: the descriptions of the requested glyphs, in the order of the font.
+pub fn all_outlines(
+    alloc: Global,
+    mapper: &GlyphRemapper,
+    drawn: &[Drawn],
+    order: &[u16],
+) -> Result<Outlines, Error>
+    ensures glyf { IfOk result (λ o. o.glyf.items ≡ outlines_by (glyph_among mapper.now drawn.now) order.now) }
+    ensures starts { IfOk result (λ o. o.starts.items ≡ starts_by (glyph_among mapper.now drawn.now) 0 order.now) }
     ensures err { IfErr result (λ e. e ≡ OutOfMemory) }
 {
     let mut glyf = Vec::new(alloc);
-    let mut offsets = Vec::with_capacity(alloc, all.len().saturating_add(1))?;
-    for drawn in all {
-        offsets.push(glyf.len())?;
-        write_outline(&mut glyf, *drawn)?;
+    let mut starts = Vec::with_capacity(alloc, order.len())?;
+    for glyph in order {
+        starts.push(glyf.len())?;
+        write_outline(&mut glyf, glyph_among(mapper, drawn, *glyph))?;
     }
-    offsets.push(glyf.len())?;
-    Ok(Outlines { glyf, offsets })
+    Ok(Outlines { glyf, starts })
 }
 
 /// Whether offsets are long: half of the last one doesn't fit 16 bits.
@@ -79,18 +66,6 @@ pub fn is_long(glyf: &[u8]) -> bool
     ensures { result ≡ is_long glyf.now }
 {
     glyf.len() > OFFSET16_MAX
-}
-
-/// `loca` of offsets.
-pub fn loca(alloc: Global, long: bool, offsets: &[usize]) -> Result<Vec<u8>, Error>
-    ensures ok { IfOk result (λ v. v.items ≡ loca_bytes long offsets.now) }
-    ensures err { IfErr result (λ e. e ≡ OutOfMemory) }
-{
-    let mut loca = Vec::with_capacity(alloc, offsets.len().saturating_mul(OFFSET32_SIZE))?;
-    for offset in offsets {
-        write_offset(&mut loca, long, *offset)?;
-    }
-    Ok(loca)
 }
 
 /// The metric of a glyph, 0 and 0 where it wasn't requested.
@@ -106,14 +81,24 @@ fn metric_of(drawn: Option<&Drawn>) -> LongHorMetric
     }
 }
 
-/// `hmtx`: an advance and a left side bearing for each glyph.
-pub fn hmtx(alloc: Global, all: &[Option<&Drawn>]) -> Result<Vec<u8>, Error>
-    ensures ok { IfOk result (λ v. v.items ≡ hmtx_of (map option_copied all.now)) }
+/// `hmtx`: an advance and a left side bearing for each of so many glyphs.
+pub fn hmtx(
+    alloc: Global,
+    mapper: &GlyphRemapper,
+    drawn: &[Drawn],
+    count: u16,
+    order: &[u16],
+) -> Result<Vec<u8>, Error>
+    requires { IsOrder mapper.now count 0 order.now }
+    ensures ok { IfOk result (λ v. v.items ≡ hmtx_of (by_glyph mapper.now drawn.now count)) }
     ensures err { IfErr result (λ e. e ≡ OutOfMemory) }
 {
-    let mut hmtx = Vec::with_capacity(alloc, all.len().saturating_mul(LONG_HOR_METRIC_SIZE))?;
-    for drawn in all {
-        hmtx.extend_from_slice(&metric_of(*drawn).to_bytes())?;
+    let size = LONG_HOR_METRIC_SIZE * usize::from(count);
+    let mut hmtx = Vec::with_capacity(alloc, size)?;
+    for glyph in order {
+        hmtx.resize(LONG_HOR_METRIC_SIZE * usize::from(*glyph), 0)?;
+        hmtx.extend_from_slice(&metric_of(glyph_among(mapper, drawn, *glyph)).to_bytes())?;
     }
+    hmtx.resize(size, 0)?;
     Ok(hmtx)
 }

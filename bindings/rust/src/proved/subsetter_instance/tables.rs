@@ -5,4 +5,6 @@ pub mod extremes;
 pub mod file;
 pub mod headers;
 pub mod lines;
+pub mod offsets;
+pub mod requested;
 pub mod writing;

@@ -22,17 +22,11 @@ pub fn plus(sum: i64, more: i64) -> i64 {
     sum + more
 }
 
-/// A default with the shares of its deltas, one for each of so many regions.
+/// A default with the shares of its deltas, one for each region.
 #[inline(always)]
-fn vary<R: Regions>(
-    default: i64,
-    regions: &R,
-    data_index: u16,
-    count: usize,
-    deltas: &[i64],
-) -> i64 {
+fn vary<R: Regions>(default: i64, regions: &R, data_index: u16, deltas: &[i64]) -> i64 {
     let mut value = default;
-    for k in 0..count {
+    for k in 0..deltas.len() {
         value = plus(value, share(regions.scalar(data_index, k), deltas[k]));
     }
     value
@@ -46,18 +40,15 @@ fn vary_each<R: Regions>(
     count: usize,
     deltas: &[i64],
 ) -> Result<(), Error> {
+    let mut rest = deltas;
     for i in 0..defaults.len() {
-        let value = vary(
-            defaults[i],
-            regions,
-            data_index,
-            count,
-            &deltas[i * count..],
-        );
+        let (own, behind) = rest.split_at(count);
+        let value = vary(defaults[i], regions, data_index, own);
         if !is_within(value) {
             return Err(Error::OverflowError);
         }
         defaults[i] = value;
+        rest = behind;
     }
     Ok(())
 }

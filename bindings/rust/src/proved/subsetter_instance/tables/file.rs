@@ -11,6 +11,8 @@ use crate::proved::subsetter_base::{Error, GlyphRemapper, Tag};
 use crate::proved::subsetter_instance::glyphs::drawn::Drawn;
 use crate::proved::subsetter_instance::source::Source;
 use crate::proved::subsetter_instance::tables::lines::Lines;
+use crate::proved::subsetter_instance::tables::offsets::loca;
+use crate::proved::subsetter_instance::tables::requested::requested_in_order;
 use crate::proved::subsetter_instance::tables::{headers, writing};
 use crate::proved::subsetter_sfnt::face::Face;
 use crate::proved::subsetter_sfnt::flavor::FontFlavor;
@@ -37,11 +39,12 @@ fn new_tables(
     mapper: &GlyphRemapper,
     drawn: &[Drawn],
 ) -> Result<NewTables, Error> {
-    let all = writing::by_glyph(alloc, mapper, drawn, count)?;
-    let outlines = writing::all_outlines(alloc, &all)?;
-    let hmtx = writing::hmtx(alloc, &all)?;
+    let order = requested_in_order(alloc, mapper, count)?;
+    let outlines = writing::all_outlines(alloc, mapper, drawn, &order)?;
+    let hmtx = writing::hmtx(alloc, mapper, drawn, count, &order)?;
+    let end = outlines.glyf.len();
     let long = writing::is_long(&outlines.glyf);
-    let loca = writing::loca(alloc, long, &outlines.offsets)?;
+    let loca = loca(alloc, long, count, &order, &outlines.starts, end)?;
     let head = headers::head(alloc, head, long, drawn)?;
     let hhea = headers::hhea(alloc, hhea, count, drawn)?;
     let maxp = headers::maxp(alloc, count, drawn)?;

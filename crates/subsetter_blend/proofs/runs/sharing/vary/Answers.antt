@@ -15,8 +15,8 @@ loop-k-preserved g c =
     let here = to_z-of_z w64 c.plus-value.result fa in
     let sum = simp to_z-of_z at c.plus-value.ensures.value in
     let share_is = simp to_z-of_z at c.share.ensures.value in
+    let few : k < length c.args.deltas.now = omega arith in
     let inside : k < length ss = omega (arith, c.requires.regions) in
-    let few : k < length c.args.deltas.now = omega (arith, c.requires.deltas) in
     record {
       same = ap (λ (z : ℤ). varied z (drop (k + 1) ss) (drop (k + 1) c.args.deltas.now)) here
           ∙ vary_more _ _ _ _ _ _ ss c.args.deltas.now k inside few c.loop-k.invariant.same (c.scalar.ensures.value inside) refl share_is sum;

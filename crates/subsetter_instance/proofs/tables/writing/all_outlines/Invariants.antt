@@ -1,10 +1,10 @@
-use Rattle.std.proofs.Common.{◌≡◌, ◌++◌, length, map, drop}
-use Rattle.std.specs.Option.{option_copied}
-use Rattle.subsetter_instance.specs.Tables.Written.{glyf_bytes, offsets_from}
+use Rattle.std.proofs.Common.{◌≡◌, ◌++◌, length, drop}
+use Rattle.subsetter_instance.specs.Tables.Requested.{outlines_by, starts_by}
+use Rattle.subsetter_instance.specs.Tables.Written.{glyph_among}
 use Rattle.subsetter_instance.proofs.tables.writing.all_outlines.Given as goal
 
-abbrev pub invariant-loop-drawn : goal.invariant-loop-drawn
-invariant-loop-drawn l = record {
-  written : l.glyf.items ++ glyf_bytes (map option_copied (drop l.drawn-index l.all)) ≡ glyf_bytes (map option_copied l.all);
-  places : l.offsets.items ++ offsets_from (length l.glyf.items) (map option_copied (drop l.drawn-index l.all)) ≡ offsets_from 0 (map option_copied l.all);
+abbrev pub invariant-loop-glyph : goal.invariant-loop-glyph
+invariant-loop-glyph l = record {
+  written : l.glyf.items ++ outlines_by (glyph_among l.mapper l.drawn) (drop l.glyph-index l.order) ≡ outlines_by (glyph_among l.mapper l.drawn) l.order;
+  starts : l.starts.items ++ starts_by (glyph_among l.mapper l.drawn) (length l.glyf.items) (drop l.glyph-index l.order) ≡ starts_by (glyph_among l.mapper l.drawn) 0 l.order;
 }
