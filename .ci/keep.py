@@ -8,6 +8,7 @@ those that it was built over. All of one run fit one another. So either all are 
 a session's own work was put back beside them, or where a source has changed since the sums were written. Then the other commands
 prove what they need, as they would without this.
 """
+import functools
 import importlib.machinery
 import importlib.util
 import json
@@ -27,6 +28,8 @@ def kit():
     made = importlib.util.module_from_spec(importlib.util.spec_from_loader("rtlib", loader))
     sys.modules["rtlib"] = made
     loader.exec_module(made)
+    # A crate's sum has those of the crates below it: each is reckoned once.
+    made.Crate.stamp = functools.cache(made.Crate.stamp)
     return made
 
 
