@@ -78,8 +78,8 @@ loca_more long n end from next run start k order starts w v whole lt same at lon
     let rest = offsets_by n end (g + 1) (drop (k + 1) order) (drop (k + 1) starts) in
     let len : run ≡ g + 1 - from = omega arith in
     let here : offsets_by n end from (drop k order) (drop k starts) ≡ replicate (g + 1 - from) s ++ rest =
-        ap (λ (l : List ℕ). offsets_by n end from l (drop k starts)) (drop_more order k 0 lt)
-        ∙ ap (offsets_by n end from (g ∷ drop (k + 1) order)) (drop_more starts k 0 (omega arith)) in
+    ap (λ (l : List ℕ). offsets_by n end from l (drop k starts)) (drop_more order k 0 lt)
+    ∙ ap (offsets_by n end from (g ∷ drop (k + 1) order)) (drop_more starts k 0 (omega arith)) in
     ap (λ (m : ℕ). v ++ loca_bytes long (offsets_by n end m (drop (k + 1) order) (drop (k + 1) starts))) at
     ∙ ap (λ (l : List ℕ). l ++ loca_bytes long rest) (is ∙ ap (λ (m : ℕ). w ++ loca_bytes long (replicate m start)) len ∙ ap (λ (m : ℕ). w ++ loca_bytes long (replicate (g + 1 - from) m)) first)
     ∙ append_assoc w (loca_bytes long (replicate (g + 1 - from) s)) (loca_bytes long rest)

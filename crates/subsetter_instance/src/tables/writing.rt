@@ -5,7 +5,6 @@
 ghost use Rattle.std.specs.Prelude.{◌≡◌, ◌++◌, IfOk, IfErr, OnOk};
 ghost use Rattle.std.specs.Option.{option_copied};
 ghost use Rattle.subsetter_base.specs.declared.error.Error.TheVariants.{OutOfMemory};
-ghost use Rattle.subsetter_base.specs.Indexes.{index_of};
 ghost use Rattle.subsetter_instance.specs.Tables.Requested.{IsOrder, outlines_by, starts_by};
 ghost use Rattle.subsetter_instance.specs.Tables.Written.{by_glyph, glyph_among, outline_bytes, is_long, drawn_metric, hmtx_of};
 

@@ -1,4 +1,4 @@
-use Rattle.std.proofs.Common.{◌≡◌, length}
+use Rattle.std.proofs.Common.{length}
 use Rattle.subset_batch.specs.View.{lines_view}
 use Rattle.subset_font.proofs.BatchLaws.{AreSoFar}
 use Rattle.subset_font.proofs.batch.requests.requests_of.Given as goal

@@ -25,18 +25,18 @@ loop-glyph-preserved c =
     let i = c.loop-glyph.invariant in
     elim c.if-glyph-next.branch [
       | then-glyph-next+then-glyph-count+in_ok-push w ↦ rw (w.order-is, w.next-is, w.in_ok-push.ensures.items) (record {
-          order = order_push glyphs next g 0 c.loop-glyph.order.items i.order w.if-glyph-next.true (gap_before glyphs sorted next c.args.count k g same up i.seen (omega (arith, w.if-glyph-count.true)) (λ j a b. none_later sorted k j up a b));
-          seen = seen_more sorted next (g + 1) c.args.count k i.seen (omega (arith, w.if-glyph-next.true)) (inl (omega arith));
-          small = omega (arith, w.if-glyph-count.true);
-        })
+        order = order_push glyphs next g 0 c.loop-glyph.order.items i.order w.if-glyph-next.true (gap_before glyphs sorted next c.args.count k g same up i.seen (omega (arith, w.if-glyph-count.true)) (λ j a b. none_later sorted k j up a b));
+        seen = seen_more sorted next (g + 1) c.args.count k i.seen (omega (arith, w.if-glyph-next.true)) (inl (omega arith));
+        small = omega (arith, w.if-glyph-count.true);
+      })
       | else-glyph-next w ↦ rw (w.order-is, w.next-is) (record {
-          order = i.order;
-          seen = seen_more sorted next next c.args.count k i.seen (omega arith) (elim w.else-glyph-next.branch [
-            | else-glyph-next-via-then-glyph-next+else-glyph-count v ↦ inr v.if-glyph-count.false
-            | else-glyph-next-via-else-glyph-next v ↦ inl v.if-glyph-next.false
-          ]);
-          small = i.small;
-        })
+        order = i.order;
+        seen = seen_more sorted next next c.args.count k i.seen (omega arith) (elim w.else-glyph-next.branch [
+          | else-glyph-next-via-then-glyph-next+else-glyph-count v ↦ inr v.if-glyph-count.false
+          | else-glyph-next-via-else-glyph-next v ↦ inl v.if-glyph-next.false
+        ]);
+        small = i.small;
+      })
     ]
 
 pub returns-clause-ok : goal.returns-clause-ok
