@@ -82,7 +82,7 @@ def all_at_once(room):
 
 def innocent(room):
     """What is wrong where the words are quoted or common, and in the documents that aren't checked."""
-    for path, text in (("crates/subset_args/src/nearest.rt", "\n/// It is told.\nfn nothing() {}\n// It is \"told\".\n"), ("crates/subset_font/src/tests.rt", '\nconst TOLD: &str = "told";\n'),
+    for path, text in (("crates/subset_args/src/nearest.rt", "\n/// It is told.\nfn nothing() {}\n// It is \"told\".\n"), ("crates/subset_batch/src/tests.rt", '\nconst TOLD: &str = "told";\n'),
                        ("docs/PDF.md", INNOCENT), ("CHANGELOG.md", "\nIt is told.\n"), ("compare/results/times.md", "\nIt is told.\n")):
         planted.edit(room, "an innocent word", path, None, text)
     status, shown = planted.run(room, CHECK)

@@ -41,9 +41,6 @@ pub use run::request::read_arguments;
 pub use streams::{hold_streams, is_shown};
 pub use task::{Form, Plan, RequestedGlyphs, Task};
 
-#[cfg(test)]
-mod tests;
-
 fn main(rt: HostRuntime) -> Ended {
     run::program::run(&rt)
 }
