@@ -1,15 +1,13 @@
 -- A string that is written is read again.
-use Rattle.std.proofs.Common.{◌≡◌, ℕ, zero, suc, ◌+◌, ◌*◌, ◌/◌, ◌%◌, ◌<◌, ◌≤◌, ◌⊎◌, inl, inr, Bool, true, false, cond, ◌||◌, eqb, ltb, List, [], ◌∷◌, ◌++◌, length, Option, Some, None, Result, Ok, Err, refl, sym, ap, subst, ◌∙◌, append_assoc, arith}
-use Rattle.std.specs.Char.{encode_utf8}
+use Rattle.std.proofs.Common.{◌≡◌, ℕ, zero, suc, ◌+◌, ◌*◌, ◌/◌, ◌%◌, ◌<◌, ◌≤◌, inl, inr, Bool, true, false, cond, ◌||◌, eqb, ltb, List, [], ◌∷◌, ◌++◌, length, Some, None, Result, Ok, refl, sym, ap, subst, ◌∙◌, append_assoc, arith}
 use Rattle.std.specs.Str.{is_utf8}
-use Rattle.std.proofs.lemmas.Bool.{eqb-true, eqb-false, ltb-true, ltb-false, lt-ltb, le-ltb, ne_eqb, or_cases}
+use Rattle.std.proofs.lemmas.Bool.{eqb-true, ltb-true, or_cases}
 use Rattle.std.proofs.lemmas.Bool.Decides.{nat_tests}
 use Rattle.std.proofs.lemmas.Str.{encode_ascii}
-use Rattle.std.proofs.Math.Utf8.{scalar, low_scalar}
-use Rattle.subset_batch.specs.declared.fault.Wanted.{Wanted}
+use Rattle.std.proofs.Math.Utf8.{low_scalar}
 use Rattle.subset_batch.specs.declared.fault.Wanted.TheVariants.{Quote}
 use Rattle.subset_batch.specs.Bytes.{behind, escaped, hex_digit, is_high}
-use Rattle.subset_batch.specs.Reading.{Fault, ◌>>=◌, missing, with_front, many, unit_at, coded, unicode_at, char_at, goes_on, char_step, chars_at, in_utf8, string_at}
+use Rattle.subset_batch.specs.Reading.{Fault, with_front, many, unit_at, unicode_at, char_at, goes_on, char_step, chars_at, string_at}
 use Rattle.subset_batch.specs.Written.{hex_of, escaped_byte, escaped_text}
 
 -- ---- a control character

@@ -1,10 +1,9 @@
 -- What a step reads again and again, as a loop does.
 use Rattle.std.proofs.Common.{◌≡◌, ℕ, suc, ◌-◌, ◌+◌, ◌≤◌, ◌<◌, Bool, true, false, List, [], ◌∷◌, ◌++◌, map, Result, Ok, Err, refl, sym, ap, ◌∙◌, append_assoc, arith}
-use Rattle.std.proofs.lemmas.List.{append-nil}
 use Rattle.subset_batch.specs.declared.fault.Wanted.{Wanted}
 use Rattle.subset_batch.specs.declared.fault.Unread.{Unread}
 use Rattle.subset_batch.specs.declared.fault.Unread.TheVariants as unread
-use Rattle.subset_batch.specs.Reading.{Fault, ◌>>=◌, missing, with_front, many}
+use Rattle.subset_batch.specs.Reading.{Fault, missing, with_front, many}
 use Rattle.subset_batch.specs.View.{Fails, fault_view}
 
 pub map_last : {A B : Type 0} (f : A → B) (xs : List A) (x : A) → map f (xs ++ x ∷ []) ≡ map f xs ++ f x ∷ []

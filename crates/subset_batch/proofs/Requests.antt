@@ -1,14 +1,14 @@
 -- Values and members that are written are read again.
-use Rattle.std.proofs.Common.{◌≡◌, ℕ, zero, suc, ◌+◌, ◌<◌, ◌≤◌, ◌⊎◌, inl, inr, Bool, true, false, cond, ◌&&◌, List, [], ◌∷◌, ◌++◌, length, Option, Some, None, Result, Ok, Err, refl, sym, ap, subst, ◌∙◌, append_assoc, arith, codes}
+use Rattle.std.proofs.Common.{◌≡◌, ℕ, zero, suc, ◌<◌, ◌⊎◌, inl, inr, true, List, [], ◌∷◌, ◌++◌, length, Option, Some, None, Result, Ok, Err, refl, sym, ap, subst, ◌∙◌, append_assoc, arith, codes}
 use Rattle.std.specs.Str.{is_utf8}
 use Rattle.std.proofs.lemmas.Bool.{and_parts}
 use Rattle.subset_batch.specs.declared.fault.Wanted.{Wanted}
 use Rattle.subset_batch.specs.declared.fault.Wanted.TheVariants.{Item, Value as AnyValue, CommaOrBracket, CommaOrBrace}
 use Rattle.subset_batch.specs.declared.kinds.Kind.{Kind}
-use Rattle.subset_batch.specs.Bytes.{behind, skip_ws}
-use Rattle.subset_batch.specs.Members.{Value, absent, present, text, texts, Member, kind_of, fits, repeated}
+use Rattle.subset_batch.specs.Bytes.{skip_ws}
+use Rattle.subset_batch.specs.Members.{Value, absent, present, text, texts, Member, repeated}
 use Rattle.subset_batch.specs.Words.{request_words}
-use Rattle.subset_batch.specs.Reading.{Fault, unknown, ◌>>=◌, with_front, many, string_at, item_at, item_step, items_in, literal, plain_at, value_at, name_at, fitting_at, member_at, member_step, members_in, distinct, object_of, request_in, request_of}
+use Rattle.subset_batch.specs.Reading.{Fault, unknown, with_front, many, item_at, item_step, items_in, literal, value_at, name_at, fitting_at, member_at, member_step, members_in, distinct, object_of, request_in, request_of}
 use Rattle.subset_batch.specs.Written.{escaped_text, quoted, strings, written_value, written_members, written, all_utf8, value_utf8, IsWritable, AllWritable, AreWritable}
 use Rattle.subset_batch.proofs.Again.{longer, string_back}
 

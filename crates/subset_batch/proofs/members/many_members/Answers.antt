@@ -1,4 +1,4 @@
-use Rattle.std.proofs.Common.{◌≡◌, ℕ, ◌-◌, ◌+◌, ◌∷◌, [], ap, ◌∙◌}
+use Rattle.std.proofs.Common.{◌≡◌, ◌-◌, ◌+◌, ◌∷◌, [], ap, ◌∙◌}
 use Rattle.std.specs.Prelude.{map}
 use Rattle.subset_batch.specs.View.{member_view}
 use Rattle.subset_batch.specs.declared.fault.Wanted.TheVariants.{CommaOrBrace}

@@ -1,4 +1,4 @@
-use Rattle.std.proofs.Common.{◌≡◌, ℕ, ◌-◌, ◌+◌, ◌∷◌, [], ap, ◌∙◌}
+use Rattle.std.proofs.Common.{◌≡◌, ◌-◌, ◌+◌, ◌∷◌, [], ap, ◌∙◌}
 use Rattle.std.specs.Prelude.{map, String, string_bytes}
 use Rattle.std.specs.Global.{Global}
 use Rattle.subset_batch.specs.declared.fault.Wanted.TheVariants.{CommaOrBracket}

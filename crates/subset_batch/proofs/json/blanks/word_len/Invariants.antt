@@ -1,4 +1,4 @@
-use Rattle.std.proofs.Common.{◌≡◌, ◌+◌, ◌-◌, ◌≤◌, length}
+use Rattle.std.proofs.Common.{◌≡◌, ◌+◌, ◌≤◌, length}
 use Rattle.std.specs.List.{position_or_len}
 use Rattle.subset_batch.specs.Bytes.{ends_word}
 use Rattle.subset_batch.proofs.json.blanks.word_len.Given as goal

@@ -1,4 +1,4 @@
-use Rattle.std.proofs.Common.{◌∷◌, [], arith}
+use Rattle.std.proofs.Common.{arith}
 use Rattle.subset_batch.specs.declared.fault.Wanted.TheVariants.{Quote}
 use Rattle.subset_batch.specs.Reading.{char_step}
 use Rattle.subset_batch.specs.View.{character_view}
