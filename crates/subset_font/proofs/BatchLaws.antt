@@ -1,23 +1,24 @@
 -- The answers of a batch, and the requests of the lines so far.
-use Rattle.std.proofs.Common.{◌≡◌, ◌⊎◌, inl, inr, ℕ, List, [], ◌∷◌, ◌++◌, Option, Some, None, Result, Ok, Err, refl, sym, subst, ◌∙◌, append_assoc, append-nil}
-use Rattle.std.specs.Prelude.{IfOk, IfErr, Vec, string_bytes}
+use Rattle.std.proofs.Common.{◌≡◌, ◌⊎◌, inl, inr, ℕ, List, [], ◌∷◌, ◌++◌, Option, Some, None, Result, Ok, Err, refl, sym, ap, subst, ◌∙◌, append_assoc, append-nil}
+use Rattle.std.specs.Prelude.{IfOk, IfErr, Vec, String, map, string_bytes}
 use Rattle.std.specs.Global.{Global}
-use Rattle.std.specs.Option.{option_map}
-use Rattle.subset_args.specs.Request.{lists_in_stream, PdfRequest}
-use Rattle.subset_args.specs.View.{requested_view, pdf_view}
+use Rattle.std.specs.Option.{option_map, option_and_then}
+use Rattle.subset_args.specs.Request.{Request as Requested, lists_in_stream, PdfRequest}
+use Rattle.subset_args.specs.View.{job_view, requested_view, pdf_view}
 use Rattle.subset_args.specs.declared.jobs.command.Glyphs.{Glyphs}
 use Rattle.subset_args.specs.declared.jobs.command.Glyphs.TheVariants.{Listed, Characters, InFile, ByText, Every}
 use Rattle.subset_args.specs.declared.jobs.command.Job.{Job}
 use Rattle.subset_args.specs.declared.jobs.command.PdfJob.{PdfJob}
 use Rattle.subset_args.specs.declared.listing.lists.GlyphList.{GlyphList}
+use Rattle.subset_batch.specs.Reading.{Fault, request_of}
 use Rattle.subsetter_base.specs.declared.error.Error.TheVariants.{OutOfMemory}
 use Rattle.subset_font.specs.Batch.Answers.{IsFailedWith}
 use Rattle.subset_font.specs.Batch.Making.{IsDone, IsUndone, named_text, message_of, IsAnswer}
-use Rattle.subset_font.specs.Batch.Orders.{is_given_stream}
+use Rattle.subset_font.specs.Batch.Orders.{is_given_stream, order_by, order_of, words_in, IsNoOrder}
 use Rattle.subset_font.specs.Batch.Requests.{IsBegun, AddsLine, AreBegun, none, one_more}
 use Rattle.subset_font.specs.Chosen.{IsPlanOf}
 use Rattle.subset_font.specs.Files.{list_name, name_by}
-use Rattle.subset_font.specs.Making.Carried.{IsFailureOf, WritesAll}
+use Rattle.subset_font.specs.Making.Carried.{IsBeforeWriting, IsFailureOf, WritesAll}
 use Rattle.subset_font.specs.Refusals.Failure.{status_of}
 use Rattle.subset_font.specs.Refusals.Texts.{failure_text}
 use Rattle.subset_font.specs.declared.batch.answers.Answer.{Answer}
@@ -43,6 +44,20 @@ pub pdf_stream : (pdf : Option PdfJob) → is_given_stream (option_map (λ (p : 
 pdf_stream (Some pdf) = refl
 pdf_stream None = refl
 
+-- what a line requests is what its words do
+order_is : (line : List ℕ) (words : List (List ℕ)) → request_of line ≡ Ok words → order_by words ≡ order_of line
+unfolding order_of
+order_is line words h = ap (λ (read : Result (List (List ℕ)) Fault). option_and_then order_by (words_in read)) (sym h)
+
+order_as : (line : List ℕ) (words seen : List (String Global)) → request_of line ≡ Ok (map (λ word. string_bytes word) words) → seen ≡ words → order_by (map (λ word. string_bytes word) seen) ≡ order_of line
+order_as line words seen h s = order_is line (map (λ word. string_bytes word) seen) (h ∙ ap (λ (seen : List (String Global)). Ok (map (λ word. string_bytes word) seen)) (sym s))
+
+pub ordered : (line : List ℕ) (words seen : List (String Global)) (result : Result Job Answer) → request_of line ≡ Ok (map (λ word. string_bytes word) words) → seen ≡ words → IfOk result (λ job. order_by (map (λ word. string_bytes word) seen) ≡ Some (job_view job)) → IfOk result (λ job. order_of line ≡ Some (job_view job))
+ordered line words seen result h s o = subst (λ (order : Option Requested). IfOk result (λ job. order ≡ Some (job_view job))) (order_as line words seen h s) o
+
+pub unordered : (line : List ℕ) (words seen : List (String Global)) (result : Result Job Answer) → request_of line ≡ Ok (map (λ word. string_bytes word) words) → seen ≡ words → IfErr result (IsNoOrder (order_by (map (λ word. string_bytes word) seen))) → IfErr result (IsNoOrder (order_of line))
+unordered line words seen result h s o = subst (λ (order : Option Requested). IfErr result (IsNoOrder order)) (order_as line words seen h s) o
+
 -- ---- answers
 
 pub done_of : (bytes : List ℕ) (job : Job) (list : Option GlyphList) (plan : Plan) (result : Result (Vec ℕ Global) Failure) (page_old page_new old new : Option (List ℕ)) → IsPlanOf job list plan → IfOk result (λ object. WritesAll plan (Some bytes) page_old page_new old new (Some []) (Some object.items)) → IfOk result (λ object. IsDone bytes job object.items)
@@ -60,6 +75,21 @@ undone_of bytes job list plan (Err failure) p why = undone bytes job list plan f
 -- memory ran out
 pub no_memory : (plan : Plan) (bytes : List ℕ) (failure : Failure) → failure ≡ Error OutOfMemory → IsFailureOf plan (Some bytes) failure
 no_memory plan bytes failure h = unmade plan bytes failure (inl h)
+
+-- what holds of the answer to all that was made
+pub all_made : (result : Result (Vec ℕ Global) Failure) (A B : Type 0) (C D : Vec ℕ Global → Type 0) → ((object : Vec ℕ Global) → A → B → C object → D object) → IfOk result (λ object. A) → IfOk result (λ object. B) → IfOk result C → IfOk result D
+all_made (Ok object) A B C D f a b c = f object a b c
+all_made (Err e) A B C D f a b c = tt
+
+pub why_made : (plan : Plan) (bytes : List ℕ) (result : Result (Vec ℕ Global) Failure) → IfErr result (λ e. (e ≡ Error OutOfMemory) ⊎ ((e ≡ WritePdf) ⊎ (e ≡ Write))) → IfErr result (λ e. IsFailureOf plan (Some bytes) e ⊎ ((e ≡ WritePdf) ⊎ (e ≡ Write)))
+why_made plan bytes (Ok object) h = tt
+why_made plan bytes (Err e) (inl memory) = inl (no_memory plan bytes e memory)
+why_made plan bytes (Err e) (inr unwritten) = inr unwritten
+
+-- a writer that failed did so behind all that is made
+pub late : (failure : Failure) → (failure ≡ WritePdf) ⊎ (failure ≡ Write) → IsBeforeWriting failure → ⊥
+late failure (inl e) before = subst IsBeforeWriting e before
+late failure (inr e) before = subst IsBeforeWriting e before
 
 -- the words for a failure, but for those of a list
 pub message_is : (failure : Failure) (job : Job) → (failure ≡ WrongList → ⊥) → named_text (failure_text failure) (name_by failure job) ≡ message_of failure job

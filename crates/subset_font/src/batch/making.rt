@@ -64,12 +64,35 @@ fn write_files<P: Write, W: Write>(
     write_font(&outcome.made.font, output)
 }
 
+/// What is printed of what was made; before that is answered, writes the PDF of its glyphs to one writer, if there is one, and its
+/// subset to another.
+fn carry_made<P: Write, W: Write>(
+    alloc: Global,
+    outcome: &Outcome,
+    form: Form,
+    page: &mut P,
+    output: &mut W,
+) -> Result<Vec<u8>, Failure>
+    ensures page { IfOk result (λ object. Appends (P.contents page.old) (P.contents page.new) (page_of outcome.now.sheet)) }
+    ensures font { IfOk result (λ object. Appends (W.contents output.old) (W.contents output.new) outcome.now.made.font.items) }
+    ensures object { IfOk result (λ object. object.items ≡ report_of form outcome.now) }
+    ensures page_kept { IfErr result (λ e. IsBeforeWriting e → page.new ≡ page.old) }
+    ensures output_kept { IfErr result (λ e. IsBeforeWriting e → output.new ≡ output.old) }
+    ensures no_font { IsErrOf result Failure.WritePdf → output.new ≡ output.old }
+    ensures err { IfErr result (λ e. (e ≡ Refused OutOfMemory) ⊎ ((e ≡ CannotWritePdf) ⊎ (e ≡ CannotWrite))) }
+{
+    let object = printed(alloc, outcome, form)?;
+    match write_files(outcome, page, output) {
+        Ok(()) => Ok(object),
+        Err(failure) => Err(failure),
+    }
+}
+
 /// Makes what a plan requests of a font, and what is printed of it; then writes the PDF of its glyphs to one writer, if one is
 /// requested, and its subset to another. What is answered and written is what `carry_out` prints and writes between a reader
 /// of these bytes and three writers.
 ///
 /// It fails as `carry_out` does.
-#[tactic(auto, using(crate::proofs::RefusalsLaws::Failing::unmade, crate::proofs::BatchLaws::no_memory))]
 pub fn carry_answer<P: Write, W: Write>(
     alloc: Global,
     font: &[u8],
@@ -86,10 +109,10 @@ pub fn carry_answer<P: Write, W: Write>(
     // Why nothing is written.
     ensures err { IfErr result (λ e. IsFailureOf plan.now (Some font.now) e ⊎ ((e ≡ CannotWritePdf) ⊎ (e ≡ CannotWrite))) }
 {
-    let outcome = make_planned(alloc, font, plan)?;
-    let object = printed(alloc, &outcome, plan.task.form)?;
-    write_files(&outcome, page, output)?;
-    Ok(object)
+    match make_planned(alloc, font, plan) {
+        Ok(outcome) => carry_made(alloc, &outcome, plan.task.form, page, output),
+        Err(failure) => Err(failure),
+    }
 }
 
 /// Does a request on the bytes of its source: what is printed of it, which isn't printed here.
