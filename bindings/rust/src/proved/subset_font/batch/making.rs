@@ -45,6 +45,22 @@ fn write_files<P: Write, W: Write>(
     write_font(&outcome.made.font, output)
 }
 
+/// What is printed of what was made; before that is answered, writes the PDF of its glyphs to one writer, if there is one, and its
+/// subset to another.
+fn carry_made<P: Write, W: Write>(
+    alloc: Global,
+    outcome: &Outcome,
+    form: Form,
+    page: &mut P,
+    output: &mut W,
+) -> Result<Vec<u8>, Failure> {
+    let object = printed(alloc, outcome, form)?;
+    match write_files(outcome, page, output) {
+        Ok(()) => Ok(object),
+        Err(failure) => Err(failure),
+    }
+}
+
 /// Makes what a plan requests of a font, and what is printed of it; then writes the PDF of its glyphs to one writer, if one is
 /// requested, and its subset to another. What is answered and written is what `carry_out` prints and writes between a reader
 /// of these bytes and three writers.
@@ -57,10 +73,10 @@ pub fn carry_answer<P: Write, W: Write>(
     page: &mut P,
     output: &mut W,
 ) -> Result<Vec<u8>, Failure> {
-    let outcome = make_planned(alloc, font, plan)?;
-    let object = printed(alloc, &outcome, plan.task.form)?;
-    write_files(&outcome, page, output)?;
-    Ok(object)
+    match make_planned(alloc, font, plan) {
+        Ok(outcome) => carry_made(alloc, &outcome, plan.task.form, page, output),
+        Err(failure) => Err(failure),
+    }
 }
 
 /// Does a request on the bytes of its source: what is printed of it, which isn't printed here.
