@@ -1,9 +1,10 @@
 """Damaged CFF2 fonts, and what the program may answer of them: what cff2.py --damage takes.
 
 A new font has to draw what HarfBuzz draws of the damaged copy, each coordinate rounded once. Where HarfBuzz draws something else, as it goes on
-where a table is broken and knows other limits, it has to be what fontTools reads, in exact fractions. Of a table with a font dict or a private
-dict that can't be read to its end both read nothing; there it has to be what a third reading (cff2_dicts.py) has. The advance is HarfBuzz's, or that of
-the second reading (variable.py).
+where a table is broken and knows other limits, it has to be what fontTools reads, in exact fractions. Where HarfBuzz draws nothing, as it
+refuses a table, it may also be what a third reading (cff2_dicts.py) has: fontTools reads no table with a dict that can't be read to its end, and
+takes the last of the ranges of font dicts that have a glyph, not the first. The advance is HarfBuzz's, or that of the second reading (variable.py).
+A private dict that has an operator without its operand is in the new font as it is in the copy: FreeType has to open neither.
 """
 import os
 import random
@@ -17,7 +18,7 @@ import fonts
 import variable
 from cff2_drawn import CLOSED, HarfBuzz, contours
 from cff2_exact import Source, drawn_exactly, half_up
-from cff2_others import advance_by
+from cff2_others import FreeType, advance_by
 from cff2_whole import Broken, Face, Refused, Report, subset_at
 
 DAMAGED = ["CFF2", "fvar", "avar", "HVAR"]
@@ -99,20 +100,25 @@ class Copy:
         self.metrics, self.names = face.metrics, face.names
 
     def draws(self, glyph, ours):
-        """Who draws this of a glyph: HarfBuzz, fontTools, the third reading where fontTools reads nothing, or nobody."""
-        if agree(ours, self.harfbuzz.drawn(glyph)):
+        """Who draws this of a glyph: HarfBuzz, fontTools, the third reading where HarfBuzz draws nothing, or nobody."""
+        theirs = self.harfbuzz.drawn(glyph)
+        if agree(ours, theirs):
             return "HarfBuzz"
-        try:
-            exact, who = drawn_exactly(Source(self.path, self.index).events(glyph, self.at)), "fontTools"
-        except Exception:
-            exact, who = self.read_by_dicts(glyph), THIRD
-        return who if exact is not None and agree(ours, exact) else "nobody"
+        readings = [("fontTools", self.read_by_fonttools)] + [(THIRD, self.read_by_dicts)] * (not theirs)
+        for who, read in readings:
+            try:
+                exact = drawn_exactly(read(glyph))
+            except Exception:
+                continue
+            if agree(ours, exact):
+                return who
+        return "nobody"
+
+    def read_by_fonttools(self, glyph):
+        return Source(self.path, self.index).events(glyph, self.at)
 
     def read_by_dicts(self, glyph):
-        try:
-            return drawn_exactly(cff2_dicts.Table(self.tables[b"CFF2"]).events(glyph, self.at))
-        except Exception:
-            return None
+        return cff2_dicts.Table(self.tables[b"CFF2"]).events(glyph, self.at)
 
     def has_advance(self, glyph, advance):
         """Whether an advance is HarfBuzz's, or that of the second reading."""
@@ -133,6 +139,9 @@ def judge(report, copy, data, old, room, label):
     for number, glyph in enumerate(old):
         ours = [part for contour in contours(new.drawn(number)) for part in contour]
         who = copy.draws(glyph, ours)
+        if who == "nobody" and FreeType(path).face is None and FreeType(copy.path, copy.index).face is None:
+            report.counts["opened by nobody"] += 1
+            return
         report.counts[f"drawn as by {who}"] += 1
         if who == "nobody":
             report.say("damage", f"{label}: glyph {glyph} is drawn otherwise")

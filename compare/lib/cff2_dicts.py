@@ -1,5 +1,6 @@
 """A third reading of CFF2 tables, for damaged ones of which HarfBuzz and fontTools read nothing (OpenType, "CFF2"): a dict ends before the
-first byte that can't be read, the last entry of an operator counts, and a font dict that names no private dict has an empty one."""
+first byte that can't be read, a reserved one (31, 255) is an operator without a meaning, the last entry of an operator counts, and a
+font dict that names no private dict has an empty one. Item variation data are read where a charstring needs them."""
 import types
 
 import cff2_private
@@ -11,6 +12,8 @@ PRIVATE, SUBROUTINES, VSINDEX = (18,), (19,), (22,)
 # The bytes of a range's first glyph and of its font dict, by FDSelect's format.
 RANGES = {3: (2, 1), 4: (4, 2)}
 LAST_OPERATOR = 27
+# Reserved bytes behind it, which end an entry, too (those below are among the operators).
+RESERVED = {31, 255}
 ONE = 16384
 
 
@@ -19,7 +22,7 @@ def last_entries(data):
     found, operands, at = {}, [], 0
     try:
         while at < len(data):
-            if data[at] > LAST_OPERATOR:
+            if data[at] > LAST_OPERATOR and data[at] not in RESERVED:
                 value, at = cff2_private.number_at(data, at)
                 operands.append(value)
             else:
@@ -77,6 +80,18 @@ def private(table, font_dict):
     return types.SimpleNamespace(vsindex=offset(found.get(VSINDEX, [0])), Subrs=subrs)
 
 
+class Each:
+    """So many items, each read where it is asked for."""
+
+    def __init__(self, read, count):
+        self.read, self.count = read, count
+
+    def __getitem__(self, k):
+        if not 0 <= k < self.count:
+            raise IndexError(k)
+        return self.read(k)
+
+
 def store(table, at):
     """The regions and the item variation data of an item variation store, as fontTools names them."""
     listed = at + number(table, at + 2, 4)
@@ -91,8 +106,7 @@ def store(table, at):
         first = at + number(table, at + 8 + 4 * k, 4)
         return types.SimpleNamespace(VarRegionIndex=[number(table, first + 6 + 2 * j) for j in range(number(table, first + 4))])
 
-    regions = [region(k) for k in range(number(table, listed + 2))]
-    return types.SimpleNamespace(VarRegionList=types.SimpleNamespace(Region=regions), VarData=[data(k) for k in range(number(table, at + 6))])
+    return types.SimpleNamespace(VarRegionList=types.SimpleNamespace(Region=Each(region, number(table, listed + 2))), VarData=Each(data, number(table, at + 6)))
 
 
 class Table(Source):
