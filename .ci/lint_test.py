@@ -73,6 +73,13 @@ class File:
         self.faults.append(Fault(self.path, inside.name if inside else "", what, node.lineno))
 
 
+def dotted(node):
+    """`name` or `name.attribute`; empty for anything else."""
+    if isinstance(node, ast.Attribute):
+        return f"{dotted(node.value)}.{node.attr}" if isinstance(node.value, ast.Name) else ""
+    return node.id if isinstance(node, ast.Name) else ""
+
+
 def names_in(nodes, kind):
     return {it.id: it for node in nodes for it in ast.walk(node) if isinstance(it, ast.Name) and isinstance(it.ctx, kind)}
 
@@ -83,6 +90,8 @@ def unused_in(file, node):
     parameters = [it.arg for it in (*given.posonlyargs, *given.args, *given.kwonlyargs, given.vararg, given.kwarg) if it]
     read, written = names_in(node.body, ast.Load), names_in(node.body, ast.Store)
     outer = {name for part in node.body for it in ast.walk(part) if isinstance(it, (ast.Global, ast.Nonlocal)) for name in it.names}
+    # (what a class has is an attribute)
+    outer |= {name for part in node.body for it in ast.walk(part) if isinstance(it, ast.ClassDef) for own in it.body if isinstance(own, ast.Assign) for name in names_in(own.targets, ast.Store)}
     for name in parameters:
         if name not in read and name not in written and not name.startswith("_") and name not in ("self", "cls"):
             file.faults.append(Fault(file.path, node.name, f"the parameter {name}", node.lineno))
@@ -94,12 +103,14 @@ def unused_in(file, node):
 def unused(file, others):
     """What a file has and nothing uses; `others` are the names that files use which import it."""
     loaded = {it.id for it in file.nodes if isinstance(it, ast.Name) and isinstance(it.ctx, ast.Load)}
+    # (unittest finds its classes by itself)
+    named = ast.FunctionDef if "unittest" in loaded else (ast.FunctionDef, ast.ClassDef)
     for node in file.nodes:
-        if isinstance(node, (ast.FunctionDef, ast.ClassDef)) and not CALLED.fullmatch(node.name) and node.name not in others and not file.uses_outside(node):
+        if isinstance(node, named) and not CALLED.fullmatch(node.name) and node.name not in others and not file.uses_outside(node):
             file.faults.append(Fault(file.path, node.name, "nothing calls it", node.lineno))
         if isinstance(node, ast.FunctionDef):
             unused_in(file, node)
-        elif isinstance(node, ast.Attribute) and isinstance(node.ctx, ast.Store) and ast.unparse(node.value) == "self" and node.attr not in file.read | others:
+        elif isinstance(node, ast.Attribute) and isinstance(node.ctx, ast.Store) and dotted(node.value) == "self" and node.attr not in file.read | others:
             file.tell(node, f"the attribute {node.attr}")
     for node in file.tree.body:
         if isinstance(node, (ast.Import, ast.ImportFrom)):
@@ -141,7 +152,7 @@ def has_true(node, name):
 
 def of_process(file, node):
     """A process that is started, and whose status nobody reads."""
-    call = ast.unparse(node.func)
+    call = dotted(node.func)
     if call not in ("subprocess.run", "subprocess.call", "subprocess.Popen") or has_true(node, "check"):
         return
     around = file.parent[node]
@@ -160,9 +171,9 @@ def of_file(file, node):
     """A file that is opened without its encoding, or isn't closed."""
     name = node.func.id if isinstance(node.func, ast.Name) else node.func.attr if isinstance(node.func, ast.Attribute) else ""
     has_encoding = any(it.arg == "encoding" for it in node.keywords)
-    if name in ("read_text", "write_text") and isinstance(node.func, ast.Attribute) and ast.unparse(node.func.value) != "plant_files" and not has_encoding:
+    if name in ("read_text", "write_text") and isinstance(node.func, ast.Attribute) and dotted(node.func.value) != "plant_files" and not has_encoding:
         file.tell(node, "a text without its encoding")
-    if ast.unparse(node.func) != "open":
+    if dotted(node.func) != "open":
         return
     mode = node.args[1].value if len(node.args) > 1 and isinstance(node.args[1], ast.Constant) else "r"
     if "b" not in mode and not has_encoding:
