@@ -116,6 +116,11 @@ PLANTS = [
     ("a record that is read in order", add("crates/high/src/lib.rt", "fn pair(b: &[u8]) -> Pair {\n    Pair {\n        first: u16_at(b, 0),\n        second: u16_at(b, 2),\n    }\n}\n"), 0, "0 faults"),
     ("a field by its place", add("crates/high/src/lib.rt", "fn second(b: &[u8]) -> u16 {\n    u16_at(b, 2)\n}\n"), 1, "`u16_at(b, 2)`"),
     ("a size by a number", add("crates/high/src/lib.rt", "fn twelve(r: &mut Reader<'_>) -> Option<&[u8]> {\n    r.read_bytes(12)\n}\n"), 1, "`read_bytes(12)`"),
+    ("numbers that need no name", add("crates/high/src/lib.rt", "fn four(r: &mut Reader<'_>, b: &[u8]) -> Option<u16> {\n    r.read_bytes(4)?;\n    r.skip_bytes(4)?;\n    drop(&b[..3]);\n    word_at(b, 1)\n}\n"), 0, "0 faults"),
+    ("a field behind them", add("crates/high/src/lib.rt", "fn third(b: &[u8]) -> Option<u16> {\n    word_at(b, 2)\n}\n"), 1, "`word_at(b, 2)`"),
+    ("a size of five", add("crates/high/src/lib.rt", "fn five(r: &mut Reader<'_>) -> Option<()> {\n    r.skip_bytes(5)\n}\n"), 1, "`skip_bytes(5)`"),
+    ("a slice of four", add("crates/high/src/lib.rt", "fn body(b: &[u8]) -> &[u8] {\n    &b[..4]\n}\n"), 1, "`[..4]`"),
+    ("a read in a test", add("crates/high/src/tests.rt", NUMBER), 0, "0 faults"),
     ("a slice by a number", add("crates/high/src/lib.rt", "fn body(b: &[u8]) -> &[u8] {\n    &b[10..]\n}\n"), 1, "`[10..]`"),
     ("a flag", add("crates/high/src/lib.rt", "fn more(flags: u16) -> bool {\n    flags & 0x0020 != 0\n}\n"), 1, "`0x0020`"),
     ("a flag by its constant", add("crates/high/src/lib.rt", "/// Another follows.\npub(crate) const MORE: u16 = 0x0020;\n\nfn more(flags: u16) -> bool {\n    flags & MORE != 0\n}\n"), 0, "0 faults"),
@@ -183,10 +188,15 @@ def main():
             if found != status or text not in printed:
                 wrong += 1
                 print(f"{name}: status {found} in place of {status}, or without `{text}`:\n{printed}")
+        outcome(root, both(FUNCTIONS, excepted("function high.two = low.read.one")))
+        listed = asked(root, "--list")
+        if listed != (0, "function high.two = low.read.one: they have one body\n"):
+            wrong += 1
+            print(f"--list: {listed}")
         if not shrinks(root):
             wrong += 1
             print("--shrink: it takes out too much or too little")
-    print(f"{len(PLANTS) + 1} changes, {wrong} wrong answers of conventions.py")
+    print(f"{len(PLANTS) + 2} changes, {wrong} wrong answers of conventions.py")
     return not wrong
 
 

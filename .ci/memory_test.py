@@ -52,12 +52,36 @@ mod tests {
     }
 }
 """
+# What says that a writer failed: behind a failed write, a request that failed, and an error that is another's.
+LINES = """/// A writer failed: `Unwritten`.
+pub struct Unwritten;
+
+pub fn one(out: &mut Out) -> Result<(), Unwritten> {
+    if out.put(b"x").is_err() {
+        return Err(Unwritten);
+    }
+    match out.put(b"Unwritten").is_err() {
+        true => Err(made()),
+        false => Ok(()),
+    }
+}
+
+pub fn two(out: &mut Out) -> Result<List, Unwritten> {
+    let Ok(list) = list_of(out.len(), 2) else {
+        return Err(Unwritten);
+    };
+    out.put(b"y").map_err(|_| Unwritten)?;
+    Ok(list)
+}
+"""
 FILES = {
+    "crates/subset_lines/src/lib.rt": LINES,
+    "crates/high/src/tests.rt": "fn is_refused() -> Error {\n    Error::OutOfMemory\n}\n",
     "crates/low/src/lib.rt": LOW,
     "crates/low/src/tests/more.rt": "fn is_refused() -> Error {\n    Error::OutOfMemory\n}\n",
     "crates/high/src/inner/read.rt": "pub fn once(error: Error) -> bool {\n    matches!(error, Error::OutOfMemory)\n}\n",
 }
-READ = "crates/high/src/inner/read.rt"
+READ, WRITER = "crates/high/src/inner/read.rt", "crates/subset_lines/src/lib.rt"
 ARM = "        Err(Error::OutOfMemory) => Err(Error::OutOfMemory),\n"
 # Name, file, the text in whose place the plant is (None: the end), the plant, and a line that is printed; None where it is allowed.
 PLANTS = [
@@ -75,6 +99,18 @@ PLANTS = [
     ("a type", READ, None, "fn other(error: AllocFailed<u8>, other: Result<u8, AllocError>) {}\n", None),
     ("a test", READ, None, "#[test]\nfn is_refused() {\n    drop(Error::OutOfMemory);\n}\n", None),
     ("another file", "crates/high/src/notes.txt", None, "OutOfMemory\n", None),
+    ("an impl From with a parameter", READ, None, "impl<T> From<AllocFailed<T>> for Error {\n    fn from(_: AllocFailed<T>) -> Self {\n        Error::OutOfMemory\n    }\n}\n", None),
+    ("another impl", READ, None, "impl Made for Error {\n    fn made() -> Self {\n        Error::OutOfMemory\n    }\n}\n", f"{READ}:6: made tells out of memory without a refused request"),
+    ("a place behind a quotation mark", READ, None, "fn other(c: char) -> Error {\n    drop(c == '\"');\n    Error::OutOfMemory\n}\n", f"{READ}:6: other tells out of memory without a refused request"),
+    ("a place behind a ghost item", READ, None, "ghost law: { a ≡ b };\nfn other() -> Error {\n    Error::OutOfMemory\n}\n", f"{READ}:6: other tells out of memory without a refused request"),
+    ("a place behind a test", READ, None, "#[test]\nfn one() {\n    drop(1);\n}\nfn other() -> Error {\n    Error::OutOfMemory\n}\n", f"{READ}:9: other tells out of memory without a refused request"),
+    ("an enum", READ, None, "enum Other {\n    OutOfMemory,\n}\n", f"{READ}:5: enum Other tells out of memory without a refused request"),
+    ("a writer that failed, and none did", WRITER, None, "pub fn three() -> Result<(), Unwritten> {\n    Err(Unwritten)\n}\n", f"{WRITER}:22: three says that a writer failed, and none did"),
+    ("a write that went well", WRITER, 'b"x").is_err()', 'b"x").is_ok()', f"{WRITER}:6: one says that a writer failed, and none did"),
+    ("another condition", WRITER, 'out.put(b"x").is_err()', "out.len() > 2", f"{WRITER}:6: one says that a writer failed, and none did"),
+    ("a request that went well", WRITER, "let Ok(list)", "let Some(list)", f"{WRITER}:16: two says that a writer failed, and none did"),
+    ("a closure of its own", WRITER, ".map_err(|_| ", ".ok_or_else(|| ", f"{WRITER}:18: two says that a writer failed, and none did"),
+    ("nothing says that a writer failed", WRITER, LINES, "pub struct Unwritten;\n", "0 places say that a writer failed"),
 ]
 
 

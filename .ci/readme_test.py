@@ -190,12 +190,50 @@ def try_changes(folder):
     return len(CHANGED + UNCHANGED), wrong
 
 
+# What a gate printed, and what is kept of it.
+BODY = ["2 crates proved before by `rt ci` on the machine", "the bindings (bindings): passed in 60 s", "the page (js): skipped, as was asked for", "812 passed, 0 failed"]
+
+
+def try_runs(folder):
+    """What `make` is called with and how it ends, and each line of the page: how many runs were tried, and how many results are wrong."""
+    page, wrong, bin_of = os.path.join(folder, RESULTS + "gate.md"), 0, os.path.join(folder, ".git", "further")
+    os.makedirs(bin_of)
+    called, log = os.path.join(bin_of, "called"), os.path.join(folder, ".git", "log")
+    restore({log: KEPT + PASSED + "the page (js): skipped, as was asked for\n812 passed, 0 failed\n"})
+    os.utime(log, (981158400, 981158400))
+    with open(page, encoding="utf-8") as file:
+        before = file.read()
+    given = ["--from", log, "--minutes", "61", "--commit", "HEAD"]
+    for name, words, status, is_kept in (("a gate that says that it passed, and fails", ["SKIP=js"], 2, False), ("a gate with words", ["SKIP=js"], 0, True), ("a log without minutes", [*given[:2], *given[4:]], 0, False),
+                                         ("a log without its commit", given[:4], 0, False), ("minutes without a log", given[2:], 0, False), ("a whole log", [*given, "SKIP=js"], 0, True)):
+        restore({os.path.join(bin_of, "make"): f'#!/bin/sh\necho "$@" > {called}\ncat {log}\nexit {status}\n'})
+        os.chmod(os.path.join(bin_of, "make"), 0o755)
+        ended, said = run(folder, sys.executable, "compare/gate.py", *words, PATH=f"{bin_of}{os.pathsep}{os.environ['PATH']}")
+        with open(page, encoding="utf-8") as file:
+            after = file.read()
+        is_well = (ended == 0) == is_kept == (after != before) and "Traceback" not in said
+        if os.path.exists(called):
+            with open(called, encoding="utf-8") as file:
+                is_well = is_well and file.read() == "test SKIP=js\n"
+            os.unlink(called)
+        if is_kept:
+            head, _, body = after.partition("\n\n## What it printed\n\n")
+            fields, is_log = dict(re.findall(r"^- (\w+): (.*)$", head, re.M)), words[0] == "--from"
+            commit = planted.git(folder, "rev-parse", "--short", "HEAD").strip()
+            is_well = is_well and body.split("\n") == ["```text", f"{61 if is_log else 0} minutes", *BODY, "```", ""]
+            is_well = is_well and [fields.get(it) for it in ("Passed", "Commit", "Command")] == ["yes", f"`{commit}`", "`make test SKIP=js`"] and (fields.get("Date", "") == "2001-02-03") == is_log
+        wrong += not is_well
+        print(f"{'recorded' if after != before else 'refused'}{'' if is_well else ', WRONGLY'}: {name}: status {ended}: {said.strip()[-150:]}")
+        run(folder, "git", "checkout", "-q", "--", ".")
+    return 6, wrong
+
+
 def main():
     names, is_gate = sys.argv[1:], sys.argv[1:] == ["--gate"]
     with planted.copy() as folder:
         found = [] if is_gate else [try_plants(folder, [".ci/evidence.py"], PLANTS, names), try_plants(folder, [".ci/examples.py", "rust"], EXAMPLES, names),
                                     try_plants(folder, [".ci/pdf_examples.py", "rust"], PDF_EXAMPLES, names)]
-        found += [try_logs(folder), try_changes(folder)] if is_gate or not names else []
+        found += [try_logs(folder), try_changes(folder), try_runs(folder)] if is_gate or not names else []
     tried, wrong = map(sum, zip(*found))
     print(f"readme_test: {tried} bugs and logs, {wrong} results are wrong")
     sys.exit(bool(wrong))

@@ -27,6 +27,14 @@ OF_WINDOWS = {"KERNEL32.dll", "msvcrt.dll", "ntdll.dll", "bcrypt.dll", "ADVAPI32
 # What a bill of materials has to list beside a package's own files, by a part of the name; a package has the first that fits.
 LINKED = [("windows", {"rust": "1.63.0", "mingw": "10.0.0", "gcc": "12.2.0"}), ("win_amd64", {"rust": "1.63.0", "mingw": "10.0.0", "gcc": "12.2.0"}),
           ("s390x", {"rust": "1.63.0"}), (".tgz", {"rust": "1.63.0"}), ("native", {"kit": "KIT"}), (".crate", {}), ("", {"kit": "KIT"})]
+# What a bill says of these: the name, the licence, and who supplies it.
+OF_PARTS = {
+    "kit": ("Rattle's kit: its library and C files", "NOASSERTION", "NOASSERTION"),
+    "rust": ("Rust's standard library", "MIT OR Apache-2.0", "Organization: Debian"),
+    "mingw": ("mingw-w64's runtime", "ZPL-2.1", "Organization: Debian"),
+    "gcc": ("GCC's runtime library", "GPL-3.0-or-later WITH GCC-exception-3.1", "Organization: Debian"),
+    "original": ("subsetter", "MIT OR Apache-2.0", "NOASSERTION"),
+}
 # What a package has beside the program, and the files in crates/subset_font.
 OF_PROGRAM = {
     "share/man/man1/subset_font.1": "subset_font.1",
@@ -136,7 +144,9 @@ class Looker:
                 "documentNamespace": f"https://spdx.org/spdxdocs/{name}-{sum_of}",
                 "creationInfo": {"created": "1980-01-01T00:00:00Z", "creators": ["Tool: dist/make"]}}
         self.demand({it: said.get(it) for it in head} == head, f"{name}.spdx.json: its head")
-        wanted = {"versionInfo": number, "packageFileName": name, "licenseDeclared": LICENCE, "licenseConcluded": LICENCE, "filesAnalyzed": True,
+        called = "subsetter-proved" if name.endswith(".tgz") else "subsetter-native" if "native" in name else "subsetter"
+        wanted = {"name": called, "versionInfo": number, "packageFileName": name, "licenseDeclared": LICENCE, "licenseConcluded": LICENCE, "filesAnalyzed": True,
+                  "downloadLocation": "NOASSERTION", "copyrightText": "NOASSERTION",
                   "checksums": [{"algorithm": "SHA256", "checksumValue": sum_of}]}
         self.demand({it: package.get(it) for it in wanted} == wanted, f"{name}.spdx.json: the package isn't {name} of version {number}")
         self.bill_of_files(name, said, package, data)
@@ -155,6 +165,8 @@ class Looker:
             found[it["fileName"]] = {sum_of["algorithm"]: sum_of["checksumValue"] for sum_of in it["checksums"]}
         wanted = {f"./{path}": {"SHA1": hashlib.sha1(it).hexdigest(), "SHA256": hashlib.sha256(it).hexdigest()} for path, it in content(name, data).items()}
         self.demand(found == wanted and wanted, f"{name}.spdx.json lists other files than the package has: {sorted({*found} ^ {*wanted})[:3]}")
+        others = [it["fileName"] for it in said["files"] if (it.get("licenseConcluded"), it.get("copyrightText")) != (LICENCE, "NOASSERTION")]
+        self.demand(not others, f"{name}.spdx.json: files of another licence: {others[:3]}")
         code = hashlib.sha1("".join(sorted(it["SHA1"] for it in wanted.values())).encode()).hexdigest()
         self.demand(package.get("packageVerificationCode") == {"packageVerificationCodeValue": code}, f"{name}.spdx.json: its verification code")
 
@@ -165,13 +177,22 @@ class Looker:
         self.demand(linked == wanted, f"{name}.spdx.json: what is linked is {linked}, and not {wanted}")
         port = [own[other].get("versionInfo") for one, kind, other in related if (one, kind) == ("SPDXRef-Package", "DESCENDANT_OF") and other in own]
         self.demand(port == [self.number], f"{name}.spdx.json: it is a port of {port}")
+        for key in [*parts, "original"]:
+            title, licence, supplier = OF_PARTS[key]
+            entry = {"name": title, "supplier": supplier, "filesAnalyzed": False, "downloadLocation": "NOASSERTION", "licenseConcluded": licence,
+                     "licenseDeclared": licence, "copyrightText": "NOASSERTION"}
+            found = own.get(f"SPDXRef-Part-{key}", {})
+            self.demand({it: found.get(it) for it in entry} == entry, f"{name}.spdx.json: what it says of {key} is {found}")
 
     def proved(self):
         text = self.read("PROVED").decode()
         head = subprocess.run(["git", "-C", ROOT, "rev-parse", "HEAD"], capture_output=True, text=True).stdout.strip()
         lines = text.split("\n")
         self.demand(lines[0] == f"subsetter {self.version}", f"PROVED is of {lines[0]}")
-        self.demand(lines[1].split()[1:2] == [head], f"PROVED is of the {lines[1]}, and this is {head}")
+        changed = subprocess.run(["git", "-C", ROOT, "status", "--porcelain", "--untracked-files=no"], capture_output=True, text=True, check=True).stdout.strip()
+        wanted = f"commit {head}" + (" and changes that no commit holds" if changed else "")
+        self.demand(lines[1] == wanted, f"PROVED is of the {lines[1]}, and this is the {wanted}")
+        self.filled("PROVED", text)
         self.kit()
         said = dict(it.partition(": logic=")[::2] for it in lines if ": logic=" in it)
         wanted = {f"subsetter_c, compiled for {it}": TRIPLES[it] for it in self.targets}
@@ -242,6 +263,9 @@ class Looker:
         self.demand(readme.startswith(f"# subsetter {self.version} for Linux on {target}\n"), f"{name}: README.md")
         self.licensed(f"{name}: README.md", readme, f"The licence is {LICENCE}: ")
         self.demand(proved in readme, f"{name}: README.md doesn't say what is proved")
+        self.names_files(name, readme, found)
+        for path in ("lib/pkgconfig/subsetter.pc", *(f"lib/cmake/subsetter/subsetter-config{it}.cmake" for it in ("", "-version"))):
+            self.filled(f"{name}: {path}", found.get(path, b"").decode())
         self.library(name, target, found.get(f"lib/{full}", b""), found.get("lib/libsubsetter.a", b""))
         self.says_glibc(name, readme, found.get(f"lib/{full}", b""), *([found["bin/subset_font"]] if "bin/subset_font" in found else []))
         if "bin/subset_font" in found:
@@ -251,6 +275,17 @@ class Looker:
             self.demand(found["bin/subset_font"][18:20] == MACHINES[target], f"{name}: the program is for another processor")
             self.baseline(f"{name}: bin/subset_font", found["bin/subset_font"])
         return found
+
+    def filled(self, name, text):
+        """Each word of a form, as @VERSION@, has its value in a text."""
+        left = re.findall(r"@\w+@", text)
+        self.demand(text and not left, f"{name} has {left or 'no text'}")
+
+    def names_files(self, name, readme, found):
+        """The files and folders of the package that its README names are there."""
+        for path in sorted({*re.findall(r"\b(?:bin|include|lib|share)/[\w./-]*\w", readme)}):
+            self.demand(any(it == path or it.startswith(f"{path}/") for it in found), f"{name}: README.md names {path}, which isn't there")
+        self.filled(f"{name}: README.md", readme)
 
     def licensed(self, name, text, wanted):
         """A text names the licence, by these words."""
@@ -329,6 +364,7 @@ class Looker:
         readme = found.get("README.md", b"").decode()
         self.demand(readme.startswith(f"# subsetter {self.version} for Windows on x86_64\n"), f"{name}: README.md")
         self.licensed(f"{name}: README.md", readme, f"The licence is {LICENCE} (LICENSE, NOTICE).")
+        self.names_files(name, readme, found)
         self.packed += [(name, path, it) for path, it in found.items()]
         self.dll(name, found.get("bin/subsetter.dll", b""))
         return found.get("bin/subsetter.dll", b"")
@@ -375,12 +411,16 @@ class Looker:
         for line in ("Metadata-Version: 2.4", "Name: subsetter", f"Version: {self.wheel_version}", "Requires-Python: >=3.8"):
             self.demand(f"\n{line}\n" in f"\n{metadata}", f"{names[0]}: METADATA has no line {line}")
         self.licensed(f"{names[0]}: METADATA", metadata, f"\nLicense-Expression: {LICENCE}\nLicense-File: LICENSE\nLicense-File: NOTICE\n")
-        self.tags(names[0], found.get(f"{info}/WHEEL", b"").decode(), shared)
+        self.filled(f"{names[0]}: METADATA", metadata)
+        text = found.get(f"{info}/WHEEL", b"").decode()
+        self.demand(text.startswith("Wheel-Version: 1.0\nGenerator: dist/make\nRoot-Is-Purelib: false\nTag: "), f"{names[0]}: WHEEL begins with {text[:60]!r}")
+        self.tags(names[0], text, shared)
         self.demand(found.get(f"subsetter/{library}") == shared, f"{names[0]}: its library isn't that for C")
         is_proved = "That is proved of the library" in metadata and "by a proved library" in metadata
         self.demand(is_proved == (target != "amd64"), f"{names[0]}: METADATA says that the library is {'' if is_proved else 'not '}proved")
-        with open(os.path.join(ROOT, "bindings", "python", "subsetter", "__init__.py"), "rb") as file:
-            self.demand(found.get("subsetter/__init__.py") == file.read(), f"{names[0]}: its module isn't that of bindings/python")
+        for it in ("__init__.py", "py.typed"):
+            with open(os.path.join(ROOT, "bindings", "python", "subsetter", it), "rb") as file:
+                self.demand(found.get(f"subsetter/{it}") == file.read(), f"{names[0]}: its {it} isn't that of bindings/python")
 
     def recorded(self, name, info, found):
         rows = list(csv.reader(io.StringIO(found.get(f"{info}/RECORD", b"").decode())))
@@ -439,7 +479,12 @@ class Looker:
         name, found = self.crate("subsetter-native", "rust-native", ["build.rs"], ["README.md", *native])
         for target, path in zip(self.targets, native):
             self.demand(found.get(path) == libraries[target], f"{name}: its library for {target} isn't that for C")
-        self.licensed(f"{name}: README.md", found.get("README.md", b"").decode(), f"The licence is {LICENCE} (LICENSE, NOTICE).")
+        readme = found.get("README.md", b"").decode()
+        self.licensed(f"{name}: README.md", readme, f"The licence is {LICENCE} (LICENSE, NOTICE).")
+        self.demand(readme.startswith(f"# subsetter-native {self.version}\n") and f'path = "subsetter-native-{self.version}"' in readme, f"{name}: README.md is of another version")
+        self.filled(f"{name}: README.md", readme)
+        with open(os.path.join(ROOT, "bindings", "rust", "README.md"), "rb") as file:
+            self.demand(plain[1].get("README.md") == file.read(), f"{plain[0]}: its README.md isn't that of bindings/rust")
 
     def crate(self, package, folder, own, more):
         """The name and the files of a crate: those of a folder of the bindings as they are, and more."""
@@ -471,6 +516,11 @@ class Looker:
         said = found.get("package/package.json", b"").decode()
         self.demand(f'"version": "{self.npm_version}"' in said, f"{name}: package.json")
         self.licensed(f"{name}: package.json", said, f'"license": "{LICENCE}"')
+        for it in ("README.md", "package.json", "subsetter.d.mts", "subsetter.mjs"):
+            with open(os.path.join(ROOT, "bindings", "js", it), encoding="utf-8") as file:
+                own = file.read().replace('"version": "0.0.0"', f'"version": "{self.npm_version}"')
+            self.demand(found.get(f"package/{it}", b"").decode() == own, f"{name}: its {it} isn't that of bindings/js")
+        self.demand(found.get("package/subsetter.wasm", b"")[:8] == b"\0asm\x01\0\0\0", f"{name}: subsetter.wasm is no module")
         self.carries(name, found, "package/")
         self.packed += [(name, path, data) for path, data in found.items()]
 
