@@ -371,9 +371,11 @@ async function belongings() {
     equal(await page.value("JSON.stringify([...window.urls]) === JSON.stringify([document.getElementById('save').href])"), true, "one file is held, which is the one that is offered");
     const drag = (type) => page.send("Input.dispatchDragEvent", { type, x: 300, y: 300, data: { items: [], files: [file("dots.ttf", example)], dragOperationsMask: 1 } });
     await drag("dragEnter");
-    for (const [type, seen] of [["dragOver", "over"], ["dragCancel", ""]]) {
-        await drag(type);
-        await page.until(`document.body.className === "${seen}"`, 10);
+    await drag("dragOver");
+    await page.until('document.body.className === "over"', 10);
+    // (within the page the pointer comes from one part to another; out of it to none)
+    for (const [to, seen] of [["document.body", "over"], ["null", ""]]) {
+        equal(await page.value(`dispatchEvent(new DragEvent("dragleave", { relatedTarget: ${to} })), document.body.className`), seen, `what is dragged goes to ${to}`);
     }
     equal(await page.value('document.getElementById("file").accept'), ".ttf,.otf,.ttc,.otc,font/*", "the files that are offered to be chosen");
     quiet(page);
