@@ -195,6 +195,7 @@ def check_types():
         if not isinstance(it, tuple):
             check({name for name in vars(it) if name[0] != "_"} == set(fields), f"the parts of a font for a PDF: {sorted(vars(it))}")
     check(set(shapes) == set(TYPES), f"annotations of what isn't answered, or the other way: {set(shapes) ^ set(TYPES)}")
+    check({key for key, it in TYPES.items() if it.startswith("Literal")} == {("PdfFont", "kind"), ("Permission", "usage")}, "what has one of some names")
     for key, annotation in TYPES.items():
         found = shapes[key] - {None, "None"}
         if annotation.startswith("Literal"):
