@@ -372,7 +372,7 @@ async function belongings() {
     const drag = (type) => page.send("Input.dispatchDragEvent", { type, x: 300, y: 300, data: { items: [], files: [file("dots.ttf", example)], dragOperationsMask: 1 } });
     await drag("dragEnter");
     await drag("dragOver");
-    await page.until('document.body.className === "over"', 10);
+    await page.until('document.body.className === "over"');
     // (within the page the pointer comes from one part to another; out of it to none)
     for (const [to, seen] of [["document.body", "over"], ["null", ""]]) {
         equal(await page.value(`dispatchEvent(new DragEvent("dragleave", { relatedTarget: ${to} })), document.body.className`), seen, `what is dragged goes to ${to}`);
@@ -391,7 +391,9 @@ async function belongings() {
         form.action = at;
         document.body.append(form);
         form.submit();
-        setTimeout(() => done([...found].sort().join()), 500);
+        // (on a machine that is busy they come late)
+        const look = (times) => (found.size >= ${REFUSED.split(",").length} || times > 400 ? done([...found].sort().join()) : setTimeout(look, 50, times + 1));
+        setTimeout(look, 200, 0);
     })`);
     equal(refused, REFUSED, "what the page's policy refuses");
 }
