@@ -268,7 +268,8 @@ async function byKeyboard() {
     await to("example");
     await after(page, () => page.key("Enter"));
     await to("text");
-    await page.value("window.isKept = true");
+    // (the policy would refuse what a form sends)
+    await page.value(`window.isKept = true, addEventListener("securitypolicyviolation", () => (window.isKept = "a form is sent"))`);
     await page.key("Enter");
     await page.key("a", 2);
     await page.key("Backspace");
