@@ -271,6 +271,7 @@ async function byKeyboard() {
     // (the policy would refuse what a form sends)
     await page.value(`window.isKept = true, addEventListener("securitypolicyviolation", () => (window.isKept = "a form is sent"))`);
     await page.key("Enter");
+    await page.value('document.getElementById("form").requestSubmit()');
     await page.key("a", 2);
     await page.key("Backspace");
     await page.type("CAB");
