@@ -958,6 +958,14 @@ def check_faults():
     check(ran.returncode == 0 and re.search(r"^faults: \d+ checks, 0 failed$", ran.stdout, re.M), f"faults_test.py ends with {ran.returncode}")
 
 
+def check_programs():
+    """What the module says of itself, and its build: programs of their own."""
+    for name in ("surface", "build"):
+        ran = subprocess.run([sys.executable, "-B", os.path.join(HERE, f"{name}_test.py"), *sys.argv[1:]], stdout=subprocess.PIPE, stderr=subprocess.STDOUT, text=True)
+        print(ran.stdout, end="")
+        check(ran.returncode == 0 and re.search(rf"^{name}: [1-9]\d* checks, 0 failed$", ran.stdout, re.M), f"{name}_test.py ends with {ran.returncode}")
+
+
 def main():
     fonts, texts = {}, {}
     rows = read_rows(os.path.join(HERE, "../../crates/dev_rows/data/subset.txt"), fonts, texts)
@@ -983,6 +991,7 @@ def main():
     check_threads(rows)
     check_other_threads(fonts)
     check_faults()
+    check_programs()
     print(f"Python: {check_pdf()}")
     print(f"Python: {len(rows)} rows, {check.count} checks, {len(check.failed)} failed")
     return bool(check.failed) or len(rows) < 80 or check.count < 350

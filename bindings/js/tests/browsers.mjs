@@ -8,7 +8,7 @@ import { processesOf, within } from "./profiles.mjs";
 
 const BROWSERS = { chromium: Chromium, firefox: Firefox };
 const read = (name) => readFileSync(fileURLToPath(new URL(name, import.meta.url)));
-const scripts = ["subsetter.mjs", "page/example.mjs", ...["assert", "rows", "calls", "made", "pdf"].map((name) => `tests/${name}.mjs`)];
+const scripts = ["subsetter.mjs", "page/example.mjs", ...["assert", "rows", "calls", "words", "made", "pdf"].map((name) => `tests/${name}.mjs`)];
 // The rows for PDF and their fonts.
 const forPdf = ["pdf_rows.txt", "made.ttf", "made.otf", "made_version_1.otf", "made_variable.ttf", "made_cff2.otf"];
 const server = await serve({

@@ -3,6 +3,7 @@ import { exampleFont } from "../page/example.mjs";
 import { equal, ok, same, throws } from "./assert.mjs";
 import { memoryOf, plainFont } from "./made.mjs";
 import { readRows } from "./rows.mjs";
+import { WORDS } from "./words.mjs";
 
 const PAGE = 65536;
 
@@ -546,9 +547,9 @@ async function waysToLoad({ library, wasm, fonts }) {
 
 /** All of it: the names of the parts. `count` calls are made where the memory is looked at. */
 export async function runCalls(library, wasm, table, count) {
-    const { fonts } = readRows(table), subsetter = await library.load(wasm);
-    const all = { library, subsetter, fonts, wasm };
-    const parts = [wrongArguments, valuesOfCoordinates, kindsOfArguments, longLists, otherRealms, answersAreCopies, openedFonts, gapsAreFilled, memoryStays, memoryEnds, besideEachOther, trapsPass, stackEnds, waysToLoad];
+    const { fonts, texts } = readRows(table), subsetter = await library.load(wasm);
+    const all = { library, subsetter, fonts, texts, wasm, watched };
+    const parts = [wrongArguments, valuesOfCoordinates, kindsOfArguments, longLists, otherRealms, answersAreCopies, openedFonts, gapsAreFilled, memoryStays, memoryEnds, besideEachOther, trapsPass, stackEnds, waysToLoad, ...WORDS];
     for (const part of parts) {
         try {
             await part(all, count);

@@ -40,17 +40,17 @@ function lebAt(bytes, at) {
     }
 }
 
-/** The pages of memory that a module begins with, and a copy of it that gets at most so many. */
+/** The pages of memory that a module begins with, those that it may have, and a copy of it that gets at most so many. */
 export function memoryOf(wasm) {
     for (let at = 8; at < wasm.length; ) {
         const id = wasm[at], [size, start] = lebAt(wasm, at + 1);
         if (id === 5) {
-            const flags = wasm[start + 1], [least] = lebAt(wasm, start + 2);
+            const flags = wasm[start + 1], [least, behind] = lebAt(wasm, start + 2), most = flags & 1 ? lebAt(wasm, behind)[0] : Infinity;
             const capped = (pages) => {
                 const content = [1, flags | 1, ...leb(least), ...leb(pages)];
                 return Uint8Array.from([...wasm.subarray(0, at), 5, ...leb(content.length), ...content, ...wasm.subarray(start + size)]);
             };
-            return { least, capped };
+            return { least, most, capped };
         }
         at = start + size;
     }

@@ -1,7 +1,7 @@
 /** The module in Node: node tests/node.mjs PART.., of rows, calls, pdf, parts, stale, package, fonts, drawings. After `make`. */
 import { execFileSync, spawnSync } from "node:child_process";
 import { mkdtempSync, readFileSync, readdirSync, rmSync, writeFileSync } from "node:fs";
-import { tmpdir } from "node:os";
+import { homedir, tmpdir } from "node:os";
 import { join } from "node:path";
 import { fileURLToPath } from "node:url";
 import * as library from "../subsetter.mjs";
@@ -10,10 +10,12 @@ import { runCalls } from "./calls.mjs";
 import { exampleFont, sfnt } from "../page/example.mjs";
 import { Font, charstringCommands } from "../page/outlines.mjs";
 import { compare, damagedFonts, realFonts } from "./compare.mjs";
+import { runDrawn } from "./drawn.mjs";
 import { fontFiles, readFont, some } from "./fonts.mjs";
 import { runParts } from "./parts.mjs";
 import { runPdf } from "./pdf.mjs";
 import { readRows, runRows } from "./rows.mjs";
+import { runTyped } from "./typed.mjs";
 
 const here = (name) => fileURLToPath(new URL(name, import.meta.url));
 const read = (name) => readFileSync(here(name));
@@ -21,9 +23,61 @@ const wasm = new Uint8Array(read("../out/subsetter.wasm"));
 const table = read("../../../crates/dev_rows/data/subset.txt").toString();
 const version = read("../../../VERSION").toString().trim();
 
+/** What compares in these tests refuses what differs, and nothing else. */
+function comparing() {
+    const thrower = (error) => () => { throw error; };
+    const differs = [
+        () => ok(false, ""), () => ok(0, ""), () => ok(undefined, ""), () => equal(1, 2, ""), () => equal("1", 1, ""), () => equal(0, -0, ""), () => equal(undefined, null, ""),
+        () => same([1, 2], [1, 2, 3], ""), () => same([1, 2, 3], [1, 2], ""), () => same([1, 2], [1, 3], ""), () => same([], [undefined], ""), () => same(Uint8Array.of(1), [1], ""),
+        () => same(undefined, [], ""), () => same(Uint16Array.of(1), Uint8Array.of(1), ""), () => throws(() => {}, Error, ""), () => throws(thrower(new TypeError("a")), Error, ""),
+        () => throws(thrower(new Error("a")), TypeError, ""), () => throws(thrower(new RangeError("a")), TypeError, ""),
+    ];
+    differs.forEach((call, i) => {
+        let isSeen = false;
+        try {
+            call();
+        } catch (error) {
+            isSeen = error.constructor === Error;
+        }
+        if (!isSeen) throw new Error(`what differs isn't seen: ${i}`);
+    });
+    [ok(true, ""), ok([], ""), equal(NaN, NaN, ""), equal("a", "a", ""), same([], [], ""), same([1, 2], [1, 2], ""), same(Uint8Array.of(7), Uint8Array.of(7), "")].forEach(() => {});
+    equal(throws(thrower(new TypeError("a")), TypeError, "").message, "a", "the error that was thrown");
+}
+
+/** A row of each kind, which is another one after a change: it is seen. */
+function changedRows(subsetter) {
+    const lines = table.split("\n"), front = lines.filter((line) => /^(font|text) /.test(line)), kinds = new Map();
+    for (const line of lines.filter((it) => /^(?!font |text )[a-z]/.test(it))) {
+        const words = line.split(" "), isEmbed = words[0].startsWith("embed"), places = isEmbed ? [-4, -3, -2, -1] : [-2, -1], status = words.at(places[0]);
+        const key = `${words[0]} ${status === "0"}`;
+        if (!["9", "10"].includes(status) && !/ (no_|at_the_(last|first)_of)/.test(line) && !kinds.has(key)) kinds.set(key, { words, places });
+    }
+    const run = (words) => runRows(library, subsetter, [...front, words.join(" ")].join("\n"));
+    ok(kinds.size >= 16, `rows of ${kinds.size} kinds and ends`);
+    for (const [key, { words, places }] of kinds) {
+        equal(run(words), 1, `a row: ${words.slice(0, 5).join(" ")}`);
+        for (const place of key.endsWith("true") ? places : places.slice(0, 1)) {
+            const word = words.at(place), other = place === places[0] ? (Number(word) % 7) + 1 : place === places[1] ? `${word}00` : word === "-" ? "7" : `${word},7`;
+            let isSeen = false;
+            try {
+                run(words.with(place, other));
+            } catch {
+                isSeen = true;
+            }
+            ok(isSeen, `a row with ${String(other).slice(-9)} in the place of ${word.slice(-7)}: ${words.slice(0, 5).join(" ")}`);
+        }
+    }
+}
+
 async function rows() {
+    comparing();
     const subsetter = await library.load(wasm), count = runRows(library, subsetter, table);
-    ok(count >= 30, "there are rows");
+    changedRows(subsetter);
+    // (nine have a tag twice or a bit that isn't known, which can't be said here)
+    equal(count, table.split("\n").filter((line) => /^(?!font |text )[a-z]/.test(line)).length - 9, "rows that are run");
+    const top = here("../../../").slice(0, -1);
+    for (const path of [top, homedir()]) ok(path.length < 3 || !Buffer.from(wasm).includes(path), `the module names ${path}`);
     equal(subsetter.version, version, "the library's version");
     // A real font, as the program has it: bindings/test puts it into rows of its own.
     const more = process.env.SUBSETTER_FONT_ROWS, real = more ? runRows(library, subsetter, readFileSync(more, "utf8")) : 0;
@@ -67,12 +121,24 @@ async function parts() {
 
 /** The module that is there is that of the sources: make has nothing to do, and would have once one of them were newer. */
 async function stale() {
-    const target = "out/subsetter.wasm", ask = (...words) => spawnSync("make", ["-q", ...words, target], { cwd: here("..") }).status;
+    const askFor = (file, ...words) => spawnSync("make", ["-q", ...words, file], { cwd: here("..") }).status;
+    const target = "out/subsetter.wasm", ask = (...words) => askFor(target, ...words);
     equal(ask(), 0, "what make has to do for the module");
     const sources = ["../rust/src/lib.rs", "../rust/src/proved/subsetter/mod.rs", "../capi/src/status.rs", "module/lib.rs", "module/heap.rs", "../../VERSION", "Makefile"];
     for (const name of sources) {
         ok(readFileSync(here(`../${name}`)).length > 0, `${name} is there`);
         equal(ask("-W", name), 1, `what make has to do once ${name} is newer`);
+    }
+    // So is the page, which is made here without the module, and what the heap's own test runs.
+    const made = spawnSync("make", ["-s", "-o", target, "page"], { cwd: here("..") });
+    equal(made.status, 0, "the page is made");
+    const others = {
+        "out/page.html": [target, "subsetter.mjs", ...readdirSync(here("../page")).map((name) => `page/${name}`)],
+        "out/parts.wasm": ["tests/parts.rs", "module/heap.rs", "Makefile"], "out/libsubsetter.rlib": ["../rust/src/lib.rs", "../../VERSION", "Makefile"],
+    };
+    for (const [file, from] of Object.entries(others)) {
+        equal(askFor(file), 0, `what make has to do for ${file}`);
+        for (const name of from) equal(askFor(file, "-W", name), 1, `what make has to do for ${file} once ${name} is newer`);
     }
     return `${sources.length} sources`;
 }
@@ -99,6 +165,12 @@ async function packed() {
         equal(manifest.license, "MIT OR Apache-2.0", "the licence");
         for (const name of ["LICENSE", "NOTICE"]) equal(readFileSync(join(folder, "node_modules/subsetter-proved", name), "utf8"), read(`../../../${name}`).toString(), name);
         ok(!("dependencies" in manifest), "no dependency is named");
+        const source = JSON.parse(read("../package.json"));
+        equal(JSON.stringify({ ...manifest, version: "" }), JSON.stringify({ ...source, version: "" }), "the manifest");
+        equal(`${manifest.name} ${manifest.type} ${manifest.sideEffects}`, "subsetter-proved module false", "what bundlers read of it");
+        const top = join(folder, "node_modules/subsetter-proved");
+        equal([...manifest.files, "package.json", "README.md"].sort().join(), readdirSync(top).sort().join(), "the files that are named, and those that are there");
+        for (const name of ["subsetter.mjs", "subsetter.d.mts", "README.md"]) ok(readFileSync(join(top, name)).equals(read(`../${name}`)), `${name} is another one`);
         filesOf(manifest, join(folder, "node_modules/subsetter-proved"));
         readmeExamples(folder);
         ok(readFileSync(join(folder, "node_modules/subsetter-proved/subsetter.wasm")).equals(Buffer.from(wasm)), "its module is another one");
@@ -108,6 +180,7 @@ async function packed() {
     const typed = [...read("../subsetter.d.mts").toString().matchAll(/^export (?:class|function) (\w+)/gm)].map(([, name]) => name);
     equal(typed.sort().join(), Object.keys(library).sort().join(), "what the types name");
     await typedMembers(read("../subsetter.d.mts").toString());
+    await runTyped(library, wasm, read("../subsetter.d.mts").toString());
     return file;
 }
 
@@ -133,6 +206,10 @@ function readmeExamples(folder) {
     writeFileSync(join(folder, "readme.mjs"), front + first + behind.map((text) => `{\n${text}\n}`).join("\n"));
     const said = execFileSync(process.execPath, ["readme.mjs"], { cwd: folder, encoding: "utf8" });
     equal(said, "true 1,2\ntrue 1,2\ntrue\n", "the README's examples");
+    const [, pdf, ...more] = read("../README.md").toString().split("```mjs\n").flatMap((text) => text.split("```\n", 1));
+    writeFileSync(join(folder, "pdf.mjs"), pdf);
+    execFileSync(process.execPath, ["pdf.mjs"], { cwd: folder });
+    ok(more.length === 0 && readFileSync(join(folder, "hello.pdf"), "latin1").startsWith("%PDF-1.7\n"), "the README's PDF");
 }
 
 /** What the types name of the interfaces is there, with the limits that they name. */
@@ -213,6 +290,7 @@ function byHand() {
 /** Glyphs of real fonts draw alike from the source and from the subset, as the page reads both. */
 async function drawings() {
     byHand();
+    runDrawn();
     const subsetter = await library.load(wasm);
     let drawn = 0, kinds = new Set();
     for (const path of some(fontFiles(), 24)) {

@@ -57,6 +57,11 @@ const shown = (page) =>
         paths: [...document.querySelectorAll("figure")].map((it) => [...it.querySelectorAll("path")].map((path) => path.getAttribute("d"))),
         captions: [...document.querySelectorAll("figcaption")].map((it) => [...it.children].map((part) => part.textContent)),
         name: document.getElementById("save").download,
+        texts: ["source-size", "source-name", "subset-size", "subset-part"].map((id) => document.getElementById(id).textContent),
+        drawings: [...document.querySelectorAll("figure svg")].map((svg) => {
+            const path = svg.querySelector("path"), { x, y, width, height } = path.getBBox(), map = path.transform.baseVal.consolidate()?.matrix, view = svg.viewBox.baseVal;
+            return { label: svg.getAttribute("aria-label"), box: [x, y, x + width, y + height], map: map && [map.a, map.b, map.c, map.d, map.e, map.f], view: [view.x, view.y, view.x + view.width, view.y + view.height] };
+        }),
     })`);
 
 let completed = 0;
@@ -86,6 +91,19 @@ async function check(page, source, glyphs, options, what) {
     const widths = sizes.flatMap(([, one, other]) => [one, other].filter((it) => it !== undefined)).map((it) => (100 * it) / largest);
     equal(view.bars.length, widths.length, `${what}: bars`);
     view.bars.forEach(([, width], i) => ok(Math.abs(parseFloat(width) - widths[i]) < 0.01, `${what}: bar ${i}`));
+    const kinds = sizes.flatMap(([, , other]) => (other === undefined ? ["bar source"] : ["bar source", "bar subset"]));
+    equal(view.bars.map(([kind]) => kind).join(), kinds.join(), `${what}: which bar is which`);
+    equal([view.texts[0], view.texts[2]].join(), [source, made.font].map((it) => `${count(it.length)} bytes`).join(), `${what}: the sizes of both`);
+    const part = (100 * made.font.length) / source.length;
+    ok(view.texts[3].endsWith(" % of the file") && Math.abs(parseFloat(view.texts[3]) - part) <= part / 20, `${what}: ${view.texts[3]}, and not ${part}`);
+    // Each drawing is upright, in the middle of what is seen, and says which glyph it is.
+    equal(view.drawings.map(({ label }) => label).join(), asked.flatMap(([old, cid]) => [`glyph ${old} of the source`, `glyph ${cid} of the subset`]).join(), `${what}: the labels`);
+    view.drawings.forEach(({ box: [left, low, right, high], map, view: [x, y, behind, below] }, i) => {
+        equal(map?.join(), "1,0,0,-1,0,0", `${what}: drawing ${i} is upright`);
+        // (these numbers have 24 bits)
+        ok(x <= Math.min(left, 0) + 1e-5 && Math.max(right, 0) <= behind + 1e-5, `${what}: drawing ${i} is wider than what is seen`);
+        ok(y <= -high + 1e-5 && y <= -1 && -low <= below + 1e-5 && below > 0.2, `${what}: drawing ${i} is taller than what is seen`);
+    });
     equal(view.same.join(), asked.map(() => "true").join(), `${what}: the drawings are alike`);
     view.paths.forEach(([one, other], i) => {
         equal(one, other, `${what}: drawing ${i}`);
@@ -104,6 +122,8 @@ async function byMouse() {
     await after(page, () => page.drop("#drop", [file("dots.ttf", example)]));
     const first = await check(page, example, glyphsOf("ÄB2"), {}, "a dropped font");
     equal(first.name, "subset-dots.ttf", "the name of the saved file");
+    equal(first.texts[1], "dots.ttf", "the name of the source");
+    equal(await page.value("document.body.className"), "", "after a drop nothing is dragged");
     equal(JSON.stringify(first.captions.map(([name]) => name)), '["","Ä","B","2"]', "the characters under the drawings");
     ok((await text(page, "drawn")).includes("3 further glyphs are"), "further glyphs: dot, A and the dieresis");
     equal((await page.value("window.heard")).map((it) => it.split(" ")[0]).join(), "Reading,Subsetting,Drawing,Done:", "what the page says while it works");
@@ -111,6 +131,9 @@ async function byMouse() {
     await after(page, () => set(page, "text", "ZEBRA Ж"));
     await check(page, example, glyphsOf("ZEBRA "), {}, "another text");
     ok((await text(page, "said")).endsWith("The font has no glyph for “Ж”."), "a character that isn't there");
+    await after(page, () => set(page, "text", "ЖZЯЖ\u{1f600}Я"));
+    ok((await text(page, "said")).endsWith("The font has no glyph for “Ж”, “Я”, “\u{1f600}”."), "characters that aren't there, each once");
+    await after(page, () => set(page, "text", "ZEBRA Ж"));
     // A glyph that two characters ask for has the first one under it.
     await after(page, () => set(page, "text", "Aab BA"));
     const twice = await check(page, example, glyphsOf("Ab "), {}, "characters with the same glyph");
@@ -121,16 +144,20 @@ async function byMouse() {
     await check(page, example, [...new Set([...glyphsOf("ZEBRA "), 5, 9, 10, 11])], {}, "text and numbers");
     await after(page, () => set(page, "text", ""));
     await check(page, example, [5, 9, 10, 11], {}, "numbers alone");
+    await after(page, () => set(page, "numbers", "5; 9-9 ;10-11,7"));
+    await check(page, example, [5, 9, 10, 11, 7], {}, "numbers by other signs");
     await after(page, () => set(page, "numbers", ""));
     await check(page, example, [], {}, "nothing asked for");
-    for (const wrong of ["5, x", "70000", "9-5", "-3", "1.5"]) {
+    for (const wrong of ["5, x", "70000", "9-5", "-3", "1.5", "65536", "5-65536", "5-", "0x5", "5-6-7", "123456"]) {
         await after(page, () => set(page, "numbers", wrong));
         const view = await shown(page);
         ok(!view.trouble && view.result, `${wrong}: the trouble alone is to be seen`);
         ok((await text(page, "trouble")).includes("is no glyph number from 0 to 65535"), `${wrong}: ${await text(page, "trouble")}`);
     }
-    await after(page, () => set(page, "numbers", "60000"));
-    ok((await text(page, "trouble")).startsWith("MalformedFont\n"), "a glyph that isn't there");
+    for (const number of ["60000", "65535", "65534-65535"]) {
+        await after(page, () => set(page, "numbers", number));
+        ok((await text(page, "trouble")).startsWith("MalformedFont\n"), "a glyph that isn't there");
+    }
     await after(page, () => set(page, "numbers", "7"));
     // Each choice by itself.
     const full = exampleFont({ prep: [0x4f], "cvt ": [0, 1] });
@@ -148,10 +175,14 @@ async function byMouse() {
     equal(await page.value('document.getElementById("face-field").hidden'), false, "the face is asked for");
     await after(page, () => set(page, "numbers", "4"));
     await after(page, () => set(page, "face", "1"));
-    same((await save(page)).data, subsetter.subset(ttc, [4], { index: 1 }), "face 1");
+    const { name, data } = await save(page);
+    same(data, subsetter.subset(ttc, [4], { index: 1 }), "face 1");
+    equal(name, "subset-two.ttf", "the name of a subset of a collection");
+    equal(await page.value('document.getElementById("face").max'), "1", "the last face");
     await after(page, () => set(page, "numbers", "1-299"));
     await after(page, () => page.drop("#drop", [file("many.ttf", plainFont(300, 16))]));
     equal(await page.value('document.getElementById("face-field").hidden'), true, "the face isn't asked for");
+    equal(await page.value('document.getElementById("face").value'), "0", "the first face of another file");
     equal((await shown(page)).same.length, 240, "drawings of many glyphs");
     ok((await text(page, "drawn")).endsWith("The first 240 of 300 are drawn."), "what isn't drawn is said");
     // Fonts that are none, and then one again.
@@ -237,6 +268,10 @@ async function byKeyboard() {
     await to("example");
     await after(page, () => page.key("Enter"));
     await to("text");
+    // (the policy would refuse what a form sends)
+    await page.value(`window.isKept = true, addEventListener("securitypolicyviolation", () => (window.isKept = "a form is sent"))`);
+    await page.key("Enter");
+    await page.value('document.getElementById("form").requestSubmit()');
     await page.key("a", 2);
     await page.key("Backspace");
     await page.type("CAB");
@@ -254,8 +289,118 @@ async function byKeyboard() {
     const nameless = nodes.filter(({ ignored, role, name }) => !ignored && roles.includes(role?.value) && !name?.value);
     equal(nameless.map(({ role }) => role.value).join(), "", "fields without a name");
     equal(await page.value('document.getElementById("said").getAttribute("aria-live")'), "polite", "aria-live");
+    equal(await page.value("window.isKept"), true, "Enter in a field keeps the page");
     quiet(page);
 }
+
+/** The page with something else in the place of a text that it has once. */
+async function changed(name, from, to, whole = readFileSync(here("../out/page.html"), "utf8")) {
+    equal(whole.split(from).length, 2, `${name}: what is changed`);
+    const page = await browser.page();
+    page.address = pathToFileURL(file(name, whole.replace(from, () => to))).href;
+    await page.go(page.address);
+    return page;
+}
+
+/** Of each error words of why, and of what to do, which no other has. */
+const ADVICE = {
+    UnknownKind: ["doesn't begin as an OpenType font", "WOFF"], MalformedFont: ["missing or cut", "the glyph numbers and the face first"], Unimplemented: ["outlines are CFF2", "Take a font with CFF or TrueType outlines"],
+    SubsetError: ["A string that is kept lies outside its table", "without the names"], OverflowError: ["no number for glyph 0", "Ask for fewer glyphs"], CFFError: ["outline of a glyph can't be run", "made to do harm"],
+    OutOfMemory: ["no memory left", "Close other pages"],
+};
+
+/** What is said of each error that a subset may have, and of others. */
+async function advice() {
+    const url = (code) => `data:text/javascript;base64,${Buffer.from(code).toString("base64")}`, named = `document.getElementById("text").value`;
+    const lie = `export const load = async () => ({ embed: () => { throw Object.assign(new (${named} === "TypeError" ? TypeError : Error)("of mine"), { name: ${named} }) } });`;
+    const page = await changed("erring.html", url(readFileSync(here("../subsetter.mjs"))), url(lie));
+    await page.until("document.body.dataset.ready === 'true'");
+    await after(page, () => page.drop("#drop", [file("dots.ttf", exampleFont())]));
+    const parts = async () => Promise.all(["trouble-name", "trouble-why", "trouble-do", "said"].map((id) => text(page, id)));
+    for (const [error, words] of Object.entries(ADVICE)) {
+        await after(page, () => set(page, "text", error));
+        const [name, why, what, said] = await parts(), others = Object.entries(ADVICE).filter(([it]) => it !== error).flatMap(([, it]) => it);
+        equal(`${name}; ${said}`, `${error}; dots.ttf can't be subset: of mine.`, "the error that is named");
+        ok(why.includes(words[0]) && what.startsWith("What to do: ") && what.includes(words[1]), `${error}: ${why} ${what}`);
+        ok(!others.some((it) => `${why} ${what}`.includes(it)), `${error} has words of another: ${why} ${what}`);
+    }
+    for (const [error, wanted] of [["TypeError", "What to do: Write numbers and ranges, as in 36, 68-70."], ["Other", ""]]) {
+        await after(page, () => set(page, "text", error));
+        equal((await parts()).join("; "), `These glyphs can't be read; of mine; ${wanted}; Nothing was subset.`, `an error of another kind: ${error}`);
+    }
+    quiet(page);
+    await after(page, () => page.value('document.getElementById("example").click()'));
+    ok((await text(page, "said")).startsWith("Nothing was subset"), "the example");
+}
+
+/** A module that is none, and a file that can't be read. */
+async function failures() {
+    const whole = readFileSync(here("../out/page.html"), "utf8"), [module] = /(?<=id="module">)[^<]*/.exec(whole);
+    const broken = await changed("broken.html", module, "AGFzbQEAAAA=", whole);
+    await broken.until('!document.getElementById("trouble").hidden');
+    await broken.until('document.getElementById("said").textContent === "Nothing can be done here."');
+    ok((await text(broken, "trouble")).startsWith("The subsetter can't be started\n"), "a page without a module");
+    equal(await broken.value("document.body.dataset.ready ?? document.getElementById('result').hidden"), true, "it isn't ready");
+    const page = await opened(), example = exampleFont();
+    const drop = (name, reading) => page.value(`{
+        const file = new File([], "${name}"), event = new Event("drop", { bubbles: true, cancelable: true });
+        Object.defineProperty(file, "arrayBuffer", { value: () => ${reading} });
+        dispatchEvent(Object.defineProperty(event, "dataTransfer", { value: { files: [file] } }));
+    }`);
+    await set(page, "text", "A");
+    await after(page, () => page.drop("#drop", [file("dots.ttf", example)]));
+    await after(page, () => drop("gone.ttf", 'Promise.reject(new Error("it is gone"))'));
+    const parts = await Promise.all(["trouble-name", "trouble-why", "trouble-do", "said"].map((id) => text(page, id)));
+    equal(parts.join("; "), "The file can't be read; it is gone; What to do: Choose it again.; Nothing was read.", "a file that can't be read");
+    equal((await shown(page)).result, true, "its result isn't to be seen");
+    const reading = new Font(example);
+    await after(page, () => set(page, "text", "B"));
+    await check(page, example, [reading.glyphOf(66)], {}, "the file of before");
+    quiet(page);
+}
+
+/** What is taken is given back, what is dragged is seen, and nothing is loaded from anywhere. */
+async function belongings() {
+    const page = await opened(), example = exampleFont();
+    await page.value(`{
+        const { createObjectURL, revokeObjectURL } = URL;
+        window.urls = new Set();
+        URL.createObjectURL = (it) => { const url = createObjectURL.call(URL, it); window.urls.add(url); return url };
+        URL.revokeObjectURL = (url) => { window.urls.delete(url); revokeObjectURL.call(URL, url) };
+    }`);
+    await after(page, () => page.drop("#drop", [file("dots.ttf", example)]));
+    for (const letters of ["A", "AB", "", "C"]) await after(page, () => set(page, "text", letters));
+    equal(await page.value("JSON.stringify([...window.urls]) === JSON.stringify([document.getElementById('save').href])"), true, "one file is held, which is the one that is offered");
+    const drag = (type) => page.send("Input.dispatchDragEvent", { type, x: 300, y: 300, data: { items: [], files: [file("dots.ttf", example)], dragOperationsMask: 1 } });
+    await drag("dragEnter");
+    await drag("dragOver");
+    await page.until('document.body.className === "over"');
+    // (within the page the pointer comes from one part to another; out of it to none)
+    for (const [to, seen] of [["document.body", "over"], ["null", ""]]) {
+        equal(await page.value(`dispatchEvent(new DragEvent("dragleave", { relatedTarget: ${to} })), document.body.className`), seen, `what is dragged goes to ${to}`);
+    }
+    equal(await page.value('document.getElementById("file").accept'), ".ttf,.otf,.ttc,.otc,font/*", "the files that are offered to be chosen");
+    quiet(page);
+    const refused = await page.value(`new Promise((done) => {
+        const found = new Set(), at = "http://127.0.0.1:9/", add = (name, more) => document.body.append(Object.assign(document.createElement(name), more));
+        addEventListener("securitypolicyviolation", ({ effectiveDirective }) => found.add(effectiveDirective));
+        fetch(at).catch(() => {});
+        new FontFace("x", "url(" + at + ")").load().catch(() => {});
+        try { new Worker(URL.createObjectURL(new Blob([""]))) } catch {}
+        setTimeout(() => { try { (0, eval)("1") } catch {} });
+        for (const [name, more] of [["img", { src: at }], ["script", { src: at }], ["iframe", { src: at }], ["link", { rel: "stylesheet", href: at }], ["audio", { src: at }], ["object", { data: at }], ["base", { href: at }]]) add(name, more);
+        const form = document.createElement("form");
+        form.action = at;
+        document.body.append(form);
+        form.submit();
+        // (on a machine that is busy they come late)
+        const look = (times) => (found.size >= ${REFUSED.split(",").length} || times > 400 ? done([...found].sort().join()) : setTimeout(look, 50, times + 1));
+        setTimeout(look, 200, 0);
+    })`);
+    equal(refused, REFUSED, "what the page's policy refuses");
+}
+
+const REFUSED = "base-uri,connect-src,font-src,form-action,frame-src,img-src,media-src,object-src,script-src,script-src-elem,style-src-elem,worker-src";
 
 /** One start behind another: only the last shows that all is done, and a file that is read late isn't shown. */
 async function oneBehindAnother() {
@@ -351,6 +496,10 @@ try {
         equal(new Set([..."MW"].map(commandsOf)).size, 1, "the commands of M and W");
         for (const letters of ["ABC", "AMW"]) await overALie(letters);
         console.log("page: what differs is told");
+        await advice();
+        await failures();
+        await belongings();
+        console.log("page: what each error says, files and modules that can't be read, what is given back, what the policy refuses");
     }
 } catch (error) {
     console.log(`page: FAILED: ${error.stack}`);
