@@ -221,13 +221,13 @@ def said_by_zsh(text):
 def check_texts(tries):
     """What fish and zsh say of an option is what the help says of it; a value has the help's name, and is completed by that."""
     with open(os.path.join(PROGRAM, "src", "help.rt")) as file:
-        shown = " ".join(re.search(r'pub const HELP: &str = "([^"\\]*)";', file.read())[1].split())
+        shown = [" ".join(it.split()) for it in re.findall(r"^  (-.*(?:\n {20}.*)*)", file.read(), re.M)]
     fish, zsh = (said(open(tries.file(name)).read()) for said, name in ((said_by_fish, "subset_font.fish"), (said_by_zsh, "_subset_font")))
     for option in ALL:
         text, kind = fish.get(option, ("", ""))
         of_zsh, value, action = zsh.get(option, ("", "", ""))
-        of_help = rf"(?<![\w-]){re.escape(option)}(?: {value}\S*)?(?:, --\S+(?: {value})?)? {re.escape(text)}(?= |$)"
-        tries.demand(text and re.search(of_help, shown), f"fish says of {option}", text)
+        of_help = rf"(?:-\S+(?: [A-Z]\S*)?,? )*{re.escape(option)}(?: {value}\S*)?(?:, --\S+(?: {value})?)? {re.escape(text)}"
+        tries.demand(text and [it for it in shown if re.fullmatch(of_help, it)], f"fish says of {option}", text)
         tries.demand(of_zsh == text, f"zsh says of {option}", of_zsh)
         by_value = ("", "") if option in PLAIN else ("-r -F", "_files") if value in ("FILE", "OUT") else ("-x", " ")
         tries.demand((kind, action) == by_value, f"the value of {option}", (kind, value, action))
