@@ -566,11 +566,13 @@ impl Termination for Ended {
     }
 }
 
+/// A `main`, and its status.
+type Main = (fn(HostRuntime) -> Ended, u8);
+
 #[test]
 #[ignore = "run by another test"]
 fn the_status_of_main_is_that_of_the_process() {
-    let statuses: [(fn(HostRuntime) -> Ended, u8); 3] =
-        [(|_| Ended(0), 0), (|_| Ended(3), 3), (|_| Ended(255), 255)];
+    let statuses: [Main; 3] = [(|_| Ended(0), 0), (|_| Ended(3), 3), (|_| Ended(255), 255)];
     for (main, status) in statuses {
         let ended = std::format!("{:?}", process::start(main));
         assert_eq!(ended, std::format!("{:?}", ExitCode::from(status)));
