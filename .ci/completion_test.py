@@ -54,6 +54,10 @@ TRIES = [
     (["--gids", "li"], []),
     (["--unicodes", "li"], []),
 ]
+# Options without a value: the next word is a file's name.
+PLAIN = ["--vertical", "--no-hinting", "--no-names", "--no-glyph-names", "--widths", "--verbose", "--json", "--quiet", "--axes", "--info", "-h", "--help", "--version"]
+# In zsh an option isn't offered again, by its other name neither.
+OF_ZSH = [(["-o", "other.otf", "--output"], []), (["--output-file", "other.otf", "--out"], []), (["-h", "--he"], []), (["--json", "--js"], []), (["--gids", "1", "--gids"], ["--gids-file"])]
 
 
 class Tries:
@@ -165,7 +169,8 @@ def check_shells(tries):
         with tempfile.TemporaryDirectory(prefix="completion-") as room:
             for name in FILES:
                 open(os.path.join(room, name), "w").close()
-            for words, wanted in TRIES:
+            further = [([option, "oth"], ["other.otf"]) for option in PLAIN] + (OF_ZSH if shell == "zsh" else [])
+            for words, wanted in TRIES + further:
                 got = offered(tries, words, room)
                 tries.demand(got == sorted(wanted), f"{shell}: {' '.join(words)}", f"{got}, wanted {sorted(wanted)}")
             if room in RUNNING:
@@ -173,12 +178,13 @@ def check_shells(tries):
 
 
 def check_quoted(tries):
-    """In bash a file's name with a blank is completed as one word."""
+    """In bash a file's name with a blank is completed as one word, with a blank behind it, and a folder's name with a stroke."""
     if not shutil.which("bash"):
         return
     with tempfile.TemporaryDirectory(prefix="completion-") as room:
         for name in FILES:
             open(os.path.join(room, name), "w").close()
+        os.mkdir(os.path.join(room, "folder"))
         process, handle = pty.fork()
         if process == 0:
             os.chdir(room)
@@ -186,11 +192,45 @@ def check_quoted(tries):
         os.write(handle, f"source '{tries.file('subset_font.bash')}'; echo rea''dy\n".encode())
         shown = read_until(handle, "ready")
         os.write(handle, b"subset_font --json one\t")
-        shown = read_until(handle, "font.ttf") if "ready" in shown else f"no shell: {shown!r}"
+        shown = read_until(handle, "font.ttf ") if "ready" in shown else f"no shell: {shown!r}"
+        os.write(handle, b"--gids-file fol\t")
+        shown += read_until(handle, "folder/")
         os.kill(process, signal.SIGKILL)
         os.waitpid(process, 0)
         os.close(handle)
-    tries.demand("one\\ font.ttf" in shown, "bash: a name with a blank", repr(shown))
+    tries.demand("one\\ font.ttf " in shown, "bash: a name with a blank", repr(shown))
+    tries.demand("folder/" in shown, "bash: a folder", repr(shown))
+
+
+def said_by_fish(text):
+    """What fish's file has of each option: its text, and how its value is completed."""
+    found = {}
+    for words, said in re.findall(r"^complete -c subset_font (.*?) -d '(.*)'$", text, re.M):
+        names = [("-" if sort == "s" else "--") + name for sort, name in re.findall(r"-([sl]) (\S+)", words)]
+        value = re.sub(r"-[sl] \S+ ?", "", words).strip()
+        found.update(dict.fromkeys(names, (said.replace("\\'", "'"), value)))
+    return found
+
+
+def said_by_zsh(text):
+    """What zsh's file has of each option: its text, the name of its value, and how that is completed."""
+    line = re.compile(r"^    '(?:\([^)]*\))?(-[a-z-]+)\[((?:[^\]\\]|\\.)*)\](?::([A-Z]+):(.*))?' \\$", re.M)
+    return {name: (re.sub(r"\\(.)", r"\1", said.replace("'\\''", "'")), value, action) for name, said, value, action in line.findall(text)}
+
+
+def check_texts(tries):
+    """What fish and zsh say of an option is what the help says of it; a value has the help's name, and is completed by that."""
+    with open(os.path.join(PROGRAM, "src", "help.rt")) as file:
+        shown = [" ".join(it.split()) for it in re.findall(r"^  (-.*(?:\n {20}.*)*)", file.read(), re.M)]
+    fish, zsh = (said(open(tries.file(name)).read()) for said, name in ((said_by_fish, "subset_font.fish"), (said_by_zsh, "_subset_font")))
+    for option in ALL:
+        text, kind = fish.get(option, ("", ""))
+        of_zsh, value, action = zsh.get(option, ("", "", ""))
+        of_help = rf"(?:-\S+(?: [A-Z]\S*)?,? )*{re.escape(option)}(?: {value}\S*)?(?:, --\S+(?: {value})?)? {re.escape(text)}"
+        tries.demand(text and [it for it in shown if re.fullmatch(of_help, it)], f"fish says of {option}", text)
+        tries.demand(of_zsh == text, f"zsh says of {option}", of_zsh)
+        by_value = ("", "") if option in PLAIN else ("-r -F", "_files") if value in ("FILE", "OUT") else ("-x", " ")
+        tries.demand((kind, action) == by_value, f"the value of {option}", (kind, value, action))
 
 
 def check_lists(tries):
@@ -215,6 +255,7 @@ def main():
     check_shells(tries)
     check_quoted(tries)
     check_lists(tries)
+    check_texts(tries)
     print(f"completion: {tries.ran} tries, {tries.wrong} differ")
     sys.exit(1 if tries.wrong else 0)
 

@@ -7,6 +7,9 @@ import subprocess
 from made_fonts import SIMPLE
 from running import OLD, few_bytes, lines, message, mode_of, put, remove, take
 
+# The bytes of a name of which the build by Cargo makes no second name (`std` requests memory for it).
+LONG_NAME = 384
+
 # An entry of an access list that names nobody.
 NOBODY = 0xFFFFFFFF
 
@@ -95,6 +98,24 @@ def check_links(table, room):
     table.demand(said_by(reader) == wanted and (got.returncode, got.stdout) == (0, lines((2, 1))), "OUT a pipe", got)
     names = ["hanging", "in", "link", "nowhere", "one", "other", "pipe", "real"]
     table.demand(sorted(os.listdir(room)) == names, "links leave", os.listdir(room))
+
+
+def check_second_names(table, room):
+    """OUT keeps its number and its rights, by a second name beside it while it is written; the build by Cargo makes no such name of many bytes."""
+    put(room, "in", SIMPLE)
+    os.mkdir(os.path.join(room, "folder"))
+    for length in (40, *range(LONG_NAME - 8, LONG_NAME + 2), 1000):
+        # (further strokes change nothing)
+        name = "folder" + "/" * (length - len("folder" + "out")) + "out"
+        out = put(room, "folder/out", OLD, 0o640)
+        before = os.stat(out).st_ino
+        got = table.start(["in", name, "0", "2"], room)
+        wanted = not table.is_cargo or length + len(".part1") < LONG_NAME
+        is_well = (got.returncode, got.stdout, got.stderr) == (0, lines((2, 1)), b"") and take(out) == table.same["simple 2"] and mode_of(out) == 0o640
+        table.demand(is_well, f"OUT with a name of {length} bytes", got)
+        table.demand((os.stat(out).st_ino == before) == wanted, f"OUT with a name of {length} bytes", f"its number {'changed' if wanted else 'is what it was'}")
+        table.demand(os.listdir(os.path.join(room, "folder")) == ["out"], f"OUT with a name of {length} bytes leaves", os.listdir(os.path.join(room, "folder")))
+        os.unlink(out)
 
 
 # An access list of Linux (version 2): the owner may read and write, so may the user 4243, the group has no rights, and 4243's are masked by rw.

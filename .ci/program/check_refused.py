@@ -48,12 +48,13 @@ REFUSED = ((1, b"", b"out of memory\n"), *((3, b"", f"cannot read {it}\nout of m
 
 @dataclass
 class Ended:
-    """How a run under refuse.c ended: status and streams, what is at OUT, the names in the folder, and what was refused."""
+    """How a run under refuse.c ended: status and streams, what is at OUT, the names in the folder, and what was refused of how many requests."""
     answer: tuple
     out: bytes
     names: list
     refused: int
     calls: dict
+    requests: int
 
 
 CALLS = ("open", "size", "read", "write", "write1", "write2", "rename", "sync")
@@ -70,7 +71,7 @@ def start_refused(table, room, library, words, stdin=b"", out="out", **wishes):
     calls = dict(zip(CALLS, map(int, said[6:])))
     names = sorted(name for name in os.listdir(os.path.dirname(os.path.join(room, out))) if name != "told")
     answer = got.returncode, got.stdout, got.stderr
-    return Ended(answer, take(os.path.join(room, out)), names, int(said[1]) if said else 1, calls)
+    return Ended(answer, take(os.path.join(room, out)), names, int(said[1]) if said else 1, calls, int(said[0]) if said else 0)
 
 
 def is_whole_run(got, base):
@@ -81,9 +82,9 @@ def is_refused_run(got, base):
     return got.answer in REFUSED and got.out == OLD and got.names == base.names
 
 
-def ended_by_std(got):
-    """How many bytes `std` was refused where it ended the process."""
-    told = re.match(rb"memory allocation of (\d+) bytes failed\n", got.answer[2])
+def ended_by_std(got, front=b""):
+    """How many bytes `std` was refused where it ended the process; `front` may be printed before."""
+    told = re.match(rb"memory allocation of (\d+) bytes failed\n", got.answer[2].removeprefix(front))
     return int(told[1]) if told and got.answer[:2] == (-6, b"") else None
 
 
@@ -142,6 +143,47 @@ def check_refused_names(table, room):
     table.otherwise += left
 
 
+# Runs that fail as the system refuses a file: their words, the message, and the system's reason in it.
+REFUSED_FILES = (
+    (["none", "out", "0", "2"], ("cannot-read", "none", "ENOENT")),
+    (["--gids-file", "none", "in", "out", "0"], ("cannot-read", "none", "ENOENT")),
+    (["--axes", "none"], ("cannot-read", "none", "ENOENT")),
+    (["in", "none/out", "0", "2"], ("cannot-write", "none/out", "ENOENT")),
+    (["in", "--gids", "2", "--pdf", "none/page", "-o", "out"], ("cannot-write", "none/page", "ENOENT")),
+)
+
+
+# The last requests of such a run, which are refused in turn: those for the reason are among them.
+LAST_REQUESTS = 8
+
+
+def check_refused_reasons(table, room):
+    """Where the system refuses a file, each of the last requests for memory is refused in turn, too: the run ends with a status, by its first line, and
+    without the system's reason where there is no memory for that."""
+    library = refuser(table, room)
+    if not library:
+        return
+    put(room, "in", FONTS["both"])
+    for words, said in REFUSED_FILES:
+        whole, by_std, ends = message(*said), [], set()
+        first = whole[:whole.index(b"\n") + 1]
+        base = start_refused(table, room, library, words, REFUSE=0)
+        table.demand(base.answer == (3, b"", whole) and base.out == OLD and base.requests > LAST_REQUESTS, words, base)
+        for number in range(base.requests - LAST_REQUESTS + 1, base.requests + 1):
+            got = start_refused(table, room, library, words, REFUSE=number)
+            size = ended_by_std(got, first)
+            if table.is_cargo and size is not None:
+                by_std.append(size)
+                table.otherwise += 1
+            ends.add(got.answer)
+            is_well = size in by_std or got.answer in REFUSED or got.answer in ((3, b"", whole), (3, b"", first), (3, b"", first + b"out of memory\n"))
+            table.demand(is_well and got.out == OLD and got.names == base.names, f"{words}, refusal {number}", got)
+        if table.is_cargo:
+            # (the last one is `std`'s own, which it isn't asked for twice)
+            is_so = by_std[-1:] == [len(os.strerror(errno.ENOENT))] and (3, b"", first) in ends
+            table.demand(is_so, f"{words}: what std asks for by itself", f"{by_std}; {ends}")
+
+
 def check_little_room(table, room):
     """With room for so many bytes a run is whole, or tells of it before OUT is touched; and no file is left beside OUT."""
     library = refuser(table, room)
@@ -166,8 +208,24 @@ def check_little_room(table, room):
         table.demand(rooms > 8000 and got.answer[0] == 0, f"{words} with {rooms} bytes of room", got)
 
 
+def check_requests(table, room):
+    """Room for all of IN is requested at once: a large file takes as many requests as a small one, and from standard input it takes some more."""
+    library = refuser(table, room)
+    if not library:
+        return
+    small, large = FONTS["both"], FONTS["both"] + bytes(1 << 20)
+    words, found = ["in", "out", "0", "2"], []
+    for data in (small, large):
+        put(room, "in", data)
+        found.append(start_refused(table, room, library, words))
+    by_stream = start_refused(table, room, library, ["-", *words[1:]], stdin=large)
+    counts = [it.requests for it in (*found, by_stream)]
+    table.demand(5 < counts[0] == counts[1] < counts[2] and all(is_whole_run(it, found[0]) for it in (*found, by_stream)), "requests for IN of 1 MB", counts)
+
+
 def check_kept_room(table, room):
-    """Where no memory is left once OUT.part0 is made, the build by Cargo still gives it its name, a long one too."""
+    """Where no memory is left once OUT.part0 is made, the build by Cargo still gives it its name, a long one too, and removes it where it can't be
+    written."""
     library = refuser(table, room)
     if not library or not table.is_cargo:
         return
@@ -178,6 +236,10 @@ def check_kept_room(table, room):
         base = start_refused(table, room, library, words, out=out)
         got = start_refused(table, room, library, words, out=out, SPARE=0)
         table.demand(base.answer == (0, b"", b"") and base.out != OLD and is_whole_run(got, base), f"{words} with no room once OUT.part0 is made", got)
+        got = start_refused(table, room, library, words, out=out, SPARE=0, FAIL="write:1")
+        said = message("cannot-write", out, "EIO")
+        is_said = got.answer in ((3, b"", said), (3, b"", said[:said.index(b"\n") + 1]))
+        table.demand(is_said and got.out == OLD and got.names == base.names, f"{words} with no room once OUT.part0 is made, which can't be written", got)
 
 
 def check_killed(table, room):

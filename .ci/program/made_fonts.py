@@ -200,6 +200,8 @@ FONTS = {
     "mac": six(("cmap", cmap((1, 0, BY_SEGMENTS), (3, 0, BY_SEGMENTS)))),
     "named_small": six(("cmap", cmap((3, 1, BY_SEGMENTS))), *NAMED),
     "named": six(*NAMED, outlines=[b"", HINTED + b"\0", b"", b"", b"", b""]),
+    # (a string that ends a byte behind its table)
+    "name_outside": six(*names((3, 1, 0x0409, 1, "A", 1))),
     "faces": TWO_FACES,
     "mixed": MIXED,
     "woff": b"wOFF" + bytes(40),

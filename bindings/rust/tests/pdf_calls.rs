@@ -108,6 +108,13 @@ fn a_font_without_characters_is_refused() {
     assert_eq!(glyphs_of(&lacking, 0, "A"), Err(Error::MalformedFont));
     assert_eq!(glyphs_of(b"no font", 0, "A"), Err(Error::UnknownKind));
     assert_eq!(glyphs_of(&font[..40], 0, "A"), Err(Error::MalformedFont));
+    // Without outlines it isn't opened; those in `CFF2` are taken, too, and that font has no `cmap`.
+    let bare = without(&font, b"glyf");
+    assert_eq!(glyphs_of(&bare, 0, "A"), Err(Error::UnknownKind));
+    let bare = without(&made("made_version_1.otf"), b"CFF ");
+    assert_eq!(glyphs_of(&bare, 0, "A"), Err(Error::UnknownKind));
+    let blended = made("made_cff2.otf");
+    assert_eq!(glyphs_of(&blended, 0, "A"), Err(Error::MalformedFont));
     // A collection without faces.
     let none = b"ttcf\0\x01\0\0\0\0\0\0";
     assert_eq!(glyphs_of(none, 0, "A"), Err(Error::MalformedFont));
@@ -245,6 +252,27 @@ fn each_choice_leaves_the_others() {
 }
 
 #[test]
+fn the_default_is_the_first_of_each_choice() {
+    let first = FontOptions::new()
+        .limits(Limits::default())
+        .hinting(true)
+        .program(ProgramChoice::Smallest)
+        .codes(Codes::Consecutive)
+        .direction(Direction::Horizontal)
+        .bounds(Bounds::Font)
+        .cid_set(false)
+        .rights(Rights::AsSaid);
+    assert_eq!(first, FontOptions::new());
+    assert_eq!(first, FontOptions::default());
+    assert_eq!(
+        format!("{:?}", first.tag(SubsetTag::new(b"ZYXWVU").unwrap())),
+        "FontOptions { limits: Limits { tokens: 1000000, depth: 64, bytes: None }, hinting: true, program: Smallest, \
+         codes: Consecutive, direction: Horizontal, bounds: Font, cid_set: false, tag: Some(SubsetTag(ZYXWVU)), \
+         rights: AsSaid }"
+    );
+}
+
+#[test]
 fn each_choice_is_heeded() {
     let font = made("made.ttf");
     let plain = pdf_font(&font, 0, &[], &SHOWN, &FontOptions::new()).unwrap();
@@ -279,6 +307,16 @@ fn tags_have_six_capitals() {
     let tag = SubsetTag::new(b"AZBYCX").unwrap();
     assert_eq!(tag.letters(), b"AZBYCX");
     assert_eq!(format!("{tag} {tag:?}"), "AZBYCX SubsetTag(AZBYCX)");
+    assert_eq!(format!("{tag:>8}|{tag:.3}"), "  AZBYCX|AZB");
+    assert_ne!(tag, SubsetTag::new(b"AZBYCY").unwrap());
+    // Each letter has to be a capital.
+    for at in 0..6 {
+        for wrong in [b'a', b'@', b'[', b'0', b' ', 0, 0xc1] {
+            let mut letters = *b"AZBYCX";
+            letters[at] = wrong;
+            assert_eq!(SubsetTag::new(&letters), None, "{at} {wrong}");
+        }
+    }
 }
 
 // ---- objects and sheets
@@ -336,6 +374,37 @@ fn dictionaries_have_the_numbers_of_the_writer() {
     let font = pdf_font(&font, 0, &[], &SHOWN, &FontOptions::new()).unwrap();
     let [_, _, descriptor] = numbered(&font);
     assert!(descriptor.ends_with(" /FontFile3 3 0 R >>"), "{descriptor}");
+}
+
+#[test]
+fn a_cmap_bears_its_name() {
+    let mut names = Vec::new();
+    for options in [
+        FontOptions::new().codes(Codes::Source),
+        FontOptions::new().codes(Codes::EachText),
+        FontOptions::new()
+            .codes(Codes::EachText)
+            .direction(Direction::Vertical),
+    ] {
+        let font = plain(&options);
+        let cmap = font.encoding().unwrap();
+        let line = format!("\n/CMapName /{} def\n", cmap.name);
+        assert!(position(cmap.text, line.as_bytes()).is_some(), "{line}");
+        let references = References {
+            cid_font: 1,
+            descriptor: 2,
+            program: 3,
+            to_unicode: 4,
+            cid_set: 5,
+            encoding: 6,
+        };
+        let dictionary = font.dictionaries(&references).unwrap().encoding.unwrap();
+        let entry = format!(" /CMapName /{} ", cmap.name);
+        assert!(position(&dictionary, entry.as_bytes()).is_some(), "{entry}");
+        names.push(cmap.name.to_string());
+    }
+    names.dedup();
+    assert_eq!(names.len(), 3, "{names:?}");
 }
 
 #[test]
@@ -489,6 +558,60 @@ fn fs_type_is_heeded() {
     assert_eq!(font.permission(), permission);
 }
 
+/// The font with a version of `OS/2` and its `fsType`.
+fn permitted(version: u8, fs_type: u16) -> Vec<u8> {
+    let mut font = made("made.ttf");
+    let record = position(&font, b"OS/2").unwrap();
+    let place = font[record + 8..record + 12].try_into().unwrap();
+    let at = u32::from_be_bytes(place) as usize;
+    font[at + 1] = version;
+    font[at + 8..at + 10].copy_from_slice(&fs_type.to_be_bytes());
+    font
+}
+
+#[test]
+fn each_bit_of_fs_type_has_its_meaning() {
+    let held = FontOptions::new().rights(Rights::Held);
+    let of_held = |font: &[u8]| {
+        let font = pdf_font(font, 0, &[], &SHOWN, &held).unwrap();
+        font.permission()
+    };
+    for (bits, usage) in [
+        (0, Usage::Installable),
+        (2, Usage::Restricted),
+        (4, Usage::PreviewAndPrint),
+        (8, Usage::Editable),
+    ] {
+        for (further, subsetting, outlines) in [
+            (0, true, true),
+            (0x100, false, true),
+            (0x200, true, false),
+            (0x300, false, false),
+        ] {
+            let permission = Permission {
+                usage,
+                subsetting,
+                outlines,
+            };
+            let font = permitted(4, bits | further);
+            assert_eq!(of_held(&font), permission);
+            match pdf_font(&font, 0, &[], &SHOWN, &FontOptions::new()) {
+                Ok(font) => {
+                    assert!(bits != 2 && further == 0, "{bits} {further}");
+                    assert_eq!(font.permission(), permission);
+                }
+                Err(error) => {
+                    assert!(bits == 2 || further != 0, "{bits} {further}");
+                    assert_eq!(error, FontError::NotPermitted(permission));
+                }
+            }
+            // (before version 2 the further bits say nothing)
+            let of_early = of_held(&permitted(1, bits | further));
+            assert_eq!((of_early.subsetting, of_early.outlines), (true, true));
+        }
+    }
+}
+
 #[test]
 fn the_first_error_is_answered() {
     let options = FontOptions::new();
@@ -544,4 +667,14 @@ fn the_debug_text_of_a_font_is_short() {
     let font = pdf_font(&made("made.ttf"), 0, &[], &SHOWN, &FontOptions::new()).unwrap();
     let text = format!("{font:?}");
     assert!(text.contains("+Made-Regular") && text.len() < 600, "{text}");
+    let (count, values) = (font.glyph_count(), font.descriptor());
+    let whole = format!(
+        "PdfFont {{ kind: TrueType, glyph_count: {count}, codes: [1, 2, 1, 3], descriptor: {values:?}, .. }}"
+    );
+    assert_eq!(text, whole);
+    let bounds = values.bounds;
+    let flags = values.flags;
+    assert!(text.contains(&format!(
+        ", flags: {flags}, bounds: {bounds:?}, italic_angle: "
+    )));
 }

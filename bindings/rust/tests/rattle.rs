@@ -24,12 +24,24 @@ use std::ptr::null_mut;
 thread_local! {
     static LEFT: Cell<Option<usize>> = const { Cell::new(None) };
     static REFUSED: Cell<bool> = const { Cell::new(false) };
+    /// How many bytes the first requests are for, and how many requests there were.
+    static ASKED: Cell<([usize; 8], usize)> = const { Cell::new(([0; 8], 0)) };
+    /// How many bytes a thread holds.
+    static HELD: Cell<usize> = const { Cell::new(0) };
 }
 
 /// The system's memory, but for the requests of a thread that it is told to refuse.
 struct Heap;
 
-fn is_refused() -> bool {
+/// Notes a request, and answers whether it is refused.
+fn is_refused(bytes: usize) -> bool {
+    ASKED.with(|asked| {
+        let (mut first, count) = asked.get();
+        if let Some(one) = first.get_mut(count) {
+            *one = bytes;
+        }
+        asked.set((first, count + 1));
+    });
     LEFT.with(|left| match left.get() {
         Some(0) => {
             REFUSED.with(|refused| refused.set(true));
@@ -43,24 +55,33 @@ fn is_refused() -> bool {
     })
 }
 
+/// Notes what a thread holds more, and what it gives back.
+fn hold(at: *mut u8, more: usize, less: usize) -> *mut u8 {
+    if !at.is_null() {
+        HELD.with(|held| held.set(held.get().wrapping_add(more).wrapping_sub(less)));
+    }
+    at
+}
+
 // SAFETY: each call is the system's, or answers that there is no memory.
 unsafe impl GlobalAlloc for Heap {
     unsafe fn alloc(&self, layout: Layout) -> *mut u8 {
-        if is_refused() {
+        if is_refused(layout.size()) {
             return null_mut();
         }
-        System.alloc(layout)
+        hold(System.alloc(layout), layout.size(), 0)
     }
 
     unsafe fn dealloc(&self, at: *mut u8, layout: Layout) {
+        hold(at, 0, layout.size());
         System.dealloc(at, layout)
     }
 
     unsafe fn realloc(&self, at: *mut u8, layout: Layout, size: usize) -> *mut u8 {
-        if is_refused() {
+        if is_refused(size) {
             return null_mut();
         }
-        System.realloc(at, layout, size)
+        hold(System.realloc(at, layout, size), size, layout.size())
     }
 }
 
@@ -74,6 +95,21 @@ fn with<T>(requests: usize, call: impl FnOnce() -> T) -> (T, bool) {
     let answer = call();
     LEFT.with(|left| left.set(None));
     (answer, REFUSED.with(|refused| refused.get()))
+}
+
+/// What a call answers, and how many bytes each of its requests is for (of the first eight).
+#[cfg(all(feature = "program", unix))]
+fn asked_by<T>(call: impl FnOnce() -> T) -> (T, std::vec::Vec<usize>) {
+    ASKED.with(|asked| asked.set(([0; 8], 0)));
+    let answer = call();
+    let (first, count) = ASKED.with(Cell::get);
+    (answer, first[..count.min(8)].to_vec())
+}
+
+/// How many bytes this thread holds.
+#[cfg(all(feature = "program", unix))]
+fn held() -> usize {
+    HELD.with(Cell::get)
 }
 
 /// Calls with no request allowed, one, and so on until none is refused. Each answer must be an error while one is; how many
@@ -147,6 +183,49 @@ fn lists_are_made_of_items() {
 
 fn rattle_vec() -> Result<Vec<u16>, AllocError> {
     vec![in Global; 5; 3]
+}
+
+#[test]
+fn lists_are_written_out() {
+    let listed: Result<Vec<u8>, AllocError> = vec![in Global; 3, 1, 2,];
+    assert_eq!(listed.unwrap().as_slice(), [3, 1, 2]);
+    let one: Result<Vec<u8>, AllocError> = vec![in Global; 9];
+    assert_eq!(one.unwrap().as_slice(), [9]);
+    let none: Result<Vec<u8>, AllocError> = vec![in Global];
+    assert!(none.unwrap().is_empty());
+}
+
+#[test]
+fn each_list_is_read_as_a_slice() {
+    use rattle::convert::AsSlice;
+    fn items<A: AsSlice<u8>>(list: A) -> std::vec::Vec<u8> {
+        list.as_slice().to_vec()
+    }
+    assert_eq!(items(list(&[4, 2, 3])), [4, 2, 3]);
+    assert_eq!(items(&[4u8, 2][..]), [4, 2]);
+    assert_eq!(items([4u8, 2, 1]), [4, 2, 1]);
+}
+
+#[test]
+fn lists_are_equal_and_hashed_by_their_items() {
+    use std::collections::hash_map::DefaultHasher;
+    use std::hash::{Hash, Hasher};
+    let hash = |items: &[u8]| {
+        let mut state = DefaultHasher::new();
+        list(items).hash(&mut state);
+        state.finish()
+    };
+    assert_ne!(hash(&[3, 1]), hash(&[1, 3]));
+    let mut as_slice = DefaultHasher::new();
+    [3u8, 1][..].hash(&mut as_slice);
+    assert_eq!(hash(&[3, 1]), as_slice.finish());
+    for other in [&[3u8, 1, 0][..], &[3], &[1, 3], &[]] {
+        assert!(list(&[3, 1]) != list(other));
+    }
+    // The room doesn't count.
+    let mut roomy = Vec::with_capacity(Global, 100).unwrap();
+    roomy.extend_from_slice(&[3u8, 1]).unwrap();
+    assert!(roomy == list(&[3, 1]));
 }
 
 #[test]
@@ -261,6 +340,13 @@ fn spare_room_is_given_back() {
     items.resize(90, 7u8).unwrap();
     assert_eq!(with(0, || items.shrink_to_fit()), ((), false));
     assert_eq!((items.len(), items.capacity()), (90, 100));
+    // A quarter of the items, and one more.
+    for (len, room) in [(80, 100), (79, 79), (4, 5), (3, 3), (0, 0)] {
+        let mut items = Vec::with_capacity(Global, if len < 79 { 5 } else { 100 }).unwrap();
+        items.resize(len, 7u8).unwrap();
+        items.shrink_to_fit();
+        assert_eq!((items.len(), items.capacity()), (len, room));
+    }
 }
 
 #[test]
@@ -346,6 +432,17 @@ fn casts_keep_the_bits() {
         (-1, u64::MAX - 1)
     );
     assert_eq!((7u16.to_unsigned(), 7i16.to_signed()), (7u16, 7i16));
+    // Each has the other of as many bits.
+    macro_rules! check {
+        ($($unsigned:ident $signed:ident)*) => {$(
+            let of_most: $signed = $unsigned::MAX.to_signed();
+            let of_least: $unsigned = $signed::MIN.to_unsigned();
+            assert_eq!((of_most, of_least), (-1, $unsigned::MAX / 2 + 1));
+            let (same, own): ($signed, $unsigned) = ($signed::MAX.to_signed(), $unsigned::MAX.to_unsigned());
+            assert_eq!((same, own), ($signed::MAX, $unsigned::MAX));
+        )*};
+    }
+    check!(u8 i8 u16 i16 u32 i32 u64 i64 u128 i128 usize isize);
 }
 
 #[cfg(feature = "program")]
@@ -525,6 +622,80 @@ mod program {
         assert!(with(0, || BufWriter::new(Global, Lent(&mut out)).is_err()).0);
     }
 
+    #[test]
+    fn a_flush_reaches_the_writer_behind() {
+        let mut out = Steps(
+            std::vec![Ok(9), Err(ErrorKind::StorageFull), Ok(0)],
+            std::vec![],
+        );
+        let mut writer = BufWriter::new(Global, Lent(&mut out)).unwrap();
+        writer.write_all(b"held").unwrap();
+        // (the bytes are written then)
+        assert_eq!(writer.flush().unwrap_err().kind(), ErrorKind::StorageFull);
+        writer.flush().unwrap();
+        drop(writer);
+        assert_eq!((out.0.len(), out.1), (0, b"held".to_vec()));
+        fn flush<W: Write>(mut to: W) -> Result<(), Error> {
+            to.flush()
+        }
+        let mut out = Steps(std::vec![Err(ErrorKind::StorageFull)], std::vec![]);
+        let failed = flush(&mut out).unwrap_err();
+        assert_eq!(failed.kind(), ErrorKind::StorageFull);
+        assert!(flush(&mut out).is_ok());
+    }
+
+    /// What counts its calls.
+    struct Counted<'a>(&'a Cell<usize>);
+
+    impl Write for Counted<'_> {
+        fn write(&mut self, buf: &[u8]) -> Result<usize, Error> {
+            self.0.set(self.0.get() + 1);
+            Ok(buf.len())
+        }
+
+        fn flush(&mut self) -> Result<(), Error> {
+            Ok(())
+        }
+    }
+
+    #[test]
+    fn little_is_written_at_once() {
+        let calls = Cell::new(0);
+        let mut writer = BufWriter::new(Global, Counted(&calls)).unwrap();
+        let mut counts = std::vec![];
+        for len in [8191, 1, 1, 8191, 8192, 8192, 1, 0] {
+            assert_eq!(writer.write(&bytes(len)).unwrap(), len);
+            counts.push(calls.get());
+        }
+        writer.flush().unwrap();
+        counts.push(calls.get());
+        writer.flush().unwrap();
+        drop(writer);
+        counts.push(calls.get());
+        // 8 KiB are kept back, and as many at once aren't kept.
+        assert_eq!(counts, [0, 0, 1, 1, 3, 4, 4, 4, 5, 5]);
+        // (the buffer takes no memory but its own)
+        let mut writer = BufWriter::new(Global, Counted(&calls)).unwrap();
+        let (answer, was_refused) = with(0, || (0..9000).try_for_each(|_| writer.write_all(b"x")));
+        assert!(answer.is_ok() && !was_refused);
+    }
+
+    #[test]
+    fn an_error_keeps_its_kind_beside_its_number() {
+        for kind in [
+            ErrorKind::NotFound,
+            ErrorKind::StorageFull,
+            ErrorKind::Other,
+        ] {
+            let error = Error::from(kind);
+            assert_eq!((error.kind(), error.raw_os_error()), (kind, None));
+            let error = error.with_code(Some(-5));
+            assert_eq!((error.kind(), error.raw_os_error()), (kind, Some(-5)));
+            let error = error.with_code(None);
+            assert_eq!((error.kind(), error.raw_os_error()), (kind, None));
+        }
+    }
+
     /// A writer that another has.
     struct Lent<'a>(&'a mut Steps);
 
@@ -538,3 +709,7 @@ mod program {
         }
     }
 }
+
+#[cfg(all(feature = "program", unix))]
+#[path = "rattle/host.rs"]
+mod host_calls;

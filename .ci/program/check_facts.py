@@ -1,0 +1,150 @@
+"""What the three texts say of the program, fact by fact (facts.txt), the lines and objects that docs/CLI.md shows, and the examples."""
+import json
+import os
+import re
+
+import row_files
+from check_texts import OPTIONS, texts_beside
+from made_fonts import FONTS
+from running import message, messages, put
+
+FACTS = os.path.join(row_files.HERE, "facts.txt")
+# The texts by their keys in facts.txt.
+KEYS = {"help": "--help", "page": "subset_font.1", "manual": "docs/CLI.md"}
+
+
+def bare(key, text):
+    """A text without blanks and ends of lines, and without its marks: those of Markdown's code, and the requests of a manual page."""
+    lines = text.replace("`", "").splitlines()
+    if key == "page":
+        lines = [it.partition(" ")[2].replace('"', "") if it.startswith(".") else it for it in lines]
+    return "".join("".join(lines).split())
+
+
+def facts():
+    """The records of facts.txt; a Trouble where a part has another key."""
+    found = row_files.records(FACTS, ".ci/program/facts.txt")
+    for part in (part for it in found for part in it.parts):
+        row_files.demand_key(part, (*KEYS, "by"), set(), ())
+    return found
+
+
+def facts_otherwise(texts):
+    """What is otherwise in the texts, which are by their names: a fact's phrase that a text hasn't, and what is in no fact."""
+    found = []
+    for key, name in KEYS.items():
+        left = bare(key, texts[name])
+        for part in (part for it in facts() for part in it.parts if part.key == key):
+            phrase = bare("", part.value)
+            if phrase not in left:
+                found.append((name, f"{part.where}: it doesn't say: {part.value}"))
+            left = left.replace(phrase, "\n", 1)
+        found += [(name, f"this is no fact of .ci/program/facts.txt: {it}") for it in left.split("\n") if it.strip("|")]
+    return found
+
+
+def shown_by():
+    """What can show a fact: the files of rows, the checks, and the test of the completion files."""
+    found = {"completion_test"} | {os.path.splitext(os.path.basename(path))[0] for path, _ in row_files.files_of(os.path.join(row_files.HERE, "rows"), "rows")}
+    for name in os.listdir(row_files.HERE):
+        if name.startswith("check_") and name.endswith(".py"):
+            with open(os.path.join(row_files.HERE, name), encoding="utf-8") as file:
+                found.update(re.findall(r"^def (check_\w+)\(table(?:, room)?\)", file.read(), re.M))
+    return found
+
+
+def check_facts(table, room):
+    """The facts stand in the texts, and rows and checks show them; what the manual shows of lines and objects is so, and examples are accepted."""
+    texts = texts_beside(table.start(["--help"], room).stdout.decode())
+    for name, why in facts_otherwise(texts):
+        table.fail(name, why)
+    known = shown_by()
+    for fact in facts():
+        by = [word for part in fact.parts if part.key == "by" for word in part.value.split(" ")]
+        table.demand(by and set(by) <= known, f"{fact.where}: {fact.head}", f"it is shown by nothing, or there is none of {sorted(set(by) - known)}")
+    check_entries(table, texts)
+    check_examples(table, room, texts)
+    check_lines(table, texts["docs/CLI.md"])
+    check_objects(table, room, texts["docs/CLI.md"])
+
+
+def entries_of(texts):
+    """The options of each text, and the statuses of the manual page, in the order of their entries."""
+    options, statuses = texts["subset_font.1"].partition("\n.SH OPTIONS\n")[2].split("\n.SH EXIT STATUS\n")
+    lines = {"--help": re.findall(r"^  (-\S.*?)(?:  .*)?$", texts["--help"], re.M), "subset_font.1": re.findall(r"^\.TP\n(.*)$", options, re.M),
+             "docs/CLI.md": re.findall(r"^\| (`-.*?) \|", texts["docs/CLI.md"], re.M)}
+    return {name: sorted(word for it in found for word in re.findall(r"(?<![\w-])-[\w-]*", it)) for name, found in lines.items()}, re.findall(r"^\.TP\n\.B (.*)$", statuses, re.M)
+
+
+def check_entries(table, texts):
+    """Each option has an entry in each text, and so has each status in the manual page."""
+    options, statuses = entries_of(texts)
+    for name, found in options.items():
+        table.demand(found == sorted(OPTIONS), f"the entries of {name}", f"{found}, wanted {sorted(OPTIONS)}")
+    table.demand(statuses == ["0", "1", "2", "3"], "the statuses of subset_font.1", statuses)
+
+
+def check_examples(table, room, texts):
+    """The words of each example are accepted: the run ends as IN can't be read."""
+    found = re.findall(r"^(?:  )?(subset_font \S*(?:ttf|--no).*)$", texts["--help"] + texts["subset_font.1"], re.M)
+    found += re.findall(r"`(subset_font [^`\[]*)`", texts["docs/CLI.md"])
+    table.demand(len(found) >= 9, "examples", found)
+    for line in found:
+        words = line.partition(" > ")[0].split(" ")[1:]
+        named = next(it for it in words if it.endswith((".ttf", ".otf")))
+        got = table.start(words, room)
+        is_accepted = got.returncode == 3 and table.is_said(got.stderr, message("cannot-read", named, "ENOENT"))
+        table.demand(is_accepted, f"the example: {line}", got)
+
+
+# What no row can end with.
+BY_CHECKS = {"out of memory", "cannot write standard output"}
+
+
+def entry_of(entries, line):
+    """The entry of a first line: the same, or the one that it begins with."""
+    for entry in entries:
+        if line == entry:
+            return entry
+    for entry in entries:
+        front = re.sub(r" (?:IN|OUT|\.\.)$", " ", entry)
+        if front != entry and line.startswith(front):
+            return entry
+    return None
+
+
+def check_lines(table, manual):
+    """The manual lists the first lines of all failures of the rows, each with its status, and no other."""
+    entries, seen = {line: int(status) for status, line in re.findall(r"^\| ([123]) `([^`]+)` \|", manual, re.M)}, set()
+    for row in row_files.rows(FONTS, messages()):
+        if row.status != 0:
+            entry = entry_of(entries, row.err.decode(errors="replace").partition("\n")[0])
+            seen.add(entry)
+            table.demand(entries.get(entry) == row.status, f"{row.where}: {row.line}", f"docs/CLI.md lists {entry} with status {entries.get(entry)}")
+    table.demand(set(entries) - seen == BY_CHECKS, "the lines of docs/CLI.md", f"no row ends with {set(entries) - seen}")
+
+
+def shape(value):
+    """The members of an object in their order, the first item of a list, and the sort of another value."""
+    if isinstance(value, dict):
+        return [(name, shape(it)) for name, it in value.items()]
+    if isinstance(value, list):
+        return [shape(it) for it in value[:1]]
+    return "number" if type(value) in (int, float) else type(value).__name__
+
+
+def check_objects(table, room, manual):
+    """The objects that the manual shows have the members of the program's."""
+    for name in ("named", "instances", "small"):
+        put(room, name, FONTS[name])
+    shown = [json.loads(it) for it in re.findall(r"`(\{[^`]*\})`", manual)]
+    shown += [json.loads("{" + it + "}") for it in re.findall(r"`(\"pdf\":[^`]*)`", manual)]
+    # The runs by the first member of their object.
+    runs = {"outlines": ["--axes", "--json", "instances"], "glyphs": ["--json", "--widths", "named", "out", "0", "1"], "pdf": ["--json", "small", "--text", "A", "--pdf", "page"]}
+    table.demand([next(iter(it)) for it in shown] == list(runs), "the objects of docs/CLI.md", shown)
+    for wanted in shown:
+        words = runs.get(next(iter(wanted)), ["--version"])
+        got = table.start(words, room)
+        made = json.loads(got.stdout) if got.stdout.startswith(b"{") else {}
+        found = {"pdf": made.get("pdf")} if "pdf" in wanted else made
+        table.demand(shape(found) == shape(wanted), f"docs/CLI.md shows another object than {words}", f"{shape(found)}, wanted {shape(wanted)}")
