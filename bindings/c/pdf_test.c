@@ -572,6 +572,10 @@ static void try_options(struct row *row)
         subsetter_free_pdf_font(&font);
         words[word] = 0;
     }
+    options.tokens = options.bytes = UINT32_MAX;
+    check(make(row, &options, &font) == 0, "an option", "the greatest of all");
+    subsetter_free_pdf_font(&font);
+    options.tokens = options.bytes = 0;
     /* Of a shorter struct the rest is 0, and a size that isn't known is refused. */
     options.cid_set = 1;
     for (uint32_t size = 0; size <= 60; size++) {
@@ -595,9 +599,62 @@ static void try_options(struct row *row)
     check(make(row, &options, &font) == 10, "a fourth letter", "status");
     options.tag[1] = SUBSETTER_LETTERS('W', 'V', 'U');
     check(make(row, &options, &font) == 0 && memcmp(font.font_name, "ZYXWVU+Made-Regular", 19) == 0, "a tag", "the name");
+    size_t size = font.program_size;
     subsetter_free_pdf_font(&font);
-    options.bytes = 100;
-    check(make(row, &options, &font) == 5, "a bound", "status");
+    options.bytes = (uint32_t)size;
+    check(make(row, &options, &font) == 0 && font.program_size == size, "a bound", "that is reached");
+    subsetter_free_pdf_font(&font);
+    options.bytes--;
+    check(make(row, &options, &font) == 5 && is_nothing(&font), "a bound", "that is passed");
+}
+
+/* A tag: each of its letters is a capital, and what is in front of three is 0. */
+static void try_tags(const struct row *row)
+{
+    static const uint8_t letters[] = {'A', 'M', 'Z', '@', '[', 'a', 'z', 1, 255, 0};
+    subsetter_pdf_font font;
+    for (int place = 0; place < 8; place++)
+        for (size_t i = 0; i < sizeof letters; i++) {
+            subsetter_pdf_options options = SUBSETTER_DEFAULT_PDF_OPTIONS;
+            options.tag[0] = SUBSETTER_LETTERS('B', 'C', 'D');
+            options.tag[1] = SUBSETTER_LETTERS('E', 'F', 'G');
+            int shift = 24 - 8 * (place % 4), in_name = place % 4 - 1 + 3 * (place / 4);
+            options.tag[place / 4] = (options.tag[place / 4] & ~(255u << shift)) | (uint32_t)letters[i] << shift;
+            int is_known = place % 4 == 0 ? letters[i] == 0 : i < 3;
+            uint32_t status = make(row, &options, &font);
+            check(status == (is_known ? 0 : 10), "a letter of a tag", "status");
+            if (status == 0 && place % 4 != 0)
+                check(font.font_name[in_name] == letters[i], "a letter of a tag", "its place in the name");
+            subsetter_free_pdf_font(&font);
+        }
+    for (int half = 0; half < 2; half++) {
+        subsetter_pdf_options options = SUBSETTER_DEFAULT_PDF_OPTIONS;
+        options.tag[half] = SUBSETTER_LETTERS('B', 'C', 'D');
+        check(make(row, &options, &font) == 10 && is_nothing(&font), "half a tag", "status");
+    }
+}
+
+/* The calls for PDF take as many tokens as the calls that embed, at each number, and both take some and refuse some. */
+static void try_limits(const char *folder)
+{
+    static struct row row;
+    size_t accepted = 0, numbers = 0;
+    row.font = content(folder, "made_version_1.otf", &row.font_size);
+    read_shown(&row, "1:0041 2:0042 8:00C1");
+    for (uint32_t tokens = 1; tokens < 150; tokens++, numbers++) {
+        const subsetter_options alone = {sizeof alone, tokens, 0, SUBSETTER_DROP_NAMES | SUBSETTER_DROP_GLYPH_NAMES, 0};
+        subsetter_pdf_options options = SUBSETTER_DEFAULT_PDF_OPTIONS;
+        subsetter_pdf_font font;
+        subsetter_made made;
+        options.tokens = tokens;
+        uint32_t status = subsetter_make_embedded(row.font, row.font_size, 0, row.glyphs, row.glyph_count, &alone, &made);
+        check(make(&row, &options, &font) == status && (status == 0 || status == 6), "tokens", "status");
+        accepted += status == 0;
+        subsetter_free(&made);
+        subsetter_free_pdf_font(&font);
+    }
+    check(accepted > 0 && accepted < numbers, "tokens", "that suffice, and that don't");
+    free(row.font);
 }
 
 static uint32_t make_text(const struct row *row, const uint32_t *text, size_t text_count, const size_t *ends, size_t end_count)
@@ -655,6 +712,14 @@ static void try_sheets(const struct row *row)
     const uint32_t wrong[] = {0xd800};
     const size_t ends[] = {1};
     check(subsetter_make_pdf_sheet(&font, row->glyphs, 1, wrong, 1, ends, 1, 0, &made) == 12 && are_no_objects(&made), "no character", "status");
+    const uint32_t letters[] = {'A', 'B', 'C'};
+    const size_t lists[][2] = {{2, 1}, {1, 4}, {4, 4}};
+    for (size_t i = 0; i < 3; i++) {
+        memset(&made, 0xa5, sizeof made);
+        check(subsetter_make_pdf_sheet(&font, row->glyphs, 2, letters, 3, lists[i], 2, 0, &made) == 12 && are_no_objects(&made), "ends of a sheet", "status");
+    }
+    for (size_t count = 1; count < 4; count += 2)
+        check(subsetter_make_pdf_sheet(&font, row->glyphs, 2, letters, 3, (const size_t[]){1, 2, 3}, count, 0, &made) == 12, "ends of other entries of a sheet", "status");
     check(subsetter_make_pdf_objects(&font, UINT32_MAX - 7, &made) == 0, "the last number", "status");
     subsetter_free_pdf_objects(&made);
     memset(&made, 0xa5, sizeof made);
@@ -694,6 +759,81 @@ static void try_empty(void)
     check(is_given_back(&fonts[1]) && none.bytes == NULL && none.offsets == NULL && held == before, "empty lists", "given back");
 }
 
+/* Each list alone is given back, by its own count; those of no items aren't. (A DLL may have another malloc than its program.) */
+static void try_lists_alone(void)
+{
+#if !defined SUBSETTER_SHARED || !defined _WIN32
+    enum { LISTS = 11 };
+    static const uint64_t nothing[2];
+    struct list {
+        const void *items;
+        size_t count;
+    } lists[LISTS];
+    _Static_assert(sizeof lists == offsetof(subsetter_pdf_font, kind), "these are the lists of a font");
+    _Static_assert(2 * sizeof *lists == sizeof(subsetter_pdf_objects), "and these those of objects");
+    for (int alone = 0; alone < LISTS + 2; alone++) {
+        subsetter_pdf_font font;
+        subsetter_pdf_objects made;
+        long before = held;
+        for (int i = 0; i < LISTS; i++)
+            lists[i] = (struct list){nothing, 0};
+        lists[alone % LISTS] = (struct list){malloc(sizeof nothing), 1};
+        if (alone < LISTS) {
+            memset(&font, 0, sizeof font);
+            memcpy(&font, lists, sizeof lists);
+            subsetter_free_pdf_font(&font);
+            check(is_given_back(&font), "a list of a font alone", "what is left");
+        } else {
+            memcpy(&made, lists, sizeof made);
+            subsetter_free_pdf_objects(&made);
+            check(made.bytes == NULL && made.size == 0 && made.offsets == NULL && made.offset_count == 0, "a list of objects alone", "what is left");
+        }
+        check(held == before, "a list alone", "given back");
+    }
+#endif
+}
+
+/* Each list in turn is none, by null and by a pointer behind all that there is. */
+static void try_nulls(const struct row *row)
+{
+    const uint16_t glyphs[] = {1};
+    const uint32_t text[] = {'A'}, words[] = {4};
+    const size_t one[] = {1}, none[] = {0};
+    const subsetter_coordinate at = {SUBSETTER_TAG('w', 'g', 'h', 't'), 650 << 16};
+    for (int is_null = 0; is_null < 2; is_null++) {
+        subsetter_pdf_font font;
+        subsetter_pdf_objects made;
+        uint16_t glyph[] = {7};
+        size_t length;
+        const subsetter_coordinate *no_place = is_null ? NULL : &at + 1;
+        const uint16_t *no_glyphs = is_null ? NULL : glyphs + 1;
+        const uint32_t *no_text = is_null ? NULL : text + 1, *no_words = is_null ? NULL : words + 1;
+        const size_t *no_ends = is_null ? NULL : one + 1;
+        const uint8_t *no_font = is_null ? NULL : row->font + row->font_size;
+#define MADE(...) subsetter_make_pdf_font_by_words(__VA_ARGS__, &font)
+        check(MADE(no_font, 0, 0, &at, 1, glyphs, 1, text, 1, one, 1, words, 1) == 1 && is_nothing(&font), "no font", "status");
+        check(MADE(row->font, row->font_size, 0, no_place, 0, glyphs, 1, text, 1, one, 1, no_words, 0) == 0 && font.cid_count == 1, "no place", "status");
+        subsetter_free_pdf_font(&font);
+        check(MADE(row->font, row->font_size, 0, &at, 1, no_glyphs, 0, text, 1, one, 1, words, 1) == 12 && is_nothing(&font), "no glyphs", "status");
+        check(MADE(row->font, row->font_size, 0, &at, 1, glyphs, 1, no_text, 0, one, 1, words, 1) == 12 && is_nothing(&font), "no text", "status");
+        check(MADE(row->font, row->font_size, 0, &at, 1, glyphs, 1, text, 1, no_ends, 0, words, 1) == 12 && is_nothing(&font), "no ends", "status");
+        check(MADE(row->font, row->font_size, 0, &at, 1, glyphs, 1, no_text, 0, none, 1, words, 1) == 0 && font.cid_count == 1, "an empty text", "status");
+        subsetter_free_pdf_font(&font);
+        check(MADE(row->font, row->font_size, 0, no_place, 0, no_glyphs, 0, no_text, 0, no_ends, 0, no_words, 0) == 0 && font.cid_count == 0,
+              "no entries", "status");
+#undef MADE
+        check(subsetter_make_pdf_sheet(&font, no_glyphs, 0, no_text, 0, no_ends, 0, 0, &made) == 0 && made.size > 500, "a sheet of no entries", "status");
+        subsetter_free_pdf_objects(&made);
+        subsetter_free_pdf_font(&font);
+        check(subsetter_glyphs_of(no_font, 0, 0, text, 1, glyph, 1, &length) == 1 && length == 0, "glyphs of no font", "status");
+        check(subsetter_glyphs_of(row->font, row->font_size, 0, no_text, 0, no_glyphs == NULL ? NULL : glyph + 1, 0, &length) == 0 && length == 0,
+              "glyphs of no text", "status");
+        check(subsetter_glyphs_of(row->font, row->font_size, 0, text, 1, no_glyphs == NULL ? NULL : glyph + 1, 0, &length) == 8 && length == 1,
+              "no room for glyphs", "status");
+        check(glyph[0] == 7, "no room for glyphs", "nothing is written");
+    }
+}
+
 static void try_glyphs(const struct row *row)
 {
     const uint32_t text[] = {'A', 'H', 0x1f600, 'z'};
@@ -708,10 +848,14 @@ static void try_glyphs(const struct row *row)
     check(subsetter_glyphs_of(row->font, row->font_size, 0, wrong, 2, glyphs, 5, &length) == 12 && length == 0, "no character", "status");
     check(subsetter_glyphs_of(row->font, 40, 0, text, 4, glyphs, 5, &length) == 2 && length == 0, "a cut font", "status");
     check(subsetter_glyphs_of((const uint8_t *)"no", 2, 0, text, 4, glyphs, 5, &length) == 1 && length == 0, "no font", "status");
+    check(subsetter_glyphs_of((const uint8_t *)"no", 2, 0, wrong, 2, glyphs, 5, &length) == 12 && length == 0, "characters before the font", "status");
+    check(subsetter_glyphs_of((const uint8_t *)"no", 2, 0, text, 4, NULL, 0, &length) == 1 && length == 0, "the font before the room", "status");
 #ifndef SUBSETTER_SHARED
     refused = 1;
     requests = 0;
     check(subsetter_glyphs_of(row->font, row->font_size, 0, text, 4, glyphs, 5, &length) == 7 && length == 0, "no memory", "status");
+    requests = 0;
+    check(subsetter_glyphs_of((const uint8_t *)"no", 2, 0, text, 4, glyphs, 5, &length) == 1 && length == 0, "the font before memory", "status");
     refused = 0;
 #endif
 }
@@ -722,6 +866,40 @@ static void put_number(uint8_t *at, uint32_t number, int bytes)
         at[bytes] = (uint8_t)number;
         number >>= 8;
     }
+}
+
+/* What a font's maker permits, by `fsType`: it is told of a font that the caller may embed, and else refuses it. */
+static void try_permissions(const struct row *row)
+{
+    static const struct {
+        uint32_t fs_type, usage, may_subset, may_embed_outlines;
+    } said[] = {
+        {0, SUBSETTER_USAGE_INSTALLABLE, 1, 1}, {2, SUBSETTER_USAGE_RESTRICTED, 1, 1}, {4, SUBSETTER_USAGE_PREVIEW_AND_PRINT, 1, 1},
+        {8, SUBSETTER_USAGE_EDITABLE, 1, 1}, {0x100, SUBSETTER_USAGE_INSTALLABLE, 0, 1}, {0x200, SUBSETTER_USAGE_INSTALLABLE, 1, 0},
+        {0x104, SUBSETTER_USAGE_PREVIEW_AND_PRINT, 0, 1}, {0x302, SUBSETTER_USAGE_RESTRICTED, 0, 0},
+    };
+    struct row other = *row;
+    other.font = malloc(row->font_size);
+    memcpy(other.font, row->font, row->font_size);
+    uint8_t *record = other.font + 12;
+    while (memcmp(record, "OS/2", 4) != 0)
+        record += 16;
+    uint8_t *table = other.font + (((uint32_t)record[8] << 24) | (record[9] << 16) | (record[10] << 8) | record[11]);
+    put_number(table, 4, 2);
+    for (size_t i = 0; i < sizeof said / sizeof *said; i++) {
+        subsetter_pdf_options options = SUBSETTER_DEFAULT_PDF_OPTIONS;
+        subsetter_pdf_font font;
+        int is_permitted = said[i].usage != SUBSETTER_USAGE_RESTRICTED && said[i].may_subset && said[i].may_embed_outlines;
+        put_number(table + 8, said[i].fs_type, 2);
+        check(make(&other, &options, &font) == (is_permitted ? SUBSETTER_DONE : SUBSETTER_NOT_PERMITTED), "what is permitted", "status");
+        subsetter_free_pdf_font(&font);
+        options.rights = SUBSETTER_RIGHTS_HELD;
+        check(make(&other, &options, &font) == SUBSETTER_DONE, "rights that are held", "status");
+        check(font.usage == said[i].usage && font.may_subset == said[i].may_subset && font.may_embed_outlines == said[i].may_embed_outlines,
+              "what is permitted", "numbers");
+        subsetter_free_pdf_font(&font);
+    }
+    free(other.font);
 }
 
 /* A collection of a font and of the same without `cmap` and `OS/2`: each call takes the face that it is given. */
@@ -755,6 +933,19 @@ static void try_faces(const struct row *row)
     check(fonts[0].usage != SUBSETTER_USAGE_UNSAID && fonts[1].usage == SUBSETTER_USAGE_UNSAID, "two faces", "what they permit");
     subsetter_free_pdf_font(&fonts[0]);
     subsetter_free_pdf_font(&fonts[1]);
+#ifndef SUBSETTER_SHARED
+    /* A face that can't be opened is told as such, whatever memory there is. */
+    const subsetter_coordinate place = {SUBSETTER_TAG('w', 'g', 'h', 't'), 650 << 16};
+    for (unsigned long request = 1; request < 8; request++)
+        for (uint32_t face = 1; face < 3; face++) {
+            requests = 0;
+            refused = request;
+            uint32_t status = subsetter_make_pdf_font(bytes, size, face, &place, 1, glyph, 1, text, 1, ends, 1, NULL, &fonts[0]);
+            refused = 0;
+            check(face == 2 ? status == 2 : status == 7 || (status == 0 && request > 1), "a face without memory", "status");
+            subsetter_free_pdf_font(&fonts[0]);
+        }
+#endif
     free(bytes);
 }
 
@@ -784,13 +975,18 @@ int main(int count, char **words)
         damage(&row, DAMAGED);
         if (rows++ == 0) {
             try_options(&row);
+            try_tags(&row);
             try_texts(&row);
+            try_nulls(&row);
             try_sheets(&row);
             try_glyphs(&row);
+            try_permissions(&row);
             try_faces(&row);
         }
         free(row.font);
     }
+    try_limits(words[1]);
+    try_lists_alone();
     try_empty();
     try_statuses();
     free(whole);

@@ -518,6 +518,38 @@ static void check_memory(const struct row *row)
     refused = 0;
 }
 
+/* ---- the calls beside the row's own */
+
+/* Whether the font has these four bytes, as the tag of a table has them. */
+static int has_bytes(const struct row *row, const char *tag)
+{
+    for (size_t i = 0; i + 4 <= row->font_size; i++)
+        if (memcmp(row->font + i, tag, 4) == 0)
+            return 1;
+    return 0;
+}
+
+/* A row of defaults by the other calls that can say it: the library's own limits by their numbers, and no coordinates of a font without
+ * axes. So each call has each face. */
+static void check_other_calls(const struct row *row)
+{
+    struct row other = *row;
+    if (row->limits || row->varies || row->tokens != 0 || row->depth != 0 || row->drop != 0 || row->most != 0)
+        return;
+    if (!row->embeds) {
+        other.limits = 1;
+        other.options = 0;
+        other.tokens = 1000000;
+        other.depth = 64;
+        check_whole(&other, 0);
+    }
+    if (has_bytes(row, "fvar") || has_bytes(row, "CFF2"))
+        return;
+    other = *row;
+    other.varies = other.options = 1;
+    check_whole(&other, 0);
+}
+
 /* ---- options */
 
 /* The row with options that have so many bytes, behind which there is rubbish: it is answered, or the size is unknown. */
@@ -663,6 +695,67 @@ static void check_made_memory(const struct row *row)
         check(held == before, "all memory is given back", row->words[1]);
     }
     refused = 0;
+}
+
+#ifndef SUBSETTER_SHARED
+/* One of the first requests for memory is refused: a face that can't be opened is told as such by each call, and of the others it is
+ * memory that lacks. The row's font has two faces. */
+static void check_opening(const struct row *row, uint32_t face, unsigned long request)
+{
+    const subsetter_options options = options_of(row);
+    struct answer a;
+    subsetter_made made;
+    prepare(&a, row->size, row->cid_count, row->width_count);
+    refused = request;
+    requests = 0;
+    call_with(row, &options, &a);
+    check(face < 2 ? a.status == 7 || (a.status == row->status && request > 1) : a.status == 2, "a face without memory", row->words[1]);
+    requests = 0;
+    uint32_t status = make(row, &options, &made);
+    refused = 0;
+    check(face < 2 ? status == 7 || (status == row->status && request > 1) : status == 2, "a face without memory of the library", row->words[1]);
+    subsetter_free(&made);
+    give_up(&a);
+}
+
+static void check_openings(const struct row *row)
+{
+    static const uint32_t faces[] = {1, 2, 65537};
+    for (int turn = 0; turn < 12; turn++)
+        for (unsigned long request = 1; request < 5; request++) {
+            struct row other = *row;
+            other.index = faces[turn % 3];
+            other.varies = turn / 3 % 2;
+            other.embeds = turn / 6;
+            check_opening(&other, other.index, request);
+        }
+}
+#endif
+
+/* Each list alone is given back, by its own count; those of no items aren't. (A DLL may have another malloc than its program.) */
+static void check_lists_alone(void)
+{
+#if !defined SUBSETTER_SHARED || !defined _WIN32
+    static const uint32_t nothing[1];
+    for (int list = 0; list < 3; list++) {
+        subsetter_made made = {(const uint8_t *)nothing, 0, (const uint16_t *)nothing, 0, nothing, 0};
+        long before = held;
+        void *block = malloc(4);
+        if (list == 0) {
+            made.font = block;
+            made.font_size = 1;
+        } else if (list == 1) {
+            made.cids = block;
+            made.cid_count = 1;
+        } else {
+            made.widths = block;
+            made.width_count = 1;
+        }
+        subsetter_free(&made);
+        check(held == before, "a list alone", "is given back");
+        check(is_nothing(&made) && made.font == NULL && made.cids == NULL && made.widths == NULL, "a list alone", "nothing is left");
+    }
+#endif
 }
 
 /* ---- lists of words, as another binding may hand them over */
@@ -821,6 +914,9 @@ static void check_threads(void)
 int main(int argc, char **argv)
 {
     int words_checked = 0, ends_checked = 0;
+#ifndef SUBSETTER_SHARED
+    int openings_checked = 0;
+#endif
     for (int i = 1; i < argc; i++)
         read_rows(argv[i]);
     for (size_t i = 0; i < row_count; i++) {
@@ -838,10 +934,20 @@ int main(int argc, char **argv)
         check_made(row);
         if (is_short) {
             check_made_memory(row);
+            check_other_calls(row);
             check_sizes(row);
             check_bound(row);
         }
     }
+    check_lists_alone();
+#ifndef SUBSETTER_SHARED
+    for (size_t i = 0; i < row_count; i++)
+        if (strcmp(rows[i].words[2], "two_faces") == 0 && rows[i].varies && rows[i].status == 0) {
+            check_openings(&rows[i]);
+            openings_checked++;
+        }
+    check(openings_checked > 0, "a row of two faces", "two_faces");
+#endif
     for (size_t i = 0; i < row_count; i++)
         if (strcmp(rows[i].words[1], "sid_keyed") == 0) {
             check_words(&rows[i]);

@@ -7,6 +7,7 @@ use crate::making::{make, Made};
 use crate::status::{status_text, DONE, PANICKED, TOO_SMALL, VERSION};
 use fonts::capi::Coordinate;
 use fonts::Embedded;
+use std::alloc::{alloc, dealloc, realloc, Layout};
 use std::cell::Cell;
 use std::ptr::{null, null_mut};
 
@@ -310,6 +311,31 @@ fn a_list_of_no_items_is_null_whatever_room_it_has() {
     assert!(made.font.is_null() && made.cids.is_null() && made.widths.is_null());
     let counts = (made.font_size, made.cid_count, made.width_count);
     assert_eq!(counts, (0, 0, 0));
+}
+
+#[test]
+fn blocks_have_their_alignment_and_keep_their_bytes() {
+    let sizes = [1, 7, 24, 100, 4096, 100_000];
+    let aligns = (0..13).map(|power| 1_usize << power);
+    for (align, size) in aligns.flat_map(|it| sizes.map(|size| (it, size))) {
+        let few = Layout::from_size_align(size, align).unwrap();
+        let many = Layout::from_size_align(3 * size, align).unwrap();
+        // SAFETY: no layout is of no bytes, and each block has the bytes of its layout until it is given back.
+        unsafe {
+            let blocks = [(); 5].map(|()| alloc(few));
+            for (number, block) in blocks.into_iter().enumerate() {
+                assert!(!block.is_null() && block as usize % align == 0, "{few:?}");
+                block.write_bytes(number as u8 + 1, size);
+            }
+            let larger = blocks.map(|block| realloc(block, few, 3 * size));
+            for (number, block) in larger.into_iter().enumerate() {
+                assert!(!block.is_null() && block as usize % align == 0, "{many:?}");
+                let kept = std::slice::from_raw_parts(block, size);
+                assert!(kept.iter().all(|it| *it == number as u8 + 1), "{many:?}");
+                dealloc(block, many);
+            }
+        }
+    }
 }
 
 #[test]

@@ -50,3 +50,33 @@ impl fmt::Display for Error {
 }
 
 impl std::error::Error for Error {}
+
+#[cfg(test)]
+mod tests {
+    use super::Error;
+
+    #[test]
+    fn each_status_has_its_error() {
+        let errors = [
+            Error::UnknownKind,
+            Error::MalformedFont,
+            Error::Unimplemented,
+            Error::SubsetError,
+            Error::OverflowError,
+            Error::CFFError,
+        ];
+        for (status, error) in (1..).zip(errors) {
+            assert_eq!(Error::of_status(status), error);
+        }
+    }
+
+    #[test]
+    fn other_statuses_are_those_of_another_library() {
+        // (0 and 7 are no errors here: a font, and the end of the process)
+        for status in [0, 7, 8, 9, 10, 11, 12, 13, 256, u32::MAX] {
+            let panic = std::panic::catch_unwind(|| Error::of_status(status)).unwrap_err();
+            let wanted = format!("libsubsetter answers status {status}: it is of another version");
+            assert_eq!(panic.downcast_ref::<String>(), Some(&wanted));
+        }
+    }
+}

@@ -164,10 +164,224 @@ fn a_folder_without_the_library_is_refused_with_words() {
     assert!(said.contains("`make` in bindings/c"), "{said}");
 }
 
+// ---- what the build's program tells Cargo, in a folder with libraries of its own
+
+/// The build's program of a package in a folder, called as Cargo does it.
+struct Program {
+    package: PathBuf,
+    program: PathBuf,
+}
+
+impl Program {
+    fn new(name: &str) -> Self {
+        let folder = folder(name);
+        let (package, program) = (folder.join("package"), folder.join("build"));
+        fs::create_dir_all(package.join("src")).unwrap();
+        let compiler = env::var("RUSTC").unwrap_or_else(|_| "rustc".into());
+        done(
+            Command::new(compiler)
+                .args(["--edition", "2021", "-o"])
+                .arg(&program)
+                .arg(concat!(env!("CARGO_MANIFEST_DIR"), "/build.rs"))
+                .env("CARGO_MANIFEST_DIR", &package),
+        );
+        Self { package, program }
+    }
+
+    /// A folder beside the package, or in it, with a library of these bytes.
+    fn library(&self, folder: &str, bytes: &[u8]) -> PathBuf {
+        let folder = self.package.join(folder);
+        fs::create_dir_all(&folder).unwrap();
+        fs::write(folder.join("libsubsetter.a"), bytes).unwrap();
+        folder
+    }
+
+    /// What it prints for a target, or what it says where it fails.
+    fn run(&self, named: Option<&Path>, has_variable_fonts: bool) -> Result<String, String> {
+        let mut command = Command::new(&self.program);
+        command
+            .current_dir(&self.package)
+            .env("TARGET", "some-target")
+            .env_remove("CARGO_FEATURE_VARIABLE_FONTS")
+            .env_remove("SUBSETTER_LIBRARY_FOLDER");
+        if let Some(folder) = named {
+            command.env("SUBSETTER_LIBRARY_FOLDER", folder);
+        }
+        if has_variable_fonts {
+            command.env("CARGO_FEATURE_VARIABLE_FONTS", "1");
+        }
+        let output = command.output().unwrap();
+        let text = |bytes| String::from_utf8(bytes).unwrap();
+        match output.status.success() {
+            true => Ok(text(output.stdout)),
+            false => Err(text(output.stderr)),
+        }
+    }
+
+    /// All that it prints of a library that it takes, and a warning.
+    fn taken(folder: &Path, warning: &str) -> Result<String, String> {
+        let folder = folder.display();
+        Ok(format!(
+            "cargo:rerun-if-env-changed=SUBSETTER_LIBRARY_FOLDER\n\
+             cargo:rerun-if-changed={folder}/libsubsetter.a\n\
+             {warning}\
+             cargo:rustc-link-search=native={folder}\n\
+             cargo:rustc-link-lib=static=subsetter\n"
+        ))
+    }
+}
+
+/// The name by which a library that has the calls for PDF is known.
+const CALL: &[u8] = b"subsetter_make_pdf_font_by_words";
+
+#[test]
+fn the_library_is_that_of_the_named_folder_of_the_package_or_of_the_clone() {
+    let program = Program::new("which_library");
+    let said = program.run(None, true).unwrap_err();
+    assert!(
+        said.contains(
+            "/package/../c/out/libsubsetter.a isn't there: `make` in bindings/c builds it"
+        ),
+        "{said}"
+    );
+    let named = program.library("named", CALL);
+    assert_eq!(program.run(Some(&named), true), Program::taken(&named, ""));
+    let of_clone = program.library("../c/out", CALL);
+    assert_eq!(program.run(None, true), Program::taken(&of_clone, ""));
+    // A name that is empty is none.
+    let none = Some(Path::new(""));
+    assert_eq!(program.run(none, true), Program::taken(&of_clone, ""));
+    assert_eq!(program.run(Some(&named), true), Program::taken(&named, ""));
+    // A package that carries libraries takes the one of its target, and none of the clone's.
+    fs::create_dir(program.package.join("native")).unwrap();
+    let said = program.run(None, true).unwrap_err();
+    assert!(said.contains("/package/native/some-target/libsubsetter.a isn't there: this package carries no library for some-target, and SUBSETTER_LIBRARY_FOLDER names another folder"), "{said}");
+    let carried = program.library("native/some-target", CALL);
+    assert_eq!(program.run(None, true), Program::taken(&carried, ""));
+    assert_eq!(program.run(none, true), Program::taken(&carried, ""));
+    assert_eq!(program.run(Some(&named), true), Program::taken(&named, ""));
+}
+
+#[test]
+fn what_is_no_library_is_refused() {
+    let program = Program::new("no_library");
+    program.library("../c/out", CALL);
+    program.library("relative", CALL);
+    let said = program.run(Some(Path::new("relative")), true).unwrap_err();
+    assert!(
+        said.contains("SUBSETTER_LIBRARY_FOLDER is the relative relative: name the whole path"),
+        "{said}"
+    );
+    // A folder of the library's name is none.
+    let folder = program.package.join("folder");
+    fs::create_dir_all(folder.join("libsubsetter.a")).unwrap();
+    let said = program.run(Some(&folder), true).unwrap_err();
+    assert!(said.contains("/folder/libsubsetter.a isn't there: `make` in bindings/c builds it, and SUBSETTER_LIBRARY_FOLDER names another folder"), "{said}");
+}
+
+#[test]
+fn a_library_without_the_calls_for_pdf_is_older_for_those_who_may_use_them() {
+    let program = Program::new("older_library");
+    let one_less = &CALL[..CALL.len() - 1];
+    let [front, back] = [[&b"\0.."[..], CALL].concat(), [CALL, b"..\0"].concat()];
+    for bytes in [CALL, &front, &back] {
+        let whole = program.library("whole", bytes);
+        assert_eq!(program.run(Some(&whole), true), Program::taken(&whole, ""));
+        assert_eq!(program.run(Some(&whole), false), Program::taken(&whole, ""));
+    }
+    for bytes in [&b""[..], b"subsetter", one_less] {
+        let older = program.library("older", bytes);
+        let warning = format!(
+            "cargo:warning={}/libsubsetter.a is older than this package: it has no calls for PDF, and a program that uses \
+             subsetter::pdf can't be linked with it\n",
+            older.display()
+        );
+        let wanted = Program::taken(&older, &warning);
+        assert_eq!(program.run(Some(&older), true), wanted);
+        assert_eq!(program.run(Some(&older), false), Program::taken(&older, ""));
+    }
+}
+
+#[test]
+fn the_static_library_is_linked() {
+    let table = table();
+    let row = table.rows.iter().find(|row| row.name == "simple").unwrap();
+    let (target, both) = (folder("dependent_static"), folder("both"));
+    fs::copy(library(), both.join("libsubsetter.a")).unwrap();
+    // What stands beside it isn't looked at.
+    fs::write(both.join("libsubsetter.so"), "no library").unwrap();
+    assert_eq!(run(&target, Some(&both), &row.font), row.wanted.font);
+}
+
 #[test]
 fn the_package_has_the_version_of_the_repository() {
     let version = fs::read_to_string(concat!(env!("CARGO_MANIFEST_DIR"), "/../../VERSION"));
     let manifest = fs::read_to_string(concat!(env!("CARGO_MANIFEST_DIR"), "/Cargo.toml"));
     let line = format!("\nversion = \"{}\"\n", version.unwrap().trim());
     assert!(manifest.unwrap().contains(&line), "{line}");
+}
+
+#[test]
+fn the_package_is_what_programs_rest_on() {
+    let output = Command::new(env!("CARGO"))
+        .args([
+            "metadata",
+            "--no-deps",
+            "--offline",
+            "--format-version",
+            "1",
+        ])
+        .current_dir(env!("CARGO_MANIFEST_DIR"))
+        .output()
+        .unwrap();
+    let said = String::from_utf8(output.stdout).unwrap();
+    for part in [
+        r#""name":"subsetter-native""#,
+        r#""license":"MIT OR Apache-2.0""#,
+        r#""dependencies":[]"#,
+        r#""kind":["lib"],"crate_types":["lib"],"name":"subsetter""#,
+        r#""features":{"variable-fonts":[]}"#,
+        r#""publish":[]"#,
+        r#""edition":"2021""#,
+        // Two of them in one program would be one library twice.
+        r#""links":"subsetter""#,
+        r#""rust_version":"1.65""#,
+    ] {
+        assert!(said.contains(part), "{part}: {said}");
+    }
+}
+
+#[test]
+fn the_package_carries_its_sources_its_licence_and_its_libraries() {
+    let here = Path::new(env!("CARGO_MANIFEST_DIR"));
+    let copy = folder("carried");
+    for name in ["Cargo.toml", "build.rs", "LICENSE", "NOTICE"] {
+        fs::copy(here.join(name), copy.join(name)).unwrap();
+    }
+    for name in [
+        "src/lib.rs",
+        "src/pdf/font.rs",
+        "native/some-target/libsubsetter.a",
+        "tests/rows.rs",
+    ] {
+        fs::create_dir_all(copy.join(name).parent().unwrap()).unwrap();
+        fs::write(copy.join(name), "").unwrap();
+    }
+    let output = Command::new(env!("CARGO"))
+        .args(["package", "--list", "--offline", "--allow-dirty"])
+        .current_dir(&copy)
+        .output()
+        .unwrap();
+    let said = String::from_utf8(output.stdout).unwrap();
+    let own = |name: &&str| !name.starts_with("Cargo.") && !name.starts_with('.');
+    let names: Vec<&str> = said.lines().filter(own).collect();
+    let wanted = [
+        "LICENSE",
+        "NOTICE",
+        "build.rs",
+        "native/some-target/libsubsetter.a",
+        "src/lib.rs",
+        "src/pdf/font.rs",
+    ];
+    assert_eq!(names, wanted, "{}", String::from_utf8_lossy(&output.stderr));
 }

@@ -127,7 +127,67 @@ impl std::error::Error for FontError {
 #[cfg(test)]
 mod tests {
     use crate::pdf::{Bounds, Codes, Direction, FontOptions, ProgramChoice, Rights, SubsetTag};
-    use crate::Limits;
+    use crate::pdf::{FontError, Layout, Permission, ProgramKind, Usage};
+    use crate::{Error, Limits};
+
+    #[test]
+    fn each_status_has_its_error() {
+        let errors = [
+            Error::UnknownKind,
+            Error::MalformedFont,
+            Error::Unimplemented,
+            Error::SubsetError,
+            Error::OverflowError,
+            Error::CFFError,
+        ];
+        let of_status = |status| FontError::of_status(status, b"no font", 0);
+        for (status, error) in (1..).zip(errors) {
+            assert_eq!(of_status(status), FontError::Subset(error));
+        }
+        let unsaid = Permission {
+            usage: Usage::Unsaid,
+            subsetting: true,
+            outlines: true,
+        };
+        assert_eq!(of_status(11), FontError::NotPermitted(unsaid));
+        assert_eq!(of_status(12), FontError::TextTooLong);
+        for status in [0, 7, 8, 9, 10, 13, 256, u32::MAX] {
+            let panic = std::panic::catch_unwind(|| of_status(status)).unwrap_err();
+            let wanted = format!("libsubsetter answers status {status}: it is of another version");
+            assert_eq!(panic.downcast_ref::<String>(), Some(&wanted));
+        }
+    }
+
+    #[test]
+    fn words_have_their_values() {
+        let kinds = [
+            ProgramKind::TrueType,
+            ProgramKind::BareCff,
+            ProgramKind::OpenType,
+        ];
+        for (word, kind) in (0..).zip(kinds) {
+            assert_eq!(ProgramKind::of_word(word), kind);
+        }
+        let usages = [
+            Usage::Unsaid,
+            Usage::Installable,
+            Usage::Editable,
+            Usage::PreviewAndPrint,
+            Usage::Restricted,
+        ];
+        for (word, usage) in (0..).zip(usages) {
+            for (subsetting, outlines) in [(0, 0), (0, 1), (1, 0), (1, 1)] {
+                let wanted = Permission {
+                    usage,
+                    subsetting: subsetting == 1,
+                    outlines: outlines == 1,
+                };
+                let found = Permission::of_words(word, subsetting, outlines);
+                assert_eq!(found, wanted);
+            }
+        }
+        assert_eq!([Layout::Line.word(), Layout::Grid.word()], [0, 1]);
+    }
 
     #[test]
     fn options_are_words() {
