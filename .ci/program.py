@@ -14,7 +14,7 @@ With --run that program starts FILE, which is of another system: s390x by qemu, 
 listed with its reason in program/systems.py: checks that aren't run in UNCHECKED, and in OTHERWISE rows that end otherwise, and
 fail where they don't.
 
-The options are also compared with `--help`, docs/CLI.md and the manual page, and each fact of program/facts.txt; the version with the file VERSION. The last
+The options, statuses, first lines of failures and examples are also compared with `--help`, docs/CLI.md and the manual page; the version with the file VERSION. The last
 line is `program: N rows, M differ`, and the status 1 where one differs or a file of rows can't be read.
 """
 import argparse
@@ -32,14 +32,14 @@ from check_batch import check_batch, check_opened, check_progress, check_refused
 from check_files import check_attributes, check_device, check_links, check_places, check_rights, check_second_names  # noqa: E402
 from check_pdf import check_pdf  # noqa: E402
 from check_refused import check_failed_calls, check_inodes, check_kept_room, check_killed, check_little_room, check_refused_memory, check_refused_names, check_refused_reasons, check_requests  # noqa: E402
-from check_facts import check_facts  # noqa: E402
+from check_shown import check_shown  # noqa: E402
 from check_streams import check_closed, check_many, check_memory, check_number_of_output, check_streams  # noqa: E402
 from check_texts import check_contents, check_names, check_words  # noqa: E402
 from made_fonts import FONTS  # noqa: E402
 from running import Table, messages  # noqa: E402
 from systems import OTHERWISE, UNCHECKED  # noqa: E402
 
-CHECKS = (check_words, check_facts, check_names, check_pdf, check_places, check_links, check_second_names, check_attributes, check_device, check_rights, check_streams, check_closed, check_number_of_output, check_many, check_memory,
+CHECKS = (check_words, check_shown, check_names, check_pdf, check_places, check_links, check_second_names, check_attributes, check_device, check_rights, check_streams, check_closed, check_number_of_output, check_many, check_memory,
           check_refused_memory, check_refused_names, check_refused_reasons, check_requests, check_little_room, check_kept_room, check_failed_calls, check_killed, check_inodes,
           check_batch, check_opened, check_refused_batch, check_soon, check_progress)
 

@@ -14,7 +14,6 @@ sys.dont_write_bytecode = True
 sys.path.insert(0, os.path.join(os.path.dirname(os.path.realpath(__file__)), "program"))
 
 import made_fonts  # noqa: E402
-import check_facts  # noqa: E402 (made_fonts leads to the folder of `made`)
 import check_texts  # noqa: E402
 import planted  # noqa: E402
 import row_files  # noqa: E402
@@ -98,19 +97,6 @@ TEXTS = [
     ("a PDF behind OUT in the manual", "docs/CLI.md", "A PDF is written as OUT is, and before it:", "A PDF is written as OUT is, and after it:"),
     ("a PDF behind OUT in the manual page", "subset_font.1", "is, and before it.", "is, and after it."),
 ]
-# The same of a fact.
-FACTS = [
-    ("another status in the help", "--help", "2 an argument is wrong", "3 an argument is wrong"),
-    ("another order in the help", "--help", "from top to bottom", "from bottom to top"),
-    ("a sentence less in the help", "--help", "With -o or --pdf they may also be after IN.\n", ""),
-    ("a sentence more in the help", "--help", "each at most once", "each at most once but for --at"),
-    ("another form in the manual page", "subset_font.1", "[ --json ]  IN  [ INDEX ]\n.SH", "[ --json ]  IN \n.SH"),
-    ("another stream in the manual page", "subset_font.1", "to standard error.\n.TP\n.I INDEX", "to standard output.\n.TP\n.I INDEX"),
-    ("a file that is another in the manual page", "subset_font.1", ".I OUT\nis, and before it.", ".I FILE\nis, and before it."),
-    ("another cause in the manual", "docs/CLI.md", "more than 65,278 have own names", "more than 65,535 have own names"),
-    ("another limit of the build by Cargo", "docs/CLI.md", "for each file name of 384 bytes or more", "for each file name of 256 bytes or more"),
-    ("a part more in the manual", "docs/CLI.md", "# The program `subset_font`\n", "# The program `subset_font`\n\nIt draws glyphs.\n"),
-]
 
 
 def room_of(top):
@@ -188,22 +174,11 @@ def planted_in_text(name, text, old, new):
     return [] if [it for it, _ in check_texts.said_otherwise(texts)] == [text] else [f"{name}: GOT THROUGH"]
 
 
-def planted_in_fact(name, text, old, new):
-    """What is wrong where a text says another fact."""
-    with open(os.path.join(planted.ROOT, "crates", "subset_font", "src", "help.rt"), encoding="utf-8") as file:
-        texts = check_texts.texts_beside(file.read().partition('HELP: &str = "')[2].rstrip('\n";'))
-    if check_facts.facts_otherwise(texts) or texts[text].count(old) != 1:
-        return [f"{name}: {old!r} isn't there, or the texts differ: {check_facts.facts_otherwise(texts)}"]
-    texts[text] = texts[text].replace(old, new)
-    return [] if {it for it, _ in check_facts.facts_otherwise(texts)} == {text} else [f"{name}: GOT THROUGH"]
-
-
 def main():
     faults = [fault for it in PLANTS for fault in planted_in_files(*it)]
     faults += [fault for it in RUNS for fault in planted_in_run(*it)]
     faults += [fault for it in TEXTS for fault in planted_in_text(*it)]
-    faults += [fault for it in FACTS for fault in planted_in_fact(*it)]
-    return planted.tell(faults, len(PLANTS) + len(RUNS) + len(TEXTS) + len(FACTS))
+    return planted.tell(faults, len(PLANTS) + len(RUNS) + len(TEXTS))
 
 
 if __name__ == "__main__":

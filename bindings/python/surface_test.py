@@ -18,7 +18,6 @@ import os
 import pickle
 import re
 import sys
-import typing
 
 from checks import Checks
 
@@ -277,10 +276,6 @@ def check_declarations():
         for (kind, parameter), declared in zip(parameters, call.argtypes or ()):
             wanted = (ctypes.c_void_p, ctypes.POINTER(STRUCTS[kind.rstrip(" *")])) if kind.endswith("*") else (ITEMS[kind],)
             check(declared in wanted, f"{name}: {parameter} is {declared}")
-
-
-class Stopped(Exception):
-    """In the place of a call that isn't to be made."""
 
 
 @contextlib.contextmanager

@@ -1,71 +1,11 @@
-"""What the three texts say of the program, fact by fact (facts.txt), the lines and objects that docs/CLI.md shows, and the examples."""
+"""The entries of options and statuses in the three texts of the program, the examples, and the lines and objects that docs/CLI.md shows."""
 import json
-import os
 import re
 
 import row_files
 from check_texts import OPTIONS, texts_beside
 from made_fonts import FONTS
 from running import message, messages, put
-
-FACTS = os.path.join(row_files.HERE, "facts.txt")
-# The texts by their keys in facts.txt.
-KEYS = {"help": "--help", "page": "subset_font.1", "manual": "docs/CLI.md"}
-
-
-def bare(key, text):
-    """A text without blanks and ends of lines, and without its marks: those of Markdown's code, and the requests of a manual page."""
-    lines = text.replace("`", "").splitlines()
-    if key == "page":
-        lines = [it.partition(" ")[2].replace('"', "") if it.startswith(".") else it for it in lines]
-    return "".join("".join(lines).split())
-
-
-def facts():
-    """The records of facts.txt; a Trouble where a part has another key."""
-    found = row_files.records(FACTS, ".ci/program/facts.txt")
-    for part in (part for it in found for part in it.parts):
-        row_files.demand_key(part, (*KEYS, "by"), set(), ())
-    return found
-
-
-def facts_otherwise(texts):
-    """What is otherwise in the texts, which are by their names: a fact's phrase that a text hasn't, and what is in no fact."""
-    found = []
-    for key, name in KEYS.items():
-        left = bare(key, texts[name])
-        for part in (part for it in facts() for part in it.parts if part.key == key):
-            phrase = bare("", part.value)
-            if phrase not in left:
-                found.append((name, f"{part.where}: it doesn't say: {part.value}"))
-            left = left.replace(phrase, "\n", 1)
-        found += [(name, f"this is no fact of .ci/program/facts.txt: {it}") for it in left.split("\n") if it.strip("|")]
-    return found
-
-
-def shown_by():
-    """What can show a fact: the files of rows, the checks, and the test of the completion files."""
-    found = {"completion_test"} | {os.path.splitext(os.path.basename(path))[0] for path, _ in row_files.files_of(os.path.join(row_files.HERE, "rows"), "rows")}
-    for name in os.listdir(row_files.HERE):
-        if name.startswith("check_") and name.endswith(".py"):
-            with open(os.path.join(row_files.HERE, name), encoding="utf-8") as file:
-                found.update(re.findall(r"^def (check_\w+)\(table(?:, room)?\)", file.read(), re.M))
-    return found
-
-
-def check_facts(table, room):
-    """The facts stand in the texts, and rows and checks show them; what the manual shows of lines and objects is so, and examples are accepted."""
-    texts = texts_beside(table.start(["--help"], room).stdout.decode())
-    for name, why in facts_otherwise(texts):
-        table.fail(name, why)
-    known = shown_by()
-    for fact in facts():
-        by = [word for part in fact.parts if part.key == "by" for word in part.value.split(" ")]
-        table.demand(by and set(by) <= known, f"{fact.where}: {fact.head}", f"it is shown by nothing, or there is none of {sorted(set(by) - known)}")
-    check_entries(table, texts)
-    check_examples(table, room, texts)
-    check_lines(table, texts["docs/CLI.md"])
-    check_objects(table, room, texts["docs/CLI.md"])
 
 
 def entries_of(texts):
@@ -87,7 +27,7 @@ def check_entries(table, texts):
 def check_examples(table, room, texts):
     """The words of each example are accepted: the run ends as IN can't be read."""
     found = re.findall(r"^(?:  )?(subset_font \S*(?:ttf|--no).*)$", texts["--help"] + texts["subset_font.1"], re.M)
-    found += re.findall(r"`(subset_font [^`\[]*)`", texts["docs/CLI.md"])
+    found += [it for it in re.findall(r"`(subset_font [^`\[]*)`", texts["docs/CLI.md"]) if "--batch" not in it]
     table.demand(len(found) >= 9, "examples", found)
     for line in found:
         words = line.partition(" > ")[0].split(" ")[1:]
@@ -117,7 +57,8 @@ def check_lines(table, manual):
     """The manual lists the first lines of all failures of the rows, each with its status, and no other."""
     entries, seen = {line: int(status) for status, line in re.findall(r"^\| ([123]) `([^`]+)` \|", manual, re.M)}, set()
     for row in row_files.rows(FONTS, messages()):
-        if row.status != 0:
+        # (the lines of a batch are its answers)
+        if row.status != 0 and not row.line.startswith("--batch"):
             entry = entry_of(entries, row.err.decode(errors="replace").partition("\n")[0])
             seen.add(entry)
             table.demand(entries.get(entry) == row.status, f"{row.where}: {row.line}", f"docs/CLI.md lists {entry} with status {entries.get(entry)}")
@@ -141,6 +82,8 @@ def check_objects(table, room, manual):
     shown += [json.loads("{" + it + "}") for it in re.findall(r"`(\"pdf\":[^`]*)`", manual)]
     # The runs by the first member of their object.
     runs = {"outlines": ["--axes", "--json", "instances"], "glyphs": ["--json", "--widths", "named", "out", "0", "1"], "pdf": ["--json", "small", "--text", "A", "--pdf", "page"]}
+    # (check_batch has those of a batch)
+    shown = [it for it in shown if next(iter(it)) not in ("in", "line")]
     table.demand([next(iter(it)) for it in shown] == list(runs), "the objects of docs/CLI.md", shown)
     for wanted in shown:
         words = runs.get(next(iter(wanted)), ["--version"])
@@ -148,3 +91,12 @@ def check_objects(table, room, manual):
         made = json.loads(got.stdout) if got.stdout.startswith(b"{") else {}
         found = {"pdf": made.get("pdf")} if "pdf" in wanted else made
         table.demand(shape(found) == shape(wanted), f"docs/CLI.md shows another object than {words}", f"{shape(found)}, wanted {shape(wanted)}")
+
+
+def check_shown(table, room):
+    """The texts list the same options and statuses, the manual the lines of all failures; its objects are as the program's, and examples are accepted."""
+    texts = texts_beside(table.start(["--help"], room).stdout.decode())
+    check_entries(table, texts)
+    check_examples(table, room, texts)
+    check_lines(table, texts["docs/CLI.md"])
+    check_objects(table, room, texts["docs/CLI.md"])
