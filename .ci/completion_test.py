@@ -22,7 +22,7 @@ PROGRAM = os.path.join(os.path.dirname(HERE), "crates", "subset_font")
 ARGUMENTS = os.path.join(os.path.dirname(HERE), "crates", "subset_args", "src", "options", "names.rt")
 
 ALL = ["--gids", "--gids-file", "--text", "--text-file", "--unicodes", "--unicodes-file", "-o", "--output-file", "--face-index", "--pdf", "--vertical", "--codes", "--rights", "--at",
-       "--no-hinting", "--no-names", "--no-glyph-names", "--limits", "--widths", "--verbose", "--json", "--quiet", "--axes", "--info", "-h", "--help", "--version"]
+       "--no-hinting", "--no-names", "--no-glyph-names", "--limits", "--widths", "--verbose", "--json", "--quiet", "--axes", "--info", "--batch", "-h", "--help", "--version"]
 FILES = ["list.txt", "one font.ttf", "other.otf"]
 # What is typed, of which the last word is completed, and what is offered.
 TRIES = [
@@ -34,6 +34,7 @@ TRIES = [
     (["--ver"], ["--verbose", "--version", "--vertical"]),
     (["in.ttf", "--pd"], ["--pdf"]),
     (["--inf"], ["--info"]),
+    (["--ba"], ["--batch"]),
     (["--widths", "--js"], ["--json"]),
     (["in.ttf", "--face"], ["--face-index"]),
     (["oth"], ["other.otf"]),
