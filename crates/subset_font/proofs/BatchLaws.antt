@@ -1,5 +1,6 @@
 -- The answers of a batch, and the requests of the lines so far.
-use Rattle.std.proofs.Common.{◌≡◌, ◌⊎◌, inl, inr, ℕ, List, [], ◌∷◌, ◌++◌, Option, Some, None, Result, Ok, Err, refl, sym, ap, subst, ◌∙◌, append_assoc, append-nil}
+use Rattle.std.proofs.Common.{◌≡◌, ◌⊎◌, inl, inr, ℕ, ◌-◌, ◌≤◌, List, [], ◌∷◌, ◌++◌, Option, Some, None, Result, Ok, Err, refl, sym, ap, subst, ◌∙◌, append_assoc, append-nil, length, get_or, take, drop, arith}
+use Rattle.std.proofs.lemmas.List.{take_rest}
 use Rattle.std.specs.Prelude.{IfOk, IfErr, Vec, String, map, string_bytes}
 use Rattle.std.specs.Global.{Global}
 use Rattle.std.specs.Option.{option_map, option_and_then}
@@ -11,9 +12,11 @@ use Rattle.subset_args.specs.declared.jobs.command.Job.{Job}
 use Rattle.subset_args.specs.declared.jobs.command.PdfJob.{PdfJob}
 use Rattle.subset_args.specs.declared.listing.lists.GlyphList.{GlyphList}
 use Rattle.subset_batch.specs.Reading.{Fault, request_of}
+use Rattle.subset_batch.specs.View.{line_view, lines_view}
+use Rattle.subset_batch.specs.declared.lines.Line.{Line}
 use Rattle.subsetter_base.specs.declared.error.Error.TheVariants.{OutOfMemory}
 use Rattle.subset_font.specs.Batch.Answers.{IsFailedWith}
-use Rattle.subset_font.specs.Batch.Making.{IsDone, IsUndone, named_text, message_of, IsAnswer}
+use Rattle.subset_font.specs.Batch.Making.{IsDone, IsUndone, named_text, message_of, IsAnswer, IsAnswerTo}
 use Rattle.subset_font.specs.Batch.Orders.{is_given_stream, order_by, order_of, words_in, IsNoOrder}
 use Rattle.subset_font.specs.Batch.Requests.{IsBegun, AddsLine, AreBegun, none, one_more}
 use Rattle.subset_font.specs.Chosen.{IsPlanOf}
@@ -105,10 +108,13 @@ message_is Write job h = refl
 message_is WritePdf job h = refl
 message_is Output job h = refl
 
-pub failed_answer : (bytes : List ℕ) (job : Job) (failure : Failure) (answer : Answer) → IsUndone bytes job failure → IsFailedWith (status_of failure) (message_of failure job) answer → IsAnswer bytes job answer
+failed_answer : (bytes : List ℕ) (job : Job) (failure : Failure) (answer : Answer) → IsUndone bytes job failure → IsFailedWith (status_of failure) (message_of failure job) answer → IsAnswer bytes job answer
 failed_answer bytes job failure (Done object) why h = elim h [ ]
 failed_answer bytes job failure (Failed status text) why h = record { failure = failure; why = why; status_is = h.0; text_is = h.1 }
 failed_answer bytes job failure NoMemory why h = tt
+
+pub failed_answer_to : (source : Result (Vec ℕ Global) Failure) (font : Vec ℕ Global) (bytes : List ℕ) (job : Job) (failure : Failure) (answer : Answer) → source ≡ Ok font → bytes ≡ font.items → IsUndone bytes job failure → IsFailedWith (status_of failure) (message_of failure job) answer → IsAnswerTo source job answer
+failed_answer_to source font bytes job failure answer is value why h = subst (λ (source : Result (Vec ℕ Global) Failure). IsAnswerTo source job answer) (sym is) (failed_answer font.items job failure answer (subst (λ (bytes : List ℕ). IsUndone bytes job failure) value why) h)
 
 -- ---- requests
 
@@ -121,10 +127,10 @@ pub record AreSoFar (left all : List (ℕ × List ℕ)) (requests : List Request
   pub are_begun : AreBegun lines requests states
   pub whole : lines ++ left ≡ all
 
-pub so_far_first : (all : List (ℕ × List ℕ)) → AreSoFar all all [] []
-so_far_first all = record { lines = []; are_begun = none; whole = refl }
+pub so_far_first : (left all : List (ℕ × List ℕ)) → left ≡ all → AreSoFar left all [] []
+so_far_first left all h = record { lines = []; are_begun = none; whole = h }
 
-pub so_far_next : (line : ℕ × List ℕ) (left all : List (ℕ × List ℕ)) (old new : Batch) → AreSoFar (line ∷ left) all old.requests.items old.states.items → AddsLine line old new → AreSoFar left all new.requests.items new.states.items
+so_far_next : (line : ℕ × List ℕ) (left all : List (ℕ × List ℕ)) (old new : Batch) → AreSoFar (line ∷ left) all old.requests.items old.states.items → AddsLine line old new → AreSoFar left all new.requests.items new.states.items
 so_far_next line left all old new h a =
     let next = one_more h.lines old.requests.items old.states.items line a.job a.state h.are_begun a.is_begun in
     record {
@@ -132,6 +138,11 @@ so_far_next line left all old new h a =
       are_begun = subst (λ (states : List State). AreBegun (h.lines ++ line ∷ []) new.requests.items states) (sym a.states) (subst (λ (requests : List Request). AreBegun (h.lines ++ line ∷ []) requests (old.states.items ++ a.state ∷ [])) (sym a.requests) next);
       whole = append_assoc h.lines (line ∷ []) left ∙ h.whole;
     }
+
+-- as a loop goes on behind the first of its lines
+pub so_far_step : (rest : List Line) (other : Line) (all : List (ℕ × List ℕ)) (old new : Batch) → 1 ≤ length rest → AreSoFar (lines_view rest) all old.requests.items old.states.items → AddsLine (line_view (get_or rest 0 other)) old new → AreSoFar (lines_view (take (length rest - 1) (drop 1 rest))) all new.requests.items new.states.items
+so_far_step [] other all old new some h a = absurd (omega arith)
+so_far_step (line ∷ rest) other all old new some h a = subst (λ (left : List Line). AreSoFar (lines_view left) all new.requests.items new.states.items) (sym (take_rest (line ∷ rest) 1)) (so_far_next (line_view line) (lines_view rest) all old new h a)
 
 pub so_far_last : (all : List (ℕ × List ℕ)) (requests : List Request) (states : List State) → AreSoFar [] all requests states → AreBegun all requests states
 so_far_last all requests states h = subst (λ (lines : List (ℕ × List ℕ)). AreBegun lines requests states) (sym (append-nil h.lines) ∙ h.whole) h.are_begun

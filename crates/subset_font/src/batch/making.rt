@@ -169,7 +169,6 @@ fn answer_failed(alloc: Global, failure: &Failure, job: &Job) -> Answer
 }
 
 /// Does a request on the bytes of its source, or on why these can't be read, and answers it.
-#[tactic(auto, using(crate::proofs::BatchLaws::failed_answer))]
 pub fn answer_of<R: Files + Print + Input + AllocGlobal>(
     rt: &R,
     source: &Result<Vec<u8>, Failure>,

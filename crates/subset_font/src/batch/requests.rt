@@ -145,7 +145,7 @@ fn push_line(alloc: Global, batch: &mut Batch, line: Line<'_>) -> Result<(), All
 
 /// The requests of a file: one for each line that isn't blank, and how far it is: it is to be done unless it is wrong, or a
 /// line before it writes its file, too.
-#[tactic(auto, using(crate::proofs::BatchLaws::so_far_first, crate::proofs::BatchLaws::so_far_next, crate::proofs::BatchLaws::so_far_last))]
+#[tactic(auto, using(crate::proofs::BatchLaws::so_far_first, crate::proofs::BatchLaws::so_far_last))]
 pub fn requests_of(alloc: Global, file: &[u8]) -> Result<Batch, AllocError>
     ensures { IfOk result (λ b. AreBegun (request_lines file.now) b.requests.items b.states.items) }
 {
