@@ -45,7 +45,7 @@ glyphs 300), in random order. The location is that of a second reading (lib/vari
                   no unused font dict; head is the source's, and hhea and post are what MVAR makes of theirs
 
 --damage N changes bytes of CFF2, fvar, avar or HVAR in N copies of the fonts of at most 1 MB, at a random place and for 12 glyphs: the program has to answer what
-HarfBuzz draws of the copy (or, where that goes on otherwise, what fontTools reads; or, where HarfBuzz draws nothing, what lib/cff2_dicts.py
+HarfBuzz draws of the copy (or, where that goes on otherwise, what fontTools reads; or, where one of them reads nothing, what lib/cff2_dicts.py
 reads, by which a dict ends before the first byte that can't be read, and a font dict without a private dict has an empty one; or else a font
 that FreeType opens as little as the copy), or to refuse it with status 1 and one of its messages, within S seconds (1) of a processor. --hostile makes four families of fonts of four sizes each, which grow by four: the program has to answer
 each, or refuse it where its tokens are too many, with at most the source, three times the new font, 32 bytes for each glyph and 1 MB of

@@ -1,8 +1,8 @@
 """Damaged CFF2 fonts, and what the program may answer of them: what cff2.py --damage takes.
 
 A new font has to draw what HarfBuzz draws of the damaged copy, each coordinate rounded once. Where HarfBuzz draws something else, as it goes on
-where a table is broken and knows other limits, it has to be what fontTools reads, in exact fractions. Where HarfBuzz draws nothing, as it
-refuses a table, it may also be what a third reading (cff2_dicts.py) has: fontTools reads no table with a dict that can't be read to its end, and
+where a table is broken and knows other limits, it has to be what fontTools reads, in exact fractions. Where HarfBuzz draws nothing, or fontTools
+reads nothing, it may also be what a third reading (cff2_dicts.py) has: fontTools reads no table with a dict that can't be read to its end, and
 takes the last of the ranges of font dicts that have a glyph, not the first. The advance is HarfBuzz's, or that of the second reading (variable.py).
 A private dict that has an operator without its operand is in the new font as it is in the copy: FreeType has to open neither.
 """
@@ -100,19 +100,22 @@ class Copy:
         self.metrics, self.names = face.metrics, face.names
 
     def draws(self, glyph, ours):
-        """Who draws this of a glyph: HarfBuzz, fontTools, the third reading where HarfBuzz draws nothing, or nobody."""
+        """Who draws this of a glyph: HarfBuzz, fontTools, the third reading where one of them reads nothing, or nobody."""
         theirs = self.harfbuzz.drawn(glyph)
         if agree(ours, theirs):
             return "HarfBuzz"
-        readings = [("fontTools", self.read_by_fonttools)] + [(THIRD, self.read_by_dicts)] * (not theirs)
-        for who, read in readings:
-            try:
-                exact = drawn_exactly(read(glyph))
-            except Exception:
-                continue
-            if agree(ours, exact):
-                return who
-        return "nobody"
+        exact = self.exactly(self.read_by_fonttools, glyph)
+        if exact is not None and agree(ours, exact):
+            return "fontTools"
+        third = self.exactly(self.read_by_dicts, glyph) if exact is None or not theirs else None
+        return THIRD if third is not None and agree(ours, third) else "nobody"
+
+    def exactly(self, read, glyph):
+        """What a reading draws, or nothing where it fails."""
+        try:
+            return drawn_exactly(read(glyph))
+        except Exception:
+            return None
 
     def read_by_fonttools(self, glyph):
         return Source(self.path, self.index).events(glyph, self.at)

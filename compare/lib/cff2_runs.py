@@ -102,7 +102,7 @@ def damage(words):
     print(f"Commit {font_at.commit()}; {font_at.versions()}; seed {words.seed}; {len(found)} faces.")
     print("Refused: " + ", ".join(f"{counts[name]} as {name}" for name in sorted(cff2_whole.REFUSALS) if counts[name]))
     print(f"Of {counts['copies']} damaged copies {counts['refused']} are refused, {counts['copies'] - counts['refused']} answered: {counts['drawn as by HarfBuzz']} glyphs as HarfBuzz "
-          f"draws them, {counts['drawn as by fontTools']} as fontTools reads them, {counts['drawn as by ' + cff2_damaged.THIRD]} by a third reading where HarfBuzz draws nothing; {counts['opened by nobody']} new fonts that FreeType opens as little as the copy; at most {max(it.worst for it in reports):.2f} seconds; {len(wrong)} differ.")
+          f"draws them, {counts['drawn as by fontTools']} as fontTools reads them, {counts['drawn as by ' + cff2_damaged.THIRD]} by a third reading where one of these reads nothing; {counts['opened by nobody']} new fonts that FreeType opens as little as the copy; at most {max(it.worst for it in reports):.2f} seconds; {len(wrong)} differ.")
     return wrong, counts["copies"]
 
 
