@@ -168,8 +168,8 @@ def check_refused_reasons(table, room):
         whole, by_std, ends = message(*said), [], set()
         first = whole[:whole.index(b"\n") + 1]
         base = start_refused(table, room, library, words, REFUSE=0)
-        table.demand(base.answer == (3, b"", whole) and base.out == OLD and base.requests > LAST_REQUESTS, words, base)
-        for number in range(base.requests - LAST_REQUESTS + 1, base.requests + 1):
+        table.demand(base.answer == (3, b"", whole) and base.out == OLD and base.requests > 0, words, base)
+        for number in range(max(base.requests - LAST_REQUESTS, 0) + 1, base.requests + 1):
             got = start_refused(table, room, library, words, REFUSE=number)
             size = ended_by_std(got, first)
             if table.is_cargo and size is not None:
