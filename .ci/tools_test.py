@@ -137,23 +137,30 @@ def check_keep(tests):
 # ---- times.py and counts.py
 
 def check_times(tests):
-    """The time stands before each line but the verdict; which checks ran is said for each part, by crate."""
+    """The time stands before each line but the verdict; which checks ran is said for each part, by crate. Each step waits for the one before
+    it, not for a time, so that a machine under load changes nothing."""
+    room = tempfile.mkdtemp(dir=tests.room)
     programs = (("low", "-o x"), ("mid", "--test"), ("high", ""))
-    starts = " & ".join(f"(exec -a /kit/bin/rattle sh -c 'sleep 3; :' --crate-name {name} {words})" for name, words in programs)
-    text = f"{{ {starts} & (exec -a other sh -c 'sleep 3; :' --crate-name none -o x) & echo one: λ; echo '7 passed, 0 failed'; sleep 2.4; echo '3 passed, 0 failed, late'; }} | python3 .ci/times.py $$"
-    status, out, err = run("bash", "-c", text, PYTHONIOENCODING="utf-8")
-    lines = out.split("\n")
+    until_end = "'until [ -e end ]; do sleep 0.1; done; :'"
+    starts = " & ".join(f"(exec -a /kit/bin/rattle sh -c {until_end} --crate-name {name} {words})" for name, words in programs)
+    # (the lines behind the first come once that is printed and some looks are over)
+    text = (f"{{ {starts} & (exec -a other sh -c {until_end} --crate-name none -o x) & echo one: λ; until grep -q λ out; do sleep 0.1; done; sleep 5; "
+            f"echo '7 passed, 0 failed'; echo '3 passed, 0 failed, late'; touch end; }} | python3 {HERE}/times.py $$ > out")
+    status, _, err = run("bash", "-c", text, cwd=room, PYTHONIOENCODING="utf-8")
+    lines = read(room, "out").split("\n")
     tests.same("times.py", (status, err), (0, ""))
-    tests.same("lines with the time", lines[:3], ["  0:00 one: λ", "7 passed, 0 failed", "3 passed, 0 failed, late"])
+    tests.like("a line with the time", lines[0], r"^ +\d+:\d\d one: λ$")
+    tests.same("lines of the verdict", lines[1:3], ["7 passed, 0 failed", "3 passed, 0 failed, late"])
     tests.same("the heads", lines[3:5], ["Minutes from the first to the last check of each part (and of the processors):", f"{'':24}{'proof':>18}{'tests':>18}{'edits':>18}"])
     for column, (name, _) in enumerate(programs):
         found = next((it for it in lines if it.startswith(name)), "").split("  ")
         cells = [it.strip() for it in found[1:] if it.strip()]
-        is_so = len(cells) == 3 and [it != "-" for it in cells] == [k == column for k in range(3)] and re.fullmatch(r"0:0[1-4] \(0:00\)", cells[column])
+        is_so = len(cells) == 3 and [it != "-" for it in cells] == [k == column for k in range(3)] and re.fullmatch(r"(?!0:00)\d+:\d\d \(0:0\d\)", cells[column])
         tests.same(f"the row of {name}: {cells}", bool(is_so), True)
-    tests.same("other processes", "none" in out, False)
-    tests.like("the sums", out, r"^processors, all crates +0:00 +0:00 +0:00$")
-    tests.like("the end", out, rf"^rt ci took 0 min [2-9] s on {len(os.sched_getaffinity(0))} processors\n\Z")
+    tests.same("other processes", any(it.startswith("none") for it in lines), False)
+    tests.like("the sums", "\n".join(lines), r"^processors, all crates +0:0\d +0:0\d +0:0\d$")
+    took = re.fullmatch(rf"rt ci took (\d+) min (\d+) s on {len(os.sched_getaffinity(0))} processors", lines[-2])
+    tests.same(f"the end: {lines[-2:]}", bool(took and int(took[1]) * 60 + int(took[2]) >= 5 and lines[-1] == ""), True)
 
 
 def check_counts(tests):
