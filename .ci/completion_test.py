@@ -90,7 +90,7 @@ def by_fish(tries, words, room):
     return sorted(it.split("\t")[0] for it in ran.stdout.splitlines() if it)
 
 
-def read_until(handle, wanted, seconds=20.0):
+def read_until(handle, wanted, seconds=300.0):
     """What a terminal shows until a text comes, or for so long."""
     shown, end = "", time.time() + seconds
     while wanted not in shown and time.time() < end:
@@ -139,7 +139,7 @@ class Zsh:
                 os.unlink(name)
         # (^U takes away what the try before left)
         os.write(self.handle, b"\x15" + " ".join(["subset_font", *words]).encode() + b"\x14")
-        end = time.time() + 60
+        end = time.time() + 300
         while not os.path.exists(self.found + ".done") and time.time() < end:
             if select.select([self.handle], [], [], 0.05)[0]:
                 os.read(self.handle, 65536)

@@ -42,7 +42,7 @@ class Rows:
 
     def run(self, name, words):
         there = os.path.join(self.crates, name, "out", name)
-        got = subprocess.run([there, *words.split()], cwd=self.room, capture_output=True, timeout=60)
+        got = subprocess.run([there, *words.split()], cwd=self.room, capture_output=True, timeout=1200)
         return got.returncode, got.stdout.decode(), got.stderr.decode()
 
     def demand(self, holds, what, got):

@@ -48,7 +48,7 @@ def copy():
 
 def run(room, check, environment=None, words=()):
     """The status of a check (or another script) in a copy, and what it prints."""
-    done = subprocess.run([sys.executable, os.path.join(room, check), *words], env=environment or ENVIRONMENT, capture_output=True, text=True, timeout=120)
+    done = subprocess.run([sys.executable, os.path.join(room, check), *words], env=environment or ENVIRONMENT, capture_output=True, text=True, timeout=1800)
     return done.returncode, done.stdout + done.stderr
 
 

@@ -98,7 +98,7 @@ class Repository:
         """The status, and what is printed."""
         environment = {key: value for key, value in planted.ENVIRONMENT.items() if not key.startswith("PLANTS_")}
         ran = subprocess.run([sys.executable, os.path.join(self.at, ".ci", "plants.py"), *words], env=environment, stdout=subprocess.PIPE, stderr=subprocess.STDOUT,
-                             stdin=subprocess.DEVNULL, text=True, timeout=120)
+                             stdin=subprocess.DEVNULL, text=True, timeout=1800)
         return ran.returncode, ran.stdout
 
     def ends(self, what, status, *patterns, words=()):
@@ -150,10 +150,10 @@ def check_ends(here):
     room = os.path.join(here.at, ".ci", "plants.py")
     with open(room, encoding="utf-8") as file:
         whole = file.read()
-    hurried = whole.replace("return max(300, 10 * seconds)", "return 2 * seconds + 2")
+    hurried = whole.replace("return max(300, 10 * seconds)", "return 2 * seconds + 13")
     demand(hurried != whole, "the limit of a test can't be made short")
     write(here.at, ".ci/plants.py", hurried)
-    here.lists(SEEN, "test: adds\nrun: echo checks; if grep -q -e ' - ' add.sh; then sleep 60; fi; bash test.sh\nran: checks\nseconds: 1\n")
+    here.lists(SEEN, "test: adds\nrun: echo checks; if grep -q -e ' - ' add.sh; then sleep 600; fi; bash test.sh\nran: checks\nseconds: 1\n")
     here.ends("a test that doesn't end", 1, r"ITS TEST NEVER RAN: it doesn't end")
     broken = whole.replace("        self.outcomes.put(outcome)\n", "        raise SystemExit\n")
     demand(broken != whole, "a thread can't be ended")
@@ -175,7 +175,7 @@ def check_stop(here):
             break
         time.sleep(0.1)
     ran.terminate()
-    said, _ = ran.communicate(timeout=60)
+    said, _ = ran.communicate(timeout=1800)
     demand(ran.returncode == 1 and "ended from outside" in said and not os.listdir(folder), f"a run that is ended: {ran.returncode}, {os.listdir(folder)}", said)
     for _ in range(200):
         processes = subprocess.run(["ps", "-eo", "args"], stdout=subprocess.PIPE, text=True).stdout.splitlines()

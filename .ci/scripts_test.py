@@ -42,7 +42,7 @@ def faults_of_help(root, path):
     """What is wrong with a script's `--help`."""
     try:
         ran = subprocess.run([sys.executable, "-S", os.path.join(root, path), "--help"], env=ENVIRONMENT, cwd=root, capture_output=True, text=True, encoding="utf-8",
-                             stdin=subprocess.DEVNULL, timeout=300)
+                             stdin=subprocess.DEVNULL, timeout=1800)
     except subprocess.TimeoutExpired:
         return [f"{path}: --help doesn't end"]
     if ran.returncode != 0 or ran.stderr:

@@ -59,7 +59,7 @@ def speed(room, *words, font=FONT, **more):
         put_stand_ins(folder, **more)
         command = [sys.executable, os.path.join(room, SPEED), "--stand-in", folder, "--seconds", "0", "--results", folder, *words]
         command += ["--font", os.path.join(room, font)] if font else []
-        ran = subprocess.run(command, env=planted.ENVIRONMENT, stdout=subprocess.PIPE, stderr=subprocess.STDOUT, text=True, timeout=300)
+        ran = subprocess.run(command, env=planted.ENVIRONMENT, stdout=subprocess.PIPE, stderr=subprocess.STDOUT, text=True, timeout=1800)
         files = {}
         for name in ("speed.csv", "growth.csv"):
             if os.path.exists(os.path.join(folder, name)):

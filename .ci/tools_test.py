@@ -55,7 +55,7 @@ def read(*path):
 def run(*words, cwd=ROOT, tools="", **env):
     """The status of a command, what it prints, and what it says on standard error; `tools` is a folder in front of the PATH."""
     path = f"{tools}{os.pathsep}{os.environ['PATH']}" if tools else os.environ["PATH"]
-    ran = subprocess.run(words, cwd=cwd, env={**os.environ, "PATH": path, **env}, stdin=subprocess.DEVNULL, capture_output=True, text=True, timeout=300)
+    ran = subprocess.run(words, cwd=cwd, env={**os.environ, "PATH": path, **env}, stdin=subprocess.DEVNULL, capture_output=True, text=True, timeout=1800)
     return ran.returncode, ran.stdout, ran.stderr
 
 

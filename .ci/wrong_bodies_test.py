@@ -132,7 +132,7 @@ class Room:
         self.write("answers.json", json.dumps({"all": GOOD, **answers}))
         self.write("tried", "")
         environment = {**{it: text for it, text in os.environ.items() if it != "RT_JOBS"}, "PATH": f"{self.folder}/bin:{os.environ['PATH']}", "TOLD": self.folder, "TMPDIR": self.folder}
-        ran = subprocess.run([sys.executable, os.path.join(self.folder, SCRIPT), *words], env=environment, capture_output=True, text=True, timeout=60)
+        ran = subprocess.run([sys.executable, os.path.join(self.folder, SCRIPT), *words], env=environment, capture_output=True, text=True, timeout=1800)
         self.printed = ran.stdout
         with open(os.path.join(self.folder, "tried"), encoding="utf-8") as file:
             names = file.read().split()

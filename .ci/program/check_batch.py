@@ -188,12 +188,12 @@ def check_soon(table, room):
     os.mkfifo(pipe)
     put(room, "requests", lines_of({"in": it, "out": f"{it}-1", "gids": [1], "quiet": True} for it in ("six", "pipe")))
     run = subprocess.Popen([*table.command, "--batch", "requests"], cwd=room, stdout=subprocess.PIPE)
-    is_there = bool(select.select([run.stdout], [], [], 20)[0])
+    is_there = bool(select.select([run.stdout], [], [], 600)[0])
     table.demand(is_there, "a batch", "the first answer waits for the second request")
     with open(pipe, "wb") as file:
         file.write(FONTS["six"])
     try:
-        out = run.communicate(timeout=60)[0]
+        out = run.communicate(timeout=600)[0]
     except subprocess.TimeoutExpired:
         run.kill()
         out = run.communicate()[0]
@@ -208,7 +208,7 @@ def check_progress(table, room):
     put(room, "requests", lines_of({"in": "six", "out": f"out-{k}", "gids": [1]} for k in range(3)))
     own, terminal = pty.openpty()
     run = subprocess.Popen([*table.command, "--batch", "requests"], cwd=room, stdout=subprocess.PIPE, stderr=terminal)
-    out = run.communicate(timeout=60)[0]
+    out = run.communicate(timeout=600)[0]
     os.close(terminal)
     said = b""
     try:

@@ -71,7 +71,7 @@ def check_taken_names(table, room, out):
 def said_by(reader):
     """What a process prints, which is ended where nobody writes to it."""
     try:
-        return reader.communicate(timeout=10)[0]
+        return reader.communicate(timeout=600)[0]
     except subprocess.TimeoutExpired:
         reader.kill()
         return reader.communicate()[0]
@@ -175,7 +175,7 @@ def check_rights(table, room):
     os.chmod(room, 0o777)
 
     def start(*words):
-        return subprocess.run([*table.command[:-1], program, *words], cwd=room, capture_output=True, timeout=60, **who)
+        return subprocess.run([*table.command[:-1], program, *words], cwd=room, capture_output=True, timeout=600, **who)
     put(room, "in", SIMPLE, 0o444)
     shut = put(room, "shut", OLD, 0o444)
     if is_root:

@@ -108,7 +108,7 @@ class Table:
 
     def start(self, words, room, **given):
         def once():
-            return subprocess.run([*self.command, *words], cwd=room, capture_output=True, timeout=600 if self.system else 60, **given)
+            return subprocess.run([*self.command, *words], cwd=room, capture_output=True, timeout=1800 if self.system else 600, **given)
         got = once()
         # (the program says why it ends with status 1; wine, where it can't start a program, says nothing)
         is_unsaid = (got.returncode, got.stdout, got.stderr) == (1, b"", b"")

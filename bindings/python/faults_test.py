@@ -29,7 +29,7 @@ def child(program, **more):
         env["PYTHONPATH"] = HERE
     try:
         ran = subprocess.run([sys.executable, "-c", FRONT + textwrap.dedent(program)], env=env, cwd="/", stdin=subprocess.DEVNULL,
-                             stdout=subprocess.PIPE, stderr=subprocess.STDOUT, text=True, timeout=300)
+                             stdout=subprocess.PIPE, stderr=subprocess.STDOUT, text=True, timeout=1800)
     except subprocess.TimeoutExpired as error:
         return f"{(error.stdout or b'').decode()} it doesn't end"
     return ran.stdout + (f"status {ran.returncode}" if ran.returncode else "")
