@@ -3,12 +3,14 @@
 
     compare/batch.py [--requests N] [--rounds N] [--glyphs N] [--folder FOLDER] [--program FILE]
 
-N requests (1,000) are those of ten installed fonts by turns, each for N spread glyphs (80), which are others each time. FOLDER
-is where they are written, each run in a new folder there. A round runs each number of threads once; the table has the medians. The
-first row is a run of its own for each request, one after another, once. The answers and fonts have to be the same for each.
+N requests (1,000) are those of ten installed fonts by turns, each for N spread glyphs (80), which are others each time. They are
+written twice, each run into a new folder: below FOLDER (/dev/shm), which is in memory, so that processors alone are measured, and
+below a folder of the disk (--disk; the system's for temporary files), where each font is settled before it gets its name. A round runs
+each number of threads once; the tables have the medians. The first row is a run of its own for each request, one after another, once.
+The answers and fonts have to be the same for each.
 
-The status is 1 where they are not, or --jobs 4 isn't at least 3.0 times as fast as --jobs 1; the latter is judged where there are
-four processors.
+The status is 1 where they are not, or, in memory, --jobs 4 isn't at least 3.0 times as fast as --jobs 1; the latter is judged where
+there are four processors.
 """
 import argparse
 import hashlib
@@ -106,30 +108,39 @@ def compare(program, requests, folder, given):
     return times, wrong
 
 
+def show(where, times, count):
+    """Prints the table of a folder, and answers how many times as fast --jobs 4 is as --jobs 1."""
+    base = statistics.median(times["`--jobs 1`"])
+    print(f"\n| The new fonts are {where} | Seconds | Requests a second | Times `--jobs 1` |\n|---|--:|--:|--:|")
+    for name, all_times in times.items():
+        median = statistics.median(all_times)
+        print(f"| {name} | {median:.3f} | {count / median:,.0f} | {base / median:.2f} |")
+    return base / statistics.median(times["`--jobs 4`"])
+
+
 def main():
     words = argparse.ArgumentParser(description=__doc__, formatter_class=argparse.RawDescriptionHelpFormatter)
     words.add_argument("--requests", type=int, default=1000, metavar="N")
     words.add_argument("--rounds", type=int, default=5, metavar="N")
     words.add_argument("--glyphs", type=int, default=80, metavar="N")
     words.add_argument("--fonts", type=int, default=10, metavar="N")
-    words.add_argument("--folder", metavar="FOLDER", help="where the new fonts are written")
+    words.add_argument("--folder", metavar="FOLDER", default="/dev/shm", help="where the new fonts are written in memory")
+    words.add_argument("--disk", metavar="FOLDER", help="where they are written to a disk")
     words.add_argument("--program", metavar="FILE", help="the program, in place of one that is built")
     given = words.parse_args()
     fonts.install([it[0] for it in FONTS[: given.fonts]])
     program = os.path.realpath(given.program) if given.program else built()
-    with tempfile.TemporaryDirectory(prefix="batch-", dir=given.folder) as folder:
-        requests = list(requests_of(program, given))
-        times, wrong = compare(program, requests, folder, given)
-    base = statistics.median(times["`--jobs 1`"])
-    print(f"{given.requests:,} requests of {given.fonts} fonts, {given.glyphs} glyphs each:\n")
-    print("| | Seconds | Requests a second | Times `--jobs 1` |\n|---|--:|--:|--:|")
-    for name, all_times in times.items():
-        median = statistics.median(all_times)
-        print(f"| {name} | {median:.3f} | {given.requests / median:,.0f} | {base / median:.2f} |")
-    faster = base / statistics.median(times["`--jobs 4`"])
-    if faster < LEAST and (os.cpu_count() or 1) >= 4:
-        wrong.append(f"--jobs 4 is {faster:.2f} times as fast, not {LEAST}")
-    print(f"\n`--jobs 4` is {faster:.2f} times as fast as `--jobs 1`; {len(wrong)} faults.")
+    requests = list(requests_of(program, given))
+    print(f"{given.requests:,} requests of {given.fonts} fonts, {given.glyphs} glyphs each.")
+    faster, wrong = [], []
+    for where, folder in (("in memory", given.folder), ("on a disk", given.disk)):
+        with tempfile.TemporaryDirectory(prefix="batch-", dir=folder) as room:
+            times, faults = compare(program, requests, room, given)
+        faster.append(show(where, times, given.requests))
+        wrong += [f"{where}: {it}" for it in faults]
+    if faster[0] < LEAST and (os.cpu_count() or 1) >= 4:
+        wrong.append(f"--jobs 4 is {faster[0]:.2f} times as fast, not {LEAST}")
+    print(f"\n`--jobs 4` is {faster[0]:.2f} times as fast as `--jobs 1` in memory, and {faster[1]:.2f} times on a disk; {len(wrong)} faults.")
     print("".join(f"\n{it}" for it in wrong))
     sys.exit(1 if wrong else 0)
 

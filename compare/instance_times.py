@@ -14,12 +14,10 @@ memory than the source, twice the answer and 8 MB.
 """
 import argparse
 import os
-import random
 import statistics
 import subprocess
 import sys
 import tempfile
-import time
 
 sys.path.insert(0, os.path.join(os.path.dirname(os.path.realpath(__file__)), "lib"))
 
@@ -27,20 +25,9 @@ import bench  # noqa: E402
 import build  # noqa: E402
 import font_at  # noqa: E402
 import fonts  # noqa: E402
-import instance_read  # noqa: E402
-import variable_font  # noqa: E402
+import instance_tasks  # noqa: E402
 
-NAMES = ["Inter.var.ttf", "RobotoFlex-Variable.ttf", "SourceSerifVariable-Roman.ttf"]
-COUNTS = [3, 80, 2000]
 BESIDE_HARFBUZZ, BESIDE_FONTTOOLS, MORE = 1.5, 0.01, 8 * 2 ** 20
-
-
-def said(words, **more):
-    run = subprocess.run(words, stdout=subprocess.PIPE, stderr=subprocess.PIPE, text=True, **more)
-    line = run.stdout.split()
-    if run.returncode or line[:1] != ["ok"]:
-        sys.exit(f"instance_times.py: {' '.join(words)[:200]}: status {run.returncode}, {run.stdout.strip()}")
-    return int(line[1]), int(line[3])
 
 
 def memory(words, room):
@@ -57,47 +44,17 @@ def memory(words, room):
     return peaks[0] - peaks[1]
 
 
-def instancer(path, place):
-    from fontTools.ttLib import TTFont
-    from fontTools.varLib.instancer import instantiateVariableFont
-
-    font = TTFont(path)
-    start = time.perf_counter_ns()
-    instantiateVariableFont(font, {tag: value / 65536 for tag, value in place})
-    return time.perf_counter_ns() - start
-
-
-def place_inside(axes, rng):
-    return [(tag, rng.randint(round(low * 65536), round(high * 65536))) for tag, low, _, high in axes]
-
-
-def tasks_of(path, words, room):
-    """For each number of glyphs the words that start the port and HarfBuzz, and what fontTools takes for the whole font."""
-    source, rng = font_at.Source(path), random.Random(os.path.basename(path))
-    place = place_inside(source.axes, rng)
-    with open(path, "rb") as file:
-        data = file.read()
-    at = variable_font.Font(data, instance_read.place_in(place)).at
-    whole = None if words.no_instancer else instancer(path, place)
-    for count in COUNTS:
-        count = min(count, len(source.names))
-        glyphs = fonts.spread(len(source.names), count)
-        port = [build.BENCH, *instance_read.words_of(path, glyphs.split(","), os.path.join(room, "out"), place)]
-        draw = [bench.DRAW, path, glyphs, "1", *map(str, at)]
-        yield count, port, draw, whole
-
-
 def rows_of(paths, words, room):
     """A row for each font and number of glyphs. All take their turns one after the other."""
-    tasks = [(path, *task) for path in paths for task in tasks_of(path, words, room)]
+    tasks = [(path, *task) for path in paths for task in instance_tasks.tasks_of(path, room, not words.no_instancer)]
     ours, theirs = [[] for _ in tasks], [[] for _ in tasks]
     for _ in range(words.turns):
         for k, (_, _, port, draw, _) in enumerate(tasks):
-            ours[k].append(said(port)[0])
-            theirs[k].append(said(draw)[0])
+            ours[k].append(instance_tasks.said(port)[0])
+            theirs[k].append(instance_tasks.said(draw)[0])
     for k, (path, count, port, _, whole) in enumerate(tasks):
         ratio = bench.median_part(ours[k], theirs[k])
-        yield os.path.basename(path), count, statistics.median(ours[k]), statistics.median(theirs[k]), ratio, whole, memory(port, room), said(port)[1], os.path.getsize(path)
+        yield os.path.basename(path), count, statistics.median(ours[k]), statistics.median(theirs[k]), ratio, whole, memory(port, room), instance_tasks.said(port)[1], os.path.getsize(path)
 
 
 def main():
@@ -119,7 +76,7 @@ def main():
     print("|", " | ".join(head), "|\n|" + "---|" * len(head))
     lines, missed = [], 0
     with tempfile.TemporaryDirectory(prefix="times-") as room:
-        paths = [it for it in font_at.font_paths(words.folders, "") if os.path.basename(it) in NAMES]
+        paths = [it for it in font_at.font_paths(words.folders, "") if os.path.basename(it) in instance_tasks.NAMES]
         for name, count, ours, theirs, ratio, whole, held, length, size in rows_of(paths, words, room):
             most = size + 2 * length + MORE
             slow = (count >= 80 and ratio > BESIDE_HARFBUZZ) or (whole and ours > BESIDE_FONTTOOLS * whole)
