@@ -1,15 +1,11 @@
 //! Turns at the processors, of which there are as many as `--jobs` names. A thread that waits for a disk gives its turn back
 //! meanwhile, so that another one works.
 
-use std::cell::Cell;
-use std::sync::{Condvar, Mutex, PoisonError};
+use std::sync::{Condvar, Mutex, MutexGuard, PoisonError};
 
-static FREE: Mutex<usize> = Mutex::new(0);
+/// How many turns nobody has; None where there are none, as without threads.
+static FREE: Mutex<Option<usize>> = Mutex::new(None);
 static GIVEN_BACK: Condvar = Condvar::new();
-
-std::thread_local! {
-    static HAS_TURN: Cell<bool> = const { Cell::new(false) };
-}
 
 /// A turn, which ends where this is dropped.
 struct Turn;
@@ -22,7 +18,7 @@ impl Drop for Turn {
 
 /// Sets how many turns there are. No thread may have one.
 pub fn set(count: usize) {
-    *FREE.lock().unwrap_or_else(PoisonError::into_inner) = count;
+    *free() = Some(count);
 }
 
 /// Waits for a turn, and does something in it.
@@ -32,9 +28,9 @@ pub fn in_turn<T>(call: impl FnOnce() -> T) -> T {
     call()
 }
 
-/// Does something that waits for the system. Where the thread has a turn, that is given back until it is done.
+/// Does something that waits for the system. Where there are turns the thread has one, which is given back until it is done.
 pub fn waiting<T>(call: impl FnOnce() -> T) -> T {
-    if !HAS_TURN.with(Cell::get) {
+    if free().is_none() {
         return call();
     }
     give_back();
@@ -43,19 +39,22 @@ pub fn waiting<T>(call: impl FnOnce() -> T) -> T {
     made
 }
 
+fn free() -> MutexGuard<'static, Option<usize>> {
+    FREE.lock().unwrap_or_else(PoisonError::into_inner)
+}
+
 fn take() {
-    let mut free = FREE.lock().unwrap_or_else(PoisonError::into_inner);
-    while *free == 0 {
+    let mut free = free();
+    while *free == Some(0) {
         free = GIVEN_BACK
             .wait(free)
             .unwrap_or_else(PoisonError::into_inner);
     }
-    *free -= 1;
-    HAS_TURN.with(|it| it.set(true));
+    *free = free.map(|count| count - 1);
 }
 
 fn give_back() {
-    HAS_TURN.with(|it| it.set(false));
-    *FREE.lock().unwrap_or_else(PoisonError::into_inner) += 1;
+    let mut free = free();
+    *free = free.map(|count| count + 1);
     GIVEN_BACK.notify_one();
 }
