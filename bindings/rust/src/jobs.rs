@@ -1,9 +1,11 @@
-//! The program, with `--jobs N` beside `--batch FILE`: the requests of a source are done in N threads. These share the source
-//! and the requests, which no call changes; each does one request after another by the call that does it without threads.
-//! One thread sets the answers and writes them, so that they are the same for each N.
+//! The program, with `--jobs N` beside `--batch FILE`: N threads work on the requests of a source, and as many more may wait
+//! until a new font is on its disk. They share the source and the requests, which no call changes; each does one request
+//! after another by the call that does it without threads. One thread sets the answers and writes them, so that they are
+//! the same for each N.
 
 use crate::host::process::{ExitCode, Termination};
 use crate::host::rt::{AllocGlobal, Eprint, HostRuntime};
+use crate::host::turns;
 use crate::proved::subset_args::Shown;
 use crate::proved::subset_font::{
     answer_of, due, due_of, hold_streams, is_shown, read_arguments, read_batch, read_source,
@@ -21,6 +23,8 @@ use std::vec::Vec;
 const BATCH: &str = "--batch";
 const JOBS: &str = "--jobs";
 const MOST: usize = 64;
+/// The threads for each that works, where more than one does. (A disk settles several files at once about as fast as one.)
+const FOR_EACH: usize = 2;
 
 /// How a run ended: as one without threads, or by its status.
 pub enum End {
@@ -105,6 +109,7 @@ fn run_requests(rt: &HostRuntime, batch: Batch, count: usize) -> u8 {
         requests,
         mut states,
     } = batch;
+    turns::set(count);
     let mut answers = AnswerLines::new(lines, is_shown);
     let ended = answer_all(rt, &requests, &mut states, count, &mut answers);
     status_of_batch(rt, &ended, answers.has_failed(), is_shown)
@@ -130,7 +135,7 @@ fn answer_all<W: Write>(
     Ok(())
 }
 
-/// Does the requests of these indexes, which are of one source, in so many threads, and writes the answers as they come. Where
+/// Does the requests of these indexes, which are of one source, so many at a time, and writes the answers as they come. Where
 /// an answer can't be written no request is begun behind those that are under way. Where the system has no thread left, those
 /// that there are do all.
 fn answer_source<W: Write>(
@@ -148,7 +153,8 @@ fn answer_source<W: Write>(
     let work = |send: mpsc::Sender<_>| {
         while let Some(&index) = indexes.get(next.fetch_add(1, Ordering::Relaxed)) {
             if let Some(job) = &requests[index].job {
-                if send.send((index, answer_of(rt, &source, job))).is_err() {
+                let answer = turns::in_turn(|| answer_of(rt, &source, job));
+                if send.send((index, answer)).is_err() {
                     return;
                 }
             }
@@ -157,7 +163,8 @@ fn answer_source<W: Write>(
     thread::scope(|scope| {
         let work = &work;
         let mut is_one_there = false;
-        for _ in 0..count.min(indexes.len()) {
+        let threads = if count > 1 { FOR_EACH * count } else { 1 };
+        for _ in 0..threads.min(indexes.len()) {
             let send = send.clone();
             let made = Builder::new().spawn_scoped(scope, move || work(send));
             is_one_there = is_one_there || made.is_ok();
