@@ -191,7 +191,8 @@ def try_changes(folder):
 
 
 # What a gate printed, and what is kept of it.
-BODY = ["2 crates proved before by `rt ci` on the machine", "the bindings (bindings): passed in 60 s", "the page (js): skipped, as was asked for", "812 passed, 0 failed"]
+TIMES = ["Minutes from the first to the last check of each part (and of the processors):", "proof", "low  1:02 (0:59)", "rt ci took 1 min 2 s on 4 processors"]
+BODY = ["2 crates proved before by `rt ci` on the machine", "the bindings (bindings): passed in 60 s", "the page (js): skipped, as was asked for", *TIMES, "812 passed, 0 failed"]
 
 
 def try_runs(folder):
@@ -199,7 +200,7 @@ def try_runs(folder):
     page, wrong, bin_of = os.path.join(folder, RESULTS + "gate.md"), 0, os.path.join(folder, ".git", "further")
     os.makedirs(bin_of)
     called, log = os.path.join(bin_of, "called"), os.path.join(folder, ".git", "log")
-    restore({log: KEPT + PASSED + "the page (js): skipped, as was asked for\n812 passed, 0 failed\n"})
+    restore({log: KEPT + "\n".join(["1 passed, 0 failed", *TIMES, "rt ci took 9 min 9 s", PASSED]) + "the page (js): skipped, as was asked for\n812 passed, 0 failed\n"})
     os.utime(log, (981158400, 981158400))
     with open(page, encoding="utf-8") as file:
         before = file.read()

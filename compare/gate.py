@@ -39,8 +39,15 @@ def run(words):
     return text, round((time.monotonic() - start) / 60)
 
 
+def times_in(lines):
+    """What the checks of each crate took, as .ci/times.py prints it."""
+    first = next((k for k, line in enumerate(lines) if line.startswith("Minutes from the first to the last check")), len(lines))
+    last = next((k for k, line in enumerate(lines) if k > first and re.match(r"rt ci took \d+ min", line)), first - 1)
+    return lines[first:last + 1]
+
+
 def kept(text, words):
-    """The lines of a gate that passed which are kept: crates proved before, what its parts took, what was skipped, and the sum."""
+    """The lines of a gate that passed which are kept: crates proved before, what its parts and the checks of each crate took, what was skipped, and the sum."""
     lines = [line.strip() for line in text.strip().split("\n")]
     if not re.fullmatch(r"[1-9]\d* passed, 0 failed", lines[-1]):
         sys.exit(f"gate: the last line is {lines[-1]!r}, and no gate that passed")
@@ -53,7 +60,7 @@ def kept(text, words):
         sys.exit("gate: parts were skipped: name them, as in SKIP=NAME,..")
     before = {found[1] for found in (re.search(r"rt: (\w+) is kept: an earlier run on this machine proved", line) for line in lines) if found}
     parts = [line for line in lines if re.search(r"\): passed in \d+ s$|skipped, as was asked for$", line)]
-    return [f"{len(before)} crates proved before by `rt ci` on the machine"] * bool(before) + parts + lines[-1:]
+    return [f"{len(before)} crates proved before by `rt ci` on the machine"] * bool(before) + parts + times_in(lines) + lines[-1:]
 
 
 def clean_commit():
