@@ -70,7 +70,7 @@ def paths_of_subsets():
     return {fonts.label(path, index): (path, index) for _, path, index in fonts.TRUETYPE_FONTS + fonts.CFF_FONTS}
 
 
-def subset_tasks(given):
+def subset_rows(given):
     """The rows of speed.csv: name, part, goal, source and output, the other program, and the words of each by the number of calls."""
     places = paths_of_subsets()
     for row in figures("speed.csv"):
@@ -85,7 +85,7 @@ def subset_tasks(given):
             yield f"{row['font']}, {row['kept']}", row["part of the crate"], goals.goal_of(row["outlines"], row["kept"]), row["source bytes"], row["output bytes"], programs
 
 
-def instance_tasks(given, room):
+def instance_rows(given, room):
     """The rows of instance_times.csv."""
     paths = {os.path.basename(it): it for it in font_at.font_paths(given.folders, "")}
     for name in dict.fromkeys(row["Font"] for row in figures("instance_times.csv")):
@@ -123,7 +123,7 @@ def main():
     print("|", " | ".join(HEAD), "|\n|" + "---|" * 2 + "--:|" * 3 + "---|" + "--:|" * 4)
     count = 0
     with tempfile.TemporaryDirectory(prefix="limits-") as room:
-        for name, part, goal, source, output, programs in (*subset_tasks(given), *instance_tasks(given, room)):
+        for name, part, goal, source, output, programs in (*subset_rows(given), *instance_rows(given, room)):
             count += 1
             for number, (beside, (program, words_of)) in enumerate(programs.items()):
                 found = of_a_call(lambda calls, by=program, of=words_of: of(by, room, calls), room)
