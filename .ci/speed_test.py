@@ -184,8 +184,17 @@ def record(room, name, file, text, said):
     return printed if status else ""
 
 
+def without_results(room):
+    """Takes away what was recorded; answers what compare/all says where it fails."""
+    planted.git(room, "rm", "-q", "--ignore-unmatch", "--", *(f"compare/results/{name}" for name in ("speed.md", "speed.csv", "speed-growth.md", "growth.csv")))
+    status, printed = planted.run(room, "compare/all", words=["--refresh"])
+    return printed if status else ""
+
+
 def check_tables(tests, room):
     """The tables wait for a first run, and have its figures then."""
+    wrong = without_results(room)
+    tests.holds("nothing is recorded", not wrong, wrong)
     tests.holds("they wait", document(room).count("Not measured yet: `compare/all 'speed'`.") == 6, document(room))
     status, said, files = speed(room, port={"times": "310"})
     wrong = record(room, "speed", "speed.csv", files.get("speed.csv", ""), said)
