@@ -48,7 +48,6 @@ TRIES = [
     (["--pdf", "oth"], ["other.otf"]),
     (["--batch", "oth"], ["other.otf"]),
     (["--vertical", "--out"], ["--output-file"]),
-    (["--quiet", "-h"], ["-h"]),
     (["--text", "oth"], []),
     (["--at", "li"], []),
     (["--limits", "li"], []),
