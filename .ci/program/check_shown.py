@@ -47,6 +47,21 @@ def check_page(table):
         table.demand(is_well and line == line.rstrip() and (line or line is lines[-1]), "a line of subset_font.1", line)
 
 
+def check_mistake_shown(table, room, manual):
+    """The manual shows the lines of a mistake, and a batch with its answers, as they are."""
+    mistake = re.search(r"\n```\n(usage: .*\n--(\S+) is no option\n.*\n)```\n", manual)
+    got = table.start([f"--{mistake[2]}", "in.ttf", "out.ttf", "0", "36"], room)
+    table.demand((got.returncode, got.stdout, got.stderr.decode()) == (2, b"", mistake[1]), "the mistake of docs/CLI.md", got)
+    requests, answers = re.search(r"\n```\n(\{\"in\".*?)```\n\n```\n(\{\"line\".*?)```\n", manual, re.S).groups()
+    for name, font in (("a.ttf", "macintosh"), ("b.ttf", "small")):
+        put(room, name, FONTS[font])
+    put(room, "requests", requests.encode())
+    got = table.start(["--batch", "requests"], room)
+    shown, made = ([json.loads(it.replace(",..]", "]")) for it in text.splitlines()] for text in (answers, got.stdout.decode()))
+    table.demand(got.returncode == 1 and shape(made[0]) == shape(shown[0]) and made[1:] == shown[1:], "the batch of docs/CLI.md", got)
+    table.demand([made[0]["glyphs"][0], made[0]["line"], len(made[0]["glyphs"])] == [shown[0]["glyphs"][0] | {"name": made[0]["glyphs"][0]["name"]}, 1, 4], "the batch of docs/CLI.md", made[0])
+
+
 def check_examples(table, room, texts):
     """The words of each example are accepted: the run ends as IN can't be read."""
     found = re.findall(r"^(?:  )?(subset_font \S*(?:ttf|--no).*)$", texts["--help"] + texts["subset_font.1"], re.M)
@@ -122,6 +137,7 @@ def check_shown(table, room):
     check_entries(table, texts)
     check_usages(table, texts)
     check_page(table)
+    check_mistake_shown(table, room, texts["docs/CLI.md"])
     check_examples(table, room, texts)
     check_lines(table, texts["docs/CLI.md"])
     check_objects(table, room, texts["docs/CLI.md"])
