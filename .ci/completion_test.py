@@ -46,6 +46,8 @@ TRIES = [
     (["-o", "oth"], ["other.otf"]),
     (["--output-file", "oth"], ["other.otf"]),
     (["--pdf", "oth"], ["other.otf"]),
+    (["--batch", "oth"], ["other.otf"]),
+    (["--vertical", "--out"], ["--output-file"]),
     (["--text", "oth"], []),
     (["--at", "li"], []),
     (["--limits", "li"], []),
@@ -77,9 +79,9 @@ class Tries:
 
 def by_bash(tries, words, room):
     typed = " ".join(f"'{it}'" for it in ["subset_font", *words])
-    script = f"source '{tries.file('subset_font.bash')}'; COMP_WORDS=({typed}); COMP_CWORD={len(words)}; _subset_font; printf '%s\\n' \"${{COMPREPLY[@]}}\""
+    script = f"source '{tries.file('subset_font.bash')}'; COMP_WORDS=({typed}); COMP_CWORD={len(words)}; _subset_font; printf '%s\\0' \"${{COMPREPLY[@]}}\""
     ran = subprocess.run(["bash", "--norc", "-c", script], cwd=room, stdout=subprocess.PIPE, text=True)
-    return sorted(it for it in ran.stdout.splitlines() if it)
+    return sorted(it for it in ran.stdout.split("\0") if it)
 
 
 def by_fish(tries, words, room):
@@ -249,6 +251,96 @@ def check_lists(tries):
     tries.demand(ran.returncode == 0, "the files", ran.stdout)
 
 
+NAMES = ("subset_font.bash", "_subset_font", "subset_font.fish")
+# A help with each sign that a shell reads, and each form of an option.
+HELP = """//! A help.
+pub const HELP: &str = "usage: it
+
+  IN     no option
+  -o OUT, --out OUT
+                    the [new] font: it's
+                    so
+
+  --list LIST,MORE  a list
+                    and more
+ --no               no option
+  --at TAG=VALUE    it  is
+  --file FILE       a file
+                   no line of it
+  -x                plain
+  --                ends the options
+  -h, --help        this text
+";
+"""
+OF_BASH = (("files", "-o | --out | --file"), ("others", "--list | --at"), ("all", "-o --out --list --at --file -x -h --help"))
+OF_FISH = r"""complete -c subset_font -s o -l out -r -F -d 'the [new] font: it\'s so'
+complete -c subset_font -l list -x -d 'a list and more'
+complete -c subset_font -l at -x -d 'it  is'
+complete -c subset_font -l file -r -F -d 'a file'
+complete -c subset_font -s x -d 'plain'
+complete -c subset_font -s h -l help -d 'this text'
+"""
+OF_ZSH_TOO = r"""    '(-o --out)-o[the \[new\] font\: it'\''s so]:OUT:_files' \
+    '(-o --out)--out[the \[new\] font\: it'\''s so]:OUT:_files' \
+    '--list[a list and more]:LIST: ' \
+    '--at[it  is]:TAG: ' \
+    '--file[a file]:FILE:_files' \
+    '-x[plain]' \
+    '(-h --help)-h[this text]' \
+    '(-h --help)--help[this text]' \
+    '*:file:_files'
+"""
+
+
+def of_help(whole):
+    """What the three files are for HELP: those of the program, with other options."""
+    bash, zsh, fish = (whole[name] for name in NAMES)
+    files, others = re.findall(r"^    (-.*)\)$", bash, re.M)
+    all_of_it = re.search(r'-W "([^"]*)"', bash)[1]
+    for (_, new), old in zip(OF_BASH, (files, others, all_of_it)):
+        bash = bash.replace(old, new)
+    return dict(zip(NAMES, (bash, zsh[:zsh.index("    '")] + OF_ZSH_TOO, fish[:fish.index("complete ")] + OF_FISH)))
+
+
+def check_generate(tries):
+    """What completions/generate writes of another help; its --check names each file that isn't so, and writes nothing."""
+    with tempfile.TemporaryDirectory(prefix="completion-") as room:
+        made = os.path.join(room, "completions")
+        shutil.copytree(os.path.join(PROGRAM, "completions"), made)
+        os.mkdir(os.path.join(room, "src"))
+        shutil.copy(os.path.join(PROGRAM, "src", "help.rt"), os.path.join(room, "src"))
+
+        def generate(*words):
+            ran = subprocess.run([os.path.join(made, "generate"), *words], stdout=subprocess.PIPE, stderr=subprocess.PIPE, text=True)
+            return ran.returncode, ran.stdout, ran.stderr
+
+        def files():
+            return {name: open(os.path.join(made, name)).read() for name in sorted(os.listdir(made)) if name != "generate"}
+
+        def put(name, text):
+            with open(os.path.join(made, name), "w") as file:
+                file.write(text)
+        whole, wrong = files(), "completions/generate: {} isn't what src/help.rt gives\n"
+        tries.demand(sorted(whole) == sorted(NAMES) and generate("--check") == (0, "", ""), "generate --check", (sorted(whole), generate("--check")))
+        for name in NAMES:
+            for text in (whole[name] + "\n", whole[name][:-1], whole[name].replace("subset_font", "Subset_font", 1)):
+                put(name, text)
+                got = generate("--check")
+                tries.demand(got == (1, wrong.format(name), "") and files() == whole | {name: text}, f"generate --check, where {name} is another", got)
+            os.unlink(os.path.join(made, name))
+            got = generate("--check")
+            tries.demand(got == (1, wrong.format(name), "") and not os.path.exists(os.path.join(made, name)), f"generate --check without {name}", got)
+            tries.demand((generate(), files()) == ((0, "", ""), whole), f"generate without {name}", files().get(name))
+        with open(os.path.join(room, "src", "help.rt"), "w") as file:
+            file.write(HELP)
+        got = generate("--check")
+        tries.demand(got == (1, "".join(map(wrong.format, NAMES)), "") and files() == whole, "generate --check of another help", got)
+        got, wanted = generate(), of_help(whole)
+        tries.demand(got == (0, "", ""), "generate of another help", got)
+        for name, text in files().items():
+            tries.demand(text == wanted[name], f"generate of another help: {name}", f"{text}\nwanted\n{wanted[name]}")
+
+
 def main():
     words = argparse.ArgumentParser(usage=__doc__)
     words.add_argument("--files", default=os.path.join(PROGRAM, "completions"))
@@ -257,6 +349,7 @@ def main():
     check_quoted(tries)
     check_lists(tries)
     check_texts(tries)
+    check_generate(tries)
     print(f"completion: {tries.ran} tries, {tries.wrong} differ")
     sys.exit(1 if tries.wrong else 0)
 

@@ -96,6 +96,9 @@ TEXTS = [
     ("other codes in the manual page", "subset_font.1", "(the new numbers; this is the default)", "(the new numbers)"),
     ("a PDF behind OUT in the manual", "docs/CLI.md", "A PDF is written as OUT is, and before it:", "A PDF is written as OUT is, and after it:"),
     ("a PDF behind OUT in the manual page", "subset_font.1", "is, and before it.", "is, and after it."),
+    ("a usage less in the help", "--help", "       subset_font --batch FILE\n", ""),
+    ("another count of threads in the manual", "docs/CLI.md", "(1 to 64)", "(1 to 65)"),
+    ("the text of another option in the manual page", "subset_font.1", "Leave out the table name.", "Leave out the names of glyphs in post."),
 ]
 
 

@@ -350,55 +350,109 @@ def check_copies(tests):
     tests.same("copies", copies(), (0, "", ""))
     for path, source in COPIES.items():
         whole = os.path.join(room, path)
-        for what in ("another text", "a link", "none"):
-            os.remove(whole)
-            put(f"{source} is é\n\n", whole) if what == "another text" else os.symlink(os.path.join(room, source), whole) if what == "a link" else None
+        for what in ("another text", "a link", "none", "a link to nothing"):
+            if os.path.lexists(whole):
+                os.remove(whole)
+            put(f"{source} is é\n\n", whole) if what == "another text" else os.symlink(os.path.join(room, source if what == "a link" else "nothing"), whole) if "link" in what else None
             tests.same(f"{path}: {what}", copies(), (1, f"copies: {path} isn't a copy of {source} (bindings/copies --write)\n", ""))
         copies("--write")
-        tests.same(f"{path} is written", (os.path.islink(whole), read(whole)), (False, f"{source} is é\n"))
-    for words in (["--check"], ["--write", "more"]):
-        tests.same(f"copies {words}", copies(*words)[0], 1)
+        tests.same(f"{path} is written", (os.path.islink(whole), read(whole), os.path.exists(f"{room}/nothing")), (False, f"{source} is é\n", False))
+    check_copies_of_bytes(tests, room, copies)
 
 
-# File, and the line of it that has a version: MAJOR.MINOR.PATCH+N as 9.8.7+65.
-VERSIONED = [
-    ("bindings/c/subsetter.h", "#define SUBSETTER_VERSION_MAJOR 9"), ("bindings/c/subsetter.h", "#define SUBSETTER_VERSION_MINOR 8"), ("bindings/c/subsetter.h", "#define SUBSETTER_VERSION_PATCH 7"),
-    ("bindings/c/subsetter.h", "#define SUBSETTER_VERSION_N 65"), ("bindings/c/subsetter.h", '#define SUBSETTER_VERSION_TEXT "9.8.7+65"'), ("crates/subsetter_c/src/version.rt", "    u32::from_be_bytes([9, 8, 7, 65])"),
-    ("crates/subsetter_c/specs/Version.antt", "version = 9 ∷ 8 ∷ 7 ∷ 65 ∷ []"), ("crates/subset_font/src/help.rt", 'pub const VERSION_LINE: &str = "subset_font 9.8.7+65, a port of the Rust crate subsetter 9.8.7\\n";'),
-    ("bindings/rust/Cargo.toml", 'version = "9.8.7+65"'), ("bindings/rust-native/Cargo.toml", 'version = "9.8.7+65"'), ("bindings/capi/Cargo.toml", 'version = "9.8.7+65"'),
-    ("bindings/rust/Cargo.lock", 'version = "9.8.7+65"'), ("bindings/capi/Cargo.lock", 'version = "9.8.7+65"'),
-]
+def check_copies_of_bytes(tests, room, copies):
+    """Copies are of bytes, whatever they are; where a source isn't there, or the words are wrong, nothing is written."""
+    path, source = next(iter(COPIES.items()))
+    data = b"\xff\r\n\0 no text\r"
+    with open(os.path.join(room, source), "wb") as file:
+        file.write(data)
+    of_source = [it for it, other in COPIES.items() if other == source]
+    tests.same("bytes that differ", copies(), (1, "".join(f"copies: {it} isn't a copy of {source} (bindings/copies --write)\n" for it in of_source), ""))
+    tests.same("copies --write, of bytes", (copies("--write"), copies()), ((0, "", ""), (0, "", "")))
+    with open(os.path.join(room, path), "rb") as file:
+        tests.same("the bytes", file.read(), data)
+    os.remove(os.path.join(room, path))
+    os.mkdir(os.path.join(room, path))
+    tests.same("a folder", copies(), (1, f"copies: {path} isn't a copy of {source} (bindings/copies --write)\n", ""))
+    os.rmdir(os.path.join(room, path))
+    usage = re.search(r'"""(.*?)"""', read(ROOT, "bindings", "copies"), re.S)[1]
+    for words in (["--check"], ["--write", "more"], ["--write", "--write"], [""]):
+        tests.same(f"copies {words}", copies(*words), (1, "", f"{usage}\n"))
+    for gone in sorted(set(COPIES.values())):
+        os.rename(os.path.join(room, gone), os.path.join(room, "kept"))
+        tests.same(f"copies --write without {gone}", (copies("--write"), os.path.exists(os.path.join(room, path))), ((1, "", f"copies: {gone} isn't there\n"), False))
+        os.rename(os.path.join(room, "kept"), os.path.join(room, gone))
+
+
+def versioned(text):
+    """File, and the line of it that has a version, MAJOR.MINOR.PATCH+N; in the order of the places, behind the front of each."""
+    crate, own = text.split("+")
+    major, minor, patch = crate.split(".")
+    header, line = "bindings/c/subsetter.h", f'version = "{text}"'
+    return [
+        (header, "#define SUBSETTER_VERSION_MAJOR ", major), (header, "#define SUBSETTER_VERSION_MINOR ", minor), (header, "#define SUBSETTER_VERSION_PATCH ", patch),
+        (header, "#define SUBSETTER_VERSION_N ", own), (header, "#define SUBSETTER_VERSION_TEXT ", f'"{text}"'), ("crates/subsetter_c/src/version.rt", "    u32::from_be_bytes([", f"{major}, {minor}, {patch}, {own}])"),
+        ("crates/subsetter_c/specs/Version.antt", "version = ", f"{major} ∷ {minor} ∷ {patch} ∷ {own} ∷ []"),
+        ("crates/subset_font/src/help.rt", "pub const VERSION_LINE: &str = ", f'"subset_font {text}, a port of the Rust crate subsetter {crate}\\n";'),
+        *((f"bindings/{it}/Cargo.toml", "version = ", f'"{text}"') for it in ("rust", "rust-native", "capi")), *((f"bindings/{it}/Cargo.lock", line[:11], line[11:]) for it in ("rust", "capi")),
+    ]
 
 
 def check_version(tests):
     """Each place that names another version is named, and written."""
     room = tempfile.mkdtemp(dir=tests.room)
-    paths, before = sorted({it for it, _ in VERSIONED}), {}
+    paths, before = sorted({it for it, _, _ in versioned("9.8.7+65")}), {}
     for path in ["bindings/version", "VERSION", *paths]:
         os.makedirs(os.path.dirname(os.path.join(room, path)), exist_ok=True)
         shutil.copy(os.path.join(ROOT, path), os.path.join(room, path))
         before[path] = read(room, path)
-    version, count = before["VERSION"].strip(), len(VERSIONED)
+    version, count = before["VERSION"].strip(), len(versioned("9.8.7+65"))
 
     def run_version(*words):
         return run("bash", "bindings/version", *words, cwd=room)
     tests.same("version", run_version(), (0, f"version: {version} in {count} places\n", ""))
-    status, out, _ = run_version("9.8.7+65")
-    tests.same(f"another version: {out}", (status, len(out.splitlines()), sorted({it.split(": ")[1] for it in out.splitlines()})), (1, count, paths))
+    named = [f"version: {path}: '{front}{old}' and not '{front}{new}'\n" for (path, front, old), (_, _, new) in zip(versioned(version), versioned("9.8.7+65"))]
+    tests.same("another version", run_version("9.8.7+65"), (1, "".join(named), ""))
+    for number, one in enumerate(version.replace("+", ".").split(".")):
+        # (each number is one more)
+        digits = version.replace("+", ".").split(".")
+        digits[number] = str(int(one) + 1)
+        other = "{}.{}.{}+{}".format(*digits)
+        wrong = [f"version: {path}: '{front}{old}' and not '{front}{new}'\n" for (path, front, old), (_, _, new) in zip(versioned(version), versioned(other)) if old != new]
+        tests.same(f"version {other}", run_version(other), (1, "".join(wrong), ""))
     put("9.8.7+65\n", room, "VERSION")
-    tests.same("version --write", run_version("--write")[0], 0)
+    for path in paths:
+        os.chmod(os.path.join(room, path), 0o600)
+    modes = {it: os.stat(os.path.join(room, it)).st_mode for it in before}
+    tests.same("version --write", run_version("--write"), (0, f"version: 9.8.7+65 in {count} places\n", ""))
     tests.same("version, written", run_version(), (0, f"version: 9.8.7+65 in {count} places\n", ""))
-    for path, line in VERSIONED:
-        tests.same(f"{path}: {line}", line in read(room, path).split("\n"), True)
-        whole = read(room, path)
-        put("\n".join(it for it in whole.split("\n") if it != line), room, path)
-        status, out, _ = run_version()
-        tests.same(f"{path} without its line: {out}", (status, f"version: {path}: not one line with" in out, len(out.splitlines())), (1, True, 1))
+    tests.same("the files, written", {it: os.stat(os.path.join(room, it)).st_mode for it in before}, modes)
+    there = sorted(os.path.relpath(os.path.join(folder, it), room) for folder, _, names in os.walk(room) for it in names)
+    tests.same("no other file", there, sorted(before))
+    for path, front, rest in versioned("9.8.7+65"):
+        tests.same(f"{path}: {front}{rest}", f"{front}{rest}" in read(room, path).split("\n"), True)
+        whole, said = read(room, path), f"version: {path}: not one line with '{front}'\n"
+        put("\n".join(it for it in whole.split("\n") if it != front + rest), room, path)
+        tests.same(f"{path} without its line", run_version("--write"), (1, said, ""))
+        put(f"{whole}{front}{rest}0\n", room, path)
+        tests.same(f"{path} with another line", run_version(), (1, said, ""))
         put(whole, room, path)
+    # (what is there once more is written once more)
+    whole = {it: read(room, it) for it in paths}
+    for path, front, rest in versioned("9.8.7+65"):
+        put(f"{read(room, path)}{front}{rest}\n", room, path)
+    put("9.9.8+66\n", room, "VERSION")
+    tests.same("each line is there once more", run_version("--write")[0], 0)
+    for (path, front, old), (_, _, rest) in zip(versioned("9.8.7+65"), versioned("9.9.8+66")):
+        tests.same(f"{path}: {front}{rest} once more", read(room, path).split("\n").count(front + rest), whole[path].split("\n").count(front + old) + 1)
+    for path, text in whole.items():
+        put(text, room, path)
+    os.remove(os.path.join(room, "VERSION"))
+    tests.same("no VERSION", run_version()[:2], (1, "version: '' isn't MAJOR.MINOR.PATCH+N\n"))
     put(before["VERSION"], room, "VERSION")
     run_version("--write")
     tests.same("written back", {it: read(room, it) for it in before}, before)
-    for words in ("1.2.3", "1.2+3", "v1.2.3+4", "1.2.3+4 ", "1.2.3+x"):
+    for words in ("1.2.3", "1.2+3", "v1.2.3+4", "1.2.3+4 ", "1.2.3+x", " 1.2.3+4", "1.2.x+4", "1.x.3+4", "1.2.3.4+5", "1.2.3-4", "-1.2.3+4", "1.2.3+4.5", "--check"):
         tests.same(f"version {words!r}", run_version(words), (1, f"version: '{words}' isn't MAJOR.MINOR.PATCH+N\n", ""))
 
 

@@ -1,11 +1,12 @@
 """The entries of options and statuses in the three texts of the program, the examples, and the lines and objects that docs/CLI.md shows."""
 import json
+import os
 import re
 
 import row_files
 from check_texts import OPTIONS, texts_beside
 from made_fonts import FONTS
-from running import message, messages, put
+from running import ROOT, message, messages, put
 
 
 def entries_of(texts):
@@ -22,6 +23,43 @@ def check_entries(table, texts):
     for name, found in options.items():
         table.demand(found == sorted(OPTIONS), f"the entries of {name}", f"{found}, wanted {sorted(OPTIONS)}")
     table.demand(statuses == ["0", "1", "2", "3"], "the statuses of subset_font.1", statuses)
+
+
+def check_usages(table, texts):
+    """The texts have the same usages, and the same names of the options' values."""
+    usages = {name: re.findall(r"^(?:usage: | {7})?(subset_font (?:\[OPTIONS\]|--[a-z]+ (?:\[--json\] IN|FILE)).*)$", re.sub(r"\.B (subset_font)\n(.*)", r"\1 \2", text), re.M) for name, text in texts.items()}
+    table.demand(len(usages["--help"]) == 7 and all(it == usages["--help"] for it in usages.values()), "the usages", usages)
+    entries = {"--help": r"^  (-\S.*?)(?:  .*)?$", "docs/CLI.md": r"^\| (`-.*?`) \|", "subset_font.1": r"^\.TP\n(?:\.B )?(-.*)$"}
+    values = {name: sorted(re.findall(r"(--?[a-z][a-z-]*) ([^\s`,]\S*?)(?=,? -|`|$)", "\n".join(re.findall(entries[name], text, re.M)), re.M)) for name, text in texts.items()}
+    values["docs/CLI.md"] = [(name, "RIGHTS" if value == "held" else value) for name, value in values["docs/CLI.md"]]
+    table.demand(len(values["--help"]) == 15 and all(it == values["--help"] for it in values.values()), "the values of options", values)
+
+
+def check_page(table):
+    """The manual page has these requests alone, each sign in front of an option is a minus, and a font ends in the line that it begins in."""
+    with open(os.path.join(ROOT, "crates", "subset_font", "subset_font.1"), encoding="ascii") as file:
+        lines = file.read().split("\n")
+    requests = {it.split(" ")[0] for it in lines if it.startswith((".", "'"))}
+    table.demand(requests == {f".{it}" for it in "TH SH TP PP B BR I IR br nf fi".split()}, "the requests of subset_font.1", requests)
+    for line in lines:
+        fonts = re.findall(r"\\f(.)", line)
+        is_well = set(fonts) <= set("BIR") and fonts[-1:] in ([], ["R"]) and not re.search(r"(?<!\\)-", line) and set(re.findall(r"\\(.)", line)) <= set("f-")
+        table.demand(is_well and line == line.rstrip() and (line or line is lines[-1]), "a line of subset_font.1", line)
+
+
+def check_mistake_shown(table, room, manual):
+    """The manual shows the lines of a mistake, and a batch with its answers, as they are."""
+    mistake = re.search(r"\n```\n(usage: .*\n--(\S+) is no option\n.*\n)```\n", manual)
+    got = table.start([f"--{mistake[2]}", "in.ttf", "out.ttf", "0", "36"], room)
+    table.demand((got.returncode, got.stdout, got.stderr.decode()) == (2, b"", mistake[1]), "the mistake of docs/CLI.md", got)
+    requests, answers = re.search(r"\n```\n(\{\"in\".*?)```\n\n```\n(\{\"line\".*?)```\n", manual, re.S).groups()
+    for name, font in (("a.ttf", "macintosh"), ("b.ttf", "small")):
+        put(room, name, FONTS[font])
+    put(room, "requests", requests.encode())
+    got = table.start(["--batch", "requests"], room)
+    shown, made = ([json.loads(it.replace(",..]", "]")) for it in text.splitlines()] for text in (answers, got.stdout.decode()))
+    table.demand(got.returncode == 1 and shape(made[0]) == shape(shown[0]) and made[1:] == shown[1:], "the batch of docs/CLI.md", got)
+    table.demand([made[0]["glyphs"][0], made[0]["line"], len(made[0]["glyphs"])] == [shown[0]["glyphs"][0] | {"name": made[0]["glyphs"][0]["name"]}, 1, 4], "the batch of docs/CLI.md", made[0])
 
 
 def check_examples(table, room, texts):
@@ -97,6 +135,9 @@ def check_shown(table, room):
     """The texts list the same options and statuses, the manual the lines of all failures; its objects are as the program's, and examples are accepted."""
     texts = texts_beside(table.start(["--help"], room).stdout.decode())
     check_entries(table, texts)
+    check_usages(table, texts)
+    check_page(table)
+    check_mistake_shown(table, room, texts["docs/CLI.md"])
     check_examples(table, room, texts)
     check_lines(table, texts["docs/CLI.md"])
     check_objects(table, room, texts["docs/CLI.md"])

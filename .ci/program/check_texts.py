@@ -6,7 +6,7 @@ import re
 
 import made
 from made_fonts import FONTS, HINTED, NO_HINTS, tables_of
-from row_files import USAGE
+from row_files import HERE, USAGE
 from running import ROOT, put
 
 
@@ -55,14 +55,16 @@ failed, 2 FILE can't be read.
 """
 
 
-# What the three texts say of the options' defaults (of --face-index, --codes and --limits), and of which file is written first.
-SAID = {
-    "--help": (r"the face, with -o or --pdf \(default 0\)", r"\(new numbers, the default\)", r"subroutines \(default 1000000,64\)"),
-    "docs/CLI.md": (r"`--face-index INDEX`.* \(default 0\)", r"`consecutive` \(the new numbers, the default\)", r"\(default `1000000,64`, any size\)",
-                    r"A PDF is written as OUT is, and before it:"),
-    "subset_font.1": (r"The default is 0\.", r"consecutive \(the new numbers; this is the default\)", r"The default is 1000000,64, and no bound on the bytes\.",
-                      r"It is written as\n\.I OUT\nis, and before it\."),
-}
+def facts():
+    """The lines of facts.txt, by the texts that they are of."""
+    found = {}
+    with open(os.path.join(HERE, "facts.txt"), encoding="ascii") as file:
+        for line in file.read().split("\n"):
+            if line.startswith("== "):
+                found[line[3:]] = []
+            elif line and not line.startswith("# "):
+                found[list(found)[-1]].append(line)
+    return found
 
 
 def texts_beside(printed):
@@ -70,13 +72,28 @@ def texts_beside(printed):
     with open(os.path.join(ROOT, "docs", "CLI.md")) as file:
         manual = file.read()
     with open(os.path.join(ROOT, "crates", "subset_font", "subset_font.1")) as file:
-        page = re.sub(r"\\f[BIR]", " ", file.read().replace("\\-", "-"))
+        page = re.sub(r"\\f[BIR]", "", file.read().replace("\\-", "-"))
     return {"--help": printed, "docs/CLI.md": manual, "subset_font.1": page}
 
 
+def in_font(request):
+    """The words of a request of the manual page for a font, as .BR: of two fonts they have no blanks between them."""
+    words = [it.strip('"') for it in re.findall(r'"[^"]*"|\S+', request[2])]
+    return (" " if len(request[1]) == 1 else "").join(words)
+
+
 def said_otherwise(texts):
-    """The texts, by their names, that have another default than the program, or another order of its files."""
-    return [(name, part) for name, parts in SAID.items() for part in parts if not re.search(part, texts[name])]
+    """The texts, by their names, that don't say what facts.txt has of them in that order, each with the first line that it lacks."""
+    found = []
+    for name, lines in facts().items():
+        text, end = " ".join(re.sub(r"^\.(I|B|IR|BR) (.*)$", in_font, texts[name], flags=re.M).split()), 0
+        for line in lines:
+            at = text.find(line, end)
+            if at < 0:
+                found.append((name, line))
+                break
+            end = at + len(line)
+    return found
 
 
 def check_words(table, room):
@@ -93,7 +110,8 @@ def check_words(table, room):
         got = table.start(words, room)
         table.demand((got.returncode, got.stdout, got.stderr) == (0, first.stdout, b""), words, got)
     texts = texts_beside(first.stdout.decode())
-    table.demand(not said_otherwise(texts), "defaults and the order of files in the texts", said_otherwise(texts))
+    table.demand(not said_otherwise(texts), "the texts say otherwise than .ci/program/facts.txt", said_otherwise(texts))
+    table.demand([len(it) > 60 for it in facts().values()] == [True] * 3 and list(facts()) == list(texts), "facts.txt", list(facts()))
     for option in OPTIONS:
         for name, text in texts.items():
             there = re.search(r"(^|[^-\w])" + re.escape(option) + r"($|[^-\w])", text, re.M)

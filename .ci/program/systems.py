@@ -6,7 +6,7 @@ REFUSED_BY_HAND = "compare/drivers/refuse.c stands in front of the calls of this
 UNCHECKED = {
     "s390x": {
         "check_memory": "the limit on memory would be qemu's own",
-        **dict.fromkeys(("check_refused_memory", "check_refused_names", "check_refused_reasons", "check_requests", "check_little_room", "check_kept_room", "check_failed_calls", "check_killed", "check_inodes", "check_opened", "check_refused_batch"), REFUSED_BY_HAND),
+        **dict.fromkeys(("check_refused_memory", "check_refused_names", "check_refused_reasons", "check_requests", "check_little_room", "check_kept_room", "check_failed_calls", "check_killed", "check_inodes", "check_opened", "check_refused_batch", "check_threads"), REFUSED_BY_HAND),
     },
     "windows": {
         "check_places": "rights of Unix, and a limit on the size of a file",
@@ -20,7 +20,7 @@ UNCHECKED = {
         "check_memory": "the limit on memory would be wine's own",
         "check_progress": "a terminal of Unix",
         "check_soon": "a pipe of Unix",
-        **dict.fromkeys(("check_refused_memory", "check_refused_names", "check_refused_reasons", "check_requests", "check_little_room", "check_kept_room", "check_failed_calls", "check_killed", "check_inodes", "check_opened", "check_refused_batch"), REFUSED_BY_HAND),
+        **dict.fromkeys(("check_refused_memory", "check_refused_names", "check_refused_reasons", "check_requests", "check_little_room", "check_kept_room", "check_failed_calls", "check_killed", "check_inodes", "check_opened", "check_refused_batch", "check_threads"), REFUSED_BY_HAND),
     },
 }
 # Rows that end otherwise there, by their words as the files of rows have them. One that doesn't is a row too many.

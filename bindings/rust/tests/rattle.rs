@@ -303,14 +303,28 @@ fn little_of_a_large_lists_room_is_spare() {
             continue;
         }
         grown += 1;
-        let most = match room * 8 {
-            0..=4095 => (2 * count).max(4),
-            4096..=65535 => count + count / 4,
-            _ => count + count / 8,
+        let wanted = match room * std::mem::size_of::<usize>() {
+            0 => 4,
+            1..=4095 => 2 * room,
+            4096..=65535 => room + room / 4,
+            _ => room + room / 8,
         };
-        assert!(items.capacity() <= most, "{} {}", count, items.capacity());
+        assert_eq!(items.capacity(), wanted, "{}", count);
     }
     assert!(grown < 100, "{}", grown);
+    // The room that is spare counts, too.
+    for (len, room, more, wanted) in [
+        (7_000, 8_000, 1_001, 10_000),
+        (90_000, 100_000, 10_001, 112_500),
+        (90_000, 100_000, 22_500, 112_500),
+        (90_000, 100_000, 22_501, 112_501),
+        (90_000, 100_000, 10_000, 100_000),
+    ] {
+        let mut items = Vec::with_capacity(Global, room).unwrap();
+        items.resize(len, 1u8).unwrap();
+        items.reserve(more).unwrap();
+        assert_eq!((items.len(), items.capacity()), (len, wanted), "{}", more);
+    }
     let mut bytes = list(&[1; 100_000]);
     bytes.extend_from_slice(&[2; 300_000]).unwrap();
     assert_eq!((bytes.len(), bytes.capacity()), (400_000, 400_000));
@@ -450,6 +464,7 @@ mod program {
     use super::*;
     use rattle::io::{BufWriter, Error, ErrorKind, Read, Write};
     use rattle::prelude::String;
+    use std::cell::RefCell;
 
     #[test]
     fn texts_answer_as_rusts() {
@@ -459,6 +474,34 @@ mod program {
         assert_eq!(std::format!("{:?}", text), "\"a text\"");
         let made = String::format(Global, format_args!("{}-{:02}", text.as_str(), 7)).unwrap();
         assert_eq!(made.as_str(), "a text-07");
+    }
+
+    #[test]
+    fn texts_are_shown_as_rusts() {
+        let plain = "a\"\u{e9}";
+        let text = String::from_str(Global, plain).unwrap();
+        for (shown, wanted) in [
+            (std::format!("{:>6}|", text), std::format!("{:>6}|", plain)),
+            (std::format!("{:.2}|", text), std::format!("{:.2}|", plain)),
+            (std::format!("{:<5}|", text), std::format!("{:<5}|", plain)),
+            (std::format!("{:?}|", text), std::format!("{:?}|", plain)),
+        ] {
+            assert_eq!(shown, wanted);
+        }
+        let made = format!(in Global; "{}-{:02}", text, 7).unwrap();
+        assert_eq!(made.as_str(), std::format!("{}-07", plain));
+        assert_eq!(
+            String::from(std::string::String::from("one")).as_str(),
+            "one"
+        );
+        let mut made = String::new(Global);
+        assert_eq!(made.as_str(), "");
+        made.push_str("ab").unwrap();
+        made.push_str("").unwrap();
+        made.push_str("c").unwrap();
+        let long = "x".repeat(1000);
+        assert_eq!(with(0, || made.push_str(&long).is_err()), (true, true));
+        assert_eq!(made.as_str(), "abc");
     }
 
     #[test]
@@ -543,6 +586,43 @@ mod program {
         }
     }
 
+    /// What notes how many bytes are asked for at once, and gives at most so many, of so many.
+    struct Noted<'a>(&'a RefCell<std::vec::Vec<usize>>, usize, usize);
+
+    impl Read for Noted<'_> {
+        fn read(&mut self, buf: &mut [u8]) -> Result<usize, Error> {
+            self.0.borrow_mut().push(buf.len());
+            let count = self.1.min(self.2).min(buf.len());
+            self.2 -= count;
+            Ok(count)
+        }
+    }
+
+    #[test]
+    fn what_there_is_room_for_is_read_in_steps() {
+        for (room, most, len, wanted) in [
+            (
+                300_000,
+                100_000,
+                250_000,
+                &[131_072, 31_072, 131_072, 31_072, 12_144][..],
+            ),
+            (131_072, 131_071, 131_071, &[131_072, 1]),
+            (131_073, 200_000, 131_072, &[131_072, 1]),
+            (8, 100, 8, &[8, 8]),
+            (8, 7, 7, &[8, 1]),
+        ] {
+            let asked = RefCell::new(std::vec::Vec::with_capacity(10));
+            let mut all = Vec::with_capacity(Global, room).unwrap();
+            let (answer, was_refused) = with(usize::from(room == len), || {
+                Noted(&asked, most, len).read_to_end(&mut all)
+            });
+            assert_eq!((answer.unwrap(), was_refused), (len, false));
+            assert_eq!((all.len(), asked.borrow().as_slice()), (len, wanted));
+            assert!(room == len || all.capacity() == room);
+        }
+    }
+
     #[test]
     fn all_is_written() {
         let mut steps = Steps(
@@ -572,7 +652,13 @@ mod program {
         ];
         for error in errors {
             assert_eq!(error.kind(), ErrorKind::OutOfMemory);
+            assert_eq!(error.raw_os_error(), None);
         }
+        assert_eq!(AllocError::from(AllocFailed { value: 0 }), AllocError);
+        assert_eq!(
+            std::format!("{:?}", AllocFailed { value: 0 }),
+            "AllocFailed"
+        );
     }
 
     #[test]
@@ -620,6 +706,37 @@ mod program {
         assert_eq!(out.1, b"held");
         let mut out = Steps(std::vec![], std::vec![]);
         assert!(with(0, || BufWriter::new(Global, Lent(&mut out)).is_err()).0);
+    }
+
+    #[test]
+    fn a_failure_leaves_what_is_buffered() {
+        for (step, kind) in [
+            (Ok(0), ErrorKind::Other),
+            (Err(ErrorKind::StorageFull), ErrorKind::StorageFull),
+        ] {
+            let mut out = Steps(std::vec![Ok(3), step, step, step], std::vec![]);
+            let mut writer = BufWriter::new(Global, Lent(&mut out)).unwrap();
+            writer.write_all(&bytes(8190)).unwrap();
+            // Neither what doesn't fit in behind it is taken, nor what is as long as the buffer.
+            assert_eq!(writer.write(b"xyz").unwrap_err().kind(), kind);
+            assert_eq!(writer.write(&bytes(9000)).unwrap_err().kind(), kind);
+            assert_eq!(writer.flush().unwrap_err().kind(), kind);
+            assert_eq!(writer.write(b"ab").unwrap(), 2);
+            drop(writer);
+            assert_eq!(out.1, [bytes(8190), b"ab".to_vec()].concat());
+        }
+        // What isn't buffered may be written in part.
+        let mut out = Steps(std::vec![Ok(5000)], std::vec![]);
+        let mut writer = BufWriter::new(Global, Lent(&mut out)).unwrap();
+        assert_eq!(writer.write(&bytes(9000)).unwrap(), 5000);
+        drop(writer);
+        assert_eq!(out.1, bytes(5000));
+        // A writer that fails while it goes ends nothing.
+        let mut out = Steps(std::vec![Ok(1), Err(ErrorKind::Other)], std::vec![]);
+        let mut writer = BufWriter::new(Global, Lent(&mut out)).unwrap();
+        writer.write_all(b"held").unwrap();
+        drop(writer);
+        assert_eq!((out.0.len(), out.1), (0, b"h".to_vec()));
     }
 
     #[test]

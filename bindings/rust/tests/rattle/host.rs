@@ -21,7 +21,9 @@ const OUTPUT: &[u8] = b"these bytes are on standard output\n";
 #[test]
 fn each_call_of_the_host_holds_by_itself() {
     let mut command = Command::new(std::env::current_exe().unwrap());
-    command.args(["host_calls::", "--ignored", "--test-threads=1"]);
+    // (no test has the last name, which is longer than what is read at once of the arguments)
+    command.args(["host_calls::", "--ignored", "--test-threads=1", "--skip"]);
+    command.arg("x".repeat(9000));
     command.stdin(Stdio::piped()).stdout(Stdio::piped());
     let mut child = command.stderr(Stdio::piped()).spawn().unwrap();
     let mut input = child.stdin.take().unwrap();
@@ -96,6 +98,11 @@ fn failed<T>(answer: io::Result<T>) -> Option<(ErrorKind, Option<i32>)> {
 const MISSING: Option<(ErrorKind, Option<i32>)> = Some((ErrorKind::NotFound, Some(2)));
 const THERE: Option<(ErrorKind, Option<i32>)> = Some((ErrorKind::Other, Some(17)));
 const REFUSED: Option<(ErrorKind, Option<i32>)> = Some((ErrorKind::OutOfMemory, None));
+
+/// How many files are open, as far as the system shows it.
+fn open_files() -> usize {
+    std::fs::read_dir("/proc/self/fd").map_or(0, |all| all.count())
+}
 
 /// Whether this `std` requests memory for each name, as that of Rust 1.63 does.
 fn is_old() -> bool {
@@ -193,6 +200,56 @@ fn room_for_two_names_is_kept_while_a_file_is_new() {
     }
 }
 
+#[test]
+#[ignore = "run by another test"]
+fn room_is_kept_for_each_of_many_new_files() {
+    // (there `std` requests more)
+    if is_old() {
+        return;
+    }
+    let folder = Folder::new("many");
+    let names: Vec<String> = (0..40)
+        .map(|k| folder.at(&std::format!("file{}", k)))
+        .collect();
+    let mut before = 0;
+    for round in 0..2 {
+        // (the list of what is kept has grown in the first round)
+        before = if round == 0 { before } else { held() };
+        for name in &names {
+            let new = || {
+                let how = OpenOptions::new().write(true).create_new(true);
+                how.open(&HostRuntime, name)
+            };
+            let mut requests = 0;
+            loop {
+                let (answer, was_refused) = with(requests, new);
+                if !was_refused {
+                    answer.unwrap();
+                    break;
+                }
+                assert_eq!(failed(answer), REFUSED, "{} {}", name, requests);
+                assert!(!is_there(name), "{} {}", name, requests);
+                requests += 1;
+            }
+            assert!(requests >= 2, "{}", name);
+        }
+        // One that is there is not made again, and no room is kept for that.
+        let all = held();
+        let again = OpenOptions::new().write(true).create_new(true);
+        assert_eq!(
+            failed(again.open(&HostRuntime, &folder.at("none/file"))),
+            MISSING
+        );
+        assert_eq!(held(), all);
+        let kept: usize = names.iter().map(|it| 2 * (it.len() + 1)).sum();
+        assert!(held() >= before + kept);
+        for name in names.iter().rev() {
+            fs::remove_file(&HostRuntime, name).unwrap();
+        }
+        assert!(round == 0 || held() == before);
+    }
+}
+
 // ---- files
 
 #[test]
@@ -287,6 +344,33 @@ fn files_get_names_bytes_and_rights() {
 
 #[test]
 #[ignore = "run by another test"]
+fn what_a_file_lacks_is_reported() {
+    // (other systems report it otherwise)
+    if !cfg!(target_os = "linux") {
+        return;
+    }
+    let before = open_files();
+    let device = fs::open(&HostRuntime, "/dev/null").unwrap();
+    let no_call = Some((ErrorKind::InvalidInput, Some(22)));
+    assert_eq!(failed(OpenFile::sync_data(&device)), no_call);
+    let file = fs::open(&HostRuntime, "/proc/self/comm").unwrap();
+    let rights = Permissions::from_mode(0o600);
+    assert!(failed(OpenFile::set_permissions(&file, rights)).is_some());
+    let full = OpenOptions::new().write(true);
+    let mut full = full.open(&HostRuntime, "/dev/full").unwrap();
+    let no_room = Some((ErrorKind::StorageFull, Some(28)));
+    assert_eq!(failed(Write::write(&mut full, b"x")), no_room);
+    let folder = Some((ErrorKind::Other, Some(21)));
+    let mut opened = fs::open(&HostRuntime, "/").unwrap();
+    assert_eq!(failed(Read::read(&mut opened, &mut [0; 4])), folder);
+    assert_eq!(failed(fs::create(&HostRuntime, "/")), folder);
+    assert!(open_files() == before + 4 || before == 0);
+    drop((device, file, full, opened));
+    assert_eq!(open_files(), before);
+}
+
+#[test]
+#[ignore = "run by another test"]
 fn links_are_followed_or_not() {
     let folder = Folder::new("links");
     let (name, link) = (folder.at("file"), folder.at("link"));
@@ -371,14 +455,27 @@ fn other_systems_have_their_numbers() {
     let streams = bare(include_str!("../../src/host/streams.rs"));
     let full = "ifcfg!(windows){(112,1295)}elseifcfg!(any(target_os=\"linux\",target_os=\"android\")){(28,122)}else{(28,69)};";
     assert!(streams.contains(full));
+    assert!(streams.contains("fnopened<S>(stream:S)->std::io::Result<S>{Ok(stream)}"));
+    // What has no call for it, elsewhere than on Linux and on Unix.
+    let files = bare(include_str!("../../src/host/fs.rs"));
+    for part in [
+        "matchFile::sync_data(self){//",
+        "Err(_)ifcfg!(not(target_os=\"linux\"))&&!File::metadata(self)?.is_file()=>{Err(ErrorKind::Unsupported.into())}",
+        "matchstd::fs::symlink_metadata(name){Err(error)ifcfg!(not(unix))&&error.kind()!=std::io::ErrorKind::NotFound=>{Err(ErrorKind::Unsupported.into())}",
+    ] {
+        assert!(files.contains(part), "{}", part);
+    }
     // A file has one name, and is known by nothing.
     let os = bare(include_str!("../../src/host/os.rs"));
     for part in [
         "fndev(&self)->u64{0}",
         "fnino(&self)->u64{0}",
+        "fnmode(&self)->u32{0}",
         "fnnlink(&self)->u64{1}",
         "fnuid(&self)->u32{0}",
         "fngid(&self)->u32{0}",
+        "#[cfg(unix)]pubusestd::os::unix::fs::MetadataExt;",
+        "#[cfg(not(unix))]implMetadataExtforstd::fs::Metadata{}",
     ] {
         assert!(os.contains(part), "{}", part);
     }
@@ -465,7 +562,7 @@ fn arguments_are_those_of_the_process() {
     let args = env::args(&HostRuntime).unwrap();
     let args: Vec<String> = args.map(|it| it.as_str().to_string()).collect();
     assert_eq!(args, std::env::args().collect::<Vec<_>>());
-    assert_eq!(args.len(), 4);
+    assert_eq!(args.len(), 6);
     // Room is asked for, for the standard output and then for the arguments, before `std` takes some.
     let count = if is_old() { 1 } else { 2 };
     for requests in 0..count {
@@ -480,10 +577,12 @@ fn arguments_are_those_of_the_process() {
     assert_eq!(failed(with(0, prepare).0), REFUSED);
     let (_, asked) = asked_by(|| env::args(&HostRuntime));
     let of_each = std::mem::size_of::<OsString>() + 32;
-    let all: usize = args.iter().map(|it| it.len() + of_each).sum();
+    // (each has a zero behind)
+    let all: usize = args.iter().map(|it| it.len() + 1 + of_each).sum();
     assert!(asked[0] >= 1024, "{:?}", asked);
+    let is_shown = Path::new("/proc/self/cmdline").exists();
     assert!(
-        asked[1..].iter().any(|it| *it >= all),
+        asked[1..].contains(&all) || !is_shown,
         "{:?}, {}",
         asked,
         all
@@ -493,6 +592,7 @@ fn arguments_are_those_of_the_process() {
 #[test]
 #[ignore = "run by another test"]
 fn standard_streams_are_read_and_written() {
+    let before = open_files();
     let mut reader = HostRuntime.reader();
     let mut bytes = [0; 8];
     let (answer, was_refused) = with(0, || reader.read(&mut bytes[..2]));
@@ -511,6 +611,7 @@ fn standard_streams_are_read_and_written() {
         HostRuntime.eprint("three\n")
     });
     assert!(answer.is_ok() && !was_refused);
+    assert_eq!(open_files(), before);
 }
 
 /// What takes every second byte, and fails where there is none.
