@@ -152,16 +152,73 @@ fn refused(folder: &str) -> String {
 fn a_folder_without_the_library_is_refused_with_words() {
     // (a folder of this name is in the package, where Cargo runs the build's program)
     let said = refused("src");
-    assert!(
-        said.contains("SUBSETTER_LIBRARY_FOLDER is the relative src"),
-        "{said}"
-    );
+    let wanted = "SUBSETTER_LIBRARY_FOLDER is the relative src: name the whole path of the folder, from / on\n";
+    assert!(said.contains(wanted), "{said}");
     let none = folder("none");
     let none = none.to_str().unwrap();
     let said = refused(none);
-    let wanted = format!("{none}/libsubsetter.a isn't there");
+    let wanted = format!(
+        "{none}/libsubsetter.a isn't there: `make` in bindings/c builds it, and SUBSETTER_LIBRARY_FOLDER names another folder\n"
+    );
     assert!(said.contains(&wanted), "{said}");
-    assert!(said.contains("`make` in bindings/c"), "{said}");
+}
+
+/// A file of a folder in another one.
+fn copied(from: &Path, to: &Path, name: &str) {
+    let to = to.join(name);
+    fs::create_dir_all(to.parent().unwrap()).unwrap();
+    fs::copy(from.join(name), to).unwrap();
+}
+
+/// The target for which Cargo builds here.
+fn target_of_this_machine() -> String {
+    let compiler = env::var("RUSTC").unwrap_or_else(|_| "rustc".into());
+    let output = Command::new(compiler).arg("-vV").output().unwrap();
+    let said = String::from_utf8(output.stdout).unwrap();
+    let host = said.lines().find_map(|it| it.strip_prefix("host: "));
+    host.unwrap().to_string()
+}
+
+#[test]
+fn a_package_that_carries_libraries_heeds_the_named_folder() {
+    let table = table();
+    let row = table.rows.iter().find(|row| row.name == "simple").unwrap();
+    let here = Path::new(env!("CARGO_MANIFEST_DIR"));
+    let folder = folder("carrying");
+    let (package, program) = (folder.join("package"), folder.join("program"));
+    for name in ["Cargo.toml", "build.rs"] {
+        copied(here, &package, name);
+    }
+    for part in ["src", "src/pdf"] {
+        for entry in fs::read_dir(here.join(part)).unwrap() {
+            let path = entry.unwrap().path();
+            if path.is_file() {
+                copied(
+                    here,
+                    &package,
+                    path.strip_prefix(here).unwrap().to_str().unwrap(),
+                );
+            }
+        }
+    }
+    copied(&here.join("tests/dependent"), &program, "src/main.rs");
+    let manifest = fs::read_to_string(here.join("tests/dependent/Cargo.toml")).unwrap();
+    let manifest = manifest.replace("path = \"../..\"", "path = \"../package\"");
+    fs::write(program.join("Cargo.toml"), manifest).unwrap();
+    let native = package.join("native").join(target_of_this_machine());
+    fs::create_dir_all(&native).unwrap();
+    refusing(&native);
+    let run = |named: Option<&Path>| {
+        let mut cargo = cargo("run", &folder.join("target"));
+        cargo
+            .current_dir(&program)
+            .env_remove("SUBSETTER_LIBRARY_FOLDER");
+        made(cargo, named, &row.font)
+    };
+    let refuses = table.texts[&3].as_bytes();
+    assert_eq!(run(None), refuses);
+    assert_eq!(run(library().parent()), row.wanted.font);
+    assert_eq!(run(None), refuses);
 }
 
 // ---- what the build's program tells Cargo, in a folder with libraries of its own
@@ -202,6 +259,7 @@ impl Program {
         command
             .current_dir(&self.package)
             .env("TARGET", "some-target")
+            .env("HOST", "another-target")
             .env_remove("CARGO_FEATURE_VARIABLE_FONTS")
             .env_remove("SUBSETTER_LIBRARY_FOLDER");
         if let Some(folder) = named {
@@ -215,6 +273,14 @@ impl Program {
         match output.status.success() {
             true => Ok(text(output.stdout)),
             false => Err(text(output.stderr)),
+        }
+    }
+
+    /// Whether it fails with a line that says this.
+    fn refuses(&self, named: Option<&Path>, wanted: &str) {
+        for has_variable_fonts in [true, false] {
+            let said = self.run(named, has_variable_fonts).unwrap_err();
+            assert!(said.lines().any(|it| it == wanted), "{wanted}: {said}");
         }
     }
 
@@ -237,13 +303,8 @@ const CALL: &[u8] = b"subsetter_make_pdf_font_by_words";
 #[test]
 fn the_library_is_that_of_the_named_folder_of_the_package_or_of_the_clone() {
     let program = Program::new("which_library");
-    let said = program.run(None, true).unwrap_err();
-    assert!(
-        said.contains(
-            "/package/../c/out/libsubsetter.a isn't there: `make` in bindings/c builds it"
-        ),
-        "{said}"
-    );
+    let at = program.package.to_str().unwrap();
+    program.refuses(None, &format!("{at}/../c/out/libsubsetter.a isn't there: `make` in bindings/c builds it, and SUBSETTER_LIBRARY_FOLDER names another folder"));
     let named = program.library("named", CALL);
     assert_eq!(program.run(Some(&named), true), Program::taken(&named, ""));
     let of_clone = program.library("../c/out", CALL);
@@ -252,10 +313,16 @@ fn the_library_is_that_of_the_named_folder_of_the_package_or_of_the_clone() {
     let none = Some(Path::new(""));
     assert_eq!(program.run(none, true), Program::taken(&of_clone, ""));
     assert_eq!(program.run(Some(&named), true), Program::taken(&named, ""));
-    // A package that carries libraries takes the one of its target, and none of the clone's.
-    fs::create_dir(program.package.join("native")).unwrap();
-    let said = program.run(None, true).unwrap_err();
-    assert!(said.contains("/package/native/some-target/libsubsetter.a isn't there: this package carries no library for some-target, and SUBSETTER_LIBRARY_FOLDER names another folder"), "{said}");
+    // A file of that name carries none.
+    let native = program.package.join("native");
+    fs::write(&native, "").unwrap();
+    assert_eq!(program.run(None, true), Program::taken(&of_clone, ""));
+    fs::remove_file(&native).unwrap();
+    // A package that carries libraries takes the one of its target, and none of the clone's nor of another target.
+    program.library("native/another-target", CALL);
+    program.refuses(None, &format!("{at}/native/some-target/libsubsetter.a isn't there: this package carries no library for some-target, and SUBSETTER_LIBRARY_FOLDER names another folder"));
+    let empty = program.package.join("empty");
+    program.refuses(Some(&empty), &format!("{at}/empty/libsubsetter.a isn't there: `make` in bindings/c builds it, and SUBSETTER_LIBRARY_FOLDER names another folder"));
     let carried = program.library("native/some-target", CALL);
     assert_eq!(program.run(None, true), Program::taken(&carried, ""));
     assert_eq!(program.run(none, true), Program::taken(&carried, ""));
@@ -267,16 +334,13 @@ fn what_is_no_library_is_refused() {
     let program = Program::new("no_library");
     program.library("../c/out", CALL);
     program.library("relative", CALL);
-    let said = program.run(Some(Path::new("relative")), true).unwrap_err();
-    assert!(
-        said.contains("SUBSETTER_LIBRARY_FOLDER is the relative relative: name the whole path"),
-        "{said}"
-    );
+    for relative in ["relative", "./relative", "../package/relative"] {
+        program.refuses(Some(Path::new(relative)), &format!("SUBSETTER_LIBRARY_FOLDER is the relative {relative}: name the whole path of the folder, from / on"));
+    }
     // A folder of the library's name is none.
     let folder = program.package.join("folder");
     fs::create_dir_all(folder.join("libsubsetter.a")).unwrap();
-    let said = program.run(Some(&folder), true).unwrap_err();
-    assert!(said.contains("/folder/libsubsetter.a isn't there: `make` in bindings/c builds it, and SUBSETTER_LIBRARY_FOLDER names another folder"), "{said}");
+    program.refuses(Some(&folder), &format!("{}/libsubsetter.a isn't there: `make` in bindings/c builds it, and SUBSETTER_LIBRARY_FOLDER names another folder", folder.display()));
 }
 
 #[test]

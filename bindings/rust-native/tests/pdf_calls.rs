@@ -111,6 +111,8 @@ fn codes_without_a_font_are_those_of_the_library() {
         "\u{1f600}",
         "é",
         "e\u{301}",
+        "\0A\0\u{feff}",
+        "\u{fffe}\0\0",
     ];
     let mut seed = 1_u32;
     let mut next = |below: u32| {
@@ -119,7 +121,7 @@ fn codes_without_a_font_are_those_of_the_library() {
     };
     for _ in 0..300 {
         let shown: Vec<Shown<'_>> = (0..next(20))
-            .map(|_| Shown::new(next(12) as u16, texts[next(9) as usize]))
+            .map(|_| Shown::new(next(12) as u16, texts[next(11) as usize]))
             .collect();
         for codes in [Codes::Consecutive, Codes::Source, Codes::EachText] {
             let options = FontOptions::new().codes(codes);

@@ -421,7 +421,11 @@ fn without_memory_the_mappers_of_0_2_6_end_the_process() {
         let said = String::from_utf8(output.stderr).unwrap();
         let ended = printed.contains("calls") && !printed.contains("goes on");
         assert!(ended, "{call}: {printed}");
-        assert!(said.contains("memory allocation of"), "{call}: {said}");
+        // (the request that is named is one of a glyph's number)
+        assert!(
+            said.contains("memory allocation of 2 bytes failed"),
+            "{call}: {said}"
+        );
         assert!(!said.contains("panicked"), "{call}: {said}");
         assert_eq!(output.status.signal(), Some(6), "{call}: {said}");
     }

@@ -1,5 +1,8 @@
 //! What the package is: its version, its licence, what its documents say, and that it is plain Rust.
 
+#[path = "table/both.rs"]
+mod both;
+
 use std::fs;
 use std::path::{Path, PathBuf};
 
@@ -37,17 +40,6 @@ fn there_is_no_dependency_and_no_build_script() {
 }
 
 #[test]
-fn features_are_those_of_the_readme() {
-    let wanted = [
-        "default = [\"std\"]",
-        "std = []",
-        "variable-fonts = []",
-        "program = [\"std\", \"variable-fonts\"]",
-    ];
-    assert_eq!(table_of_manifest("[features]"), wanted);
-}
-
-#[test]
 fn the_licence_is_that_of_the_repository() {
     for name in ["LICENSE", "NOTICE"] {
         assert_eq!(text(name), text(&format!("../../{name}")), "{name}");
@@ -71,6 +63,17 @@ fn sources(folder: &Path) -> Vec<PathBuf> {
     found
 }
 
+/// Lines of the front of the crate that stand behind conditions.
+const CONDITIONS: [&str; 7] = [
+    "#[cfg(target_pointer_width = \"16\")]\nconst _: () = compile_error!(\"subsetter needs a `usize` of 32 or 64 bits\");\n",
+    "#[cfg(feature = \"std\")]\nextern crate std;\n",
+    "#[cfg(feature = \"program\")]\nmod host;\n#[cfg(feature = \"program\")]\nmod jobs;\n",
+    "#[cfg(feature = \"variable-fonts\")]\n#[doc(hidden)]\npub mod capi;\n",
+    "#[cfg(feature = \"variable-fonts\")]\npub mod pdf;\n",
+    "#[cfg(feature = \"variable-fonts\")]\nmod variations;\n",
+    "#[cfg(all(doctest, feature = \"std\", feature = \"variable-fonts\"))]\n#[doc = include_str!(\"../README.md\")]\nstruct Readme;\n",
+];
+
 #[test]
 fn no_source_has_unsafe_code() {
     let front = text("src/lib.rs");
@@ -80,6 +83,10 @@ fn no_source_has_unsafe_code() {
         "#![warn(missing_docs)]",
     ] {
         assert!(front.lines().any(|it| it == line), "{line}");
+    }
+    // What isn't for each set of features, or each processor, stands behind its condition.
+    for lines in CONDITIONS {
+        assert!(front.contains(lines), "{lines}");
     }
     // What isn't for programs isn't shown.
     let lines: Vec<&str> = front.lines().collect();
@@ -99,34 +106,52 @@ fn no_source_has_unsafe_code() {
     }
 }
 
-/// Lines of each table of the manifest.
-const MANIFEST: [(&str, &[&str]); 4] = [
-        (
-            "[package]",
-            &[
-                "name = \"subsetter\"",
-                "edition = \"2021\"",
-                "rust-version = \"1.63\"",
-                "readme = \"README.md\"",
-                "include = [\"/src\", \"/tests/data/*.ttf\", \"/README.md\", \"/LICENSE\", \"/NOTICE\"]",
-                "publish = false",
-            ],
-        ),
-        ("[lib]", &["name = \"subsetter\""]),
-        (
-            "[[bin]]",
-            &["name = \"subset_font\"", "required-features = [\"program\"]"],
-        ),
-        ("[package.metadata.docs.rs]", &["all-features = true"]),
+/// All lines of each table of the manifest, but for the version and the licence, which stand in other files.
+const MANIFEST: [(&str, &[&str]); 7] = [
+    (
+        "[package]",
+        &[
+            "name = \"subsetter\"",
+            "edition = \"2021\"",
+            "rust-version = \"1.63\"",
+            "description = \"Subsets of OpenType fonts for PDF: the calls of the crate subsetter 0.2.6, generated from proved sources\"",
+            "readme = \"README.md\"",
+            "keywords = [\"font\", \"opentype\", \"subset\", \"pdf\", \"no_std\"]",
+            "categories = [\"no-std\", \"text-processing\"]",
+            "include = [\"/src\", \"/tests/data/*.ttf\", \"/README.md\", \"/LICENSE\", \"/NOTICE\"]",
+            "publish = false",
+        ],
+    ),
+    ("[lib]", &["name = \"subsetter\""]),
+    ("[dependencies]", &[]),
+    (
+        "[features]",
+        &[
+            "default = [\"std\"]",
+            "std = []",
+            "variable-fonts = []",
+            "program = [\"std\", \"variable-fonts\"]",
+        ],
+    ),
+    (
+        "[[bin]]",
+        &["name = \"subset_font\"", "required-features = [\"program\"]"],
+    ),
+    ("[package.metadata.docs.rs]", &["all-features = true"]),
+    ("[workspace]", &[]),
 ];
 
 #[test]
 fn the_manifest_is_that_of_this_package() {
+    let manifest = text("Cargo.toml");
+    let tables: Vec<&str> = manifest.lines().filter(|it| it.starts_with('[')).collect();
+    assert_eq!(tables, MANIFEST.map(|(table, _)| table));
+    let of_other_files =
+        |line: &String| line.starts_with("version = ") || line.starts_with("license = ");
     for (table, lines) in MANIFEST {
-        let found = table_of_manifest(table);
-        for line in lines {
-            assert!(found.iter().any(|it| it == line), "{table} {line}");
-        }
+        let mut found = table_of_manifest(table);
+        found.retain(|line| !of_other_files(line));
+        assert_eq!(found, lines, "{table}");
     }
     // What the documents include is in the package.
     for path in sources(&here().join("src")) {
@@ -161,97 +186,35 @@ fn what_a_choice_answers_is_to_be_used() {
     }
 }
 
-/// The documentation of each item, by its line and its number among those of the same line.
-fn documented(file: &str) -> Vec<(String, usize, String)> {
-    let source = text(file);
-    let mut found: Vec<(String, usize, String)> = Vec::new();
-    let mut comment = String::new();
-    for line in source.lines().map(str::trim) {
-        if let Some(part) = line.strip_prefix("///") {
-            // (what is hidden may be of a package's own)
-            if !part.starts_with(" # let data") {
-                comment = comment + part.trim() + "\n";
-            }
-        } else if !line.starts_with("#[") {
-            if !comment.is_empty() {
-                let number = found.iter().filter(|it| it.0 == line).count();
-                found.push((line.to_string(), number, comment.clone()));
-            }
-            comment.clear();
-        }
-    }
-    found
-}
-
-/// The files that both packages have, and how many of their items are the same.
-const BOTH: [(&str, usize); 13] = [
-    ("lib.rs", 14),
-    ("options.rs", 13),
-    ("tag.rs", 4),
-    ("variations.rs", 3),
-    ("error.rs", 6),
-    ("pdf.rs", 2),
-    ("pdf/error.rs", 4),
-    ("pdf/font.rs", 16),
-    ("pdf/objects.rs", 21),
-    ("pdf/options.rs", 30),
-    ("pdf/shown.rs", 4),
-    ("pdf/values.rs", 35),
-    ("pdf/written.rs", 5),
-];
-
-/// Items of which this package says more, and those whose errors are others, as the native one has none for refused memory.
-const ELSE: [&str; 2] = ["pub enum Error {", "pub fn into_program(self) -> Vec<u8> {"];
-const OTHER_ERRORS: [&str; 7] = [
-    "pub fn subset(",
-    "pub fn glyphs_of<",
-    "pub fn w(",
-    "pub fn w2(",
-    "pub fn dictionaries(",
-    "pub fn objects(",
-    "pub fn sheet(",
-];
-
-#[test]
-fn the_native_package_says_the_same_of_each_item() {
-    for (file, least) in BOTH {
-        let others = documented(&format!("../rust-native/src/{file}"));
-        let mut same = 0;
-        for (line, number, comment) in documented(&format!("src/{file}")) {
-            let other = others.iter().find(|it| it.0 == line && it.1 == number);
-            let other = match other {
-                Some(other) if !ELSE.contains(&line.as_str()) => &other.2,
-                _ => continue,
-            };
-            let is_cut = OTHER_ERRORS.iter().any(|it| line.starts_with(it));
-            let of = |it: &str| match it.split_once("\n# Errors\n") {
-                Some((front, _)) if is_cut => front.to_string(),
-                _ => it.to_string(),
-            };
-            assert_eq!(of(&comment), of(other), "{file}: {line}");
-            same += 1;
-        }
-        assert!(same >= least, "{file}: {same}");
-    }
-}
-
 /// What one file alone says, in the words that count.
-const SAYS: [(&str, &[&str]); 6] = [
+const SAYS: [(&str, &[&str]); 7] = [
     (
         "src/lib.rs",
         &[
-            "The new font has no `cmap`: a PDF embeds it as a CID font, and the CID of a glyph is its new number.",
+            "Cuts OpenType fonts down to some of their glyphs, for embedding in PDF: the public calls of the crate `subsetter` 0.2.6, \
+             generated from sources of which each function is proved.",
+            "A [`GlyphRemapper`] gives the wanted glyphs new consecutive numbers; [`subset`] makes a font of exactly these glyphs, in \
+             that order. The new font has no `cmap`: a PDF embeds it as a CID font, and the CID of a glyph is its new number.",
+            "`data` is a whole font file; 36 is the number of the wanted glyph in it.",
+            "[`embed`] also answers the CIDs and the widths that a PDF needs. All that a PDF has of a font comes from `pdf::pdf_font`. \
+             [`Limits`] bound the work on a hostile font and the size of the new one; [`Options`] leave out hinting, font names or \
+             glyph names.",
+            "[`GlyphRemapper::try_new`], [`try_from_glyphs`](GlyphRemapper::try_from_glyphs), \
+             [`try_from_glyphs_sorted`](GlyphRemapper::try_from_glyphs_sorted), [`try_remap`](GlyphRemapper::try_remap) and \
+             [`try_clone`](GlyphRemapper::try_clone) answer an [`Error`]",
             "answer an [`Error`] where the calls of 0.2.6 panic or end the process.",
             "[`Error`] has a seventh variant, [`Error::OutOfMemory`].",
             "A call that answers a `Result` never panics and never ends the process, whatever the bytes, in debug builds as well.",
             "`std` (default): `std::error::Error` for [`Error`]. Without it the crate needs `alloc` alone.",
             "`variable-fonts`: `subset_with_variations`, as in 0.2.6, and `embed_with_variations`, also of fonts with outlines in \
-             `CFF2`. Also the module `pdf`",
+             `CFF2`. Also the module `pdf`: all that a PDF has of a font, from one call.",
             "`program`: the program `subset_font`.",
-            "for a `usize` of 64 bits.",
+            "The sources that this crate is generated from, for a `usize` of 64 bits. The generator, the stand-in for the proved \
+             sources' library, the public calls in front and rustc are trusted, and tested.",
             "# Errors A fault of the font, by its name, or [`Error::OutOfMemory`].",
         ],
     ),
+    ("src/pdf/font.rs", &["The font program alone, without a copy."]),
     (
         "src/pdf/written.rs",
         &[
@@ -303,21 +266,48 @@ const SAYS: [(&str, &[&str]); 6] = [
     (
         "README.md",
         &[
+            "Cuts OpenType fonts down to some of their glyphs, for embedding in PDF. Names and types are those of the crate `subsetter` \
+             0.2.6; the code is generated from sources in which each function is proved.",
             "It is plain Rust for 1.63 and later, `no_std` with `alloc`, without dependencies and without `unsafe`.",
+            "let mut mapper = GlyphRemapper::new(); // The glyphs of A and B in that font become 1 and 2, which are their CIDs in a PDF. \
+             let cids = [36, 37].map(|glyph| mapper.remap(glyph)); std::fs::write(\"subset.ttf\", subset(&data, 0, &mapper)?)?; \
+             assert_eq!(cids, [1, 2]);",
             "The new font has exactly these glyphs, in that order, and then those that composites need. It has no `cmap`: embed it as \
              a CID font.",
-            "**A seventh error, `Error::OutOfMemory`**, where the original ends the process.",
+            "With the feature `variable-fonts` the module `pdf` has all that a PDF needs of a font: `pdf_font` makes the font program, \
+             the codes, the widths, the values of the font descriptor, ToUnicode and the CMap of the codes, and `objects` writes the \
+             font's objects for the PDF of a writer. This program writes a whole PDF of one line:",
+            "`glyphs_of` doesn't shape: text in Arabic or Devanagari, ligatures and kerning need a shaper, whose glyphs `pdf_font` takes \
+             with their text.",
+            "`cargo add --path CLONE/bindings/rust`, where CLONE is the clone of the repository, or `cargo add subsetter --git URL` with \
+             the repository's URL. No generator, prover or network is needed: the generated files are in the repository.",
+            "A program that has the original crate, itself or by a dependency, gets this one by ```toml [patch.crates-io] subsetter = { \
+             path = \"CLONE/bindings/rust\" } # or { git = \"URL\" } ``` and then `cargo update -p subsetter`, as `Cargo.lock` still \
+             names the other.",
+            "**A seventh error, `Error::OutOfMemory`**, where the original ends the process. A `match` that lists the six lacks an arm, \
+             and doesn't compile until it has one:",
+            "A dependency that lists the six can't be patched; one that has an arm `_`, or passes the error on, can.",
             "**No call that returns a `Result` panics or ends the process**, whatever the font, also where memory is refused, and in \
              debug builds.",
             "they panic where no number is left (a mapper holds 65,535 glyphs), and end the process where memory is refused, as a \
              `Vec` does.",
             "`try_new`, `try_from_glyphs`, `try_from_glyphs_sorted`, `try_remap` and `try_clone` return an error instead.",
             "a value that is NaN counts as the axis's default, an infinite one as that end of the axis.",
+            "`embed` also returns CIDs and widths; `Limits` bound the work on a hostile font and the bytes of the new one; `Options` \
+             leave out hinting, font names or glyph names; `pdf` has all that a PDF needs of a font.",
+            "docs/DIFFERENCES.md of the repository lists the damaged or extreme fonts with other results.",
             "| `std` (default) | `std::error::Error` for `Error` |",
             "| `variable-fonts` | `subset_with_variations`, as in 0.2.6, `embed_with_variations` and the module `pdf`; of `CFF2` \
              outlines the first two make a CID-keyed `CFF ` |",
             "| `program` | the program `subset_font`: `cargo install --path bindings/rust --features program` |",
-            "Nothing is proved of this crate itself.",
+            "The Rattle sources are proved for 64 bits: for any bytes a call returns a font with exactly the requested glyphs, each \
+             drawing as in the source, or an error that names a fault of the font (docs/GUARANTEES.md has the clauses). Nothing is \
+             proved of this crate itself. Trusted are the generator, which takes contracts and ghost code out of the sources; \
+             `src/rattle`, the stand-in for Rattle's library; the calls on top (the files directly in `src`, and those in `src/pdf` \
+             and `src/capi`) and, for the program, `src/host`; and rustc.",
+            "The package `subsetter-native` (`bindings/rust-native`) has the calls over that library, proved as it is built, on Linux, \
+             those of `pdf` too.",
+            "## Licence `MIT OR Apache-2.0` (LICENSE, NOTICE).",
         ],
     ),
 ];

@@ -99,6 +99,13 @@ fn each_face_of_a_collection_is_its_own() {
     assert_eq!((name(0), name(1)), ("Made-Regular".into(), "Font".into()));
     let refused = pdf_font(&fonts, 2, &[], &SHOWN, &options).unwrap_err();
     assert!(matches!(refused, FontError::NotPermitted(_)));
+    // (an index of 8 or 16 bits would be that of a face)
+    for index in [3, 256, 257, 65_536, 65_537, 1 << 24, u32::MAX] {
+        let refused = glyphs_of(&fonts, index, "A");
+        assert_eq!(refused, Err(Error::MalformedFont), "{index}");
+        let refused = pdf_font(&fonts, index, &[], &SHOWN, &options).unwrap_err();
+        assert_eq!(refused, Error::MalformedFont.into(), "{index}");
+    }
 }
 
 #[test]
@@ -138,6 +145,41 @@ fn codes_need_no_font() {
     assert_eq!(codes(Codes::Consecutive), [1, 2, 1, 3]);
     assert_eq!(codes(Codes::Source), [1, 5, 1, 8]);
     assert_eq!(codes(Codes::EachText), [1, 2, 3, 4]);
+    // Glyphs of one byte and of two, and the last one.
+    let far = [255, 256, 65_535, 256].map(|glyph| Shown::new(glyph, "A"));
+    assert_eq!(
+        codes_of(&far, Codes::Source),
+        Ok(vec![255, 256, 65_535, 256])
+    );
+    for codes in [Codes::Consecutive, Codes::EachText] {
+        assert_eq!(codes_of(&far, codes), Ok(vec![1, 2, 3, 2]));
+    }
+}
+
+#[test]
+fn characters_that_no_text_keeps_make_no_code() {
+    // The texts of one code each, all of one glyph.
+    let texts: [&[&str]; 4] = [
+        &[
+            "A",
+            "\0A",
+            "A\0\0",
+            "\u{feff}A\u{fffe}\0",
+            "\u{fffe}\u{fffe}A",
+        ],
+        &["", "\0", "\u{feff}\u{feff}", "\0\u{fffe}\0"],
+        &["AB", "A\u{feff}\u{feff}B", "A\u{fffe}B\u{fffe}", "\0A\0B"],
+        &["BA", "\0B\0A"],
+    ];
+    let (mut shown, mut wanted) = (Vec::new(), Vec::new());
+    for (code, texts) in (1..).zip(texts) {
+        shown.extend(texts.iter().map(|text| Shown::new(1, text)));
+        wanted.extend(texts.iter().map(|_| code));
+    }
+    assert_eq!(codes_of(&shown, Codes::EachText).as_ref(), Ok(&wanted));
+    let options = FontOptions::new().codes(Codes::EachText);
+    let font = pdf_font(&made("made.ttf"), 0, &[], &shown, &options).unwrap();
+    assert_eq!(font.codes(), wanted);
 }
 
 #[test]
@@ -154,6 +196,71 @@ fn codes_run_out() {
     let options = FontOptions::new().codes(Codes::EachText);
     let refused = pdf_font(&made("made.ttf"), 0, &[], &shown, &options);
     assert_eq!(refused.unwrap_err(), Error::OverflowError.into());
+}
+
+/// A font of 300 empty glyphs, each one thousandth wider than the one before, from 400 on.
+fn of_300_glyphs() -> Vec<u8> {
+    let bytes = |words: &[u16]| {
+        let bytes = words.iter().flat_map(|word| word.to_be_bytes());
+        bytes.collect::<Vec<u8>>()
+    };
+    let [mut head, mut hhea, mut maxp] = [[0; 27], [0; 27], [0; 27]];
+    (head[9], head[25]) = (1000, 1);
+    hhea[17] = 300;
+    (maxp[0], maxp[2]) = (1, 300);
+    let metrics: Vec<u16> = (400..700).flat_map(|advance| [advance, 0]).collect();
+    let tables = [
+        (b"glyf", vec![]),
+        (b"head", bytes(&head)),
+        (b"hhea", bytes(&hhea[..18])),
+        (b"hmtx", bytes(&metrics)),
+        (b"loca", vec![0; 4 * 301]),
+        (b"maxp", bytes(&maxp[..16])),
+    ];
+    let mut font = vec![0, 1, 0, 0, 0, 6, 0, 0, 0, 0, 0, 0];
+    let mut at = 12 + 16 * tables.len();
+    for (tag, table) in &tables {
+        font.extend(*tag);
+        font.extend([0; 4]);
+        font.extend((at as u32).to_be_bytes());
+        font.extend((table.len() as u32).to_be_bytes());
+        at += table.len();
+    }
+    tables.iter().for_each(|(_, table)| font.extend(table));
+    font
+}
+
+#[test]
+fn lists_have_more_than_256_items() {
+    let font = of_300_glyphs();
+    let texts: Vec<String> = (0..600)
+        .map(|n| char::from_u32(0x4e00 + n).unwrap().to_string())
+        .collect();
+    let each: Vec<Shown> = (1..300)
+        .map(|glyph| Shown::new(glyph, &texts[usize::from(glyph)]))
+        .collect();
+    for codes in [Codes::Consecutive, Codes::Source, Codes::EachText] {
+        let options = FontOptions::new().codes(codes).cid_set(true);
+        let options = options.direction(Direction::Vertical);
+        let font = pdf_font(&font, 0, &[], &each, &options).unwrap();
+        assert_eq!(font.glyph_count(), 300);
+        assert!(font.cids().iter().copied().eq(1..300));
+        assert!(font.codes().iter().copied().eq(1..300));
+        assert!(font.widths().iter().copied().eq(400..700));
+        assert_eq!(font.is_said(), [true; 299]);
+        // A bit for each glyph.
+        let set = [&[0xff; 37][..], &[0xf0]].concat();
+        assert_eq!(font.cid_set(), Some(&set[..]));
+        assert_eq!(font.columns().unwrap().each.len(), 300);
+    }
+    // One glyph with as many texts.
+    let all: Vec<Shown> = texts.iter().map(|text| Shown::new(299, text)).collect();
+    let options = FontOptions::new().codes(Codes::EachText);
+    let font = pdf_font(&font, 0, &[], &all, &options).unwrap();
+    assert!(font.codes().iter().copied().eq(1..=600));
+    assert_eq!(font.cids(), [1; 600]);
+    assert_eq!(font.is_said(), [true; 600]);
+    assert_eq!((font.glyph_count(), font.widths()), (2, &[400, 699][..]));
 }
 
 // ---- the program
@@ -297,6 +404,29 @@ fn each_choice_is_heeded() {
     let short = FontOptions::new().limits(Limits::new(1, 1).unwrap());
     let refused = pdf_font(&made("made_version_1.otf"), 0, &[], &SHOWN, &short);
     assert_eq!(refused.unwrap_err(), Error::CFFError.into());
+}
+
+#[test]
+fn a_bound_of_bytes_is_heeded_to_the_byte() {
+    let font = made("made.ttf");
+    let within = |limits: Limits| {
+        let options = FontOptions::new().limits(limits);
+        let font = pdf_font(&font, 0, &[], &SHOWN, &options);
+        font.map(|it| it.into_program())
+    };
+    let whole = within(Limits::default());
+    let size = whole.as_ref().unwrap().len() as u32;
+    for bytes in [size, size + 1, 65_536, 1 << 24, u32::MAX] {
+        assert_eq!(
+            within(Limits::default().with_bytes(bytes)),
+            whole,
+            "{bytes}"
+        );
+    }
+    for bytes in [0, 1, size - 1] {
+        let refused = within(Limits::default().with_bytes(bytes));
+        assert_eq!(refused, Err(Error::OverflowError.into()), "{bytes}");
+    }
 }
 
 #[test]
@@ -632,6 +762,15 @@ fn the_first_error_is_answered() {
     assert_eq!(refusal(&font, &beyond), Error::MalformedFont.into());
     let counted = without(&font, b"maxp");
     assert_eq!(refusal(&counted, &SHOWN), Error::MalformedFont.into());
+    // 256 units are the most, of which a character beyond 16 bits has two.
+    for (count, character) in [(256, "a"), (128, "\u{1f600}")] {
+        let longest = character.repeat(count);
+        let shown = [Shown::new(1, &longest)];
+        assert!(pdf_font(&font, 0, &[], &shown, &options).is_ok());
+        let longer = character.repeat(count + 1);
+        let shown = [SHOWN[0], Shown::new(1, &longer)];
+        assert_eq!(refusal(&font, &shown), FontError::TextTooLong);
+    }
     // Characters that no text keeps don't count.
     let short = "\u{feff}".repeat(300);
     assert!(pdf_font(&font, 0, &[], &[Shown::new(1, &short)], &options).is_ok());
@@ -654,8 +793,19 @@ fn no_value_of_the_descriptor_is_a_reason() {
 
 #[test]
 fn errors_have_texts() {
-    let error = FontError::from(Error::CFFError);
-    assert_eq!(error.to_string(), Error::CFFError.to_string());
+    for error in [
+        Error::UnknownKind,
+        Error::MalformedFont,
+        Error::Unimplemented,
+        Error::SubsetError,
+        Error::OverflowError,
+        Error::CFFError,
+    ] {
+        let of_font = FontError::from(error);
+        assert_eq!(of_font, FontError::Subset(error));
+        assert_eq!(of_font.to_string(), error.to_string());
+        assert_eq!(format!("{of_font:?}"), format!("Subset({error:?})"));
+    }
     assert_eq!(FontError::TextTooLong.to_string(), "text too long");
     let refused = pdf_font(&made("made.otf"), 0, &[], &SHOWN, &FontOptions::new());
     let text = refused.unwrap_err().to_string();

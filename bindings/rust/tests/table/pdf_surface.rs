@@ -92,6 +92,15 @@ fn values_for_pdf_are_plain() {
     is_all::<FontOptions>();
     is_all::<Permission>();
     is_all::<SubsetTag>();
+    is_all::<ProgramKind>();
+    is_all::<Usage>();
+    is_all::<ProgramChoice>();
+    is_all::<Codes>();
+    is_all::<Direction>();
+    is_all::<Bounds>();
+    is_all::<Rights>();
+    is_all::<Layout>();
+    is_all::<References>();
     is_value::<FontError>();
     is_plain::<FontError>();
     is_plain::<FontOptions>();
@@ -103,6 +112,24 @@ fn values_for_pdf_are_plain() {
     let _ = |it: Usage| match it {
         Usage::Unsaid | Usage::Installable | Usage::Editable => (),
         Usage::PreviewAndPrint | Usage::Restricted => (),
+    };
+    let _ = |it: Codes| match it {
+        Codes::Consecutive | Codes::Source | Codes::EachText => (),
+    };
+    let _ = |it: ProgramChoice| match it {
+        ProgramChoice::Smallest | ProgramChoice::OpenType => (),
+    };
+    let _ = |it: Direction| match it {
+        Direction::Horizontal | Direction::Vertical => (),
+    };
+    let _ = |it: Bounds| match it {
+        Bounds::Font | Bounds::Kept => (),
+    };
+    let _ = |it: Rights| match it {
+        Rights::AsSaid | Rights::Held => (),
+    };
+    let _ = |it: Layout| match it {
+        Layout::Line | Layout::Grid => (),
     };
     let _ = |it: FontError| match it {
         FontError::Subset(_) | FontError::NotPermitted(_) | FontError::TextTooLong => (),
