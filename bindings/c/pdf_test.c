@@ -539,7 +539,11 @@ static void refuse(const struct row *row)
             break;
         }
     }
-    printf("%s: goes on %zu\n", name, goes_on);
+#ifdef SUBSETTER_BY_CARGO
+    check(goes_on <= 2, name, "how many requests may be refused");
+#else
+    (void)goes_on;
+#endif
     subsetter_free_pdf_font(&whole);
     subsetter_free_pdf_objects(&whole_objects);
     subsetter_free_pdf_objects(&whole_page);
@@ -790,8 +794,8 @@ static void try_programs(const char *folder)
             subsetter_free_pdf_font(&font);
         }
     }
-    /* (with hints and without them in turn at the default, and one at each other place) */
-    check(differing == 8 + 5, "programs", "that differ");
+    /* (with hints and without them in turn at the default; of several values for an axis the last counts, and another axis moves nothing) */
+    check(differing == 8 + 3, "programs", "that differ");
     free(kept);
     free(row.font);
 }
