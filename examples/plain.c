@@ -24,6 +24,7 @@ int main(void)
     if (source == NULL || file == NULL)
         return 1;
     size_t size = fread(data, 1, sizeof data, source), ends[COUNT], length;
+    fclose(source);
 
     /* Each character has a glyph, and is the text of it. */
     uint16_t glyphs[COUNT];

@@ -31,6 +31,15 @@ static void check_texts()
         check(length == std::strlen(inline_text) && std::memcmp(text, inline_text, length) == 0, inline_text);
     }
     check(std::strcmp(subsetter_status_text(4294967295u), "unknown status") == 0, "the greatest status");
+    /* No bit of a status is passed over. */
+    for (uint32_t status = 0; status < 13; status++)
+        for (uint32_t bit = 4; bit < 32; bit++) {
+            uint8_t text[64];
+            size_t length = 0;
+            check(std::strcmp(subsetter_status_text(status | 1u << bit), "unknown status") == 0, "a status that isn't known");
+            check(subsetter_error_text(status | 1u << bit, text, sizeof text, &length) == SUBSETTER_DONE && length == 14
+                && std::memcmp(text, "unknown status", 14) == 0, "the text of a status that isn't known");
+        }
 }
 
 /* Each status by its name: what the library answers it for, where a small font can ask for it, and its text. */

@@ -469,11 +469,43 @@ static void answer(const struct row *row)
     subsetter_free_pdf_font(&font);
 }
 
-/* Refuses each request in turn. */
+#ifndef SUBSETTER_SHARED
+static int is_same(const void *a, size_t a_size, const void *b, size_t b_size)
+{
+    return a_size == b_size && (a_size == 0 || memcmp(a, b, a_size) == 0);
+}
+
+/* Whether two fonts have the same lists and numbers. */
+static int are_same(const subsetter_pdf_font *a, const subsetter_pdf_font *b)
+{
+    size_t numbers = offsetof(subsetter_pdf_font, may_embed_outlines) + 4 - offsetof(subsetter_pdf_font, kind);
+#define SAME(LIST, COUNT) is_same(a->LIST, a->COUNT * sizeof *a->LIST, b->LIST, b->COUNT * sizeof *b->LIST)
+    return SAME(program, program_size) && SAME(cids, cid_count) && SAME(codes, code_count) && SAME(is_said, said_count)
+        && SAME(widths, width_count) && SAME(columns, column_count) && SAME(font_name, font_name_size) && SAME(to_unicode, to_unicode_size)
+        && SAME(encoding, encoding_size) && SAME(encoding_name, encoding_name_size) && SAME(cid_set, cid_set_size)
+        && memcmp(&a->kind, &b->kind, numbers) == 0;
+#undef SAME
+}
+
+static int are_same_objects(const subsetter_pdf_objects *a, const subsetter_pdf_objects *b)
+{
+    return is_same(a->bytes, a->size, b->bytes, b->size)
+        && is_same(a->offsets, a->offset_count * sizeof *a->offsets, b->offsets, b->offset_count * sizeof *b->offsets);
+}
+#endif
+
+/* Refuses each request in turn: what is answered is whole, or nothing with status 7. Only requests to give room back may be refused so that
+ * all is answered. */
 static void refuse(const struct row *row)
 {
 #ifndef SUBSETTER_SHARED
     const char *name = value(row, "row");
+    subsetter_pdf_font whole;
+    subsetter_pdf_objects whole_objects = {NULL, 0, NULL, 0}, whole_page = {NULL, 0, NULL, 0};
+    uint32_t wanted_status = make(row, &row->options, &whole);
+    if (wanted_status == 0)
+        check(subsetter_make_pdf_objects(&whole, 4, &whole_objects) == 0 && sheet(row, &whole, 0, &whole_page) == 0, name, "all that is made");
+    size_t goes_on = 0;
     for (unsigned long request = 1;; request++) {
         subsetter_pdf_font font;
         subsetter_pdf_objects objects, page;
@@ -487,10 +519,15 @@ static void refuse(const struct row *row)
         uint32_t last = status == 0 && then == 0 ? sheet(row, &font, 0, &page) : 0;
         int was_refused = requests >= request;
         refused = 0;
-        check(!was_refused || status == 7 || then == 7 || last == 7 || (status == 0 && then == 0 && last == 0), name, "a refused request");
+        check(status == wanted_status || (was_refused && status == 7), name, "a refused request");
+        check((then == 0 || then == 7) && (last == 0 || last == 7), name, "a refused request of objects or of a sheet");
+        check(status != 0 || are_same(&font, &whole), name, "a font that isn't whole");
+        check(status != 0 || then != 0 || are_same_objects(&objects, &whole_objects), name, "objects that aren't whole");
+        check(status != 0 || then != 0 || last != 0 || are_same_objects(&page, &whole_page), name, "a sheet that isn't whole");
         check(status == 0 || is_nothing(&font), name, "what is left without memory");
         check(then == 0 || are_no_objects(&objects), name, "objects without memory");
         check(last == 0 || are_no_objects(&page), name, "a sheet without memory");
+        goes_on += was_refused && status == 0 && then == 0 && last == 0;
         subsetter_free_pdf_font(&font);
         if (status == 0)
             subsetter_free_pdf_objects(&objects);
@@ -499,9 +536,17 @@ static void refuse(const struct row *row)
         check(held == before, name, "memory that isn't given back");
         if (!was_refused) {
             check(request > 20 || status != 0, name, "requests of the calls");
-            return;
+            break;
         }
     }
+#ifdef SUBSETTER_BY_CARGO
+    check(goes_on <= 2, name, "how many requests may be refused");
+#else
+    (void)goes_on;
+#endif
+    subsetter_free_pdf_font(&whole);
+    subsetter_free_pdf_objects(&whole_objects);
+    subsetter_free_pdf_objects(&whole_page);
 #else
     (void)row;
 #endif
@@ -608,6 +653,54 @@ static void try_options(struct row *row)
     check(make(row, &options, &font) == 5 && is_nothing(&font), "a bound", "that is passed");
 }
 
+/* Numbers of 32 bits, of which no bit is passed over. */
+static const uint32_t HIGH[] = {1u << 8, 1u << 16, 1u << 24, 1u << 31};
+enum { HIGHS = sizeof HIGH / sizeof *HIGH };
+
+static void try_option(const struct row *row, size_t word, uint32_t number)
+{
+    subsetter_pdf_options options = SUBSETTER_DEFAULT_PDF_OPTIONS;
+    subsetter_pdf_font font;
+    (&options.size)[word] = number;
+    memset(&font, 0xa5, sizeof font);
+    check(make(row, &options, &font) == 10 && is_nothing(&font), "an option", "another number");
+    subsetter_free_pdf_font(&font);
+}
+
+static void try_numbers(const struct row *row)
+{
+    static const uint32_t most[] = {0, 0, 255, 7, 0, 1, 2, 1, 1, 1, 1};
+    subsetter_pdf_font font;
+    for (size_t word = 2; word < 11; word++) {
+        if (word == 4)
+            continue;
+        for (uint32_t number = most[word] + 1; number < most[word] + 300; number++)
+            try_option(row, word, number);
+        for (int i = 0; i < HIGHS; i++) {
+            try_option(row, word, HIGH[i] + most[word]);
+            try_option(row, word, HIGH[i] + 1);
+        }
+        try_option(row, word, UINT32_MAX);
+    }
+    /* The first word is the size of all, which are 13 at most. */
+    for (size_t count = 1; count < 80; count++) {
+        uint32_t many[80] = {(uint32_t)(4 * count)};
+        for (int i = -1; i < HIGHS; i++) {
+            many[0] = (uint32_t)(4 * count) + (i < 0 ? 0 : HIGH[i]);
+            uint32_t status = i < 0 && count < 14 ? 0 : 10;
+            check(subsetter_make_pdf_font_by_words(row->font, row->font_size, 0, NULL, 0, row->glyphs, row->glyph_count, row->text,
+                      row->text_count, row->ends, row->glyph_count, many, count, &font) == status, "a list of words", "status");
+            subsetter_free_pdf_font(&font);
+        }
+    }
+    for (int i = 1; i < HIGHS; i++) {
+        subsetter_pdf_options options = SUBSETTER_DEFAULT_PDF_OPTIONS;
+        options.bytes = HIGH[i] + 1;
+        check(make(row, &options, &font) == 0 && font.program_size > 255, "a large bound", "status");
+        subsetter_free_pdf_font(&font);
+    }
+}
+
 /* A tag: each of its letters is a capital, and what is in front of three is 0. */
 static void try_tags(const struct row *row)
 {
@@ -654,6 +747,56 @@ static void try_limits(const char *folder)
         subsetter_free_pdf_font(&font);
     }
     check(accepted > 0 && accepted < numbers, "tokens", "that suffice, and that don't");
+    for (int i = 0; i < HIGHS; i++) {
+        subsetter_pdf_options options = SUBSETTER_DEFAULT_PDF_OPTIONS;
+        subsetter_pdf_font font;
+        options.tokens = HIGH[i] + 1;
+        check(make(&row, &options, &font) == 0, "many tokens", "status");
+        subsetter_free_pdf_font(&font);
+    }
+    free(row.font);
+}
+
+/* The font program of a TrueType font is the subset without names, with its hints or without them, at any coordinates. */
+static void try_programs(const char *folder)
+{
+    static struct row row;
+    const subsetter_coordinate heavy = {SUBSETTER_TAG('w', 'g', 'h', 't'), 650 << 16}, light = {SUBSETTER_TAG('w', 'g', 'h', 't'), 150 << 16},
+                               slanted = {SUBSETTER_TAG('s', 'l', 'n', 't'), -15 * 32768}, other = {SUBSETTER_TAG('W', 'G', 'H', 'T'), 650 << 16};
+    const subsetter_coordinate lists[][3] = {{heavy}, {light, heavy}, {heavy, slanted}, {slanted, heavy, light}, {other, slanted, heavy}};
+    const size_t counts[] = {0, 1, 2, 2, 3, 3};
+    row.font = content(folder, "made_variable.ttf", &row.font_size);
+    read_shown(&row, "1:0041 5:0066,0069 8:00C1");
+    /* `maxp` bounds instructions, so that without them it is another one */
+    for (uint8_t *record = row.font + 12; record < row.font + 12 + 16 * row.font[5]; record += 16)
+        if (memcmp(record, "maxp", 4) == 0)
+            row.font[(record[10] << 8) + record[11] + 27] = 9;
+    uint8_t *kept = malloc(1 << 16);
+    size_t kept_size = 0, differing = 0;
+    for (size_t place = 0; place < 6; place++) {
+        row.coordinate_count = counts[place];
+        if (place > 0)
+            memcpy(row.coordinates, lists[place - 1], sizeof lists[0]);
+        for (uint32_t drop = 0; drop < 8; drop++) {
+            const subsetter_options alone = {sizeof alone, 0, 0, drop | SUBSETTER_DROP_NAMES | SUBSETTER_DROP_GLYPH_NAMES, 0};
+            subsetter_pdf_options options = SUBSETTER_DEFAULT_PDF_OPTIONS;
+            subsetter_pdf_font font;
+            subsetter_made made;
+            options.drop = drop;
+            check(subsetter_make_subset_at(row.font, row.font_size, 0, row.coordinates, row.coordinate_count, row.glyphs, row.glyph_count,
+                      &alone, &made) == 0 && make(&row, &options, &font) == 0, "a program", "status");
+            check(made.font_size == font.program_size && memcmp(made.font, font.program, made.font_size) == 0, "a program", "another than the subset");
+            if (made.font_size != kept_size || memcmp(made.font, kept, kept_size) != 0) {
+                memcpy(kept, made.font, kept_size = made.font_size);
+                differing++;
+            }
+            subsetter_free(&made);
+            subsetter_free_pdf_font(&font);
+        }
+    }
+    /* (with hints and without them in turn at the default; of several values for an axis the last counts, and another axis moves nothing) */
+    check(differing == 8 + 3, "programs", "that differ");
+    free(kept);
     free(row.font);
 }
 
@@ -688,6 +831,13 @@ static void try_texts(const struct row *row)
         text[1] = right[i];
         check(make_text(row, text, 2, ends, 2) == 0, "a character", "status");
     }
+    /* An end has all its bits. */
+    const uint32_t letters[] = {'A', 'B'};
+    for (unsigned bit = 2; bit < 8 * sizeof(size_t); bit++)
+        for (int both = 0; both < 2; both++) {
+            const size_t far[] = {1 + (both ? (size_t)1 << bit : 0), 2 + ((size_t)1 << bit)};
+            check(make_text(row, letters, 2, far, 2) == 12, "an end far beyond the text", "status");
+        }
     /* What comes first: options, texts, opening, permission. */
     subsetter_pdf_font font;
     const subsetter_pdf_options unknown = {52, 0, 0, 0, 0, 9, 0, 0, 0, 0, 0, {0, 0}};
@@ -708,6 +858,10 @@ static void try_sheets(const struct row *row)
     check(make(row, NULL, &font) == 0, "a font", "status");
     memset(&made, 0xa5, sizeof made);
     check(sheet(row, &font, 2, &made) == SUBSETTER_UNKNOWN_OPTION && are_no_objects(&made), "another layout", "status");
+    for (uint32_t layout = 2; layout < 300; layout++)
+        check(sheet(row, &font, layout, &made) == SUBSETTER_UNKNOWN_OPTION && are_no_objects(&made), "another layout", "status");
+    for (int i = 0; i < 2 * HIGHS; i++)
+        check(sheet(row, &font, HIGH[i / 2] + i % 2, &made) == SUBSETTER_UNKNOWN_OPTION && are_no_objects(&made), "a large layout", "status");
     memset(&made, 0xa5, sizeof made);
     const uint32_t wrong[] = {0xd800};
     const size_t ends[] = {1};
@@ -720,6 +874,20 @@ static void try_sheets(const struct row *row)
     }
     for (size_t count = 1; count < 4; count += 2)
         check(subsetter_make_pdf_sheet(&font, row->glyphs, 2, letters, 3, (const size_t[]){1, 2, 3}, count, 0, &made) == 12, "ends of other entries of a sheet", "status");
+    for (unsigned bit = 2; bit < 8 * sizeof(size_t); bit++) {
+        const size_t far[] = {1, 2 + ((size_t)1 << bit)};
+        check(subsetter_make_pdf_sheet(&font, row->glyphs, 2, letters, 2, far, 2, 0, &made) == 12 && are_no_objects(&made), "a far end of a sheet", "status");
+    }
+    for (int i = -1; i < HIGHS; i++) {
+        char front[32];
+        uint32_t first = i < 0 ? 1 : HIGH[i] + 1;
+        size_t length = (size_t)snprintf(front, sizeof front, "%u 0 obj\n", (unsigned)first);
+        check(subsetter_make_pdf_objects(&font, first, &made) == 0 && made.offset_count > 4 && made.offsets[0] == 0 && memcmp(made.bytes, front, length) == 0,
+              "a first number", "the object");
+        length = (size_t)snprintf(front, sizeof front, "%u 0 obj\n", (unsigned)first + 4);
+        check(made.offset_count > 4 && memcmp(made.bytes + made.offsets[4], front, length) == 0, "a first number", "the fifth object");
+        subsetter_free_pdf_objects(&made);
+    }
     check(subsetter_make_pdf_objects(&font, UINT32_MAX - 7, &made) == 0, "the last number", "status");
     subsetter_free_pdf_objects(&made);
     memset(&made, 0xa5, sizeof made);
@@ -927,7 +1095,12 @@ static void try_faces(const struct row *row)
     subsetter_pdf_font fonts[2];
     check(subsetter_glyphs_of(bytes, size, 1, text, 1, glyph, 1, &length) == 2 && glyph[0] == 7, "the second face", "glyphs");
     check(subsetter_glyphs_of(bytes, size, 0, text, 1, glyph, 1, &length) == 0 && glyph[0] == 1, "the first face", "glyphs");
-    check(subsetter_glyphs_of(bytes, size, 2, text, 1, glyph, 1, &length) == 2, "a third face", "glyphs");
+    for (int i = -1; i < HIGHS; i++) {
+        uint32_t face = i < 0 ? 2 : HIGH[i];
+        uint16_t none[] = {7};
+        check(subsetter_glyphs_of(bytes, size, face, text, 1, none, 1, &length) == 2 && length == 0 && none[0] == 7, "a third face", "glyphs");
+        check(subsetter_make_pdf_font(bytes, size, face, NULL, 0, glyph, 1, text, 1, ends, 1, NULL, &fonts[0]) == 2 && is_nothing(&fonts[0]), "a third face", "status");
+    }
     for (uint32_t face = 0; face < 2; face++)
         check(subsetter_make_pdf_font(bytes, size, face, NULL, 0, glyph, 1, text, 1, ends, 1, NULL, &fonts[face]) == 0, "a face", "status");
     check(fonts[0].usage != SUBSETTER_USAGE_UNSAID && fonts[1].usage == SUBSETTER_USAGE_UNSAID, "two faces", "what they permit");
@@ -975,6 +1148,7 @@ int main(int count, char **words)
         damage(&row, DAMAGED);
         if (rows++ == 0) {
             try_options(&row);
+            try_numbers(&row);
             try_tags(&row);
             try_texts(&row);
             try_nulls(&row);
@@ -986,6 +1160,7 @@ int main(int count, char **words)
         free(row.font);
     }
     try_limits(words[1]);
+    try_programs(words[1]);
     try_lists_alone();
     try_empty();
     try_statuses();

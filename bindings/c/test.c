@@ -732,6 +732,128 @@ static void check_openings(const struct row *row)
 }
 #endif
 
+/* ---- numbers of 32 bits, of which no bit is passed over */
+
+static const uint32_t HIGH[] = {1u << 8, 1u << 16, 1u << 24, 1u << 31};
+enum { HIGHS = sizeof HIGH / sizeof *HIGH };
+
+/* The row by each call that takes options: its answer, or a status of their own. */
+static void check_each_call(const struct row *row, const subsetter_options *options, uint32_t status, const char *what)
+{
+    size_t size = status == 0 ? row->size : 0;
+    for (int kind = 0; kind < 4; kind++) {
+        struct row other = *row;
+        struct answer a;
+        subsetter_made made;
+        other.embeds = kind / 2;
+        other.varies = kind % 2;
+        prepare(&a, row->size, row->cid_count, row->width_count);
+        call_with(&other, options, &a);
+        check(a.status == status && a.told.font == size && is_same(a.font, row->bytes, size), what, row->words[1]);
+        check(status == 0 || (told(&a, 0, 0, 0) && untouched(&a, 0, 0, 0)), what, row->words[1]);
+        check(make(&other, options, &made) == status && made.font_size == size && is_same(made.font, row->bytes, size), what, row->words[1]);
+        check(status == 0 || is_nothing(&made), what, row->words[1]);
+        subsetter_free(&made);
+        give_up(&a);
+    }
+}
+
+/* The row needs more than one token and a depth of its own, and has more than 255 bytes. */
+static void check_wide_options(const struct row *row)
+{
+    for (int bit = 3; bit < 32; bit++) {
+        subsetter_options options = options_of(row);
+        options.drop = 1u << bit;
+        check_each_call(row, &options, 10, "a bit that isn't known");
+    }
+    for (uint32_t depth = 256; depth < 600; depth++) {
+        subsetter_options options = options_of(row);
+        options.depth = depth;
+        check_each_call(row, &options, 10, "a depth of over 255");
+    }
+    for (int i = 0; i < HIGHS; i++) {
+        subsetter_options options = options_of(row);
+        options.tokens = HIGH[i] + 1;
+        check_each_call(row, &options, 0, "many tokens");
+        options.tokens = 1;
+        check_each_call(row, &options, 6, "one token");
+        options = options_of(row);
+        options.bytes = HIGH[i] + 1;
+        check_each_call(row, &options, row->size <= options.bytes ? 0 : 5, "a large bound");
+        options = options_of(row);
+        options.depth += HIGH[i];
+        check_each_call(row, &options, 10, "a large depth");
+        struct answer a;
+        prepare(&a, row->size, 0, 0);
+        a.status = subsetter_subset_with_limits(row->font, row->font_size, row->index, row->glyphs, row->glyph_count, HIGH[i] + 1,
+            (uint8_t)row->depth, a.font, a.room, &a.told.font);
+        check(a.status == 0 && a.told.font == row->size && is_same(a.font, row->bytes, row->size), "many tokens", "as a limit");
+        give_up(&a);
+    }
+}
+
+/* A face that there isn't, though it is the row's but for one bit, by each call. */
+static void check_wide_faces(const struct row *row)
+{
+    for (int i = 0; i < HIGHS; i++)
+        for (int kind = 0; kind < 7; kind++) {
+            struct row other = *row;
+            other.index += HIGH[i];
+            other.status = 2;
+            other.bytes = NULL;
+            other.size = other.cid_count = other.width_count = 0;
+            other.embeds = kind > 3;
+            other.limits = kind == 3;
+            other.varies = kind % 3 == 2;
+            other.options = kind % 3 != 0;
+            other.depth = other.limits;
+            check_whole(&other, 0);
+            if (!other.limits)
+                check_made(&other);
+        }
+}
+
+/* ---- a font for a PDF, beside the call that embeds (not for Valgrind, which takes a test of an unused part of an answer for an error) */
+
+#ifndef SUBSETTER_BRIEF
+static int is_within(const uint8_t *part, size_t size, const uint8_t *whole, size_t whole_size)
+{
+    for (size_t i = 0; i + size <= whole_size; i++)
+        if (memcmp(part, whole + i, size) == 0)
+            return 1;
+    return 0;
+}
+
+/* The row's glyphs in a font for a PDF, without text: it is refused as the call that embeds them without names refuses it, and has the
+ * outlines, CIDs and widths that this one gives. Whether it was made. */
+static int check_pdf(const struct row *row)
+{
+    subsetter_options options = options_of(row);
+    options.drop |= SUBSETTER_DROP_NAMES | SUBSETTER_DROP_GLYPH_NAMES;
+    const subsetter_pdf_options of_pdf = {sizeof of_pdf, options.tokens, options.depth, options.drop, options.bytes, 0, 0, 0, 0, 0, 0, {0, 0}};
+    size_t *ends = room((row->glyph_count + 1) * sizeof *ends);
+    memset(ends, 0, (row->glyph_count + 1) * sizeof *ends);
+    subsetter_made made;
+    subsetter_pdf_font font;
+    uint32_t status = subsetter_make_embedded_at(row->font, row->font_size, row->index, row->coordinates, row->coordinate_count,
+        row->glyphs, row->glyph_count, &options, &made);
+    uint32_t found = subsetter_make_pdf_font(row->font, row->font_size, row->index, row->coordinates, row->coordinate_count,
+        row->glyphs, row->glyph_count, NULL, 0, ends, row->glyph_count, &of_pdf, &font);
+    /* (outlines in `glyf` want a `maxp` there) */
+    check(found == status || (found == 2 && status == 0 && !has_bytes(row, "maxp")), "a font for a PDF", row->words[1]);
+    int is_there = found == 0 && status == 0;
+    if (is_there) {
+        check(is_within(font.program, font.program_size, made.font, made.font_size), "its program", row->words[1]);
+        check(font.cid_count == made.cid_count && is_same(font.cids, made.cids, 2 * made.cid_count), "its CIDs", row->words[1]);
+        check(font.width_count >= made.width_count && is_same(font.widths, made.widths, 4 * made.width_count), "its widths", row->words[1]);
+    }
+    subsetter_free(&made);
+    subsetter_free_pdf_font(&font);
+    __real_free(ends);
+    return is_there;
+}
+#endif
+
 /* Each list alone is given back, by its own count; those of no items aren't. (A DLL may have another malloc than its program.) */
 static void check_lists_alone(void)
 {
@@ -803,13 +925,14 @@ static void check_embedding_words(const struct row *row)
 static void check_words(const struct row *row)
 {
     static const struct {
-        uint32_t words[6];
+        uint32_t words[70];
         size_t count;
         uint32_t status;
     } lists[] = {
         {{0}, 0, 0}, {{4}, 1, 0}, {{8, 0}, 2, 0}, {{16, 1, 1, 7}, 4, 0}, {{20, 0, 0, 0, 164}, 5, 0},
         {{20, 0, 0, 0, 163}, 5, 5}, {{16, 0, 256, 0}, 4, 10}, {{16, 0, 257, 0}, 4, 10}, {{16, 0, 65537, 0}, 4, 10},
-        {{16, 0, 0, 8}, 4, 10}, {{24, 0, 0, 0, 0, 0}, 6, 10}, {{4, 0}, 2, 10}, {{20}, 1, 10},
+        {{16, 0, 0, 8}, 4, 10}, {{24, 0, 0, 0, 0, 0}, 6, 10}, {{28}, 7, 10}, {{32}, 8, 10}, {{52}, 13, 10}, {{276}, 69, 10},
+        {{4, 0}, 2, 10}, {{20}, 1, 10}, {{276}, 5, 10}, {{65556}, 5, 10}, {{16777236}, 5, 10}, {{2147483668u}, 5, 10}, {{5}, 1, 10},
     };
     for (size_t i = 0; i < sizeof lists / sizeof *lists; i++)
         check_word_list(row, lists[i].words, lists[i].count, lists[i].status);
@@ -913,7 +1036,10 @@ static void check_threads(void)
 
 int main(int argc, char **argv)
 {
-    int words_checked = 0, ends_checked = 0;
+    int words_checked = 0, ends_checked = 0, wide_checked = 0, faces_checked = 0;
+#ifndef SUBSETTER_BRIEF
+    int pdf_checked = 0;
+#endif
 #ifndef SUBSETTER_SHARED
     int openings_checked = 0;
 #endif
@@ -954,6 +1080,27 @@ int main(int argc, char **argv)
             words_checked = 1;
         }
     check(words_checked, "the row whose font is asked for by words", "sid_keyed");
+    for (size_t i = 0; i < row_count; i++) {
+        const struct row *row = &rows[i];
+        if (strcmp(row->words[1], "embedded_within") == 0) {
+            check_wide_options(row);
+            wide_checked++;
+        }
+        if (strcmp(row->words[2], "two_faces") == 0 && row->status == 0 && !row->varies) {
+            check_wide_faces(row);
+            faces_checked++;
+        }
+#ifndef SUBSETTER_BRIEF
+        /* (a font is opened before it is seen that all glyphs are asked for) */
+        if (row->embeds && row->glyph_count < 1000)
+            pdf_checked += check_pdf(row);
+#endif
+    }
+    check(wide_checked == 1, "the row whose options have all their bits", "embedded_within");
+    check(faces_checked > 2, "rows of faces", "two_faces");
+#ifndef SUBSETTER_BRIEF
+    check(pdf_checked > 20, "rows whose fonts are made for a PDF", "a font for a PDF");
+#endif
     for (size_t i = 0; i < row_count; i++)
         if (rows[i].coordinate_count == 1 && rows[i].coordinates[0].value == INT32_MAX && rows[i].status == 0) {
             check_last_bit(&rows[i]);

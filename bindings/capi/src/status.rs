@@ -51,7 +51,7 @@ pub fn status_text(status: u32) -> &'static [u8] {
 }
 
 /// The numbers of a version such as `0.2.6+1` in one, eight bits each.
-const fn version_of(text: &[u8]) -> u32 {
+pub const fn version_of(text: &[u8]) -> u32 {
     let (mut version, mut number, mut at) = (0, 0, 0);
     while at < text.len() {
         if text[at].is_ascii_digit() {

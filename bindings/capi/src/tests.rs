@@ -4,7 +4,7 @@ use crate::buffers::Sizes;
 use crate::calls::*;
 use crate::fonts_for_pdf::*;
 use crate::making::{make, Made};
-use crate::status::{status_text, DONE, PANICKED, TOO_SMALL, VERSION};
+use crate::status::{status_text, version_of, DONE, PANICKED, TOO_SMALL, VERSION};
 use fonts::capi::Coordinate;
 use fonts::Embedded;
 use std::alloc::{alloc, dealloc, realloc, Layout};
@@ -332,6 +332,14 @@ fn blocks_have_their_alignment_and_keep_their_bytes() {
                 assert!(!block.is_null() && block as usize % align == 0, "{many:?}");
                 let kept = std::slice::from_raw_parts(block, size);
                 assert!(kept.iter().all(|it| *it == number as u8 + 1), "{many:?}");
+            }
+            // (each has all of its new bytes to itself)
+            for (number, block) in larger.into_iter().enumerate() {
+                block.write_bytes(number as u8 + 7, 3 * size);
+            }
+            for (number, block) in larger.into_iter().enumerate() {
+                let all = std::slice::from_raw_parts(block, 3 * size);
+                assert!(all.iter().all(|it| *it == number as u8 + 7), "{many:?}");
                 dealloc(block, many);
             }
         }
@@ -349,4 +357,74 @@ fn the_version_is_that_of_the_repository() {
     let wanted = numbers.iter().fold(0, |all, it| all << 8 | it);
     assert_eq!((numbers.len(), subsetter_version()), (4, wanted));
     assert_eq!(VERSION, wanted);
+}
+
+#[test]
+fn each_number_of_a_version_has_eight_bits() {
+    let versions = [
+        ("0.0.0+0", 0),
+        ("1.2.3+4", 0x0102_0304),
+        ("10.20.30+40", 0x0a14_1e28),
+        ("255.254.199+108", 0xfffe_c76c),
+    ];
+    for (text, wanted) in versions {
+        assert_eq!(version_of(text.as_bytes()), wanted, "{text}");
+    }
+}
+
+/// What this package is for others: for Cargo, for cargo-c, and for whom that reads it. A version is looked at elsewhere.
+const MANIFEST: &str = r#"
+[package]
+name = "subsetter-capi"
+edition = "2021"
+rust-version = "1.63"
+description = "The C library libsubsetter from the crate subsetter, for every platform that Rust has"
+license = "MIT OR Apache-2.0"
+build = "build.rs"
+include = ["/src", "/build.rs", "/README.md", "/LICENSE", "/NOTICE"]
+publish = false
+[lib]
+name = "subsetter"
+crate-type = ["cdylib", "staticlib"]
+doc = false
+doctest = false
+[dependencies.fonts]
+package = "subsetter"
+path = "../rust"
+default-features = false
+features = ["variable-fonts"]
+[features]
+capi = []
+[profile.release]
+panic = "unwind"
+lto = true
+codegen-units = 1
+strip = true
+[package.metadata.capi.header]
+name = "subsetter"
+generation = false
+subdirectory = false
+[package.metadata.capi.library]
+name = "subsetter"
+version_suffix_components = 1
+[package.metadata.capi.pkg_config]
+name = "subsetter"
+filename = "subsetter"
+description = "Fonts cut down to some of their glyphs, for embedding in PDF"
+[package.metadata.capi.install.include]
+asset = [{ from = "../c/subsetter.h", to = "" }]
+[workspace]
+"#;
+
+#[test]
+fn the_manifest_says_what_it_promises() {
+    let is_said = |it: &&str| {
+        let empty_or_comment = it.is_empty() || it.starts_with('#');
+        !empty_or_comment && !it.starts_with("version = ")
+    };
+    let lines = include_str!("../Cargo.toml").lines().filter(is_said);
+    assert_eq!(
+        lines.collect::<Vec<_>>(),
+        MANIFEST.trim().lines().collect::<Vec<_>>()
+    );
 }
