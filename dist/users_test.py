@@ -27,8 +27,8 @@ class World:
     `fails` is the number of the command that ends with an error."""
     faults, fails, calls, made, tools = {}, 0, [], b"the subset", "/tools"
 
-    def __init__(self, room, root, is_hidden):
-        self.room, self.root, self.is_hidden, self.kit = room, root, is_hidden, "/opt/kit"
+    def __init__(self, room, _root, _is_hidden):
+        self.room, self.kit = room, "/opt/kit"
         World.calls = []
 
     def sees(self, *folders):

@@ -218,7 +218,7 @@ def check_refused(room, log):
     check(sorted(os.listdir(empty)) == ["README.md", "subsetter", "subsetter_build.py"], f"what failed leaves {os.listdir(empty)}")
     # (each package needs its manifest: a folder of the name isn't one)
     os.makedirs(os.path.join(empty, "crates", "capi"))
-    ran = built_in(empty, "build_sdist")
+    ran = built_in(empty, "build_wheel")
     check(ran.returncode == 1 and "subsetter: the packages capi and rust are neither in" in ran.stdout, f"a folder without a manifest: {ran.stdout[-300:]}")
     check(subsetter_build.get_requires_for_build_wheel() == subsetter_build.get_requires_for_build_sdist() == [], "what is required")
     settings = re.sub(r"#.*\n", "", read(HERE, "pyproject.toml").decode())

@@ -461,7 +461,7 @@ class Wide:
     def __float__(self):
         raise OverflowError("too large")
 
-    def __gt__(self, other):
+    def __gt__(self, _other):
         if isinstance(self.answer, Exception):
             raise self.answer
         return self.answer
@@ -641,6 +641,46 @@ def check_texts():
     check("`libsubsetter.so` (on Windows `subsetter.dll`, on macOS `libsubsetter.dylib`)" in subsetter.__doc__, "the library's names")
 
 
+# Of each call how many clauses the typings of JavaScript have too, and the names and numbers that its docstring has, in their order.
+SAID = {
+    "subset": (23, "data index glyphs tokens depth most_bytes OverflowError hinting cvt_ fpgm prep names name glyph_names post coordinates CFF_ tokens CFF2 glyf CFF_ CFF_ Error MalformedFont fvar avar gvar HVAR "
+                   "Unimplemented avar OverflowError CFF2 TypeError ValueError", "0 0 0 65535 0 1 4294967295 1000000 1 255 64 1 4294967295 3.0 650 87.5 65536 2 1 2 16"),
+    "embed": (4, "subset coordinates MalformedFont hmtx head", "0"),
+    "glyphs_of": (8, "cmap pdf_font data index subset Error MalformedFont InvalidText NotImplementedError", "0 4 12"),
+    "pdf_font": (11, "shown subset program CFF_ CFF_ codes vertical bounds cid_set tag rights fsType OS/2 Error embed NotPermitted InvalidText NotImplementedError glyphs_of", "36 5 7 1 1 2 256 16"),
+    "PdfFont.objects": (10, "first OverflowError first", "0 32"), "PdfFont.sheet": (5, "", "36 12 16"),
+}
+
+
+def check_words():
+    """A docstring keeps what it shares with the typings of JavaScript, clause by clause, and the names and numbers that it has."""
+    other = " ".join(re.sub(r"^\s*\*(?: |$)", " ", read("../js/subsetter.d.mts"), flags=re.M).split())
+    for name, (count, names, numbers) in SAID.items():
+        clauses = [it.strip() for it in re.split(r"[.,:;()](?:\s|$)", TEXTS[name])]
+        both = [it for it in clauses if len(it.split()) >= 3 and it in other]
+        check(len(both) >= count, f"{name} shares {len(both)} clauses with JavaScript, and not {count}: {both}")
+        found = [it.replace(" ", "_") for it in re.findall(r"`([^`]+)`", TEXTS[name])]
+        check(found == names.split(), f"{name} names {found}")
+        found = re.findall(r"\d[\d.,]*\d|\d", TEXTS[name])
+        check(found == numbers.split(), f"{name} has the numbers {found}")
+    found = re.findall(r"`([^`]+)`", subsetter.__doc__)
+    check(found == ["libsubsetter.so", "subsetter.dll", "libsubsetter.dylib", "bindings/c/out", "OverflowError", "from subsetter import *"], f"the module's docstring names {found}")
+    # What is left out of a font is what the docstring says.
+    lacking = {name: {*tables_of(full())} - {*tables_of(full(**{name: False}))} for name in ("hinting", "names", "glyph_names")}
+    check(lacking == {"hinting": {"cvt ", "fpgm", "prep"}, "names": {"name"}, "glyph_names": set()}, f"what is left out: {lacking}")
+    check([full(glyph_names=it)[at:at + 4] for it in (True, False) for at in [tables_of(full(glyph_names=it))["post"]]] == [b"\0\2\0\0", b"\0\3\0\0"], "post without the names of glyphs")
+
+
+def full(**choices):
+    return subsetter.subset(of_rows("full"), [1], **choices)
+
+
+def tables_of(font):
+    """Where each table of a font stands."""
+    heads = (font[at:at + 16] for at in range(12, 12 + 16 * font[5], 16))
+    return {it[:4].decode(): int.from_bytes(it[8:12], "big") for it in heads}
+
+
 def check_numbers():
     """The numbers of the documents are those of the module."""
     text = TEXTS["subset"]
@@ -741,7 +781,7 @@ def check_tests():
 
 def main():
     parts = [check_signatures, check_types, check_permissions, check_errors, check_declarations, check_passed, check_refusals, check_messages, check_forms, check_as_embedded, check_copies,
-             check_given_back, check_texts, check_numbers, check_tests]
+             check_given_back, check_texts, check_words, check_numbers, check_tests]
     for part in parts:
         before = check.count
         part()
