@@ -217,8 +217,8 @@ def check_baseline(tests):
     tests.same("what each processor has", one.wrong, [])
     one.baseline("a library", assembled(room, [*EACH, *LATER]))
     names = sorted({it.removeprefix("lock ").split()[0] for it in LATER})
-    # (not each objdump writes how wide crc32 is)
-    found = [it + "b" * (it == "crc32") for it in one.wrong[0].partition(": ")[2].split(", ")]
+    # (not each objdump writes how wide crc32 is, and there are names for halves of pclmulqdq)
+    found = ["pclmulqdq" if it.startswith("pclmul") else it + "b" * (it == "crc32") for it in one.wrong[0].partition(": ")[2].split(", ")]
     tests.same("what some lack", (len(one.wrong), sorted(found)), (1, names))
     for lines in (LATER[:1], LATER[-1:]):
         one = looker()
@@ -359,7 +359,7 @@ def check_zip(tests):
     ]
     for change, said in faults:
         found = wrong(change)
-        tests.same(f"a fault for Windows ({said}): {found}", [said in it for it in found], [True])
+        tests.same(f"a fault for Windows ({said}): {found}", any(said in it for it in found), True)
     for said, wanted in ((exported(calls[1:]), "its DLL shows"), (exported([*calls, "more"]), "its DLL shows"), (exported([]), "its DLL shows"), (exported(calls).replace("msvcrt.dll", "libgcc_s_seh-1.dll"), "its DLL needs ['libgcc_s_seh-1.dll']"),
                          (exported(calls).replace("DLL Name", "Name"), "its DLL needs []")):
         found = wrong(said=said)
