@@ -6,6 +6,7 @@ import hashlib
 import io
 import json
 import os
+import re
 import stat
 import sys
 import tarfile
@@ -19,7 +20,7 @@ import elf
 import kit
 import packages
 from packages import File
-from testing import HERE, ROOT, environment, instead, make, put, read
+from testing import HERE, ROOT, environment, instead, make, put, read, test
 
 VERSION = "1.2.3+4"
 
@@ -401,7 +402,8 @@ def check_copied(tests):
 def check_tools_of_targets(tests):
     """Where the tools are, where nothing is said and where something is; and the variables of all that Cargo and make are called for."""
     root = clone(tests.new())
-    for given, folder in ((None, f"{root}/out/targets"), ("", f"{root}/out/targets"), (f"{root}/out/../out/targets", f"{root}/out/targets")):
+    # (a relative folder is read from where dist/make is called, and bindings/targets is called elsewhere)
+    for given, folder in ((None, f"{root}/out/targets"), ("", f"{root}/out/targets"), (f"{root}/out/../out/targets", f"{root}/out/targets"), (os.path.relpath(f"{root}/out/targets"), f"{root}/out/targets")):
         for name, triple, flags in (("windows", "W", " -C link-arg=-Wl,--no-insert-timestamp"), ("s390x", "S", "")):
             room, noted = tests.new(), []
 
@@ -413,7 +415,7 @@ def check_tools_of_targets(tests):
                 one.make("all")
                 one.cargo()
             at = f"{room}/cargo-{name}"
-            tests.same(f"the tools for {name} in {given}", (noted[0], one.tools, one.tool("cc"), one.built), (([f"{root}/bindings/targets", given or folder, name], None), f"{folder}/{name}", f"{folder}/{name}/cc", f"{at}/target/{triple}/release"))
+            tests.same(f"the tools for {name} in {given}", (noted[0], one.tools, one.tool("cc"), one.built), (([f"{root}/bindings/targets", folder, name], None), f"{folder}/{name}", f"{folder}/{name}/cc", f"{at}/target/{triple}/release"))
             wanted = {"RUSTFLAGS": f"--remap-path-prefix={at}/sources=.{flags}", "CARGO_TARGET_DIR": f"{at}/target", "MADE_TEST": "given", "PATH": os.environ["PATH"]}
             tests.same(f"the variables for {name}", [{it: env[it] for it in wanted} for _, env in noted[1:]], [wanted] * 2)
             tests.same(f"what is called for {name}", ([words[0] for words, _ in noted[1:]], noted[1][0][-1], noted[2][0][1:]), (
@@ -436,5 +438,40 @@ def check_left(tests):
     tests.same("modes", f"{stat.S_IMODE(os.stat(f'{room}/to/y').st_mode):o}", "644")
 
 
-GROUPS = [check_main, check_put_words, check_modes, check_c_files, check_linux, check_wheels, check_windows, check_rust, check_pack, check_bills, check_commands, check_readelf, check_bytes, check_copied,
+# ---- documents
+
+def check_documents(tests):
+    """What the texts of packages name is there: variables, features, files, versions and statuses."""
+    words = " ".join
+    texts = {it: words(read(HERE, it).decode().split()) for it in ("linux.md", "portable.md", "windows.md", "wheel.md", "crate.md", "proved.txt")}
+    native, builds, header = (read(ROOT, it).decode() for it in ("bindings/rust-native/Cargo.toml", "bindings/rust-native/build.rs", "bindings/c/subsetter.h"))
+    [variable] = set(re.findall(r"\b[A-Z]+_[A-Z_]+\b", texts["crate.md"]))
+    tests.same("the variable of the native crate", builds.count(f'env::var_os("{variable}")'), 1)
+    [feature] = re.findall(r"The feature `([\w-]+)` adds", texts["crate.md"])
+    tests.same("its feature", (f"\n{feature} = []\n" in native, f'feature = "{feature}"' in read(ROOT, "bindings/rust-native/src/lib.rs").decode(), "\npub mod pdf" in read(ROOT, "bindings/rust-native/src/lib.rs").decode()), (True, True, True))
+    tests.same("the original crate", re.findall(r"the crate `subsetter` (\d[\d.]*\d)", texts["crate.md"]), [bill.ORIGINAL])
+    tests.same("the targets of the native crate", re.findall(r"for Linux on (\w+) and (\w+) \(`native/`\)", texts["crate.md"]), [tuple(kit.TARGETS)])
+    soname = re.search(r"^SONAME = (.*)$", read(ROOT, "bindings/c/Makefile").decode(), re.M)[1]
+    for name in ("linux.md", "portable.md"):
+        tests.same(f"what {name} names", (f"`lib/{soname}`" in texts[name], "`find_package(subsetter CONFIG)` gives `subsetter::subsetter`, the shared library, and `subsetter::static`." in texts[name]), (True, True))
+    [status] = set(re.findall(r"answers (\d+), of unknown status", header))
+    tests.same("the status of what fails", [re.findall(r"Status (\d+) would", texts[it]) for it in ("portable.md", "windows.md")], [[status]] * 2)
+    front = "For any bytes a call returns a font that has exactly the requested glyphs in the requested order, then those that they need, each drawing as in the source; or "
+    ends = {"linux.md": "it returns an error, which names a fault that the font has, or out of memory. It never reads outside what it was given.", "crate.md": "an error that names a fault of the font. That is proved of the library."}
+    other = "it returns an error, which names a fault that the font has, or out of memory. That is proved of the sources that the crate is generated from, for 64 bits. Not proved are the generator, rustc and"
+    ends.update({"portable.md": other, "windows.md": other, "wheel.md": "it raises an error, which names a fault that the font has, or out of memory. @PROVED@That is proved of the library"})
+    for name, end in ends.items():
+        tests.same(f"the promise of {name}", texts[name].count(f"**The promise.** {front}{end}"), 1)
+    for it in ("the calls that give memory back", "the inline functions of the header", "three calls of the heap", "the C compiler, the linker, the C library"):
+        tests.same(f"what is trusted: {it}", texts["linux.md"].count(it), 1)
+    tests.same("what isn't proved", ("The files for Windows, for s390x and for npm come from the crate" in texts["proved.txt"], os.path.exists(f"{ROOT}/.ci/run"), "`.ci/run`" in texts["proved.txt"]), (True, True, True))
+    tests.same("the tags of lines", re.findall(r"`([\w-]+)=\w*`", texts["proved.txt"]), ["logic", "target", "logic-built", "libraries-built", "statements", "incremental"])
+    for name, script in (("dist/make", make), ("dist/test", test)):
+        tests.same(f"the parts of {name}", re.findall(r"^    (\w+) {2,}", script.__doc__, re.M), script.PARTS)
+    options = set(re.findall(r"--(\w+)", make.__doc__))
+    tests.same("the words of dist/make", options, set(make.arguments([])))
+    tests.same("what may be skipped", "(aarch64, js, windows, s390x, program, lines)" in words(test.__doc__.split()), ", ".join(test.MADE) == "aarch64, js, windows, s390x, program, lines")
+
+
+GROUPS = [check_documents, check_main, check_put_words, check_modes, check_c_files, check_linux, check_wheels, check_windows, check_rust, check_pack, check_bills, check_commands, check_readelf, check_bytes, check_copied,
           check_tools_of_targets, check_left]

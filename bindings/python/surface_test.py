@@ -498,7 +498,10 @@ def check_messages():
             is_refused(call, TypeError, f"coordinates are a mapping of tags to numbers, and no {type(coordinates).__name__}", TTF, [], coordinates=coordinates)
         for it in ("tokens", "depth", "most_bytes", "index"):
             least, most = RANGES[it]
-            for number in (10 ** 5000, -10 ** 5000, -1 if least == 0 else 0, -(1 << 32), -(1 << 32) + 1, 256, 257, 511, 1 << 16, (1 << 16) + 1, (1 << 32) + 255, 1 << 63, 1 << 64):
+            for number in (10 ** 5000, -10 ** 5000):
+                error = raised(call, TTF, [], **{it: number})
+                check(type(error) is ValueError and str(error) == f"{it} is {shown(number)}, and none from {least} to {most}", f"{name}, {it} of 5001 digits: {error!r:.200}")
+            for number in (-1 if least == 0 else 0, -(1 << 32), -(1 << 32) + 1, 256, 257, 511, 1 << 16, (1 << 16) + 1, (1 << 32) + 255, 1 << 63, 1 << 64):
                 if not least <= number <= most:
                     is_refused(call, ValueError, f"{it} is {shown(number)}, and none from {least} to {most}", TTF, [], **{it: number})
     check([subsetter._fixed("wght", Wide(it)) for it in (True, False)] == [0x7FFFFFFF, -0x80000000], "a number past all floats")
