@@ -334,6 +334,41 @@ def check_users(tests):
         tests.same("the kit", (os.path.basename(os.path.dirname(found)), os.path.exists(f"{found}/bin/rt")), (os.path.basename(tests.room), True))
 
 
+def check_room(tests):
+    """How a root is made: folders and files of the machine are mounted in it, links are copied, what isn't there is left out; then the command starts."""
+    here, root, log = tests.new(), tests.new(), os.path.join(tests.new(), "log")
+    put("x", here, "folder", "below")
+    put("y", here, "deep", "file")
+    os.symlink("deep/file", f"{here}/link")
+    os.symlink("nowhere", f"{here}/broken")
+    mount = '#!/bin/sh\necho "mount $*" >> "$LOG"\n[ "$(wc -l < "$LOG")" != "${FAILS:-0}" ]\n'
+    tools = os.path.dirname(put(mount, tests.new(), "tools", "mount", mode=0o755))
+    put('#!/bin/sh\nfor it; do echo "chroot $it" >> "$LOG"; done\nexit 7\n', tools, "chroot", mode=0o755)
+    paths = [f"{here}/{it}" for it in ("folder", "deep/file", "link", "broken", "none")]
+    mounted = ["mount -t tmpfs -o mode=755 none " + root, f"mount --rbind {here}/folder {root}{here}/folder", f"mount --bind {here}/deep/file {root}{here}/deep/file"]
+    tests.same("the root's command", test.ROOM.count("exec /usr/sbin/chroot "), 1)
+
+    def run(fails=0):
+        put("", log)
+        words = ["sh", "-c", test.ROOM.replace("/usr/sbin/chroot", f"{tools}/chroot"), "sh", root, "/in it", *paths, "--", "a program", "--", "b"]
+        ran = subprocess.run(words, env={**os.environ, "PATH": f"{tools}:{os.environ['PATH']}", "LOG": log, "FAILS": str(fails)}, capture_output=True, text=True)
+        return ran.returncode, read(log).decode().splitlines()
+    status, said = run()
+    end = ["chroot " + root, "chroot sh", "chroot -c", "chroot cd \"$0\" && exec \"$@\"", "chroot /in it", "chroot a program", "chroot --", "chroot b"]
+    tests.same("what is mounted", (status, said), (7, mounted + end))
+    found = {os.path.relpath(os.path.join(at, it), root + here) for at, folders, names in os.walk(root + here) for it in folders + names}
+    tests.same("what is in it", (found, os.readlink(f"{root}{here}/link"), os.readlink(f"{root}{here}/broken"), os.path.getsize(f"{root}{here}/deep/file"), f"{os.stat(root + '/tmp').st_mode & 0o7777:o}"),
+               ({"folder", "deep", "deep/file", "link", "broken"}, "deep/file", "nowhere", 0, "1777"))
+    for number in range(1, 4):
+        shutil.rmtree(root)
+        os.mkdir(root)
+        status, said = run(number)
+        tests.same(f"where mount {number} fails", (status != 0, said), (True, mounted[:number]))
+    os.mkdir(f"{here}/down")
+    ran = subprocess.run(["sh", "-c", 'cd "$0" && exec "$@"', f"{here}/down", "pwd"], capture_output=True, text=True)
+    tests.same("where it starts", (ran.stdout, 'cd "$0" && exec "$@"' in test.ROOM), (f"{here}/down\n", True))
+
+
 def check_again(tests):
     """The second time: where, with which words and variables, and what is no longer the same."""
     names, where = {"a": b"1", "SHA256SUMS": b"2"}, tests.new()
@@ -533,4 +568,4 @@ def check_user_mjs(tests):
         tests.same(f"a line of user.mjs: {line}", text.count(line), 1)
 
 
-GROUPS = [check_parts_of_users, check_faults_of_users, check_reference, check_tools_of_users, check_pythons, check_readmes, check_files_and_fails, check_users, check_again, check_user_py, check_user_c, check_user_rs, check_user_mjs]
+GROUPS = [check_parts_of_users, check_faults_of_users, check_reference, check_tools_of_users, check_pythons, check_readmes, check_files_and_fails, check_users, check_room, check_again, check_user_py, check_user_c, check_user_rs, check_user_mjs]

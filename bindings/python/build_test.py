@@ -237,8 +237,21 @@ def check_module(room):
     real, subsetter_build.HERE = subsetter_build.HERE, os.path.join(room, "module")
     try:
         found = subsetter_build.module()
+        for text, wanted in (("10.20.30+45", "10.20.30.post45"), ("0.2.6+1", "0.2.6.post1"), ("1.0.0+10", "1.0.0.post10")):
+            with open(os.path.join(folder, "__init__.py"), "w", encoding="utf-8") as file:
+                file.write(f'first = "9.9.9+9"\n__version__ = "{text}"\n')
+            check(subsetter_build.version() == wanted, f"the version {text} is {subsetter_build.version()}")
     finally:
         subsetter_build.HERE = real
+    with open(os.path.join(folder, "__init__.py"), "w", encoding="utf-8") as file:
+        file.write("the __init__.py")
+    real = sysconfig.get_platform
+    try:
+        for platform, wanted in (("linux-x86_64", "linux_x86_64"), ("macosx-10.9-universal2", "macosx_10_9_universal2"), ("win-amd64", "win_amd64"), ("win32", "win32")):
+            sysconfig.get_platform = lambda: platform
+            check(subsetter_build.tag("") == wanted, f"the tag of {platform} is {subsetter_build.tag('')}")
+    finally:
+        sysconfig.get_platform = real
     check(list(found.items()) == [(f"subsetter/{it}", f"the {it}".encode()) for it in ("__init__.py", "a.py", "b.py", "py.typed", "z.py")], f"the files of the module: {found}")
     found = subsetter_build.below(os.path.join(room, "module"), "subsetter")
     check(found == {f"subsetter/{it}": f"the {it}".encode() for it in names}, f"the files below a folder: {found}")
