@@ -17,6 +17,7 @@ import zlib
 import bill
 import by_cargo
 import elf
+import inspected
 import kit
 import packages
 from packages import File
@@ -466,6 +467,11 @@ def check_documents(tests):
         tests.same(f"what is trusted: {it}", texts["linux.md"].count(it), 1)
     tests.same("what isn't proved", ("The files for Windows, for s390x and for npm come from the crate" in texts["proved.txt"], os.path.exists(f"{ROOT}/.ci/run"), "`.ci/run`" in texts["proved.txt"]), (True, True, True))
     tests.same("the tags of lines", re.findall(r"`([\w-]+)=\w*`", texts["proved.txt"]), ["logic", "target", "logic-built", "libraries-built", "statements", "incremental"])
+    versions = dict(zip(*(re.split(r", ", it) for it in re.search(r"^(RUST, .*) = (.*)$", read(ROOT, "bindings/targets").decode(), re.M).groups())))
+    used = {it.upper(): json.dumps(number) for parts in by_cargo.LINKED.values() for it, number in parts.items()}
+    tests.same("the versions of what bindings/targets unpacks", used, {it: versions[it] for it in ("RUST", "MINGW", "GCC")})
+    windows = set(re.findall(r'"([\w.]+\.dll)"', re.search(r"^OF_WINDOWS = \{(.*)\}$", read(ROOT, "bindings/python/install-test").decode(), re.M)[1]))
+    tests.same("what every Windows has", {it.lower() for it in inspected.OF_WINDOWS} - {"api-ms-win-core-synch-l1-2-0.dll"}, windows)
     for name, script in (("dist/make", make), ("dist/test", test)):
         tests.same(f"the parts of {name}", re.findall(r"^    (\w+) {2,}", script.__doc__, re.M), script.PARTS)
     options = set(re.findall(r"--(\w+)", make.__doc__))
