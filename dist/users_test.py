@@ -334,6 +334,31 @@ def check_users(tests):
         tests.same("the kit", (os.path.basename(os.path.dirname(found)), os.path.exists(f"{found}/bin/rt")), (os.path.basename(tests.room), True))
 
 
+def check_seen(tests):
+    """Which folders of tools users see: those outside of /usr, with what Node and Cargo have beside them; and none that has rt."""
+    room, home = tests.new(), os.path.expanduser("~/.pyenv")
+    link = os.path.join(room, "c", "bin", "cargo")
+    put("", room, "rustup", "rustup")
+    os.makedirs(os.path.dirname(link))
+    os.symlink(f"{room}/rustup/rustup", link)
+    put("", room, "k", "bin", "rt")
+    for tools, path, own in (({"cargo": "/opt/c/bin/cargo", "node": "/opt/n/bin/node", "cc": "/usr/bin/cc"}, ["/opt/c/bin", "/opt/n/bin"], ["/opt/c/bin", "/opt/n/bin", "/opt/n", "/opt/c"]), ({"cargo": link}, [f"{room}/c/bin"], [f"{room}/c/bin"]), ({}, [], []),
+                             ({"node": f"{room}/k/bin/node", "cc": "/bin/cc"}, ["/bin"], [f"{room}/k"]), ({"cargo": "/usr/bin/cargo", "node": "/usr/bin/node"}, [], [])):
+        for found in (None, "/opt/k/bin/rt"):
+            def which(name, path=None):
+                return found if path else tools.get(name, f"{room}/k/bin/rt" if name == "rt" else None)
+            with environment(RUSTUP_HOME="/rustup"), instead(test, shutil=types.SimpleNamespace(which=which), sys=types.SimpleNamespace(base_prefix="/opt/p")):
+                if found:
+                    tests.says(f"rt on the PATH of users with {tools}", lambda: test.Users(room, "/root", True), "rt is on the users' PATH", test.Wrong)
+                    continue
+                users = test.Users(room, "/root", True)
+            tests.same(f"the PATH with {tools}", users.env["PATH"].split(":"), list(dict.fromkeys([*path, "/usr/bin", "/bin"])))
+            tests.same(f"what is seen with {tools}", users.seen[10:], [*own, home, "/opt/p", "/rustup", room])
+            tests.same("the kit", users.kit, f"{os.path.realpath(room)}/k")
+    with instead(test, shutil=types.SimpleNamespace(which=lambda name, path=None: None)):
+        tests.same("no kit", test.Users(room, "/root", True).kit, None)
+
+
 def check_room(tests):
     """How a root is made: folders and files of the machine are mounted in it, links are copied, what isn't there is left out; then the command starts."""
     here, root, log = tests.new(), tests.new(), os.path.join(tests.new(), "log")
@@ -568,4 +593,4 @@ def check_user_mjs(tests):
         tests.same(f"a line of user.mjs: {line}", text.count(line), 1)
 
 
-GROUPS = [check_parts_of_users, check_faults_of_users, check_reference, check_tools_of_users, check_pythons, check_readmes, check_files_and_fails, check_users, check_room, check_again, check_user_py, check_user_c, check_user_rs, check_user_mjs]
+GROUPS = [check_parts_of_users, check_faults_of_users, check_reference, check_tools_of_users, check_pythons, check_readmes, check_files_and_fails, check_users, check_seen, check_room, check_again, check_user_py, check_user_c, check_user_rs, check_user_mjs]
