@@ -8,6 +8,7 @@ given back; and its documents, beside the header, the typings of JavaScript and 
 
 import ast
 import builtins
+import collections.abc
 import contextlib
 import copy
 import ctypes
@@ -19,6 +20,7 @@ import os
 import pickle
 import re
 import sys
+import typing
 
 from checks import Checks
 
@@ -204,6 +206,8 @@ def check_types():
         wanted = found.pop() if len(found) == 1 else f"one of {found}"
         wanted = f"Optional[{wanted}]" if "None" in shapes[key] else wanted
         check(annotation == wanted, f"{key} is {annotation}, and has {wanted}")
+    check(subsetter.Value == typing.Union[typing.SupportsFloat, typing.SupportsIndex], f"a value is {subsetter.Value}")
+    check(subsetter.Buffer is getattr(collections.abc, "Buffer", typing.Any), f"a buffer is {subsetter.Buffer}")
     check({type(it) for pair in subsetter.glyphs_of(TTF, "AH") for it in pair} == {int, str}, "the types of glyphs_of")
     check(type(subsetter.pdf_font(TTF, PAIRS).sheet()) is bytes, "the type of a sheet")
 
