@@ -155,7 +155,7 @@ def check_traces(tests):
     """Each place of the machine is looked for in each file."""
     home = os.path.expanduser("~") + "/"
     for host in ("builder-7", "abc"):
-        places = [ROOT, home, tempfile.gettempdir() + "/", "/opt/rattle", "/placeholder", *[host] * (len(host) > 3)]
+        places = [it for it in (ROOT, home, tempfile.gettempdir() + "/", "/opt/rattle", "/placeholder", host) if len(it) > 3]
         for place in [*places, "nothing", "abc"]:
             one = looker()
             one.packed = [("first", "a", b"clean"), ("name", "path", f"before {place} behind".encode()), ("last", "c", b"clean")]

@@ -317,7 +317,12 @@ def check_bills(tests):
 
 def check_commands(tests):
     """Where a command runs, with which variables, and what is kept of a long text."""
-    tests.same("where a command runs", kit.run(["pwd"]), f"{os.path.realpath(ROOT)}\n")
+    before = os.getcwd()
+    os.chdir("/")
+    try:
+        tests.same("where a command runs", kit.run(["pwd"]), f"{os.path.realpath(ROOT)}\n")
+    finally:
+        os.chdir(before)
     with environment(MADE_TEST="given"):
         tests.same("its variables", (kit.run(["sh", "-c", "echo $MADE_TEST"]), kit.run(["/bin/sh", "-c", "echo $MADE_TEST"], env={"MADE_TEST": "other"})), ("given\n", "other\n"))
     tests.same("what is no text", kit.run(["printf", r"a\377b"]), "a\ufffdb")
