@@ -53,9 +53,10 @@ def check_names(tests):
             tests.same(f"no {name} without {skip}", len(wrong(whole - {name})) > 0, True)
         for part in skip:
             for name in cargo[part]:
-                tests.same(f"{name} without {skip}", len(wrong(whole | {name})) > 0, True)
+                tests.same(f"{name} without {skip}", len(wrong(whole | {name, f"{name}.spdx.json"})) > 0, True)
     for name in ("more", "subsetter-1.2.3.post4-py3-none-manylinux_2_28_x86_64.whl", "subsetter-1.2.3.post5-py3-none-manylinux_2_17_x86_64.whl", "subsetter-1.2.3.post4-py3-none-any.whl", "subsetter-1.2.4+4.crate"):
-        tests.same(f"{name} too", len(wrong(whole | {name})) > 0, True)
+        for more in ({name}, {name, f"{name}.spdx.json"}):
+            tests.same(f"{sorted(more)} too", len(wrong(whole | more)) > 0, True)
     one = looker(folder=tests.new())
     tests.same("a file that isn't there", (one.read("none"), one.wrong), (b"", ["none isn't there"]))
     tests.same("the targets", [(it.targets, it.by_cargo, it.is_windows) for it in (looker(), looker(["aarch64"]), looker(["s390x", "windows"]))],
