@@ -49,9 +49,9 @@ class Target:
     """The tools of a target, the sources, and what Cargo made of them."""
 
     def __init__(self, name, room):
-        folder = os.environ.get("TARGETS") or os.path.join(ROOT, "out", "targets")
+        folder = os.path.abspath(os.environ.get("TARGETS") or os.path.join(ROOT, "out", "targets"))
         run([os.path.join(ROOT, "bindings", "targets"), folder, name])
-        self.name, self.tools, self.room = name, os.path.join(os.path.abspath(folder), name), os.path.join(room, f"cargo-{name}")
+        self.name, self.tools, self.room = name, os.path.join(folder, name), os.path.join(room, f"cargo-{name}")
         self.sources = copied(self.room)
         self.built = os.path.join(self.room, "target", text_of(self.tools, "triple").strip(), "release")
         # (no path of this machine is in the library)

@@ -7,6 +7,7 @@ the status 1 where one failed."""
 
 import base64
 import contextlib
+import gzip
 import hashlib
 import io
 import json
@@ -34,6 +35,7 @@ check = Checks("build: ")
 CARGO = """#!/bin/sh
 printf '%s\\n' "$@" > "$LOG"
 printf '%s' "${RUSTFLAGS-none}" > "$LOG.flags"
+echo a call >> "$LOG.calls"
 while [ $# -gt 0 ]; do
     case $1 in
     --target-dir) room=$2 ;;
@@ -41,6 +43,8 @@ while [ $# -gt 0 ]; do
     esac
     shift
 done
+ls -A "$room" > "$LOG.before"
+[ -z "${CARGO_MAKES_NOTHING-}" ] || exit 0
 for folder in release debug ${target:+"$target/release" "$target/debug"}; do
     mkdir -p "$room/$folder"
     for name in libsubsetter.so libsubsetter.dylib subsetter.dll libsubsetter.a; do
@@ -131,11 +135,16 @@ def check_wheel(room, target):
         subsetter_build.build_wheel(place, settings)
     check(read(place, name) == whole, "two wheels are the same bytes")
     # What pip is told before the wheel is made is what the wheel has.
-    folder = subsetter_build.prepare_metadata_for_build_wheel(place, settings)
-    check(folder == INFO, f"metadata in {folder}")
+    for _ in range(2):
+        folder = subsetter_build.prepare_metadata_for_build_wheel(place, settings)
+        check(folder == INFO, f"metadata in {folder}")
     found = {os.path.relpath(os.path.join(at, it), place): read(at, it) for at, _, names in os.walk(os.path.join(place, INFO)) for it in names}
     check(found == {path: data for path, data in wanted.items() if path.startswith(INFO) and not path.endswith("RECORD")}, f"metadata: {sorted(found)}")
     return parts
+
+
+# The rooms that Cargo had.
+ROOMS = []
 
 
 def check_cargo(log, target, folder):
@@ -144,6 +153,9 @@ def check_cargo(log, target, folder):
     check(words[:7] == ["build", "--release", "--offline", "--locked", "--manifest-path", at, "--target-dir"] and words[8:] == (["--target", target] if target else []),
           f"Cargo for {target or 'this machine'} is called with {words}")
     check(not os.path.exists(words[7]), "the room of Cargo is left")
+    check(read(f"{log}.before") == b"" and words[7] not in ROOMS, f"the room of Cargo has been another's: {words[7]}")
+    check(os.path.dirname(words[7]) == tempfile.gettempdir() and os.path.basename(words[7]).startswith("subsetter-"), f"the room of Cargo is {words[7]}")
+    ROOMS.append(words[7])
     return read(f"{log}.flags").decode()
 
 
@@ -179,14 +191,22 @@ def check_refused(room, log):
     error = ended(subsetter_build.build_wheel, empty, {"target": "mips-unknown-linux-gnu"})
     check(type(error) is SystemExit and str(error) == "subsetter: no tag is known for the target mips-unknown-linux-gnu", f"an unknown target: {error!r}")
     check(not os.path.exists(log), "Cargo is called for an unknown target")
-    for status in ("1", "101"):
-        with environment(CARGO_ENDS=status):
-            error = ended(subsetter_build.build_wheel, empty)
-        check(isinstance(error, subprocess.CalledProcessError) and error.returncode == int(status), f"Cargo ends with {status}: {error!r}")
+    for status in ("1", "101", "2", "255"):
+        for settings in (None, {"target": "s390x-unknown-linux-gnu"}):
+            with environment(CARGO_ENDS=status):
+                error = ended(subsetter_build.build_wheel, empty, settings)
+            check(isinstance(error, subprocess.CalledProcessError) and error.returncode == int(status), f"Cargo ends with {status}: {error!r}")
+    # (an earlier call made a library, in a room that isn't there any more)
+    for settings in (None, {"target": "x86_64-pc-windows-gnu"}):
+        with environment(CARGO_MAKES_NOTHING="1"):
+            error = ended(subsetter_build.build_wheel, empty, settings)
+        check(isinstance(error, FileNotFoundError), f"Cargo makes nothing: {error!r}")
+    os.remove(f"{log}.calls")
     with environment(PATH=empty):
         error = ended(subsetter_build.build_wheel, empty)
     least = re.search(r'^rust-version = "(.*)"$', read(ROOT, "bindings/capi/Cargo.toml").decode(), re.M)[1]
-    check(type(error) is SystemExit and "there is no cargo on the PATH" in str(error) and f"(Rust {least} or later)" in str(error), f"without Cargo: {error!r}")
+    said = f"subsetter: there is no cargo on the PATH, and the library is built by it (Rust {least} or later)"
+    check(type(error) is SystemExit and str(error) == said and not os.path.exists(f"{log}.calls"), f"without Cargo: {error!r}")
     check(f"(Rust {least} or later)" in read(HERE, "README.md").decode(), f"README.md names Rust {least}")
     check(os.listdir(empty) == [], f"what failed leaves {os.listdir(empty)}")
     # A folder without the packages of Rust.
@@ -194,10 +214,63 @@ def check_refused(room, log):
         shutil.copy(os.path.join(HERE, name), os.path.join(empty, name))
     shutil.copytree(os.path.join(HERE, "subsetter"), os.path.join(empty, "subsetter"), ignore=shutil.ignore_patterns("__pycache__", "*.so"))
     ran = built_in(empty, "build_wheel")
-    check(ran.returncode == 1 and "subsetter: the packages capi and rust are neither in" in ran.stdout, f"a folder alone: {ran.stdout[-300:]}")
+    check(ran.returncode == 1 and ran.stdout == f"subsetter: the packages capi and rust are neither in {empty}/crates nor beside {empty}\n", f"a folder alone: {ran.stdout[-300:]}")
+    check(sorted(os.listdir(empty)) == ["README.md", "subsetter", "subsetter_build.py"], f"what failed leaves {os.listdir(empty)}")
+    # (each package needs its manifest: a folder of the name isn't one)
+    os.makedirs(os.path.join(empty, "crates", "capi"))
+    ran = built_in(empty, "build_wheel")
+    check(ran.returncode == 1 and "subsetter: the packages capi and rust are neither in" in ran.stdout, f"a folder without a manifest: {ran.stdout[-300:]}")
     check(subsetter_build.get_requires_for_build_wheel() == subsetter_build.get_requires_for_build_sdist() == [], "what is required")
     settings = re.sub(r"#.*\n", "", read(HERE, "pyproject.toml").decode())
     check(settings == '[build-system]\nrequires = []\nbuild-backend = "subsetter_build"\nbackend-path = ["."]\n', f"pyproject.toml: {settings}")
+
+
+def check_module(room):
+    """The files of the module: each of Python's, and py.typed, in order; nothing that a build or Python left there."""
+    folder = os.path.join(room, "module", "subsetter")
+    os.makedirs(os.path.join(folder, "below.py"))
+    names = ["z.py", "b.py", "__init__.py", "a.pyi", "py.typed", "libsubsetter.so", "subsetter.dll", "a.pyc", "a.py~", "typed", "a.py"]
+    os.rmdir(os.path.join(folder, "below.py"))
+    for name in names:
+        with open(os.path.join(folder, name), "w", encoding="utf-8") as file:
+            file.write(f"the {name}")
+    real, subsetter_build.HERE = subsetter_build.HERE, os.path.join(room, "module")
+    try:
+        found = subsetter_build.module()
+        for text, wanted in (("10.20.30+45", "10.20.30.post45"), ("0.2.6+1", "0.2.6.post1"), ("1.0.0+10", "1.0.0.post10")):
+            with open(os.path.join(folder, "__init__.py"), "w", encoding="utf-8") as file:
+                file.write(f'first = "9.9.9+9"\n__version__ = "{text}"\n')
+            check(subsetter_build.version() == wanted, f"the version {text} is {subsetter_build.version()}")
+    finally:
+        subsetter_build.HERE = real
+    with open(os.path.join(folder, "__init__.py"), "w", encoding="utf-8") as file:
+        file.write("the __init__.py")
+    real = sysconfig.get_platform
+    try:
+        for platform, wanted in (("linux-x86_64", "linux_x86_64"), ("macosx-10.9-universal2", "macosx_10_9_universal2"), ("win-amd64", "win_amd64"), ("win32", "win32")):
+            sysconfig.get_platform = lambda: platform
+            check(subsetter_build.tag("") == wanted, f"the tag of {platform} is {subsetter_build.tag('')}")
+    finally:
+        sysconfig.get_platform = real
+    check(list(found.items()) == [(f"subsetter/{it}", f"the {it}".encode()) for it in ("__init__.py", "a.py", "b.py", "py.typed", "z.py")], f"the files of the module: {found}")
+    found = subsetter_build.below(os.path.join(room, "module"), "subsetter")
+    check(found == {f"subsetter/{it}": f"the {it}".encode() for it in names}, f"the files below a folder: {found}")
+    check(subsetter_build.below(folder, "a.py") == {"a.py": b"the a.py"} and subsetter_build.below(folder, "none") == {}, "a file by itself")
+
+
+def check_readme():
+    """What README.md names is what the build has."""
+    text = read(HERE, "README.md").decode()
+    [target] = re.findall(r"`pip wheel --no-index --config-settings target=(\S+) \./bindings/python`", text)
+    check(target in subsetter_build.TAGS and f"`py3-none-{subsetter_build.tag(target)}`" in text, f"README.md names the target {target}")
+    names = set(re.findall(r"`((?:lib)?subsetter\.(?:dll|so|dylib))`", text))
+    check(names == {subsetter_build.library_name(it) for it in (target, "x-apple-y")}, f"README.md names {names}")
+    check(text.endswith(f"\n\nLicence: `{subsetter_build.licence()}` (LICENSE, NOTICE).\n") and "(`py.typed`)" in text, "README.md names the licence and the types")
+    check(text.count("`pip install --no-index ./bindings/python`") == 1 and "Linux on x86-64 and aarch64" in text, "README.md: installing")
+    targets = set(re.findall(r'^    "(\w+)": \("\w+-unknown-linux-gnu"', read(ROOT, "dist/kit.py").decode(), re.M))
+    check(targets == {"x86_64", "aarch64"}, f"proved wheels are for {targets}")
+    named = set(re.findall(r"`(\w+)`", text)) & {"pdf_font", "objects", "glyphs_of", "NotImplementedError", "data"}
+    check(len(named) == 5, f"README.md names {named}")
 
 
 def built_in(folder, call):
@@ -224,6 +297,7 @@ def sources():
 def check_sdist(room, log):
     place = os.path.join(room, "sdist")
     os.mkdir(place)
+    os.remove(log)
     name = subsetter_build.build_sdist(place)
     check(name == f"{FRONT}.tar.gz" and os.listdir(place) == [name], f"the sdist is {name}")
     whole, wanted = read(place, name), {path: read(file) for path, file in sources().items()}
@@ -235,9 +309,12 @@ def check_sdist(room, log):
     for path, data in wanted.items():
         check(parts.get(f"{FRONT}/{path}") == data, f"{path} in the sdist")
     check({(it.mtime, it.mode, it.uid, it.gid, it.uname, it.gname, it.type) for it in members} == {(315532800, 0o644, 0, 0, "", "", tarfile.REGTYPE)}, "dates and owners")
-    check(whole[:8] == b"\x1f\x8b\x08\0\0\0\0\0", "the sdist has a name or a date in front")
-    subsetter_build.build_sdist(place)
-    check(read(place, name) == whole, "two sdists are the same bytes")
+    check(whole[:10] == b"\x1f\x8b\x08\0\0\0\0\0\x02\xff", "the sdist has a name or a date in front, or isn't the smallest")
+    raw = gzip.decompress(whole)
+    check(raw.count(b"ustar\x0000") == len(members) and len(raw) % 10240 == 0, "the sdist has other heads than those of files")
+    with environment(SOURCE_DATE_EPOCH="1", TZ="Asia/Tokyo", RUSTFLAGS="-C debuginfo=2"):
+        check(subsetter_build.build_sdist(place, {"target": "x86_64-pc-windows-gnu"}) == name, "an sdist for a target is for each")
+    check(read(place, name) == whole and not os.path.exists(log), "two sdists are the same bytes, and nothing is built for them")
     # Unpacked within another clone it builds by its own crates, the same wheel.
     with tarfile.open(fileobj=io.BytesIO(whole)) as file:
         file.extractall(os.path.join(room, "bindings"))
@@ -262,10 +339,12 @@ def main():
         with open(os.path.join(tools, "cargo"), "w") as file:
             file.write(CARGO)
         os.chmod(file.name, 0o755)
-        with environment(PATH=tools + os.pathsep + os.environ["PATH"], LOG=log, RUSTFLAGS=None, CARGO_ENDS=None):
+        with environment(PATH=tools + os.pathsep + os.environ["PATH"], LOG=log, RUSTFLAGS=None, CARGO_ENDS=None, CARGO_MAKES_NOTHING=None):
             check_targets(room, log)
             check_sdist(room, log)
             check_refused(room, log)
+            check_module(room)
+            check_readme()
     print(f"build: {check.count} checks, {len(check.failed)} failed")
     return bool(check.failed) or check.count < 200
 

@@ -8,9 +8,11 @@ given back; and its documents, beside the header, the typings of JavaScript and 
 
 import ast
 import builtins
+import collections.abc
 import contextlib
 import copy
 import ctypes
+import decimal
 import importlib.util
 import inspect
 import io
@@ -18,6 +20,7 @@ import os
 import pickle
 import re
 import sys
+import typing
 
 from checks import Checks
 
@@ -203,6 +206,8 @@ def check_types():
         wanted = found.pop() if len(found) == 1 else f"one of {found}"
         wanted = f"Optional[{wanted}]" if "None" in shapes[key] else wanted
         check(annotation == wanted, f"{key} is {annotation}, and has {wanted}")
+    check(subsetter.Value == typing.Union[typing.SupportsFloat, typing.SupportsIndex], f"a value is {subsetter.Value}")
+    check(subsetter.Buffer is getattr(collections.abc, "Buffer", typing.Any), f"a buffer is {subsetter.Buffer}")
     check({type(it) for pair in subsetter.glyphs_of(TTF, "AH") for it in pair} == {int, str}, "the types of glyphs_of")
     check(type(subsetter.pdf_font(TTF, PAIRS).sheet()) is bytes, "the type of a sheet")
 
@@ -387,6 +392,8 @@ NO_TAGS = ("", "A", "ABCDE", "ABCDEFG", "ABCDE1", "@BCDEF", "[BCDEF", "ABCDE@", 
 def is_refused(call, kind, said, *arguments, **choices):
     error = raised(call, *arguments, **choices)
     check(type(error) is kind and said in (None, str(error)), f"{choices or arguments[1:]}: {error!r:.200}, and not {kind.__name__}: {said}")
+    # (what stands behind it is no business of the caller's)
+    check(error is None or error.__cause__ is None and (error.__context__ is None or error.__suppress_context__), f"{choices or arguments[1:]}: {error!r:.200} has another in front")
 
 
 def check_refusals():
@@ -438,6 +445,97 @@ def check_choice(call, name, font):
         is_refused(call, ValueError, f"{name} is {value!r}, and none of {', '.join(known)}", font, **{name: value})
     for value in (None, 0, 1, True, known[0].encode(), [known[0]]):
         is_refused(call, TypeError, f"{name} is a str, and no {type(value).__name__}", font, **{name: value})
+
+
+def shown(value):
+    """A value as a message has it."""
+    try:
+        text = str(value)
+    except ValueError:
+        return "a number of too many digits"
+    return text if len(text) <= 40 else f"{text[:40]}.."
+
+
+class Wide:
+    """A number that no float holds, and what comes of comparing it."""
+
+    def __init__(self, answer):
+        self.answer = answer
+
+    def __float__(self):
+        raise OverflowError("too large")
+
+    def __gt__(self, _other):
+        if isinstance(self.answer, Exception):
+            raise self.answer
+        return self.answer
+
+    def __str__(self):
+        return "wide"
+
+
+def check_messages():
+    """What is said of what is refused, as a whole; the same by each call that takes it."""
+    calls = {"subset": subsetter.subset, "embed": subsetter.embed, "pdf_font": subsetter.pdf_font}
+    for name, call in calls.items():
+        if name != "pdf_font":
+            for glyphs in (b"", "36", "", bytearray(b"ab"), memoryview(b"ab")):
+                is_refused(call, TypeError, f"glyphs are an iterable of ints, and no {type(glyphs).__name__}", TTF, glyphs)
+            for glyph in (-1, 65536, 65537, 1 << 16 | 5, 1 << 32, 1 << 64, -(1 << 16), -(1 << 64)):
+                is_refused(call, ValueError, "the number of a glyph is none from 0 to 65535", TTF, [1, glyph])
+        for tag in (b"wght", 5, None, ("w", "g", "h", "t")):
+            is_refused(call, TypeError, f"the tag of an axis is a str, and no {type(tag).__name__}", TTF, [], coordinates={"wght": 1, tag: 1})
+        for tag in ("", "w", "wgh", "wghtt", "wghtwght", "wgh\xe9", "\u0119ght", "\x80ght", "\U0001F600", "wght\n"):
+            is_refused(call, ValueError, f"the tag of an axis has four ASCII characters, and {tag!r} hasn't", TTF, [], coordinates={"wght": 1, tag: 1})
+        for tag in ("    ", "\x7fA~0", "\0\0\0\1", "wght"):
+            error = raised(call, TTF, [], coordinates={tag: 1})
+            check(error is None, f"{name}: the tag {tag!r}: {error!r}")
+        for value in (None, "650", b"650", [650], 650j, {}):
+            is_refused(call, TypeError, f"the value of the axis wdth is a number, and no {type(value).__name__}", TTF, [], coordinates={"wght": 1, "wdth": value})
+        nines = decimal.Decimal("9" * 6000)
+        for value in (float("nan"), float("inf"), float("-inf"), decimal.Decimal("NaN"), decimal.Decimal("sNaN"), decimal.Decimal("1e1000000"), *map(Wide, (ValueError("x"), TypeError("x"), ZeroDivisionError("x")))):
+            is_refused(call, ValueError, f"the value of the axis wdth is {shown(value)}", TTF, [], coordinates={"wght": 1, "wdth": value})
+        is_refused(call, ValueError, f"the value of the axis wdth is {'9' * 40}..", TTF, [], coordinates={"wdth": nines})
+        for other in (KeyError("mine"), MemoryError("mine")):
+            check(raised(call, TTF, [], coordinates={"wdth": Wide(other)}) is other, f"{name}: another error of a comparison")
+        for coordinates in (5, "wght", [("wght", 650)], {"wght"}, True, ()):
+            is_refused(call, TypeError, f"coordinates are a mapping of tags to numbers, and no {type(coordinates).__name__}", TTF, [], coordinates=coordinates)
+        for it in ("tokens", "depth", "most_bytes", "index"):
+            least, most = RANGES[it]
+            for number in (10 ** 5000, -10 ** 5000):
+                error = raised(call, TTF, [], **{it: number})
+                check(type(error) is ValueError and str(error) == f"{it} is {shown(number)}, and none from {least} to {most}", f"{name}, {it} of 5001 digits: {error!r:.200}")
+            for number in (-1 if least == 0 else 0, -(1 << 32), -(1 << 32) + 1, 256, 257, 511, 1 << 16, (1 << 16) + 1, (1 << 32) + 255, 1 << 63, 1 << 64):
+                if not least <= number <= most:
+                    is_refused(call, ValueError, f"{it} is {shown(number)}, and none from {least} to {most}", TTF, [], **{it: number})
+    check([subsetter._fixed("wght", Wide(it)) for it in (True, False)] == [0x7FFFFFFF, -0x80000000], "a number past all floats")
+    for call in CALLS.values():
+        for data in (memoryview(TTF)[::2], memoryview(TTF)[::-1], ctypes.c_uint8(5), (ctypes.c_uint16 * 4)(), memoryview(bytes(16)).cast("B", (4, 4)), memoryview(bytes(4)).cast("?")):
+            is_refused(call, TypeError, "a font is a buffer of bytes, one behind the other", data)
+
+
+def of_form(data, form):
+    """A buffer of these bytes whose items have such a form, as struct writes it, and what has to stay as long."""
+    found, count = subsetter._View(), (ctypes.c_ssize_t * 1)(len(data))
+    held = ctypes.create_string_buffer(data, len(data)), count, (ctypes.c_ssize_t * 1)(1), form
+    found.buf, found.len, found.itemsize, found.ndim, found.readonly = ctypes.addressof(held[0]), len(data), 1, 1, 1
+    found.format, found.shape, found.strides = form, ctypes.addressof(count), ctypes.addressof(held[2])
+    make = ctypes.pythonapi["PyMemoryView_FromBuffer"]
+    make.argtypes, make.restype = [ctypes.POINTER(subsetter._View)], ctypes.py_object
+    return make(ctypes.byref(found)), held
+
+
+def check_forms():
+    """Bytes, signed or not, and characters are a font, in any order of bytes; nothing else is."""
+    wanted = subsetter.subset(TTF, [1, 5])
+    for prefix in ("", "@", "=", "<", ">", "!"):
+        for letter in "Bbc":
+            font, _held = of_form(TTF, (prefix + letter).encode())
+            error = raised(subsetter.subset, font, [1, 5])
+            check(font.format == prefix + letter and error is None and subsetter.subset(font, [1, 5]) == wanted, f"a font of the form {font.format}: {error!r}")
+    for form in (b"?", b"s", b"x", b"", b"BB", b"1B", b"B<", b"^B", b"p", b"<", b"=?", b"|B", b"C", b"bc"):
+        font, _held = of_form(TTF, form)
+        is_refused(subsetter.subset, TypeError, "a font is a buffer of bytes, one behind the other", font, [1])
 
 
 # ---- fonts for a PDF
@@ -550,6 +648,46 @@ def check_texts():
     check("`libsubsetter.so` (on Windows `subsetter.dll`, on macOS `libsubsetter.dylib`)" in subsetter.__doc__, "the library's names")
 
 
+# Of each call how many clauses the typings of JavaScript have too, and the names and numbers that its docstring has, in their order.
+SAID = {
+    "subset": (23, "data index glyphs tokens depth most_bytes OverflowError hinting cvt_ fpgm prep names name glyph_names post coordinates CFF_ tokens CFF2 glyf CFF_ CFF_ Error MalformedFont fvar avar gvar HVAR "
+                   "Unimplemented avar OverflowError CFF2 TypeError ValueError", "0 0 0 65535 0 1 4294967295 1000000 1 255 64 1 4294967295 3.0 650 87.5 65536 2 1 2 16"),
+    "embed": (4, "subset coordinates MalformedFont hmtx head", "0"),
+    "glyphs_of": (8, "cmap pdf_font data index subset Error MalformedFont InvalidText NotImplementedError", "0 4 12"),
+    "pdf_font": (11, "shown subset program CFF_ CFF_ codes vertical bounds cid_set tag rights fsType OS/2 Error embed NotPermitted InvalidText NotImplementedError glyphs_of", "36 5 7 1 1 2 256 16"),
+    "PdfFont.objects": (10, "first OverflowError first", "0 32"), "PdfFont.sheet": (5, "", "36 12 16"),
+}
+
+
+def check_words():
+    """A docstring keeps what it shares with the typings of JavaScript, clause by clause, and the names and numbers that it has."""
+    other = " ".join(re.sub(r"^\s*\*(?: |$)", " ", read("../js/subsetter.d.mts"), flags=re.M).split())
+    for name, (count, names, numbers) in SAID.items():
+        clauses = [it.strip() for it in re.split(r"[.,:;()](?:\s|$)", TEXTS[name])]
+        both = [it for it in clauses if len(it.split()) >= 3 and it in other]
+        check(len(both) >= count, f"{name} shares {len(both)} clauses with JavaScript, and not {count}: {both}")
+        found = [it.replace(" ", "_") for it in re.findall(r"`([^`]+)`", TEXTS[name])]
+        check(found == names.split(), f"{name} names {found}")
+        found = re.findall(r"\d[\d.,]*\d|\d", TEXTS[name])
+        check(found == numbers.split(), f"{name} has the numbers {found}")
+    found = re.findall(r"`([^`]+)`", subsetter.__doc__)
+    check(found == ["libsubsetter.so", "subsetter.dll", "libsubsetter.dylib", "bindings/c/out", "OverflowError", "from subsetter import *"], f"the module's docstring names {found}")
+    # What is left out of a font is what the docstring says.
+    lacking = {name: {*tables_of(full())} - {*tables_of(full(**{name: False}))} for name in ("hinting", "names", "glyph_names")}
+    check(lacking == {"hinting": {"cvt ", "fpgm", "prep"}, "names": {"name"}, "glyph_names": set()}, f"what is left out: {lacking}")
+    check([full(glyph_names=it)[at:at + 4] for it in (True, False) for at in [tables_of(full(glyph_names=it))["post"]]] == [b"\0\2\0\0", b"\0\3\0\0"], "post without the names of glyphs")
+
+
+def full(**choices):
+    return subsetter.subset(of_rows("full"), [1], **choices)
+
+
+def tables_of(font):
+    """Where each table of a font stands."""
+    heads = (font[at:at + 16] for at in range(12, 12 + 16 * font[5], 16))
+    return {it[:4].decode(): int.from_bytes(it[8:12], "big") for it in heads}
+
+
 def check_numbers():
     """The numbers of the documents are those of the module."""
     text = TEXTS["subset"]
@@ -649,8 +787,8 @@ def check_tests():
 
 
 def main():
-    parts = [check_signatures, check_types, check_permissions, check_errors, check_declarations, check_passed, check_refusals, check_as_embedded, check_copies,
-             check_given_back, check_texts, check_numbers, check_tests]
+    parts = [check_signatures, check_types, check_permissions, check_errors, check_declarations, check_passed, check_refusals, check_messages, check_forms, check_as_embedded, check_copies,
+             check_given_back, check_texts, check_words, check_numbers, check_tests]
     for part in parts:
         before = check.count
         part()

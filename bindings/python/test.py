@@ -564,10 +564,9 @@ def check_places():
         os.makedirs(os.path.dirname(system))
         loader = {"LD_LIBRARY_PATH": os.path.dirname(system)}
         found = child(CALLS, path=inside)
-        check(found.startswith("libsubsetter.so isn't found"), f"no library: {found}")
-        for words in (f"{beside} isn't there", f"{built} isn't there", "the system's loader", "SUBSETTER_LIBRARY isn't set",
-                      "`make` in bindings/c"):
-            check(words in found, f"no library: {words} is not in {found}")
+        tried = f"  {re.escape(beside)} isn't there\n  {re.escape(built)} isn't there\n  the system's loader, or libsubsetter.so: libsubsetter.so: .*No such file.*\n"
+        whole = rf"libsubsetter.so isn't found. SUBSETTER_LIBRARY isn't set; tried were:\n{tried}In the repository `make` in bindings/c builds it.\n"
+        check(re.fullmatch(whole, found), f"no library: {found}")
         # One place after the other gets a library: the first that has one is taken.
         for path, variables in ((system, loader), (built, loader), (beside, loader),
                                 (named, {"SUBSETTER_LIBRARY": named, **loader})):
@@ -578,17 +577,17 @@ def check_places():
               "a relative name is read from where the program runs")
         missing = os.path.join(top, "missing.so")
         found = child(CALLS, {"SUBSETTER_LIBRARY": missing}, path=inside)
-        check(found.startswith(f"SUBSETTER_LIBRARY names {missing}, which can't be loaded"), f"a missing file: {found}")
+        check(re.fullmatch(rf"SUBSETTER_LIBRARY names {re.escape(missing)}, which can't be loaded: {re.escape(missing)}: .*No such file.*\n", found), f"a missing file: {found}")
         with open(beside, "wb") as file:
             file.write(b"no library")
         found = child(CALLS, {"SUBSETTER_LIBRARY": beside}, path=inside)
-        check(found.startswith(f"SUBSETTER_LIBRARY names {beside}, which can't be loaded"), f"no library: {found}")
+        check(re.fullmatch(rf"SUBSETTER_LIBRARY names {re.escape(beside)}, which can't be loaded: {re.escape(beside)}: .+\n", found), f"no library: {found}")
         # One that can't be loaded doesn't end the search, and is named where there is no other.
         check(child(CALLS, loader, path=inside) == built + "\n", "a broken library beside the module")
         shutil.copy(beside, built)
         check(child(CALLS, loader, path=inside) == system + "\n", "two broken libraries")
         found = child(CALLS, path=inside)
-        for words in (f"\n  {beside}: ", f"\n  {built}: ", "the system's loader", "\nIn the repository"):
+        for words in (f"\n  {beside}: {beside}: ", f"\n  {built}: {built}: ", "the system's loader, or libsubsetter.so: ", "\nIn the repository"):
             check(words in found, f"broken libraries: {words!r} is not in {found}")
         check("isn't there" not in found, f"broken libraries: {found}")
         # A library of another version, and one that is found but lacks a call.
@@ -643,7 +642,8 @@ def check_systems():
             folder = os.path.join(os.path.realpath(top), "subsetter")
             shutil.copytree(os.path.join(FOUND, "subsetter"), folder, ignore=shutil.ignore_patterns("__pycache__", "*.so"))
             beside = os.path.join(folder, name)
-            program = f"import sys, ctypes, threading, typing; sys.platform = {system!r}\n" + textwrap.dedent(CALLS).replace('".so" in line', '"subsetter" in line')
+            # (Windows has no call for what a fork leaves)
+            program = f"import sys, os, ctypes, threading, typing; sys.platform = {system!r}\n{'del os.register_at_fork' * (system == 'win32')}\n" + textwrap.dedent(CALLS).replace('".so" in line', '"subsetter" in line')
             found = child(program, path=top)
             check(f"{beside} isn't there" in found, f"no library on {system}: {found}")
             shutil.copy(os.path.join(FOUND, "subsetter", "libsubsetter.so") if INSTALLED else BUILT, beside)
@@ -930,8 +930,8 @@ def check_without_pdf():
         source, named = os.path.join(top, "other.c"), os.path.join(os.path.realpath(top), "other.so")
         with open(source, "w") as file:
             file.write(WITHOUT_PDF)
-        for flag, wanted in (("-DNONE", ["MalformedFont ", f"NotImplementedError {named} has no calls for PDF: it is of an older version",
-                                         f"NotImplementedError {named} has no calls for PDF: it is of an older version", "TypeError a text is a str"]),
+        lacks = f"NotImplementedError {named} has no calls for PDF: it is of an older version. `pip install ./bindings/python` in a clone builds one that has them."
+        for flag, wanted in (("-DNONE", ["MalformedFont ", lacks, lacks, "TypeError a text is a str"]),
                              ("-DONE", 3 * [f"OSError {named} has no call subsetter_make_pdf_font_by_words: it is of another version"] + ["TypeError"])):
             subprocess.run([os.environ.get("CC", "cc"), "-shared", "-fPIC", flag, source, "-o", named], check=True)
             found = child(CALLS_FOR_PDF, {"SUBSETTER_LIBRARY": named}).splitlines()

@@ -8,6 +8,27 @@ from typing import List, Type
 import subsetter
 
 
+class Index:
+    def __index__(self) -> int:
+        return 1
+
+
+class Real:
+    def __float__(self) -> float:
+        return 1.5
+
+
+def accepted_numbers(data: bytes, one: Index, value: Real) -> None:
+    font: bytes = subsetter.subset(data, [one], one, tokens=one, depth=one, most_bytes=one, coordinates={"wght": one, "wdth": value})
+    font = subsetter.embed(data, (one, 2), one, tokens=one, depth=one, most_bytes=one, coordinates={"wght": value}).font
+    shown = subsetter.glyphs_of(font, "A", one)
+    page = subsetter.pdf_font(data, [*shown, (1, "")], one, tokens=one, depth=one, most_bytes=one, coordinates={"wght": one})
+    page = subsetter.pdf_font(data, [(one, "A")])
+    print(page.objects(one), page.sheet("line"))
+    subsetter.subset(data, [value])  # type: ignore[list-item]
+    subsetter.subset(data, [one], value)  # type: ignore[arg-type]
+
+
 def accepted(data: bytes, mapped: mmap.mmap) -> None:
     font: bytes = subsetter.subset(data, [36, 68])
     font = subsetter.subset(memoryview(font), range(3), 1, tokens=5, depth=3, most_bytes=7)
