@@ -75,7 +75,7 @@ async function run(name) {
         const { rows, parts, pdf, worker } = await page.value(`(${tests})("/subsetter.wasm", 2000, ${JSON.stringify(forPdf)})`);
         equal(rows.length, 4, "the ways to load");
         equal(new Set(rows).size, 1, "the rows by each way to load");
-        equal(pdf >= 17, true, `${pdf} rows for PDF`);
+        equal(pdf, read(`../../rust/tests/data/${forPdf[0]}`).toString().match(/^row /gm).length, "rows for PDF");
         equal(worker, "UnknownKind", "what the worker answers");
         equal(page.errors.filter((it) => !it.includes("404")).join("; "), "", "errors in the page");
         console.log(`${name}: ${await browser.version()}: ${rows[0]} rows by ${rows.length} ways to load, ${pdf} rows for PDF, ${parts.length} parts, a worker`);

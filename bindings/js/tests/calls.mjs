@@ -447,8 +447,13 @@ async function besideEachOther({ library, wasm }) {
 /** A call that doesn't come back takes a new instance, and the open fonts move there. */
 async function trapsPass({ library, wasm }) {
     const sources = [plainFont(30, 16), plainFont(2000, 400)];
-    let isTrap = false;
+    let isTrap = false, isFull = false;
     const change = (exports) => {
+        const { memory } = exports, grow = (pages) => {
+            if (isFull) throw new RangeError("WebAssembly.Memory.grow(): Unable to grow instance memory");
+            return memory.grow(pages);
+        };
+        exports.memory = { get buffer() { return memory.buffer; }, grow };
         for (const [name, call] of Object.entries(exports)) {
             if (!name.startsWith("subsetter_") || name === "subsetter_error_text") continue;
             exports[name] = (...words) => {
@@ -487,7 +492,15 @@ async function trapsPass({ library, wasm }) {
         throws(() => opened[0].subset([7, 3]), library.OutOfMemory, "no new instance");
         throws(() => subsetter.open(sources[0]), library.OutOfMemory, "no new instance");
         WebAssembly.Instance = Instance;
+        // Nor where there is one whose memory can't hold them.
+        isFull = true;
+        for (const call of [() => opened[0].subset([7, 3]), () => subsetter.open(sources[0])]) {
+            equal(throws(call, library.OutOfMemory, "a new instance without memory").message, "out of memory", "what is said");
+        }
+        isFull = false;
+        const { length } = made;
         opened.forEach((font, i) => same(font.subset([7, 3]), wanted[i], "an open font after both"));
+        equal(made.length, length + 1, "instances after both");
     }, change);
 }
 
@@ -534,14 +547,39 @@ async function waysToLoad({ library, wasm, fonts }) {
         same(open(fonts.three_glyphs).subset([2]), wanted, "a call of its own");
     }
     const empty = Uint8Array.of(0, 97, 115, 109, 1, 0, 0, 0);
+    // (it exports a function `a`, which does nothing)
+    const other = Uint8Array.of(...empty, 1, 4, 1, 96, 0, 0, 3, 2, 1, 0, 7, 5, 1, 1, 97, 0, 0, 10, 4, 1, 2, 0, 11);
+    const none = "a module is a WebAssembly.Module, bytes, a Response or an address";
     const wrong = [
-        [new Uint8Array([1, 2]), WebAssembly.CompileError, ""], [new Response("", { status: 404 }), Error, "404"],
-        [empty, TypeError, "subsetter.wasm"], [5, TypeError, ""], [null, TypeError, ""],
+        [new Uint8Array([1, 2]), WebAssembly.CompileError], [new Response("", { status: 404 }), Error, "the module isn't at : 404"], [new Response(copy, { status: 500 }), Error, "the module isn't at : 500"],
+        [empty, TypeError, "the module isn't subsetter.wasm"], [await WebAssembly.compile(empty), TypeError, "the module isn't subsetter.wasm"],
+        [other, TypeError, "the module isn't subsetter.wasm"],
+        ...[5, null, true, {}, [], () => {}, new WebAssembly.Instance(module, {})].map((it) => [it, TypeError, none]),
     ];
     for (const [source, kind, text] of wrong) {
         let thrown;
         await library.load(source).catch((error) => (thrown = error));
-        ok(thrown?.constructor === kind && thrown.message.includes(text), `load: ${thrown}`);
+        ok(thrown?.constructor === kind && (!text || thrown.message === text), `load: ${thrown}`);
+    }
+    let letters = "";
+    for (let at = 0; at < wasm.length; at += 8192) letters += String.fromCharCode(...wasm.subarray(at, at + 8192));
+    const data = `data:application/wasm;base64,${btoa(letters)}`;
+    for (const source of [data, new URL(data)]) same((await library.load(source)).subset(fonts.three_glyphs, [2]), wanted, "the address of the bytes themselves");
+    // An address goes to `fetch` as it is, and so does what comes of it.
+    const { fetch } = globalThis, lost = new Error("no network"), asked = [];
+    try {
+        for (const source of ["part/of/an/address.wasm", "https://example.org/subsetter.wasm", new URL("https://example.org/subsetter.wasm")]) {
+            globalThis.fetch = async (...words) => (asked.push(words), response());
+            same((await library.load(source)).subset(fonts.three_glyphs, [2]), wanted, `the module at ${source}`);
+            ok(asked.length === 1 && asked[0].length === 1 && asked[0][0] === source, `what is fetched for ${source}: ${asked}`);
+            asked.length = 0;
+            for (const [answer, text] of [[() => new Response(copy, { status: 403 }), "the module isn't at : 403"], [() => Promise.reject(lost), "no network"]]) {
+                globalThis.fetch = async () => answer();
+                equal((await library.load(source).catch((error) => error)).message, text, `what comes of ${source}`);
+            }
+        }
+    } finally {
+        globalThis.fetch = fetch;
     }
 }
 

@@ -1,10 +1,13 @@
 /** What page/outlines.mjs reads, against outlines, characters and advances that were worked out by hand, by the documents of Apple and Adobe. */
-import { sfnt } from "../page/example.mjs";
+import { createHash } from "node:crypto";
+import { exampleFont, sfnt } from "../page/example.mjs";
 import { Font, charstringCommands, faceCount } from "../page/outlines.mjs";
 import { equal, ok, throws } from "./assert.mjs";
 
 const u16 = (...values) => values.flatMap((it) => [(it >> 8) & 255, it & 255]);
 const u32 = (...values) => values.flatMap((it) => [(it >>> 24) & 255, (it >>> 16) & 255, (it >>> 8) & 255, it & 255]);
+/** Numbers of so many bytes each. */
+const wide = (size, ...values) => values.flatMap((it) => u32(it).slice(4 - size));
 /** Commands as a text: M10,20 L11,22 Z, to 9 decimals. */
 const shown = (commands) => commands.map(([command, ...at]) => command + at.map((it) => +it.toFixed(9) + 0).join(",")).join(" ");
 
@@ -45,7 +48,10 @@ const DRAWN = {
     "= 1 2 hstem 3 4 vstem 10 20 rmoveto endchar": "M10,20 Z", "= 9 1 2 hstem 10 20 rmoveto endchar": "M10,20 Z", "= 1 2 hstemhm 3 4 hintmask #0e 10 20 rmoveto endchar": "M10,20 Z",
     "= 1 2 3 4 5 6 7 8 hstemhm 1 2 3 4 5 6 7 8 vstemhm hintmask #0e 10 20 rmoveto endchar": "M10,20 Z",
     "= 1 2 3 4 5 6 7 8 hstemhm 1 2 3 4 5 6 7 8 vstemhm 1 2 cntrmask #0e0e 10 20 rmoveto hintmask #0e0e 1 hlineto endchar": "M10,20 L11,20 Z",
-    "1 hlineto endchar 5 hlineto": "L11,20", "#8b 1 rlineto": "L10,21",
+    // (stems of all four operators count, and those in front of the mask: nine have a mask of two bytes)
+    "= 1 2 3 4 5 6 7 8 hstem 1 2 3 4 5 6 7 8 vstem 1 2 hintmask #0e0e 10 20 rmoveto endchar": "M10,20 Z", "= 1 2 3 4 5 6 7 8 vstem 1 2 3 4 5 6 7 8 hstem hintmask #0e 10 20 rmoveto endchar": "M10,20 Z",
+    "= 9 1 2 3 4 5 6 7 8 hstemhm 9 1 2 3 4 5 6 7 8 vstemhm hintmask #0e 10 20 rmoveto endchar": "M10,20 Z",
+    "1 hlineto endchar 5 hlineto": "L11,20", "1 hlineto return 5 hlineto": "L11,20", "#8b 1 rlineto": "L10,21",
     // Numbers of each form.
     "#20 #f6 rlineto": "L-97,127", "#f700 #faff rlineto": "L118,1151", "#fb00 #feff rlineto": "L-98,-1111", "#1c7fff #1c8000 rlineto": "L32777,-32748", "#ff00018000 #ffffff4000 rlineto": "L11.5,19.25",
 };
@@ -55,30 +61,37 @@ function charstrings() {
         const bytes = words[0] === "=" ? charstring(words.slice(2)) : charstring(`10 20 rmoveto ${words}`.trim());
         equal(shown(charstringCommands(Uint8Array.from(bytes))), words[0] === "=" ? wanted : `M10,20 ${wanted} Z`.replace("  ", " "), `the charstring ${words}`);
     }
-    for (const wrong of ["#0f", "#02", "#0c00", "#0cff", "5 callsubr"]) {
-        let error;
-        try {
-            charstringCommands(Uint8Array.from(charstring(wrong)));
-        } catch (it) {
-            error = it;
-        }
-        ok(error, `the charstring ${wrong} is drawn`);
+    for (const [wrong, operator] of [["#0f", 15], ["#02", 2], ["#0c00", 1200], ["#0cff", 1455]]) {
+        const { message } = throws(() => charstringCommands(Uint8Array.from(charstring(wrong))), RangeError, `the charstring ${wrong}`);
+        equal(message, `a charstring has the operator ${operator}`, `the charstring ${wrong}`);
     }
+    throws(() => charstringCommands(Uint8Array.from(charstring("5 callsubr"))), TypeError, "a subroutine that isn't there");
 }
 
 // ---- fonts of `CFF `
 
-const index = (entries) => {
+/** An INDEX, whose places have so many bytes. */
+const indexBy = (size) => (entries) => {
     if (entries.length === 0) return [0, 0];
     let at = 1;
-    return [...u16(entries.length), 4, ...u32(1, ...entries.map((it) => (at += it.length))), ...entries.flat()];
+    return [...u16(entries.length), size, ...wide(size, 1, ...entries.map((it) => (at += it.length))), ...entries.flat()];
 };
-/** A DICT of pairs of operands and an operator; each operand has five bytes. */
-const dict = (...pairs) => pairs.flatMap(([operands, ...operator]) => [...operands.flatMap((it) => [29, ...u32(it)]), ...operator]);
+/** A DICT of pairs of operands and an operator; an operand has five bytes, or those that are given. */
+const dict = (...pairs) => pairs.flatMap(([operands, ...operator]) => [...operands.flatMap((it) => (Array.isArray(it) ? it : [29, ...u32(it)])), ...operator]);
+/** An operand that is written in digits. */
+const real = (text) => {
+    const digits = [...text.matchAll(/e-|[-0-9.e]/g)].map(([it]) => ({ ".": 10, e: 11, "e-": 12, "-": 14 })[it] ?? Number(it));
+    digits.push(...(digits.length % 2 ? [15] : [15, 15]));
+    return [30, ...digits.flatMap((it, i) => (i % 2 ? [] : [it * 16 + digits[i + 1]]))];
+};
 
-/** A table of charstrings, with global subroutines, and for each font dict its local ones and its matrix; `select` gives the dict of each glyph. */
-function compact({ glyphs, globals = [], dicts = [{ locals: [] }], matrix, select }) {
-    const head = [1, 0, 4, 1], name = index([[65]]), texts = index([]), all = index(globals), strings = index(glyphs.map((it) => charstring(it)));
+/**
+ * A table of charstrings, with global subroutines, and for each font dict its local ones and its matrix; `select` gives the dict of each
+ * glyph. Its head has so many bytes, a place in an INDEX `size`; `further` are tables beside it.
+ */
+function compact({ glyphs, globals = [], dicts = [{ locals: [] }], matrix, select, size = 4, front = 4, further = {} }) {
+    const index = indexBy(size), head = [1, 0, front, size, ...Array(front - 4).fill(0)], name = index([[65]]), texts = index([[66, 67], [68]]), all = index(globals);
+    const strings = index(glyphs.map((it) => charstring(it)));
     const matrixOf = (it) => (it ? [[it, 12, 7]] : []);
     // Private dicts stand behind all else, each with its subroutines behind it.
     const privates = dicts.map(({ locals }) => (locals.length ? [...dict([[6], 19]), ...index(locals)] : []));
@@ -100,7 +113,7 @@ function compact({ glyphs, globals = [], dicts = [{ locals: [] }], matrix, selec
         return { found, bytes: [...Object.values(parts).flat(), ...privates.flat()] };
     };
     const { found } = make({ charstrings: 0, array: 0, select: 0, privates: dicts.map(() => 0) });
-    return new Font(sfnt({ "CFF ": Uint8Array.from(make(found).bytes) }));
+    return new Font(sfnt({ "CFF ": Uint8Array.from(make(found).bytes), ...further }));
 }
 
 const thousandths = (font, glyph) => shown(font.outline(glyph).map(([command, ...at]) => [command, ...at.map((it) => it * 1000)]));
@@ -118,7 +131,25 @@ function compactFonts() {
     const twice = compact({ glyphs: ["10 20 rmoveto -107 callsubr endchar"], dicts: [{ locals: [charstring("-106 callsubr 3 hlineto return"), charstring("1 vlineto return")] }] });
     equal(thousandths(twice, 0), "M10,20 L10,21 L13,21 Z", "a subroutine of a subroutine");
     throws(() => compact({ glyphs: ["-107 callsubr"], dicts: [{ locals: [charstring("-107 callsubr")] }] }).outline(0), RangeError, "a subroutine of itself");
+    const nested = (count) => compact({ glyphs: ["10 20 rmoveto -107 callsubr endchar"], dicts: [{ locals: Array.from({ length: count }, (_, i) => charstring(i < count - 1 ? `${i - 106} callsubr` : "1 hlineto")) }] });
+    equal(thousandths(nested(64), 0), "M10,20 L11,20 Z", "64 subroutines within each other");
+    equal(throws(() => nested(65).outline(0), RangeError, "65 of them").message, "subroutines nest too deep", "65 of them");
+    const ending = compact({ glyphs: ["10 20 rmoveto -107 callsubr 5 hlineto endchar"], dicts: [{ locals: [charstring("-106 callsubr 3 hlineto"), charstring("1 hlineto endchar")] }] });
+    equal(thousandths(ending, 0), "M10,20 L11,20 Z", "the end within a subroutine of a subroutine");
+    // Places of each size, and heads that are longer.
+    for (const size of [1, 2, 3, 4]) {
+        for (const front of [4, 5, 9]) {
+            const font = compact({ glyphs: ["10 20 rmoveto -107 callsubr endchar", "1 2 rmoveto -106 callgsubr endchar"], dicts: [{ locals: [line] }], globals: [none, other], size, front });
+            equal([0, 1].map((glyph) => thousandths(font, glyph)).join("; "), "M10,20 L11,20 Z; M1,2 L3,2 Z", `places of ${size} bytes behind a head of ${front}`);
+        }
+    }
     equal(shown(compact({ glyphs: ["1 2 rmoveto endchar"], matrix: [2, 3, 5, 7, 11, 13] }).outline(0)), "M23,30 Z", "a matrix of its own");
+    // Operands of each form, of which these are 0.5 -0.25 300 -300 1000 -1000, then -107 107 108 -108 12000 0, and then 1 -70000 0 7 6789.0125 -1234.5.
+    const operands = [
+        [[real(".5"), real("-25e-2"), [28, 1, 44], [28, 254, 212], [250, 124], [254, 124]], "M1600.5,-1600.25 Z"], [[[32], [246], [247, 0], [251, 0], real("12e3"), [139]], "M12109,-109 Z"],
+        [[real("1"), -70000, [139], [146], real("6789.0125"), real("-1234.5")], "M6790.0125,-71220.5 Z"],
+    ];
+    for (const [matrix, wanted] of operands) equal(shown(compact({ glyphs: ["1 2 rmoveto endchar"], matrix }).outline(0)), wanted, "operands of each form");
     // A font dict for each glyph: by a byte each, and by ranges.
     const glyphs = ["1 2 rmoveto endchar", "1 2 rmoveto -107 callsubr endchar", "1 2 rmoveto -107 callsubr endchar"], dicts = [{ locals: [line], matrix: [2, 0, 0, 3, 0, 0] }, { locals: [other], matrix: [1, 0, 0, 1, 4, 5] }];
     for (const select of [[0, 0, 1, 0], [3, ...u16(3, 0), 0, ...u16(1), 1, ...u16(2), 0, ...u16(3)]]) {
@@ -127,6 +158,14 @@ function compactFonts() {
         const both = compact({ glyphs, dicts, select, matrix: [10, 0, 0, 100, 1, 2] });
         equal([0, 1].map((glyph) => shown(both.outline(glyph))).join("; "), "M21,602 Z; M51,702 L71,702 Z", `two matrices by format ${select[0]}`);
     }
+    const select = [0, 0, 0, 0], alone = (own, above) => shown(compact({ glyphs, dicts: [{ locals: [line], matrix: own }], matrix: above, select }).outline(0));
+    equal(alone([2, 3, 5, 7, 11, 13], [17, 19, 23, 29, 31, 37]), "M1112,1344 Z", "a matrix under another");
+    equal(alone(undefined, [2, 3, 5, 7, 11, 13]), "M23,30 Z", "the matrix of the top dict alone");
+    equal(alone([2, 3, 5, 7, 11, 13], undefined), "M23,30 Z", "the matrix of the font dict alone");
+    equal(alone(undefined, undefined), "M0.001,0.002 Z", "no matrix");
+    const late = compact({ glyphs, dicts, select: [3, ...u16(1, 1), 0, ...u16(3)] });
+    equal(shown(late.outline(1)), "M2,6 L4,6 Z", "a range from glyph 1 on");
+    equal(throws(() => late.outline(0), RangeError, "no font dict").message, "a glyph has no font dict", "a glyph in front of all ranges");
 }
 
 // ---- fonts of `glyf`
@@ -159,18 +198,24 @@ function simpleGlyphs() {
         [simple([3], [0x37, 0x36, 0x36, 0x37], [1, 1, 1, 1], [1, 1, 3, 1]), "M1,1 Q2,2,2.5,3.5 Q3,5,4,6 L1,1 Z", "two control points"],
         [simple([2], [0x36, 0x37, 0x37], [1, 1, 1], [1, 1, 1]), "M2,2 L3,3 Q1,1,2,2 Z", "a control point in front"],
         [simple([2], [0x36, 0x36, 0x36], [2, 2, 2], [2, 4, 2]), "M4,5 Q2,2,3,4 Q4,6,5,7 Q6,8,4,5 Z", "control points alone"],
+        [simple([], [], [], []), "", "no contours"], [simple([1], [0x3f, 9], [1, 1], [1, 1]), "M1,1 L2,2 L1,1 Z", "a flag that counts for more points than there are"],
     ];
     for (const isLong of [true, false]) {
         const font = trueType(rows.map(([bytes]) => bytes), isLong);
         rows.forEach(([, wanted, what], glyph) => equal(thousandths(font, glyph), wanted, `${what}, loca ${isLong ? "long" : "short"}`));
+        const { length } = rows, uncounted = trueType(rows.map(([bytes]) => bytes), isLong, { maxp: Uint8Array.from([0, 1, 0, 0, 0]) });
+        equal(`${font.count} ${uncounted.count}`, `${length} ${length}`, "glyphs by maxp, and by loca where maxp is cut");
+    }
+    for (const places of [[0, TRIANGLE.length + 3], [TRIANGLE.length, 2]]) {
+        const font = trueType([TRIANGLE], true, { loca: Uint8Array.from(u32(...places)) });
+        equal(throws(() => font.outline(0), RangeError, `an outline at ${places}`).message, "a part lies outside its table", `an outline at ${places}`);
     }
 }
 
 function composites() {
-    const two = (it) => u16(it * 16384), moved = (x, y, a = 1, b = 0, c = 0, d = 1) => {
-        const points = [[1, 2], [4, 2], [4, 6], [1, 2]].map(([px, py]) => [a * px + c * py + x, b * px + d * py + y]);
-        return `${points.map(([px, py], i) => `${i ? "L" : "M"}${px},${py}`).join(" ")} Z`;
-    };
+    const two = (it) => u16(it * 16384), put = (points, x, y, a = 1, b = 0, c = 0, d = 1) => points.map(([px, py]) => [a * px + c * py + x, b * px + d * py + y]);
+    const closed = (points) => `${points.map(([px, py], i) => `${i ? "L" : "M"}${px},${py}`).join(" ")} Z`;
+    const triangle = [[1, 2], [4, 2], [4, 6], [1, 2]], moved = (...map) => closed(put(triangle, ...map));
     const rows = [
         [composed(u16(0x03, 0, 10, -20)), moved(10, -20), "words"], [composed([...u16(0x02, 0), 10, 236]), moved(10, -20), "bytes"], [composed([...u16(0x00, 0), 10, 20]), moved(0, 0), "points that match"],
         [composed(u16(0x01, 0, 10, 20)), moved(0, 0), "points that match, in words"], [composed(u16(0x0b, 0, 10, 20), two(-0.5)), moved(10, 20, -0.5, 0, 0, -0.5), "a scale"],
@@ -179,10 +224,14 @@ function composites() {
         [composed(u16(0x23, 0, 10, 20), u16(0x2b, 0, 1, 2), two(0.5), u16(0x03, 0, 5, 6)), `${moved(10, 20)} ${moved(1, 2, 0.5, 0, 0, 0.5)} ${moved(5, 6)}`, "three parts"],
         // (the part of the part is moved by 10 and -20, and then halved and moved by 2 and 4)
         [composed(u16(0x0b, 1, 2, 4), two(0.5)), moved(7, -6, 0.5, 0, 0, 0.5), "a part of a part"],
+        [composed(u16(0x83, 7, 2, 4), two(1.5), two(-0.5), two(0.25), two(0.75)), closed(put(put(triangle, 10, 20, 0.5, 0.25, -1, 1.5), 2, 4, 1.5, -0.5, 0.25, 0.75)), "a matrix of a matrix"],
     ];
     const font = trueType([TRIANGLE, ...rows.map(([bytes]) => bytes), composed(u16(0x03, rows.length + 1, 0, 0))]);
     rows.forEach(([, wanted, what], i) => equal(thousandths(font, i + 1), wanted, `a part by ${what}`));
     throws(() => font.outline(rows.length + 1), RangeError, "a part of itself");
+    const nested = trueType([TRIANGLE, ...Array.from({ length: 17 }, (_, i) => composed(u16(0x03, i, 1, 0)))]);
+    equal(thousandths(nested, 16), moved(16, 0), "16 parts within each other");
+    equal(throws(() => nested.outline(17), RangeError, "17 of them").message, "components nest too deep", "17 of them");
 }
 
 /** Advances, sizes and faces. */
@@ -190,9 +239,22 @@ function metrics() {
     const hhea = Uint8Array.from([...Array(34).fill(0), ...u16(2)]), hmtx = Uint8Array.from(u16(500, 1, 2600, 2, 3, 4)), font = trueType([TRIANGLE, [], [], []], true, { hhea, hmtx });
     equal([0, 1, 2, 3].map((glyph) => font.advance(glyph)).join(), "0.5,2.6,2.6,2.6", "advances, of which the last counts for those behind");
     equal(trueType([TRIANGLE]).advance(0), null, "no advance without hmtx");
+    const counting = (count, size = 36) => Uint8Array.from([...Array(34).fill(0), ...u16(count)].slice(0, size)), advance = (own, table, glyph = 1) => trueType([TRIANGLE, []], true, { hhea: own, hmtx: table }).advance(glyph);
+    equal(`${advance(counting(2), hmtx.slice(0, 6))} ${advance(counting(2), hmtx.slice(0, 5))}`, "2.6 null", "an advance at the end of hmtx, and one behind it");
+    equal(`${advance(counting(0), hmtx, 0)} ${advance(counting(2, 35), hmtx)}`, "null null", "no advance where hhea counts none, or is cut");
     equal(font.count, 4, "glyphs");
     equal(JSON.stringify([...font.sizes()].sort()), JSON.stringify([["glyf", 22], ["head", 54], ["hhea", 36], ["hmtx", 12], ["loca", 20], ["maxp", 6]]), "sizes of tables");
-    throws(() => new Font(sfnt({ head: head(1000, true) })), RangeError, "a font without outlines");
+    equal(throws(() => new Font(sfnt({ head: head(1000, true) })), RangeError, "a font without outlines").message, "there are no outlines", "a font without outlines");
+    equal(shown(trueType([TRIANGLE], true, { head: head(0, true) }).outline(0)).slice(0, 13), "M0.001,0.002 ", "an em of 0 is 1000");
+    const em = (table) => compact({ glyphs: ["endchar"], further: { hhea, hmtx, ...table } });
+    equal([{}, { head: head(2000, true).slice(0, 53) }, { head: head(2000, true) }].map((it) => em(it).advance(0)).join(), "0.5,0.5,0.25", "an em of 1000, where there is no whole head");
+    // Of two tables with one tag the first counts, and of one that doesn't end in the file none.
+    const doubled = sfnt({ glyf: Uint8Array.from(TRIANGLE), head: head(1000, true), loca: Uint8Array.from(u32(0, TRIANGLE.length)), zero: Uint8Array.from(u16(0, 0)) }), record = 12 + 16 * 3;
+    equal([...new Font(doubled).tables.keys()].join(), "glyf,head,loca,zero", "tables");
+    const first = doubled.slice(), far = doubled.slice();
+    first.set([..."glyf"].map((it) => it.charCodeAt(0)), record);
+    far[record + 15]++;
+    equal(`${shown(new Font(first).outline(0)).length > 20} ${[...new Font(first).tables.keys()]} ${[...new Font(far).tables.keys()]}`, "true glyf,head,loca glyf,head,loca", "two tables with one tag, and one past the end");
     const plain = sfnt({ glyf: Uint8Array.from(TRIANGLE), head: head(2000, true), loca: Uint8Array.from(u32(0, TRIANGLE.length)) });
     equal(faceCount(plain), 1, "the faces of a font");
     equal(new Font(plain).outline(0)[1].join(), "L,0.002,0.001", "2000 units per em");
@@ -205,6 +267,10 @@ function metrics() {
     const both = Uint8Array.from([...[0x74, 0x74, 0x63, 0x66], ...u32(0x10000, 2, front, front + directory), ...moved.flat(), ...plain.slice(directory), ...head(500, true)]);
     equal(faceCount(both), 2, "the faces of a collection");
     equal([0, 1].map((face) => new Font(both, face).em).join(), "2000,500", "the em of each face");
+    const one = both.slice();
+    one.set(u32(1), 8);
+    equal(`${faceCount(one)} ${new Font(one).em} ${new Font(one, 0).outline(0).length} ${faceCount(one.slice(0, 11))} ${faceCount(both.slice(0, 12))} ${faceCount(new Uint8Array())}`, "1 2000 5 1 2 1", "a collection of one face, and short files");
+    equal(new Font(plain, 1).em, 2000, "a face of a file that is no collection");
 }
 
 // ---- characters
@@ -246,11 +312,53 @@ function characters() {
         equal(EVERY.map((character) => font.glyphOf(character)).join(), wanted.join(), `the characters of ${tables.map((it) => it.join(" ")).join(" and ")}`);
     }
     equal(trueType([TRIANGLE]).glyphOf(65), 0, "a character without cmap");
+    // Of each two kinds of tables the one of the higher rank counts, of two with the same the first, and none of rank 0.
+    const kinds = [[3, 10, 6], [0, 4, 5], [0, 6, 5], [3, 1, 4], [0, 0, 3], [0, 1, 3], [0, 2, 3], [0, 3, 3], [3, 0, 2], [1, 0, 1], [0, 5, 0], [3, 2, 0], [3, 3, 0], [1, 1, 0], [2, 0, 0], [4, 1, 0]];
+    for (const [platform, encoding, rank] of kinds) {
+        for (const [p, e, other] of kinds) {
+            const found = withCharacters([platform, encoding, "range"], [p, e, "segments"]).glyphOf(65), wanted = Math.max(rank, other) === 0 ? 0 : rank >= other ? 7 : 165;
+            equal(found, wanted, `a table of ${platform} ${encoding} in front of one of ${p} ${e}`);
+        }
+    }
+}
+
+// ---- the font that the page has at hand
+
+/** The dots of a character: seven rows, and those above them. */
+function dotsOf(font, character) {
+    const contours = [[]];
+    for (const [command, ...at] of font.outline(font.glyphOf(character.codePointAt(0)))) {
+        if (command === "Z") contours.push([]);
+        else if (command === "Q") contours.at(-1).push(at);
+    }
+    const found = contours.slice(0, -1).map((curves) => [0, 1].map((k) => curves.reduce((sum, it) => sum + it[k], 0) / curves.length)), rows = Array.from({ length: 9 }, () => Array(5).fill("."));
+    for (const [x, y] of found) rows[Math.round(8 - (y * 1000 - 50) / 100)][Math.round(x * 10 - 1)] = "#";
+    return rows.map((row) => row.join("")).join(" ");
+}
+
+function example() {
+    const bytes = exampleFont(), font = new Font(bytes), none = "..... .....";
+    const pictures = {
+        A: `${none} .###. #...# #...# ##### #...# #...# #...#`, "\u00c4": ".#.#. ..... .###. #...# #...# ##### #...# #...# #...#", r: `${none} ####. #...# #...# ####. #.#.. #..#. #...#`,
+        7: `${none} ##### ....# ...#. ..#.. .#... .#... .#...`, "\u0416": `${none} ##### #...# #...# #...# #...# #...# #####`,
+    };
+    for (const [character, picture] of Object.entries(pictures)) equal(dotsOf(font, character), picture, `the dots of ${character}`);
+    const characters = "ABCDEFGHIJKLMNOPQRSTUVWXYZ0123456789\u00a8\u00c4\u00d6\u00dc ", each = [...characters].map((it) => font.glyphOf(it.codePointAt(0)));
+    equal(new Set(each).size, 41, "glyphs of all characters");
+    equal([...characters.toLowerCase().replace(" ", "\u00a0")].map((it) => font.glyphOf(it.codePointAt(0))).join(), each.join(), "glyphs of small letters");
+    equal(`${font.count} ${[0, 1, 2, 3, 42].map((glyph) => font.advance(glyph))}`, "43 0.6,0.2,0.4,0.6,0.6", "glyphs and advances");
+    const texts = new TextDecoder("utf-16be").decode(font.tables.get("name").array.slice(6 + 12 * 3)), names = new TextDecoder("latin1").decode(font.tables.get("post").array.slice(34 + 2 * 43));
+    equal(texts, "No rights are claimed in this font.DotsRegular", "names");
+    ok(names.startsWith("\x07.notdef\x03dot\x05space\x010\x011") && names.endsWith("\x01Z\x08dieresis\x09Adieresis\x09Odieresis\x09Udieresis"), `names of glyphs: ${names}`);
+    // (its bytes are what the other tests take for granted, so that a change of them is made on purpose)
+    equal(createHash("sha256").update(bytes).digest("hex"), "e9f57c3b72cb175f1f2dcee1f282930643dc036d493f92e815d18c590df4f36d", "the example's SHA-256");
+    const further = new Font(exampleFont({ prep: [0x4f], "cvt ": [0, 1], maxp: [0, 1, 0, 0, 0, 9] }));
+    equal(`${further.count} ${[...further.tables.keys()]}`, "9 cmap,cvt ,glyf,head,hhea,hmtx,loca,maxp,name,post,prep", "further tables, and one in the place of its own");
 }
 
 /** All of it. */
 export function runDrawn() {
-    [charstrings, compactFonts, simpleGlyphs, composites, metrics, characters].forEach((part) => {
+    [charstrings, compactFonts, simpleGlyphs, composites, metrics, characters, example].forEach((part) => {
         try {
             part();
         } catch (error) {

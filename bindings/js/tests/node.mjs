@@ -12,6 +12,7 @@ import { Font, charstringCommands } from "../page/outlines.mjs";
 import { compare, damagedFonts, realFonts } from "./compare.mjs";
 import { runDrawn } from "./drawn.mjs";
 import { fontFiles, readFont, some } from "./fonts.mjs";
+import { runMaking } from "./making.mjs";
 import { runParts } from "./parts.mjs";
 import { runPdf } from "./pdf.mjs";
 import { readRows, runRows } from "./rows.mjs";
@@ -79,6 +80,9 @@ async function rows() {
     const top = here("../../../").slice(0, -1);
     for (const path of [top, homedir()]) ok(path.length < 3 || !Buffer.from(wasm).includes(path), `the module names ${path}`);
     equal(subsetter.version, version, "the library's version");
+    const module = await WebAssembly.compile(wasm), exported = WebAssembly.Module.exports(module).filter(({ kind }) => kind === "function").map(({ name }) => name);
+    equal(exported.sort().join(), ["heap_start", ...["embed", "embed_at", "error_text", "glyphs_of", "pdf_font", "pdf_objects", "pdf_sheet", "subset", "subset_at", "version"].map((it) => `subsetter_${it}`)].join(), "the calls of the module");
+    equal(WebAssembly.Module.imports(module).length, 0, "what the module takes of others");
     // A real font, as the program has it: bindings/test puts it into rows of its own.
     const more = process.env.SUBSETTER_FONT_ROWS, real = more ? runRows(library, subsetter, readFileSync(more, "utf8")) : 0;
     return `${count} rows, and ${real} of a real font`;
@@ -109,8 +113,9 @@ async function calls() {
 
 async function pdf() {
     const folder = "../../rust/tests/data/";
-    const count = await runPdf(library, wasm, read(`${folder}pdf_rows.txt`).toString(), (name) => new Uint8Array(read(folder + name)));
-    ok(count >= 17, "there are rows for PDF");
+    const text = read(`${folder}pdf_rows.txt`).toString(), count = await runPdf(library, wasm, text, (name) => new Uint8Array(read(folder + name)));
+    equal(count, text.match(/^row /gm).length, "rows for PDF that are run");
+    ok(count >= 20, "there are rows for PDF");
     return `${count} rows`;
 }
 
@@ -140,7 +145,8 @@ async function stale() {
         equal(askFor(file), 0, `what make has to do for ${file}`);
         for (const name of from) equal(askFor(file, "-W", name), 1, `what make has to do for ${file} once ${name} is newer`);
     }
-    return `${sources.length} sources`;
+    runMaking();
+    return `${sources.length} sources, and what make calls`;
 }
 
 /** The file for npm, unpacked where a program would have it, and what its types name. */

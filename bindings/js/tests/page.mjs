@@ -56,11 +56,12 @@ const shown = (page) =>
         same: [...document.querySelectorAll("figure")].map((it) => it.dataset.same),
         paths: [...document.querySelectorAll("figure")].map((it) => [...it.querySelectorAll("path")].map((path) => path.getAttribute("d"))),
         captions: [...document.querySelectorAll("figcaption")].map((it) => [...it.children].map((part) => part.textContent)),
-        name: document.getElementById("save").download,
+        classes: [...document.querySelectorAll("figcaption")].map((it) => it.className), scopes: [...document.querySelectorAll("#sizes tbody tr > :first-child")].map((it) => it.localName + it.scope).join(),
+        drawn: document.getElementById("drawn").textContent, name: document.getElementById("save").download,
         texts: ["source-size", "source-name", "subset-size", "subset-part"].map((id) => document.getElementById(id).textContent),
         drawings: [...document.querySelectorAll("figure svg")].map((svg) => {
-            const path = svg.querySelector("path"), { x, y, width, height } = path.getBBox(), map = path.transform.baseVal.consolidate()?.matrix, view = svg.viewBox.baseVal;
-            return { label: svg.getAttribute("aria-label"), box: [x, y, x + width, y + height], map: map && [map.a, map.b, map.c, map.d, map.e, map.f], view: [view.x, view.y, view.x + view.width, view.y + view.height] };
+            const path = svg.querySelector("path"), line = svg.querySelector("line"), { x, y, width, height } = path.getBBox(), map = path.transform.baseVal.consolidate()?.matrix, view = svg.viewBox.baseVal;
+            return { label: svg.getAttribute("aria-label"), role: svg.getAttribute("role"), line: ["x1", "y1", "x2", "y2"].map((it) => Number(line.getAttribute(it))), box: [x, y, x + width, y + height], map: map && [map.a, map.b, map.c, map.d, map.e, map.f], view: [view.x, view.y, view.x + view.width, view.y + view.height] };
         }),
     })`);
 
@@ -98,8 +99,16 @@ async function check(page, source, glyphs, options, what) {
     ok(view.texts[3].endsWith(" % of the file") && Math.abs(parseFloat(view.texts[3]) - part) <= part / 20, `${what}: ${view.texts[3]}, and not ${part}`);
     // Each drawing is upright, in the middle of what is seen, and says which glyph it is.
     equal(view.drawings.map(({ label }) => label).join(), asked.flatMap(([old, cid]) => [`glyph ${old} of the source`, `glyph ${cid} of the subset`]).join(), `${what}: the labels`);
-    view.drawings.forEach(({ box: [left, low, right, high], map, view: [x, y, behind, below] }, i) => {
-        equal(map?.join(), "1,0,0,-1,0,0", `${what}: drawing ${i} is upright`);
+    const are = (got, wanted, within, place) => ok(got.length === wanted.length && got.every((it, i) => Math.abs(it - wanted[i]) <= within), `${what}: ${place}: ${got}, and not ${wanted}`);
+    view.drawings.forEach(({ box: [left, low, right, high], map, view: [x, y, behind, below], role, line }, i) => {
+        equal(`${role} ${map?.join()}`, "img 1,0,0,-1,0,0", `${what}: drawing ${i} is upright`);
+        // The whole outline and the advance are seen, at least 0.9 of the em, with the line that it stands on.
+        const [old, cid] = asked[i >> 1], commands = i % 2 ? subset.outline(cid) : before.outline(old), d = view.paths[i >> 1][i % 2], xs = commands.flatMap(([, ...at]) => at.filter((_, k) => k % 2 === 0));
+        const first = Math.min(0, ...xs), last = Math.max(before.advance(old) ?? 0, 0.1, ...xs), middle = (first + last) / 2, half = Math.max(last - first, 0.9) / 2;
+        are([x, y, behind, below], [middle - half, -1.02, middle + half, 0.34], 1e-5, `what is seen of drawing ${i}`);
+        are(line, [middle - half, 0, middle + half, 0], 1e-9, `the line of drawing ${i}`);
+        equal(d.replace(/[^A-Z]/g, ""), commands.map(([it]) => it).join(""), `${what}: the commands of drawing ${i}`);
+        are((d.match(/-?[\d.]+(?:e-\d+)?/g) ?? []).map(Number), commands.flatMap(([, ...at]) => at), 5.1e-6, `the numbers of drawing ${i}`);
         // (these numbers have 24 bits)
         ok(x <= Math.min(left, 0) + 1e-5 && Math.max(right, 0) <= behind + 1e-5, `${what}: drawing ${i} is wider than what is seen`);
         ok(y <= -high + 1e-5 && y <= -1 && -low <= below + 1e-5 && below > 0.2, `${what}: drawing ${i} is taller than what is seen`);
@@ -109,7 +118,12 @@ async function check(page, source, glyphs, options, what) {
         equal(one, other, `${what}: drawing ${i}`);
         equal(one !== "", before.outline(asked[i][0]).length > 0, `${what}: drawing ${i} is there`);
     });
-    ok(view.said.startsWith(`Done: ${made.font.length.toLocaleString("en")} bytes with ${subset.count} glyphs`), `${what}: ${view.said}`);
+    const [done, took] = view.said.split(", in "), further = subset.count - asked.length, they = further === 1 ? ["glyph is", "it"] : ["glyphs are", "them"];
+    equal(done, `Done: ${made.font.length.toLocaleString("en")} bytes with ${subset.count} glyphs`, `${what}: what is said`);
+    ok(/^((\d|10)\.\d|[1-9]\d+) ms\.( The font has no glyph for (“.”, )*“.”\.)?$/u.test(took), `${what}: ${view.said}`);
+    const alike = `On the left from the source, on the right from the subset: ${asked.length} of ${asked.length} have the same outline, point for point.`;
+    equal(view.drawn, alike + (further ? ` ${further} further ${they[0]} in the subset, since composites need ${they[1]}.` : ""), `${what}: what is said of the drawings`);
+    equal(`${view.classes.join("")} ${view.scopes}`, ` ${sizes.map(() => "throw").join()}`, `${what}: no drawing differs, and each row has its head`);
     same((await save(page)).data, made.font, `${what}: the saved file`);
     return view;
 }
@@ -118,6 +132,9 @@ async function byMouse() {
     const page = await opened(), example = exampleFont(), reading = new Font(example);
     const glyphsOf = (characters) => [...new Set([...characters].map((it) => reading.glyphOf(it.codePointAt(0))))];
     await page.value(`window.heard = []; new MutationObserver(() => window.heard.push(document.getElementById("said").textContent)).observe(document.getElementById("said"), { childList: true, characterData: true, subtree: true })`);
+    // What each frame shows: nothing is said that isn't seen.
+    await page.value(`window.seen = [], (function look() { const { textContent } = document.getElementById("said"); if (window.seen.at(-1) !== textContent) window.seen.push(textContent); requestAnimationFrame(look) })()`);
+    equal(await text(page, "said"), "Ready. Take a font.", "what is said at first");
     await set(page, "text", "ÄB2");
     await after(page, () => page.drop("#drop", [file("dots.ttf", example)]));
     const first = await check(page, example, glyphsOf("ÄB2"), {}, "a dropped font");
@@ -127,6 +144,11 @@ async function byMouse() {
     equal(JSON.stringify(first.captions.map(([name]) => name)), '["","Ä","B","2"]', "the characters under the drawings");
     ok((await text(page, "drawn")).includes("3 further glyphs are"), "further glyphs: dot, A and the dieresis");
     equal((await page.value("window.heard")).map((it) => it.split(" ")[0]).join(), "Reading,Subsetting,Drawing,Done:", "what the page says while it works");
+    const frames = await page.value("window.seen");
+    equal(frames.slice(0, 4).join("; "), "Ready. Take a font.; Reading dots.ttf …; Subsetting dots.ttf …; Drawing 4 glyphs …", "what is seen while it works");
+    ok(frames.length === 5 && frames[4].startsWith("Done: "), `what is seen at the end: ${frames}`);
+    await after(page, () => set(page, "text", "B"));
+    ok((await check(page, example, glyphsOf("B"), {}, "one letter")).drawn.includes(" 1 further glyph is "), "a further glyph: dot");
     // Text and numbers, one after the other.
     await after(page, () => set(page, "text", "ZEBRA Ж"));
     await check(page, example, glyphsOf("ZEBRA "), {}, "another text");
@@ -146,13 +168,15 @@ async function byMouse() {
     await check(page, example, [5, 9, 10, 11], {}, "numbers alone");
     await after(page, () => set(page, "numbers", "5; 9-9 ;10-11,7"));
     await check(page, example, [5, 9, 10, 11, 7], {}, "numbers by other signs");
+    await after(page, () => set(page, "numbers", "5, 0-2"));
+    await check(page, example, [5, 0, 1, 2], {}, "glyph 0 among others");
     await after(page, () => set(page, "numbers", ""));
     await check(page, example, [], {}, "nothing asked for");
     for (const wrong of ["5, x", "70000", "9-5", "-3", "1.5", "65536", "5-65536", "5-", "0x5", "5-6-7", "123456"]) {
         await after(page, () => set(page, "numbers", wrong));
         const view = await shown(page);
         ok(!view.trouble && view.result, `${wrong}: the trouble alone is to be seen`);
-        ok((await text(page, "trouble")).includes("is no glyph number from 0 to 65535"), `${wrong}: ${await text(page, "trouble")}`);
+        equal(await troubleOf(page), `These glyphs can't be read; “${wrong.split(" ").at(-1)}” is no glyph number from 0 to 65535, and no range of them.; What to do: Write numbers and ranges, as in 36, 68-70.; Nothing was subset.`, wrong);
     }
     for (const number of ["60000", "65535", "65534-65535"]) {
         await after(page, () => set(page, "numbers", number));
@@ -170,21 +194,29 @@ async function byMouse() {
         await after(page, () => page.value(`document.getElementById("${id}").click()`));
     }
     // A face of a collection, and a font with more glyphs than are drawn.
-    const faces = [plainFont(5, 16), plainFont(9, 20)], ttc = collection(faces);
+    const faces = [plainFont(5, 16), example], ttc = collection(faces);
     await after(page, () => page.drop("body", [file("two.ttc", ttc)]));
     equal(await page.value('document.getElementById("face-field").hidden'), false, "the face is asked for");
     await after(page, () => set(page, "numbers", "4"));
     await after(page, () => set(page, "face", "1"));
-    const { name, data } = await save(page);
-    same(data, subsetter.subset(ttc, [4], { index: 1 }), "face 1");
-    equal(name, "subset-two.ttf", "the name of a subset of a collection");
+    equal((await check(page, ttc, [4], { index: 1 }, "face 1")).name, "subset-two.ttf", "the name of a subset of a collection");
     equal(await page.value('document.getElementById("face").max'), "1", "the last face");
+    await after(page, () => set(page, "face", ""));
+    same((await save(page)).data, subsetter.subset(ttc, [4]), "face 0, where none is named");
+    await after(page, () => set(page, "face", "1"));
     await after(page, () => set(page, "numbers", "1-299"));
     await after(page, () => page.drop("#drop", [file("many.ttf", plainFont(300, 16))]));
     equal(await page.value('document.getElementById("face-field").hidden'), true, "the face isn't asked for");
     equal(await page.value('document.getElementById("face").value'), "0", "the first face of another file");
     equal((await shown(page)).same.length, 240, "drawings of many glyphs");
     ok((await text(page, "drawn")).endsWith("The first 240 of 300 are drawn."), "what isn't drawn is said");
+    // The name of what is saved is that of its outlines, if it was one of a collection.
+    await after(page, () => set(page, "numbers", "1"));
+    const otf = readFileSync(here("../../rust/tests/data/made.otf"));
+    for (const [name, data, wanted] of [["cff.OTC", otf, "cff.otf"], ["cff.ttc", otf, "cff.otf"], ["glyf.otc", example, "glyf.ttf"], ["a.ttc.TTC", example, "a.ttc.ttf"], ["plain.otf", example, "plain.otf"], ["none", otf, "none"], ["ttc", otf, "ttc"]]) {
+        await after(page, () => page.drop("#drop", [file(name, data)]));
+        equal((await shown(page)).name, `subset-${wanted}`, `the name of what is saved of ${name}`);
+    }
     // Fonts that are none, and then one again.
     const odd = [
         ["no-loca.ttf", without(example, "loca"), "MalformedFont"],
@@ -217,6 +249,9 @@ async function byMouse() {
     })`);
     equal(refused, "connect-src", "a request of the page");
 }
+
+/** What is said of what went wrong: its name, why it did, what to do, and the line of all that is said. */
+const troubleOf = async (page) => (await Promise.all(["trouble-name", "trouble-why", "trouble-do", "said"].map((id) => text(page, id)))).join("; ");
 
 /** A font in which a table has another tag. */
 function without(font, tag) {
@@ -280,7 +315,8 @@ async function byKeyboard() {
     await to("names");
     await after(page, () => page.key(" "));
     const reading = new Font(example), glyphs = [..."CAB"].map((it) => reading.glyphOf(it.charCodeAt(0)));
-    await check(page, example, glyphs, { names: false }, "by the keyboard");
+    const { texts: [, source], name } = await check(page, example, glyphs, { names: false }, "by the keyboard");
+    equal(`${source} ${name}`, "dots.ttf subset-dots.ttf", "the name of the example");
     await to("save");
     same((await save(page, () => page.key("Enter"))).data, subsetter.subset(example, glyphs, { names: false }), "saved by the keyboard");
     // Each field has a name, and each drawing.
@@ -302,11 +338,15 @@ async function changed(name, from, to, whole = readFileSync(here("../out/page.ht
     return page;
 }
 
-/** Of each error words of why, and of what to do, which no other has. */
+/** Of each error why it comes, and what to do. */
 const ADVICE = {
-    UnknownKind: ["doesn't begin as an OpenType font", "WOFF"], MalformedFont: ["missing or cut", "the glyph numbers and the face first"], Unimplemented: ["outlines are CFF2", "Take a font with CFF or TrueType outlines"],
-    SubsetError: ["A string that is kept lies outside its table", "without the names"], OverflowError: ["no number for glyph 0", "Ask for fewer glyphs"], CFFError: ["outline of a glyph can't be run", "made to do harm"],
-    OutOfMemory: ["no memory left", "Close other pages"],
+    UnknownKind: ["This doesn't begin as an OpenType font or collection, or it has no outlines.", "A WOFF or WOFF2 file is to be unpacked first (woff2_decompress, or fontTools). Otherwise take another file."],
+    MalformedFont: ["A table that is needed is missing or cut, or the font has no such glyph or face.", "Look at the glyph numbers and the face first. If these are right, the font is damaged: fetch it again."],
+    Unimplemented: ["The outlines are CFF2, or a glyph is an accented character that its charstring puts together of two others.", "Take a font with CFF or TrueType outlines, or leave the glyph out."],
+    SubsetError: ["A string that is kept lies outside its table.", "The font is damaged. It may work without the names."],
+    OverflowError: ["The glyphs leave no number for glyph 0, or the new font would be too large; or a real number of a CFF dict is too long, or hhea counts no metrics.", "Ask for fewer glyphs; if these are few, the font is damaged."],
+    CFFError: ["The outline of a glyph can't be run: a wrong operator, number or call, or too much work.", "The font is damaged, or made to do harm. Take another copy, or leave the glyph out."],
+    OutOfMemory: ["The page has no memory left for this font.", "Close other pages, or use the program on a machine with more memory."],
 };
 
 /** What is said of each error that a subset may have, and of others. */
@@ -316,17 +356,13 @@ async function advice() {
     const page = await changed("erring.html", url(readFileSync(here("../subsetter.mjs"))), url(lie));
     await page.until("document.body.dataset.ready === 'true'");
     await after(page, () => page.drop("#drop", [file("dots.ttf", exampleFont())]));
-    const parts = async () => Promise.all(["trouble-name", "trouble-why", "trouble-do", "said"].map((id) => text(page, id)));
-    for (const [error, words] of Object.entries(ADVICE)) {
+    for (const [error, [why, what]] of Object.entries(ADVICE)) {
         await after(page, () => set(page, "text", error));
-        const [name, why, what, said] = await parts(), others = Object.entries(ADVICE).filter(([it]) => it !== error).flatMap(([, it]) => it);
-        equal(`${name}; ${said}`, `${error}; dots.ttf can't be subset: of mine.`, "the error that is named");
-        ok(why.includes(words[0]) && what.startsWith("What to do: ") && what.includes(words[1]), `${error}: ${why} ${what}`);
-        ok(!others.some((it) => `${why} ${what}`.includes(it)), `${error} has words of another: ${why} ${what}`);
+        equal(await troubleOf(page), `${error}; ${why}; What to do: ${what}; dots.ttf can't be subset: of mine.`, `what is said of ${error}`);
     }
     for (const [error, wanted] of [["TypeError", "What to do: Write numbers and ranges, as in 36, 68-70."], ["Other", ""]]) {
         await after(page, () => set(page, "text", error));
-        equal((await parts()).join("; "), `These glyphs can't be read; of mine; ${wanted}; Nothing was subset.`, `an error of another kind: ${error}`);
+        equal(await troubleOf(page), `These glyphs can't be read; of mine; ${wanted}; Nothing was subset.`, `an error of another kind: ${error}`);
     }
     quiet(page);
     await after(page, () => page.value('document.getElementById("example").click()'));
@@ -339,7 +375,7 @@ async function failures() {
     const broken = await changed("broken.html", module, "AGFzbQEAAAA=", whole);
     await broken.until('!document.getElementById("trouble").hidden');
     await broken.until('document.getElementById("said").textContent === "Nothing can be done here."');
-    ok((await text(broken, "trouble")).startsWith("The subsetter can't be started\n"), "a page without a module");
+    equal(await troubleOf(broken), "The subsetter can't be started; the module isn't subsetter.wasm; What to do: Use a browser of these years: it needs WebAssembly with 64-bit numbers and import maps.; Nothing can be done here.", "a page without a module");
     equal(await broken.value("document.body.dataset.ready ?? document.getElementById('result').hidden"), true, "it isn't ready");
     const page = await opened(), example = exampleFont();
     const drop = (name, reading) => page.value(`{
@@ -350,12 +386,44 @@ async function failures() {
     await set(page, "text", "A");
     await after(page, () => page.drop("#drop", [file("dots.ttf", example)]));
     await after(page, () => drop("gone.ttf", 'Promise.reject(new Error("it is gone"))'));
-    const parts = await Promise.all(["trouble-name", "trouble-why", "trouble-do", "said"].map((id) => text(page, id)));
-    equal(parts.join("; "), "The file can't be read; it is gone; What to do: Choose it again.; Nothing was read.", "a file that can't be read");
+    equal(await troubleOf(page), "The file can't be read; it is gone; What to do: Choose it again.; Nothing was read.", "a file that can't be read");
     equal((await shown(page)).result, true, "its result isn't to be seen");
     const reading = new Font(example);
     await after(page, () => set(page, "text", "B"));
     await check(page, example, [reading.glyphOf(66)], {}, "the file of before");
+    // What is dropped, or left, without a file changes nothing.
+    const { said } = await shown(page), nothing = ["{ value: { files: [] } }", "{ value: null }"].map((it) => `dispatchEvent(Object.defineProperty(new Event("drop", { bubbles: true, cancelable: true }), "dataTransfer", ${it}))`);
+    for (const act of [...nothing, 'document.getElementById("file").dispatchEvent(new Event("change"))']) await page.value(`${act}; new Promise((done) => requestAnimationFrame(() => setTimeout(done)))`);
+    equal((await shown(page)).said, said, "what is said where there is no file");
+    // (a browser would show the file itself)
+    for (const type of ["dragover", "drop"]) equal(await page.value(`dispatchEvent(new DragEvent("${type}", { cancelable: true }))`), false, `the browser's own way with ${type}`);
+    quiet(page);
+}
+
+/** A subset that the page can't read, and a source: what it shows then. */
+async function unreadable() {
+    const example = exampleFont(), made = subsetter.subset(example, [5]), reading = new Font(example), url = (code) => `data:text/javascript;base64,${Buffer.from(code).toString("base64")}`;
+    const lie = `const font = Uint8Array.from(atob("${Buffer.from(made).toString("base64")}"), (it) => it.charCodeAt(0));
+        export const load = async () => ({ embed: (data) => ({ font: data.length === 60 ? font : Uint8Array.of(1, 2, 3, 4), cids: [1], widths: [500, 600] }) });`;
+    const page = await changed("unreadable.html", url(readFileSync(here("../subsetter.mjs"))), url(lie)), count = (it) => it.toLocaleString("en");
+    await page.until("document.body.dataset.ready === 'true'");
+    await set(page, "text", "");
+    await set(page, "numbers", "5");
+    for (const [name, data, before, behind] of [["dots.ttf", example, reading.sizes(), new Map()], ["odd.ttc", new Uint8Array(60), new Map(), new Font(made).sizes()]]) {
+        await after(page, () => page.drop("#drop", [file(name, data)]));
+        const view = await shown(page), size = behind.size ? made.length : 4, tags = [...new Set([...before.keys(), ...behind.keys()])].sort((a, b) => (before.get(b) ?? 0) - (before.get(a) ?? 0));
+        equal(view.said.split(", in ")[0], `Done: ${count(size)} bytes with ${behind.size ? new Font(made).count : "some"} glyphs`, `${name}: what is said`);
+        equal(JSON.stringify(view.sizes), JSON.stringify(tags.map((tag) => [tag, ...[before, behind].map((it) => (it.has(tag) ? count(it.get(tag)) : "–"))])), `${name}: the sizes`);
+        const [kind, known] = before.size ? ["source", before] : ["subset", behind], largest = Math.max(...known.values());
+        equal(view.bars.map(([it]) => it).join(), tags.map(() => `bar ${kind}`).join(), `${name}: the bars`);
+        view.bars.forEach(([, width], i) => ok(Math.abs(parseFloat(width) - (100 * known.get(tags[i])) / largest) < 0.01, `${name}: bar ${i}`));
+        equal(`${view.rows.join(";")} ${view.same} ${view.captions.map(([, it]) => it)} ${view.classes}`, "0,0,500;5,1,600 null,null 0 → 0 not drawn,5 → 1 not drawn differs,differs", `${name}: the glyphs`);
+        ok(view.drawn.includes(": 0 of 2 have the same outline"), `${name}: ${view.drawn}`);
+        equal(view.paths.map((pair) => pair.map((d) => d !== "")).join(";"), before.size ? "true,false;true,false" : "false,true;false,true", `${name}: what is drawn`);
+        equal(view.name, before.size ? "subset-dots.ttf" : "subset-odd.ttf", `${name}: its name`);
+    }
+    await after(page, () => set(page, "text", "AB"));
+    ok((await text(page, "said")).endsWith("The font has no glyph for “A”, “B”."), "the characters of a font that isn't read");
     quiet(page);
 }
 
@@ -365,12 +433,14 @@ async function belongings() {
     await page.value(`{
         const { createObjectURL, revokeObjectURL } = URL;
         window.urls = new Set();
-        URL.createObjectURL = (it) => { const url = createObjectURL.call(URL, it); window.urls.add(url); return url };
+        window.types = new Set();
+        URL.createObjectURL = (it) => { const url = createObjectURL.call(URL, it); window.urls.add(url); window.types.add(it.type); return url };
         URL.revokeObjectURL = (url) => { window.urls.delete(url); revokeObjectURL.call(URL, url) };
     }`);
     await after(page, () => page.drop("#drop", [file("dots.ttf", example)]));
     for (const letters of ["A", "AB", "", "C"]) await after(page, () => set(page, "text", letters));
     equal(await page.value("JSON.stringify([...window.urls]) === JSON.stringify([document.getElementById('save').href])"), true, "one file is held, which is the one that is offered");
+    equal(await page.value("[...window.types].join()"), "font/sfnt", "the type of the file that is offered");
     const drag = (type) => page.send("Input.dispatchDragEvent", { type, x: 300, y: 300, data: { items: [], files: [file("dots.ttf", example)], dragOperationsMask: 1 } });
     await drag("dragEnter");
     await drag("dragOver");
@@ -441,6 +511,41 @@ async function oneBehindAnother() {
     await page.value("window.readLate()");
     await after(page, () => set(page, "numbers", "3"));
     equal((await check(page, example, [3], {}, "the file that was taken last")).name, "subset-soon.ttf", "its name");
+    // Nor is one that fails late spoken of.
+    await page.value(`(() => {
+        const read = new Promise((_, fail) => (window.failLate = fail));
+        ${drop("late.ttf", late, "read")}
+        ${drop("again.ttf", example, "Promise.resolve()")}
+    })()`);
+    await page.until("document.body.dataset.done");
+    await page.value('window.failLate(new Error("late")), new Promise((done) => requestAnimationFrame(() => setTimeout(done)))');
+    equal((await check(page, example, [3], {}, "the file that was taken last, where another fails")).name, "subset-again.ttf", "its name");
+    quiet(page);
+}
+
+/** Of several starts the last alone asks the subsetter, and one that another overtakes while it draws shows nothing. */
+async function startsAtOnce() {
+    const url = (code) => `data:text/javascript;base64,${Buffer.from(code).toString("base64")}`, own = url(readFileSync(here("../subsetter.mjs")));
+    const counting = `import { load as real } from "${own}";
+        export const load = async (data) => { const it = await real(data); return { embed: (...words) => { window.embeds.push(words[1].join()); return it.embed(...words) } } };`;
+    const page = await changed("counting.html", own, url(counting)), example = exampleFont();
+    await page.until("document.body.dataset.ready === 'true'");
+    await page.value("window.embeds = []");
+    await set(page, "text", "");
+    await after(page, () => page.drop("#drop", [file("dots.ttf", example)]));
+    const ask = (number) => `document.getElementById("numbers").value = "${number}", document.getElementById("numbers").dispatchEvent(new Event("input"))`;
+    await after(page, () => page.value(`window.embeds = [], ${ask(3)}, ${ask(4)}, ${ask(5)}`));
+    equal(await page.value('window.embeds.join("; ")'), "5", "what the subsetter is asked for");
+    await after(page, () => page.value(`{
+        const said = document.getElementById("said"), first = new MutationObserver(() => said.textContent.startsWith("Drawing") && (first.disconnect(), ${ask(7)}));
+        window.embeds = [];
+        window.times = 0;
+        new MutationObserver(() => window.times++).observe(document.getElementById("glyphs"), { childList: true });
+        first.observe(said, { childList: true, characterData: true, subtree: true });
+        ${ask(6)};
+    }`));
+    equal(await page.value('window.embeds.join("; ") + " " + window.times'), "6; 7 1", "what the subsetter is asked for, and how often glyphs are shown");
+    await check(page, example, [7], {}, "the last start");
     quiet(page);
 }
 
@@ -457,9 +562,10 @@ async function overALie(letters) {
     const page = await opened({}, file("lying.html", lying));
     await set(page, "text", letters);
     await after(page, () => page.drop("#drop", [file("dots.ttf", example)]));
-    const { same: alike, paths, captions } = await shown(page);
+    const { same: alike, paths, captions, classes } = await shown(page);
     equal(alike.map((it) => it === "true").join(), "true,true,false,false", "what is the same");
     ok(paths[1][0] === paths[1][1] && paths[1][0] !== "", "the first is drawn from both");
+    equal(classes.join(), ",,differs,differs", "which of them are marked");
     ok(paths[2][0] !== paths[2][1] && paths[2][1] === paths[3][0], "the second from the source, and the third in its place from the subset");
     ok(paths[3][0] !== "" && paths[3][1] === "", "the third from the source alone");
     equal(captions.map(([, numbers]) => numbers).join(), `0 → 0,${a} → 1,${b} → 2 differs,${c} → 99 not drawn`, "what is said of each");
@@ -491,13 +597,17 @@ try {
         await byKeyboard();
         console.log("page: the same by the keyboard alone");
         await oneBehindAnother();
+        await startsAtOnce();
         console.log("page: one start behind another");
         // (M and W have as many dots, so that their outlines have the same commands)
         equal(new Set([..."MW"].map(commandsOf)).size, 1, "the commands of M and W");
-        for (const letters of ["ABC", "AMW"]) await overALie(letters);
+        // (and the outline of O is the beginning of that with a dieresis)
+        ok(commandsOf("\u00d6").startsWith(commandsOf("O")) && commandsOf("\u00d6") !== commandsOf("O"), "the commands of O with a dieresis");
+        for (const letters of ["ABC", "AMW", "AO\u00d6", "A\u00d6O"]) await overALie(letters);
         console.log("page: what differs is told");
         await advice();
         await failures();
+        await unreadable();
         await belongings();
         console.log("page: what each error says, files and modules that can't be read, what is given back, what the policy refuses");
     }

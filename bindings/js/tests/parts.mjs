@@ -3,10 +3,12 @@ import { equal, ok } from "./assert.mjs";
 import { randomOf } from "./fonts.mjs";
 import { memoryOf } from "./made.mjs";
 
+const PAGE = 65536, BASE = 2 ** 21;
+
 /** Blocks that are taken, made larger and given back at random never overlap, keep what is in them, and lie at 16. */
 function blocks({ memory, heap_start, test_alloc, test_realloc, test_dealloc }, seed) {
     const random = randomOf(seed), live = [];
-    const base = 2 ** 21;
+    const base = BASE;
     heap_start(base);
     // (Rust asks for no block of 0 bytes)
     const size = () => 1 + [random(70), random(2000), 2 ** random(16), 2 ** random(16) + 1, random(100000)][random(5)];
@@ -56,25 +58,84 @@ function blocks({ memory, heap_start, test_alloc, test_realloc, test_dealloc }, 
     // Sizes that no memory has are refused, and change nothing; so is an alignment that no block has.
     for (const n of [2 ** 31 - 2 ** 20, 2 ** 31 - 8]) {
         equal(test_alloc(n, 8), 0, `a block of ${n} bytes`);
-        const at = test_alloc(100, 8);
+        const at = test_alloc(100, 8), bytes = new Uint8Array(memory.buffer, at, 100).fill(9);
         equal(test_realloc(at, 100, n), 0, `a block made ${n} bytes large`);
-        new Uint8Array(memory.buffer, at, 100).fill(9);
+        ok(bytes.length === 100 && bytes.every((it) => it === 9), "what is in a block that stays");
         test_dealloc(at, 100);
+        equal(test_alloc(100, 8), at, "the block that stayed is given back once");
     }
-    equal(test_alloc(100, 32), 0, "a block at a multiple of 32");
-    ok(test_alloc(100, 16) !== 0, "a block at a multiple of 16");
+    for (const alignment of [32, 64, 65536]) equal(test_alloc(100, alignment), 0, `a block at a multiple of ${alignment}`);
+    for (const alignment of [1, 2, 4, 8, 16]) ok(test_alloc(100, alignment) !== 0, `a block at a multiple of ${alignment}`);
+}
+
+/** How far apart the sizes of blocks are that may serve for so many bytes: 16 up to 64, and then a quarter of the power of two below. */
+function stepOf(bytes) {
+    let power = 64;
+    while (2 * power < bytes) power *= 2;
+    return bytes <= 64 ? 16 : power / 4;
+}
+
+/** The size of each block, that it serves for each request of its size and for no other, where the first one lies, and that none is past all addresses. */
+function sizes({ heap_start, test_alloc, test_realloc, test_dealloc }) {
+    const all = Array.from({ length: 1100 }, (_, i) => i + 1);
+    for (let power = 1024; power < 2 ** 22; power *= 2) for (const quarters of [4, 5, 6, 7]) for (const more of [-1, 0, 1]) all.push((power / 4) * quarters + more);
+    for (const bytes of all) {
+        const step = stepOf(bytes), size = Math.ceil(bytes / step) * step, least = size - stepOf(size) + 1;
+        heap_start(BASE);
+        equal(test_alloc(bytes, 8), BASE, `the first block, for ${bytes} bytes`);
+        equal(test_alloc(1, 8), BASE + size, `where the block for ${bytes} bytes ends`);
+        test_dealloc(BASE, bytes);
+        for (const other of [least, bytes, size]) {
+            equal(test_alloc(other, 8), BASE, `the block for ${bytes} bytes, for ${other}`);
+            equal(test_realloc(BASE, other, bytes), BASE, `a block for ${other} bytes, made one for ${bytes}`);
+            test_dealloc(BASE, bytes);
+        }
+        for (const other of [least - 1, size + 1]) if (other > 0) ok(test_alloc(other, 8) !== BASE, `the block for ${bytes} bytes, for ${other}`);
+        equal(test_alloc(size, 8), BASE, `the block for ${bytes} bytes is still there`);
+        for (const other of [least - 1, size + 1]) {
+            const moved = other > 0 && test_realloc(BASE, bytes, other);
+            ok(moved !== BASE && moved !== 0, `a block for ${bytes} bytes, made one for ${other}`);
+            if (moved) equal(test_alloc(bytes, 8), BASE, "the block that moved is given back");
+        }
+    }
+    for (let more = 0; more < 40; more++) {
+        heap_start(BASE + more);
+        equal(test_alloc(8, 8), BASE + Math.ceil(more / 16) * 16, `the first block from ${more} bytes past a multiple on`);
+    }
+    for (const bytes of [16, 65520, 65536, 70000, 200000]) {
+        heap_start(2 ** 32 - PAGE);
+        equal(test_alloc(bytes, 8), 0, `a block of ${bytes} bytes near the end of all addresses`);
+    }
+    heap_start(BASE);
+    ok(test_alloc(16, 8) === BASE, "a block after that");
+}
+
+/** The memory grows by the pages that are missing and a sixteenth of those that are there, and only where one is missing. */
+async function grows(wasm) {
+    const { instance } = await WebAssembly.instantiate(wasm), { memory, heap_start, test_alloc } = instance.exports, pages = () => memory.buffer.byteLength / PAGE;
+    for (let round = 0; round < 40; round++) {
+        const have = pages();
+        heap_start(have * PAGE - 160);
+        equal(test_alloc(160, 8), have * PAGE - 160, "a block up to the end of the memory");
+        equal(pages(), have, "pages for it");
+        const [from, bytes, missing] = [[-144, 160, 1], [0, 3 * PAGE, 3], [16, PAGE, 2], [-16, PAGE, 1]][round % 4];
+        heap_start(have * PAGE + from);
+        equal(test_alloc(bytes, 8), have * PAGE + from, "a block past the end of the memory");
+        equal(pages(), have + missing + Math.floor(have / 16), `pages for ${bytes} bytes from ${from} on, where there were ${have}`);
+    }
+    equal(memoryOf(wasm).most, 32768, "the pages that there may be");
 }
 
 /** With a cap on the memory, blocks end at the cap, and what can be had up to there is had. */
 async function atTheCap(wasm, pages) {
     const { capped } = memoryOf(wasm), { instance } = await WebAssembly.instantiate(capped(pages));
     const { memory, heap_start, test_alloc, test_dealloc } = instance.exports;
-    heap_start(2 ** 21);
+    heap_start(BASE);
     const taken = [];
     for (let at; (at = test_alloc(10000, 8)) !== 0; ) taken.push(at);
-    equal(memory.buffer.byteLength, pages * 65536, "the memory at its cap");
+    equal(memory.buffer.byteLength, pages * PAGE, "the memory at its cap");
     // (a block of 10,000 bytes has 10,240)
-    equal(taken.length, Math.floor((pages * 65536 - 2 ** 21) / 10240), "blocks up to the cap");
+    equal(taken.length, Math.floor((pages * PAGE - BASE) / 10240), "blocks up to the cap");
     test_dealloc(taken[3], 10000);
     equal(test_alloc(10000, 8), taken[3], "the block that was given back");
     equal(test_alloc(10000, 8), 0, "a block past the cap");
@@ -83,5 +144,7 @@ async function atTheCap(wasm, pages) {
 export async function runParts(wasm) {
     const { instance } = await WebAssembly.instantiate(wasm);
     for (let seed = 1; seed < 6; seed++) blocks(instance.exports, seed);
+    sizes(instance.exports);
+    await grows(wasm);
     for (let pages = 40; pages < 50; pages++) await atTheCap(wasm, pages);
 }

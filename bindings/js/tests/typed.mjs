@@ -1,8 +1,11 @@
 /** What subsetter.d.mts says of types, choices and numbers, beside what the module takes and answers. */
 import { readFileSync } from "node:fs";
 import { fileURLToPath } from "node:url";
-import { equal, ok, throws } from "./assert.mjs";
+import { exampleFont } from "../page/example.mjs";
+import { Font } from "../page/outlines.mjs";
+import { equal, ok, same, throws } from "./assert.mjs";
 import { memoryOf } from "./made.mjs";
+import { SAID } from "./said.mjs";
 
 const read = (name) => readFileSync(fileURLToPath(new URL(name, import.meta.url)), "utf8");
 const font = (name) => new Uint8Array(readFileSync(fileURLToPath(new URL(`../../rust/tests/data/${name}`, import.meta.url))));
@@ -143,43 +146,99 @@ function values(interfaces, subsetter) {
     }
 }
 
-/** Of these interfaces and of the errors: what is said otherwise than in Python. */
-const OTHERWISE = ["CFFError", "OutOfMemory", "Descriptor", "Descriptor.descent", "Descriptor.xHeight", "PdfFont", "PdfFont.widths", "PdfFont.columns", "PdfFont.defaultColumn",
-    "PdfFont.encoding", "PdfFont.objects", "PdfFont.sheet"];
-/** What is said of what is chosen, where nothing is: the first of the names, all, or none. */
-const WITHOUT = {
-    "PdfChoices.codes": "Without it consecutive.", "PdfChoices.bounds": "Without it those of the font.", "PdfChoices.rights": "Without it `fsType`.", "PdfFont.sheet": "Without a layout a line.",
-    "PdfChoices.program": "alone, the smallest, or the whole file (PDF 1.6).", "PdfChoices.vertical": "True: text runs from top to bottom.", "PdfChoices.cidSet": "True: there is a CIDSet, which PDF/A-1 demands.",
-    "PdfChoices.tag": "The six capitals in front of the font's name. Without them they are computed of the font program.", "Choices.names": "False: without `name`.",
-    "Choices.glyphNames": "False: without the names of glyphs in `post`.", "Choices.hinting": "False: TrueType outlines lose their instructions, and the font its `cvt `, `fpgm` and `prep`.",
-};
+/** Python's docstrings, by class, and by class and member. */
+function docstringsOf(text) {
+    const found = {};
+    for (const [, name, body] of text.matchAll(/^class (\w+)\b[^\n]*:\n((?: {4}[^\n]*\n|\n)+)/gm)) {
+        found[name] = flat(/^ {4}"""([^]*?)"""/.exec(body)?.[1] ?? "");
+        for (const [, member, doc] of body.matchAll(/^ {4}(\w+): [^\n]*\n {4}"""([^]*?)"""/gm)) found[`${name}.${member}`] = flat(doc);
+    }
+    return found;
+}
 
-/** What is said of a thing is what Python's docstrings and the module's own comments say of it. */
-function texts(types, interfaces) {
-    const python = flat(read("../../python/subsetter/__init__.py")), module = flat(read("../subsetter.mjs"));
-    const classes = Object.fromEntries([...types.matchAll(/\/\*\*((?:(?!\*\/).)*)\*\/\nexport class (\w+)/gs)].map(([, text, name]) => [name, flat(text)]));
-    const checked = { ...classes };
-    delete checked.SubsetterError;
-    for (const name of ["Embedded", "Column", "Descriptor", "Permission", "Objects", "PdfFont"]) {
-        const comment = new RegExp(`/\\*\\*((?:(?!\\*/).)*)\\*/\\nexport interface ${name} `, "s").exec(types)?.[1];
-        if (comment) checked[name] = flat(comment);
-        for (const [member, { comment: text }] of Object.entries(interfaces[name])) if (text) checked[`${name}.${member}`] = text;
+/** What is said of a thing is what Python's docstring of it says, or what said.mjs has; and of an error what the module's own comment says. */
+function texts(types, interfaces, subsetter) {
+    const python = docstringsOf(read("../../python/subsetter/__init__.py")), module = read("../subsetter.mjs");
+    const said = { ...SAID, "Subsetter.version": `The library's version, as "${subsetter.version}".` }, found = {}, classes = [];
+    for (const [, text, kind, name] of types.matchAll(/(?:\/\*\*((?:(?!\*\/).)*)\*\/\n)?export (class|interface|type|function) (\w+)/gs)) {
+        if (text) found[name] = flat(text);
+        if (kind === "class") classes.push(name);
+        for (const [member, { comment }] of Object.entries(interfaces[name] ?? {})) if (comment) found[`${name}.${member}`] = comment;
     }
-    let same = 0;
-    for (const [name, text] of Object.entries(checked)) {
-        if (OTHERWISE.includes(name)) continue;
-        same++;
-        ok(python.includes(text), `${name}: Python has nothing like: ${text}`);
+    equal(Object.keys(found).filter((name) => name in said).join(), [...Object.keys(said)].sort((a, b) => Object.keys(found).indexOf(a) - Object.keys(found).indexOf(b)).join(), "what said.mjs has");
+    let alike = 0;
+    for (const [name, text] of Object.entries(found)) {
+        if (name in said) {
+            equal(text, said[name], `what is said of ${name}`);
+            continue;
+        }
+        const there = name.replace(/(?<=\..*)[A-Z]/g, (it) => `_${it.toLowerCase()}`);
+        ok(python[there]?.includes(text), `${name}: Python says of it: ${python[there]}`);
+        alike++;
     }
-    ok(same > 30, `${same} texts are those of Python`);
-    for (const [name, text] of Object.entries(classes)) {
-        const [first] = text.split(/(?<=\.) |[;(]/);
-        ok(module.includes(`/** ${first.trim()}`.replace(/\.$/, "")), `${name}: the module has nothing like: ${first}`);
+    equal(alike, ALIKE, "texts that are those of Python");
+    equal(classes.join(), ERRORS, "the errors, in order");
+    for (const name of classes) ok(types.includes(`\nexport class ${name} extends ${name === "SubsetterError" ? "Error" : "SubsetterError"} {}\n`), `what ${name} stands on`);
+    for (const name of classes) {
+        const own = flat(new RegExp(`/\\*\\*((?:(?!\\*/)[^])*)\\*/\nexport class ${name} `).exec(module)[1]).replace(/\.$/, ""), [first] = found[name].split(/(?<=\.) |[;(]/);
+        ok(found[name].startsWith(own) && own.length >= first.trim().length - 1, `${name}: the module says: ${own}`);
     }
-    for (const [name, text] of Object.entries(WITHOUT)) {
-        const [around, member] = name.split(".");
-        ok(interfaces[around][member].comment.includes(text), `${name} doesn't say: ${text}`);
+}
+const ERRORS = "SubsetterError,UnknownKind,MalformedFont,Unimplemented,SubsetError,OverflowError,CFFError,OutOfMemory,NotPermitted,InvalidText", ALIKE = 35;
+
+/** What the types say beside types and numbers, on fonts that are at hand. */
+function claims(subsetter, library) {
+    const { MalformedFont, OverflowError, Unimplemented, UnknownKind } = library, [ttf, variable, cff2] = ["made.ttf", "made_variable.ttf", "made_cff2.otf"].map(font), tags = (data) => [...new Font(data).tables.keys()].join();
+    // Face: in a file with one font the index isn't looked at.
+    const shown = [{ glyph: 1, text: "A" }, { glyph: 5, text: "fi" }], opened = subsetter.open(ttf, { index: 7 });
+    for (const made of [subsetter.subset(ttf, [1, 5], { index: 4294967295 }), opened.subset([1, 5]), subsetter.embed(ttf, [1, 5], { index: 7 }).font]) same(made, subsetter.subset(ttf, [1, 5]), "a font with an index");
+    equal(JSON.stringify(subsetter.glyphsOf(ttf, "AH", { index: 7 })), JSON.stringify(opened.glyphsOf("AH")), "glyphs with an index");
+    same(subsetter.pdfFont(ttf, shown, { index: 7 }).program, opened.pdfFont(shown).program, "a program with an index");
+    // Choices: what each of them leaves out.
+    const full = exampleFont({ "cvt ": [0, 1], fpgm: [0x4f], prep: [0x4f] }), all = "cvt ,fpgm,glyf,head,hhea,hmtx,loca,maxp,name,post,prep";
+    equal(tags(subsetter.subset(full, [5])), all, "the tables of a subset");
+    equal(tags(subsetter.subset(full, [5], { hinting: false })), "glyf,head,hhea,hmtx,loca,maxp,name,post", "the tables without hinting");
+    equal(tags(subsetter.subset(full, [5], { names: false })), all.replace("name,", ""), "the tables without names");
+    const post = (options) => new Font(subsetter.subset(full, [5], options)).tables.get("post").u32(0);
+    equal([post({}), post({ glyphNames: false })].join(), [0x20000, 0x30000].join(), "the versions of post");
+    // Limits: the bound is the most bytes that the new font may have.
+    const bytes = subsetter.subset(full, [5]).length;
+    equal(subsetter.subset(full, [5], { limits: { bytes } }).length, bytes, "a font of as many bytes as are allowed");
+    throws(() => subsetter.subset(full, [5], { limits: { bytes: bytes - 1 } }), OverflowError, "a font of a byte more");
+    // Place: an axis without a value is at its default, one past its end at that end, and another font's axis is passed over.
+    const at = (coordinates) => subsetter.subset(variable, [1, 2, 3], { coordinates });
+    const pairs = [[{ wght: 650 }, { wght: 650, slnt: 0 }], [{ wght: 99999 }, { wght: 900 }], [{ wght: -1 }, { wght: 100 }], [{ slnt: -11 }, { slnt: -10 }], [{ wdth: 3 }, {}], [{ wght: 650, wdth: 3 }, { wght: 650 }], [{ wght: 400, slnt: 0 }, undefined], [{ slnt: 1 }, undefined]];
+    for (const [one, other] of pairs) same(at(one), at(other), `the glyphs at ${JSON.stringify(one)}`);
+    equal(new Set([100, 400, 650, 900].map((wght) => String(at({ wght })))).size, 4, "the glyphs at other places");
+    const steps = (tokens, coordinates) => () => subsetter.subset(variable, [1, 2, 3], { coordinates, limits: { tokens } });
+    throws(steps(1, { wght: 650 }), OverflowError, "one step for a glyph");
+    same(steps(1, { wght: 400 })(), at({}), "no steps at the default");
+    for (const coordinates of [undefined, {}, { wght: 650 }]) {
+        const call = () => subsetter.subset(cff2, [1, 2], { coordinates });
+        if (coordinates === undefined) throws(call, Unimplemented, "outlines in CFF2 without coordinates");
+        else ok(tags(call()).startsWith("CFF ,") && !tags(call()).includes("CFF2"), "outlines in CFF2, made static");
     }
+    // Subsetter: what is wrong is told by the first call, and a call that is closed is a TypeError.
+    const wrong = subsetter.open(new Uint8Array(3));
+    throws(() => wrong.subset([]), UnknownKind, "no font");
+    throws(() => wrong.glyphsOf("A"), UnknownKind, "no font");
+    const without = (tag) => {
+        const data = ttf.slice(), k = [...Array(data[5]).keys()].find((i) => String.fromCharCode(...data.subarray(12 + 16 * i, 16 + 16 * i)) === tag);
+        data[12 + 16 * k] = 63;
+        return data;
+    };
+    for (const tag of ["hmtx", "head"]) throws(() => subsetter.embed(without(tag), [1]), MalformedFont, `embedded without ${tag}`);
+    throws(() => subsetter.glyphsOf(without("cmap"), "A"), MalformedFont, "glyphs without cmap");
+    // PdfFont: objects from a number on, which have no filter; and what names are kept.
+    const text = (data) => new TextDecoder("latin1").decode(data);
+    for (const [options, count] of [[{}, 5], [{ cidSet: true }, 6], [{ codes: "source" }, 6], [{ codes: "source", cidSet: true }, 7]]) {
+        const made = subsetter.pdfFont(ttf, [{ glyph: 3, text: "C" }, ...shown], options), { bytes: all, offsets } = made.objects(9);
+        equal(`${offsets.length} ${Boolean(made.encoding)} ${text(all).includes("/Filter")}`, `${count} ${options.codes === "source"} false`, `the objects with ${JSON.stringify(options)}`);
+        offsets.forEach((it, i) => ok(text(all).slice(it).startsWith(`${9 + i} 0 obj\n`), `the place of object ${9 + i}`));
+        ok(text(all).startsWith("9 0 obj\n<< /Type /Font /Subtype /Type0"), "the Type 0 font comes first");
+    }
+    ok(!tags(subsetter.pdfFont(ttf, shown).program).includes("name"), "names of a font for a PDF");
+    same(subsetter.pdfFont(ttf, shown, { codes: "source" }).codes, [1, 5], "codes that are the source's");
 }
 
 /** The numbers of the comments and of the README are those of the module. */
@@ -211,7 +270,30 @@ function numbers(types, interfaces, { library, subsetter, wasm }) {
     equal(memoryOf(wasm).most * 65536, memory * 2 ** 30, "the memory that README.md names");
     ok(readme.includes("`'wasm-unsafe-eval'` in `script-src`") && /script-src [^;"]*'wasm-unsafe-eval'/.test(read("../page/index.html")), "the policy that README.md names");
     equal(/The library's version, as "(.*)"\./.exec(said)[1], subsetter.version, "the version in the types");
+    // What README.md says of a clone.
+    ok(readme.includes(`\nnpm install ./bindings/js/out/subsetter-proved-${subsetter.version.replace("+", "-")}.tgz\n`), "the file that README.md installs");
+    const [, rust] = /with Node, npm and Debian 12's Rust ([\d.]+),/.exec(readme), makefile = read("../Makefile");
+    ok(read("../../targets").includes(`\nRUST, NEW_RUST, GCC, BINUTILS, MINGW = "${rust}.0", `) && makefile.includes(`Debian's Rust ${rust} with`), "the compiler that README.md names");
+    ok(readme.includes("`make -C bindings/js package`") && /^package: /m.test(makefile), "how README.md makes the file");
+    for (const [, name] of /\((.*) name another compiler\)/.exec(readme)[1].matchAll(/`(\w+)=`/g)) ok(makefile.includes(`\n${name} ?= `), `the variable ${name}`);
+    const [, known] = /Each error is a class of its name, as `(\w+)`, under `SubsetterError`\./.exec(readme);
+    ok(library[known].prototype instanceof library.SubsetterError, "the error that README.md names");
+    for (const text of README) ok(readme.includes(text), `README.md doesn't say: ${text}`);
+    const [, first] = /\n```js\n(.*?)\n```/s.exec(readme), comment = read("../subsetter.mjs").split("*/")[0];
+    for (const [, line] of comment.matchAll(/^ \* {5}(.*)$/gm)) ok(first.split("\n").some((it) => it.startsWith(line)), `README.md's first example lacks: ${line}`);
 }
+
+/** What README.md says that these tests and others look at. */
+const README = [
+    "An ES module without dependencies, for Node 20 and later and for browsers.", "// a Uint8Array: glyphs 0, 36 and 68, as 0, 1 and 2\n", "// { font, cids, widths } for a PDF\n", "// face 1 of a collection\n",
+    "`bytes` is the whole file, OpenType or a collection, as an ArrayBuffer or a view of one.", "For a variable font both calls take coordinates on its axes; the widths of `embed` are those at the coordinates:",
+    "Outlines in `CFF2` are taken so alone; `coordinates: {}` is the default.", "`subsetter.d.mts` says what each call takes.", "A wrong argument is a TypeError or a RangeError.",
+    '`new URL("./subsetter.wasm", import.meta.url)`; else `load` takes an address, a `Response`, bytes, or a `WebAssembly.Module`, which can be sent to workers.',
+    "It grows with the largest call, never shrinks, and is freed with the object. Out of memory is `OutOfMemory`; later calls work as before.",
+    "`glyphsOf` doesn't shape: text in Arabic or Devanagari, ligatures and kerning need a shaper, whose glyphs `pdfFont` takes with their text, as `[{ glyph: 5, text: \"fi\" }]`.",
+    "**Proved**, by machine, of the sources that the crate is generated from, for a `usize` of 64 bits:", "This module is **not proved**.",
+    "the compiler (rustc for 32 bits), the heap and the calls in `module/`, and the JavaScript around them. All of this is **tested**:",
+];
 
 function subsetterThrows(library, call, what) {
     try {
@@ -226,6 +308,7 @@ export async function runTyped(library, wasm, types) {
     const interfaces = interfacesOf(types), subsetter = await library.load(wasm);
     signatures(types, interfaces, subsetter);
     values(interfaces, subsetter);
-    texts(types, interfaces);
+    texts(types, interfaces, subsetter);
+    claims(subsetter, library);
     numbers(types, interfaces, { library, subsetter, wasm });
 }

@@ -13,10 +13,10 @@ const ERRORS = {
 const WORD = 2 ** 32 - 1, PDF_WORDS = 43;
 const SHOWN = [{ glyph: 3, text: "A" }, { glyph: 4, text: "fi" }, { glyph: 3, text: "a" }];
 
-/** What a struct has: of a list, by the bytes of an item, its numbers (of 32 bits at most), and where it is. */
-function given(fields, buffer, struct) {
+/** What a struct has behind its first bytes: of a list, by the bytes of an item, its numbers (of 32 bits at most), and where it is. */
+function given(fields, buffer, struct, skipped) {
     const view = new DataView(buffer), found = {}, places = [];
-    let at = struct;
+    let at = struct + skipped;
     const word = () => view.getUint32((at += 4) - 4, true);
     for (const [name, size] of fields) {
         if (!size) {
@@ -43,17 +43,19 @@ STRUCTS.subsetter_pdf_sheet = STRUCTS.subsetter_pdf_objects;
 
 /** Runs `run` with a library in which each call is kept, and answers what `says` gives of it, or else what it answers. */
 async function kept({ library, wasm, watched }, run) {
-    const calls = [], state = { calls, says: () => undefined };
+    const calls = [], asked = [], state = { calls, asked, says: () => undefined };
     const change = (exports) => {
         let start = 0;
-        const heap = exports.heap_start;
+        const heap = exports.heap_start, text = exports.subsetter_error_text;
         exports.heap_start = (at) => heap((start = at));
+        exports.subsetter_error_text = (status, at) => (asked.push(status), text(status, at));
         state.memory = () => exports.memory;
+        state.base = Math.ceil(exports.__heap_base.value / 16) * 16;
         for (const [name, fields] of Object.entries(STRUCTS)) {
             const call = exports[name], skipped = fields === STRUCTS.subsetter_pdf_sheet ? 4 * PDF_WORDS : 0;
             exports[name] = (struct) => {
-                const { found, places } = given(fields, exports.memory.buffer, struct + skipped);
-                calls.push({ name, found, places, start });
+                const { found, places } = given(fields, exports.memory.buffer, struct, skipped);
+                calls.push({ name, found, places, start, first: new DataView(exports.memory.buffer).getUint32(struct, true) });
                 return state.says(name, struct) ?? call(struct);
             };
         }
@@ -80,8 +82,8 @@ function errorClasses({ library }) {
     equal(Object.getPrototypeOf(library.SubsetterError), Error, "what SubsetterError stands on");
     for (const name of [...names, "SubsetterError"]) {
         if (name !== "SubsetterError") equal(Object.getPrototypeOf(library[name]), library.SubsetterError, `what ${name} stands on`);
-        const error = new library[name]("why"), { value, enumerable } = Object.getOwnPropertyDescriptor(library[name].prototype, "name");
-        equal(`${value} ${enumerable} ${error}`, `${name} false ${name}: why`, "the name of an error");
+        const error = new library[name]("why"), { value, enumerable, configurable, writable } = Object.getOwnPropertyDescriptor(library[name].prototype, "name");
+        equal(`${value} ${enumerable} ${configurable} ${writable} ${error}`, `${name} false true true ${name}: why`, "the name of an error");
         ok(error instanceof library.SubsetterError && error instanceof Error && !Object.hasOwn(error, "name"), `${name} is an error`);
     }
 }
@@ -90,6 +92,9 @@ function errorClasses({ library }) {
 async function errorsByStatus(all) {
     const { library, texts } = all;
     await kept(all, (subsetter, state) => {
+        // (the texts are asked for at the start, as there may be no memory for it later)
+        const isAsked = () => equal(state.asked.join(), Object.keys(ERRORS).join(), "the statuses whose texts are asked for");
+        isAsked();
         const font = exampleFont(), made = subsetter.pdfFont(font, SHOWN), each = [{}, { coordinates: { wght: 1 } }].map((options) => callsOf(subsetter, font, options));
         const calls = [...each.flatMap((it) => [...it.calls, ...it.pdf, ...it.glyphs]), ["objects", () => made.objects(4)], ["sheet", () => made.sheet()]];
         for (const status of [...Array(20).keys(), 99].slice(1)) {
@@ -103,6 +108,7 @@ async function errorsByStatus(all) {
         state.says = () => undefined;
         equal(calls.length, 18, "calls");
         for (const [what, call] of calls) ok(call() !== undefined, `${what} after all these`);
+        isAsked();
     });
 }
 
@@ -111,14 +117,16 @@ const PLACE = { coordinates: { wght: 2, "AZ~ ": -1.5 } }, WORDS_OF_PLACE = [0x77
 const OPTIONS = [
     [{}, {}], [{ limits: {} }, {}], [{ limits: { tokens: 70001 } }, { tokens: 70001 }], [{ limits: { depth: 9 } }, { depth: 9 }], [{ limits: { bytes: WORD - 1 } }, { bytes: WORD - 1 }],
     [{ limits: { tokens: WORD, depth: 255, bytes: WORD } }, { tokens: WORD, depth: 255, bytes: WORD }], [{ limits: { tokens: 1, depth: 1, bytes: 1 } }, { tokens: 1, depth: 1, bytes: 1 }],
-    [{ hinting: false }, { drop: 1 }], [{ hinting: true }, {}], [PLACE, { coordinates: WORDS_OF_PLACE }],
+    [{ limits: { tokens: undefined, depth: undefined, bytes: undefined }, hinting: undefined, coordinates: undefined }, {}], [{ hinting: false }, { drop: 1 }], [{ hinting: true }, {}], [PLACE, { coordinates: WORDS_OF_PLACE }],
     [{ ...PLACE, hinting: false, limits: { depth: 7, bytes: 11, tokens: 5 } }, { drop: 1, depth: 7, bytes: 11, tokens: 5, coordinates: WORDS_OF_PLACE }],
 ];
 const NAMES = [[{ names: false }, { drop: 2 }], [{ glyphNames: false }, { drop: 4 }], [{ names: true, glyphNames: true }, {}], [{ hinting: false, names: false, glyphNames: false }, { drop: 7 }]];
 const PDF_NAMES = { program: ["smallest", "opentype"], codes: ["consecutive", "source", "eachText"], bounds: ["font", "kept"], rights: ["asSaid", "held"] };
 const OF_PDF = [
     ...Object.entries(PDF_NAMES).flatMap(([name, values]) => values.map((value, i) => [{ [name]: value }, { [name]: i }])),
-    [{ vertical: true }, { direction: 1 }], [{ vertical: false }, {}], [{ cidSet: true }, { cidSet: 1 }], [{ cidSet: false }, {}], [{ tag: "ABCXYZ" }, { front: 0x414243, back: 0x58595a }],
+    [{ vertical: true }, { direction: 1 }], [{ vertical: false }, {}], [{ cidSet: true }, { cidSet: 1 }], [{ cidSet: false }, {}],
+    // (null is as undefined for these two)
+    [{ vertical: null, cidSet: null }, {}], [{ program: undefined, codes: undefined, vertical: undefined, bounds: undefined, cidSet: undefined, tag: undefined, rights: undefined }, {}], [{ tag: "ABCXYZ" }, { front: 0x414243, back: 0x58595a }],
     [{ rights: "held", tag: "AAAAAZ", cidSet: true, bounds: "kept", vertical: true, codes: "eachText", program: "opentype", hinting: false },
         { rights: 1, front: 0x414141, back: 0x41415a, cidSet: 1, bounds: 1, direction: 1, codes: 2, program: 1, drop: 1 }],
 ];
@@ -134,10 +142,14 @@ async function wordsOfCalls(all) {
             equal(state.calls.map((it) => it.name).join(), name, `${what}: calls`);
             const [{ found, places, start }] = state.calls;
             for (const [field, value] of Object.entries(wanted)) equal(String(found[field]), String(value), `${what}: ${field}`);
-            for (const [at, , field] of places) equal(at % 4, 0, `${what}: where ${field} begins`);
-            const sorted = [...places].sort(([a], [b]) => a - b).map(([at, end]) => [at, end]);
-            sorted.push([start, start]);
-            for (let i = 1; i < sorted.length; i++) ok(sorted[i - 1][1] <= sorted[i][0], `${what}: lists lie over each other: ${JSON.stringify(sorted)}`);
+            for (const [at, , field] of [...places, [start, start, "the heap"]]) equal(at % 16, 0, `${what}: where ${field} begins`);
+            const sorted = [...places].sort(([a], [b]) => a - b);
+            sorted.push([start, start, "the heap"]);
+            for (let i = 1; i < sorted.length; i++) {
+                const [[, end, before], [at]] = [sorted[i - 1], sorted[i]], next = Math.ceil(end / 16) * 16;
+                // (behind the font there may be others, and behind what the struct is given it has what is answered)
+                ok(["font", "the struct"].includes(before) ? next <= at : next === at, `${what}: lists lie over each other, or leave room: ${JSON.stringify(sorted)}`);
+            }
         };
         state.says = () => 7;
         for (const index of [undefined, 0, 0x12345678, WORD]) {
@@ -166,6 +178,45 @@ async function wordsOfCalls(all) {
     });
 }
 
+/** A font lies in the first gap that is large enough, and what a call has behind the last font. */
+async function placesOfFonts(all) {
+    const { library } = all;
+    let seed = 1;
+    const random = (limit) => (seed = (seed * 16807) % 2147483647) % limit, aligned = (at) => Math.ceil(at / 16) * 16;
+    await kept(all, (subsetter, state) => {
+        const { base } = state, fonts = [];
+        const gap = (size) => {
+            const i = fonts.findIndex((it, i) => (i ? fonts[i - 1].next : base) + size <= it.at), k = i < 0 ? fonts.length : i;
+            return [k, k ? fonts[k - 1].next : base];
+        };
+        const check = (call, at, bytes, what) => {
+            state.calls.length = 0;
+            throws(call, library.OutOfMemory, what);
+            const [{ found, places, first }] = state.calls, behind = Math.max(base, ...fonts.map(({ next }) => next), aligned(at + bytes.length));
+            equal(first, at, `${what}: where it lies`);
+            equal(String(found.font), String(bytes), `${what}: its bytes`);
+            equal(places.at(-1)[0], behind, `${what}: where the struct lies`);
+        };
+        state.says = () => 7;
+        for (let step = 0; step < 600; step++) {
+            // At first there are more and more, at last fewer and fewer.
+            if (random(600) < (step < 300 ? 150 : 400) && fonts.length) {
+                const [{ font }] = fonts.splice(random(fonts.length), 1);
+                font.close();
+                font.close();
+            } else {
+                const size = [0, 0, 1, 15, 16, 17, 31, 32, 33, random(200), random(2000)][random(11)], bytes = Array(size).fill(1 + random(255)), [i, at] = gap(size);
+                check(() => subsetter.subset(Uint8Array.from(bytes), []), at, bytes, `step ${step}, one call`);
+                const font = subsetter.open(Uint8Array.from(bytes));
+                fonts.splice(i, 0, { at, next: aligned(at + size), bytes, font });
+            }
+            if (step % 20 === 0) fonts.forEach(({ at, bytes, font }, i) => check(() => font.subset([]), at, bytes, `step ${step}, font ${i}`));
+        }
+        fonts.splice(0).forEach(({ font }) => font.close());
+        check(() => subsetter.subset(Uint8Array.of(1, 2), []), base, [1, 2], "all closed");
+    });
+}
+
 /** Limits and choices that the loader doesn't pass are refused by the module too. */
 async function wrongWords(all) {
     const { library } = all;
@@ -189,26 +240,41 @@ async function wrongWords(all) {
 /** The memory ends at 2 GiB: by the module, and by the loader, which asks for none past it. */
 async function endOfMemory({ library, wasm, watched }) {
     equal(memoryOf(wasm).most, 32768, "the pages that the module may have");
-    let isFar = false, pages = [], have;
+    let isFar = false, base = 2 ** 31 - 4096, pages = [], have;
     const change = (exports) => {
-        const { memory, __heap_base: base } = exports;
+        const { memory, __heap_base: own } = exports;
         have = () => memory.buffer.byteLength / 65536;
         const grow = (more) => {
             if (!isFar) return memory.grow(more);
             pages.push(more);
             throw new RangeError("WebAssembly.Memory.grow(): Maximum memory size exceeded");
         };
-        const far = { get value() { return isFar ? 2 ** 31 - 4096 : base.value; } };
+        const far = { get value() { return isFar ? base : own.value; } };
         return { ...exports, __heap_base: far, memory: { get buffer() { return memory.buffer; }, grow } };
     };
     await watched(async () => {
-        const subsetter = await library.load(wasm), more = 32768 - have();
+        const subsetter = await library.load(wasm), more = 32768 - have(), there = have;
         isFar = true;
         for (const [size, asked] of [[4096, [more]], [4097, []], [1, [more]], [8192, []]]) {
             pages = [];
             const error = throws(() => subsetter.open(new Uint8Array(size)), library.OutOfMemory, `${size} bytes near the end`);
             equal(error.message, "out of memory", "what is said");
             equal(pages.join(), asked.join(), `pages for ${size} bytes near the end`);
+        }
+        // A call has its struct, too: the first is that for a text, of 8 bytes in a place of 16.
+        for (const [at, fits] of [[2 ** 31 - 16, true], [2 ** 31 - 15, false], [2 ** 31, false]]) {
+            [base, pages] = [at, []];
+            const error = await library.load(wasm).catch((it) => it);
+            equal(`${error?.constructor?.name}: ${error?.message}`, "OutOfMemory: out of memory", `a call whose place begins at ${at}`);
+            equal(pages.join(), fits ? String(32768 - have()) : "", `pages for a call whose place begins at ${at}`);
+        }
+        // What is there already isn't asked for.
+        base = there() * 65536 - 4096;
+        for (const [size, asked] of [[4096, ""], [4097, "1"], [4096 + 65536, "1"], [4097 + 65536, "2"], [0, ""]]) {
+            pages = [];
+            if (asked) throws(() => subsetter.open(new Uint8Array(size)), library.OutOfMemory, `${size} bytes at the end of what is there`);
+            else subsetter.open(new Uint8Array(size)).close();
+            equal(pages.join(), asked, `pages for ${size} bytes at the end of what is there`);
         }
         isFar = false;
         ok(subsetter.open(exampleFont()).subset([3]).length > 0, "a font after that");
@@ -274,7 +340,7 @@ function refusals({ library, subsetter }) {
     for (const call of calls) for (const name of ["names", "glyphNames"]) flag((value) => call({ [name]: value }), name);
     for (const call of pdf) {
         for (const [name, values] of Object.entries(PDF_NAMES)) choice((value) => call({ [name]: value }), name, values);
-        // (null is as undefined here)
+        // (null is as undefined here, which wordsOfCalls looks at)
         for (const name of ["vertical", "cidSet"]) flag((value) => call({ [name]: value }), name, true);
         for (const tag of ["", "A", "ABCDE", "ABCDEFG", "ABCDE1", "@BCDEF", "[BCDEF", "ABCDE@", "ABCDE[", "abcdef", "ABCDEf", "ABCDE\n", "ABCDEF\n", "\u00c4BCDEF", "\uff21BCDEF"]) {
             equal(throws(() => call({ tag }), RangeError, `the tag ${tag}`).message, `a tag must have six capitals, and not be ${JSON.stringify(tag)}`, "a tag");
@@ -300,6 +366,41 @@ function refusals({ library, subsetter }) {
         for (const call of [() => subsetter.glyphsOf(font, text), () => opened.pdfFont([{ glyph: 1, text }])]) {
             equal(throws(call, library.InvalidText, "a surrogate").message, "invalid text", "a surrogate");
         }
+    }
+    opened.close();
+}
+
+/** What is said of each wrong argument, word for word. */
+function saidOfWrong({ library, subsetter }) {
+    const font = exampleFont(), [opened, closed] = [subsetter.open(font), subsetter.open(font)], limits = "limits, hinting, names, glyphNames, coordinates";
+    const forPdf = "limits, hinting, coordinates, program, codes, vertical, bounds, cidSet, tag, rights";
+    closed.close();
+    const made = ["subset", "embed"], of = (options) => [...made.flatMap((name) => [() => subsetter[name](font, [3], options), () => opened[name]([3], options)])];
+    const pdf = (options) => [() => subsetter.pdfFont(font, SHOWN, options), () => opened.pdfFont(SHOWN, options)], both = (options) => [...of(options), ...pdf(options)];
+    const listed = (glyphs) => made.flatMap((name) => [() => subsetter[name](font, glyphs), () => opened[name](glyphs)]), entries = (shown) => [() => subsetter.pdfFont(font, shown), () => opened.pdfFont(shown)];
+    const faces = (options) => [() => subsetter.open(font, options), () => subsetter.glyphsOf(font, "A", options)];
+    const rows = [
+        ...["font", 5, null, undefined, [0, 1], {}].map((data) => [TypeError, "a font must be an ArrayBuffer or a view of one", [...made.map((name) => () => subsetter[name](data, [3])), () => subsetter.open(data)]]),
+        ...[5, null, undefined, "", "12", {}, new ArrayBuffer(2)].map((glyphs) => [TypeError, "glyphs must be an iterable of numbers", listed(glyphs)]),
+        ...[["1", "string"], [1n, "bigint"], [null, "object"], [undefined, "undefined"], [true, "boolean"]].map(([glyph, type]) => [TypeError, `a glyph must be a number, and not ${type}`, [...listed([3, glyph]), ...entries([{ glyph, text: "A" }])]]),
+        ...[5, null, undefined, "", "A", {}].map((shown) => [TypeError, "glyphs with their texts must be an iterable of objects", entries(shown)]),
+        ...[["A", "string"], [5, "number"], [null, "object"], [undefined, "undefined"]].map(([entry, type]) => [TypeError, `a glyph with its text must be an object, and not ${type}`, entries([SHOWN[0], entry])]),
+        ...[5, null, "index", true].flatMap((it) => [[TypeError, "options must be an object", [...both(it), ...faces(it)]], [TypeError, "limits must be an object", both({ limits: it })]]),
+        [TypeError, `options have no "indx", but index, ${limits}`, made.map((name) => () => subsetter[name](font, [3], { indx: 0 }))], [TypeError, `options have no "index", but ${limits}`, made.map((name) => () => opened[name]([3], { index: 0 }))],
+        [TypeError, `options have no "names", but index, ${forPdf}`, pdf({ names: true }).slice(0, 1)], [TypeError, `options have no "glyphNames", but ${forPdf}`, pdf({ glyphNames: true }).slice(1)],
+        [TypeError, 'options have no "limits", but index', faces({ index: 0, limits: {} })], [TypeError, 'limits have no "token", but tokens, depth, bytes', both({ limits: { depth: 1, token: 1 } })],
+        ...[5, null, "wght", true, [], new Map([["wght", 1]])].map((coordinates) => [TypeError, "coordinates must be an object of tags with numbers", both({ coordinates })]),
+        ...["", "wgh", "wghtt", "wgh\u00e9"].map((tag) => [RangeError, `the tag of an axis must have four ASCII characters, and not be ${JSON.stringify(tag)}`, both({ coordinates: { wdth: 1, [tag]: 1 } })]),
+        ...[["650", "string"], [null, "object"], [undefined, "undefined"], [650n, "bigint"]].map(([wght, type]) => [TypeError, `the value of wght must be a number, and not ${type}`, both({ coordinates: { wdth: 1, wght } })]),
+        ...[NaN, Infinity, -Infinity].map((wght) => [RangeError, `the value of wght must be finite, and not ${wght}`, both({ coordinates: { wdth: 1, wght } })]),
+        ...[[null, "object"], [5, "number"], [false, "boolean"]].map(([tag, type]) => [TypeError, `a tag must be a string, and not ${type}`, pdf({ tag })]),
+        ...["hinting", "names", "glyphNames"].map((name) => [TypeError, `${name} must be true or false, and not null`, of({ [name]: null })]), [TypeError, "hinting must be true or false, and not null", pdf({ hinting: null })],
+        ...["vertical", "cidSet"].map((name) => [TypeError, `${name} must be true or false, and not "true"`, pdf({ [name]: "true" })]),
+        [TypeError, "the font is closed", [...made.map((name) => () => closed[name]([3])), () => closed.glyphsOf("A"), () => closed.pdfFont(SHOWN)]],
+    ];
+    for (const [kind, message, calls] of rows) {
+        ok(calls.length > 0, `${message}: no call`);
+        calls.forEach((call, i) => equal(throws(call, kind, `${message}: call ${i}`).message, message, `what is said, call ${i}`));
     }
     opened.close();
 }
@@ -400,4 +501,4 @@ function permissions({ library, subsetter }) {
     equal([usage, subsetting, outlines].join(), "unsaid,true,true", "a font without OS/2");
 }
 
-export const WORDS = [errorClasses, errorsByStatus, wordsOfCalls, wrongWords, endOfMemory, calledAlone, refusals, asEmbedded, copiesForPdf, permissions];
+export const WORDS = [errorClasses, errorsByStatus, wordsOfCalls, placesOfFonts, wrongWords, endOfMemory, calledAlone, refusals, saidOfWrong, asEmbedded, copiesForPdf, permissions];
