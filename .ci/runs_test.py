@@ -397,6 +397,9 @@ def check_running(tests):
     tests.same("commands", (here.command, windows.command), (["/program"], ["/wine", "/program"]))
     check_otherwise(tests, running)
     check_requests(tests)
+    check_refused(tests)
+    check_entries(tests)
+    check_shown_pdf(tests)
 
 
 def check_requests(tests):
@@ -424,6 +427,100 @@ def check_otherwise(tests, running):
         with mock.patch.object(running, "OTHERWISE", {"windows": {"x": "a reason"}, "s390x": {}}), mock.patch.object(running, "FONTS", {}), tempfile.TemporaryDirectory(dir=tests.room) as room:
             said = printed(lambda: table.run_row(row, room))[0]
         tests.same(f"{line} on {system} with status {status}: {said}", (table.ran, table.wrong, table.otherwise), (1, wrong, otherwise))
+
+
+def check_refused(tests):
+    """What a run is under refused requests and calls: whole, refused, ended by Rust's `std`, or wrong; and how it is started."""
+    refused = module(".ci/program/check_refused.py")
+    base = refused.Ended((0, b"1 -> 1\n", b""), b"font", ["in", "out"], 0, {}, 9)
+
+    def ending(**changed):
+        return refused.Ended(**{**vars(base), **changed})
+    for what, run, holds in (("the same", ending(refused=3, calls={"open": 1}, requests=4), True), ("another status", ending(answer=(1, b"1 -> 1\n", b"")), False), ("another line", ending(answer=(0, b"", b"")), False), ("a message", ending(answer=(0, b"1 -> 1\n", b"x")), False),
+                             ("another OUT", ending(out=refused.OLD), False), ("no OUT", ending(out=None), False), ("a file beside it", ending(names=["in", "out", "out.part0"]), False)):
+        tests.same(f"a whole run: {what}", refused.is_whole_run(run, base), holds)
+    lines = [(1, b"", b"out of memory\n"), *((3, b"", b"cannot read %s\nout of memory\n" % it) for it in (b"in", b"list", b"-"))]
+    tests.same("refused runs", sorted(refused.REFUSED), sorted(lines))
+    for answer in lines:
+        tests.same(f"{answer}", [refused.is_refused_run(ending(answer=answer, **{"out": refused.OLD, **more}), base) for more in ({}, {"out": b"font"}, {"out": None}, {"names": ["in", "out", "x"]})], [True, False, False, False])
+    for answer in ((3, b"", b"out of memory\n"), (1, b"x", b"out of memory\n"), (1, b"", b"out of memory\nmore\n"), (3, b"", b"cannot read in\n"), (0, b"", b"out of memory\n")):
+        tests.same(f"{answer}", refused.is_refused_run(ending(answer=answer, out=refused.OLD), base), False)
+    said = b"memory allocation of 24 bytes failed\n"
+    for answer, front, wanted in (((-6, b"", said), b"", 24), ((-6, b"", b"first\n" + said), b"first\n", 24), ((-6, b"", b"first\n" + said), b"", None), ((-6, b"", said), b"first\n", 24), ((134, b"", said), b"", None), ((-6, b"x", said), b"", None), ((-6, b"", b"x"), b"", None), ((0, b"", said), b"", None)):
+        tests.same(f"ended by std: {answer}", refused.ended_by_std(ending(answer=answer), front), wanted)
+    tests.same("what std asks for", (refused.asked_by_std(["ab", "", "\u00e9x"]), refused.LONG_NAME, refused.LAST_REQUESTS), (sorted([4, 544, 1024, 72, 2, 3]), 384, 8))
+    unlined, unread, unwritten = ((3, b"", refused.message(*it)) for it in (("cannot-write", "standard output", "EIO"), ("cannot-read", "in", "EIO"), ("cannot-write", "out", "EIO")))
+    old = refused.OLD
+    for what, run, wanted in (("whole", base, "whole"), ("no lines", ending(answer=unlined), "unlined"), ("a part of the lines", ending(answer=(3, b"1 ->", unlined[2])), "unlined"), ("other lines", ending(answer=(3, b"2 ->", unlined[2])), None), ("no lines, and OUT is old", ending(answer=unlined, out=old), None),
+                              ("unread", ending(answer=unread, out=old), "unread"), ("unread, and OUT is new", ending(answer=unread), None), ("unwritten", ending(answer=unwritten, out=old), "unwritten"), ("unwritten, and OUT is new", ending(answer=unwritten), None),
+                              ("a file beside it", ending(answer=unwritten, out=old, names=["in", "out", "x"]), None), ("whole, and a file beside it", ending(names=["in"]), None), ("another status", ending(answer=(1, *unread[1:]), out=old), None), ("old, and well", ending(out=old), None),
+                              ("another reason", ending(answer=(3, b"", refused.message("cannot-read", "in", "EPERM")), out=old), None)):
+        tests.same(f"a call fails: {what}", refused.failed_end(run, base), wanted)
+    tests.same("a call fails for another reason", refused.failed_end(ending(answer=(3, b"", refused.message("cannot-read", "in", "EPERM")), out=old), base, "EPERM"), "unread")
+    tests.same("calls", (refused.CALLS, refused.FAILED_CALLS, refused.FAILED_CALLS_BY_CARGO), (
+        ("open", "size", "read", "write", "write1", "write2", "rename", "sync"), {"open": {"unread", "unwritten", "whole"}, "size": {"unread", "unwritten", "whole"}, "read": {"unread", "whole"}, "write": {"unwritten", "whole"}, "write1": {"unlined"},
+                                                                                  "rename": {"unwritten", "whole"}, "sync": {"unwritten", "whole"}}, {"read": {"unread", "whole"}, "write": {"unwritten", "unlined"}, "write1": set()}))
+    room, given = tempfile.mkdtemp(dir=tests.room), []
+
+    def start(words, folder, **more):
+        given.append((words, folder, more, read_of(folder, "sub/out"), os.path.exists(f"{folder}/told")))
+        put("9 1 a b c d 1 2 3 4 5 6 7 8", folder, "told")
+        put("new", folder, "sub", "out")
+        put("x", folder, "sub", "more")
+        return ended(4, b"o", b"e")
+    put("older", room, "told")
+    os.mkdir(f"{room}/sub")
+    got = refused.start_refused(types.SimpleNamespace(start=start), room, "/library", ["in"], b"stdin", "sub/out", REFUSE=7, ROOM=0)
+    tests.same("how it is started", given, [(["in"], room, {"env": {"LD_PRELOAD": "/library", "TOLD": f"{room}/told", "REFUSE": "7", "ROOM": "0"}, "input": b"stdin"}, old, False)])
+    tests.same("how it ended", vars(got), {"answer": (4, b"o", b"e"), "out": b"new", "names": ["more", "out"], "refused": 1, "calls": dict(zip(refused.CALLS, range(1, 9))), "requests": 9})
+    got = refused.start_refused(types.SimpleNamespace(start=lambda *_, **more: ended()), room, "/library", ["in"], out="sub/out")
+    tests.same("nothing is noted", (got.refused, got.calls, got.requests, got.out), (1, {}, 0, old))
+
+
+def check_entries(tests):
+    """The entry of a line in the manual, and the shape of an object."""
+    shown = module(".ci/program/check_shown.py")
+    entries = ["cannot read IN", "cannot read", "no glyph ..", "cannot read IN twice"]
+    for line, wanted in (("cannot read IN", "cannot read IN"), ("cannot read", "cannot read"), ("cannot read x", "cannot read IN"), ("no glyph 7", "no glyph .."), ("no glyph", None), ("cannot write x", None), ("", None)):
+        tests.same(f"the entry of {line!r}", shown.entry_of(entries, line), wanted)
+    for value, wanted in (({"b": 1, "a": "x"}, [("b", "number"), ("a", "str")]), ([1.5, "x"], ["number"]), ([], []), ({"a": [{"b": None}]}, [("a", [[("b", "NoneType")]])]), (True, "bool")):
+        tests.same(f"the shape of {value}", shown.shape(value), wanted)
+    tests.same("what no row ends with", shown.BY_CHECKS, {"out of memory", "cannot write standard output"})
+
+
+def pdf_of(*values):
+    """A PDF of these objects."""
+    body, places = b"%PDF-1.7\n", []
+    for number, value in enumerate(values, 1):
+        places.append(len(body))
+        body += b"%d 0 obj\n%s\nendobj\n" % (number, value)
+    table = b"xref\n0 %d\n0000000000 65535 f \n" % (len(values) + 1) + b"".join(b"%010d 00000 n \n" % it for it in places)
+    return body + table + b"trailer\n<< >>\nstartxref\n%d\n%%%%EOF\n" % len(body)
+
+
+def stream(data):
+    return b"<< /Length %d >>\nstream\n%s\nendstream" % (len(data), data)
+
+
+def check_shown_pdf(tests):
+    """What a PDF shows is read of a whole one alone."""
+    read = module(".ci/program/check_pdf.py")
+    two = pdf_of(b"<< /A 1 >>", b"(b)")
+    tests.same("objects", read.objects_of(two), {1: b"<< /A 1 >>", 2: b"(b)"})
+    for what, page in (("no PDF", None), ("no bytes", b""), ("another version", two.replace(b"1.7", b"1.4")), ("cut", two[:-1]), ("longer", two + b"\n"), ("an object's number", two.replace(b"2 0 obj", b"3 0 obj")), ("an object's place", two.replace(b"0000000009", b"0000000008")),
+                       ("a free object", two.replace(b"0000000009 00000 n", b"0000000009 00000 f")), ("another generation", two.replace(b"0000000009 00000 n", b"0000000009 00001 n"))):
+        tests.same(f"objects: {what}", read.objects_of(page), {})
+    unicode = b"1 begincodespacerange\n<0000> <FFFF>\nendcodespacerange\n2 beginbfchar\n<0001> <0041>\n<0002> <D83DDE00>\n<0003> <00660069>\nendbfchar\n"
+    tests.same("text", (read.text_of([1, 2, 3, 1], unicode), read.text_of([7], unicode), read.stream_of(stream(b"a\nb"))), ("A\U0001f600fiA", "", b"a\nb"))
+    values = [b"<< /Type /Pages /Kids [2 0 R] /MediaBox [0 0 100 50] >>", b"<< /Type /Page /Contents 3 0 R >>", stream(b"BT\n<0002> Tj\n<0001> Tj\nET"), b"<< /Subtype /Type0 /Encoding /Identity-H /ToUnicode 5 0 R >>", stream(unicode),
+              b"<< /Subtype /CIDFontType2 /DW 500 /W [1 [600 700]] >>", b"<< /Type /FontDescriptor /FontName /ABCDEF+It /FontFile2 8 0 R >>", stream(b"font")]
+    shown = {"line": True, "codes": [2, 1], "text": "\U0001f600A", "encoding": b"/Identity-H", "program": b"font", "widths": b"/DW 500 /W [1 [600 700]]", "name": "ABCDEF+It"}
+    tests.same("a page", read.what_is_shown(pdf_of(*values)), shown)
+    tests.same("a grid", read.what_is_shown(pdf_of(values[0].replace(b"100 50", b"595 842"), *values[1:])), {**shown, "line": False})
+    for number in (0, 3, 5, 6):
+        tests.same(f"without object {number + 1}", read.what_is_shown(pdf_of(*values[:number], b"<< >>", *values[number + 1:])), None)
+        tests.same(f"object {number + 1} twice", read.what_is_shown(pdf_of(*values, values[number])), None)
+    tests.same("words of a PDF", read.OF_PDF, ("--vertical", "--pdf", "--codes", "--rights", "consecutive", "source", "text", "held", "page"))
 
 
 # ---- .ci/examples.py and .ci/pdf_examples.py
