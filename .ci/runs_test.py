@@ -911,9 +911,11 @@ def check_speed_rows(tests, script):
             tests.same(f"fonts: {font}, {only}, {is_growth}", script.fonts_of(types.SimpleNamespace(font=font, only=only, growth=is_growth)), wanted)
     order = []
     rows = [types.SimpleNamespace(name=it) for it in "ab"]
-    with mock.patch.object(script, "first_calls", lambda row, *words: order.append(("first", row.name, os.path.isdir(words[-1])))), mock.patch.object(script, "take_turns", lambda row, *words: order.append(("turns", row.name, os.path.basename(words[-1])))):
+    with mock.patch.object(script, "first_calls", lambda row, *words: order.append(("first", row.name, os.path.isdir(words[-1])))), mock.patch.object(script, "take_turns", lambda row, *words: order.append(("turns", row.name, os.path.basename(words[-1])))), \
+            contextlib.redirect_stderr(io.StringIO()) as shown:
         script.measure(rows, {}, types.SimpleNamespace(runs=2))
     tests.same("the order of runs", order, [("first", "a", True), ("first", "b", True), *[("turns", "a", "0"), ("turns", "b", "1")] * 2])
+    tests.same("what is said of them", shown.getvalue(), "run 1 of 2: 2 rows\nrun 2 of 2: 2 rows\n")
 
 
 def check_speed_builds(tests, script):

@@ -349,9 +349,8 @@ def check_large(tests):
         found = re.search(r"^large: (\d+) rows, (\d+) differ\n\Z", out, re.M)
         counts.append(tuple(map(int, found.groups())) if found else None)
         tests.same(f"large.py with {text!r}: status", status, 1)
-    first, second = counts
-    tests.same(f"a program that says nothing, and makes nothing: {counts}", bool(first and first[0] == first[1] > 100), True)
-    tests.same(f"a program that refuses all fonts: {counts}", bool(second and 100 < second[0] - second[1] < second[0]), True)
+    # (the numbers of rows, so that none is lost, and of those that want another error than that of a malformed font)
+    tests.same("a program that says nothing, and makes nothing; one that refuses all fonts", counts, [(213, 213), (213, 78)])
     tests.same("no program", run(sys.executable, ".ci/large.py", "--program", "/nowhere")[0], 1)
 
 
