@@ -296,19 +296,20 @@ def check_rules():
 
 
 def entries_of(folder):
-    """What a folder holds: of each file its text, date and rights, of each link where it leads."""
+    """What a folder holds beside what git keeps for itself: of each file its bytes, date and rights, of each link where it leads."""
     found = {}
     for top, folders, names in os.walk(folder):
+        folders[:] = [it for it in folders if it != ".git"]
         for name in folders + names:
             path = os.path.join(top, name)
             about = os.lstat(path)
             is_file = not os.path.islink(path) and os.path.isfile(path)
-            found[os.path.relpath(path, folder)] = os.readlink(path) if os.path.islink(path) else [open_text(path), about.st_mtime_ns, about.st_mode] if is_file else "a folder"
+            found[os.path.relpath(path, folder)] = os.readlink(path) if os.path.islink(path) else [bytes_of(path), about.st_mtime_ns, about.st_mode] if is_file else "a folder"
     return found
 
 
-def open_text(path):
-    with open(path, encoding="utf-8") as file:
+def bytes_of(path):
+    with open(path, "rb") as file:
         return file.read()
 
 
@@ -359,9 +360,10 @@ def check_clone(room):
     os.symlink("changed", os.path.join(root, "link"))
     with mock.patch.object(planted, "ROOT", root):
         planted.clone(copy)
-    wanted = {name: it for name, it in entries_of(root).items() if name != "left" and not name.startswith(".git/") and name != ".git"}
-    found = {name: it for name, it in entries_of(copy).items() if not name.startswith(".git/") and name != ".git"}
-    demand({name: it[::2] for name, it in found.items()} == {name: it[::2] for name, it in wanted.items()}, "a clone's files", (found, wanted))
+    # (dates are those of the copy)
+    wanted, found = ({name: it[::2] if isinstance(it, list) else it for name, it in entries_of(folder).items() if name != "left"} for folder in (root, copy))
+    demand(found == wanted, "a clone's files", (found, wanted))
+    demand(not os.path.lexists(os.path.join(copy, "left")), "a clone has what git ignores")
     demand(planted.git(copy, "diff", "--name-only") == "" and planted.git(copy, "ls-files", "--others") == "", "a clone has what isn't staged", planted.git(copy, "status", "--porcelain"))
 
 
