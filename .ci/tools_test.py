@@ -144,10 +144,10 @@ def check_times(tests):
     until_end = "'until [ -e end ]; do sleep 0.1; done; :'"
     starts = " & ".join(f"(exec -a /kit/bin/rattle sh -c {until_end} --crate-name {name} {words})" for name, words in programs)
     # (a check eight processes below the one that is named, where the pipe's part is the first)
-    put('[ "$1" = 0 ] && exec -a /kit/bin/rattle sh -c "$2" --crate-name deep -o x\nbash nest.sh $(($1 - 1)) "$2"\n:\n', room, "nest.sh")
+    put('[ "$1" = 0 ] && touch deep && exec -a /kit/bin/rattle sh -c "$2" --crate-name deep -o x\nbash nest.sh $(($1 - 1)) "$2"\n:\n', room, "nest.sh")
     starts += f" & bash nest.sh 6 {until_end}"
     # (the lines behind the first come once that is printed and some looks are over)
-    text = (f"{{ {starts} & (exec -a other sh -c {until_end} --crate-name none -o x) & echo one: λ; until grep -qs λ out; do sleep 0.1; done; sleep 5; "
+    text = (f"{{ {starts} & (exec -a other sh -c {until_end} --crate-name none -o x) & echo one: λ; until grep -qs λ out && [ -e deep ]; do sleep 0.1; done; sleep 5; "
             f"echo '7 passed, 0 failed'; echo '3 passed, 0 failed, late'; touch end; }} | python3 {HERE}/times.py $$ > out")
     status, _, err = run("bash", "-c", text, cwd=room, PYTHONIOENCODING="utf-8")
     lines = read(room, "out").split("\n")
