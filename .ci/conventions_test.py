@@ -152,6 +152,16 @@ PLANTS = [
 ]
 
 
+# A text of code, and the numbers without a name that are found in it.
+NUMBERS = [
+    *((f"let it = {it};", [it]) for it in ("nullable_offset(b, 6)", "number_at(b, 8)", "signed_in(b, 2)", "u16_in(b, 2)", "u32_at(b, 12)", "byte_at(b, 2)", "word_in(b, 3)", "new_at(b, at(2) + 1)", "skip_bytes(5)", "read_bytes(5)", "[4..]", "[..4]", "[2..9]")),
+    *((f"let it = {it};", []) for it in ("nullable_offset(b, 1)", "number_at(b, AT)", "u16_at(b, AT + 2)", "u32_at(b, 4 * index)", "u32_at(b, index * 4)", "new_at(b, at)", "skip_bytes(4)", "skip_bytes(2 * count)", "[1..3]", "[at..]", "[index]", "[9]", "other_at(b, 7)", "u16_of(b, 7)")),
+    ("first: u16_at(b, 2),", []), ("fn u16_at(b: &[u8], 2)", []), ("self.number_at(7)?", ["number_at(7)"]), ("read_word_at(b, 7)", ["read_word_at(b, 7)"]), ("let it = new_at(b,\n    6)", ["new_at(b, 6)"]),
+    ("flags & 0x8000", ["0x8000"]), ("0xFF", ["0xFF"]), ("0x0200 | 0x0010", ["0x0200"]), ("0x0100_0000 + 0x10 + 0x1", []), ("0x10001", []), ("const MORE: u16 = 0x20;", []), ("pub const SIZES: [usize; 2] = [2..9];", []), ("static LIST: &[u8] = [5..9];", []),
+    ("let text = \"u16_at(b, 7) 0x22\";", []), ("b'7'", []), ("// u16_at(b, 7)", []), ("    ensures { u16_at(b, 7) }", []), ("    ghost use u16_at(b, 7)", []), ("let it = u16_at(b, 7) + u16_at(b, 9);", ["u16_at(b, 7)", "u16_at(b, 9)"]),
+]
+
+
 def outcome(root, change, *options):
     """The status and what is printed for a changed repository."""
     shutil.rmtree(root, ignore_errors=True)
@@ -193,10 +203,15 @@ def main():
         if listed != (0, "function high.two = low.read.one: they have one body\n"):
             wrong += 1
             print(f"--list: {listed}")
+        for text, numbers in NUMBERS:
+            bare = list(conventions.bare_numbers(text + "\n"))
+            if bare != numbers:
+                wrong += 1
+                print(f"{text}: {bare} in place of {numbers}")
         if not shrinks(root):
             wrong += 1
             print("--shrink: it takes out too much or too little")
-    print(f"{len(PLANTS) + 2} changes, {wrong} wrong answers of conventions.py")
+    print(f"{len(PLANTS) + len(NUMBERS) + 2} changes, {wrong} wrong answers of conventions.py")
     return not wrong
 
 

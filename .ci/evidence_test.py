@@ -88,6 +88,14 @@ def strange_file(room):
     return planted.faults_of_run("a strange file", ran, r"results/strange\.csv: no comparison has this file")
 
 
+def no_results(room):
+    """No result at all."""
+    planted.git(room, "rm", "-q", "-r", RESULTS)
+    ran = planted.run(room, CHECK)
+    planted.git(room, "reset", "-q", "--hard")
+    return planted.faults_of_run("no results", ran, r"(?m)^compare/results has no results$")
+
+
 def side_commit(room):
     """A commit that is in the repository, but not behind HEAD."""
     side = planted.git(room, "commit-tree", "HEAD^{tree}", "-m", "beside").strip()[:12]
@@ -282,7 +290,8 @@ def planted_in(some):
 
 def single(room):
     """The plants that take more than an edit."""
-    parts = [strange_file(room), refreshed_by_hand(room), side_commit(room), data_of_another(room)]
+    planted.git(room, "commit", "-q", "-m", "as it is", "--allow-empty")
+    parts = [strange_file(room), refreshed_by_hand(room), side_commit(room), data_of_another(room), no_results(room)]
     return [fault for faults in parts for fault in faults], len(parts)
 
 

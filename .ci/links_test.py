@@ -42,8 +42,58 @@ PLANTS = [
     ("an option of the program in code", "docs/PDF.md", None, "\n`subset_font --no-outlines`\n", r"subset_font has no option --no-outlines"),
     ("an option alone in CLI.md", "docs/CLI.md", None, "\n`--no-widths`\n", r"nothing has the option --no-widths"),
     ("an option that goes", "crates/subset_font/src/help.rt", "  --quiet  ", "  --silent ", r"nothing has the option --quiet"),
+    ("an option with a value", "compare/README.md", None, "\n```sh\ncompare/run.py --never=3\n```\n", r"compare/run\.py has no option --never"),
+    ("a script behind a pipe", "compare/README.md", None, "\n```sh\nls | compare/piped.py\n```\n", r"compare/piped\.py isn't there"),
+    ("a script behind words that start it", "compare/README.md", None, "\n```sh\nX=1 env sudo bash compare/started.sh\n```\n", r"compare/started\.sh isn't there"),
+    ("a target behind a semicolon", "README.md", None, "\n```sh\nmake demo; make later\n```\n", r"make has no target later in \.$"),
+    ("a second target", "README.md", None, "\n```sh\nmake demo further\n```\n", r"make has no target further in \.$"),
+    ("a target in the next line", "README.md", None, "\n```sh\nmake \\\n  below\n```\n", r"make has no target below in \.$"),
+    ("a target in a block of another mark", "README.md", None, "\n~~~bash\nmake tilde\n~~~\n", r"make has no target tilde in \.$"),
+    ("a section in HTML", "docs/WALK.md", None, "\n<a href=\"#by-href\">it</a>\n", r"docs/WALK\.md has no section #by-href"),
+    ("a link with a title", "docs/WALK.md", None, "\n[it](TITLED.md \"a title\")\n", r"docs/WALK\.md: TITLED\.md isn't there"),
+    ("a link in angle brackets", "docs/WALK.md", None, "\n[it](<ANGLE.md>)\n", r"docs/WALK\.md: ANGLE\.md isn't there"),
+    ("a link of code", "docs/WALK.md", None, "\n[`it`](MARKED.md)\n", r"docs/WALK\.md: MARKED\.md isn't there"),
+    # (this file must not have it)
+    ("an option alone elsewhere", "docs/WALK.md", None, "\n`-" "-no-such-option-anywhere`\n", r"nothing has the option -[-]no-such-option-anywhere"),
+    ("a module of a table", "docs/MODULES.md", "| `directory` | the records", "| `directories` | the records", r"crates/subsetter_sfnt/src/directories isn't there"),
     ("marks of a merge", "docs/WALK.md", None, "\n<<<<<<< HEAD\n", r"docs/WALK\.md: a merge left its marks"),
 ]
+
+
+# References that lead somewhere, or that aren't looked at.
+INNOCENT = """
+<a id="own-mark"></a> [a](#own-mark) [b](https://example.org/none) [c](//example.org/none) [d](mailto:x@example.org) [f][Own Name]
+
+[own name]: CLI.md
+
+## A `code` *heading*: with, signs!
+
+[g](#a-code-heading-with-signs) [h](#linked-and-bold) [i](../README.md) [j](CLI.md#the-program-subset_font)
+
+### [Linked](CLI.md) and <b>bold</b>
+
+`out/never`, `build/none`, `bindings/out/none`, `make -C bindings/js package`, `subset_font --no-hinting`, `--no-hinting`, `crates/NAME`
+
+```sh
+git clone url it && cd it && make demo
+X=1 env make quick  # make nothing
+$ make test SKIP=js
+cd bindings/js && make package
+tar xf it.tar && cd it && make demo
+```
+
+```text
+make nothing
+```
+"""
+
+
+def innocent(room):
+    """What is wrong where all is there, or isn't looked at."""
+    planted.edit(room, "innocent references", "docs/WALK.md", None, INNOCENT)
+    status, said = planted.run(room, CHECK)
+    planted.git(room, "checkout", "-q", "--", ".")
+    return [] if status == 0 else [f"innocent references are missed:\n{said}"]
 
 
 def alone(room):
@@ -73,9 +123,9 @@ def main():
         status, said = planted.run(room, CHECK)
         if status != 0:
             sys.exit(f"links_test: links.py fails as it is:\n{said}")
-        faults = planted.faults_of_run("one alone", alone(room), PLANTS[0][-1]) + all_at_once(room)
+        faults = planted.faults_of_run("one alone", alone(room), PLANTS[0][-1]) + all_at_once(room) + innocent(room)
         more, count = planted.without_git(room, CHECK, "links")
-    return planted.tell(faults + more, len(PLANTS) + count)
+    return planted.tell(faults + more, len(PLANTS) + 1 + count)
 
 
 if __name__ == "__main__":

@@ -31,6 +31,9 @@ def clone(room):
         source, target = os.path.join(ROOT, path), os.path.join(room, path)
         if os.path.lexists(source):
             os.makedirs(os.path.dirname(target), exist_ok=True)
+            # (a link isn't written over)
+            if os.path.lexists(target):
+                os.unlink(target)
             shutil.copy2(source, target, follow_symlinks=False)
         elif os.path.lexists(target):
             os.unlink(target)

@@ -10,10 +10,13 @@ import subprocess
 import sys
 import tempfile
 import time
+from unittest import mock
 
 sys.dont_write_bytecode = True
 
+import plant_files  # noqa: E402
 import planted  # noqa: E402
+import plants as runner  # noqa: E402
 
 HERE = os.path.dirname(os.path.realpath(__file__))
 RUNNER = ("plants.py", "plant_files.py", "planted.py")
@@ -272,10 +275,115 @@ def check_results(here):
         os.unlink(os.path.join(here.at, name))
 
 
+def check_rules():
+    """How long a test may take, which statuses are none of its own, what is printed of it, and in which pieces plants are taken."""
+    demand([runner.limit_of(it) for it in (0, 1, 30, 31, 100)] == [300, 300, 300, 310, 1000], "the limits of tests", runner.limit_of(31))
+    demand((runner.DRAWN_AT_MOST, runner.FIRST, sorted(runner.NEVER)) == (30, 3600, [126, 127, 137, 143]), "numbers of the runner")
+    for said, wanted in (("one\n  FAILED: two \nthree\n", "FAILED: two"), ("an error: x\nFAILED\n", "an error: x"), ("one\ntwo\n\n", "two"), ("", "nothing is printed"), ("x" * 200, "x" * 160), ("a\nthread panicked\n", "thread panicked"),
+                         ("a\nIt GOT THROUGH\nb\n", "It GOT THROUGH"), ("a\nthe files are different\nb", "the files are different")):
+        demand(runner.why_of(said) == wanted, f"why, of {said!r}", runner.why_of(said))
+    for status, wanted in ((None, "it doesn't end"), (0, ""), (1, "why (status 1)"), (126, "its test can't be started (status 126)"), (127, "its test can't be found (status 127)"), (137, "its test was killed (status 137)"), (143, "its test was ended (status 143)"),
+                           (-9, "why (status -9)")):
+        demand(runner.ended(status, "why\n") == wanted, f"a command that ends with {status}", runner.ended(status, "why\n"))
+    made = [plant_files.Plant("small", f"{test} {number}", "memory", test, [], seconds, "", "", "") for test, count, seconds in (("quick", 13, 1), ("slow", 2, 100), ("second", 6, 3)) for number in range(count)]
+    pieces = [[it.name for it in piece] for piece in runner.pieces_of(made)]
+    wanted = [["slow 0", "slow 1"], [f"second {it}" for it in range(6)], [f"quick {it}" for it in range(6)], [f"quick {it}" for it in range(6, 12)], ["quick 12"]]
+    demand(pieces == wanted, "pieces of plants", pieces)
+    for text, holds in (("2026-11-27", True), ("2026-02-29", False), ("2024-02-29", True), ("2026-13-01", False), ("2026-1-01", False), ("2026-11-27 ", False), ("20261127", False)):
+        demand(plant_files.is_date(text) == holds, f"{text!r} is a date", not holds)
+    for name, line, wanted in (("FAILED", (1, "x FAILED y"), []), ("FAILED", (1, "y"), ["a: fails, but doesn't say 'FAILED':\ny"]), ("FAILED", (0, "FAILED"), ["a: GOT THROUGH"]), ("FAILED", (1, "FAILED\nTraceback (most"), ["a: a traceback:\nFAILED\nTraceback (most"])):
+        demand(planted.faults_of_run("a", line, name) == wanted, f"what is wrong with {line}", planted.faults_of_run("a", line, name))
+
+
+def entries_of(folder):
+    """What a folder holds beside what git keeps for itself: of each file its bytes, date and rights, of each link where it leads."""
+    found = {}
+    for top, folders, names in os.walk(folder):
+        folders[:] = [it for it in folders if it != ".git"]
+        for name in folders + names:
+            path = os.path.join(top, name)
+            about = os.lstat(path)
+            is_file = not os.path.islink(path) and os.path.isfile(path)
+            found[os.path.relpath(path, folder)] = os.readlink(path) if os.path.islink(path) else [bytes_of(path), about.st_mtime_ns, about.st_mode] if is_file else "a folder"
+    return found
+
+
+def bytes_of(path):
+    with open(path, "rb") as file:
+        return file.read()
+
+
+def check_mirror(room):
+    """A folder is made what another is, whatever it was; a file that is the same already stays."""
+    source, to = os.path.join(room, "source"), os.path.join(room, "to")
+    for name in ("same", "text", "rights", "date", "was_folder", "was_link", "inner/deep/file", "was_file/file", "new/file"):
+        write(source, name, name)
+        os.utime(os.path.join(source, name), (10 ** 9, 10 ** 9))
+    os.symlink("same", os.path.join(source, "link"))
+    os.symlink("same", os.path.join(source, "other_link"))
+    shutil.copytree(source, to, symlinks=True)
+    for name in ("was_folder", "was_link", "other_link", "new/file"):
+        os.unlink(os.path.join(to, name))
+    shutil.rmtree(os.path.join(to, "was_file"))
+    for name, text in (("text", "tex2"), ("was_folder/x", "x"), ("was_file", "x"), ("inner/deep/more", "x"), ("too_many/x", "x"), ("one_more", "x"), ("inner/deep/file", "inner/deep/fil2")):
+        write(to, name, text)
+    os.symlink("text", os.path.join(to, "was_link"))
+    os.symlink("text", os.path.join(to, "other_link"))
+    for name in ("text", "inner/deep/file"):
+        os.utime(os.path.join(to, name), (10 ** 9 + 1, 10 ** 9 + 1))
+    os.chmod(os.path.join(to, "rights"), 0o755)
+    os.utime(os.path.join(to, "date"), (10 ** 9 - 1, 10 ** 9 - 1))
+    before = os.stat(os.path.join(to, "same")).st_ino
+    runner.mirror(source, to)
+    demand(entries_of(to) == entries_of(source), "a folder that is made what another is", (entries_of(to), entries_of(source)))
+    demand(os.stat(os.path.join(to, "same")).st_ino == before, "a file that is the same is written again")
+    runner.mirror(source, os.path.join(room, "none", "yet"))
+    demand(entries_of(os.path.join(room, "none", "yet")) == entries_of(source), "a folder that wasn't there")
+
+
+def check_clone(room):
+    """A clone has the files as they stand, without what git ignores: changed, new, gone, and by another name."""
+    root, copy = os.path.join(room, "root"), os.path.join(room, "copy")
+    for name, text in (("kept", "1"), ("changed", "1"), ("gone", "1"), ("folder/named", "1"), ("staged", "1"), (".gitignore", "left\n"), ("run.sh", "x")):
+        write(root, name, text)
+    os.symlink("kept", os.path.join(root, "link"))
+    planted.git(room, "init", "-q", root)
+    planted.git(root, "add", "-A")
+    planted.git(root, "commit", "-q", "-m", "first")
+    for name, text in (("changed", "2"), ("new/file", "n"), ("left", "x"), ("staged", "2"), ("w\u00f6rd name", "u")):
+        write(root, name, text)
+    planted.git(root, "add", "staged")
+    os.unlink(os.path.join(root, "gone"))
+    os.rename(os.path.join(root, "folder", "named"), os.path.join(root, "folder", "renamed"))
+    os.chmod(os.path.join(root, "run.sh"), 0o755)
+    os.unlink(os.path.join(root, "link"))
+    os.symlink("changed", os.path.join(root, "link"))
+    with mock.patch.object(planted, "ROOT", root):
+        planted.clone(copy)
+    # (dates are those of the copy)
+    wanted, found = ({name: it[::2] if isinstance(it, list) else it for name, it in entries_of(folder).items() if name != "left"} for folder in (root, copy))
+    demand(found == wanted, "a clone's files", (found, wanted))
+    demand(not os.path.lexists(os.path.join(copy, "left")), "a clone has what git ignores")
+    demand(planted.git(copy, "diff", "--name-only") == "" and planted.git(copy, "ls-files", "--others") == "", "a clone has what isn't staged", planted.git(copy, "status", "--porcelain"))
+
+
+def check_environment(here):
+    """What a test is started with: nothing of the caller's libraries and of make, a folder of its own for what is temporary."""
+    lines = ['[ -z "${SUBSETTER_LIBRARY:-}${MAKEFLAGS:-}${MAKELEVEL:-}${MFLAGS:-}" ]', f'[ "$REPOSITORY" = "{os.path.realpath(here.at)}" ]', '[ "$PYTHONDONTWRITEBYTECODE" = 1 ]', '[ "$CARGO_PROFILE_DEV_DEBUG" = 0 ]',
+             '[ -z "$(ls -A "$TMPDIR")" ]', 'touch "$TMPDIR/left"', '[ "$(pwd)" != "$REPOSITORY" ]', "false | true && exit 7 || bash test.sh"]
+    here.lists(SEEN, f"test: adds\nrun: {' && '.join(lines[:-1])} && {{ {lines[-1]}; }}\nran: checks\nseconds: 1\n")
+    with mock.patch.dict(planted.ENVIRONMENT, {"SUBSETTER_LIBRARY": "x", "MAKEFLAGS": "n", "MAKELEVEL": "1", "MFLAGS": "-n"}):
+        here.ends("what a test is started with", 0, r"^1 bugs planted, 1 seen, 0 got through$")
+
+
 def main():
+    check_rules()
+    for check in (check_mirror, check_clone):
+        with tempfile.TemporaryDirectory(prefix="plants-test-") as room:
+            check(room)
     with tempfile.TemporaryDirectory(prefix="plants-test-") as room:
         here = Repository(room)
-        for check in (check_outcomes, check_tests, check_ends, check_stop, check_lists, check_choice, check_measure, check_results):
+        for check in (check_outcomes, check_tests, check_ends, check_stop, check_lists, check_choice, check_measure, check_results, check_environment):
             check(here)
     print(f"plants_test: {checks} checks, {len(failures)} failed")
     return 1 if failures or checks < 80 else 0

@@ -1,0 +1,1532 @@
+#!/usr/bin/env python3
+"""Tests scripts that run programs and judge what these leave, over stand-ins: compare/batch.py, compare/all, compare/speed.py and
+compare/cff2_times.py, the rows of .ci/large.py and of .ci/drivers.py, .ci/program.py, .ci/examples.py, .ci/pdf_examples.py and .ci/fresh.
+No build is needed, and no time counts: the clock is a stand-in, too.
+
+    .ci/runs_test.py [NAME..]     all groups, or those named
+
+The last line is `runs_test: N checks, M failed`, and the status 1 where one failed.
+"""
+import contextlib
+import importlib.machinery
+import importlib.util
+import io
+import json
+import os
+import re
+import struct
+import subprocess
+import sys
+import tempfile
+import types
+from unittest import mock
+
+sys.dont_write_bytecode = True
+HERE = os.path.dirname(os.path.realpath(__file__))
+ROOT = os.path.dirname(HERE)
+sys.path.insert(0, os.path.join(HERE, "program"))
+DEJAVU = "/usr/share/fonts/truetype/dejavu/DejaVuSans.ttf"
+
+
+class Tests:
+    """What was checked, and what failed."""
+
+    def __init__(self, room):
+        self.checks, self.failed, self.room = 0, 0, room
+
+    def same(self, what, got, wanted):
+        self.checks += 1
+        if got != wanted:
+            self.failed += 1
+            print(f"FAILED: {what}:\n  {got!r}\n  and not\n  {wanted!r}")
+
+
+def put(data, *path, mode=0o644):
+    path = os.path.join(*path)
+    os.makedirs(os.path.dirname(path), exist_ok=True)
+    with open(path, "wb") as file:
+        file.write(data if isinstance(data, bytes) else data.encode())
+    os.chmod(path, mode)
+    return path
+
+
+def module(path):
+    """A script as a module."""
+    name = re.sub(r"\W", "_", os.path.basename(path))
+    loader = importlib.machinery.SourceFileLoader(name, os.path.join(ROOT, path))
+    made = importlib.util.module_from_spec(importlib.util.spec_from_loader(name, loader))
+    loader.exec_module(made)
+    return made
+
+
+def printed(call, *words):
+    """What a call prints, and what it ends with: a number, a text, or None where it just ends; `words` are those of its command."""
+    shown, status = io.StringIO(), None
+    with contextlib.redirect_stdout(shown), mock.patch.object(sys, "argv", ["script", *words]):
+        try:
+            status = call()
+        except SystemExit as why:
+            status = why.code
+    return shown.getvalue(), status
+
+
+# ---- compare/batch.py
+
+GLYPHS = {("/one.ttf", "0"): 10, ("/two.otf", "2"): 300}
+FACES = [("a", "/one.ttf", 0), ("b", "/two.otf", 2), ("c", "/three.ttf", 0)]
+# What is requested of the first two faces: numbers at equal distances, from the next one on each time.
+REQUESTED = [("/one.ttf", 0, [1, 3, 5]), ("/two.otf", 2, [1, 76, 151]), ("/one.ttf", 0, [2, 4, 6]), ("/two.otf", 2, [2, 77, 152]), ("/one.ttf", 0, [1, 3, 5])]
+BATCHED = """5 requests of 2 fonts, 3 glyphs each:
+
+| | Seconds | Requests a second | Times `--jobs 1` |
+|---|--:|--:|--:|
+| a run each | 0.010 | 512 | 1.20 |
+| `--jobs 1` | 0.012 | 427 | 1.00 |
+| `--jobs 2` | 0.008 | 640 | 1.50 |
+| `--jobs 4` | {four:.3f} | {a_second} | {faster:.2f} |
+
+`--jobs 4` is {faster:.2f} times as fast as `--jobs 1`; {faults} faults.
+"""
+
+
+class Batch:
+    """The script over a program of two faces, which is a function here, with a clock that it moves on."""
+
+    def __init__(self, room):
+        self.batch, self.folder, self.installed, self.ran = module("compare/batch.py"), tempfile.mkdtemp(dir=room), [], []
+        self.clock, self.seconds, self.otherwise = 0.0, {}, {}
+
+    def start(self, words, **given):
+        """What the program does. `otherwise` has what is otherwise in a run, by its number."""
+        folder, number = given.get("cwd"), len(self.ran)
+        self.ran.append((words[1:], sorted(os.listdir(folder)) if folder else None))
+        otherwise, kind = self.otherwise.get(number), words[1]
+        requests = [json.loads(it) for it in given.get("input", b"").splitlines()]
+        if kind == "--json":
+            requests = [{"gids": list(map(int, words[3].split(","))), "out": words[8]}]
+        for it in requests:
+            more = "more" if otherwise == "font" and it is requests[-1] else ""
+            put(f"font of {it['gids']}{more}", folder, it["out"])
+        taken = self.seconds["each" if kind == "--json" else words[-1] if kind == "--batch" else kind]
+        # (each time is taken by turns)
+        taken.append(taken[0])
+        self.clock += taken.pop(0)
+        said = json.dumps({"glyphs": GLYPHS[words[3], words[4]]}) if kind == "--info" else "".join(f"{it['out']} {otherwise == 'answer'}\n" for it in requests)
+        status = 3 if otherwise == "status" else 0
+        if given.get("check") and status:
+            raise subprocess.CalledProcessError(status, words)
+        return types.SimpleNamespace(returncode=status, stdout=said.encode())
+
+    def run(self, four=4.0, processors=4, otherwise=None):
+        """What it prints, and its status. `four` is the time of four threads in 1,024ths of a second, as all times are here: sums of these are exact."""
+        self.ran, self.otherwise = [], otherwise or {}
+        times = {"--info": [7.0], "each": [2.0], "1": [99.0, 12.0, 11.5, 12.5, 1.0], "2": [8.0], "4": [four]}
+        self.seconds = {name: [it / 1024 for it in all_times] for name, all_times in times.items()}
+        with contextlib.ExitStack() as stack:
+            for owner, name, new in ((self.batch, "FONTS", FACES), (self.batch.time, "perf_counter", lambda: self.clock), (self.batch.os, "cpu_count", lambda: processors),
+                                     (self.batch.fonts, "install", self.installed.append), (self.batch.subprocess, "run", self.start)):
+                stack.enter_context(mock.patch.object(owner, name, new))
+            return printed(self.batch.main, "--program", "/program", "--folder", self.folder, "--requests", "5", "--rounds", "5", "--glyphs", "3", "--fonts", "2")
+
+
+def check_batch(tests):
+    """What is requested and run, the whole table, and each fault."""
+    here = Batch(tests.room)
+
+    def said(four=4.0, faults=()):
+        return BATCHED.format(four=four / 1024, a_second=f"{5 * 1024 / four:,.0f}", faster=12 / four, faults=len(faults)) + "".join(f"\n{it}" for it in faults) + "\n"
+    tests.same("batch.py", here.run(), (said(), 0))
+    each = [(["--json", "--gids", ",".join(map(str, gids)), "--face-index", str(index), path, "-o", f"{number}.ttf"], [f"{it}.ttf" for it in range(number)])
+            for number, (path, index, gids) in enumerate(REQUESTED)]
+    infos = [(["--info", "--json", path, index], None) for path, index in GLYPHS]
+    tests.same("what is run, and what is in its folder before", here.ran, [*infos, *each, *[(["--batch", "-", "--jobs", it], []) for it in ("1", "2", "4")] * 5])
+    tests.same("what is installed", here.installed, [["a", "b"]])
+    tests.same("what is left", os.listdir(here.folder), [])
+    # (of the runs the first two are questions, then come five of a font each, and five rounds of three)
+    for what, number, fault in (("status", 7, "--jobs 1, round 0: status 3, or other answers or fonts"), ("font", 8, "--jobs 2, round 0: status 0, or other answers or fonts"),
+                                ("answer", 9, "--jobs 4, round 0: status 0, or other answers or fonts"), ("answer", 21, "--jobs 4, round 4: status 0, or other answers or fonts"),
+                                ("status", 2, "a run each: it failed"), ("status", 6, "a run each: it failed")):
+        tests.same(f"another {what} in run {number}", here.run(otherwise={number: what}), (said(faults=[fault]), 1))
+    wrong = [f"--jobs {jobs}, round {number}: status 0, or other answers or fonts" for number in range(5) for jobs in (1, 2, 4)]
+    for number in (2, 6):
+        tests.same("another font of a run of its own", here.run(otherwise={number: "font"}), (said(faults=wrong), 1))
+    slow = [f"--jobs 4 is {12 / 4.125:.2f} times as fast, not 3.0"]
+    for processors, faults in ((4, slow), (8, slow), (3, []), (None, [])):
+        tests.same(f"too slow on {processors} processors", here.run(4.125, processors), (said(4.125, faults), int(bool(faults))))
+    try:
+        tests.same("a program that doesn't answer", here.run(otherwise={1: "status"}), "an error")
+    except subprocess.CalledProcessError as why:
+        tests.same("a program that doesn't answer", why.returncode, 3)
+    check_batch_words(tests, here.batch)
+
+
+def check_batch_words(tests, batch):
+    """The numbers where no word gives them, what is built, and the fonts; one line of a request."""
+    given, calls = [], []
+    with mock.patch.object(batch.fonts, "install"), mock.patch.object(batch, "built", lambda: "program"), mock.patch.object(batch, "requests_of", lambda _, it: given.append(it) or []), \
+            mock.patch.object(batch, "compare", side_effect=SystemExit):
+        printed(batch.main)
+    tests.same("the defaults", vars(given[0]), {"requests": 1000, "rounds": 5, "glyphs": 80, "fonts": 10, "folder": None, "program": None})
+    with mock.patch.object(batch.subprocess, "run", lambda words, **more: calls.append((words, more))):
+        made = batch.built()
+    target = os.path.join(ROOT, "compare", "build", "batch")
+    words = ["cargo", "build", "--release", "--offline", "--quiet", "--features", "program", "--target-dir", target]
+    tests.same("what is built", (made, calls), (f"{target}/release/subset_font", [(words, {"cwd": os.path.join(ROOT, "bindings", "rust"), "check": True})]))
+    tests.same("its fonts", [it[1].rpartition(".")[2] for it in batch.FONTS[:10]], ["ttf", "otf"] * 5)
+    with mock.patch.object(batch, "count_of", lambda *_: 2), mock.patch.object(batch, "FONTS", FACES):
+        few = list(batch.requests_of("", types.SimpleNamespace(requests=2, fonts=1, glyphs=3)))
+    tests.same("requests of a face with few glyphs", few, [{"in": "/one.ttf", "out": f"{number}.ttf", "index": 0, "gids": [1]} for number in range(2)])
+
+
+# ---- .ci/large.py and .ci/drivers.py: what a run is compared with
+
+def ended(status=0, out=b"", err=b""):
+    return types.SimpleNamespace(returncode=status, stdout=out, stderr=err)
+
+
+def counted(tests, what, table, call, ran, wrong):
+    """How many rows a call runs, and how many of these are wrong."""
+    before = table.ran, table.wrong
+    shown, answer = printed(call)
+    tests.same(f"{what}: rows, and wrong ones: {shown}", (table.ran - before[0], table.wrong - before[1]), (ran, wrong))
+    return answer
+
+
+def check_large(tests):
+    """A row is right where the status, the first line, standard output, and the file are as wanted, and tables have their bytes."""
+    large = module(".ci/large.py")
+    fonts = large.made_fonts
+    room, source, right = tempfile.mkdtemp(dir=tests.room), fonts.SIMPLE, fonts.SIMPLE_2
+    runs, given = large.Runs("/program", room), []
+    for what, status, err, out, made, is_done, is_refused in (
+            ("a subset", 0, b"", b"", right, True, False), ("a subset with another status", 1, b"", b"", right, False, False), ("a subset with a line", 0, b"note\n", b"", right, False, False),
+            ("a subset with output", 0, b"", b"1 -> 1\n", right, False, False), ("no subset", 0, b"", b"", None, False, False), ("a font that is cut", 0, b"", b"", right[:-4], None, False),
+            ("a font with more behind it", 0, b"", b"", right + bytes(4), None, False), ("a refusal", 1, b"malformed font\nmore\n", b"", None, False, True),
+            ("a refusal in one line", 1, b"malformed font", b"", None, False, True), ("a refusal with status 0", 0, b"malformed font\n", b"", None, False, False),
+            ("a refusal with status 2", 2, b"malformed font\n", b"", None, False, False), ("another refusal", 1, b"overflow occurred\n", b"", None, False, False),
+            ("a longer refusal", 1, b"malformed font, too\n", b"", None, False, False), ("a refusal with output", 1, b"malformed font\n", b"x", None, False, False),
+            ("a refusal with a font", 1, b"malformed font\n", b"", right, False, None)):
+        def start(words, folder, made=made, said=ended(status, out, err)):
+            given.append((words, folder, read_of(room, "in"), read_of(room, "list"), os.path.exists(os.path.join(room, "out"))))
+            if made is not None:
+                put(made, room, "out")
+            return said
+        runs.start = start
+        put("of a run before", room, "out")
+        # (where a font is there, a second row is that it is whole; of the cut ones that alone fails)
+        wrong = {True: 0, False: 1, None: 1}
+        answer = counted(tests, what, runs, lambda: runs.subset("", source, "2,1", large.DONE, "--at", "x"), 1 + (made is not None), wrong[is_done])
+        tests.same(f"{what}: its bytes", answer, made or b"")
+        counted(tests, f"{what}, where a refusal is wanted", runs, lambda: runs.subset("", source, "2,1", large.MALFORMED, "--at", "x"), 1 + (made is not None), wrong[is_refused] + (is_done is None))
+    words = ["--quiet", "--at", "x", "--gids-file", "list", "in", "out", "0"]
+    tests.same("how it is run", given, [(words, room, source, b"2,1", False)] * len(given))
+    tables = fonts.tables_of(right)
+    runs.start = lambda words, folder: put(right, room, "out") and ended()
+    for changed, wrong in ((tables, 0), ({**tables, "glyf": tables["glyf"] + b"\0"}, 1), ({**tables, "none": b"x"}, 1), ({**tables, "glyf": b"", "head": b""}, 2)):
+        counted(tests, "tables", runs, lambda: runs.keeps("", source, "2", **{name: it for name, it in changed.items() if name.isalnum()}),
+                2 + sum(it.isalnum() for it in changed), wrong)
+    tests.same("the errors", (large.DONE, large.MALFORMED, large.NO_SUBSET, large.OVERFLOW, large.NO_CFF, large.NO_FONT),
+               ("", "malformed font", "subsetting of font failed", "overflow occurred", "processing CFF table failed", "unknown font kind"))
+    check_whole(tests, fonts)
+
+
+def read_of(*path):
+    with open(os.path.join(*path), "rb") as file:
+        return file.read()
+
+
+def check_whole(tests, fonts):
+    """A font is whole where each table's sum is right, that of all is as `head` has it, and nothing is behind the last table."""
+    font = fonts.SIMPLE_2
+    tables = fonts.tables_of(font)
+    tests.same("whole fonts", [fonts.is_whole(it) for it in (font, fonts.AT_650)], [True, True])
+    for at in range(len(font)):
+        other = font[:at] + bytes([font[at] ^ 1]) + font[at + 1:]
+        # (a tag is in no sum but that of all)
+        tests.same(f"a font whose byte {at} is another", fonts.is_whole(other), False)
+    for what, other in (("cut", font[:-1]), ("cut by four", font[:-4]), ("longer", font + bytes(1)), ("longer by four", font + bytes(4)), ("no bytes", b"")):
+        tests.same(f"a font: {what}", fonts.is_whole(other) if other else False, False)
+    tests.same("its tables", sorted(tables), sorted({"glyf", "head", "loca"} & set(tables)) + sorted(set(tables) - {"glyf", "head", "loca"}))
+
+
+def check_drivers(tests):
+    """What a line of times has to say, and where two programs' files are compared."""
+    drivers = module(".ci/drivers.py")
+    room, font = tempfile.mkdtemp(dir=tests.room), b"a font"
+    rows, hashed = drivers.Rows("/crates", room), f"{drivers.digest(font):016x}"
+    for line, holds in ((f"ok 5 4 6 {hashed}", True), (f"ok 4 4 6 {hashed}", True), (f"ok 4 5 6 {hashed}", False), (f"ok 5 0 6 {hashed}", False), (f"ok 0 0 6 {hashed}", False),
+                        (f"ok 5 4 7 {hashed}", False), (f"ok 5 4 5 {hashed}", False), (f"ok 5 4 6 {drivers.digest(b'another'):016x}", False), (f"ok 5 4 6 {hashed[1:]}", False), (f"ok 5 4 6 {hashed}\n", False),
+                        (f"ok 5 4 6 {hashed.upper()}", hashed.upper() == hashed), (f"ok 5 4 6 {hashed} 1", False), (f" ok 5 4 6 {hashed}", False), ("error malformed font", False), ("", False)):
+        tests.same(f"a line {line!r}", bool(rows.is_measured(line, font)), holds)
+    calls, answers, files = [], {}, {}
+
+    def run(words, **given):
+        name = os.path.basename(words[0])
+        calls.append((words[0], words[1:], given.get("cwd"), given.get("timeout")))
+        for path, data in files.items():
+            if path in words:
+                put(data, room, path)
+        status, out, err = answers.get((name, words[-4] if name == "subset_font" else ""), answers.get(name, (0, "", "")))
+        return ended(status, out.encode(), err.encode())
+    line = f"ok 5 4 6 {hashed}\n"
+    with mock.patch.object(drivers.subprocess, "run", run):
+        tests.same("a run", rows.run("dev_bench", "a b  c"), (0, "", ""))
+        tests.same("how it is started", calls, [("/crates/dev_bench/out/dev_bench", ["a", "b", "c"], room, 60)])
+        for what, wanted, made, bench, subset, wrong in (
+                ("the same font", font, font, (0, line, ""), (0, "", ""), 0), ("another font", b"a font2"[1:], font, (0, line, ""), (0, "", ""), 1), ("another file", font, b"a fonz", (0, line, ""), (0, "", ""), 1),
+                ("dev_bench fails", font, font, (1, line, ""), (0, "", ""), 1), ("subset_font fails", font, font, (0, line, ""), (1, "", ""), 1), ("both fail", font, font, (1, line, ""), (1, "", ""), 1),
+                ("it says more", font, font, (0, line, "x"), (0, "", ""), 1), ("another line", font, font, (0, line + "x\n", ""), (0, "", ""), 1)):
+            files.update({"wanted.ttf": wanted, "out.ttf": made})
+            answers.update({"dev_bench": bench, "subset_font": subset})
+            counted(tests, f"measures: {what}", rows, lambda: rows.measures("six.ttf 1 3 5 out.ttf", "3"), 1, wrong)
+        tests.same("what measures", [it[1] for it in calls[-2:]], [["--quiet", "six.ttf", "wanted.ttf", "1", "3"], ["six.ttf", "1", "3", "5", "out.ttf"]])
+        files.update({"wanted.ttf": b"subset", "again.ttf": b"subset", "out.ttf": font})
+        ok = (0, "", "")
+        for what, again, first, bench, second, wrong in (("the same subset", b"subset", ok, (0, line, ""), ok, 0), ("another subset", b"subse", ok, (0, line, ""), ok, 1), ("subset_font fails", b"subset", (1, "", ""), (0, line, ""), ok, 1),
+                                                         ("subset_font fails then", b"subset", ok, (0, line, ""), (1, "", ""), 1), ("dev_bench fails", b"subset", ok, (1, line, ""), ok, 1),
+                                                         ("a message", b"subset", ok, (0, line, "x"), ok, 1), ("no times", b"subset", ok, (0, "ok\n", ""), ok, 1)):
+            files["again.ttf"] = again
+            answers.clear()
+            answers.update({"dev_bench": bench, ("subset_font", "square.ttf"): first, ("subset_font", "out.ttf"): second})
+            counted(tests, f"measures_cff2: {what}", rows, lambda: rows.measures_cff2("square.ttf 0 1 3 out.ttf wght=1", "wght=650"), 1, wrong)
+        tests.same("what measures_cff2", [it[1] for it in calls[-3:]], [["--quiet", "--at", "wght=650", "square.ttf", "wanted.ttf", "0", "1"], ["square.ttf", "0", "1", "3", "out.ttf", "wght=1"],
+                                                                       ["--quiet", "out.ttf", "again.ttf", "0", "1"]])
+        answers["dev_parts"] = (2, "one\n", "two\n")
+        for wanted, wrong in (((2, "one\n", "two\n"), 0), ((1, "one\n", "two\n"), 1), ((2, "one", "two\n"), 1), ((2, "one\n", ""), 1)):
+            counted(tests, f"ends: {wanted}", rows, lambda: rows.ends("dev_parts", "x", wanted), 1, wrong)
+        # (all of them, where nothing is as wanted)
+        answers.clear()
+        answers.update({"dev_bench": (9, "", ""), "dev_parts": (9, "", ""), "subset_font": (9, "", "")})
+        counted(tests, "the rows of dev_bench", rows, lambda: drivers.check_bench(rows, b"stored"), 20, 20)
+        counted(tests, "the rows of dev_parts", rows, lambda: drivers.check_parts(rows), 21, 21)
+
+
+# ---- .ci/program.py
+
+def check_program(tests):
+    """Which rows and checks are run, what is said of those that aren't, and the last line and the status."""
+    program = module(".ci/program.py")
+    rows = [types.SimpleNamespace(line=line, after=after) for line, after in (("one out", {"out": "a"}), ("two", {}), ("three", {"other": "b"}), ("one", {}))]
+    table = types.SimpleNamespace(system="windows", ran=[], demanded=[])
+    table.run_row = lambda row, room: table.ran.append((row.line, os.listdir(room)))
+    table.demand = lambda holds, what, why: table.demanded.append((bool(holds), what, why))
+    with mock.patch.object(program.row_files, "rows", lambda *_: rows), mock.patch.object(program, "OTHERWISE", {"windows": {"two": "x", "gone": "y"}, "s390x": {"three": "z"}}):
+        for only, wanted in (("", ["one out", "two", "three", "one"]), ("two", ["one out", "two"]), ("none", ["one out"]), ("one", ["one out", "one"])):
+            table.ran.clear()
+            program.run_rows(table, only)
+            tests.same(f"rows of {only!r}", table.ran, [(it, []) for it in wanted])
+    tests.same("rows that are listed", table.demanded[:2], [(True, "two", "listed for windows, and no row"), (False, "gone", "listed for windows, and no row")])
+    checks = []
+
+    def check_one(table, room):
+        checks.append(("one", table.system, os.listdir(room)))
+
+    def check_two(table, room):
+        checks.append(("two", table.system, os.listdir(room)))
+    with mock.patch.object(program, "CHECKS", (check_one, check_two)), mock.patch.object(program, "UNCHECKED", {"windows": {"check_two": "a reason"}}), \
+            mock.patch.object(program, "check_contents", lambda table: checks.append(("contents", table.system))):
+        said = printed(lambda: program.run_checks(table))[0]
+        tests.same("checks of Windows", (checks, said), ([("one", "windows", []), ("contents", "windows")], "program: check_two isn't run on windows: a reason\n"))
+        checks.clear()
+        table.system = None
+        tests.same("checks here", (printed(lambda: program.run_checks(table))[0], checks), ("", [("one", None, []), ("two", None, []), ("contents", None)]))
+    named = {it.__name__ for it in program.CHECKS}
+    for system, listed in program.UNCHECKED.items():
+        tests.same(f"what isn't checked on {system}", sorted(set(listed) - named), [])
+    there = set()
+    for name in sorted(os.listdir(os.path.join(HERE, "program"))):
+        if name.startswith("check_"):
+            text = read_of(HERE, "program", name).decode()
+            own = set(re.findall(r"^def (check_\w+)\(table, room\):", text, re.M))
+            there |= {it for it in own if len(re.findall(rf"\b{it}\b", text)) == 1}
+    tests.same("all checks are run", sorted(there), sorted(named))
+    check_program_words(tests, program)
+
+
+def check_program_words(tests, program):
+    """The words, and what is printed at the end."""
+    room = tempfile.mkdtemp(dir=tests.room)
+    there = put("", room, "there")
+    for words, wanted in ((["--program", there, "--system", "windows"], "program.py: --system and --run belong together"), (["--program", there, "--run", there], "program.py: --system and --run belong together"),
+                          (["--program", "/nowhere"], "program.py: no /nowhere"), (["--program", there, "--system", "s390x", "--run", "/none"], "program.py: no /none"), (["--system", "linux"], 2)):
+        with contextlib.redirect_stderr(io.StringIO()):
+            tests.same(f"program.py {words}", printed(program.read_words, *words)[1], wanted)
+    given = printed(program.read_words, "--program", there)[1]
+    tests.same("the words", vars(given), {"program": there, "only": "", "cargo": False, "system": None, "run": None})
+    with mock.patch.object(program.os.path, "exists", lambda _: True):
+        tests.same("the program where none is named", printed(program.read_words)[1].program, os.path.join(ROOT, "crates", "subset_font", "out", "subset_font"))
+    for words, wrong, wanted, status in (
+            ([], 0, "program: 9 rows, 0 differ\n", 0), ([], 2, "program: 9 rows, 2 differ\n", 1),
+            (["--cargo"], 0, "program: 4 runs end otherwise, as listed for the build by Cargo\nprogram: 9 rows, 0 differ\n", 0),
+            (["--cargo", "--system", "s390x", "--run", there], 1, "program: 4 runs end otherwise, as listed for the build by Cargo and the system\nprogram: 9 rows, 1 differ\n", 1)):
+        tables = []
+
+        def run_rows(table, only, wrong=wrong, tables=tables):
+            table.ran, table.wrong, table.otherwise = 5, 0, 4
+            tables.append((table, only, wrong))
+
+        def run_checks(table, wrong=wrong):
+            table.ran, table.wrong = table.ran + 4, wrong
+        with mock.patch.object(program, "run_rows", run_rows), mock.patch.object(program, "run_checks", run_checks):
+            tests.same(f"program.py {words}", printed(program.main, "--program", there, "--only", "x", *words), (wanted, status))
+        table, only, _ = tables[0]
+        command = [*([there] if "--run" in words else []), os.path.realpath(there)]
+        tests.same("the table", (only, table.command, table.system, table.is_cargo), ("x", command, "s390x" if "--system" in words else None, "--cargo" in words))
+
+
+def check_running(tests):
+    """How a reason of Windows is compared, when a run is tried again, and rows that end otherwise."""
+    running = module(".ci/program/running.py")
+    unix, another = b"cannot read x: No such file or directory (os error 2)", b"cannot read x: No such file or directory (os error 5)"
+    for line, wanted, holds in ((unix, unix, True), (b"in other words (os error 3)", unix, True), (b"in other words (os error 2)", unix, True), (b"in other words (os error 4)", unix, False), (b"in other words (os error 3)", another, False),
+                                (b"in other words", unix, False), (b"(os error 3)", unix, False), (b"words (os error 3) more", unix, False), (b"a (os error 5)", b"b (os error 21)", True), (b"a (os error 21)", b"b (os error 21)", False),
+                                (b"a (os error 112)", b"b (os error 28)", True), (b"one", b"two", False), (b"a (os error 3)", b"two", False)):
+        tests.same(f"{line} for {wanted}", running.is_reason(line, wanted), holds)
+    for text, wanted, holds in ((unix + b"\nx\n", unix + b"\nx\n", True), (b"w (os error 3)\nx\n", unix + b"\nx\n", True), (b"w (os error 3)\ny\n", unix + b"\nx\n", False), (b"w (os error 3)\n", unix + b"\nx\n", False), (unix + b"\nx\n", b"x\n", False)):
+        tests.same(f"{text} for {wanted}", running.are_reasons(text, wanted), holds)
+    here, windows = running.Table("/program"), running.Table("/program", False, "/wine", "windows")
+    for got, wanted, on_windows, is_here in ((unix, unix, True, True), (b"w (os error 3)", unix, True, False), (b"w (os error 3)\n", unix + b"\n", True, False), (b"w (os error 3)\n", unix, False, False), (b"w", unix, False, False)):
+        tests.same(f"{got} for {wanted}", (windows.is_said(got, wanted), here.is_said(got, wanted)), (on_windows, is_here))
+    for table, said, given, count in ((windows, ended(1), {}, 2), (windows, ended(1), {"stdin": 0}, 1), (windows, ended(1), {"input": b""}, 2), (windows, ended(1, b"x"), {}, 1), (windows, ended(1, b"", b"x"), {}, 1),
+                                      (windows, ended(2), {}, 1), (here, ended(1), {}, 1), (running.Table("/program", False, "/qemu", "s390x"), ended(1), {}, 1)):
+        calls = []
+        with mock.patch.object(running.subprocess, "run", lambda words, **more: calls.append((words, more)) or said):
+            tests.same("what a run gives", table.start(["--json", "x"], "/room", **given), said)
+        wanted = ([*table.command, "--json", "x"], {"cwd": "/room", "capture_output": True, "timeout": 600 if table.system else 60, **given})
+        tests.same(f"a run that ends so: {said}", calls, [wanted] * count)
+    tests.same("commands", (here.command, windows.command), (["/program"], ["/wine", "/program"]))
+    check_otherwise(tests, running)
+    check_requests(tests)
+    check_refused(tests)
+    check_entries(tests)
+    check_shown_pdf(tests)
+
+
+def check_requests(tests):
+    """What a batch's line has to be beside a single run, and the words of such a run."""
+    batch = module(".ci/program/check_batch.py")
+    done, failed, wrong = ended(0, b'{"glyphs":[]}'), ended(1, b"", b"malformed font\nmore\n"), ended(2, b"", b"usage\n")
+    for line, single, holds in ((b'{"line":7,"status":0,"glyphs":[]', done, False), (b'{"line":8,"status":0,"glyphs":[]}', done, False), (b'{"line":7,"status":1,"glyphs":[]}', done, False), (b'{"line":7,"status":1,"error":"malformed font"}', failed, True),
+                                (b'{"line":7,"status":1,"error":"malformed font\\nmore"}', failed, False), (b'{"line":8,"status":1,"error":"malformed font"}', failed, False), (b'{"line":7,"status":3,"error":"malformed font"}', failed, False),
+                                (b'{"line":7,"status":2,"error":"x"}', wrong, True), (b'{"line":7,"status":1,"error":"usage"}', wrong, False), (b"none", failed, False)):
+        tests.same(f"{line} beside a run that ends with {single.returncode}", batch.is_answer(line, 7, single), holds)
+    tests.same("a right line", batch.is_answer(b'{"line":7,"status":0,"glyphs":[]}', 7, ended(0, b'{"glyphs":[]}\n')), True)
+    tests.same("words", batch.words_of({"in": "a", "out": "b", "gids": "1", "widths": True, "pdf": "c.pdf"}), ["--json", "a", "-o", "b", "--gids", "1", "--widths", "--pdf", "c.pdf"])
+    tests.same("files", (batch.files_of({"in": "a", "out": "b"}), batch.files_of({"in": "a", "out": "b", "pdf": "c"})), (["b"], ["b", "c"]))
+    requests = list(batch.numbered())
+    tests.same("requests", (len(requests), len({it["out"] for it in requests}), [it for it in requests if "pdf" in it][0]), (
+        len(batch.SOURCES) * len(batch.REQUESTS), len(requests), {"in": "six", "out": "six-8", "text": "A", "pdf": "six-8.pdf", "codes": "text", "rights": "held", "vertical": True}))
+
+
+def check_otherwise(tests, running):
+    """A row that is listed for a system fails where it isn't otherwise there, or where the program dies."""
+    for system, line, status, wrong, otherwise in (("windows", "x", 1, 0, 1), ("windows", "x", 0, 1, 1), ("windows", "x", 3, 0, 1), ("windows", "x", 4, 1, 1), ("windows", "x", -9, 1, 1), ("windows", "y", 1, 1, 0), ("s390x", "x", 1, 1, 0), (None, "x", 0, 0, 0)):
+        table = running.Table("/program", True, "/runner" if system else None, system)
+        table.start = lambda words, room, status=status, **given: ended(status)
+        row = types.SimpleNamespace(files={}, words=["x"], stdin=b"", line=line, where="a file:1", status=0, out=b"", err=b"", out_font=None, after={})
+        with mock.patch.object(running, "OTHERWISE", {"windows": {"x": "a reason"}, "s390x": {}}), mock.patch.object(running, "FONTS", {}), tempfile.TemporaryDirectory(dir=tests.room) as room:
+            said = printed(lambda: table.run_row(row, room))[0]
+        tests.same(f"{line} on {system} with status {status}: {said}", (table.ran, table.wrong, table.otherwise), (1, wrong, otherwise))
+
+
+def check_refused(tests):
+    """What a run is under refused requests and calls: whole, refused, ended by Rust's `std`, or wrong; and how it is started."""
+    refused = module(".ci/program/check_refused.py")
+    base = refused.Ended((0, b"1 -> 1\n", b""), b"font", ["in", "out"], 0, {}, 9)
+
+    def ending(**changed):
+        return refused.Ended(**{**vars(base), **changed})
+    for what, run, holds in (("the same", ending(refused=3, calls={"open": 1}, requests=4), True), ("another status", ending(answer=(1, b"1 -> 1\n", b"")), False), ("another line", ending(answer=(0, b"", b"")), False), ("a message", ending(answer=(0, b"1 -> 1\n", b"x")), False),
+                             ("another OUT", ending(out=refused.OLD), False), ("no OUT", ending(out=None), False), ("a file beside it", ending(names=["in", "out", "out.part0"]), False)):
+        tests.same(f"a whole run: {what}", refused.is_whole_run(run, base), holds)
+    lines = [(1, b"", b"out of memory\n"), *((3, b"", b"cannot read %s\nout of memory\n" % it) for it in (b"in", b"list", b"-"))]
+    tests.same("refused runs", sorted(refused.REFUSED), sorted(lines))
+    for answer in lines:
+        tests.same(f"{answer}", [refused.is_refused_run(ending(answer=answer, **{"out": refused.OLD, **more}), base) for more in ({}, {"out": b"font"}, {"out": None}, {"names": ["in", "out", "x"]})], [True, False, False, False])
+    for answer in ((3, b"", b"out of memory\n"), (1, b"x", b"out of memory\n"), (1, b"", b"out of memory\nmore\n"), (3, b"", b"cannot read in\n"), (0, b"", b"out of memory\n")):
+        tests.same(f"{answer}", refused.is_refused_run(ending(answer=answer, out=refused.OLD), base), False)
+    said = b"memory allocation of 24 bytes failed\n"
+    for answer, front, wanted in (((-6, b"", said), b"", 24), ((-6, b"", b"first\n" + said), b"first\n", 24), ((-6, b"", b"first\n" + said), b"", None), ((-6, b"", said), b"first\n", 24), ((134, b"", said), b"", None), ((-6, b"x", said), b"", None), ((-6, b"", b"x"), b"", None), ((0, b"", said), b"", None)):
+        tests.same(f"ended by std: {answer}", refused.ended_by_std(ending(answer=answer), front), wanted)
+    tests.same("what std asks for", (refused.asked_by_std(["ab", "", "\u00e9x"]), refused.LONG_NAME, refused.LAST_REQUESTS), (sorted([4, 544, 1024, 72, 2, 3]), 384, 8))
+    unlined, unread, unwritten = ((3, b"", refused.message(*it)) for it in (("cannot-write", "standard output", "EIO"), ("cannot-read", "in", "EIO"), ("cannot-write", "out", "EIO")))
+    old = refused.OLD
+    for what, run, wanted in (("whole", base, "whole"), ("no lines", ending(answer=unlined), "unlined"), ("a part of the lines", ending(answer=(3, b"1 ->", unlined[2])), "unlined"), ("other lines", ending(answer=(3, b"2 ->", unlined[2])), None), ("no lines, and OUT is old", ending(answer=unlined, out=old), None),
+                              ("unread", ending(answer=unread, out=old), "unread"), ("unread, and OUT is new", ending(answer=unread), None), ("unwritten", ending(answer=unwritten, out=old), "unwritten"), ("unwritten, and OUT is new", ending(answer=unwritten), None),
+                              ("a file beside it", ending(answer=unwritten, out=old, names=["in", "out", "x"]), None), ("whole, and a file beside it", ending(names=["in"]), None), ("another status", ending(answer=(1, *unread[1:]), out=old), None), ("old, and well", ending(out=old), None),
+                              ("another reason", ending(answer=(3, b"", refused.message("cannot-read", "in", "EPERM")), out=old), None)):
+        tests.same(f"a call fails: {what}", refused.failed_end(run, base), wanted)
+    tests.same("a call fails for another reason", refused.failed_end(ending(answer=(3, b"", refused.message("cannot-read", "in", "EPERM")), out=old), base, "EPERM"), "unread")
+    tests.same("calls", (refused.CALLS, refused.FAILED_CALLS, refused.FAILED_CALLS_BY_CARGO), (
+        ("open", "size", "read", "write", "write1", "write2", "rename", "sync"), {"open": {"unread", "unwritten", "whole"}, "size": {"unread", "unwritten", "whole"}, "read": {"unread", "whole"}, "write": {"unwritten", "whole"}, "write1": {"unlined"},
+                                                                                  "rename": {"unwritten", "whole"}, "sync": {"unwritten", "whole"}}, {"read": {"unread", "whole"}, "write": {"unwritten", "unlined"}, "write1": set()}))
+    room, given = tempfile.mkdtemp(dir=tests.room), []
+
+    def start(words, folder, **more):
+        given.append((words, folder, more, read_of(folder, "sub/out"), os.path.exists(f"{folder}/told")))
+        put("9 1 a b c d 1 2 3 4 5 6 7 8", folder, "told")
+        put("new", folder, "sub", "out")
+        put("x", folder, "sub", "more")
+        return ended(4, b"o", b"e")
+    put("older", room, "told")
+    os.mkdir(f"{room}/sub")
+    got = refused.start_refused(types.SimpleNamespace(start=start), room, "/library", ["in"], b"stdin", "sub/out", REFUSE=7, ROOM=0)
+    tests.same("how it is started", given, [(["in"], room, {"env": {"LD_PRELOAD": "/library", "TOLD": f"{room}/told", "REFUSE": "7", "ROOM": "0"}, "input": b"stdin"}, old, False)])
+    tests.same("how it ended", vars(got), {"answer": (4, b"o", b"e"), "out": b"new", "names": ["more", "out"], "refused": 1, "calls": dict(zip(refused.CALLS, range(1, 9))), "requests": 9})
+    got = refused.start_refused(types.SimpleNamespace(start=lambda *_, **more: ended()), room, "/library", ["in"], out="sub/out")
+    tests.same("nothing is noted", (got.refused, got.calls, got.requests, got.out), (1, {}, 0, old))
+
+
+def check_entries(tests):
+    """The entry of a line in the manual, and the shape of an object."""
+    shown = module(".ci/program/check_shown.py")
+    entries = ["cannot read IN", "cannot read", "no glyph ..", "cannot read IN twice"]
+    for line, wanted in (("cannot read IN", "cannot read IN"), ("cannot read", "cannot read"), ("cannot read x", "cannot read IN"), ("no glyph 7", "no glyph .."), ("no glyph", None), ("cannot write x", None), ("", None)):
+        tests.same(f"the entry of {line!r}", shown.entry_of(entries, line), wanted)
+    for value, wanted in (({"b": 1, "a": "x"}, [("b", "number"), ("a", "str")]), ([1.5, "x"], ["number"]), ([], []), ({"a": [{"b": None}]}, [("a", [[("b", "NoneType")]])]), (True, "bool")):
+        tests.same(f"the shape of {value}", shown.shape(value), wanted)
+    tests.same("what no row ends with", shown.BY_CHECKS, {"out of memory", "cannot write standard output"})
+
+
+def pdf_of(*values):
+    """A PDF of these objects."""
+    body, places = b"%PDF-1.7\n", []
+    for number, value in enumerate(values, 1):
+        places.append(len(body))
+        body += b"%d 0 obj\n%s\nendobj\n" % (number, value)
+    table = b"xref\n0 %d\n0000000000 65535 f \n" % (len(values) + 1) + b"".join(b"%010d 00000 n \n" % it for it in places)
+    return body + table + b"trailer\n<< >>\nstartxref\n%d\n%%%%EOF\n" % len(body)
+
+
+def stream(data):
+    return b"<< /Length %d >>\nstream\n%s\nendstream" % (len(data), data)
+
+
+def check_shown_pdf(tests):
+    """What a PDF shows is read of a whole one alone."""
+    read = module(".ci/program/check_pdf.py")
+    two = pdf_of(b"<< /A 1 >>", b"(b)")
+    tests.same("objects", read.objects_of(two), {1: b"<< /A 1 >>", 2: b"(b)"})
+    for what, page in (("no PDF", None), ("no bytes", b""), ("another version", two.replace(b"1.7", b"1.4")), ("cut", two[:-1]), ("longer", two + b"\n"), ("an object's number", two.replace(b"2 0 obj", b"3 0 obj")), ("an object's place", two.replace(b"0000000009", b"0000000008")),
+                       ("a free object", two.replace(b"0000000009 00000 n", b"0000000009 00000 f")), ("another generation", two.replace(b"0000000009 00000 n", b"0000000009 00001 n"))):
+        tests.same(f"objects: {what}", read.objects_of(page), {})
+    unicode = b"1 begincodespacerange\n<0000> <FFFF>\nendcodespacerange\n2 beginbfchar\n<0001> <0041>\n<0002> <D83DDE00>\n<0003> <00660069>\nendbfchar\n"
+    tests.same("text", (read.text_of([1, 2, 3, 1], unicode), read.text_of([7], unicode), read.stream_of(stream(b"a\nb"))), ("A\U0001f600fiA", "", b"a\nb"))
+    values = [b"<< /Type /Pages /Kids [2 0 R] /MediaBox [0 0 100 50] >>", b"<< /Type /Page /Contents 3 0 R >>", stream(b"BT\n<0002> Tj\n<0001> Tj\nET"), b"<< /Subtype /Type0 /Encoding /Identity-H /ToUnicode 5 0 R >>", stream(unicode),
+              b"<< /Subtype /CIDFontType2 /DW 500 /W [1 [600 700]] >>", b"<< /Type /FontDescriptor /FontName /ABCDEF+It /FontFile2 8 0 R >>", stream(b"font")]
+    shown = {"line": True, "codes": [2, 1], "text": "\U0001f600A", "encoding": b"/Identity-H", "program": b"font", "widths": b"/DW 500 /W [1 [600 700]]", "name": "ABCDEF+It"}
+    tests.same("a page", read.what_is_shown(pdf_of(*values)), shown)
+    tests.same("a grid", read.what_is_shown(pdf_of(values[0].replace(b"100 50", b"595 842"), *values[1:])), {**shown, "line": False})
+    for number in (0, 3, 5, 6):
+        tests.same(f"without object {number + 1}", read.what_is_shown(pdf_of(*values[:number], b"<< >>", *values[number + 1:])), None)
+        tests.same(f"object {number + 1} twice", read.what_is_shown(pdf_of(*values, values[number])), None)
+    tests.same("words of a PDF", read.OF_PDF, ("--vertical", "--pdf", "--codes", "--rights", "consecutive", "source", "text", "held", "page"))
+
+
+# ---- .ci/examples.py and .ci/pdf_examples.py
+
+def font_with(tables):
+    """A font's bytes with these tables."""
+    records, body, at = b"", b"", 12 + 16 * len(tables)
+    for tag, data in tables.items():
+        records += struct.pack(">4sIII", tag.encode(), 0, at + len(body), len(data))
+        body += data
+    return struct.pack(">IHHHH", 0x10000, len(tables), 0, 0, 0) + records + body
+
+
+def check_examples(tests):
+    """What a font of an example has to be, how each is built and run, and what is said of each."""
+    examples = module(".ci/examples.py")
+    source, room = examples.tables(DEJAVU), tempfile.mkdtemp(dir=tests.room)
+    right = {"maxp": source["maxp"][:4] + struct.pack(">H", 3) + source["maxp"][6:], "hmtx": b"".join(source["hmtx"][4 * it:4 * it + 4] for it in (0, 36, 68)), "name": b"x"}
+    font = os.path.join(room, "subset.ttf")
+
+    def fault(has_names=True, **changed):
+        put(font_with({name: it for name, it in {**right, **changed}.items() if it is not None}), font)
+        try:
+            examples.demand_font(font, has_names)
+        except examples.Wrong as why:
+            return str(why)
+        return ""
+    tests.same("the font", (fault(), fault(False, name=None)), ("", ""))
+    for what, changed, wanted in (("two glyphs", {"maxp": right["maxp"][:5] + b"\2"}, "subset.ttf has other glyphs or tables: ['hmtx', 'maxp', 'name']"), ("four glyphs", {"maxp": right["maxp"][:5] + b"\4"}, "subset.ttf has other glyphs or tables: ['hmtx', 'maxp', 'name']"),
+                                  ("no names", {"name": None}, "subset.ttf has other glyphs or tables: ['hmtx', 'maxp']"), ("names", {"has_names": False}, "subset.ttf has other glyphs or tables: ['hmtx', 'maxp', 'name']")):
+        tests.same(what, fault(**changed), wanted)
+    for new, old in enumerate((0, 36, 68)):
+        for at in (0, 2):
+            other = bytearray(right["hmtx"])
+            other[4 * new + at + 1] ^= 1
+            tests.same(f"byte {at} of glyph {new}", fault(hmtx=bytes(other)), f"glyph {new} hasn't the advance and the bearing of {old}")
+    os.unlink(font)
+    try:
+        examples.tables(font)
+        tests.same("no font", "passes", "fails")
+    except examples.Wrong as why:
+        tests.same("no font", str(why), "it writes no subset.ttf")
+    check_example_parts(tests, examples, room)
+
+
+def check_example_parts(tests, examples, room):
+    """What each part writes, runs and demands."""
+    blocks = {("Rust", "toml"): 'subsetter = { path = "CLONE/it" }\n', ("Rust", "rust"): "fn main() {} // é\n", ("C", "c"): "/* λ */ void two_glyphs(void);\n", ("Python", "python"): "font = 1\n", ("JavaScript", "js"): "const font = 1;\n"}
+    built = os.path.join(ROOT, "bindings", "c", "out")
+    version = read_of(ROOT, "VERSION").decode().strip().replace("+", "-")
+    library = f"{ROOT}/bindings/c"
+    cases = {
+        "rust": ({"Cargo.toml": f'[package]\nname = "user"\nversion = "1.0.0"\nedition = "2021"\n\n[dependencies]\nsubsetter = "0.2.6"\n\nsubsetter = {{ path = "{ROOT}/it" }}\n', "src/main.rs": "fn main() {} // é\n"},
+                 [(("cargo", "run", "--quiet", "--offline"), {})], [("subset.ttf", True)]),
+        "c": ({"user.c": "/* λ */ void two_glyphs(void);\n" + examples.C_MAIN}, [(("cc", "-std=c11", "-Wall", "-Wextra", "-Werror", "-I", library, "user.c", f"{built}/libsubsetter.a", "-o", "user"), {}), (("./user", DEJAVU), {})],
+              [("subset.ttf", True)]),
+        "python": ({"user.py": 'font = 1\nopen("one.ttf", "wb").write(font)\nopen("two.ttf", "wb").write(embedded.font)\nassert list(embedded.cids) == [1, 2] and len(embedded.widths) == 3\n'},
+                   [((sys.executable, "user.py"), {"PYTHONPATH": f"{ROOT}/bindings/python", "SUBSETTER_LIBRARY": f"{built}/libsubsetter.so"})], [("one.ttf", False), ("two.ttf", True)]),
+        "js": ({"user.mjs": 'import { writeFileSync } from "node:fs";\nconst font = 1;\nwriteFileSync("subset.ttf", font);\n'},
+               [(("tar", "xzf", f"{ROOT}/bindings/js/out/subsetter-proved-{version}.tgz", "--strip-components=1", "-C", "ROOM/node_modules/subsetter-proved"), {}), (("node", "user.mjs"), {})], [("subset.ttf", True)]),
+    }
+    tests.same("the parts", list(examples.PARTS), list(cases))
+    for name, (files, runs, fonts) in cases.items():
+        ran, demanded = [], []
+        with tempfile.TemporaryDirectory(dir=room) as folder, contextlib.ExitStack() as stack:
+            for owner, what, new in ((examples, "block", lambda section, language: blocks[section, language]), (examples, "built", lambda it: os.path.join(ROOT, it)),
+                                     (examples, "run", lambda at, *words, **env: ran.append((tuple(it.replace(folder, "ROOM") for it in words), env))),
+                                     (examples, "demand_font", lambda path, has_names=True: demanded.append((os.path.relpath(path, folder), has_names)))):
+                stack.enter_context(mock.patch.object(owner, what, new))
+            examples.PARTS[name](folder)
+            there = {os.path.relpath(os.path.join(top, it), folder): read_of(top, it).decode() for top, _, names in os.walk(folder) for it in names}
+        tests.same(f"examples: {name}", (there, ran, demanded), (files, runs, fonts))
+    check_said(tests, examples, "examples: {}: passed\n", "examples: FAILED: {}: why\n", "examples: {}: skipped, as was asked for\n", is_late=True)
+    with mock.patch.object(examples, "ROOT", os.path.dirname(put("# A\n\n## One\n\n```sh\nls\n```\n```rust\n// é\n```\n\n## Two\n\n```c\n/* λ */\n```\n", room, "readme", "README.md"))):
+        tests.same("blocks", list(examples.blocks()), [("One", "rust", "// é\n"), ("Two", "c", "/* λ */\n")])
+        for section, language, wanted in (("One", "rust", "// é\n"), ("One", "c", "the section One has 0 blocks of c"), ("Two", "sh", "the section Two has 0 blocks of sh")):
+            try:
+                tests.same(f"{section}, {language}", examples.block(section, language), wanted)
+            except examples.Wrong as why:
+                tests.same(f"{section}, {language}", str(why), wanted)
+        tests.same("blocks that nothing runs", printed(examples.main, "--skip=rust", "rust"), ("examples: rust: skipped, as was asked for\nexamples: FAILED: nothing runs the block of rust in the section One\n"
+                                                                                            "examples: FAILED: nothing runs the block of c in the section Two\n", True))
+    for words, wanted in ((["sh", "-c", "exit 0"], ""), (["sh", "-c", "echo why; echo more >&2; exit 3"], "sh -c echo why; echo more >&2; exit 3 ended with 3: why\nmore\n")):
+        try:
+            examples.run(room, *words)
+            tests.same(f"{words}", "", wanted)
+        except examples.Wrong as why:
+            tests.same(f"{words}", str(why), wanted)
+    for path, is_there in (("VERSION", True), ("bindings/none", False)):
+        try:
+            tests.same(path, (examples.built(path), is_there), (os.path.join(ROOT, path), True))
+        except examples.Wrong as why:
+            tests.same(path, (str(why), is_there), (f"{path} isn't built", False))
+
+
+def check_said(tests, script, passed, failed, skipped, is_late):
+    """What is printed of parts that pass, fail and are skipped, and the status; `is_late` where all that failed is said at the end."""
+    names = list(script.PARTS)
+    for wrong in ([], [names[-1]], names):
+        for words, chosen, left in (([], names, []), (names[:2], names[:2], []), ([f"--skip={names[0]}"], names, [names[0]]), ([f"--skip={names[0]},{names[-1]}", *names[-2:], names[0]], [*names[-2:], names[0]], [names[0], names[-1]]),
+                                    ([f"--skip={names[0]}", f"--skip={names[1]}"], names, names[:2])):
+            ran = []
+
+            def part(name, ran=ran, wrong=wrong):
+                def run(room):
+                    ran.append((name, os.listdir(room)))
+                    if name in wrong:
+                        raise (script.Wrong if len(ran) % 2 else OSError)("why")
+                return run
+            with mock.patch.object(script, "PARTS", {it: part(it) for it in names}), mock.patch.object(script, "demand_pdf", lambda *_: None, create=True):
+                said, status = printed(script.main, *words)
+            lines = [skipped.format(it) if it in left else failed.format(it) if it in wrong else passed.format(it) for it in chosen]
+            lines = [it for it in lines if "FAILED" not in it] + [it for it in lines if "FAILED" in it] if is_late else lines
+            tests.same(f"{words} where {wrong} fail", (said, bool(status), ran), ("".join(lines), any(it in wrong and it not in left for it in chosen), [(it, []) for it in chosen if it not in left]))
+    for words in (["none"], ["--skip=none"], [f"--skip={names[0]},"], [names[0], "--skip"], ["-x"]):
+        tests.same(f"{words}", printed(script.main, *words), ("", script.__doc__))
+
+
+def check_pdf(tests):
+    """What a PDF of an example has to be, what a program may have, and how each is built and run."""
+    pdf = module(".ci/pdf_examples.py")
+    room = tempfile.mkdtemp(dir=tests.room)
+    fine = {"qpdf": "checking hello.pdf\nNo syntax or stream encoding errors found; the file may\n", "font": "ABCDEF+DejaVuSans   CID TrueType   Identity-H   yes yes yes      5  0\n",
+            "poppler": "Hello, Ελλάδα!\n\f", "mupdf": "Hello, Ελλάδα!\n", "dark": 100, "file": True}
+    head = "name type\n---- ----\n"
+
+    def fault(beside=(), **changed):
+        said, calls = {**fine, **changed}, []
+
+        def run(folder, *words):
+            calls.append(words)
+            if words[0] == "pdftotext":
+                put(said["poppler"], folder, words[-1])
+            elif "txt" in words:
+                put(said["mupdf"], folder, "mupdf.txt")
+            elif words[0] == "mutool":
+                put(b"P5\n# a comment\n40 10\n255\n" + bytes([127]) * said["dark"] + bytes([128]) * (400 - said["dark"]), folder, "page.pgm")
+            return {"qpdf": said["qpdf"], "pdffonts": head + said["font"]}.get(words[0], "")
+        with tempfile.TemporaryDirectory(dir=room) as folder, mock.patch.object(pdf, "run", run):
+            if said["file"]:
+                put("", folder, "hello.pdf")
+            try:
+                pdf.demand_pdf(folder, list(beside))
+            except pdf.Wrong as why:
+                return str(why)
+        if not changed:
+            wanted = [("qpdf", "--check", "hello.pdf"), ("pdffonts", "hello.pdf"), ("pdftotext", "-enc", "UTF-8", "hello.pdf", "poppler.txt"), ("mutool", "draw", "-q", "-F", "txt", "-o", "mupdf.txt", "hello.pdf"),
+                      ("mutool", "draw", "-q", "-r", "50", "-c", "gray", "-o", "page.pgm", "hello.pdf")]
+            tests.same("what reads a PDF", calls, wanted)
+        return ""
+    tests.same("a PDF", fault(), "")
+    one = fine["font"]
+    for what, changed, wanted in (
+            ("no PDF", {"file": False}, "it writes no hello.pdf"), ("a fault", {"qpdf": "errors\n"}, "qpdf: errors\n"), ("a warning", {"qpdf": fine["qpdf"] + "WARNING: x\n"}, f"qpdf: {fine['qpdf']}WARNING: x\n"),
+            ("two fonts", {"font": one * 2}, None), ("no font", {"font": ""}, None), ("no subset", {"font": one.replace("ABCDEF+", "")}, None), ("five letters", {"font": one.replace("ABCDEF+", "ABCDE+")}, None),
+            ("not embedded", {"font": one.replace("yes yes yes", "no  yes yes")}, None), ("no subset, as it says", {"font": one.replace("yes yes yes", "yes no  yes")}, None), ("no ToUnicode", {"font": one.replace("yes yes yes", "yes yes no ")}, None),
+            ("Poppler's text", {"poppler": "Hello!\n"}, "poppler reads 'Hello!'"), ("MuPDF's text", {"mupdf": "Hello!\n"}, "mupdf reads 'Hello!'"), ("few dark points", {"dark": 99}, "the page has 99 dark points")):
+        got = fault(**changed)
+        tests.same(f"{what}: {got}", got == wanted if wanted else got.startswith("its fonts: ["), True)
+    tests.same("a font beside it", (fault(["Helvetica"], font=one + "Helvetica Type 1 x no no no 1 0\n"), fault([], font=one + "Helvetica Type 1 x no no no 1 0\n") != ""), ("", True))
+    tests.same("what is beside", (pdf.BESIDE, pdf.TEXT, pdf.MOST_LINES), ({"reportlab": ["Helvetica"]}, "Hello, Ελλάδα!", 15))
+    for number in (43, 72, 79, 82, 44, 143):
+        try:
+            pdf.write(room, "user.py", f"x = [{number}]\n")
+            tests.same(f"the number {number}", number in (43, 72, 79, 82), False)
+        except pdf.Wrong as why:
+            tests.same(f"the number {number}", str(why), f"user.py has the number of a glyph: {number}")
+    for count, wanted in ((15, ""), (16, "it has 16 lines, and at most 15")):
+        text = "".join(f"line {it}\n\n" for it in range(count))
+        with mock.patch.object(pdf, "text_of", lambda *_: f"A PDF of one line:\n\n```c\n{text}```\n\nAnother of one line:\n\n```py\nx\n```\n"):
+            try:
+                tests.same(f"{count} lines", (pdf.block("README", "c"), wanted), (text, ""))
+            except pdf.Wrong as why:
+                tests.same(f"{count} lines", str(why), wanted.replace("it", "the program in README", 1))
+    check_pdf_parts(tests, pdf, room)
+    with mock.patch.object(pdf, "BESIDE", {}):
+        check_said(tests, pdf, "PDF examples: {}: passed\n", "PDF examples: {}: FAILED: why\n", "PDF examples: {}: skipped, as was asked for\n", is_late=False)
+
+
+def check_pdf_parts(tests, pdf, room):
+    """What each part writes and runs, over a library that is named."""
+    for status, wanted in ((0, "\ufffdλ\n"), (3, "sh -c printf '\\377\\316\\273\\n'; exit 3 ends with 3: \ufffdλ\n")):
+        try:
+            tests.same("a command", pdf.run(room, "sh", "-c", f"printf '\\377\\316\\273\\n'; exit {status}"), wanted)
+        except pdf.Wrong as why:
+            tests.same("a command that fails", str(why), wanted)
+    with mock.patch.object(pdf, "ROOT", room):
+        put("λ", room, "examples", "it.py")
+        tests.same("an example", pdf.example("it.py"), "λ")
+    version = read_of(ROOT, "VERSION").decode().strip().replace("+", "-")
+    manifest = f'[package]\nname = "user"\nversion = "1.0.0"\nedition = "2021"\n\n[dependencies]\nsubsetter = {{ path = "{ROOT}/bindings/rust", features = ["variable-fonts"] }}\n'
+    cargo = [(("cargo", "run", "--quiet", "--offline", "--release"), {"CARGO_TARGET_DIR": f"{ROOT}/out/pdf-examples"})]
+    compiled = [(("cc", "-std=c11", "-Wall", "-Wextra", "-Werror", "-I", f"{ROOT}/bindings/c", "user.c", f"{room}/libsubsetter.so", f"-Wl,-rpath,{room}", "-o", "user"), {}), (("./user",), {})]
+    python = [((sys.executable, "user.py"), {"PYTHONPATH": f"{ROOT}/bindings/python", "SUBSETTER_LIBRARY": f"{room}/libsubsetter.so", "PYTHONDONTWRITEBYTECODE": "1"})]
+    node = [(("make", "-s", "-C", "bindings/js", "package"), {}), (("tar", "xzf", f"{ROOT}/bindings/js/out/subsetter-proved-{version}.tgz", "--strip-components=1", "-C", "ROOM/node_modules/subsetter-proved"), {}), (("node", "user.mjs"), {})]
+    cases = {"rust": (("bindings/rust/README.md", "rust,no_run"), "src/main.rs", cargo), "c": (("bindings/capi/README.md", "c"), "user.c", compiled), "python": (("bindings/python/README.md", "python"), "user.py", python),
+             "js": (("bindings/js/README.md", "mjs"), "user.mjs", node), "writer": (("writer.rs",), "src/main.rs", cargo), "plain": (("plain.c",), "user.c", compiled),
+             "pikepdf": (("with_pikepdf.py",), "user.py", python), "reportlab": (("with_reportlab.py",), "user.py", python)}
+    tests.same("the parts", list(pdf.PARTS), list(cases))
+    for name, (asked, file, runs) in cases.items():
+        taken, ran, imported = [], [], []
+        pdf.library.cache_clear()
+        with tempfile.TemporaryDirectory(dir=room) as folder, contextlib.ExitStack() as stack:
+            for owner, what, new in ((pdf, "block", lambda *words: taken.append(words) or "the program λ"), (pdf, "example", lambda *words: taken.append(words) or "the program λ"),
+                                     (pdf, "run", lambda at, *words, **env: ran.append((tuple(it.replace(folder, "ROOM") for it in words), env))),
+                                     (pdf.subprocess, "run", lambda words, **given: imported.append(words) or ended())):
+                stack.enter_context(mock.patch.object(owner, what, new))
+            stack.enter_context(mock.patch.dict(os.environ, {"LIBRARY": room}))
+            pdf.PARTS[name](folder)
+            there = {os.path.relpath(os.path.join(top, it), folder): read_of(top, it).decode() for top, _, names in os.walk(folder) for it in names}
+        tests.same(f"PDF examples: {name}", (taken, there, ran), ([asked], {file: "the program λ", **({"Cargo.toml": manifest} if runs is cargo else {})}, runs))
+        if runs is python:
+            tests.same(f"the module of {name}", imported[0], [sys.executable, "-c", f"import {name if name in ('pikepdf', 'reportlab') else 'sys'}"])
+    pdf.library.cache_clear()
+    built = []
+    with mock.patch.object(pdf, "run", lambda *words: built.append(words)), mock.patch.dict(os.environ):
+        os.environ.pop("LIBRARY", None)
+        tests.same("the library that is built", (pdf.library(), built), (f"{ROOT}/bindings/capi/out", [(ROOT, "make", "-s", "-C", "bindings/capi", "all")]))
+    pdf.library.cache_clear()
+    with mock.patch.object(pdf.subprocess, "run", lambda *_, **given: ended(1)), mock.patch.dict(os.environ, {"LIBRARY": room}):
+        try:
+            tests.same("no module", pdf.interpreted(tempfile.mkdtemp(dir=room), "x", "pikepdf"), "fails")
+        except pdf.Wrong as why:
+            tests.same("no module", str(why), "no Python has the module pikepdf")
+
+
+
+# ---- compare/all
+
+class Comparison(types.SimpleNamespace):
+    """One with a name, and what of its fields isn't empty."""
+
+    def __init__(self, name, **more):
+        super().__init__(**{"name": name, "command": f"compare/{name}.py --all", "short": "", "data": (), "by_hand": False, "original": False, "timed": False, **more})
+
+
+def check_all(tests):
+    """Which comparisons are run, with which commands; what is kept of one, and the words."""
+    script = module("compare/all")
+    listed = [Comparison("first"), Comparison("hand", by_hand=True), Comparison("rust", original=True), Comparison("brief", short="compare/brief.py --few"), Comparison("files", short="compare/files.py --few", data=("a.csv",)), Comparison("last", data=("b.csv",))]
+    every = [("first", "compare/first.py --all"), ("rust", "compare/rust.py --all"), ("brief", "compare/brief.py --all"), ("files", "compare/files.py --all"), ("last", "compare/last.py --all")]
+    for names, is_short, original, failing, wanted, said in (
+            ([], False, "/x", [], every, ""), ([], False, "", [], [it for it in every if it[0] != "rust"], "rust: not run, as ORIGINAL isn't set\n"), ([], False, "/x", ["first"], every, ""), ([], False, "/x", ["last"], every, ""),
+            ([], True, "/x", [], [("first", "compare/first.py --all"), ("rust", "compare/rust.py --all"), ("brief", "compare/brief.py --few"), ("last", "compare/last.py --all")], "files: not run, as its short form writes no data files\n"),
+            (["last", "brief"], False, "/x", ["brief"], [it for it in every if it[0] in ("last", "brief")], ""), (["rust"], True, "", [], [], "rust: not run, as ORIGINAL isn't set\n")):
+        ran = []
+
+        def run(comparison, command, ran=ran, failing=failing):
+            ran.append((comparison.name, command))
+            return comparison.name not in failing
+        with mock.patch.object(script.comparisons, "COMPARISONS", listed), mock.patch.object(script, "run", run), mock.patch.dict(os.environ, {"ORIGINAL": original}):
+            tests.same(f"all {names}, {is_short}, {original}", (printed(lambda: script.run_all(types.SimpleNamespace(names=names, short=is_short))), ran), ((said, not failing), wanted))
+    with mock.patch.object(script.comparisons, "COMPARISONS", listed):
+        tests.same("one that is run by hand", printed(lambda: script.run_all(types.SimpleNamespace(names=["hand"], short=False))), ("", "all: hand is run by itself: compare/hand.py --all; then compare/all 'hand' --from FILE"))
+    check_all_run(tests, script)
+    check_all_kept(tests, script)
+    check_all_words(tests, script)
+
+
+def check_all_run(tests, script):
+    """What is started for a comparison, and what is kept of its answer."""
+    root, kept, calls = script.repository.ROOT, [], []
+    for timed, name, statuses, wanted in ((True, "times", [0], (True, "said", "machine under 3.5")), (False, "times", [3], (False, "said", "machine under None")), (False, "javascript", [0, 0], (True, "said", "machine under None")),
+                                          (True, "javascript, times", [2, 0], (False, f"not built: make -s -C {root}/bindings/js all native", "machine"))):
+        kept.clear()
+        calls.clear()
+
+        def start(words, statuses=statuses, **given):
+            calls.append((words, given.get("cwd")))
+            return ended(statuses[len(calls) - 1], "said")
+        with contextlib.ExitStack() as stack:
+            for owner, what, new in ((script, "clean_commit", lambda: "commit"), (script, "drop_older_pieces", lambda one, commit: calls and None), (script.subprocess, "run", start), (script.os, "getloadavg", lambda: (3.5, 1, 1)),
+                                     (script, "keep", lambda *words: kept.append(words) or words[1]), (script.results_of, "machine", lambda *load: "machine" + "".join(f" under {it}" for it in load))):
+                stack.enter_context(mock.patch.object(owner, what, new))
+            answer = script.run(Comparison(name, timed=timed), "compare/x.py --y bindings/js/z .ci/w /usr/bin/v")
+        passed, text, machine = wanted
+        tests.same(f"a run of {name}", (answer, kept), (passed, [(name, passed, text, "commit", "compare/x.py --y bindings/js/z .ci/w /usr/bin/v", machine)]))
+        run = ([f"{root}/compare/x.py", "--y", f"{root}/bindings/js/z", f"{root}/.ci/w", "/usr/bin/v"], root)
+        build = (["make", "-s", "-C", f"{root}/bindings/js", "all", "native"], None)
+        tests.same(f"what is started for {name}", calls, [build] * (len(statuses) > 1) + [run] * (machine != "machine"))
+
+
+def check_all_kept(tests, script):
+    """The page of a run; pieces of other commits; and a run whose text is in a file."""
+    done, others = [], []
+    one = types.SimpleNamespace(comparison="the comparison")
+    with contextlib.ExitStack() as stack:
+        for owner, what, new in ((script.results_of, "Result", lambda *words: done.append(("result", words)) or one), (script.results_of, "fields_of", lambda *words: ("fields", words)), (script.results_of, "as_body", lambda text: f"body of {text}"),
+                                 (script.results_of, "other_commits", lambda _: others), (script.results_of, "write", lambda it: done.append(("write", it))), (script.figures, "refresh", lambda: done.append("refresh") or ["a.md", "b.md"]),
+                                 (script.figures, "row", lambda it: f"row of {it}")):
+            stack.enter_context(mock.patch.object(owner, what, new))
+        for text in ("said", ""):
+            done.clear()
+            tests.same("a run is kept", printed(lambda text=text: script.keep("name", False, text, "commit", "command", "machine", "date")), ("row of the comparison\n", False))
+            tests.same("how it is kept", done, [("result", ("name", ("fields", (False, "commit", "command", "machine", "date")), f"body of {text or '(no output)'}")), ("write", one), "refresh"])
+        others[:], done[:] = ["1234567", "89abcde"], []
+        tests.same("data of others", (printed(lambda: script.keep("name", True, "x", "commit", "command", "machine")), [it for it in done if it != "refresh" and it[0] == "write"]), (("", "all: the data files of name are of 1234567, 89abcde"), []))
+        tests.same("documents that are written", printed(script.refresh), ("a.md: written anew\nb.md: written anew\n", None))
+    with mock.patch.object(script.figures, "refresh", lambda: []):
+        tests.same("documents that are as they were", printed(script.refresh), ("all documents are as they were\n", None))
+    room = tempfile.mkdtemp(dir=tests.room)
+    texts = {"one.jsonl": '{"commit": "abc"}\n{"commit": "abc"}\n', "two.jsonl": '{"commit": "abc"}\n{"commit": "abd"}\n', "three.jsonl": '{"commit": "abd"}\n', "four.jsonl": "", "five.csv": '{"commit": "abd"}\n', "six.jsonl": '{"commit": "abd"}\n'}
+    for name, text in texts.items():
+        put(text, room, name)
+    with mock.patch.object(script.results_of, "RESULTS", room):
+        script.drop_older_pieces(Comparison("x", data=("one.jsonl", "two.jsonl", "three.jsonl", "four.jsonl", "five.csv", "none.jsonl")), "abc")
+    tests.same("pieces that are left", sorted(os.listdir(room)), ["five.csv", "one.jsonl", "six.jsonl"])
+    commit = "0123abc"
+    for first, is_behind, wanted in ((f"commit {commit}, machine: another, 3 cores", True, (commit, "another, 3 cores")), (f"commit {commit}", True, (commit, "this one")), (f"commit {commit}", False, f"all: the commit {commit} isn't behind HEAD"),
+                                     ("commit 0123ab", True, None), (f"commit {commit} ", True, None), (f"Commit {commit}", True, None), (f"commit {'0' * 41}", True, None), (f"x commit {commit}", True, None)):
+        path, kept = put(f"{first}\ntwo\nλ\n", room, "file"), []
+        os.utime(path, (981158400, 981158400))
+        with mock.patch.object(script, "keep", lambda *words, kept=kept: kept.append(words) or "kept"), mock.patch.object(script.repository, "is_ancestor", lambda _, is_behind=is_behind: is_behind), mock.patch.object(script.results_of, "machine", lambda: "this one"):
+            answer = printed(lambda path=path: script.from_file(Comparison("name"), path))[1]
+        if isinstance(wanted, tuple):
+            tests.same(f"a file with {first!r}", (answer, [(*it[:6], str(it[6])) for it in kept]), ("kept", [("name", True, "two\nλ\n", wanted[0], "compare/name.py --all", wanted[1], "2001-02-03")]))
+        else:
+            tests.same(f"a file with {first!r}", (answer, kept), (wanted or f"all: the first line of {path} isn't `commit HASH` or `commit HASH, machine: TEXT`", []))
+
+
+def check_all_words(tests, script):
+    """What is called for which words; changes that no commit holds."""
+    names = {"one": Comparison("one"), "two": Comparison("two")}
+    done = []
+    with contextlib.ExitStack() as stack:
+        for owner, what, new in ((script.comparisons, "BY_NAME", names), (script.repository, "ready", lambda history=False: done.append(("ready", history))), (script, "refresh", lambda: done.append("refresh")),
+                                 (script, "from_file", lambda *words: done.append(words) or False), (script, "run_all", lambda given: done.append((given.names, given.short)) or True)):
+            stack.enter_context(mock.patch.object(owner, what, new))
+        ready = ("ready", True)
+        for words, wanted, calls in ((["--list"], ("one\ntwo\n", True), []), (["--refresh"], ("", True), [ready, "refresh"]), (["two", "--from", "file"], ("", False), [ready, (names["two"], "file")]), ([], ("", True), [ready, ([], False)]),
+                                     (["two", "one", "--short"], ("", True), [ready, (["two", "one"], True)]), (["three"], ("", "all: no comparison 'three'; there are: one, two"), []), (["one", "three"], ("", "all: no comparison 'three'; there are: one, two"), []),
+                                     (["--from", "file"], ("", "all: --from takes one NAME"), []), (["one", "two", "--from", "file"], ("", "all: --from takes one NAME"), [])):
+            done.clear()
+            tests.same(f"all {words}", (printed(script.main, *words), done), (wanted, calls))
+    asked = []
+    for changed, wanted in ((False, "commit"), (True, "all: what is measured has changes that no commit holds: git status crates bindings compare :!compare/results :!compare/README.md")):
+        with mock.patch.object(script.repository, "head", lambda *paths, changed=changed: asked.append(paths) or ("commit", changed)):
+            tests.same(f"changes: {changed}", printed(script.clean_commit)[1], wanted)
+    tests.same("where changes are asked for", asked, [("crates", "bindings", "compare", ":!compare/results", ":!compare/README.md")] * 2)
+
+
+# ---- compare/speed.py and compare/cff2_times.py
+
+def check_speed(tests):
+    """Which fonts and glyphs are rows, how many calls a turn has, the order of turns, and what is built."""
+    script = module("compare/speed.py")
+    tests.same("numbers of glyphs", [script.number_of(it) for it in ("5", "1-3", "0-0", "1-3,7,9-10", "3,1,2")], [1, 3, 1, 6, 3])
+    for seconds, first, more, wanted, calls in ((0.02, 1000, 900, 900, [1, 20000]), (0.02, 900, 1000, 900, [1, 22222]), (0.02, 100, 90, 90, [1, 100000]), (0.02, 20_000_000, None, 20_000_000, [1]), (0.02, 10_000_001, None, 10_000_001, [1]),
+                                                (0.02, 10_000_000, 9, 9, [1, 2]), (0, 5, None, 5, [1]), (0.02, 0, 3, 0, [1, 100000]), (0.02, "error", None, "error", [1]), (0.02, 1000, "died", "died", [1, 20000])):
+        asked, answers = [], [first, more]
+
+        def answer(program, words, room, asked=asked, answers=answers):
+            asked.append((program, words[:-1], words[-1], room))
+            got = answers[len(asked) - 1]
+            return got if isinstance(got, str) else (got, 77)
+        with mock.patch.object(script, "answer", answer):
+            tests.same(f"a turn of {seconds} s where a call takes {first}", script.turn("program", ["a", "b"], seconds, "/room"), wanted)
+        tests.same("its calls", asked, [("program", ["a", "b"], it, "/room") for it in calls])
+    turns = []
+    row = types.SimpleNamespace(task=lambda: ["font"], times={it: [] for it in script.PROGRAMS})
+    programs = {it: f"/{it}" for it in script.PROGRAMS}
+    with mock.patch.object(script, "turn", lambda *words: turns.append(words) or len(turns)):
+        script.take_turns(row, programs, types.SimpleNamespace(seconds=3), "/room")
+    tests.same("turns", turns, [(f"/{it}", ["/room/port"] if it == "floor" else ["font"], 3, "/room") for it in ("port", "generated", "crate", "harfbuzz", "plain", "floor")])
+    tests.same("their times", row.times, {"port": [1], "generated": [2], "crate": [3], "harfbuzz": [4], "plain": [5], "fonttools": [], "floor": [6]})
+    with mock.patch.object(script, "turn", lambda program, *_: "error x" if program == "/plain" else 1):
+        tests.same("one that fails", re.sub("^.*?: plain", "plain", str(printed(lambda: script.take_turns(row, programs, types.SimpleNamespace(seconds=3), "/room"))[1])), "plain: error x")
+    with mock.patch.object(script.bench, "listed", lambda *words: words), mock.patch.object(script.bench, "times_of", lambda words: (9, 8, 7) if words == ("p", "w", "r") else "error"):
+        tests.same("the least time and the length", (script.answer("p", "w", "r"), script.answer("p", "x", "r")), ((8, 7), "error"))
+    check_speed_rows(tests, script)
+    check_speed_builds(tests, script)
+
+
+def check_speed_rows(tests, script):
+    """The fonts by words, and their rows."""
+    data = os.path.join(ROOT, "bindings", "rust", "tests", "data")
+    tests.same("outlines", [script.outlines_of(os.path.join(data, it), 0) for it in ("made.ttf", "made.otf")], ["TrueType", "CFF"])
+    sets = [("a", "1-3"), ("b", "1-3"), ("c", "5"), ("d", "0-9,11")]
+    with mock.patch.object(script.fonts, "glyph_count", lambda *_: 4000), mock.patch.object(script.fonts, "glyph_sets", lambda count: sets if count == 4000 else []):
+        tests.same("rows", [(it.kept, it.glyphs, it.count, it.index, it.outlines) for it in script.rows_of(os.path.join(data, "made.ttf"), 0)], [("a", "1-3", 3, 0, "TrueType"), ("c", "5", 1, 0, "TrueType"), ("d", "0-9,11", 11, 0, "TrueType")])
+    for count, wanted in ((19, [10]), (20, [10, 20]), (70000, [10, 20, 65535])):
+        with mock.patch.object(script.fonts, "glyph_count", lambda *_, count=count: count), mock.patch.object(script.growth, "LONG_SIZES", [10, 20, 65535, 65536]), mock.patch.object(script.fonts, "spread", lambda *words: words):
+            rows = script.growing_rows(os.path.join(data, "made.ttf"), 0)
+        tests.same(f"growing rows of {count}", [(it.kept, it.glyphs, it.count) for it in rows], [(f"{it} spread", (min(count, 65535), it), it) for it in wanted])
+    truetype, cff = [("p", "/f/One.ttf", 0), ("p", "/f/two.ttc", 1)], [("q", "/one/three.otf", 0)]
+    with mock.patch.object(script.fonts, "TRUETYPE_FONTS", truetype), mock.patch.object(script.fonts, "CFF_FONTS", cff), mock.patch.object(script.growth, "LONG", [("two.ttc", 1, "x"), ("One.ttf", 1, "y"), ("three.otf", 0, "z")]):
+        for font, only, is_growth, wanted in ((None, "", False, truetype + cff), (None, "two", False, truetype[1:]), (None, "One", False, truetype[:1]), (None, "none", False, []), (None, "", True, [truetype[1], *cff]), ("/x.ttf", "none", True, [(None, "/x.ttf", 0)])):
+            tests.same(f"fonts: {font}, {only}, {is_growth}", script.fonts_of(types.SimpleNamespace(font=font, only=only, growth=is_growth)), wanted)
+    order = []
+    rows = [types.SimpleNamespace(name=it) for it in "ab"]
+    with mock.patch.object(script, "first_calls", lambda row, *words: order.append(("first", row.name, os.path.isdir(words[-1])))), mock.patch.object(script, "take_turns", lambda row, *words: order.append(("turns", row.name, os.path.basename(words[-1])))), \
+            contextlib.redirect_stderr(io.StringIO()) as shown:
+        script.measure(rows, {}, types.SimpleNamespace(runs=2))
+    tests.same("the order of runs", order, [("first", "a", True), ("first", "b", True), *[("turns", "a", "0"), ("turns", "b", "1")] * 2])
+    tests.same("what is said of them", shown.getvalue(), "run 1 of 2: 2 rows\nrun 2 of 2: 2 rows\n")
+
+
+def check_speed_builds(tests, script):
+    """What is installed and built by which words; the programs; and what ends it."""
+    calls = []
+
+    def noted(name):
+        return lambda *words, **more: calls.append((name, *words, *sorted(more.items())))
+    with mock.patch.object(script.bench, "build_all", noted("all")), mock.patch.object(script.build, "cargo", noted("cargo")), mock.patch.object(script.build, "gcc", noted("gcc")):
+        script.built_programs()
+    tests.same("what is built", calls, [("all", ("original_only", False), ("with_binding", False)), ("cargo", "generated"), ("gcc", "harfbuzz.c", "-DPLAIN", "-I/usr/include/harfbuzz", "-lharfbuzz-subset", "-lharfbuzz", ("to", "harfbuzz_plain_bench"))])
+    taken = [("p", "x", 0), (None, "y", 0)]
+    install = ("install", [*script.fonts.TOOLS, "p"])
+    for stand_in, no_build, no_install, wanted in ((None, False, False, [("original",), install, ("built",)]), (None, True, False, [install]), (None, False, True, [("original",), ("built",)]), (None, True, True, []), ("/x", False, False, [])):
+        calls.clear()
+        with mock.patch.object(script.original_crate, "original_folder", noted("original")), mock.patch.object(script.fonts, "install", noted("install")), mock.patch.object(script, "built_programs", noted("built")):
+            script.prepare(types.SimpleNamespace(stand_in=stand_in, no_build=no_build, no_install=no_install), taken)
+        tests.same(f"prepared: {stand_in}, {no_build}, {no_install}", calls, wanted)
+    tests.same("tools", script.fonts.TOOLS, ["time", "librust-rustc-hash-dev", "libharfbuzz-dev", "python3-fonttools"])
+    compare = os.path.join(ROOT, "compare")
+    paths = {"port": f"{ROOT}/crates/dev_bench/out/dev_bench", "generated": f"{compare}/generated/target/release/generated_bench", "crate": f"{compare}/original/target/release/original_bench", "harfbuzz": f"{compare}/build/harfbuzz_bench",
+             "plain": f"{compare}/build/harfbuzz_plain_bench", "fonttools": f"{compare}/drivers/fonttools_bench.py", "floor": f"{compare}/build/floor_bench"}
+    with mock.patch.object(script.os.path, "exists", lambda _: True):
+        tests.same("programs", script.programs_of(types.SimpleNamespace(stand_in=None)), paths)
+    for name, path in paths.items():
+        with mock.patch.object(script.os.path, "exists", lambda it, path=path: it != path):
+            tests.same(f"no {name}", printed(lambda: script.programs_of(types.SimpleNamespace(stand_in=None)))[1], f"speed.py: no {path}")
+    goals = script.goals
+    tests.same("goals", (goals.TRUETYPE, goals.JUMBLED, goals.CFF, goals.INSTANCE, goals.HALF_OF_INSTANCES, goals.GENERATED, goals.DIGITS, script.growth.MANY), (0.30, 0.35, 0.22, 1.15, 1.00, 1.10, 2, 1000))
+    tests.same("sizes", script.growth.LONG_SIZES, [10, 30, 100, 300, 1000, 3000, 10_000, 30_000, 60_000])
+    given = printed(script.read_words)[1]
+    tests.same("the defaults", vars(given), {"growth": False, "runs": 5, "seconds": 0.02, "only": "", "font": None, "most": 2000, "results": None, "no_install": False, "no_build": False, "stand_in": None})
+    tests.same("a font that isn't there", printed(script.main, "--font", "/none.ttf", "--stand-in", "/x"), ("", "speed.py: no /none.ttf"))
+
+
+def check_times(tests):
+    """When cff2_times.py takes no times, what it builds, its table, and its status."""
+    script = module("compare/cff2_times.py")
+    calls, room = [], tempfile.mkdtemp(dir=tests.room)
+
+    class Row:
+        def __init__(self, name):
+            self.name = name
+
+        def turn(self, *words):
+            calls.append(("turn", self.name, *words[:2], os.path.isdir(words[2])))
+    for what, words, load, rows, missing, past, wanted in (
+            ("a load", [], 1.1, "ab", [], "", "cff2_times.py: a load of 1.1: other programs use the machine"), ("no load", [], 1.0, "ab", [], "", 0), ("a load that may be", ["--any-machine"], 9.0, "ab", [], "", 0), ("one past its bound", [], 0.0, "ab", [], "b", 1),
+            ("both", [], 0.0, "ab", [], "ab", 1), ("a font that is missing", [], 0.0, "ab", ["x.otf", "y.otf"], "", 1), ("no row", [], 0.0, "", [], "", 1), ("other words", ["--no-build", "--turns", "3", "--bench", "/other", "--results", room], 0.0, "ab", [], "", 0)):
+        calls.clear()
+        turns, bench = (3, "/other") if "--turns" in words else (12, script.build.BENCH)
+        made = [Row(it) for it in rows]
+        with contextlib.ExitStack() as stack:
+            for owner, name, new in ((script.os, "getloadavg", lambda load=load: (load, 50, 50)), (script.os, "cpu_count", lambda: 4), (script.fonts, "install", lambda it: calls.append(("install", it))), (script.bench, "build_drawing", lambda: calls.append("drawing")),
+                                     (script.build, "rt", lambda it: calls.append(("rt", it))), (script.build, "program", lambda it: calls.append(("program", it))), (script, "rows_of", lambda given, made=made, missing=missing: (made, missing)),
+                                     (script, "judged", lambda row, *_, past=past: ([row.name, *range(8)], row.name in past)), (script.font_at, "commit", lambda: "abc"), (script.font_at, "versions", lambda: "versions"),
+                                     (script.bench, "write_figures", lambda path, lines: calls.append((path, [it["Font"] for it in lines])))):
+                stack.enter_context(mock.patch.object(owner, name, new))
+            said, status = printed(script.main, *words)
+        tests.same(f"{what}: the status", status, wanted)
+        if isinstance(wanted, str):
+            tests.same(f"{what}: what is done", (said, calls), ("", []))
+            continue
+        head = "| Font | Glyphs | Port (µs) | HarfBuzz (µs) | Ratio | New font (bytes) | Requested (bytes) | RSS (KiB) | Source + 3 × new font + 32 × glyphs + 1 MB |\n|---|---|---|---|---|---|---|---|---|\n"
+        lines = "".join(f"| {it} | 0 | 1 | 2 | 3 | 4 | 5 | 6 | 7 |{' missed' if it in past else ''}\n" for it in rows)
+        tests.same(f"{what}: what is printed", said, f"Commit abc; versions; {turns} turns of 5 calls, 4 cores under a load of {load:.1f}.\n\n{head}{lines}" + "".join(f"\n{it} is missing" for it in missing) + f"\n{len(rows)} rows, {len(past)} past their bound.\n")
+        built = [] if "--no-build" in words else [("install", [*script.cff2_runs.PACKAGES, "libharfbuzz-dev", "time"]), "drawing", ("rt", "dev_bench")]
+        tests.same(f"{what}: what is done", calls, [*built, ("program", bench), *[("turn", it, bench, script.bench.DRAW, True) for it in rows] * turns, *[(f"{room}/cff2_times.csv", list(rows))] * ("--results" in words)])
+
+
+# ---- .ci/fresh: the root file system
+
+PACKAGES = """base\tinstalled\tyes\t, libc6 (>= 2.14)\t
+git\tinstalled\tno\t, libc6, perl | ruby, missing, editor (>= 1)\t
+libc6\tinstalled\tno\t, \tlibc (= 2.36), libc-any
+perl\tinstalled\tno\tlibc, dpkg:any\tperlapi-5.36
+ruby\tinstalled\tno\t, other\tscript-any
+nano\tinstalled\tno\t, \teditor
+vim\tinstalled\tno\t, gone\teditor, vi-like (= 2)
+gone\tdeinstalled\tno\t, nothing\teditor
+other\tinstalled\tno\t, \t
+alone\tinstalled\tno\t, git\t
+"""
+
+
+def check_fresh(tests):
+    """Which packages the root is made of, what is copied, and what a machine is called with."""
+    fresh = module(".ci/fresh")
+    asked = []
+    with mock.patch.object(fresh, "run", lambda *words: asked.append(words) or PACKAGES):
+        tests.same("the packages of git", fresh.closure(["git", "none"]), ["base", "git", "libc6", "nano", "other", "perl", "ruby", "vim"])
+        tests.same("the essential ones", fresh.closure([]), ["base", "libc6"])
+        tests.same("those of one that others give", fresh.closure(["perl"]), ["base", "libc6", "perl"])
+    tests.same("how they are asked for", asked[0], ("dpkg-query", "-W", "-f=${Package}\t${db:Status-Status}\t${Essential}\t${Pre-Depends}, ${Depends}\t${Provides}\n"))
+    here, root = tempfile.mkdtemp(dir=tests.room), tempfile.mkdtemp(dir=tests.room)
+    put("one", here, "a", "file", mode=0o754)
+    os.symlink("file", f"{here}/a/link")
+    os.symlink("/nowhere", f"{here}/a/dangling")
+    os.makedirs(f"{here}/a/folder")
+    os.mkfifo(f"{here}/a/pipe")
+    put("there before", f"{root}{here}/a/old")
+    put("another", here, "a", "old")
+    for name in ("file", "link", "dangling", "folder", "pipe", "old", "none"):
+        fresh.copy(f"{here}/a/{name}", root)
+    there = f"{root}{here}/a"
+    tests.same("what is copied", (sorted(os.listdir(there)), read_of(there, "file"), os.stat(f"{there}/file").st_mode & 0o777, os.readlink(f"{there}/link"), os.readlink(f"{there}/dangling"), os.path.isdir(f"{there}/folder"), read_of(there, "old")),
+               (["dangling", "file", "folder", "link", "old"], b"one", 0o754, "file", "/nowhere", True, b"there before"))
+    tests.same("a command", fresh.run("sh", "-c", "echo one; echo two >&2"), "one\n")
+    tests.same("bytes that are no text", fresh.run("printf", r"\377\316\273"), "\ufffdλ")
+    readme = put("# é\n\n```sh\nmake λ\n```\n", tests.room, "readme", "README.md")
+    with mock.patch.object(fresh, "ROOT", os.path.dirname(readme)):
+        tests.same("a README that isn't ASCII", fresh.blocks(fresh.readme()), [("sh", "make λ\n")])
+    tests.same("one that fails", failed(fresh, lambda: fresh.run("sh", "-c", "echo one; echo why >&2; exit 3")), "sh -c echo one; echo why >&2; exit 3 ended with status 3: why")
+    tests.same("the packages", (fresh.BEFORE, fresh.INSTALLED, fresh.PATHS, fresh.MIRROR), (["git", "make", "python3"], ["gcc", "libc6-dev", "cargo", "rustc", "fonts-dejavu-core", "poppler-utils"],
+                                                                                     "/usr/local/sbin:/usr/local/bin:/usr/sbin:/usr/bin:/sbin:/bin", "http://deb.debian.org/debian"))
+    row = "| a | `make x` `cargo y` `pip z` `npm a` `tar b` `git c` `rt d` `python3 e` `out/bin/it f` `ls g` `make` `unmake h` |\n`make outside`\n"
+    tests.same("commands in a table", fresh.blocks(row), [("sh", f"{it}\n") for it in ("make x", "cargo y", "pip z", "npm a", "tar b", "git c", "rt d", "python3 e", "out/bin/it f")])
+    for language, block, wanted in (("", "ls\n", "ls\n"), ("sh", "ls\n", "ls\n"), ("bash", "ls\n", "ls\n"), ("rust", "fn main() {}\n", ".ci/examples.py rust\n"), ("rust", "fn other() {}\n", None), ("python", "x\n", None), ("console", "$ ls\n", None)):
+        tests.same(f"a block of {language!r}", fresh.as_commands(language, block), wanted)
+    tests.same("the URL that is cloned", fresh.CLONED.findall("git clone one\ngit clone -q two it\n git clone three\nsee git clone four\n"), ["one", "two"])
+    check_fresh_roots(tests, fresh)
+    check_fresh_machine(tests, fresh)
+    check_fresh_made(tests, fresh)
+
+
+def failed(script, call):
+    """Why a call fails; empty where it doesn't."""
+    try:
+        call()
+    except script.Failed as why:
+        return str(why) or "without a word"
+    return ""
+
+
+def check_fresh_roots(tests, fresh):
+    """A root by debootstrap, the links of Rust, and the repository in it."""
+    root, calls = tempfile.mkdtemp(dir=tests.room), []
+
+    def run(*words):
+        calls.append(words)
+        if words[0] == "debootstrap":
+            put("first\n", root, "etc", "apt", "sources.list")
+            put("x", root, "root", ".bashrc")
+        return " M file\n" if "status" in words else "/rust\n"
+    with mock.patch.object(fresh, "run", run), mock.patch.object(fresh.shutil, "which", lambda _: "/found"), mock.patch.object(fresh.shutil, "copyfile", lambda *words: calls.append(words)):
+        fresh.from_debian(root, "bookworm")
+        tests.same("by debootstrap", (calls, read_of(root, "etc/apt/sources.list"), os.listdir(f"{root}/root")), (
+            [("debootstrap", "--variant=minbase", "--include=git,make,python3,ca-certificates", "bookworm", root, "http://deb.debian.org/debian"), ("/etc/resolv.conf", f"{root}/etc/resolv.conf")],
+            b"first\ndeb http://deb.debian.org/debian-security bookworm-security main\n", []))
+        calls.clear()
+        tests.same("Rust", (fresh.toolchain(root), calls, {it: os.readlink(f"{root}/usr/local/bin/{it}") for it in os.listdir(f"{root}/usr/local/bin")}),
+                   ("/rust", [("rustc", "--print", "sysroot")], {it: f"/opt/rust/bin/{it}" for it in ("cargo", "rustc", "rustdoc", "rustfmt", "cargo-fmt", "cargo-clippy", "clippy-driver")}))
+        calls.clear()
+        with mock.patch.object(fresh, "readme", lambda: "```sh\ngit clone -q --depth 1 https://one.git it\ngit clone https://two.git\n```\nsee git clone three\n"):
+            said = printed(lambda: fresh.repository(root))[0]
+        bare, safe = f"{root}/srv/subsetter.git", ("git", "-c", f"safe.directory={ROOT}", "-C", ROOT)
+        tests.same("the repository", (said, calls), ("fresh: changes that no commit holds aren't in the clone\n", [("git", "init", "-q", "--bare", "--initial-branch=main", bare), ("git", "-C", bare, "config", "receive.shallowUpdate", "true"),
+                                                                                                       (*safe, "push", "-q", bare, "HEAD:refs/heads/main"), (*safe, "status", "--porcelain")]))
+    tests.same("how it is found", re.findall(r'\[url "/srv/subsetter\.git"\]\n\tinsteadOf = (\S+)\n', read_of(root, "etc/gitconfig").decode())[-1], "https://two.git")
+    with mock.patch.object(fresh, "run", lambda *_: ""), mock.patch.object(fresh, "readme", lambda: ""):
+        tests.same("no changes", printed(lambda: fresh.repository(root)), ("", None))
+    root, calls = tempfile.mkdtemp(dir=tests.room), []
+    manual = "/usr/share/doc/base-files/copyright"
+    with mock.patch.object(fresh, "closure", lambda wanted: calls.append(wanted) or ["a", "b"]), mock.patch.object(fresh, "run", lambda *words: calls.append(words) or f"/.\n/etc\n/etc/debian_version\n/usr/bin/env\n{manual}\nusr/bin/sort\n"):
+        fresh.from_packages(root)
+    tests.same("by packages", calls, [["git", "make", "python3", "gcc", "libc6-dev", "cargo", "rustc", "fonts-dejavu-core", "poppler-utils"], ("dpkg", "-L", "a", "b")])
+    links = [it for it in os.listdir(f"{root}/usr/bin") if it != "env" and not (os.path.islink(f"/usr/bin/{it}") and os.readlink(f"/usr/bin/{it}").startswith("/etc/alternatives/"))]
+    tests.same("its files", (read_of(root, "usr/bin/env") == read_of("/usr/bin/env"), os.path.exists(f"{root}/etc/debian_version"), os.path.exists(root + manual), os.path.lexists(f"{root}/usr/bin/sort"), links), (True, True, False, os.path.islink("/usr/bin/sort"), []))
+    folders = ("proc", "sys", "dev", "root", "srv", "tmp", "run", "opt/rust", "var/tmp", *(f"usr/{it}" for it in ("bin", "sbin", "lib", "lib32", "lib64", "libx32")))
+    tests.same("its folders", ([it for it in folders if not os.path.isdir(f"{root}/{it}")], os.listdir(f"{root}/root"), os.stat(f"{root}/tmp").st_mode & 0o7777, read_of(root, "etc/passwd")), ([], [], 0o1777, b"root:x:0:0:root:/root:/bin/bash\n"))
+    tests.same("links at its top", {it: os.readlink(f"{root}/{it}") for it in ("bin", "sbin", "lib", "lib64") if os.path.islink(f"/{it}")}, {it: os.readlink(f"/{it}") for it in ("bin", "sbin", "lib", "lib64") if os.path.islink(f"/{it}")})
+    with mock.patch.object(fresh.shutil, "which", lambda _: None):
+        tests.same("no debootstrap", failed(fresh, lambda: fresh.from_debian(root, "x")), "no debootstrap (Debian's package of that name)")
+        tests.same("no rustc", failed(fresh, lambda: fresh.toolchain(root)), "no rustc here, neither Debian's nor another")
+
+
+def check_fresh_machine(tests, fresh):
+    """What is started in the machine, what its status gives, and whether it has a network."""
+    root, calls, answer = tempfile.mkdtemp(dir=tests.room), [], [ended()]
+
+    def run(words, **given):
+        calls.append((words, given.get("stdin")))
+        return answer[0]
+    with mock.patch.object(fresh.subprocess, "run", run), mock.patch.object(fresh.time, "monotonic", lambda: 5.0), mock.patch.object(fresh.os, "geteuid", lambda: 0):
+        machine = fresh.Machine(root, [("/kit", "/opt/kit", "ro"), ("/kept", "/kept", "rw")], "/paths", False)
+        tests.same("its folders", (os.path.isdir(f"{root}/opt/kit"), os.path.isdir(f"{root}/kept")), (True, True))
+        tests.same("a script", printed(lambda: machine.demand("make demo\nmore", "/it")), ("fresh: make demo: done in 0.0 s\n", None))
+        mounts = f"mount --bind {root} {root} && mount --rbind /dev {root}/dev && mount -t proc proc {root}/proc && mount --bind -o ro /kit {root}/opt/kit && mount --bind -o rw /kept {root}/kept"
+        entered = ["unshare", "--mount", "--pid", "--fork", "--net", "sh", "-c", f'{mounts} || exit 126; exec chroot {root} env -i HOME=/root LANG=C.UTF-8 TERM=dumb PATH=/paths "$@"', "sh"]
+        tests.same("how it is started", calls, [([*entered, "bash", "-e", "-c", "cd /it && set -e -o pipefail\nmake demo\nmore"], subprocess.DEVNULL)])
+        calls.clear()
+        with contextlib.redirect_stdout(io.StringIO()):
+            machine.demand("x")
+        tests.same("its folder", calls[0][0][-1], "cd /root && set -e -o pipefail\nx")
+        answer[0] = ended(3)
+        tests.same("a script that fails", failed(fresh, lambda: machine.demand("make demo\nmore")), "make demo: status 3 after 0 s")
+        devices = "Inter-|   Receive\n face |bytes\n    lo: 0 0\n{}"
+        for has_network, more, status, wanted in ((False, "", 0, ""), (False, "  eth0: 1 2\n", 0, "there is a network: ['eth0', 'lo']"), (True, "  eth0: 1 2\n", 0, ""), (False, "", 1, "the root can't be entered (are namespaces refused?): why"), (True, "", 1, "the root can't be entered (are namespaces refused?): why")):
+            answer[0] = types.SimpleNamespace(returncode=status, stdout=devices.format(more), stderr="why\n")
+            machine = fresh.Machine(root, [], "/paths", has_network)
+            calls.clear()
+            tests.same(f"its network: {more!r}", failed(fresh, lambda: fresh.check(machine)), wanted)
+            tests.same("how that is asked", (calls[0][0][-3:], "--net" in calls[0][0]), (["bash", "-c", "test ! -e /root/.cargo && cat /proc/net/dev"], not has_network))
+    with mock.patch.object(fresh.os, "geteuid", lambda: 1000):
+        tests.same("as another user", fresh.Machine(root, [], "/paths", True).enter()[:5], ["unshare", "--map-root-user", "--mount", "--pid", "--fork"])
+    scripts = []
+    noted = types.SimpleNamespace(demand=lambda script, folder="/root": scripts.append((script, folder)), root=root)
+    fresh.run_demo(noted)
+    demo = [("make demo", "/root/subsetter"), ("test -s out/demo/line.pdf && test -s out/demo/line.png", "/root/subsetter")]
+    clone, unchanged = ("git clone -q /srv/subsetter.git subsetter", "/root"), ('test -z "$(git status --porcelain)" || { git status; false; }', "/root/subsetter")
+    tests.same("make demo", scripts, [clone, *demo, *demo, ('test "$(ls -A /root)" = subsetter || { ls -A /root; false; }', "/root"), unchanged])
+    scripts.clear()
+    fresh.run_test(noted, "a,b")
+    tests.same("make test", scripts, [clone, ("make test SKIP=a,b", "/root/subsetter"), unchanged])
+    os.makedirs(f"{root}/root/it/.git")
+    os.makedirs(f"{root}/root/beside")
+    for text, wanted in (("```sh\ngit clone url it\nmake demo\n```\n```sh\nls\n```\n", [("git clone url it\nmake demo\n", "/root"), ("ls\n", "/root/it")]), ("```sh\nmake demo\n```\n", [clone, ("make demo\n", "/root/it")])):
+        scripts.clear()
+        fresh.run_readme(noted, text, {})
+        tests.same(f"a README {text!r}", scripts, [*wanted, (unchanged[0], "/root/it")])
+
+
+def check_fresh_made(tests, fresh):
+    """The machine by the words, what is run there, and what is left."""
+    room = tempfile.mkdtemp(dir=tests.room)
+    kit = os.path.join(room, "kit")
+    os.symlink("/real", kit)
+    words = {"debian": "", "keep": "", "kit": "", "skip": "", "rust": False, "kept": False, "what": ""}
+    rust, of_kit, of_kept = ("/sysroot", "/opt/rust", "ro"), ("/real", "/real", "ro"), ("/real-kept", "/real-kept", "rw")
+    for what, change, has_cargo, bound, paths, network in (
+            ("packages with Cargo", {}, True, [], fresh.PATHS, False), ("packages without Cargo", {}, False, [rust], fresh.PATHS, False), ("the machine's Rust", {"rust": True}, True, [rust], fresh.PATHS, False),
+            ("debootstrap", {"debian": "sid"}, False, [], fresh.PATHS, True), ("debootstrap with Rust", {"debian": "sid", "rust": True}, False, [rust], fresh.PATHS, True), ("the kit", {"kit": kit}, True, [of_kit], f"/real/bin:{fresh.PATHS}", False),
+            ("the kit and kept proofs", {"kit": kit, "kept": True}, False, [rust, of_kit, of_kept], f"/real/bin:{fresh.PATHS}", False)):
+        root, calls = tempfile.mkdtemp(dir=room), []
+        if has_cargo:
+            put("", root, "usr", "bin", "cargo")
+        with contextlib.ExitStack() as stack:
+            for name, new in (("from_packages", lambda at: calls.append(("packages", at))), ("from_debian", lambda at, suite: calls.append((suite, at))), ("toolchain", lambda _: "/sysroot"), ("repository", lambda at: calls.append(("repository", at)))):
+                stack.enter_context(mock.patch.object(fresh, name, new))
+            made = fresh.made(root, {**words, **change})
+        tests.same(what, (made.root, made.bound, made.paths, made.has_network, calls), (root, bound, paths, network, [(change.get("debian") or "packages", root), ("repository", root)]))
+    for what, runs in ((["demo"], ("demo",)), (["test", "--kit=/kit", "--skip=a"], ("test", "a")), ([], ("readme",))):
+        for keep in (False, True):
+            for failing in ("", "made", "check", "run"):
+                kept, done = os.path.join(room, "kept", "root"), []
+
+                def step(name, done=done, failing=failing):
+                    def call(*given):
+                        done.append((name, *given))
+                        if failing == name.split("_")[0]:
+                            raise fresh.Failed("why")
+                        return "machine"
+                    return call
+                with contextlib.ExitStack() as stack:
+                    for name, new in (("made", step("made")), ("check", step("check")), ("run_demo", step("run_demo")), ("run_test", step("run_test")), ("run_readme", step("run_readme")), ("remove", step("remove")), ("readme", lambda: "text")):
+                        stack.enter_context(mock.patch.object(fresh, name, new))
+                    stack.enter_context(mock.patch.object(fresh.tempfile, "mkdtemp", lambda prefix: os.path.join(room, "new")))
+                    stack.enter_context(mock.patch.object(fresh.time, "monotonic", lambda: 5.0))
+                    said, status = printed(fresh.main, *what, *[f"--keep={kept}"] * keep)
+                root = kept if keep else os.path.join(room, "new")
+                given = {"demo": ("run_demo", "machine"), "test": ("run_test", "machine", "a"), "readme": ("run_readme", "machine", "text", fresh.NOT_RUN)}[runs[0]]
+                order = [("check", "machine"), given]
+                count = {"": 2, "run": 2, "check": 1, "made": 0}[failing]
+                tests.same(f"fresh {what}, {keep}, {failing}", (status, [it[0] for it in done[:1]], done[0][1], done[1:]), ("fresh: FAILED: why" if failing else None, ["made"], root, order[:count] + [("remove", root)] * (not keep)))
+                tests.same("what it says", said, ("" if failing in ("made", "check") else "fresh: the root is made in 0 s\n") + ("" if failing else "fresh: all is as it should be\n"))
+                tests.same("its rights", os.stat(root).st_mode & 0o777, 0o755)
+    put("x", room, "gone", "file")
+    fresh.remove(os.path.join(room, "gone"))
+    tests.same("a root that goes", os.path.exists(os.path.join(room, "gone")), False)
+    with mock.patch("builtins.open", mock.mock_open(read_data=f"proc {room}/kept/root/proc proc rw 0 0\n")):
+        said = printed(lambda: fresh.remove(f"{room}/kept/root"))[0]
+    tests.same("a root that is in use", (said, os.path.isdir(f"{room}/kept/root")), (f"fresh: {room}/kept/root is left, as something is mounted in it\n", True))
+
+
+
+# ---- compare/lib: builds, drivers and fonts; what a comparison is run by
+
+def check_builds(tests):
+    """By which words each driver is built and run, and what is taken of its answer."""
+    sys.path.insert(0, os.path.join(ROOT, "compare", "lib"))
+    bench = module("compare/lib/bench.py")
+    build, compare, calls = bench.build, os.path.join(ROOT, "compare"), []
+
+    def run(words, **given):
+        calls.append((words, {name: it for name, it in given.items() if name != "env"}, given.get("env", {}).get("RUSTFLAGS")))
+        return ended()
+    with mock.patch.object(build.subprocess, "run", run), mock.patch.object(build.os, "makedirs"):
+        made = [build.gcc("a.c", "-lx", to="a"), build.preload("b.c", to="b.so"), build.cargo("original"), build.library()]
+    flags = ["gcc", "-O3", "-march=x86-64-v2", "-o"]
+    tests.same("what is built", calls, [([*flags, f"{compare}/build/a", f"{compare}/drivers/a.c", "-lx"], {"check": True}, None), ([*flags, f"{compare}/build/b.so", f"{compare}/drivers/b.c", "-shared", "-fPIC"], {"check": True}, None),
+                                       (["cargo", "build", "--release", "--offline", "--quiet"], {"cwd": f"{compare}/original", "check": True}, "-C target-cpu=x86-64-v2"), (["make"], {"cwd": f"{ROOT}/bindings/c", "check": True}, None)])
+    tests.same("where it is", made, [f"{compare}/build/a", f"{compare}/build/b.so", f"{compare}/original/target/release/original_bench", None])
+    tests.same("the crates' programs", (build.BENCH, build.FONT, build.PARTS, build.built("a", "b")), tuple(f"{ROOT}/crates/{it}/out/{name}" for it, name in (("dev_bench", "dev_bench"), ("subset_font", "subset_font"), ("dev_parts", "dev_parts"), ("a", "b"))))
+    calls.clear()
+    noted = {it: (lambda *words, it=it, **more: calls.append((it, *words, *more.items())) or f"made by {it}") for it in ("preload", "gcc", "cargo", "rt", "library")}
+    with contextlib.ExitStack() as stack:
+        for name, new in noted.items():
+            stack.enter_context(mock.patch.object(build, name, new))
+        stack.enter_context(mock.patch.object(bench.original_crate, "lay_out", lambda: calls.append("laid out")))
+        bench.build_all(False, True)
+        calls.append("then")
+        bench.build_all(True, False)
+        calls.append("then")
+        bench.build_drawing()
+    peak, floor = ("preload", "peak.c", ("to", "peak.so")), ("gcc", "floor.c", ("to", "floor_bench"))
+    harfbuzz = ("gcc", "harfbuzz.c", "-I/usr/include/harfbuzz", "-lharfbuzz-subset", "-lharfbuzz", ("to", "harfbuzz_bench"))
+    tests.same("all drivers", calls, ["laid out", peak, floor, harfbuzz, ("cargo", "original"), ("library",), ("cargo", "binding"), ("rt", "dev_bench"), "then", "laid out", peak, floor, harfbuzz, ("cargo", "original"), "then",
+                                    ("gcc", "harfbuzz_draw.c", "-I/usr/include/harfbuzz", "-lharfbuzz", ("to", "harfbuzz_draw")), peak])
+    tests.same("where drivers are", (bench.ORIGINAL, bench.COUNTER, bench.BINDING, bench.PORT, bench.HARFBUZZ, bench.DRAW, bench.FLOOR), (
+        f"{compare}/original/target/release/original_bench", f"{compare}/build/peak.so", f"{compare}/binding/target/release/binding_bench", build.BENCH, *(f"{compare}/build/{it}" for it in ("harfbuzz_bench", "harfbuzz_draw", "floor_bench"))))
+    check_paths(tests, build)
+    check_answers(tests, bench)
+
+
+def check_paths(tests, build):
+    """A program that isn't there is built where it is a crate's, and ends the script where it isn't there then."""
+    crate = os.path.join(ROOT, "crates", "some_crate", "out", "it")
+    for path, there, wanted, called in (("/there", ["/there"], "/there", []), ("/gone", [], "script: no program /gone", []), (crate, [], f"script: no program {crate}", ["some_crate"]), (crate, [crate], crate, [])):
+        calls = []
+        with mock.patch.object(build.os.path, "exists", lambda it, there=there: it in there), mock.patch.object(build, "rt", calls.append):
+            tests.same(f"the program {path}", (printed(lambda path=path: build.program(path))[1], calls), (wanted, called))
+    built = []
+    with mock.patch.object(build.os.path, "exists", lambda it: bool(built)), mock.patch.object(build, "rt", built.append):
+        tests.same("a program that is built", (build.program(crate), built), (crate, ["some_crate"]))
+
+
+def check_answers(tests, bench):
+    """What a driver says, its memory, and the least times of programs by turns."""
+    room = tempfile.mkdtemp(dir=tests.room)
+    for status, said, wanted in ((0, "ok 7 6 5 0123\n", (7, 6, 5)), (0, "error malformed font\n", "error malformed font"), (1, "", "died with 1"), (0, "", "died with 0"), (1, "ok 7 6 5\n", "ok 7 6 5"), (-9, "", "died with -9")):
+        with mock.patch.object(bench.subprocess, "run", lambda *_, status=status, said=said, **given: ended(status, said)):
+            tests.same(f"a driver that says {said!r} and ends with {status}", bench.times_of(["x"]), wanted)
+    tests.same("a task in a list", (bench.listed("/p", ["a", 1, "2-3"], room), read_of(room, "list")), (["/p", "--list", f"{room}/list"], b"a 1 2-3\n"))
+    tests.same("answers", (bench.answer("ok 7 6 5"), bench.answer("error x")), (("ok", 7, 6), ("error x",)))
+    tests.same("the median part", bench.median_part([1, 9, 4], [2, 3, 4]), 1)
+    calls = []
+
+    def run(words, **given):
+        calls.append((words, given["env"].get("LD_PRELOAD"), given["env"].get("PEAK")))
+        put("Command exited with non-zero status 1\n77\n", room, "peak")
+        return ended(1, b"")
+    with mock.patch.object(bench.subprocess, "run", run):
+        tests.same("memory", (bench.run("/p", ["a"], room), bench.run("/p", ["a"], room, counted=True)), (("died with 1", 77),) * 2)
+    tests.same("how it is counted", calls, [(["/usr/bin/time", "-q", "-f", "%M", "-o", f"{room}/peak", "/p", "--list", f"{room}/list"], os.environ.get("LD_PRELOAD"), os.environ.get("PEAK")),
+                                           (["/p", "--list", f"{room}/list"], bench.COUNTER, f"{room}/peak")])
+    path, tasks = "/" + "f" * (len(room) + 20), []
+    with mock.patch.object(bench, "run", lambda program, task, *_: tasks.append(task) or ("ok", 100 if task[0] == path else 30)):
+        tests.same("memory above that of no font", bench.above_no_font("/p", [path, 1], room, True), 70)
+    tests.same("of a name as long, without bytes", (len(tasks[1][0]) == len(path), os.path.getsize(tasks[1][0]), tasks[1][1:]), (True, 0, [1]))
+    asked, lines = [], {"fast": [(8, 10)] * 3 + [(7, 9)] + [(8, 10)] * 5, "slow": [(100, 100)] * 9, "refuses": []}
+
+    def taken(program, task, _):
+        asked.append((program, task[-1]))
+        found = lines[program].pop(0) if lines[program] else None
+        return (f"ok {found[1]} {found[0]} 5" if found else "error x"), 0
+    with mock.patch.object(bench, "run", taken):
+        tests.same("least times", bench.least_times({it: (it, ["task"]) for it in lines}, 1e-6, room), {"fast": (7, 9), "slow": (100, 100)})
+    turns = [("fast", 125), ("slow", 10)] * 3 + [("fast", 143), ("slow", 10)] * 5
+    tests.same("turns", asked, [("fast", 1), ("slow", 1), ("refuses", 1), *turns])
+    tests.same("numbers", (bench.ROUNDS, bench.CALLS_AT_MOST), (8, 100_000))
+    made = os.path.join(room, "figures.csv")
+    for commit, stamp in ((("abc", False), "commit abc"), (("abc", True), "commit abc with changes"), (("", False), "commit unknown")):
+        with mock.patch.object(bench.build, "commit", lambda commit=commit: commit), mock.patch.object(bench.os, "cpu_count", lambda: 3), mock.patch.object(sys, "argv", ["/x/it.py"]):
+            bench.write_figures(made, [{"a": 1, "b c": "x,y"}, {"a": 2, "b c": ""}], "--one", "two")
+        tests.same(f"figures: {stamp}", read_of(made).decode(), f'# compare/it.py --one two, {stamp}, 3 cores\na,b c\n1,"x,y"\n2,\n')
+
+
+def check_fonts(tests):
+    """What is installed, the sets of glyphs, and what is read of a font's head."""
+    sys.path.insert(0, os.path.join(ROOT, "compare", "lib"))
+    fonts = module("compare/lib/fonts.py")
+    calls = []
+
+    def run(words, **given):
+        calls.append((words, given.get("check")))
+        return ended(1 if words[-1] in ("b", "c") else 0)
+    with mock.patch.object(fonts.subprocess, "run", run), contextlib.redirect_stderr(io.StringIO()) as shown:
+        fonts.install(["c", "a", "b", "a"])
+        fonts.install(["a"])
+    tests.same("what is installed", (calls, shown.getvalue()), ([*((["dpkg", "-s", it], None) for it in "abc"), (["apt-get", "install", "-y", "-qq", "b", "c"], True), (["dpkg", "-s", "a"], None)], "installing b c\n"))
+    for count, names in ((70, ["1-3", "0-69"]), (71, ["68-70", "0-70"]), (115, ["68-70", "0-79"]), (116, ["68-70", "36-115"]), (1999, ["68-70", "36-115"]), (2000, ["68-70", "36-115", "0-1999"]), (65535, ["68-70", "36-115", "0-1999"]), (65536, ["68-70", "36-115", "0-1999"])):
+        sets = fonts.glyph_sets(count)
+        kept = min(count, 65535)
+        tests.same(f"low glyphs of {count}", [it for name, it in sets if name.endswith("low")], names)
+        tests.same(f"the other sets of {count}", [name for name, _ in sets if not name.endswith("low")], ["3 spread", "80 spread", *["2000 spread"] * (count >= 2000), "all in order", "all jumbled"])
+        tests.same(f"all of {count}", (dict(sets)["all in order"], sorted(map(int, dict(sets)["all jumbled"].split(","))) == list(range(kept)), dict(sets)["all jumbled"] != ",".join(map(str, range(kept)))), (f"0-{kept - 1}", True, True))
+    tests.same("spread glyphs", (sorted(map(int, fonts.spread(1000, 4).split(","))), fonts.spread(1000, 4) == fonts.spread(1000, 4)), ([0, 250, 500, 750], True))
+    data = os.path.join(ROOT, "bindings", "rust", "tests", "data", "made.ttf")
+    font = read_of(data)
+    collection = b"ttcf" + struct.pack(">III", 0x10000, 2, 20) + struct.pack(">I", 20) + font
+    tests.same("tables", ("glyf" in fonts.directory(font), fonts.directory(collection, 1) == fonts.directory(collection, 0) == fonts.directory(font)), (True, True))
+    at, length = fonts.directory(font)["maxp"]
+    tests.same("the number of glyphs", fonts.glyph_count(data, 0), struct.unpack(">H", font[at + 4:at + 6])[0])
+    tests.same("the place of a table", (length >= 6, font[at:at + 4] in (b"\0\1\0\0", b"\0\0\x50\0")), (True, True))
+    tests.same("labels", [fonts.label(*it) for it in (("/a/b.ttf", 1), ("/a/c.ttc", 2), ("/a/d.otf", 0))], ["b.ttf", "c.ttc #2", "d.otf"])
+    tests.same("numbers", (fonts.u16(b"\1\2\3\4", 1), fonts.u32(b"\0\1\2\3\4", 1)), (0x0203, 0x01020304))
+
+
+def check_commands(tests):
+    """Each comparison's script is there, and knows the options of both of its forms; it writes its data files where their form says so."""
+    sys.path.insert(0, os.path.join(ROOT, "compare", "lib"))
+    comparisons = module("compare/lib/comparisons.py")
+    tests.same("names", len(comparisons.BY_NAME), len(comparisons.COMPARISONS))
+    tests.same("pages", len({comparisons.page_of(it) for it in comparisons.BY_NAME}), len(comparisons.COMPARISONS))
+    for one in comparisons.COMPARISONS:
+        for command in filter(None, (one.command, one.short)):
+            words = command.split()
+            words = words[1:] if words[0] in (comparisons.DEBIAN, "node") else words
+            if words[0] == "make":
+                continue
+            path = os.path.join(ROOT, words[0])
+            tests.same(f"{one.name}: {words[0]} is a script", os.path.isfile(path) and (os.access(path, os.X_OK) or command.startswith("node ")), True)
+            text = read_of(path).decode()
+            known = [it for it in words[1:] if it.startswith("--") and f'"{it}"' not in text and f"{it} " not in text and f"{it})" not in text and f"{it}]" not in text]
+            tests.same(f"{one.name}: options of {words[0]} that it hasn't", known, [])
+        is_written = any(word in one.command for word in ("--results", "--pieces", "--growth"))
+        tests.same(f"{one.name}: its data files", bool(one.data) == is_written or one.name in ("times", "processors"), True)
+
+
+# ---- compare/gate.py
+
+def check_gate(tests):
+    """What is kept of a gate's lines, the minutes, and how it is run."""
+    sys.path.insert(0, os.path.join(ROOT, "compare", "lib"))
+    gate = module("compare/gate.py")
+    passed, skipped, last = "a part (one): passed in 60 s", "a part (two): skipped, as was asked for", "7 passed, 0 failed"
+    proved = "0:01 rt: {} is kept: an earlier run on this machine proved the same files"
+    failed, left = "a part (three): FAILED after 3 s", "the bindings: not run, as not all is proved"
+    named, several = "gate: parts were skipped: name them, as in SKIP=NAME,..", ["2 crates proved before by `rt ci` on the machine"]
+    for lines, words, wanted in (
+            ([passed, last], [], [passed, last]), (["noise", f"  {passed}  ", "more", last, ""], [], [passed, last]), ([passed, skipped, last], ["SKIP=two"], [passed, skipped, last]), ([passed, skipped, last], [], named),
+            ([proved.format("one"), proved.format("two"), proved.format("one"), last], [], [*several, last]), ([passed, "7 passed, 1 failed"], [], "gate: the last line is '7 passed, 1 failed', and no gate that passed"),
+            ([passed, "0 passed, 0 failed"], [], "gate: the last line is '0 passed, 0 failed', and no gate that passed"), ([passed, last, "more"], [], "gate: the last line is 'more', and no gate that passed"), ([failed, last], [], f"gate: {failed}"), ([left, last], [], f"gate: {left}"),
+            ([f"refused: {failed}", f"caught, WRONGLY: {left}", f"recorded: {skipped}", f"passed: {passed}", last], [], [last]), ([f"found: {failed}", last], [], f"gate: found: {failed}"), ([""], [], "gate: the last line is '', and no gate that passed"),
+            (["a part (one): FAILED", last], [], [last]), (["10 passed, 0 failed"], [], ["10 passed, 0 failed"])):
+        found = []
+        said = printed(lambda: found.extend(gate.kept("\n".join(lines) + "\n", words)))[1]
+        tests.same(f"a gate that prints {lines}", said or found, wanted)
+    for status, took, wanted in ((0, 3720, ("λ\nsaid\n", 62)), (0, 29, ("λ\nsaid\n", 0)), (0, 31, ("λ\nsaid\n", 1)), (2, 60, "gate: it failed, so nothing is recorded"), (-9, 60, "gate: it failed, so nothing is recorded")):
+        clock, calls = iter([100.0, 100.0 + took]), []
+
+        def run(words, status=status, calls=calls, **given):
+            calls.append((words[:2], re.sub(r"tee \S+", "tee LOG", words[2]), words[3:], given))
+            put("λ\nsaid\n", re.search(r"tee (\S+)", words[2])[1])
+            return ended(status)
+        with mock.patch.object(gate.subprocess, "run", run), mock.patch.object(gate.time, "monotonic", lambda clock=clock: next(clock)):
+            tests.same(f"a gate that ends with {status} after {took} s", printed(lambda: gate.run(["SKIP=a", "x y"]))[1], wanted)
+        tests.same("how it is run", calls, [(["bash", "-c"], 'set -o pipefail; make test "$@" 2>&1 | tee LOG', ["sh", "SKIP=a", "x y"], {"cwd": gate.repository.ROOT})])
+    tests.same("what may not be changed", gate.CODE, ("crates", "crates.txt", "bindings", "dist", ".ci", "compare", "rows", "demo", "examples", ":!compare/results", ":!compare/README.md", "Makefile"))
+    for words in (["--from", "x"], ["--minutes", "0"], ["--commit", "x"], ["--from", "x", "--minutes", "1"], ["--minutes", "1", "--commit", "x"], ["--from", "x", "--commit", "y"]):
+        with contextlib.redirect_stderr(io.StringIO()) as shown:
+            tests.same(f"gate.py {words}", (printed(gate.main, *words)[1], "--from, --minutes and --commit go together" in shown.getvalue()), (2, True))
+
+
+# ---- compare/lib/speed_figures.py
+
+# Rows of speed.csv: outlines, glyphs, parts of the crate and of HarfBuzz, of the port by the generated crate, held by the three, and times.
+SPEED = [("TrueType", "3 low", "0.304", "0.5", "1.2", ("1.0", "2.0", "3.0"), ("1000", "2000", "3000", "4000", "5000", "", "60")), ("TrueType", "all jumbled", "0.352", "0.61", "1.2", ("1.5", "2.5", "3.5"), ("99949", "99951", "100000", "1234567", "0", "7", "8")),
+         ("TrueType", "80 low", "0.31", "0.25", "1.2", ("1.25", "2.25", "9.001"), ("1", "2", "3", "4", "5", "6", "7")), ("CFF", "3 low", "0.25", "0.7", "1.2", ("1.1", "2.1", "3.1"), ("10", "20", "30", "40", "50", "60", "70")),
+         ("CFF", "80 low", "0.21", "0.8", "1.2", ("1.3", "2.3", "3.3"), ("11", "21", "31", "41", "51", "61", "71"))]
+GOALS = """| Goal | At most | Rows that meet it | Half of the rows at most | All at most |
+| --- | --: | --: | --: | --: |
+| TrueType, of the Rust crate's time | 0.30 | 1 of 2 | 0.31 | 0.31 |
+| TrueType, all glyphs jumbled | 0.35 | 1 of 1 | 0.35 | 0.36 |
+| CFF, of the Rust crate's time | 0.22 | 1 of 2 | 0.23 | 0.25 |
+| instances, of the time that HarfBuzz draws in | 1.15 | 3 of 4 | 1.08 | 1.16 |
+| the same, half of the rows | 1.00 | 2 of 4 |  |  |
+| Cargo's build, of the proved build's time: geometric mean | 1.10 | no | 1.20 |  |"""
+EVERY = """| Font | Kept | Proved, µs | Cargo, µs | Rust crate, µs | HarfBuzz, µs | HarfBuzz plain, µs | fontTools, µs | Floor, µs | Of the crate | Of HarfBuzz | Held | Held by the crate |
+| --- | --- | --: | --: | --: | --: | --: | --: | --: | --: | --: | --: | --: |
+| made.ttf | 3 low | 1.0 | 2.0 | 3.0 | 4.0 | 5.0 | – | 0.1 | 0.30 | 0.50 | 1.00 | 3.00 |
+| made.ttf | all jumbled | 99.9 | 100.0 | 100 | 1,235 | 0.0 | 0.0 | 0.0 | 0.35 | 0.61 | 1.50 | 3.50 |
+| made.ttf | 80 low | 0.0 | 0.0 | 0.0 | 0.0 | 0.0 | 0.0 | 0.0 | 0.31 (missed) | 0.25 | 1.25 | 9.00 |"""
+MEMORY = """| Program | Outlines | Least | Half of the rows at most | All at most |
+| --- | --- | --: | --: | --: |
+| proved build | TrueType | 1.00 | 1.25 | 1.50 |
+| proved build | CFF | 1.10 | 1.20 | 1.30 |
+| Cargo's build | TrueType | 2.00 | 2.25 | 2.50 |
+| Cargo's build | CFF | 2.10 | 2.20 | 2.30 |
+| Rust crate | TrueType | 3.00 | 3.50 | 9.01 |
+| Rust crate | CFF | 3.10 | 3.20 | 3.30 |"""
+GROWTH = """| Font | Program | 10 | 30 | 100 | 300 | 1,000 | 3,000 | 10,000 | 30,000 | 60,000 |
+| --- | --- | --: | --: | --: | --: | --: | --: | --: | --: | --: |
+| a | proved | 1,235 | – | – | – | – | – | – | – | 2 |
+| a | Rust crate | 3 | – | – | – | – | – | – | – | 4 |
+| a | HarfBuzz | 5 | – | – | – | – | – | – | – | 6 |
+| a | floor | 7 | – | – | – | – | – | – | – | 8 |
+| b | proved | – | – | 9 | – | – | – | – | – | – |
+| b | Rust crate | – | – | 10 | – | – | – | – | – | – |
+| b | HarfBuzz | – | – | 11 | – | – | – | – | – | – |
+| b | floor | – | – | 12 | – | – | – | – | – | – |"""
+
+
+def check_tables(tests):
+    """The tables of speed, memory and growth, of rows that are made up."""
+    sys.path.insert(0, os.path.join(ROOT, "compare", "lib"))
+    figures = module("compare/lib/speed_figures.py")
+    names, held = ("port", "generated", "crate", "harfbuzz", "plain", "fonttools", "floor"), ("port", "generated", "crate")
+    speed = [{"font": "made.ttf" if outlines == "TrueType" else "made.otf", "outlines": outlines, "kept": kept, "part of the crate": crate, "part of HarfBuzz": harfbuzz, "generated of port": generated,
+              **{f"{name} held of source and output": it for name, it in zip(held, parts)}, **{f"{name} ns": it for name, it in zip(names, times)}} for outlines, kept, crate, harfbuzz, generated, parts, times in SPEED]
+    timed = ("port", "crate", "harfbuzz", "floor")
+    growth = [{"font": font, "glyphs": glyphs, **{f"{name} ns a glyph": it for name, it in zip(timed, times)}} for font, glyphs, times in (
+        ("a", "10", ("1234.6", "3.4", "5.1", "7.0")), ("b", "100", ("9", "10", "11", "12")), ("a", "60000", ("2", "4", "6", "8")), ("a", "20", ("0", "0", "0", "0")))]
+    files = {"speed.csv": speed, "growth.csv": growth, "instance_times.csv": [{"Ratio to HarfBuzz": it} for it in ("1.15", "1.16", "1.004", "0.9")]}
+    with mock.patch.object(figures.results_of, "rows", files.get):
+        for key, wanted in (("speed: goals", GOALS), ("speed: TrueType", EVERY), ("speed: memory", MEMORY), ("speed: growth", GROWTH), ("speed: missed", "made.otf, 3 low: 0.25; made.ttf, 80 low: 0.31")):
+            tests.same(key, figures.BLOCKS[key][0](), wanted)
+        tests.same("rows of CFF", [it.split(" | ")[:2] for it in figures.BLOCKS["speed: CFF"][0]().split("\n")[2:]], [["| made.otf", "3 low"], ["| made.otf", "80 low"]])
+        speed[:] = [it for it in speed if it["outlines"] == "CFF" and it["kept"] == "80 low"]
+        tests.same("none missed", figures.BLOCKS["speed: missed"][0](), "none")
+        tests.same("goals without rows", [it.split(" | ")[0] for it in figures.BLOCKS["speed: goals"][0]().split("\n")[2:]], ["| CFF, of the Rust crate's time", "| instances, of the time that HarfBuzz draws in", "| the same, half of the rows",
+                                                                                                                          "| Cargo's build, of the proved build's time: geometric mean"])
+    tests.same("what each is of", {key: it[1] for key, it in figures.BLOCKS.items()}, {"speed: goals": ["speed", "instances, times"], "speed: missed": ["speed"], "speed: TrueType": ["speed"], "speed: CFF": ["speed"], "speed: memory": ["speed"],
+                                                                                     "speed: growth": ["speed, growth"]})
+
+
+# ---- compare/lib/original_crate.py
+
+MANIFEST = '[package]\nname = "subsetter"\nversion = "0.2.6"\nedition = "2021"\n\n[dependencies]\nrustc-hash = { path = "../rustc-hash" }\n\n[features]\nvariable-fonts = []\n\n[workspace]\n'
+HASH = '[package]\nname = "rustc-hash"\nversion = "{}"\nedition = "{}"\n\n[features]\ndefault = ["std"]\nstd = []\n\n[workspace]\n'
+
+
+def check_original(tests):
+    """Which folder is the Rust crate, what is said of another one, and how it is laid out with its dependency."""
+    sys.path.insert(0, os.path.join(ROOT, "compare", "lib"))
+    crate = module("compare/lib/original_crate.py")
+    how = "(compare/README.md says how to get it)"
+    room, built = tempfile.mkdtemp(dir=tests.room), tempfile.mkdtemp(dir=tests.room)
+
+    def ends(call, **env):
+        with mock.patch.dict(os.environ, {"ORIGINAL": "", "RUSTC_HASH": "", **env}), mock.patch.object(crate, "BUILD", built):
+            for name in ("ORIGINAL", "RUSTC_HASH"):
+                if not os.environ[name]:
+                    os.environ.pop(name)
+            answer = []
+            return printed(lambda: answer.append(call()))[1] or answer[0]
+    source = os.path.join(room, "crate")
+    tests.same("none", ends(crate.original_folder), f"assemble.py: ORIGINAL isn't set: it names the folder of the crate subsetter 0.2.6 {how}")
+    tests.same("no folder", ends(crate.original_folder, ORIGINAL=source), f"assemble.py: ORIGINAL is {source}, and there is no such folder {how}")
+    os.mkdir(source)
+    tests.same("no crate", ends(crate.original_folder, ORIGINAL=source), f"assemble.py: ORIGINAL is {source}, which has no src/lib.rs, so it isn't the crate as published {how}")
+    put("flat", source, "src--src--glyf--mod.rs.txt")
+    tests.same("a crate of flat files", ends(crate.original_folder, ORIGINAL=source), source)
+    with mock.patch.object(crate, "BUILD", built):
+        put("older", built, "subsetter", "src", "old.rs")
+        crate.lay_crate(source)
+    tests.same("what is laid out of it", {os.path.relpath(os.path.join(top, it), built): read_of(top, it).decode() for top, _, names in os.walk(built) for it in names}, {"subsetter/src/glyf/mod.rs": "flat", "subsetter/Cargo.toml": MANIFEST})
+    os.unlink(f"{source}/src--src--glyf--mod.rs.txt")
+    put("lib", source, "src", "lib.rs")
+    put("deep", source, "src", "glyf", "mod.rs")
+    for name, version, wanted in (("subsetter", "0.2.6", source), ("subsetter", "0.2.5", "is of subsetter 0.2.5"), ("subsetter", "0.2.61", "is of subsetter 0.2.61"), ("other", "0.2.6", "is of other 0.2.6")):
+        put(f'[lib]\nname = "it"\n\n[package]\nname = "{name}"\nversion = "{version}"\n\n[dependencies.x]\nname = "y"\nversion = "3"\n', source, "Cargo.toml")
+        tests.same(f"{name} {version}", ends(crate.original_folder, ORIGINAL=source), wanted if wanted == source else f"assemble.py: {source}/Cargo.toml {wanted}, and the comparison is with subsetter 0.2.6 {how}")
+    put('[package]\nname = "subsetter"\nversion = "0.2.6"\n', source, "Cargo.toml")
+    for folder, version, edition in (("rustc-hash-1.1.0", "1.1.0", "2015"), ("rustc-hash-2.0.1", "2.0.1", "2021"), ("hash", "0.0.0", "2015")):
+        put("hash", room, folder, "src", "lib.rs")
+        put("older", built, "rustc-hash", "src", "old.rs")
+        with contextlib.redirect_stdout(io.StringIO()):
+            ends(crate.lay_out, ORIGINAL=source, RUSTC_HASH=os.path.join(room, folder))
+        tests.same(f"laid out with {folder}", {os.path.relpath(os.path.join(top, it), built): read_of(top, it).decode() for top, _, names in os.walk(built) for it in names},
+                   {"subsetter/src/lib.rs": "lib", "subsetter/src/glyf/mod.rs": "deep", "subsetter/Cargo.toml": MANIFEST, "rustc-hash/src/lib.rs": "hash", "rustc-hash/Cargo.toml": HASH.format(version, edition)})
+    for found, wanted in (([], "assemble.py: no rustc-hash: apt-get install librust-rustc-hash-dev, or name a folder by RUSTC_HASH"), (["rustc-hash-2.0.1", "rustc-hash-1.1.0"], "2.0.1")):
+        with mock.patch.object(crate.glob, "glob", lambda _, found=found: [os.path.join(room, it) for it in found]):
+            tests.same(f"rustc-hash of Debian: {found}", ends(crate.lay_hash), wanted)
+
+
+# ---- compare/lib/wrong_by_check.py
+
+def check_judges(tests):
+    """What a check's commands say of an edit, by how they end; and what is tried."""
+    sys.path.insert(0, os.path.join(ROOT, "compare", "lib"))
+    judge = module("compare/lib/wrong_by_check.py")
+    room = tempfile.mkdtemp(dir=tests.room)
+    for command, wanted in (("echo one; echo two >&2; pwd", (True, f"one\n{os.path.realpath(room)}\ntwo\n")), ("echo why; exit 1", (False, "why\n")), ("exit 101", (False, "")), ("false | true", (False, "")), ("exit 126", (None, "")), ("exit 127", (None, "")),
+                            ("kill -9 $$", (None, "")), ("cat", (True, "")), ("exit 125", (False, ""))):
+        tests.same(f"a command `{command}`", judge.runs(os.path.realpath(room), command), wanted)
+    with mock.patch.object(judge.subprocess, "run", side_effect=subprocess.TimeoutExpired("x", 1)):
+        tests.same("one that doesn't end", judge.runs(room, "x"), (None, "it doesn't end"))
+    for said, wanted in (("a\nFAILED: b\nc", "FAILED: b"), ("a\n  an error \n", "an error"), ("a\nError\n", "Error"), ("panicked at", "panicked at"), ("2 differ\nx", "2 differ"), ("1 wrong\nx", "1 wrong"), ("without a refused request\nx", "without a refused request"),
+                         ("a\nb\n", "b"), ("", "nothing is printed"), ("y" * 170, "y" * 160)):
+        tests.same(f"why, of {said[:20]!r}", judge.why_of(said), wanted)
+    for built, ran, wanted in (((True, ""), (False, "x\nFAILED: y\n"), "refused by rows: FAILED: y"), ((True, ""), (True, "x"), "NOT REFUSED: rows passes"), ((True, ""), (None, "it doesn't end"), "NOT TRIED: rows: it doesn't end"),
+                               ((False, "error: x"), (False, "y"), "BAD EDIT: it isn't built: error: x"), ((None, "it doesn't end"), (False, "y"), "BAD EDIT: it isn't built: it doesn't end")):
+        answers, asked = [built, ran], []
+        with mock.patch.object(judge, "runs", lambda at, command, asked=asked, answers=answers: asked.append((at, command)) or answers[len(asked) - 1]):
+            tests.same(f"{built}, {ran}", judge.judged("room", "rows"), wanted)
+        tests.same("what is run", asked, [("room", it) for it in judge.CHECKS["rows"]][:1 + bool(built[0])])
+    cargo = "cargo {} -q --offline --locked --manifest-path bindings/rust/Cargo.toml --target-dir out/cargo"
+    tests.same("the checks", (judge.LONGEST, judge.CHECKS), (1800, {
+        "memory": ("true", "python3 .ci/memory.py"), "rows": ("bindings/rust/generate && " + cargo.format("test --no-run --test rows"), cargo.format("test --test rows")),
+        "program": ("bindings/rust/generate && CARGO_PROFILE_RELEASE_OPT_LEVEL=1 " + cargo.format("build --release --features program"), ".ci/program.py --cargo --program out/cargo/release/subset_font")}))
+    tests.same("the check of an edit", [judge.check_of(it) for it in ("check: rows\nfile: x\n", "file: x\ncheck: memory\n", "file: x\nold: check: rows\n", "check: \n")], ["rows", "memory", None, None])
+
+
+GROUPS = [check_batch, check_large, check_drivers, check_program, check_running, check_examples, check_pdf, check_all, check_speed, check_times, check_fresh, check_builds, check_fonts,
+          check_commands, check_gate, check_tables, check_original, check_judges]
+
+
+def main():
+    names = sys.argv[1:]
+    unknown = [it for it in names if f"check_{it}" not in [group.__name__ for group in GROUPS]]
+    if unknown:
+        sys.exit(f"runs_test: no group {unknown[0]}; they are {' '.join(it.__name__[6:] for it in GROUPS)}")
+    with tempfile.TemporaryDirectory(prefix="runs-") as room:
+        tests = Tests(room)
+        for group in GROUPS:
+            if not names or group.__name__[6:] in names:
+                group(tests)
+    print(f"runs_test: {tests.checks} checks, {tests.failed} failed")
+    return 1 if tests.failed or not tests.checks else 0
+
+
+if __name__ == "__main__":
+    sys.exit(main())
