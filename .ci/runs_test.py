@@ -76,16 +76,17 @@ GLYPHS = {("/one.ttf", "0"): 10, ("/two.otf", "2"): 300}
 FACES = [("a", "/one.ttf", 0), ("b", "/two.otf", 2), ("c", "/three.ttf", 0)]
 # What is requested of the first two faces: numbers at equal distances, from the next one on each time.
 REQUESTED = [("/one.ttf", 0, [1, 3, 5]), ("/two.otf", 2, [1, 76, 151]), ("/one.ttf", 0, [2, 4, 6]), ("/two.otf", 2, [2, 77, 152]), ("/one.ttf", 0, [1, 3, 5])]
-BATCHED = """5 requests of 2 fonts, 3 glyphs each:
-
-| | Seconds | Requests a second | Times `--jobs 1` |
+TABLE = """
+| The new fonts are {where} | Seconds | Requests a second | Times `--jobs 1` |
 |---|--:|--:|--:|
 | a run each | 0.010 | 512 | 1.20 |
 | `--jobs 1` | 0.012 | 427 | 1.00 |
 | `--jobs 2` | 0.008 | 640 | 1.50 |
 | `--jobs 4` | {four:.3f} | {a_second} | {faster:.2f} |
-
-`--jobs 4` is {faster:.2f} times as fast as `--jobs 1`; {faults} faults.
+"""
+BATCHED = """5 requests of 2 fonts, 3 glyphs each.
+{tables}
+`--jobs 4` is {memory:.2f} times as fast as `--jobs 1` in memory, and {disk:.2f} times on a disk; {faults} faults.
 """
 
 
@@ -93,13 +94,15 @@ class Batch:
     """The script over a program of two faces, which is a function here, with a clock that it moves on."""
 
     def __init__(self, room):
-        self.batch, self.folder, self.installed, self.ran = module("compare/batch.py"), tempfile.mkdtemp(dir=room), [], []
+        self.batch, self.installed, self.ran = module("compare/batch.py"), [], []
+        self.folders = [tempfile.mkdtemp(dir=room) for _ in range(2)]
         self.clock, self.seconds, self.otherwise = 0.0, {}, {}
 
     def start(self, words, **given):
         """What the program does. `otherwise` has what is otherwise in a run, by its number."""
         folder, number = given.get("cwd"), len(self.ran)
-        self.ran.append((words[1:], sorted(os.listdir(folder)) if folder else None))
+        where = next((k for k, it in enumerate(self.folders) if folder and folder.startswith(f"{it}/")), None)
+        self.ran.append((words[1:], where, sorted(os.listdir(folder)) if folder else None))
         otherwise, kind = self.otherwise.get(number), words[1]
         requests = [json.loads(it) for it in given.get("input", b"").splitlines()]
         if kind == "--json":
@@ -117,42 +120,49 @@ class Batch:
             raise subprocess.CalledProcessError(status, words)
         return types.SimpleNamespace(returncode=status, stdout=said.encode())
 
-    def run(self, four=4.0, processors=4, otherwise=None):
-        """What it prints, and its status. `four` is the time of four threads in 1,024ths of a second, as all times are here: sums of these are exact."""
+    def run(self, four=(4.0, 4.0), processors=4, otherwise=None):
+        """What it prints, and its status. `four` are the times of four threads, in memory and on a disk, in 1,024ths of a second, as all times are here: sums of these
+        are exact."""
         self.ran, self.otherwise = [], otherwise or {}
-        times = {"--info": [7.0], "each": [2.0], "1": [99.0, 12.0, 11.5, 12.5, 1.0], "2": [8.0], "4": [four]}
+        times = {"--info": [7.0], "each": [2.0], "1": [99.0, 12.0, 11.5, 12.5, 1.0], "2": [8.0], "4": [four[0]] * 5 + [four[1]] * 5}
         self.seconds = {name: [it / 1024 for it in all_times] for name, all_times in times.items()}
         with contextlib.ExitStack() as stack:
             for owner, name, new in ((self.batch, "FONTS", FACES), (self.batch.time, "perf_counter", lambda: self.clock), (self.batch.os, "cpu_count", lambda: processors),
                                      (self.batch.fonts, "install", self.installed.append), (self.batch.subprocess, "run", self.start)):
                 stack.enter_context(mock.patch.object(owner, name, new))
-            return printed(self.batch.main, "--program", "/program", "--folder", self.folder, "--requests", "5", "--rounds", "5", "--glyphs", "3", "--fonts", "2")
+            return printed(self.batch.main, "--program", "/program", "--folder", self.folders[0], "--disk", self.folders[1], "--requests", "5", "--rounds", "5", "--glyphs", "3",
+                           "--fonts", "2")
 
 
 def check_batch(tests):
-    """What is requested and run, the whole table, and each fault."""
+    """What is requested and run, both tables, and each fault."""
     here = Batch(tests.room)
 
-    def said(four=4.0, faults=()):
-        return BATCHED.format(four=four / 1024, a_second=f"{5 * 1024 / four:,.0f}", faster=12 / four, faults=len(faults)) + "".join(f"\n{it}" for it in faults) + "\n"
+    def said(four=(4.0, 4.0), faults=()):
+        tables = "".join(TABLE.format(where=where, four=it / 1024, a_second=f"{5 * 1024 / it:,.0f}", faster=12 / it) for where, it in zip(("in memory", "on a disk"), four))
+        return BATCHED.format(tables=tables, memory=12 / four[0], disk=12 / four[1], faults=len(faults)) + "".join(f"\n{it}" for it in faults) + "\n"
     tests.same("batch.py", here.run(), (said(), 0))
     each = [(["--json", "--gids", ",".join(map(str, gids)), "--face-index", str(index), path, "-o", f"{number}.ttf"], [f"{it}.ttf" for it in range(number)])
             for number, (path, index, gids) in enumerate(REQUESTED)]
-    infos = [(["--info", "--json", path, index], None) for path, index in GLYPHS]
-    tests.same("what is run, and what is in its folder before", here.ran, [*infos, *each, *[(["--batch", "-", "--jobs", it], []) for it in ("1", "2", "4")] * 5])
+    infos = [(["--info", "--json", path, index], None, None) for path, index in GLYPHS]
+    in_one = [*each, *[(["--batch", "-", "--jobs", it], []) for it in ("1", "2", "4")] * 5]
+    tests.same("what is run, and what is in its folder before", here.ran, [*infos, *[(words, where, before) for where in range(2) for words, before in in_one]])
     tests.same("what is installed", here.installed, [["a", "b"]])
-    tests.same("what is left", os.listdir(here.folder), [])
-    # (of the runs the first two are questions, then come five of a font each, and five rounds of three)
+    tests.same("what is left", [os.listdir(it) for it in here.folders], [[], []])
+    # (of the runs the first two are questions, then come, in memory and then on a disk, five of a font each, and five rounds of three)
     for what, number, fault in (("status", 7, "--jobs 1, round 0: status 3, or other answers or fonts"), ("font", 8, "--jobs 2, round 0: status 0, or other answers or fonts"),
                                 ("answer", 9, "--jobs 4, round 0: status 0, or other answers or fonts"), ("answer", 21, "--jobs 4, round 4: status 0, or other answers or fonts"),
                                 ("status", 2, "a run each: it failed"), ("status", 6, "a run each: it failed")):
-        tests.same(f"another {what} in run {number}", here.run(otherwise={number: what}), (said(faults=[fault]), 1))
-    wrong = [f"--jobs {jobs}, round {number}: status 0, or other answers or fonts" for number in range(5) for jobs in (1, 2, 4)]
+        for where, behind in (("in memory", 0), ("on a disk", 20)):
+            tests.same(f"another {what} in run {number + behind}", here.run(otherwise={number + behind: what}), (said(faults=[f"{where}: {fault}"]), 1))
+    wrong = [f"in memory: --jobs {jobs}, round {number}: status 0, or other answers or fonts" for number in range(5) for jobs in (1, 2, 4)]
     for number in (2, 6):
         tests.same("another font of a run of its own", here.run(otherwise={number: "font"}), (said(faults=wrong), 1))
-    slow = [f"--jobs 4 is {12 / 4.125:.2f} times as fast, not 3.0"]
+    # (on a disk alone that is judged)
+    slow = [f"on a disk --jobs 4 is {12 / 4.125:.2f} times as fast, not 3.0"]
     for processors, faults in ((4, slow), (8, slow), (3, []), (None, [])):
-        tests.same(f"too slow on {processors} processors", here.run(4.125, processors), (said(4.125, faults), int(bool(faults))))
+        tests.same(f"too slow on {processors} processors", here.run((4.0, 4.125), processors), (said((4.0, 4.125), faults), int(bool(faults))))
+    tests.same("slow in memory", here.run((6.0, 4.0)), (said((6.0, 4.0)), 0))
     try:
         tests.same("a program that doesn't answer", here.run(otherwise={1: "status"}), "an error")
     except subprocess.CalledProcessError as why:
@@ -166,7 +176,7 @@ def check_batch_words(tests, batch):
     with mock.patch.object(batch.fonts, "install"), mock.patch.object(batch, "built", lambda: "program"), mock.patch.object(batch, "requests_of", lambda _, it: given.append(it) or []), \
             mock.patch.object(batch, "compare", side_effect=SystemExit):
         printed(batch.main)
-    tests.same("the defaults", vars(given[0]), {"requests": 1000, "rounds": 5, "glyphs": 80, "fonts": 10, "folder": None, "program": None})
+    tests.same("the defaults", vars(given[0]), {"requests": 1000, "rounds": 5, "glyphs": 80, "fonts": 10, "folder": "/dev/shm", "disk": None, "program": None})
     with mock.patch.object(batch.subprocess, "run", lambda words, **more: calls.append((words, more))):
         made = batch.built()
     target = os.path.join(ROOT, "compare", "build", "batch")
@@ -271,7 +281,7 @@ def check_drivers(tests):
     line = f"ok 5 4 6 {hashed}\n"
     with mock.patch.object(drivers.subprocess, "run", run):
         tests.same("a run", rows.run("dev_bench", "a b  c"), (0, "", ""))
-        tests.same("how it is started", calls, [("/crates/dev_bench/out/dev_bench", ["a", "b", "c"], room, 60)])
+        tests.same("how it is started", calls, [("/crates/dev_bench/out/dev_bench", ["a", "b", "c"], room, 1200)])
         for what, wanted, made, bench, subset, wrong in (
                 ("the same font", font, font, (0, line, ""), (0, "", ""), 0), ("another font", b"a font2"[1:], font, (0, line, ""), (0, "", ""), 1), ("another file", font, b"a fonz", (0, line, ""), (0, "", ""), 1),
                 ("dev_bench fails", font, font, (1, line, ""), (0, "", ""), 1), ("subset_font fails", font, font, (0, line, ""), (1, "", ""), 1), ("both fail", font, font, (1, line, ""), (1, "", ""), 1),
@@ -392,7 +402,7 @@ def check_running(tests):
         calls = []
         with mock.patch.object(running.subprocess, "run", lambda words, **more: calls.append((words, more)) or said):
             tests.same("what a run gives", table.start(["--json", "x"], "/room", **given), said)
-        wanted = ([*table.command, "--json", "x"], {"cwd": "/room", "capture_output": True, "timeout": 600 if table.system else 60, **given})
+        wanted = ([*table.command, "--json", "x"], {"cwd": "/room", "capture_output": True, "timeout": 1800 if table.system else 600, **given})
         tests.same(f"a run that ends so: {said}", calls, [wanted] * count)
     tests.same("commands", (here.command, windows.command), (["/program"], ["/wine", "/program"]))
     check_otherwise(tests, running)
