@@ -42,6 +42,6 @@ fresh: # runs the commands of README.md in a root file system of its own, with a
 	@.ci/fresh
 
 clean: # removes what was built, but not the proofs that are kept in crates/*/out | at once
-	@rm -rf out dist/out compare/build compare/*/target bindings/c/out bindings/js/out bindings/rust/target bindings/rust-native/target
+	@rm -rf out dist/out compare/build compare/*/target bindings/*/out bindings/*/target
 
 .PHONY: help demo test quick prove generate dist dist-test fresh clean

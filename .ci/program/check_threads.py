@@ -1,7 +1,10 @@
 """`--jobs N` beside `--batch FILE`, in the build by Cargo: a run ends as one without it, whatever threads the system has."""
+import contextlib
 import os
+import select
 import shutil
 import subprocess
+import time
 
 from check_batch import lines_of, put_fonts, taken
 from check_refused import ended_by_std, refuser, start_refused
@@ -48,6 +51,40 @@ int pthread_create(pthread_t *thread, const pthread_attr_t *how, void *(*call)(v
     return real(thread, how, call, with);
 }
 """
+# Says `w` where a thread opens a new font, and `d` where it waits for its disk; each goes on once there is a byte for it, or none will be.
+STOPS = r"""
+#define _GNU_SOURCE
+#include <dlfcn.h>
+#include <errno.h>
+#include <fcntl.h>
+#include <stdarg.h>
+#include <stdlib.h>
+#include <unistd.h>
+
+static void stop(const char *sign, const char *byte) {
+    char one;
+    if (write(atoi(getenv("SAID")), sign, 1) != 1) abort();
+    while (read(atoi(getenv(byte)), &one, 1) < 0 && errno == EINTR) {}
+}
+
+int open64(const char *name, int how, ...) {
+    int (*real)(const char *, int, ...) = dlsym(RTLD_NEXT, "open64");
+    va_list more;
+    va_start(more, how);
+    int rights = how & O_CREAT ? va_arg(more, int) : 0;
+    va_end(more);
+    if (how & O_EXCL) stop("w", "WORKS");
+    return real(name, how, rights);
+}
+
+int fdatasync(int file) {
+    int (*real)(int) = dlsym(RTLD_NEXT, "fdatasync");
+    stop("d", "WAITS");
+    return real(file);
+}
+"""
+# The seconds after which what is waited for is late. What is right comes at once.
+LATE = 120
 GOOD = [{"in": name, "out": f"{name}-{k}", "gids": [1], "quiet": k == 1} for k in range(10) for name in ("six", "small")][:11]
 WRONG = [{"in": "six", "out": "one", "gids": [60]}, {"in": "none", "out": "two", "gids": [1]}, {"in": "six", "out": "none/three", "gids": [1]}]
 
@@ -139,24 +176,120 @@ def check_jobs_refused(table, room):
     table.demand(ends[-1:] == [(1, b"", b"out of memory\n")], f"{words}: the last refusal", ends)
 
 
+def library_of(table, room, name, text):
+    """A library of C that stands in front of the system's, None where there is no compiler."""
+    compiler = shutil.which("cc") or shutil.which("gcc")
+    if not compiler:
+        return table.fail(name, "there is no C compiler")
+    library = os.path.join(room, f"{name}.so")
+    put(room, f"{name}.c", text.encode())
+    subprocess.run([compiler, "-O1", "-shared", "-fPIC", "-o", library, os.path.join(room, f"{name}.c"), "-ldl"], check=True)
+    return library
+
+
+class Stopped:
+    """A batch whose threads stop where they open a new font, and where they wait for its disk."""
+
+    def __init__(self, table, room, library, words):
+        pipes = {name: os.pipe() for name in ("SAID", "WORKS", "WAITS")}
+        theirs = {name: pipe[name == "SAID"] for name, pipe in pipes.items()}
+        self.said, self.bytes = pipes["SAID"][0], {"w": pipes["WORKS"][1], "d": pipes["WAITS"][1]}
+        env = {"LD_PRELOAD": library, **{name: str(it) for name, it in theirs.items()}}
+        streams = {"stdin": subprocess.DEVNULL, "stdout": subprocess.PIPE, "stderr": subprocess.PIPE}
+        self.ran = subprocess.Popen([*table.command, *words], cwd=room, env=env, pass_fds=tuple(theirs.values()), **streams)
+        for it in theirs.values():
+            os.close(it)
+
+    def states(self):
+        """How each thread is, as the system says: S where it sleeps."""
+        folder, found = f"/proc/{self.ran.pid}/task", ""
+        with contextlib.suppress(OSError):
+            for it in os.listdir(folder):
+                with open(f"{folder}/{it}/stat", "rb") as file:
+                    found += file.read().rpartition(b")")[2].split()[0].decode()
+        return found
+
+    def settle(self, threads):
+        """Waits until so many threads all sleep, and do so each time that one looks."""
+        end, times = time.monotonic() + LATE, 0
+        while times < 5 and time.monotonic() < end and self.ran.poll() is None:
+            times = times + 1 if self.states() == "S" * threads else 0
+            time.sleep(0.01)
+
+    def read(self, most, seconds):
+        """As many signs as come, each within so many seconds."""
+        found = b""
+        while len(found) < most and select.select([self.said], [], [], seconds)[0]:
+            sign = os.read(self.said, 1)
+            if not sign:
+                break
+            found += sign
+        return found
+
+    def signs(self, count, threads):
+        """So many signs, and what further ones there are once so many threads sleep, in the order of letters."""
+        found = self.read(count, LATE)
+        self.settle(threads)
+        return "".join(sorted((found + self.read(99, 0)).decode()))
+
+    def let(self, signs):
+        """Lets a thread go on for each sign."""
+        with contextlib.suppress(BrokenPipeError):
+            for it in signs:
+                os.write(self.bytes[it], b"x")
+
+    def end(self, is_well):
+        """Lets all go on to the end, which doesn't come where something is wrong."""
+        for it in self.bytes.values():
+            os.close(it)
+        try:
+            out, err = self.ran.communicate(timeout=LATE if is_well else 1)
+        except subprocess.TimeoutExpired:
+            self.ran.kill()
+            out, err = self.ran.communicate()
+        os.close(self.said)
+        return subprocess.CompletedProcess(self.ran.args, self.ran.returncode, out, err)
+
+
+def check_turns(table, room):
+    """N threads work at a time and no more; while they wait for the disk as many others work, and then they wait until these do."""
+    library = library_of(table, room, "stops", STOPS)
+    for number in (2, 3) if library else ():
+        requests = [{"in": "six", "out": f"stopped-{k}", "gids": [1]} for k in range(3 * number)]
+        put(room, "requests", lines_of(requests))
+        base = table.start(["--batch", "requests"], room)
+        files = [taken(room, it) for it in requests]
+        works, waits = "w" * number, "d" * number
+        batch, signs, wanted = Stopped(table, room, library, ["--batch", "requests", "--jobs", str(number)]), "", ""
+        for what, going, wanted in (("N work", "", works), ("N wait for the disk, and as many others work", works, waits + works),
+                                    ("N have waited, and others work", waits, ""), ("these wait, and the first work again", works, waits + works)):
+            batch.let(going)
+            signs = batch.signs(len(wanted), 1 + 2 * number)
+            table.demand(signs == wanted, f"--jobs {number}: {what}", f"{signs!r} and not {wanted!r}")
+            if signs != wanted:
+                break
+        got = batch.end(signs == wanted)
+        is_so = ended(got) == ended(base) and [taken(room, it) for it in requests] == files
+        table.demand(is_so, f"--jobs {number}, whose threads are stopped", got)
+
+
 def check_threads(table, room):
-    """As many threads are begun as N, or as requests where these are fewer, for each source; where the system has none, or some, all is done by those."""
+    """Twice as many threads are begun as N, one where that is 1, or as many as there are requests where these are fewer, for each source; where
+    the system has none, or some, all is done by those."""
     if not table.is_cargo:
         return
     check_jobs_unwritten(table, room)
     check_jobs_refused(table, room)
-    compiler = shutil.which("cc") or shutil.which("gcc")
-    if not compiler:
-        return table.fail("threads", "there is no C compiler")
-    library, noted = (os.path.join(room, it) for it in ("threads.so", "noted"))
-    put(room, "threads.c", THREADS.encode())
-    subprocess.run([compiler, "-O1", "-shared", "-fPIC", "-o", library, os.path.join(room, "threads.c"), "-ldl"], check=True)
+    check_turns(table, room)
+    library, noted = library_of(table, room, "threads", THREADS), os.path.join(room, "noted")
+    if not library:
+        return
     put(room, "requests", lines_of(GOOD))
     base = table.start(["--batch", "requests"], room)
     files = [taken(room, it) for it in GOOD]
     # (six requests of one source, and five of the other)
-    for number, refused, count in (("1", "", 2), ("2", "", 4), ("5", "", 10), ("6", "", 11), ("7", "", 11), ("64", "", 11), ("3", "1", 6), ("3", "01", 6), ("3", "001", 6), ("3", "111", 6), ("3", "000111", 6), ("3", "1" * 6, 6),
-                                   ("1", "11", 2)):
+    for number, refused, count in (("1", "", 2), ("2", "", 8), ("3", "", 11), ("5", "", 11), ("64", "", 11), ("2", "1", 8), ("2", "01", 8), ("2", "0001", 8),
+                                   ("2", "1111", 8), ("2", "00001111", 8), ("3", "1" * 11, 11), ("1", "11", 2)):
         remove(noted)
         got = table.start(["--batch", "requests", "--jobs", number], room, env={"LD_PRELOAD": library, "NOTED": noted, "REFUSED": refused})
         what = f"--jobs {number}, and of the threads are refused {refused or 'none'}"

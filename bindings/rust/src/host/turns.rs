@@ -58,3 +58,122 @@ fn give_back() {
     *free = free.map(|count| count + 1);
     GIVEN_BACK.notify_one();
 }
+
+#[cfg(test)]
+mod tests {
+    use super::*;
+    use std::boxed::Box;
+    use std::panic::{catch_unwind, resume_unwind};
+    use std::sync::mpsc::{channel, Receiver, Sender};
+    use std::thread;
+    use std::time::Duration;
+    use std::vec::Vec;
+
+    /// Who has the turns, which all tests of a process share.
+    static ALONE: Mutex<()> = Mutex::new(());
+
+    /// How long something is waited for. What holds comes at once, so that this is over in a test that fails alone.
+    const LATE: Duration = Duration::from_secs(120);
+
+    /// Runs a test that has so many turns, and demands them back. Then there are none.
+    fn with_turns(count: usize, test: impl FnOnce()) {
+        let _alone = ALONE.lock().unwrap_or_else(PoisonError::into_inner);
+        set(count);
+        assert_eq!(*free(), Some(count));
+        test();
+        assert_eq!(free().take(), Some(count));
+    }
+
+    /// A thread that works in a turn, once it has one: it says its number then, and ends once its sender is dropped.
+    fn worker(number: usize, begun: &Sender<usize>) -> (Sender<()>, thread::JoinHandle<()>) {
+        let begun = begun.clone();
+        let (end, ended): (_, Receiver<()>) = channel();
+        let work = move || {
+            begun.send(number).unwrap();
+            assert!(ended.recv().is_err());
+        };
+        (end, thread::spawn(|| in_turn(work)))
+    }
+
+    #[test]
+    fn a_turn_is_back_behind_what_is_done_in_it() {
+        with_turns(2, || {
+            let made = in_turn(|| {
+                assert_eq!(*free(), Some(1));
+                in_turn(|| assert_eq!(*free(), Some(0)));
+                assert_eq!(*free(), Some(1));
+                7
+            });
+            assert_eq!((made, *free()), (7, Some(2)));
+            let panics = || in_turn::<()>(|| resume_unwind(Box::new(8)));
+            assert!(catch_unwind(panics).unwrap_err().is::<i32>());
+            assert_eq!(*free(), Some(2));
+        });
+    }
+
+    #[test]
+    fn one_that_waits_has_no_turn_meanwhile() {
+        with_turns(2, || {
+            let waits = || {
+                let made = waiting(|| {
+                    assert_eq!(*free(), Some(2));
+                    9
+                });
+                assert_eq!((made, *free()), (9, Some(1)));
+            };
+            in_turn(waits);
+        });
+    }
+
+    #[test]
+    fn no_more_work_at_a_time_than_there_are_turns() {
+        with_turns(2, || {
+            let (begun, begins) = channel();
+            let (mut ends, threads): (Vec<_>, Vec<_>) = (0..5)
+                .map(|number| worker(number, &begun))
+                .map(|(end, thread)| (Some(end), thread))
+                .unzip();
+            let next = || begins.recv_timeout(LATE).unwrap();
+            let mut working = [next(), next()];
+            for number in 0..3 {
+                assert_eq!(*free(), Some(0));
+                // One that ends lets one begin.
+                assert!(begins.try_recv().is_err());
+                ends[working[number % 2]].take();
+                working[number % 2] = next();
+            }
+            ends.clear();
+            for thread in threads {
+                thread.join().unwrap();
+            }
+            assert!(begins.try_recv().is_err());
+        });
+    }
+
+    #[test]
+    fn another_works_while_one_waits() {
+        with_turns(1, || {
+            let (begun, begins) = channel();
+            in_turn(|| {
+                let (end, thread) = worker(3, &begun);
+                let made = waiting(|| {
+                    assert_eq!(begins.recv_timeout(LATE), Ok(3));
+                    assert_eq!(*free(), Some(0));
+                    drop(end);
+                    thread.join().unwrap();
+                    assert_eq!(*free(), Some(1));
+                    4
+                });
+                assert_eq!((made, *free()), (4, Some(0)));
+            });
+        });
+    }
+
+    #[test]
+    fn nobody_waits_where_there_are_no_turns() {
+        let _alone = ALONE.lock().unwrap_or_else(PoisonError::into_inner);
+        assert_eq!(*free(), None);
+        let made = in_turn(|| in_turn(|| waiting(|| *free())));
+        assert_eq!((made, *free()), (None, None));
+    }
+}

@@ -459,7 +459,7 @@ fn other_systems_have_their_numbers() {
     // What has no call for it, elsewhere than on Linux and on Unix.
     let files = bare(include_str!("../../src/host/fs.rs"));
     for part in [
-        "matchFile::sync_data(self){//",
+        "matchturns::waiting(||File::sync_data(self)){//",
         "Err(_)ifcfg!(not(target_os=\"linux\"))&&!File::metadata(self)?.is_file()=>{Err(ErrorKind::Unsupported.into())}",
         "matchstd::fs::symlink_metadata(name){Err(error)ifcfg!(not(unix))&&error.kind()!=std::io::ErrorKind::NotFound=>{Err(ErrorKind::Unsupported.into())}",
     ] {
