@@ -33,7 +33,7 @@ ALLOWED = {
     ("subset_batch", "read_request"): (2, "passes on that of `request_in`"),
     ("subset_font", "order_of"): (1, "passes on that of `read_request`"),
     ("subset_font", "order_by"): (1, "passes on that of `read_words`"),
-    ("subset_font", "read_batch"): (1, "`requests_of` has no other error"),
+    ("subset_font", "batch_or_status"): (1, "its argument is an allocator's refusal"),
     ("subset_font", "printed"): (1, "`write_numbers` writes into a vector, which has no other error"),
     ("subset_font", "answer_failed"): (1, "compares with it"),
     ("subset_font", "run_requests"): (1, "`BufWriter::new` takes memory and has no other error"),

@@ -1,15 +1,18 @@
-//! The program, with `--jobs N` beside `--batch FILE`: N threads work on the requests of a source, and as many more may wait
-//! until a new font is on its disk. They share the source and the requests, which no call changes; each does one request
-//! after another by the call that does it without threads. One thread sets the answers and writes them, so that they are
-//! the same for each N.
+//! The program, with `--jobs N` beside `--batch FILE`: N threads read the lines, and then work on the requests of a source,
+//! where as many more may wait until a new font is on its disk. They share the source and the requests, which no call
+//! changes; each does one request after another by the call that does it without threads. One thread sets the answers and
+//! writes them, so that they are the same for each N.
+
+mod lines;
 
 use crate::host::process::{ExitCode, Termination};
 use crate::host::rt::{AllocGlobal, Eprint, HostRuntime};
 use crate::host::turns;
 use crate::proved::subset_args::Shown;
 use crate::proved::subset_font::{
-    answer_of, due, due_of, hold_streams, is_shown, read_arguments, read_batch, read_source,
-    run_by, set_answer, status_of_batch, AnswerLines, Batch, Ended, Failure, Report, Request, State,
+    answer_of, batch_or_status, due, due_of, hold_streams, is_shown, read_arguments, read_lines,
+    read_source, run_by, set_answer, status_of_batch, AnswerLines, Batch, Ended, Failure, Report,
+    Request, State,
 };
 use crate::proved::subsetter::Error;
 use crate::rattle::io::{self, BufWriter, Write};
@@ -89,10 +92,16 @@ fn run_jobs(rt: &HostRuntime, file: &str, number: &str) -> u8 {
         Some(count) => count,
         None => return refuse(rt, number),
     };
-    match read_batch(rt, file) {
+    match read_requests(rt, file, count) {
         Ok(batch) => run_requests(rt, batch, count),
         Err(status) => status,
     }
+}
+
+/// The requests of FILE, read in so many threads, or the status where it can't be used.
+fn read_requests(rt: &HostRuntime, file: &str, count: usize) -> Result<Batch, u8> {
+    let text = read_lines(rt, file)?;
+    batch_or_status(rt, file, lines::requests_in(rt.alloc(), &text, count))
 }
 
 /// Does the requests of a batch, and answers the status.

@@ -20,8 +20,9 @@ mod streams;
 mod task;
 
 pub use batch::making::{answer_of, carry_answer, read_source};
-pub use batch::requests::{Batch, Request, State, due, due_of, set_answer};
-pub use batch::running::{AnswerLines, read_batch, status_of_batch};
+pub use batch::orders::order_of;
+pub use batch::requests::{Batch, Request, State, due, due_of, first_state, set_answer};
+pub use batch::running::{AnswerLines, batch_or_status, read_lines, status_of_batch};
 pub use faces::accepted::InfoParts;
 pub use faces::axes::{axes_there, carry_axes};
 pub use faces::info::carry_info;

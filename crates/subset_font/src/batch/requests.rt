@@ -106,7 +106,7 @@ fn named_before<'a>(before: &[Request], job: &'a Job) -> Option<&'a str>
 }
 
 /// How far a request is before anything is made: that it fails is known where it writes a file which one before writes, too.
-fn first_state(alloc: Global, before: &[Request], job: &Job) -> State
+pub fn first_state(alloc: Global, before: &[Request], job: &Job) -> State
     ensures { IsFirst (is_named_before before.now job.now) result }
 {
     match named_before(before, job) {

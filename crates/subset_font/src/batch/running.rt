@@ -1,6 +1,7 @@
 //! A run of a batch: the requests of one source after those of another, and the answers in the order of their lines.
 
 ghost use Rattle.std.specs.Prelude.{◌≡◌, ◌≤◌, false, IfErr};
+ghost use Rattle.std.specs.Result.{result_ok};
 ghost use Rattle.subset_font.specs.Batch.Running.{status_of_batch};
 ghost use Rattle.subset_font.specs.declared.refusals.failure.Failure.TheVariants.{Output};
 
@@ -14,6 +15,7 @@ use crate::refusals::failure::Failure;
 use crate::refusals::reason::{Noted, unread};
 use crate::run::reports::report_refused;
 use crate::streams::{is_shown, open_source};
+use std::alloc::AllocError;
 use std::io::{BufWriter, ErrorKind, Write};
 use std::rt::Files;
 use std::{fmt, io};
@@ -32,25 +34,44 @@ fn refuse_file<R: Eprint>(rt: &R, name: &str, reason: Option<io::Error>) -> u8
     UNUSABLE
 }
 
-/// The requests of FILE, or the status where it can't be used.
-pub fn read_batch<R: Files + Input + Eprint + AllocGlobal>(rt: &R, name: &str) -> Result<Batch, u8>
+/// The bytes of FILE, or the status where it can't be used.
+pub fn read_lines<R: Files + Input + Eprint + AllocGlobal>(rt: &R, name: &str) -> Result<Vec<u8>, u8>
     ensures { IfErr result (λ status. status ≡ 2) }
 {
     let mut file = match open_source(rt, name) {
         Ok(file) => Noted::new(file),
         Err(error) => return Err(refuse_file(rt, name, Some(error))),
     };
-    let text = match read_whole(rt.alloc(), &mut file, 0) {
-        Ok(text) => text,
-        Err(_) => return Err(refuse_file(rt, name, unread(file.reason()))),
-    };
-    match requests_of(rt.alloc(), &text) {
+    match read_whole(rt.alloc(), &mut file, 0) {
+        Ok(text) => Ok(text),
+        Err(_) => Err(refuse_file(rt, name, unread(file.reason()))),
+    }
+}
+
+/// The requests that were made of FILE, or the status where memory for them was refused, which is reported.
+pub fn batch_or_status<R: Eprint>(
+    rt: &R,
+    name: &str,
+    made: Result<Batch, AllocError>,
+) -> Result<Batch, u8>
+    ensures batch { result_ok result ≡ result_ok made }
+    ensures status { IfErr result (λ status. status ≡ 2) }
+{
+    match made {
         Ok(batch) => Ok(batch),
         Err(_) => {
             let reason = io::Error::from(ErrorKind::OutOfMemory);
             Err(refuse_file(rt, name, Some(reason)))
         }
     }
+}
+
+/// The requests of FILE, or the status where it can't be used.
+fn read_batch<R: Files + Input + Eprint + AllocGlobal>(rt: &R, name: &str) -> Result<Batch, u8>
+    ensures { IfErr result (λ status. status ≡ 2) }
+{
+    let text = read_lines(rt, name)?;
+    batch_or_status(rt, name, requests_of(rt.alloc(), &text))
 }
 
 /// How many answers are written, as the line shows it.

@@ -17,8 +17,9 @@ mod streams;
 mod task;
 
 pub use batch::making::{answer_of, read_source};
-pub use batch::requests::{due, due_of, set_answer, Batch, Request, State};
-pub use batch::running::{read_batch, status_of_batch, AnswerLines};
+pub use batch::orders::order_of;
+pub use batch::requests::{due, due_of, first_state, set_answer, Batch, Request, State};
+pub use batch::running::{batch_or_status, read_lines, status_of_batch, AnswerLines};
 pub use refusals::failure::{Failure, Report};
 pub use run::program::{run_by, Ended};
 pub use run::request::read_arguments;

@@ -88,7 +88,7 @@ fn named_before<'a>(before: &[Request], job: &'a Job) -> Option<&'a str> {
 }
 
 /// How far a request is before anything is made: that it fails is known where it writes a file which one before writes, too.
-fn first_state(alloc: Global, before: &[Request], job: &Job) -> State {
+pub fn first_state(alloc: Global, before: &[Request], job: &Job) -> State {
     match named_before(before, job) {
         Some(name) => {
             let text = format!(in alloc; "a line before names {name}, too");

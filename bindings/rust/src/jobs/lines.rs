@@ -1,0 +1,77 @@
+//! The requests of a file, read in threads. What a line requests, and whether a line before it names its file, is found by the
+//! calls that find it without threads, so that the requests are the same for each N.
+
+use crate::proved::subset_batch::{lines_of, Line};
+use crate::proved::subset_font::{first_state, order_of, Batch, Request, State};
+use crate::rattle::alloc::{AllocError, Global};
+use crate::rattle::prelude;
+use std::panic;
+use std::sync::atomic::{AtomicUsize, Ordering};
+use std::thread::{self, Builder};
+use std::vec::Vec;
+
+/// How many items a thread takes at a time. Fewer are no work for a second thread.
+const AT_ONCE: usize = 16;
+
+/// The requests of a file, and how far each is, found in so many threads.
+pub fn requests_in(alloc: Global, file: &[u8], count: usize) -> Result<Batch, AllocError> {
+    let lines = lines_of(alloc, file)?;
+    let orders = in_threads(&lines, count, |_, line: &Line<'_>| {
+        order_of(alloc, line.bytes)
+    });
+    let mut requests = prelude::Vec::with_capacity(alloc, lines.len())?;
+    let mut states = prelude::Vec::with_capacity(alloc, lines.len())?;
+    for (line, order) in lines.iter().zip(orders) {
+        let (job, state) = match order {
+            Ok(job) => (Some(job), State::Due),
+            Err(answer) => (None, State::Answered(answer)),
+        };
+        let line = line.number;
+        requests.push(Request { line, job })?;
+        states.push(state)?;
+    }
+    let found = in_threads(&requests, count, |index, request: &Request| {
+        let job = request.job.as_ref()?;
+        Some(first_state(alloc, &requests[..index], job))
+    });
+    for (state, found) in states.iter_mut().zip(found) {
+        if let Some(found) = found {
+            *state = found;
+        }
+    }
+    Ok(Batch { requests, states })
+}
+
+/// What a call makes of each item and its index, in the order of the items. So many threads, of which this is one, take some
+/// items after others; where the system has no thread left, those that there are do all.
+fn in_threads<T: Sync, U: Send>(
+    items: &[T],
+    count: usize,
+    call: impl Fn(usize, &T) -> U + Sync,
+) -> Vec<U> {
+    let pieces: Vec<(usize, &[T])> = items.chunks(AT_ONCE).enumerate().collect();
+    let next = AtomicUsize::new(0);
+    let work = || {
+        let mut made = Vec::new();
+        while let Some((number, piece)) = pieces.get(next.fetch_add(1, Ordering::Relaxed)) {
+            let indexes = number * AT_ONCE..;
+            let results: Vec<U> = indexes.zip(*piece).map(|(i, it)| call(i, it)).collect();
+            made.push((*number, results));
+        }
+        made
+    };
+    let mut made = thread::scope(|scope| {
+        let work = &work;
+        let begun: Vec<_> = (1..count.min(pieces.len()))
+            .map_while(|_| Builder::new().spawn_scoped(scope, work).ok())
+            .collect();
+        let mut made = work();
+        for thread in begun {
+            let others = thread.join();
+            made.extend(others.unwrap_or_else(|cause| panic::resume_unwind(cause)));
+        }
+        made
+    });
+    made.sort_unstable_by_key(|(number, _)| *number);
+    made.into_iter().flat_map(|(_, results)| results).collect()
+}
