@@ -1,8 +1,8 @@
 """Out of memory is answered only where memory was refused: memory.py [FOLDER]
 
 A refused request becomes `Error::OutOfMemory` by `?`, through `From`. This lists each other place in crates/*/src in which
-code names that case, or makes an allocator's refusal of its own, and fails where one isn't on the list below, or where one
-of the list is gone. `Unwritten` of `subset_lines` says that a writer failed, or that memory ran out: it may be answered only
+code names that case or a batch's `Answer::NoMemory`, or makes an allocator's refusal of its own, and fails where one isn't on
+the list below, or where one of the list is gone. `Unwritten` of `subset_lines` says that a writer failed, or that memory ran out: it may be answered only
 right behind a write or a request that did. Clauses, comments and tests don't count. FOLDER is the repository, the one around
 this file if it is left out.
 """
@@ -31,11 +31,15 @@ ALLOWED = {
     ("subset_font", "read_arguments"): (2, "the system's own error for memory"),
     ("subset_batch", "enum Unread"): (1, "the case itself"),
     ("subset_batch", "read_request"): (2, "passes on that of `request_in`"),
-    ("subset_font", "order_of"): (1, "passes on that of `read_request`"),
-    ("subset_font", "order_by"): (1, "passes on that of `read_words`"),
+    ("subset_font", "order_of"): (2, "passes on that of `read_request`"),
+    ("subset_font", "order_by"): (2, "passes on that of `read_words`"),
+    ("subset_font", "enum Answer"): (1, "the case itself"),
+    ("subset_font", "failed"): (1, "its argument is the result of a request"),
+    ("subset_font", "has_failed"): (1, "looks at it"),
+    ("subset_font", "write_answer"): (1, "looks at it"),
     ("subset_font", "batch_or_status"): (1, "its argument is an allocator's refusal"),
     ("subset_font", "printed"): (1, "`write_numbers` writes into a vector, which has no other error"),
-    ("subset_font", "answer_failed"): (1, "compares with it"),
+    ("subset_font", "answer_failed"): (3, "compares with it; the texts of `text_of` take memory, and have no other error"),
     ("subset_font", "run_requests"): (1, "`BufWriter::new` takes memory and has no other error"),
     ("subset_args", "read_either"): (2, "passes on that of `read_by_options`"),
     ("subset_font", "run_words"): (2, "passes on that of `read_words`"),
@@ -63,7 +67,7 @@ ALLOWED = {
 UNWRITTEN = {"subset_lines": re.compile(r"(?<!struct )\bUnwritten\b(?!\s*[>,}])")}
 FAILED = re.compile(r"(?:\.is_err\(\)\)*\s*(?:\{\s*return|=>)|\blet Ok\(\w+\) = [\w\s(.,)]+\belse\s*\{\s*return) Err\($|\.map_err\(\|_\| $")
 
-WORDS = re.compile(r"\bOutOfMemory\b|\b(?:AllocError|AllocFailed)\b(?!\s*[>,}]|<\w)")
+WORDS = re.compile(r"\bOutOfMemory\b|\bNoMemory\b|\b(?:AllocError|AllocFailed)\b(?!\s*[>,}]|<\w)")
 
 
 def blank(text):

@@ -89,6 +89,7 @@ PLANTS = [
     ("a place in a function that isn't listed", READ, None, "fn other() -> Error {\n    Error::OutOfMemory\n}\n", f"{READ}:5: other tells out of memory without a refused request"),
     ("a place more in one that is", READ, "    matches!", "    drop(Error::OutOfMemory);\n    matches!", f"{READ}:3: once tells out of memory without a refused request"),
     ("a refusal of its own", READ, None, "fn other() -> Result<u8, AllocError> {\n    Err(AllocError)\n}\n", f"{READ}:5: other tells out of memory without a refused request"),
+    ("an answer of a batch", READ, None, "fn other() -> Answer {\n    Answer::NoMemory\n}\n", f"{READ}:5: other tells out of memory without a refused request"),
     ("a refusal with a value", READ, None, "fn other() {\n    drop(AllocFailed { value: 1 });\n}\n", f"{READ}:5: other tells out of memory without a refused request"),
     ("a listed function of another crate", READ, None, "fn twice() -> Error {\n    Error::OutOfMemory\n}\n", f"{READ}:5: twice tells out of memory without a refused request"),
     ("a place behind a clause", READ, None, "fn other() -> Error\n    ensures { result ≡ OutOfMemory }\n{\n    Error::OutOfMemory\n}\n", f"{READ}:7: other tells out of memory without a refused request"),
