@@ -1535,12 +1535,14 @@ def check_gate(tests):
     proved = "0:01 rt: {} is kept: an earlier run on this machine proved the same files"
     failed, left = "a part (three): FAILED after 3 s", "the bindings: not run, as not all is proved"
     named, several = "gate: parts were skipped: name them, as in SKIP=NAME,..", ["2 crates proved before by `rt ci` on the machine"]
+    took = ["Minutes from the first to the last check of each part (and of the processors):", "subsetter  7", "rt ci took 60 min 24 s on 4 processors"]
     for lines, words, wanted in (
             ([passed, last], [], [passed, last]), (["noise", f"  {passed}  ", "more", last, ""], [], [passed, last]), ([passed, skipped, last], ["SKIP=two"], [passed, skipped, last]), ([passed, skipped, last], [], named),
             ([proved.format("one"), proved.format("two"), proved.format("one"), last], [], [*several, last]), ([passed, "7 passed, 1 failed"], [], "gate: the last line is '7 passed, 1 failed', and no gate that passed"),
             ([passed, "0 passed, 0 failed"], [], "gate: the last line is '0 passed, 0 failed', and no gate that passed"), ([passed, last, "more"], [], "gate: the last line is 'more', and no gate that passed"), ([failed, last], [], f"gate: {failed}"), ([left, last], [], f"gate: {left}"),
             ([f"refused: {failed}", f"caught, WRONGLY: {left}", f"recorded: {skipped}", f"passed: {passed}", last], [], [last]), ([f"found: {failed}", last], [], f"gate: found: {failed}"), ([""], [], "gate: the last line is '', and no gate that passed"),
-            (["a part (one): FAILED", last], [], [last]), (["10 passed, 0 failed"], [], ["10 passed, 0 failed"])):
+            (["a part (one): FAILED", last], [], [last]), (["10 passed, 0 failed"], [], ["10 passed, 0 failed"]),
+            ([took[-1], "more", *took, passed, *took[-1:], last], [], [passed, *took, last]), ([*took[:-1], passed, last], [], [passed, last])):
         found = []
         said = printed(lambda: found.extend(gate.kept("\n".join(lines) + "\n", words)))[1]
         tests.same(f"a gate that prints {lines}", said or found, wanted)
