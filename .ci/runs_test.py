@@ -461,7 +461,7 @@ def check_drivers(tests):
     line = f"ok 5 4 6 {hashed}\n"
     with mock.patch.object(drivers.subprocess, "run", run):
         tests.same("a run", rows.run("dev_bench", "a b  c"), (0, "", ""))
-        tests.same("how it is started", calls, [("/crates/dev_bench/out/dev_bench", ["a", "b", "c"], room, 60)])
+        tests.same("how it is started", calls, [("/crates/dev_bench/out/dev_bench", ["a", "b", "c"], room, 1200)])
         for what, wanted, made, bench, subset, wrong in (
                 ("the same font", font, font, (0, line, ""), (0, "", ""), 0), ("another font", b"a font2"[1:], font, (0, line, ""), (0, "", ""), 1), ("another file", font, b"a fonz", (0, line, ""), (0, "", ""), 1),
                 ("dev_bench fails", font, font, (1, line, ""), (0, "", ""), 1), ("subset_font fails", font, font, (0, line, ""), (1, "", ""), 1), ("both fail", font, font, (1, line, ""), (1, "", ""), 1),
@@ -582,7 +582,7 @@ def check_running(tests):
         calls = []
         with mock.patch.object(running.subprocess, "run", lambda words, **more: calls.append((words, more)) or said):
             tests.same("what a run gives", table.start(["--json", "x"], "/room", **given), said)
-        wanted = ([*table.command, "--json", "x"], {"cwd": "/room", "capture_output": True, "timeout": 600 if table.system else 60, **given})
+        wanted = ([*table.command, "--json", "x"], {"cwd": "/room", "capture_output": True, "timeout": 1800 if table.system else 600, **given})
         tests.same(f"a run that ends so: {said}", calls, [wanted] * count)
     tests.same("commands", (here.command, windows.command), (["/program"], ["/wine", "/program"]))
     check_otherwise(tests, running)
