@@ -46,8 +46,8 @@ AT_ONCE = 6
 SEEN = "seen"
 # What bash ends with where a command can't be started, or was ended from outside.
 NEVER = {126: "its test can't be started", 127: "its test can't be found", 128 + signal.SIGKILL: "its test was killed", 128 + signal.SIGTERM: "its test was ended"}
-# The commands that run.
-RUNNING = set()
+# The commands that run, the lock under which one begins, and whether none may begin any more.
+RUNNING, BEGINS, OVER = set(), threading.Lock(), threading.Event()
 WHY = re.compile(r"FAILED|[Ee]rror|panicked|GOT THROUGH|different")
 
 
@@ -148,13 +148,16 @@ class Room:
         clone(self.at)
 
     def run(self, command, limit):
-        """The status of a command, None where it doesn't end within so many seconds, and what it prints."""
+        """The status of a command, None where it doesn't end within so many seconds, and what it prints. Where the run is over it doesn't begin."""
         env = {key: value for key, value in os.environ.items() if not key.startswith(("SUBSETTER_", "MAKE", "MFLAGS"))}
         env.update(TMPDIR=self.scratch, REPOSITORY=ROOT, PYTHONDONTWRITEBYTECODE="1", CARGO_PROFILE_DEV_DEBUG="0")
         with tempfile.TemporaryFile() as said:
-            ran = subprocess.Popen(["bash", "-o", "pipefail", "-c", command], cwd=self.at, env=env, stdin=subprocess.DEVNULL, stdout=said,
-                                   stderr=subprocess.STDOUT, start_new_session=True)
-            RUNNING.add(ran)
+            with BEGINS:
+                if OVER.is_set():
+                    return -signal.SIGKILL, ""
+                ran = subprocess.Popen(["bash", "-o", "pipefail", "-c", command], cwd=self.at, env=env, stdin=subprocess.DEVNULL, stdout=said,
+                                       stderr=subprocess.STDOUT, start_new_session=True)
+                RUNNING.add(ran)
             try:
                 status = ran.wait(limit)
             except subprocess.TimeoutExpired:
@@ -167,9 +170,14 @@ class Room:
 
     def keep(self):
         mirror(self.at, self.kept)
+        self.tidy()
 
     def restore(self):
         mirror(self.kept, self.at)
+        self.tidy()
+
+    def tidy(self):
+        """Takes away what is temporary."""
         remove(self.scratch)
         os.makedirs(self.scratch)
 
@@ -182,7 +190,11 @@ def end_group(ran):
 
 
 def end_all():
-    for ran in list(RUNNING):
+    """Ends all commands; none begins behind that."""
+    with BEGINS:
+        OVER.set()
+        running = list(RUNNING)
+    for ran in running:
         end_group(ran)
 
 
@@ -365,15 +377,17 @@ def plant_all(lists, plants, jobs):
         os.chmod(top, 0o755)
         work = Work(lists, plants, built_once(lists, plants, top, jobs))
         threads = [threading.Thread(target=work.run, args=(os.path.join(top, str(i)),)) for i in range(min(jobs, len(work.pieces)))]
-        for thread in threads:
-            thread.start()
         try:
+            for thread in threads:
+                thread.start()
             for thread in threads:
                 thread.join()
         except BaseException:
             work.stop()
             for thread in threads:
-                thread.join()
+                # (one that hasn't begun can't be waited for)
+                if thread.ident:
+                    thread.join()
             raise
     found = {}
     while not work.outcomes.empty():

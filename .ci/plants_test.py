@@ -9,6 +9,7 @@ import shutil
 import subprocess
 import sys
 import tempfile
+import threading
 import time
 from unittest import mock
 
@@ -20,6 +21,8 @@ import plants as runner  # noqa: E402
 
 HERE = os.path.dirname(os.path.realpath(__file__))
 RUNNER = ("plants.py", "plant_files.py", "planted.py")
+# How often something is looked at that has to come, a tenth of a second apart: on a busy machine a program may take minutes to start.
+TIMES = 18000
 # What is tested: a program that adds, and one that prints what it has.
 FILES = {
     "add.sh": 'echo $(($1 + $2))\n',
@@ -168,24 +171,63 @@ def check_ends(here):
 
 def check_stop(here):
     """A run that is ended from outside ends its tests and leaves no copies."""
-    here.lists(SEEN, f"test: adds\nrun: echo begun > \"$REPOSITORY/built\"; sleep 77.{os.getpid()}\nran: checks\nseconds: 1\n")
+    here.lists(SEEN, f"test: adds\nrun: echo begun > \"$REPOSITORY/built\"; sleep 150.{os.getpid()}; touch \"$REPOSITORY/left\"\nran: checks\nseconds: 1\n")
     folder = os.path.join(os.path.dirname(here.at), "temporary")
     os.makedirs(folder)
     ran = subprocess.Popen([sys.executable, os.path.join(here.at, ".ci", "plants.py")], env={**planted.ENVIRONMENT, "TMPDIR": folder}, stdout=subprocess.PIPE,
                            stderr=subprocess.STDOUT, stdin=subprocess.DEVNULL, text=True)
-    for _ in range(600):
-        if os.path.exists(os.path.join(here.at, "built")):
-            break
-        time.sleep(0.1)
+    is_begun = comes(lambda: os.path.exists(os.path.join(here.at, "built")) or ran.poll() is not None)
     ran.terminate()
     said, _ = ran.communicate(timeout=1800)
+    demand(is_begun, "a test that is begun", said)
     demand(ran.returncode == 1 and "ended from outside" in said and not os.listdir(folder), f"a run that is ended: {ran.returncode}, {os.listdir(folder)}", said)
-    for _ in range(200):
-        processes = subprocess.run(["ps", "-eo", "args"], stdout=subprocess.PIPE, text=True).stdout.splitlines()
-        if f"sleep 77.{os.getpid()}" not in processes:
-            break
+    demand(not os.path.exists(os.path.join(here.at, "left")), "a run that is ended waits for its test", said)
+    demand(is_gone(f"sleep 150.{os.getpid()}"), "a test goes on behind a run that is ended")
+
+
+def comes(is_there):
+    """Waits for what has to come."""
+    for _ in range(TIMES):
+        if is_there():
+            return True
         time.sleep(0.1)
-    demand(f"sleep 77.{os.getpid()}" not in processes, "a test goes on behind a run that is ended")
+    return False
+
+
+def is_gone(command):
+    """Whether a program ends soon that has been killed."""
+    for _ in range(600):
+        if command not in subprocess.run(["ps", "-eo", "args"], stdout=subprocess.PIPE, text=True).stdout.splitlines():
+            return True
+        time.sleep(0.1)
+    return False
+
+
+def check_over(room):
+    """Where a run is over each command ends, also one that is just beginning, and none begins."""
+    made, begun, ended, found = runner.Room.__new__(runner.Room), threading.Event(), threading.Event(), []
+    made.at = made.scratch = room
+    real = subprocess.Popen
+
+    def late(*words, **given):
+        ran = real(*words, **given)
+        begun.set()
+        ended.wait()
+        time.sleep(0.2)
+        return ran
+    thread = threading.Thread(target=lambda: found.append(made.run("sleep 60", 1800)))
+    with mock.patch.object(runner.subprocess, "Popen", late):
+        thread.start()
+        begun.wait()
+        ended.set()
+        runner.end_all()
+        thread.join()
+    demand(found == [(-9, "")], "a command that is just beginning where the run ends", found)
+    found = made.run("echo it begins", 1800)
+    demand(found == (-9, ""), "a command behind the end of a run", found)
+    runner.OVER.clear()
+    found = made.run("echo it begins", 1800)
+    demand(found == (0, "it begins\n") and not runner.RUNNING, "a command", (found, runner.RUNNING))
 
 
 def check_lists(here):
@@ -373,18 +415,20 @@ def check_environment(here):
              '[ -z "$(ls -A "$TMPDIR")" ]', 'touch "$TMPDIR/left"', '[ "$(pwd)" != "$REPOSITORY" ]', "false | true && exit 7 || bash test.sh"]
     here.lists(SEEN, f"test: adds\nrun: {' && '.join(lines[:-1])} && {{ {lines[-1]}; }}\nran: checks\nseconds: 1\n")
     with mock.patch.dict(planted.ENVIRONMENT, {"SUBSETTER_LIBRARY": "x", "MAKEFLAGS": "n", "MAKELEVEL": "1", "MFLAGS": "-n"}):
-        here.ends("what a test is started with", 0, r"^1 bugs planted, 1 seen, 0 got through$")
+        here.ends("what a test is started with", 0, r"small: a difference: seen: FAILED: 2 and 3 are -1$", r"^1 bugs planted, 1 seen, 0 got through$")
 
 
 def main():
     check_rules()
-    for check in (check_mirror, check_clone):
+    for check in (check_mirror, check_clone, check_over):
         with tempfile.TemporaryDirectory(prefix="plants-test-") as room:
             check(room)
     with tempfile.TemporaryDirectory(prefix="plants-test-") as room:
         here = Repository(room)
         for check in (check_outcomes, check_tests, check_ends, check_stop, check_lists, check_choice, check_measure, check_results, check_environment):
             check(here)
+    for what in failures:
+        print(f"FAILED: plants_test: {what}")
     print(f"plants_test: {checks} checks, {len(failures)} failed")
     return 1 if failures or checks < 80 else 0
 

@@ -1,6 +1,6 @@
 #!/usr/bin/env python3
-"""Tests scripts that run programs and judge what these leave, over stand-ins: compare/batch.py, compare/all, compare/speed.py and
-compare/cff2_times.py, the rows of .ci/large.py and of .ci/drivers.py, .ci/program.py, .ci/examples.py, .ci/pdf_examples.py and .ci/fresh.
+"""Tests scripts that run programs and judge what these leave, over stand-ins: compare/batch.py, compare/limits.py, compare/all, compare/speed.py
+and compare/cff2_times.py, the rows of .ci/large.py and of .ci/drivers.py, .ci/program.py, .ci/examples.py, .ci/pdf_examples.py and .ci/fresh.
 No build is needed, and no time counts: the clock is a stand-in, too.
 
     .ci/runs_test.py [NAME..]     all groups, or those named
@@ -76,17 +76,23 @@ GLYPHS = {("/one.ttf", "0"): 10, ("/two.otf", "2"): 300}
 FACES = [("a", "/one.ttf", 0), ("b", "/two.otf", 2), ("c", "/three.ttf", 0)]
 # What is requested of the first two faces: numbers at equal distances, from the next one on each time.
 REQUESTED = [("/one.ttf", 0, [1, 3, 5]), ("/two.otf", 2, [1, 76, 151]), ("/one.ttf", 0, [2, 4, 6]), ("/two.otf", 2, [2, 77, 152]), ("/one.ttf", 0, [1, 3, 5])]
-TABLE = """
-| The new fonts are {where} | Seconds | Requests a second | Times `--jobs 1` |
+BATCHED = """5 requests of 2 fonts, 3 glyphs each.
+
+| The new fonts are in memory | Seconds | Requests a second | Times `--jobs 1` |
 |---|--:|--:|--:|
 | a run each | 0.010 | 512 | 1.20 |
 | `--jobs 1` | 0.012 | 427 | 1.00 |
 | `--jobs 2` | 0.008 | 640 | 1.50 |
+| `--jobs 4` | 0.006 | 853 | 2.00 |
+
+| The new fonts are on a disk | Seconds | Requests a second | Times `--jobs 1` |
+|---|--:|--:|--:|
+| a run each | 0.024 | 205 | 0.48 |
+| `--jobs 1` | 0.012 | 427 | 1.00 |
+| `--jobs 2` | 0.008 | 640 | 1.50 |
 | `--jobs 4` | {four:.3f} | {a_second} | {faster:.2f} |
-"""
-BATCHED = """5 requests of 2 fonts, 3 glyphs each.
-{tables}
-`--jobs 4` is {memory:.2f} times as fast as `--jobs 1` in memory, and {disk:.2f} times on a disk; {faults} faults.
+
+`--jobs 4` is 2.00 times as fast as `--jobs 1` in memory, and {faster:.2f} times on a disk; {faults} faults.
 """
 
 
@@ -95,14 +101,14 @@ class Batch:
 
     def __init__(self, room):
         self.batch, self.installed, self.ran = module("compare/batch.py"), [], []
-        self.folders = [tempfile.mkdtemp(dir=room) for _ in range(2)]
+        self.memory, self.disk = tempfile.mkdtemp(dir=room), tempfile.mkdtemp(dir=room)
         self.clock, self.seconds, self.otherwise = 0.0, {}, {}
 
     def start(self, words, **given):
         """What the program does. `otherwise` has what is otherwise in a run, by its number."""
         folder, number = given.get("cwd"), len(self.ran)
-        where = next((k for k, it in enumerate(self.folders) if folder and folder.startswith(f"{it}/")), None)
-        self.ran.append((words[1:], where, sorted(os.listdir(folder)) if folder else None))
+        place = folder and os.path.dirname(os.path.dirname(folder))
+        self.ran.append((words[1:], place, sorted(os.listdir(folder)) if folder else None))
         otherwise, kind = self.otherwise.get(number), words[1]
         requests = [json.loads(it) for it in given.get("input", b"").splitlines()]
         if kind == "--json":
@@ -110,7 +116,8 @@ class Batch:
         for it in requests:
             more = "more" if otherwise == "font" and it is requests[-1] else ""
             put(f"font of {it['gids']}{more}", folder, it["out"])
-        taken = self.seconds["each" if kind == "--json" else words[-1] if kind == "--batch" else kind]
+        name = "each" if kind == "--json" else words[-1] if kind == "--batch" else kind
+        taken = self.seconds.get(f"{name} on a disk" if place == self.disk else name) or self.seconds[name]
         # (each time is taken by turns)
         taken.append(taken[0])
         self.clock += taken.pop(0)
@@ -120,54 +127,62 @@ class Batch:
             raise subprocess.CalledProcessError(status, words)
         return types.SimpleNamespace(returncode=status, stdout=said.encode())
 
-    def run(self, four=(4.0, 4.0), processors=4, otherwise=None):
-        """What it prints, and its status. `four` are the times of four threads, in memory and on a disk, in 1,024ths of a second, as all times are here: sums of these
+    def run(self, four=4.0, processors=4, otherwise=None):
+        """What it prints, and its status. `four` is the time of four threads on a disk in 1,024ths of a second, as all times are here: sums of these
         are exact."""
         self.ran, self.otherwise = [], otherwise or {}
-        times = {"--info": [7.0], "each": [2.0], "1": [99.0, 12.0, 11.5, 12.5, 1.0], "2": [8.0], "4": [four[0]] * 5 + [four[1]] * 5}
+        times = {"--info": [7.0], "each": [2.0], "each on a disk": [5.0], "1": [99.0, 12.0, 11.5, 12.5, 1.0], "2": [8.0], "4": [6.0], "4 on a disk": [four]}
         self.seconds = {name: [it / 1024 for it in all_times] for name, all_times in times.items()}
         with contextlib.ExitStack() as stack:
             for owner, name, new in ((self.batch, "FONTS", FACES), (self.batch.time, "perf_counter", lambda: self.clock), (self.batch.os, "cpu_count", lambda: processors),
                                      (self.batch.fonts, "install", self.installed.append), (self.batch.subprocess, "run", self.start)):
                 stack.enter_context(mock.patch.object(owner, name, new))
-            return printed(self.batch.main, "--program", "/program", "--folder", self.folders[0], "--disk", self.folders[1], "--requests", "5", "--rounds", "5", "--glyphs", "3",
-                           "--fonts", "2")
+            numbers = ("--requests", "5", "--rounds", "5", "--glyphs", "3", "--fonts", "2")
+            return printed(self.batch.main, "--program", "/program", "--folder", self.memory, "--disk", self.disk, *numbers)
 
 
 def check_batch(tests):
-    """What is requested and run, both tables, and each fault."""
+    """What is requested and run, the whole table, and each fault."""
     here = Batch(tests.room)
 
-    def said(four=(4.0, 4.0), faults=()):
-        tables = "".join(TABLE.format(where=where, four=it / 1024, a_second=f"{5 * 1024 / it:,.0f}", faster=12 / it) for where, it in zip(("in memory", "on a disk"), four))
-        return BATCHED.format(tables=tables, memory=12 / four[0], disk=12 / four[1], faults=len(faults)) + "".join(f"\n{it}" for it in faults) + "\n"
+    def said(four=4.0, faults=()):
+        return BATCHED.format(four=four / 1024, a_second=f"{5 * 1024 / four:,.0f}", faster=12 / four, faults=len(faults)) + "".join(f"\n{it}" for it in faults) + "\n"
     tests.same("batch.py", here.run(), (said(), 0))
-    each = [(["--json", "--gids", ",".join(map(str, gids)), "--face-index", str(index), path, "-o", f"{number}.ttf"], [f"{it}.ttf" for it in range(number)])
-            for number, (path, index, gids) in enumerate(REQUESTED)]
     infos = [(["--info", "--json", path, index], None, None) for path, index in GLYPHS]
-    in_one = [*each, *[(["--batch", "-", "--jobs", it], []) for it in ("1", "2", "4")] * 5]
-    tests.same("what is run, and what is in its folder before", here.ran, [*infos, *[(words, where, before) for where in range(2) for words, before in in_one]])
+    runs = [(it, place, there) for place in (here.memory, here.disk) for it, there in runs_of_a_folder()]
+    tests.same("what is run, and what is in its folder before", here.ran, [*infos, *runs])
     tests.same("what is installed", here.installed, [["a", "b"]])
-    tests.same("what is left", [os.listdir(it) for it in here.folders], [[], []])
-    # (of the runs the first two are questions, then come, in memory and then on a disk, five of a font each, and five rounds of three)
-    for what, number, fault in (("status", 7, "--jobs 1, round 0: status 3, or other answers or fonts"), ("font", 8, "--jobs 2, round 0: status 0, or other answers or fonts"),
-                                ("answer", 9, "--jobs 4, round 0: status 0, or other answers or fonts"), ("answer", 21, "--jobs 4, round 4: status 0, or other answers or fonts"),
-                                ("status", 2, "a run each: it failed"), ("status", 6, "a run each: it failed")):
-        for where, behind in (("in memory", 0), ("on a disk", 20)):
-            tests.same(f"another {what} in run {number + behind}", here.run(otherwise={number + behind: what}), (said(faults=[f"{where}: {fault}"]), 1))
-    wrong = [f"in memory: --jobs {jobs}, round {number}: status 0, or other answers or fonts" for number in range(5) for jobs in (1, 2, 4)]
-    for number in (2, 6):
-        tests.same("another font of a run of its own", here.run(otherwise={number: "font"}), (said(faults=wrong), 1))
-    # (on a disk alone that is judged)
+    tests.same("what is left", (os.listdir(here.memory), os.listdir(here.disk)), ([], []))
+    # (of the runs the first two are questions, then come for each folder five of a font each, and five rounds of three)
+    failed_each = ("in memory: a run each: it failed", "on a disk: a run each: it failed")
+    for what, number, fault in (("status", 7, "in memory: --jobs 1, round 0: status 3"), ("font", 8, "in memory: --jobs 2, round 0: status 0"),
+                                ("answer", 9, "in memory: --jobs 4, round 0: status 0"), ("answer", 21, "in memory: --jobs 4, round 4: status 0"),
+                                ("status", 2, failed_each[0]), ("status", 6, failed_each[0]), ("status", 22, failed_each[1]),
+                                ("font", 28, "on a disk: --jobs 2, round 0: status 0"), ("status", 41, "on a disk: --jobs 4, round 4: status 3")):
+        fault += "" if fault in failed_each else ", or other answers or fonts"
+        tests.same(f"another {what} in run {number}", here.run(otherwise={number: what}), (said(faults=[fault]), 1))
+    tests.same("two faults", here.run(otherwise={2: "status", 26: "status"}), (said(faults=failed_each), 1))
+    for where, numbers in (("in memory", (2, 6)), ("on a disk", (22, 26))):
+        wrong = [f"{where}: --jobs {jobs}, round {number}: status 0, or other answers or fonts" for number in range(5) for jobs in (1, 2, 4)]
+        for number in numbers:
+            tests.same("another font of a run of its own", here.run(otherwise={number: "font"}), (said(faults=wrong), 1))
     slow = [f"on a disk --jobs 4 is {12 / 4.125:.2f} times as fast, not 3.0"]
     for processors, faults in ((4, slow), (8, slow), (3, []), (None, [])):
-        tests.same(f"too slow on {processors} processors", here.run((4.0, 4.125), processors), (said((4.0, 4.125), faults), int(bool(faults))))
-    tests.same("slow in memory", here.run((6.0, 4.0)), (said((6.0, 4.0)), 0))
+        tests.same(f"too slow on {processors} processors", here.run(4.125, processors), (said(4.125, faults), int(bool(faults))))
     try:
         tests.same("a program that doesn't answer", here.run(otherwise={1: "status"}), "an error")
     except subprocess.CalledProcessError as why:
         tests.same("a program that doesn't answer", why.returncode, 3)
     check_batch_words(tests, here.batch)
+
+
+def runs_of_a_folder():
+    """The words of each run in a folder, and what is in its folder before."""
+    for number, (path, index, gids) in enumerate(REQUESTED):
+        words = ["--json", "--gids", ",".join(map(str, gids)), "--face-index", str(index), path, "-o", f"{number}.ttf"]
+        yield words, [f"{it}.ttf" for it in range(number)]
+    for jobs in ("1", "2", "4") * 5:
+        yield ["--batch", "-", "--jobs", jobs], []
 
 
 def check_batch_words(tests, batch):
@@ -186,6 +201,171 @@ def check_batch_words(tests, batch):
     with mock.patch.object(batch, "count_of", lambda *_: 2), mock.patch.object(batch, "FONTS", FACES):
         few = list(batch.requests_of("", types.SimpleNamespace(requests=2, fonts=1, glyphs=3)))
     tests.same("requests of a face with few glyphs", few, [{"in": "/one.ttf", "out": f"{number}.ttf", "index": 0, "gids": [1]} for number in range(2)])
+
+
+# ---- compare/limits.py
+
+SPEED_ROWS = """# compare/speed.py
+font,outlines,kept,glyphs,source bytes,output bytes,port ns,part of HarfBuzz,part of the crate
+one.ttf,TrueType,3 low,3,1000,200,300,0.9,0.304
+one.ttf,TrueType,3 spread,3,1000,210,310,0.1,0.306
+one.ttf,TrueType,all in order,20,1000,900,320,0.2,0.350
+one.ttf,TrueType,all jumbled,20,1000,910,330,0.9,0.354
+two.ttc #1,CFF,3 low,3,70000,300,340,0.9,0.22
+two.ttc #1,CFF,all jumbled,30,70000,65000,350,0.1,0.23
+"""
+INSTANCE_ROWS = """# compare/instance_times.py
+Font,Glyphs,Port (µs),HarfBuzz (µs),Ratio to HarfBuzz,fontTools (ms),Ratio to fontTools
+Var.ttf,3,89,74,1.154,20,9
+Var.ttf,2000,91,75,1.16,20,0.5
+"""
+# What a call takes in each program (instructions, misses of the two caches, requests), and a start besides.
+TAKEN = {"/crate-port": (1_234_567, 2345, 678, 12), "/crate": (7_654_321, 9876, 543, 21), "/bench": (44_444, 333, 22, 4), "/draw": (5555, 666, 77, 8)}
+START = (5_000_000, 4000, 300, 7)
+LIMITS = """| Row | Part | Goal | Source | Output | Beside | Instructions | First cache | Last cache | Requests |
+|---|---|--:|--:|--:|---|--:|--:|--:|--:|
+"""
+PORT_AND_CRATE = """port | 1,234,567 | 2,345 | 678 | 12 |
+|  |  |  |  |  | crate | 7,654,321 | 9,876 | 543 | 21 |
+"""
+PORT_AND_HARFBUZZ = """port | 44,444 | 333 | 22 | 4 |
+|  |  |  |  |  | HarfBuzz | 5,555 | 666 | 77 | 8 |
+"""
+# Each row: its first cells, what its two programs take, and whether it misses its goal.
+LIMIT_ROWS = [
+    ("| one.ttf, 3 low | 0.304 | 0.30 | 1,000 | 200 | ", PORT_AND_CRATE, False),
+    ("| one.ttf, 3 spread | 0.306 | 0.30 | 1,000 | 210 | ", PORT_AND_CRATE, True),
+    ("| one.ttf, all in order | 0.350 | 0.30 | 1,000 | 900 | ", PORT_AND_CRATE, True),
+    ("| one.ttf, all jumbled | 0.354 | 0.35 | 1,000 | 910 | ", PORT_AND_CRATE, False),
+    ("| two.ttc #1, 3 low | 0.22 | 0.22 | 70,000 | 300 | ", PORT_AND_CRATE, False),
+    ("| two.ttc #1, all jumbled | 0.23 | 0.22 | 70,000 | 65,000 | ", PORT_AND_CRATE, True),
+    ("| Var.ttf, 3 glyphs | 1.154 | 1.15 | 12,345 | 4,003 | ", PORT_AND_HARFBUZZ, False),
+    ("| Var.ttf, 2,000 glyphs | 1.16 | 1.15 | 12,345 | 6,000 | ", PORT_AND_HARFBUZZ, True),
+]
+CACHEGRIND = """==7== I   refs:      {:,}
+==7== I1  misses:      99
+==7== LLi misses:      98
+==7==
+==7== D   refs:        97  (90 rd + 7 wr)
+==7== D1  misses:      {:,}  (5 rd + 6 wr)
+==7== LLd misses:      {:,}  (7 rd + 8 wr)
+==7== D1  miss rate:   0.1%
+==7== LL refs:         96  (90 rd + 6 wr)
+==7== LL misses:       95  (89 rd + 6 wr)
+"""
+
+
+class Limits:
+    """The script over results and programs that are stand-ins. `otherwise` has what ends otherwise, by the number of the run."""
+
+    def __init__(self, room):
+        self.script, self.results, self.prepared, self.ran, self.otherwise = module("compare/limits.py"), tempfile.mkdtemp(dir=room), [], [], {}
+        self.font = put(b"x" * 12345, room, "Var.ttf")
+
+    def start(self, words, **given):
+        """What cachegrind says of a program, or what refuse.c tells of it. A run is noted with its words, where ROOM is the script's folder."""
+        is_counted, env, number = words[0] == "valgrind", given["env"], len(self.ran)
+        front, own = (words[:6], words[6:]) if is_counted else ([env["LD_PRELOAD"], env["TOLD"]], words)
+        room = os.path.dirname(front[2].partition("=")[2] if is_counted else env["TOLD"])
+        said = read_of(own[2]).decode().split() if own[1] == "--list" else own[1:]
+        calls = int(said[2 if own[0] == "/draw" else 3])
+        taken = [first + calls * each for first, each in zip(START, TAKEN[own[0]])]
+        if not is_counted:
+            put(f"{taken[3]} 2 before 3\n", env["TOLD"])
+        self.ran.append([it.replace(room, "ROOM") for it in (*front, own[0], *said)])
+        made = {"returncode": 0, "stdout": "ok 7 6 5\n", "stderr": CACHEGRIND.format(*taken[:3]) if is_counted else "nothing"}
+        return types.SimpleNamespace(**{**made, **self.otherwise.get(number, {})})
+
+    def tasks(self, path, room, has_instancer):
+        """Tasks of a font of two numbers of glyphs, where that is asked for as it is to be."""
+        for count in (3, 2000) if path == self.font and os.path.isdir(room) and not has_instancer else ():
+            yield count, ["/bench", path, "0", f"g{count}", "1", "out", "wght=1"], ["/draw", path, f"g{count}", "1", "5", "6"], None
+
+    def run(self, *words, speed=SPEED_ROWS, instances=INSTANCE_ROWS, otherwise=None):
+        """What it prints, and its status."""
+        self.ran, self.otherwise, script = [], otherwise or {}, self.script
+        put(speed, self.results, "speed.csv")
+        put(instances, self.results, "instance_times.csv")
+        counts = {("/f/one.ttf", 0): 20, ("/f/two.ttc", 1): 30}
+        with contextlib.ExitStack() as stack:
+            for owner, name, new in (
+                    (script, "RESULTS", self.results), (script, "prepare", self.prepared.append), (script.subprocess, "run", self.start),
+                    (script.fonts, "TRUETYPE_FONTS", [("a", "/f/one.ttf", 0)]), (script.fonts, "CFF_FONTS", [("b", "/f/two.ttc", 1)]),
+                    (script.fonts, "glyph_count", lambda *face: counts[face]), (script.bench, "PORT", "/crate-port"), (script.bench, "ORIGINAL", "/crate"),
+                    (script.fonts, "glyph_sets", lambda count: [(it, f"{it[-1]}{count}") for it in ("3 low", "3 spread", "all in order", "all jumbled")]),
+                    (script.build, "BENCH", "/bench"), (script.bench, "DRAW", "/draw"), (script.instance_tasks, "tasks_of", self.tasks),
+                    (script.instance_tasks, "said", lambda words: (1, 4000 + int(words[3][1:]))), (script.build, "BUILD", "/build"),
+                    (script.font_at, "font_paths", lambda folders, only: [self.font] if (folders, only) == (["/folder"], "") else [])):
+                stack.enter_context(mock.patch.object(owner, name, new))
+            return printed(script.main, "/folder", *words)
+
+
+def check_limits(tests):
+    """Which rows are taken, what is run for each, the whole table, and each way to end otherwise."""
+    here = Limits(tests.room)
+    every, missed = LIMIT_ROWS, [it for it in LIMIT_ROWS if it[2]]
+    for words, rows in (([], missed), (["--all"], every), (["--only", "two"], every[5:6]), (["--only", "Var", "--all"], every[6:]), (["--only", "none"], [])):
+        wanted = LIMITS + "".join(front + figures for front, figures, _ in rows) + f"\n{len(rows)} rows.\n"
+        tests.same(f"limits.py {words}", here.run(*words), (wanted, 0))
+    tests.same("no row at all", here.run("--only", "none", "--all"), (f"{LIMITS}\n0 rows.\n", 1))
+    wanted = [{"folders": ["/folder"], "all": is_all, "only": "", "no_build": False} for is_all in (False, True)]
+    tests.same("its words", [vars(it) for it in here.prepared[:2]], wanted)
+    for name in ("two", "Var"):
+        here.run("--only", name)
+        tests.same(f"the runs of {name}", here.ran, list(limit_runs(name, here.font)))
+    empty = here.run(speed="\n".join(SPEED_ROWS.split("\n")[:2]) + "\n", instances="Font,Glyphs,Ratio to HarfBuzz\n")
+    tests.same("results without a row", empty, (f"{LIMITS}\n0 rows.\n", 0))
+    other = here.run(instances=INSTANCE_ROWS.replace("Var.ttf,3,", "Other.ttf,3,"))
+    tests.same("a font that isn't there", other, (LIMITS, "limits.py: no Other.ttf: name its folder"))
+    check_limits_fail(tests, here)
+    check_limits_builds(tests, here.script)
+
+
+def limit_runs(name, font):
+    """What is run for one row: each program by one call and by three, each time under cachegrind and before refuse.c."""
+    words = {"two": [("/crate-port", ["/f/two.ttc", "1", "d30"], []), ("/crate", ["/f/two.ttc", "1", "d30"], [])],
+             "Var": [("/bench", [font, "0", "g2000"], ["out", "wght=1"]), ("/draw", [font, "g2000"], ["5", "6"])]}
+    counted = ["valgrind", "--tool=cachegrind", "--cachegrind-out-file=ROOM/cachegrind", "--cache-sim=yes", "--D1=32768,8,64", "--LL=1048576,16,64"]
+    for program, before, behind in words[name]:
+        for calls in "13":
+            for front in (counted, ["/build/refuse.so", "ROOM/told"]):
+                yield [*front, program, *before, calls, *behind]
+
+
+def check_limits_fail(tests, here):
+    """A run that fails ends the script with its words, and so does one that says nothing of a figure."""
+    told = CACHEGRIND.format(1, 2, 3)
+    silent = [(4, {"stderr": told.replace(it, "")}, r"cachegrind says ==7== ") for it in ("I   refs", "D1  misses", "LLd misses")]
+    for number, otherwise, wanted in (
+            (0, {"returncode": 3}, r"valgrind --tool=cachegrind .*: status 3, ok 7 6 5\n[\s\S]*LL misses: +95  \(89 rd \+ 6 wr\)\n$"),
+            (1, {"returncode": -9, "stdout": ""}, r"/crate-port --list \S+/list: status -9, nothing$"),
+            (2, {"stdout": "error cut\n"}, r"valgrind .*: status 0, error cut\n[\s\S]*==7== "),
+            (7, {"stdout": "no"}, r"/crate --list \S+/list: status 0, nonothing$"), (0, {"stderr": "x" * 600}, r"cachegrind says x{500}$"), *silent):
+        said, status = here.run("--only", "two", otherwise={number: otherwise})
+        is_so = isinstance(status, str) and bool(re.match(r"limits\.py: " + wanted, status))
+        front = LIMITS + (LIMIT_ROWS[5][0] + PORT_AND_CRATE.splitlines()[0] + "\n" if number > 3 else "")
+        tests.same(f"run {number} of {otherwise}: {status}", (is_so, said), (True, front))
+
+
+def check_limits_builds(tests, script):
+    """What is installed and built."""
+    calls = []
+
+    def noted(name):
+        return lambda *words, **more: calls.append((name, *words, *sorted(more.items())))
+    with contextlib.ExitStack() as stack:
+        for owner, name in ((script.original_crate, "original_folder"), (script.fonts, "install"), (script.bench, "build_all"),
+                            (script.bench, "build_drawing"), (script.build, "preload")):
+            stack.enter_context(mock.patch.object(owner, name, noted(name)))
+        script.prepare(types.SimpleNamespace(no_build=False))
+        counted, calls = calls, []
+        script.prepare(types.SimpleNamespace(no_build=True))
+    fonts = [it[0] for it in (*script.fonts.TRUETYPE_FONTS, *script.fonts.CFF_FONTS)]
+    packages = [*script.fonts.TOOLS, *script.font_at.PACKAGES, *fonts, "valgrind", "libharfbuzz-dev"]
+    library = ("preload", "refuse.c", ("to", "refuse.so"))
+    programs = [("build_all", ("original_only", False), ("with_binding", False)), ("build_drawing",)]
+    tests.same("what limits.py builds", counted, [("original_folder",), ("install", packages), *programs, library])
+    tests.same("what it builds where all is built", calls, [library])
 
 
 # ---- .ci/large.py and .ci/drivers.py: what a run is compared with
@@ -1355,12 +1535,14 @@ def check_gate(tests):
     proved = "0:01 rt: {} is kept: an earlier run on this machine proved the same files"
     failed, left = "a part (three): FAILED after 3 s", "the bindings: not run, as not all is proved"
     named, several = "gate: parts were skipped: name them, as in SKIP=NAME,..", ["2 crates proved before by `rt ci` on the machine"]
+    took = ["Minutes from the first to the last check of each part (and of the processors):", "subsetter  7", "rt ci took 60 min 24 s on 4 processors"]
     for lines, words, wanted in (
             ([passed, last], [], [passed, last]), (["noise", f"  {passed}  ", "more", last, ""], [], [passed, last]), ([passed, skipped, last], ["SKIP=two"], [passed, skipped, last]), ([passed, skipped, last], [], named),
             ([proved.format("one"), proved.format("two"), proved.format("one"), last], [], [*several, last]), ([passed, "7 passed, 1 failed"], [], "gate: the last line is '7 passed, 1 failed', and no gate that passed"),
             ([passed, "0 passed, 0 failed"], [], "gate: the last line is '0 passed, 0 failed', and no gate that passed"), ([passed, last, "more"], [], "gate: the last line is 'more', and no gate that passed"), ([failed, last], [], f"gate: {failed}"), ([left, last], [], f"gate: {left}"),
             ([f"refused: {failed}", f"caught, WRONGLY: {left}", f"recorded: {skipped}", f"passed: {passed}", last], [], [last]), ([f"found: {failed}", last], [], f"gate: found: {failed}"), ([""], [], "gate: the last line is '', and no gate that passed"),
-            (["a part (one): FAILED", last], [], [last]), (["10 passed, 0 failed"], [], ["10 passed, 0 failed"])):
+            (["a part (one): FAILED", last], [], [last]), (["10 passed, 0 failed"], [], ["10 passed, 0 failed"]),
+            ([took[-1], "more", *took, passed, *took[-1:], last], [], [passed, *took, last]), ([*took[:-1], passed, last], [], [passed, last])):
         found = []
         said = printed(lambda: found.extend(gate.kept("\n".join(lines) + "\n", words)))[1]
         tests.same(f"a gate that prints {lines}", said or found, wanted)
@@ -1520,8 +1702,8 @@ def check_judges(tests):
     tests.same("the check of an edit", [judge.check_of(it) for it in ("check: rows\nfile: x\n", "file: x\ncheck: memory\n", "file: x\nold: check: rows\n", "check: \n")], ["rows", "memory", None, None])
 
 
-GROUPS = [check_batch, check_large, check_drivers, check_program, check_running, check_examples, check_pdf, check_all, check_speed, check_times, check_fresh, check_builds, check_fonts,
-          check_commands, check_gate, check_tables, check_original, check_judges]
+GROUPS = [check_batch, check_limits, check_large, check_drivers, check_program, check_running, check_examples, check_pdf, check_all, check_speed, check_times,
+          check_fresh, check_builds, check_fonts, check_commands, check_gate, check_tables, check_original, check_judges]
 
 
 def main():

@@ -84,7 +84,7 @@ int fdatasync(int file) {
 }
 """
 # The seconds after which what is waited for is late. What is right comes at once.
-LATE = 120
+LATE = 240
 GOOD = [{"in": name, "out": f"{name}-{k}", "gids": [1], "quiet": k == 1} for k in range(10) for name in ("six", "small")][:11]
 WRONG = [{"in": "six", "out": "one", "gids": [60]}, {"in": "none", "out": "two", "gids": [1]}, {"in": "six", "out": "none/three", "gids": [1]}]
 
@@ -149,7 +149,7 @@ def check_jobs_unwritten(table, room):
     for words in (["--batch", "sources"], ["--batch", "sources", "--jobs", "3"], ["--batch", "many", "--jobs", "1"]):
         with open("/dev/full", "wb") as full:
             try:
-                got = subprocess.run([*table.command, *words], cwd=room, stdout=full, stderr=subprocess.PIPE, timeout=60)
+                got = subprocess.run([*table.command, *words], cwd=room, stdout=full, stderr=subprocess.PIPE, timeout=LATE)
             except subprocess.TimeoutExpired as late:
                 got = subprocess.CompletedProcess(words, None, None, late.stderr)
         table.demand((got.returncode, got.stderr) == (3, b"cannot write standard output\n"), f"{words}: the answers can't be written", got)
@@ -271,6 +271,8 @@ def check_turns(table, room):
         got = batch.end(signs == wanted)
         is_so = ended(got) == ended(base) and [taken(room, it) for it in requests] == files
         table.demand(is_so, f"--jobs {number}, whose threads are stopped", got)
+        if not is_so:
+            return
 
 
 def check_threads(table, room):

@@ -241,14 +241,14 @@ const PDF_CHOICES = ["limits", "hinting", "coordinates", "program", "codes", "ve
 
 /** The same, and the further words of the options for a PDF. */
 function pdfChoicesOf(options) {
-    const { limits, hinting, coordinates, program, codes, vertical, bounds, cidSet, tag, rights } = options;
+    const { limits, hinting, coordinates, program, codes, vertical = false, bounds, cidSet = false, tag, rights } = options;
     const chosen = choicesOf({ limits, hinting, coordinates });
     const further = [
         oneOf(program, ["smallest", "opentype"], "program"),
         oneOf(codes, ["consecutive", "source", "eachText"], "codes"),
-        kept(vertical ?? false, "vertical") ? 1 : 0,
+        kept(vertical, "vertical") ? 1 : 0,
         oneOf(bounds, ["font", "kept"], "bounds"),
-        kept(cidSet ?? false, "cidSet") ? 1 : 0,
+        kept(cidSet, "cidSet") ? 1 : 0,
         oneOf(rights, ["asSaid", "held"], "rights"),
         ...tagOf(tag),
     ];

@@ -69,7 +69,8 @@ def items(tokens, file, first, last, parent):
         item = one(tokens, file, i, parent)
         if item is None:
             break
-        found.append(item)
+        # (what stands in thread_local! are items as those around it)
+        found += item.children if item.kind == "thread_local" else [item]
         i = tokens.next(item.last)
     return found
 
@@ -97,7 +98,7 @@ def one(tokens, file, i, parent):
     if parent is not None:
         item.is_test |= parent.is_test
         item.level = max(item.level, parent.level)
-    if item.kind in ("impl", "trait", "mod") and item.body and not item.is_test:
+    if item.kind in ("impl", "trait", "mod", "thread_local") and item.body and not item.is_test:
         item.children = items(tokens, file, tokens.next(item.body), tokens.before(item.last), item)
     return item
 
@@ -117,6 +118,8 @@ def read_kind(tokens, file, start, i, parent):
         end = tokens.find(name, ";")
     elif kind == "macro_rules" and tokens.is_plain:
         end = tokens.find(tokens.next(name), "{")
+    elif kind == "thread_local" and tokens.is_plain and tokens.text(tokens.next(name)) == "{":
+        end = tokens.next(name)
     else:
         tokens.fail(i, f"an item of a kind that isn't known: {kind}")
     if end is None:
