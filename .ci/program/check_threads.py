@@ -88,6 +88,9 @@ LATE = 240
 GOOD = [{"in": name, "out": f"{name}-{k}", "gids": [1], "quiet": k == 1} for k in range(10) for name in ("six", "small")][:11]
 WRONG = [{"in": "six", "out": "one", "gids": [60]}, {"in": "none", "out": "two", "gids": [1]}, {"in": "six", "out": "none/three", "gids": [1]}]
 
+# (lines are read 16 at a time: wrong ones at the ends of such pieces, and OUT of one in another)
+MANY = [{"in": 1} if k in (0, 15, 16, 49) else {"in": ("six", "small")[k % 2], "out": f"of-{2 if k in (15, 17, 40) else k}", "gids": [1]} for k in range(50)]
+
 
 def ended(got):
     return got.returncode, got.stdout, got.stderr
@@ -124,12 +127,15 @@ def check_jobs_ends(table, room):
         return
     put_fonts(room)
     for what, requests, status in (("all are done", GOOD, 0), ("one", GOOD[:1], 0), ("none", [], 0), ("the first fails", WRONG[:1] + GOOD, 1), ("the last fails", GOOD + WRONG[1:2], 1), ("all fail", WRONG, 1),
-                                   ("a wrong line", [*GOOD[:2], {"in": 1}], 1), ("wrong lines alone", [{"in": 1}, {"in": 2}], 1), ("OUT twice", [*GOOD, GOOD[0]], 1)):
-        put(room, "requests", lines_of(requests))
+                                   ("a wrong line", [*GOOD[:2], {"in": 1}], 1), ("wrong lines alone", [{"in": 1}, {"in": 2}], 1), ("OUT twice", [*GOOD, GOOD[0]], 1),
+                                   ("many lines", MANY, 1)):
+        # (blank lines are counted, and no requests)
+        text = b"\n" + lines_of(requests).replace(b"}\n", b"}\n\n", 2)
+        put(room, "requests", text)
         base = table.start(["--batch", "requests"], room)
         files = [taken(room, it) for it in requests if "out" in it]
         table.demand(base.returncode == status and base.stdout.count(b"\n") == len(requests), f"a batch: {what}", base)
-        for words, stdin in ((["--batch", "requests", "--jobs", "4"], None), (["--jobs", "4", "--batch", "-"], lines_of(requests))):
+        for words, stdin in ((["--batch", "requests", "--jobs", "4"], None), (["--jobs", "4", "--batch", "-"], text)):
             got = table.start(words, room, **({"input": stdin} if stdin is not None else {}))
             table.demand(ended(got) == ended(base), f"{words}: {what}", got)
             table.demand([taken(room, it) for it in requests if "out" in it] == files, f"{words}: {what}", "the files are others")
@@ -275,6 +281,26 @@ def check_turns(table, room):
             return
 
 
+def check_lines(table, room, library, noted):
+    """Of more than 16 lines each piece of 16 may have a thread, up to N with the one that there is, for what it requests and again for its OUT; where the system
+    has none the one that there is reads all."""
+    put(room, "requests", lines_of(MANY))
+    base = table.start(["--batch", "requests"], room)
+    files = [taken(room, it) for it in MANY if "out" in it]
+    # (four pieces; 23 requests of each source are begun, as two OUTs are named before)
+    due = [it["in"] for k, it in enumerate(MANY) if "out" in it and it["out"] not in [other.get("out") for other in MANY[:k]]]
+    for number, refused, of_lines in (("1", "", 0), ("2", "", 1), ("4", "", 3), ("9", "", 3), ("4", "1", 1), ("4", "01", 2), ("4", "1" * 40, 1)):
+        remove(noted)
+        got = table.start(["--batch", "requests", "--jobs", number], room, env={"LD_PRELOAD": library, "NOTED": noted, "REFUSED": refused})
+        what = f"--jobs {number} for {len(MANY)} lines, and of the threads are refused {refused or 'none'}"
+        table.demand(ended(got) == ended(base) and [taken(room, it) for it in MANY if "out" in it] == files, what, got)
+        signs = (take(noted) or b"").replace(b"o", b"")
+        each = 1 if number == "1" else 2 * int(number)
+        second = of_lines if set(refused) == {"1"} and len(refused) > 1 else min(int(number), 4) - 1
+        wanted = of_lines + second + sum(min(each, due.count(name)) for name in ("six", "small"))
+        table.demand(len(signs) == wanted, what, f"{len(signs)} threads, wanted {wanted}")
+
+
 def check_threads(table, room):
     """Twice as many threads are begun as N, one where that is 1, or as many as there are requests where these are fewer, for each source; where
     the system has none, or some, all is done by those."""
@@ -298,7 +324,9 @@ def check_threads(table, room):
         table.demand(ended(got) == ended(base) and [taken(room, it) for it in GOOD] == files, what, got)
         signs = take(noted) or b""
         table.demand((signs.count(b"t"), signs.count(b"o")) == (count, 2), what, f"{signs}: threads and fonts that are opened, wanted {count} and 2")
+    check_lines(table, room, library, noted)
     remove(noted)
+    put(room, "requests", lines_of(GOOD))
     got = table.start(["--batch", "requests"], room, env={"LD_PRELOAD": library, "NOTED": noted, "REFUSED": ""})
     table.demand(ended(got) == ended(base) and take(noted) == b"oo", "a batch without --jobs", (got, take(noted)))
     table.demand(len(FONTS["six"]) != len(FONTS["small"]) and len(files) == 11, "the requests", files)
