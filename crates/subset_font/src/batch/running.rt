@@ -35,7 +35,10 @@ fn refuse_file<R: Eprint>(rt: &R, name: &str, reason: Option<io::Error>) -> u8
 }
 
 /// The bytes of FILE, or the status where it can't be used.
-pub fn read_lines<R: Files + Input + Eprint + AllocGlobal>(rt: &R, name: &str) -> Result<Vec<u8>, u8>
+pub fn read_lines<R: Files + Input + Eprint + AllocGlobal>(
+    rt: &R,
+    name: &str,
+) -> Result<Vec<u8>, u8>
     ensures { IfErr result (λ status. status ≡ 2) }
 {
     let mut file = match open_source(rt, name) {
