@@ -39,6 +39,8 @@ LISTS = os.path.join(".ci", "plants")
 DRAWN_AT_MOST = 30
 # The seconds within which a build or a test without a plant has to end.
 FIRST = 3600
+# What is otherwise in the builds of a copy: little is optimized, as each plant is built anew. (That all is optimized as one is a plant.)
+PROFILE = {"CARGO_PROFILE_DEV_DEBUG": "0", "CARGO_PROFILE_RELEASE_OPT_LEVEL": "1"}
 # The date of each file of a copy.
 DATE = 1_600_000_000
 # Plants of one test that one copy takes at a time.
@@ -150,7 +152,7 @@ class Room:
     def run(self, command, limit):
         """The status of a command, None where it doesn't end within so many seconds, and what it prints. Where the run is over it doesn't begin."""
         env = {key: value for key, value in os.environ.items() if not key.startswith(("SUBSETTER_", "MAKE", "MFLAGS"))}
-        env.update(TMPDIR=self.scratch, REPOSITORY=ROOT, PYTHONDONTWRITEBYTECODE="1", CARGO_PROFILE_DEV_DEBUG="0")
+        env.update(TMPDIR=self.scratch, REPOSITORY=ROOT, PYTHONDONTWRITEBYTECODE="1", **PROFILE)
         with tempfile.TemporaryFile() as said:
             with BEGINS:
                 if OVER.is_set():

@@ -411,7 +411,7 @@ def check_clone(room):
 
 def check_environment(here):
     """What a test is started with: nothing of the caller's libraries and of make, a folder of its own for what is temporary."""
-    lines = ['[ -z "${SUBSETTER_LIBRARY:-}${MAKEFLAGS:-}${MAKELEVEL:-}${MFLAGS:-}" ]', f'[ "$REPOSITORY" = "{os.path.realpath(here.at)}" ]', '[ "$PYTHONDONTWRITEBYTECODE" = 1 ]', '[ "$CARGO_PROFILE_DEV_DEBUG" = 0 ]',
+    lines = ['[ -z "${SUBSETTER_LIBRARY:-}${MAKEFLAGS:-}${MAKELEVEL:-}${MFLAGS:-}" ]', f'[ "$REPOSITORY" = "{os.path.realpath(here.at)}" ]', '[ "$PYTHONDONTWRITEBYTECODE" = 1 ]', '[ "$CARGO_PROFILE_DEV_DEBUG" = 0 ]', '[ "$CARGO_PROFILE_RELEASE_OPT_LEVEL" = 1 ]',
              '[ -z "$(ls -A "$TMPDIR")" ]', 'touch "$TMPDIR/left"', '[ "$(pwd)" != "$REPOSITORY" ]', "false | true && exit 7 || bash test.sh"]
     here.lists(SEEN, f"test: adds\nrun: {' && '.join(lines[:-1])} && {{ {lines[-1]}; }}\nran: checks\nseconds: 1\n")
     with mock.patch.dict(planted.ENVIRONMENT, {"SUBSETTER_LIBRARY": "x", "MAKEFLAGS": "n", "MAKELEVEL": "1", "MFLAGS": "-n"}):

@@ -1,11 +1,12 @@
 #!/usr/bin/env python3
 """Runs the built program subset_font on rows, and compares all that it leaves behind.
 
-program.py [--program FILE] [--only WORD] [--cargo] [--system s390x|windows --run FILE]
+program.py [--program FILE] [--only WORD] [--first] [--cargo] [--system s390x|windows --run FILE]
 
 The rows are files of the folder program/rows: each has words, a standard input and files, and says the status, the standard
 output, the standard error, and the files that are there afterwards (program/README.md). The checks of program/check_*.py are
-what such a row can't say. --only takes the rows whose words have this text, and those that name a new font.
+what such a row can't say. --only takes the rows whose words have this text, and those that name a new font. --first ends at the
+first row or check that differs, as a planted bug needs no more.
 
 With --cargo it is the build of bindings/rust: what that does otherwise is a `cargo` of program/closed.txt or of `STD_ASKS`, with
 the reason, and has to be so. Where its row would hold as for the other build, it is a row too many, and fails.
@@ -18,6 +19,7 @@ The options, statuses, first lines of failures and examples are also compared wi
 line is `program: N rows, M differ`, and the status 1 where one differs or a file of rows can't be read.
 """
 import argparse
+import contextlib
 import os
 import sys
 import tempfile
@@ -37,7 +39,7 @@ from check_streams import check_closed, check_many, check_memory, check_number_o
 from check_texts import check_contents, check_names, check_words  # noqa: E402
 from check_threads import check_jobs_ends, check_jobs_words, check_threads  # noqa: E402
 from made_fonts import FONTS  # noqa: E402
-from running import Table, messages  # noqa: E402
+from running import Ended, Table, messages  # noqa: E402
 from systems import OTHERWISE, UNCHECKED  # noqa: E402
 
 CHECKS = (check_words, check_shown, check_names, check_pdf, check_places, check_links, check_second_names, check_attributes, check_device, check_rights, check_streams, check_closed, check_number_of_output, check_many, check_memory,
@@ -49,6 +51,7 @@ def read_words():
     words = argparse.ArgumentParser(usage=__doc__)
     words.add_argument("--program", default=os.path.join(ROOT, "crates", "subset_font", "out", "subset_font"))
     words.add_argument("--only", default="")
+    words.add_argument("--first", action="store_true")
     words.add_argument("--cargo", action="store_true")
     words.add_argument("--system", choices=sorted(UNCHECKED))
     words.add_argument("--run")
@@ -85,9 +88,10 @@ def run_checks(table):
 
 def main():
     given = read_words()
-    table = Table(os.path.realpath(given.program), given.cargo, given.run, given.system)
-    run_rows(table, given.only)
-    run_checks(table)
+    table = Table(os.path.realpath(given.program), given.cargo, given.run, given.system, given.first)
+    with contextlib.suppress(Ended):
+        run_rows(table, given.only)
+        run_checks(table)
     if given.cargo:
         print(f"program: {table.otherwise} runs end otherwise, as listed for the build by Cargo{' and the system' if given.system else ''}")
     print(f"program: {table.ran} rows, {table.wrong} differ")

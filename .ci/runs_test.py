@@ -542,7 +542,7 @@ def check_program_words(tests, program):
         with contextlib.redirect_stderr(io.StringIO()):
             tests.same(f"program.py {words}", printed(program.read_words, *words)[1], wanted)
     given = printed(program.read_words, "--program", there)[1]
-    tests.same("the words", vars(given), {"program": there, "only": "", "cargo": False, "system": None, "run": None})
+    tests.same("the words", vars(given), {"program": there, "only": "", "first": False, "cargo": False, "system": None, "run": None})
     with mock.patch.object(program.os.path, "exists", lambda _: True):
         tests.same("the program where none is named", printed(program.read_words)[1].program, os.path.join(ROOT, "crates", "subset_font", "out", "subset_font"))
     for words, wrong, wanted, status in (
@@ -561,7 +561,24 @@ def check_program_words(tests, program):
             tests.same(f"program.py {words}", printed(program.main, "--program", there, "--only", "x", *words), (wanted, status))
         table, only, _ = tables[0]
         command = [*([there] if "--run" in words else []), os.path.realpath(there)]
-        tests.same("the table", (only, table.command, table.system, table.is_cargo), ("x", command, "s390x" if "--system" in words else None, "--cargo" in words))
+        tests.same("the table", (only, table.command, table.system, table.is_cargo, table.is_first_last), ("x", command, "s390x" if "--system" in words else None, "--cargo" in words, False))
+    check_first(tests, program, there)
+
+
+def check_first(tests, program, there):
+    """With --first the first that differs ends all, in the rows or in the checks, and none behind it is run."""
+    for words, fails, wanted in (([], "rows", "program.py: a row: x\nrows\nchecks\nprogram: 3 rows, 1 differ\n"), (["--first"], "rows", "program.py: a row: x\nprogram: 1 rows, 1 differ\n"),
+                                 (["--first"], "checks", "rows\nprogram.py: a check: x\nprogram: 2 rows, 1 differ\n"), (["--first"], "", "rows\nchecks\nprogram: 3 rows, 0 differ\n")):
+        def run_rows(table, _, fails=fails):
+            table.demand(fails != "rows", "a row", "x")
+            print("rows")
+
+        def run_checks(table, fails=fails):
+            table.demand(fails != "checks", "a check", "x")
+            print("checks")
+            table.demand(True, "the last", "x")
+        with mock.patch.object(program, "run_rows", run_rows), mock.patch.object(program, "run_checks", run_checks):
+            tests.same(f"program.py {words}, where {fails or 'none'} differ", printed(program.main, "--program", there, *words), (wanted, 1 if fails else 0))
 
 
 def check_running(tests):

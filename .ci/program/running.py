@@ -81,19 +81,26 @@ def are_reasons(text, wanted):
 
 # ---- runs
 
-class Table:
-    """What was run, and what wasn't as wanted. `same` has the new fonts by their names: each is that of the first row that names it."""
+class Ended(Exception):
+    """One differs, which ends all."""
 
-    def __init__(self, program, is_cargo=False, runner=None, system=None):
+
+class Table:
+    """What was run, and what wasn't as wanted. `same` has the new fonts by their names: each is that of the first row that names it.
+    Where the first that differs ends all, `fail` raises Ended."""
+
+    def __init__(self, program, is_cargo=False, runner=None, system=None, is_first_last=False):
         self.program, self.same, self.ran, self.wrong = program, {"simple 2": SIMPLE_2}, 0, 0
         # what starts it, and the system that it is of where that isn't this one
         self.command, self.system = [*([runner] if runner else []), program], system
         # whether it is the build by Cargo, and how many rows are otherwise there, as listed
-        self.is_cargo, self.otherwise = is_cargo, 0
+        self.is_cargo, self.otherwise, self.is_first_last = is_cargo, 0, is_first_last
 
     def fail(self, what, why):
         self.wrong += 1
         print(f"program.py: {what}: {why}")
+        if self.is_first_last:
+            raise Ended
 
     def demand(self, holds, what, why):
         self.ran += 1
