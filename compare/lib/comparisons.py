@@ -104,7 +104,7 @@ COMPARISONS = [
     Comparison("wrong bodies", "Does the prover refuse each wrong body that the gate doesn't try?", "compare/wrong_bodies.py --results compare/results/wrong_bodies.csv",
                lines_like(r"\d+ wrong bodies of.*(?=; \d+ in earlier runs)|[\d.]+ minutes of a processor(?=, )|must-fail .*(NOT REFUSED|BAD EDIT|NOT TRIED)(?=:)"),
                ("crates/*/src/**", "crates/*/specs/**", "compare/wrong_bodies/**"), data=("wrong_bodies.csv",)),
-    Comparison("wrong bodies, fresh", "Does the prover or the gate refuse each wrong body that someone drew who hadn't read the others?", "compare/wrong_bodies.py --drawn 2026-11-28",
+    Comparison("wrong bodies, fresh", "Does the prover or the gate refuse each wrong body that someone drew who hadn't read the others?", "compare/wrong_bodies.py --drawn 2026-11-27",
                lines_like(r"\d+ wrong bodies of.*(?=; \d+ in earlier runs)|\d+ refused by another check of the gate.*|must-fail .*(NOT REFUSED|BAD EDIT|NOT TRIED)(?=:)"),
                ("crates/*/src/**", "crates/*/specs/**", "compare/wrong_bodies/**", "rows/**", ".ci/memory.py", ".ci/program.py", ".ci/program/**", "bindings/rust/**")),
     Comparison("refusals", "Does each request for memory and each call for files that is refused end as it should?", "compare/refusals.py --more",
