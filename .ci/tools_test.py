@@ -166,6 +166,48 @@ def check_times(tests):
     took = re.fullmatch(rf"rt ci took (\d+) min (\d+) s on {len(os.sched_getaffinity(0))} processors", lines[-2])
     tests.same(f"the end: {lines[-2:]}", bool(took and int(took[1]) * 60 + int(took[2]) >= 5 and lines[-1] == ""), True)
     check_clock(tests)
+    check_processors(tests)
+
+
+# A stand-in for the system's list of processes, which says on standard error when it was read: two below TOP, of which one has a bracket in its name.
+PROCESSES = """import builtins, io, os, sys
+ticks, real_open, real_list = os.sysconf("SC_CLK_TCK"), open, os.listdir
+own = {"91": ("a) b", os.environ["TOP"], 60, 5, "low\\0-o\\0x"), "92": ("c", "91", 7, 50, "high\\0--test")}
+
+
+def fake_open(path, *more, **named):
+    pid, _, name = str(path).removeprefix("/proc/").partition("/")
+    if not str(path).startswith("/proc/") or pid not in own:
+        return real_open(path, *more, **named)
+    called, parent, user, system, words = own[pid]
+    numbers = [2, 3, 4, 5, 6, 7, 8, 9, 10, user * ticks, system * ticks, 1000 * ticks, 2000 * ticks, 20, 0]
+    return io.StringIO(f"{pid} ({called}) S {parent} {' '.join(map(str, numbers))}\\n" if name == "stat" else f"/kit/rattle\\0--crate-name\\0{words}\\0")
+
+
+def fake_list(path="."):
+    if path != "/proc":
+        return real_list(path)
+    print("looked", file=sys.stderr, flush=True)
+    return ["91", "self", "92"]
+
+
+builtins.open, os.listdir = fake_open, fake_list
+"""
+
+
+def check_processors(tests):
+    """A check's seconds of the processor are its own, as program and as system, and not those of processes that it has waited for."""
+    room = tempfile.mkdtemp(dir=tests.room)
+    put(PROCESSES.replace("\\\\", "\\"), room, "sitecustomize.py")
+    with subprocess.Popen([sys.executable, f"{HERE}/times.py", "77"], stdin=subprocess.PIPE, stdout=subprocess.PIPE, stderr=subprocess.PIPE, env={**os.environ, "PYTHONPATH": room, "TOP": "77"}) as ran:
+        # (what was looked at first is counted once the second look begins)
+        said = [ran.stderr.readline() for _ in range(2)]
+        out = ran.communicate(b"", timeout=300)[0].decode()
+    lines = out.split("\n")
+    # (checks that are seen at once come in any order)
+    rows = [re.sub(r"\b\d+:\d\d \(", "(", it).split() for it in [*sorted(lines[2:4]), lines[4]]]
+    tests.same(f"seconds of processors: {out}", (said, ran.returncode, rows), (
+        [b"looked\n"] * 2, 0, [["high", "-", "(0:57)", "-"], ["low", "(1:05)", "-", "-"], ["processors,", "all", "crates", "1:05", "0:57", "0:00"]]))
 
 
 def check_clock(tests):

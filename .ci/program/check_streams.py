@@ -1,4 +1,5 @@
 """Standard streams that fail, are the same file or are closed (closed.txt), all glyphs of a face, and little memory."""
+import contextlib
 import os
 import subprocess
 
@@ -46,6 +47,38 @@ def check_streams(table, room):
         got = subprocess.run([*table.command, "in", "both", "0", "2"], cwd=room, stdout=file, stderr=subprocess.PIPE)
     table.demand(take(os.path.join(room, "both")) == table.same["simple 2"] and got.stderr == lines((2, 1)),
                  "standard output is OUT", got)
+
+
+# The most seconds of a run that ends at once.
+SOON = 60
+
+
+def ended_soon(table, words, room, **given):
+    """How a run ends, and its messages; None where it doesn't end."""
+    try:
+        got = subprocess.run([*table.command, *words], cwd=room, stderr=subprocess.PIPE, timeout=SOON, **given)
+    except subprocess.TimeoutExpired:
+        return None
+    return got.returncode, got.stderr
+
+
+def check_waiting(table, room):
+    """A stream that would have to wait, and doesn't, fails: it isn't read or written again and again."""
+    put(room, "in", SIMPLE)
+    reading, writing = os.pipe()
+    os.set_blocking(reading, False)
+    for words, status in ((["-", "out", "0", "2"], 3), (["--gids-file", "-", "in", "out", "0"], 3), (["--batch", "-"], 2)):
+        got = ended_soon(table, words, room, stdin=reading, stdout=subprocess.DEVNULL)
+        table.demand(got == (status, message("cannot-read", "-", "EAGAIN")), f"{words}: standard input has no bytes yet", got)
+    os.set_blocking(writing, False)
+    with contextlib.suppress(BlockingIOError):
+        while True:
+            os.write(writing, bytes(1 << 16))
+    for words, told in ((["in", "out", "0", "2"], "standard output"), (["in", "-", "0", "2"], "-"), (["--help"], "standard output")):
+        got = ended_soon(table, words, room, stdin=subprocess.DEVNULL, stdout=writing)
+        table.demand(got == (3, message("cannot-write", told, "EAGAIN")), f"{words}: standard output takes no byte yet", got)
+    os.close(reading)
+    os.close(writing)
 
 
 def check_many(table, room):

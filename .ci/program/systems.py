@@ -15,6 +15,7 @@ UNCHECKED = {
         "check_attributes": "access lists of Linux",
         "check_rights": "users of Unix",
         "check_streams": "/dev/full, and pipes that nobody reads",
+        "check_waiting": "pipes that don't wait",
         "check_closed": "wine opens streams that are closed",
         "check_number_of_output": "wine opens streams that are closed",
         "check_memory": "the limit on memory would be wine's own",
