@@ -83,7 +83,8 @@ def in_font(request):
 
 
 def said_otherwise(texts):
-    """The texts, by their names, that don't say what facts.txt has of them in that order, each with the first line that it lacks."""
+    """The texts, by their names, that don't say what facts.txt has of them in that order, each with the first line that it lacks; and those beside the manual that
+    say more."""
     found = []
     for name, lines in facts().items():
         text, end = " ".join(re.sub(r"^\.(I|B|IR|BR) (.*)$", in_font, texts[name], flags=re.M).split()), 0
@@ -92,7 +93,12 @@ def said_otherwise(texts):
             if at < 0:
                 found.append((name, line))
                 break
+            if name != "docs/CLI.md" and text[end:at].strip():
+                found.append((name, text[end:at]))
             end = at + len(line)
+        else:
+            if name != "docs/CLI.md" and text[end:].strip():
+                found.append((name, text[end:]))
     return found
 
 

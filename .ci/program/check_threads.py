@@ -152,7 +152,9 @@ def check_jobs_unwritten(table, room):
     put(room, "sources", lines_of([GOOD[0], {"in": "pipe", "out": "last", "gids": [1]}]))
     many = [{"in": "six", "out": f"many-{k}", "gids": [1], "quiet": True} for k in range(1000)]
     put(room, "many", lines_of(many))
-    for words in (["--batch", "sources"], ["--batch", "sources", "--jobs", "3"], ["--batch", "many", "--jobs", "1"]):
+    # (a wrong line is answered before any source is opened)
+    put(room, "wrong", lines_of([{"in": 1}, {"in": "pipe", "out": "last", "gids": [1]}]))
+    for words in (["--batch", "sources"], ["--batch", "sources", "--jobs", "3"], ["--batch", "wrong"], ["--batch", "wrong", "--jobs", "3"], ["--batch", "many", "--jobs", "1"]):
         with open("/dev/full", "wb") as full:
             try:
                 got = subprocess.run([*table.command, *words], cwd=room, stdout=full, stderr=subprocess.PIPE, timeout=LATE)

@@ -319,6 +319,11 @@ fn little_of_a_large_lists_room_is_spare() {
         (90_000, 100_000, 22_500, 112_500),
         (90_000, 100_000, 22_501, 112_501),
         (90_000, 100_000, 10_000, 100_000),
+        // From 4 and from 64 KiB on.
+        (4_095, 4_095, 1, 8_190),
+        (4_096, 4_096, 1, 5_120),
+        (65_535, 65_535, 1, 81_918),
+        (65_536, 65_536, 1, 73_728),
     ] {
         let mut items = Vec::with_capacity(Global, room).unwrap();
         items.resize(len, 1u8).unwrap();

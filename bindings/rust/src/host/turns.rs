@@ -151,6 +151,26 @@ mod tests {
     }
 
     #[test]
+    fn one_that_is_woken_though_no_turn_is_free_waits_on() {
+        with_turns(1, || {
+            let (begun, begins) = channel();
+            in_turn(|| {
+                let (end, thread) = worker(3, &begun);
+                // (it may be woken by itself, or another may have taken the turn before)
+                for _ in 0..200 {
+                    GIVEN_BACK.notify_all();
+                    thread::sleep(Duration::from_millis(1));
+                }
+                assert_eq!(*free(), Some(0));
+                assert!(begins.try_recv().is_err());
+                drop(end);
+                waiting(|| thread.join().unwrap());
+            });
+            assert_eq!(begins.try_recv(), Ok(3));
+        });
+    }
+
+    #[test]
     fn another_works_while_one_waits() {
         with_turns(1, || {
             let (begun, begins) = channel();

@@ -456,6 +456,9 @@ fn other_systems_have_their_numbers() {
     let full = "ifcfg!(windows){(112,1295)}elseifcfg!(any(target_os=\"linux\",target_os=\"android\")){(28,122)}else{(28,69)};";
     assert!(streams.contains(full));
     assert!(streams.contains("fnopened<S>(stream:S)->std::io::Result<S>{Ok(stream)}"));
+    // (there what is written stays in a buffer)
+    let flushed = "letcount=output.write(bytes)?;output.flush()?;Ok(count)";
+    assert!(streams.contains(flushed));
     // What has no call for it, elsewhere than on Linux and on Unix.
     let files = bare(include_str!("../../src/host/fs.rs"));
     for part in [
@@ -522,7 +525,7 @@ impl fmt::Write for Line {
 #[ignore = "run by another test"]
 fn the_text_of_an_error_asks_for_its_memory() {
     let mut line = Line([0; 200], 0);
-    for number in [2, 5, 28] {
+    for number in 1..134 {
         let reason = std::io::Error::from_raw_os_error(number);
         let text = reason.to_string();
         let error = Error::from(reason);
