@@ -1563,16 +1563,32 @@ def check_gate(tests):
         found = []
         said = printed(lambda: found.extend(gate.kept("\n".join(lines) + "\n", words)))[1]
         tests.same(f"a gate that prints {lines}", said or found, wanted)
-    for status, took, wanted in ((0, 3720, ("λ\nsaid\n", 62)), (0, 29, ("λ\nsaid\n", 0)), (0, 31, ("λ\nsaid\n", 1)), (2, 60, "gate: it failed, so nothing is recorded"), (-9, 60, "gate: it failed, so nothing is recorded")):
+    for status, took, wanted in ((0, 3720, ("λ\nsaid\n\ufffd\n", 62)), (0, 29, ("λ\nsaid\n\ufffd\n", 0)), (0, 31, ("λ\nsaid\n\ufffd\n", 1)), (2, 60, "gate: it failed, so nothing is recorded"), (-9, 60, "gate: it failed, so nothing is recorded")):
         clock, calls = iter([100.0, 100.0 + took]), []
 
         def run(words, status=status, calls=calls, **given):
             calls.append((words[:2], re.sub(r"tee \S+", "tee LOG", words[2]), words[3:], given))
-            put("λ\nsaid\n", re.search(r"tee (\S+)", words[2])[1])
+            put("λ\nsaid\n".encode() + b"\xff\n", re.search(r"tee (\S+)", words[2])[1])
             return ended(status)
         with mock.patch.object(gate.subprocess, "run", run), mock.patch.object(gate.time, "monotonic", lambda clock=clock: next(clock)):
             tests.same(f"a gate that ends with {status} after {took} s", printed(lambda: gate.run(["SKIP=a", "x y"]))[1], wanted)
         tests.same("how it is run", calls, [(["bash", "-c"], 'set -o pipefail; make test "$@" 2>&1 | tee LOG', ["sh", "SKIP=a", "x y"], {"cwd": gate.repository.ROOT})])
+    log = put("λ\n".encode() + b"\xff\n", tests.room, "gate.log")
+    os.utime(log, (981158400, 981158400))
+    with mock.patch.object(gate.repository, "is_ancestor", lambda it: it != "gone"), mock.patch.object(gate.repository, "git", lambda *words: f"{words[-1]} in short\n"):
+        given = types.SimpleNamespace(log=log, minutes=7, commit="it")
+        tests.same("a log", [str(it) for it in gate.from_log(given)], ["λ\n\ufffd\n", "7", "it in short", "2001-02-03"])
+        given.commit = "gone"
+        tests.same("a log of another history", printed(lambda: gate.from_log(given))[1], "gate: the commit gone isn't behind HEAD")
+    done = []
+    with contextlib.ExitStack() as stack:
+        for owner, name, new in ((gate.repository, "ready", lambda history=False: done.append(("ready", history))), (gate, "clean_commit", lambda: "abc"), (gate, "run", lambda words: ("said", 9)), (gate, "kept", lambda text, words: [text, *words]),
+                                 (gate, "from_log", lambda given: ("log", given.minutes, given.commit, "day")), (gate, "record", lambda *words: done.append(words[:3] + words[4:]))):
+            stack.enter_context(mock.patch.object(owner, name, new))
+        for words, wanted in (([], (["said"], 9, "abc", "make test")), (["SKIP=a,b"], (["said", "SKIP=a,b"], 9, "abc", "make test SKIP=a,b")), (["--from", "x", "--minutes", "0", "--commit", "c", "SKIP=a"], (["log", "SKIP=a"], 0, "c", "make test SKIP=a"))):
+            done.clear()
+            tests.same(f"gate.py {words}: status and output", printed(gate.main, *words), ("", None))
+            tests.same(f"gate.py {words}: what is recorded", done, [("ready", True), wanted])
     tests.same("what may not be changed", gate.CODE, ("crates", "crates.txt", "bindings", "dist", ".ci", "compare", "rows", "demo", "examples", ":!compare/results", ":!compare/README.md", "Makefile"))
     for words in (["--from", "x"], ["--minutes", "0"], ["--commit", "x"], ["--from", "x", "--minutes", "1"], ["--minutes", "1", "--commit", "x"], ["--from", "x", "--commit", "y"]):
         with contextlib.redirect_stderr(io.StringIO()) as shown:
