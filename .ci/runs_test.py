@@ -1540,6 +1540,68 @@ def check_commands(tests):
             tests.same(f"{one.name}: options of {words[0]} that it hasn't", known, [])
         is_written = any(word in one.command for word in ("--results", "--pieces", "--growth"))
         tests.same(f"{one.name}: its data files", bool(one.data) == is_written or one.name in ("times", "processors"), True)
+    check_spoken(tests, comparisons)
+    check_said_of_results(tests, comparisons)
+
+
+# What comparisons speak of, by kind; crates by their names.
+KINDS = {
+    "SUBSET": "subsetter subsetter_base subsetter_sfnt subsetter_cff subsetter_cffdata subsetter_type2", "INSTANCE": "subsetter_instance subsetter_points subsetter_variation subsetter_variable",
+    "CFF2": "subsetter_cff_at subsetter_cff_instance subsetter_cff2 subsetter_blend subsetter_variation subsetter_cff subsetter_type2 subsetter_cffdata subsetter_base", "BENCH": "dev_bench", "PARTS": "dev_parts", "AGAIN": "subsetter_again",
+    "PROGRAM": "subset_font subset_args subset_batch subset_lines subset_pdf pdf_objects pdf_sheet pdf_font glyph_names cid_embed cmap late_file", "C": "subsetter_c subsetter_pdf_c cid_embed cid_embed_at bindings/c/*",
+    "CRATE": "bindings/rust/src/**", "JS": "bindings/js/*.mjs bindings/js/Makefile bindings/js/module/**", "PLANTED": "bindings/** dist/* demo/* examples/* .ci/** Makefile",
+    "WRONG": "crates/*/src/** crates/*/specs/** compare/wrong_bodies/**",
+}
+# The comparisons by these kinds, and by what else they speak of.
+SPOKEN = {
+    "WRONG": ["wrong bodies"], "WRONG rows/** .ci/memory.py .ci/program.py .ci/program/** bindings/rust/**": ["wrong bodies, fresh"], "crates/*/src/**": ["refusals"], "PROGRAM bindings/rust/src/host/**": ["faults"],
+    "SUBSET BENCH": ["hostile", "hostile, instructions", "options, before", "faces", "damage", "damage, TrueType", "damage, kinds", "run", "times", "growth"], "SUBSET PROGRAM": ["hostile, families", "widths", "pdf", "pdf, bare", "options", "sizes"],
+    "SUBSET AGAIN PROGRAM": ["again"], "SUBSET INSTANCE PROGRAM": ["pdf, variable"], "SUBSET INSTANCE CFF2 PROGRAM": ["pdf, cff2", "cff2, fonts", "cff2, damaged", "cff2, hostile"], "CRATE": ["pdf font", "pdf font, readers", "pdf font, times", "bytes"],
+    "INSTANCE PARTS": ["instance"], "SUBSET INSTANCE": ["instances", "instances, damaged", "instances, hostile"], "SUBSET INSTANCE BENCH": ["instances, times", "limits"], "CFF2 PARTS": ["cff2"], "SUBSET INSTANCE CFF2 BENCH": ["cff2, times"],
+    "SUBSET INSTANCE C CRATE JS": ["javascript"], "C CRATE JS": ["javascript, modules"], "SUBSET C CRATE JS": ["javascript, times"], "PLANTED": ["plants"], "PLANTED crates/subset_font/completions/* crates/subset_font/subset_font.1": ["plants, fresh"],
+    "SUBSET C bindings/rust-native/src/**": ["binding"], "SUBSET C": ["damage, library", "fuzz", "processors", "aarch64"], "SUBSET BENCH CRATE": ["speed", "speed, growth"], "SUBSET INSTANCE C CRATE": ["portable", "portable, times"],
+    "SUBSET PROGRAM CRATE": ["batch"], "CRATE bindings/platforms/src/**": ["platforms"], "crates/*/*/** bindings/** dist/* .ci/** Makefile": ["gate"],
+}
+# Those that need the Rust crate, that take times, and that are run by themselves.
+OF_ORIGINAL = ["binding", "faces", "damage", "damage, TrueType", "damage, kinds", "damage, library", "run", "times", "speed", "speed, growth", "limits", "growth"]
+TIMED = ["hostile", "hostile, families", "hostile, instructions", "pdf font, times", "instances, hostile", "instances, times", "cff2, hostile", "cff2, times", "javascript, modules", "javascript, times", "binding", "run", "times", "speed", "speed, growth",
+         "batch", "portable, times", "growth", "gate", "processors"]
+BY_HAND = ["options, before", "javascript, modules", "gate"]
+
+
+def check_spoken(tests, comparisons):
+    """Which code each comparison speaks of: where that changes its result is marked; and how each is run."""
+    def paths(words):
+        for word in words.split():
+            yield from (f"crates/{it}/src/**" if re.fullmatch(r"[a-z_\d]+", it) else it for it in KINDS.get(word, word).split())
+    wanted = {name: sorted(set(paths(words))) for words, names in SPOKEN.items() for name in names}
+    for one in comparisons.COMPARISONS:
+        tests.same(f"what {one.name} speaks of", sorted(set(one.paths)), wanted.get(one.name))
+    tests.same("comparisons", sorted(wanted), sorted(comparisons.BY_NAME))
+    for field, names in (("original", OF_ORIGINAL), ("timed", TIMED), ("by_hand", BY_HAND)):
+        tests.same(f"comparisons: {field}", [it.name for it in comparisons.COMPARISONS if getattr(it, field)], [it.name for it in comparisons.COMPARISONS if it.name in names])
+
+
+def check_said_of_results(tests, comparisons):
+    """The answers that are made of several rows or lines."""
+    def answer(name, *rows, body=(), files=None):
+        return comparisons.BY_NAME[name].answer(types.SimpleNamespace(tables=[list(rows)], body=list(body), data=(files or {}).get))
+    slow = [{"Call, ms": ms, "Glyphs": glyphs, "Bytes of the file": size, "Font": font} for ms, glyphs, size, font in (("2.5", "9", "10", "a"), ("10.01", "7", "12345", "b"), ("9.9", "8", "99", "c"))]
+    tests.same("the slowest", answer("hostile", *slow), "at most 11 ms for 7 glyphs, of a file of 12,345 bytes (b)")
+    lines = ["a 0: 200 widths of 1000 units an em, 1 wrong", "noise", "b 1: 150 widths of 2048 units an em, 2 wrong", "3 wrong"]
+    tests.same("widths", answer("widths", body=lines), "350 widths of 2 faces, 3 wrong")
+    tests.same("bytes saved", answer("sizes", {"None of the three": "9,000", "All": "10,000"}, {"None of the three": "250", "All": "1,000"}, {"None of the three": "50", "All": "100"}), "names, glyph names and hinting left out save 10.0 to 75.0 % of the bytes of 3 subsets")
+    tests.same("bytes of the source", answer("bytes", {"Bytes of the subset": "1", "Bytes of the file": "8"}, {"Bytes of the subset": "3,000", "Bytes of the file": "4,000"}), "12.5 to 75.0 % of the source's, for 2 fonts")
+    tests.same("the binding", answer("binding", {"binding, ns": "100", "port, ns": "90", "Bytes": "same"}, {"binding, ns": "300", "port, ns": "200", "Bytes": "DIFFER"}, {"binding, ns": "10", "port, ns": "20", "Bytes": "same"}), "at most 1.50 times the program's time; 2 of 3 cases give the same bytes")
+    of_files = {"truetype.csv": [{"port ns": "10", "crate ns": "40", "harfbuzz ns": "100"}, {"port ns": "30", "crate ns": "60", "harfbuzz ns": "300"}], "cff.csv": [{"port ns": "20", "crate ns": "50", "harfbuzz ns": "100"}]}
+    tests.same("times", answer("times", files=of_files), "3 cases: at most 0.50 of the Rust crate's time, at most 0.20 of HarfBuzz's")
+    tests.same("lines", answer("faults", body=["7 runs with a fault of the system, 0 wrong.", "no 8 runs with a fault of the system", "9 runs with a fault of the system."]), "7 runs with a fault of the system, 0 wrong; 9 runs with a fault of the system")
+    tests.same("hostile instances", answer("instances, hostile", body=["a: refused after 12 ms", "b: refused after 7 ms, c: after 30 ms", "after ms"]), "each refused, after at most 30 ms")
+    tests.same("JavaScript", answer("javascript, times", {"Opened : native": "1.31"}, {"Opened : native": "1.05"}), "at most 1.4 times the native library's time")
+    tests.same("bounds", [comparisons.at_most(*it) for it in ((0.5,), (0.501,), (0.509999,), (1234.0, 0), (1233.2, 0), (0.00011, 4), (1e-12,))], ["0.50", "0.51", "0.51", "1,234", "1,234", "0.0002", "0.00"])
+    for variable, wanted in (("", "compare/it.py --kinds --copies 7"), ("/fonts", "compare/it.py --kinds $VARIABLE_FONTS --copies 7")):
+        with mock.patch.object(comparisons, "VARIABLE", variable):
+            tests.same("a command as it is shown", comparisons.shown(f"compare/it.py --kinds {variable} --copies 7"), wanted)
 
 
 # ---- compare/gate.py
