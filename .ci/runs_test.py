@@ -1657,6 +1657,176 @@ def check_gate(tests):
             tests.same(f"gate.py {words}", (printed(gate.main, *words)[1], "--from, --minutes and --commit go together" in shown.getvalue()), (2, True))
 
 
+# ---- other scripts of compare/ that judge
+
+def patched(*changes):
+    """Each (owner, name, new) for some time."""
+    stack = contextlib.ExitStack()
+    for owner, name, new in changes:
+        stack.enter_context(mock.patch.object(owner, name, new))
+    return stack
+
+
+def popped(answers):
+    """A call that gives these answers in turn, whatever it is given."""
+    left = list(answers)
+    return lambda *_, **__: left.pop(0)
+
+
+def check_widths(tests):
+    """Which widths and numbers of glyphs are right, and the status."""
+    script, room = module("compare/widths.py"), tempfile.mkdtemp(dir=tests.room)
+    # (advances of odd numbers give a half)
+    advances, units = {f"g{it}": (501 + it, 0) for it in range(300)}, 2000
+
+    def font_of(names):
+        found = {"head": types.SimpleNamespace(unitsPerEm=units), "maxp": types.SimpleNamespace(numGlyphs=300), "hmtx": {f"g{k}": advances[it] for k, it in enumerate(names)}}
+        return type("Font", (dict,), {"getGlyphName": lambda _, glyph: f"g{glyph}"})(found)
+    for what, fault in (("right", 0), ("a line", 1), ("a width more", 1), ("a width less", 1), ("a width of the last", 1), ("rounded down", None), ("an advance of the new font", 1)):
+        given = []
+
+        def run(words, what=what, given=given, **more):
+            given.append((words, more))
+            asked = list(map(int, words[-1].split(",")))
+            order = list(dict.fromkeys([0, *asked]))
+            widths = [(1000 * advances[f"g{it}"][0] + (0 if what == "rounded down" else units // 2)) // units for it in order]
+            widths = {"a width more": [*widths, 1], "a width less": widths[:-1], "a width of the last": [*widths[:-1], widths[-1] + 1]}.get(what, widths)
+            lines = [f"{it} -> {order.index(it) + (what == 'a line' and it == asked[-1])}" for it in asked]
+            given.append([f"g{it}" for it in order])
+            return ended(0, "\n".join([*lines, f"[0 [{' '.join(map(str, widths))}]]"]) + "\n")
+
+        def font(path, what=what, given=given, **_):
+            names = given[1] if path.startswith(room) else list(advances)
+            return font_of(names[:-1] + ["g0"] if what == "an advance of the new font" and path.startswith(room) else names)
+        with mock.patch.dict(sys.modules, {"fontTools": types.ModuleType("fontTools"), "fontTools.ttLib": types.SimpleNamespace(TTFont=font)}), mock.patch.object(script.subprocess, "run", run):
+            found = []
+            said = printed(lambda found=found: found.extend(script.compared("/program", "/fonts/it.ttf", 3, room)))[0]
+        tests.same(f"widths, {what}: {said}", (len(found) if fault is not None else len(found) > 50, said.startswith("it.ttf 3: ") and said.endswith(f" widths of 2000 units an em, {len(found)} wrong\n")), (fault if fault is not None else True, True))
+        asked = given[0][0][-1].split(",")
+        tests.same("what is run", (given[0][0][:5], given[0][1], len(asked), len(set(asked)), asked[-5:] == asked[:5]), (["/program", "--widths", "/fonts/it.ttf", f"{room}/out", "3"], {"check": True, "capture_output": True, "text": True}, 205, 200, True))
+    for found, status in (([], 0), (["a"], 1), (["a"] * 30, 1)):
+        called = []
+        with patched((script, "compared", lambda program, path, index, folder, found=found, called=called: called.append((program, path, index, os.path.isdir(folder))) or (found if index == 2 else [])), (script.build, "program", lambda it: f"the {it}")):
+            tests.same(f"widths.py with {len(found)} faults", printed(script.main, "/p"), ("a\n" * min(len(found), 20), status))
+        tests.same("its fonts", called, [("the /p", path, index, True) for path, index in script.FONTS])
+    tests.same("so many fonts", (len(script.FONTS), script.GLYPHS, script.PROGRAM), (6, 200, script.build.FONT))
+
+
+def check_again(tests):
+    """What is wrong with subsets of subsets, and the status."""
+    script, room = module("compare/again.py"), tempfile.mkdtemp(dir=tests.room)
+    face = put("x", room, "face.ttf")
+    for what, kind, made, strings, wanted in (
+            ("the same", "TrueType", "aaaa", "ss", None), ("the second is another", "TrueType", "abbb", "ss", "subset 1 isn't given back"), ("the last is another", "TrueType", "aaab", "ss", "subset 1 isn't given back"), ("of a CID-keyed one", "CID", "abbb", "ss", "subset 1 isn't given back"),
+            ("of a SID-keyed one", "SID", "abbb", "ss", None), ("the third of a SID-keyed one", "SID", "abcc", "ss", "subset 2 isn't given back"), ("the last of a SID-keyed one", "SID", "abbc", "ss", "subset 2 isn't given back"), ("other charstrings", "SID", "abbb", "st", "the second subset has other charstrings"),
+            ("other charstrings of another kind", "TrueType", "aaaa", "st", None), ("refused", "SID", ["no"], "ss", "the face is refused: no"), ("the second refused", "TrueType", [b"a", "no"], "ss", "subset 2 is refused: no"), ("the last refused", "TrueType", [b"a", b"a", b"a", "no"], "ss", "subset 4 is refused: no")):
+        given, answers = [], [it.encode() for it in made] if isinstance(made, str) else made
+        take = popped(answers)
+        with patched((script, "kind", lambda *_, kind=kind: kind), (script, "table", lambda *_: b""), (script, "u16", lambda *_: 80), (script, "count", lambda _: 7), (script, "charstrings", popped(strings)),
+                     (script, "subset", lambda program, path, index, glyphs, out, given=given, take=take: given.append((program, path, index, glyphs, out)) or take())):
+            tests.same(f"a fixed point: {what}", script.fixed_point("/p", face, 3, room), (kind, wanted))
+        tests.same("its first subset", (given[0][:3], given[0][3][0], len(set(given[0][3])), given[0][4]), (("/p", face, 3), 0, 61, f"{room}/point0"))
+        tests.same("its others", given[1:], [("/p", f"{room}/point{k}", 0, list(range(7)), f"{room}/point{k + 1}") for k in range(len(given) - 1)])
+    for what, kind, wrong, other, refused, verify, wanted in (
+            ("whole", "CID", None, None, None, None, []), ("a glyph that draws otherwise", "CID", 3, None, None, None, ["face.ttf: step 3, glyph 2 draws otherwise"]), ("another subset", "CID", None, 5, None, None, ["face.ttf: step 5 isn't the subset of the first font"]), ("another one of a SID-keyed font", "SID", None, 5, None, None, []),
+            ("refused", "CID", None, None, 2, None, ["face.ttf: step 2 is refused: no"]), ("not verified", "SID", None, None, None, "/v", [f"face.ttf: step {it}: why" for it in range(1, 6)])):
+        step = [0]
+
+        def subset(program, path, index, glyphs, out, step=step, other=other, refused=refused):
+            is_first = out.endswith(".first")
+            step[0] += not is_first
+            return "no" if step[0] == refused else b"other" if is_first and step[0] == other else b"font"
+        with patched((script, "kind", lambda *_, kind=kind: kind), (script, "table", lambda *_: b""), (script, "u16", lambda *_: 80), (script, "subset", subset), (script, "draws_alike", lambda *_, step=step, wrong=wrong: [2] if step[0] == wrong else []),
+                     (script.subprocess, "run", lambda *_, **__: ended(1, b"why"))):
+            found = []
+            printed(lambda found=found, verify=verify: found.extend(script.chain("/p", face, 0, verify, room)))
+        tests.same(f"a chain: {what}", found, wanted)
+    for broken, wrong, status in (([], None, 0), (["a chain"], None, 1), ([], "why", 1)):
+        with patched((script, "CHAINS", [("/c", 0)]), (script, "chain", lambda *_, broken=broken: broken), (script, "chosen", lambda n: [("/a.ttf", 0), ("/b.ttc", 1)] if n == 9 else []), (script.build, "program", lambda _: None), (script.fonts, "install", lambda _: None),
+                     (script, "fixed_point", lambda program, path, *_, wrong=wrong: ("SID" if path == "/a.ttf" else "CID", wrong if path == "/b.ttc" else None))):
+            said = "".join(f"FAILED {it}\n" for it in [*broken, *([f"b.ttc #1 (CID): {wrong}"] if wrong else [])])
+            tests.same(f"again.py: {broken}, {wrong}", printed(script.main, "--faces", "9"), ("fixed point: 2 faces, 1 CID, 1 SID\n" + said, status))
+
+
+def check_portable(tests):
+    """What of portable.py's parts counts, which of them are made again, and the status; what portable_times.py judges."""
+    script, room = module("compare/portable.py"), tempfile.mkdtemp(dir=tests.room)
+    for what, done, last, status in (("alike", [("faces", 5, 0), ("memory", 7, 0)], "12 calls, 0 differ", 0), ("one differs", [("faces", 5, 1), ("memory", 7, 2)], "12 calls, 3 differ", 1), ("none was made", [], "0 calls, 0 differ", 1), ("no call", [("faces", 0, 0)], "0 calls, 0 differ", 1), ("nothing was refused", [("memory", 7, 0, 0)], "7 calls, 0 differ", 1),
+                                     ("nothing was refused elsewhere", [("faces", 7, 0, 0)], "7 calls, 0 differ", 0)):
+        lines = [{"part": part, "calls": calls, "different": different, "refused": more[0] if more else 3} for part, calls, different, *more in done]
+        with patched((script, "compare", lambda *_, lines=lines: lines), (script.portable_build, "built", lambda *words: words[1])):
+            tests.same(f"portable.py: {what}", printed(script.main), (f"portable: {last}\n", status))
+    answer = '{"calls": 7, "different": 1}'
+    for text, status, wanted in ((f"different: a\nnoise\n{answer}\n", 0, ("different: a\n", {"calls": 7, "different": 1})), (f"{answer}\n", 3, ("", f"portable.py: faces ended with 3: {answer}\n")), ("", 0, ("", "portable.py: faces ended with 0: ")), (f"{answer}\nmore\n", 0, ("", f"portable.py: faces ended with 0: {answer}\nmore\n"))):
+        found, given = [], []
+        with mock.patch.object(script.subprocess, "run", lambda words, answer=(status, text), given=given, **more: given.append((words, more["env"]["JOBS"])) or ended(*answer)):
+            said, why = printed(lambda found=found: found.append(script.run("/p", ["faces", 7], 3)))
+        tests.same(f"a harness that ends with {status} and {text!r}", (said, why or found[0], given), (*wanted, [(["/p", "faces", "7"], "3")]))
+    tests.same("items that are spread", [script.spread([*range(10)], it) for it in (0, 3, 10, 20)], [[*range(10)], [0, 3, 6], [*range(10)], [*range(10)]])
+    path, made = put('{"part": "faces", "piece": 0, "wanted": 9, "commit": "abc", "calls": 1}\n', room, "lines"), []
+    for commit, changed, name, part, wanted, is_there in (("abc", False, None, ("faces", 0), 9, True), ("abc", True, None, ("faces", 0), 9, False), ("abd", False, None, ("faces", 0), 9, False), ("abd", False, "abc", ("faces", 0), 9, True), ("abc", False, None, ("faces", 0), 8, False),
+                                                          ("abc", False, None, ("faces", 1), 9, False), ("abc", False, None, ("memory", 0), 9, False)):
+        with mock.patch.object(script.build, "commit", lambda commit=commit, changed=changed: (commit, changed)):
+            results = script.Results(types.SimpleNamespace(results=path, name=name))
+        before, made[:], results.path = len(read_of(path)), [], None
+        printed(lambda results=results, part=part, wanted=wanted: results.part(*part, wanted, lambda: made.append(1) or {"calls": 2}))
+        tests.same(f"a part of {commit}, {changed}, {name}: {part} {wanted}", (made, [it["calls"] for it in results.done], len(read_of(path)) - before), ([] if is_there else [1], [1 if is_there else 2], 0))
+    printed(lambda: setattr(results, "path", path) or results.part("memory", 2, 9, lambda: {"calls": 4}))
+    tests.same("what is kept", [{key: it[key] for key in ("part", "piece", "wanted", "commit", "calls")} for it in script.lines_there(path)[1:]], [{"part": "memory", "piece": 2, "wanted": 9, "commit": "abc", "calls": 4}])
+    tests.same("numbers", (script.PIECE, script.REFUSED_FACES, script.REFUSED_SIZE, script.lines_there(None), script.lines_there(f"{room}/none")), (20000, 60, 400_000, [], []))
+    check_portable_parts(tests, script)
+    check_portable_times(tests)
+
+
+def check_portable_parts(tests, script):
+    """What the harness is called with for each part: faces, requests that are refused, and damaged copies in pieces."""
+    faces = [(f"/f{k}", 0) for k in range(7)]
+    for only, names in (("", ["faces", "memory", "damage"]), ("faces", ["faces"]), ("memory", ["memory"]), ("damage", ["damage"])):
+        ran = []
+
+        def run(program, words, jobs, ran=ran):
+            ran.append((program, words[0], read_of(words[1]).decode(), words[2:], jobs))
+            return {"calls": 1, "different": 0, "refused": 1}
+        given = types.SimpleNamespace(faces=3, only=only, copies=45000, jobs=2, results=None, name="it")
+        import fonts
+        import kinds
+        with tempfile.TemporaryDirectory(dir=tests.room) as room, patched((fonts, "install", lambda _: None), (fonts, "faces", lambda: faces), (script, "known_faces", lambda: [("/k", 0), ("/k", 1)]), (script, "run", run), (kinds, "PACKAGES", []),
+                                                                          (script.os.path, "getsize", lambda path: 400_000 if path == "/f1" else 399_999), (script.build, "commit", lambda: ("abc", False))):
+            said, _ = printed(lambda: script.compare(given, "/p", room))
+
+        def text(items):
+            return "".join(f"{path}\t{index}\n" for path, index in items)
+        known = [("/k", 0), ("/k", 1)]
+        every = {"faces": [("/p", "faces", text([faces[0], faces[2], faces[4]]), [], 2)], "memory": [("/p", "memory", text(known + [it for it in faces if it[0] != "/f1"]), [], 2)],
+                 "damage": [("/p", "damage", text(known * 3 + faces), words, 2) for words in ([0, 20000], [20000, 20000], [40000, 5000])]}
+        tests.same(f"the parts of {only or 'all'}", ran, [it for name in names for it in every[name]])
+
+
+def check_portable_times(tests):
+    """Which ratios pass a bound, the mean, and the status."""
+    script = module("compare/portable_times.py")
+
+    def row(time, memory=100, capacity=100, size=7, original=None):
+        made = {"font": "f", "glyphs": 3, "crate": {"time": time, "memory": memory, "capacity": capacity, "size": size}, "native": {"time": 100, "memory": 100, "capacity": 100, "size": 7}}
+        return {**made, "original": {"time": original}} if original else made
+    tests.same("ratios", (script.ratios_of(row(110, 120, 90, original=550)), script.ratios_of(row(50))), ({"row": 1.1, "memory": 1.2, "capacity": 0.9, "original": 0.2}, {"row": 0.5, "memory": 1, "capacity": 1}))
+    for what, rows, counted_by, wanted in (("within", [row(110), row(110)], False, []), ("slow", [row(126), row(90)], False, ["f 3: row 1.26"]), ("memory", [row(100, memory=111)], False, ["f 3: memory 1.11"]), ("capacity", [row(100, capacity=111)], False, ["f 3: capacity 1.11"]), ("at the bound", [row(100, 110, 110, original=200)], False, []),
+                                           ("beside the original", [row(100, original=199)], False, ["f 3: original 0.50"]), ("another size", [row(100, size=8)], False, ["f 3: 8 bytes, not 7"]), ("the mean", [row(111), row(111)], False, ["the geometric mean is 1.110"]),
+                                           ("instructions", [row(200, original=200), row(100, memory=111)], True, ["f 3: memory 1.11"])):
+        found = []
+        said = printed(lambda rows=rows, counted_by=counted_by, found=found: found.extend(script.passed([(it, script.ratios_of(it)) for it in rows], types.SimpleNamespace(instructions=counted_by))))[0]
+        tests.same(f"bounds, {what}: {said}", found, wanted)
+        mean = 1
+        for it in rows:
+            mean *= it["crate"]["time"] / 100
+        tests.same(f"the mean, {what}", said, f"\nThe geometric mean of the crate's {'instructions' if counted_by else 'times'}, as a part of the library's: {mean ** (1 / len(rows)):.3f}.\n")
+    tests.same("the bounds", script.LIMITS, {"mean": 1.10, "row": 1.25, "original": 0.5, "memory": 1.1, "capacity": 1.1})
+    for rows, wrong, last, status in (([row(100)], [], "1 rows, 0 past a bound", 0), ([row(100)], ["a"], "1 rows, 1 past a bound", 1), ([], [], "0 rows, 1 past a bound", 1)):
+        with patched((script.fonts, "install", lambda _: None), (script.portable_build, "built", lambda *_: "/p"), (script.build, "preload", lambda *_, **__: "/peak"), (script, "rows_of", lambda *_, rows=rows: iter(rows)), (script, "passed", lambda *_, wrong=wrong: wrong)), mock.patch.dict(os.environ, {"ORIGINAL": ""}):
+            said, ends_with = printed(script.main)
+        tests.same(f"portable_times.py: {said}", (said.splitlines()[-1], ends_with), (f"portable_times: {last}", status))
+
+
 # ---- compare/lib/speed_figures.py
 
 # Rows of speed.csv: outlines, glyphs, parts of the crate and of HarfBuzz, of the port by the generated crate, held by the three, and times.
@@ -1798,7 +1968,7 @@ def check_judges(tests):
 
 
 GROUPS = [check_batch, check_limits, check_large, check_drivers, check_program, check_running, check_examples, check_pdf, check_all, check_speed, check_times,
-          check_fresh, check_builds, check_fonts, check_commands, check_gate, check_tables, check_original, check_judges]
+          check_fresh, check_builds, check_fonts, check_commands, check_gate, check_widths, check_again, check_portable, check_tables, check_original, check_judges]
 
 
 def main():
