@@ -1827,6 +1827,203 @@ def check_portable_times(tests):
         tests.same(f"portable_times.py: {said}", (said.splitlines()[-1], ends_with), (f"portable_times: {last}", status))
 
 
+def check_faces(tests):
+    """What faces.py takes for the same, its lists, its table and its status."""
+    script, room = module("compare/faces.py"), tempfile.mkdtemp(dir=tests.room)
+    data = os.path.join(ROOT, "bindings", "rust", "tests", "data", "made.ttf")
+    font = read_of(data)
+    at = script.fonts.directory(font)["maxp"][0]
+    # (the second face is the font; places of tables are those in the file)
+    collection = b"ttcf" + struct.pack(">IIII", 0x10000, 2, 12, 20) + font
+    count = struct.unpack(">H", font[at + 4:at + 6])[0]
+    tests.same("how many glyphs", (script.glyphs_of(font, 0), script.glyphs_of(font.replace(b"maxp", b"none"), 0), script.glyphs_of(collection, 1)), (count, 1, struct.unpack(">H", collection[at + 4:at + 6])[0]))
+    lists = script.lists("/a/b.ttf", 1, 100)
+    tests.same("lists", ([len(set(it)) for it in lists], lists == script.lists("/c/b.ttf", 1, 100), lists == script.lists("/a/b.ttf", 2, 100), all(it == sorted(it) for it in lists), lists[0], script.SIZES), ([1, 3, 40, 100], True, False, True, [0], (0, 3, 40, 400)))
+    for said, reason, wanted in (([("a", "a"), ("a", "b")], "a rule", ["", "a rule"]), ([("a", "b"), ("a", "a")], "", ["not explained", ""])):
+        given = []
+        with patched((script, "answers_of", lambda drivers, tasks, folder, given=given, said=said: given.append((drivers, tasks)) or said), (script, "kind_of", lambda it: f"kind of {it[0]}{it[1]}"), (script, "reasons", lambda *_, reason=reason: reason), (script, "ROOM", room), (script, "lists", lambda *_: [[0], [1, 2]])):
+            tests.same(f"answers {said}", (script.judged("drivers", (data, 0)), given), ([(f"kind of {one}{other}", it) for (one, other), it in zip(said, wanted)], [("drivers", [f"{data} 0 0 1", f"{data} 0 1,2 1"])]))
+    for faces, most, answers, line, left, status in (
+            ([("/a", 0), ("/b", 1)], [], [(("x", "x"), ""), (("x", "y"), "a rule")], "2 faces, 4 answers: 2 the same, 2 different, of which 0 are not explained.", "", 0), ([("/a", 0), ("/b", 1)], [], [(("x", "y"), "not explained")], "2 faces, 2 answers: 0 the same, 2 different, of which 2 are not explained.", "not explained: /a 0\nnot explained: /b 1\n", 1),
+            ([], [], [], "0 faces, 0 answers: 0 the same, 0 different, of which 0 are not explained.", "", 1), ([(f"/{k}", 0) for k in range(9)], ["--faces", "3"], [(("x", "x"), "")], "3 faces, 3 answers: 3 the same, 0 different, of which 0 are not explained.", "", 0)):
+        asked = []
+        with patched((script.fonts, "install", lambda _: None), (script.fonts, "faces", lambda faces=faces: faces), (script, "judged", lambda drivers, face, answers=answers, asked=asked: asked.append((face, drivers)) or answers)):
+            said, ends_with = printed(script.main, "--no-build", *most)
+        tests.same(f"faces.py: {line}", (said.partition(line)[2], ends_with), (f"\n{left}", status))
+        tests.same("which faces", sorted(it for it, _ in asked), sorted(faces[::3] if most else faces))
+        tests.same("their drivers", [it for _, it in asked if it != {"original": script.bench.ORIGINAL, "port": script.bench.PORT}], [])
+    table = "| Answers | Original | Port | Why they differ |\n|---|---|---|---|\n| 2 | x | y | a rule |\n"
+    with patched((script.fonts, "install", lambda _: None), (script.fonts, "faces", lambda: [("/a", 0)]), (script, "judged", lambda *_: [(("x", "y"), "a rule")] * 2)):
+        tests.same("the table", printed(script.main, "--no-build")[0].startswith(table), True)
+
+
+def check_bytes(tests):
+    """The bytes of three subsets: what is run, which rows differ from those of run.py, and what is written."""
+    script, room = module("compare/bytes.py"), tempfile.mkdtemp(dir=tests.room)
+    fonts, given = [(f"of {name}", put(b"x" * (100 + k), room, name), k) for k, (name, _) in enumerate(script.TAKEN)], []
+
+    def run(words, **more):
+        given.append((words, more))
+        put(b"y" * (7 if "--no-names" in words else 20), room, "out")
+        return ended(0)
+    sets = [("80 low", "3-5"), ("80 spread", "9,2,7")]
+    with patched((script.subprocess, "run", run), (script.fonts, "TRUETYPE_FONTS", fonts[:1]), (script.fonts, "CFF_FONTS", fonts[1:]), (script.fonts, "glyph_count", lambda *_: 9), (script.fonts, "glyph_sets", lambda _: sets), (script.fonts, "label", lambda path, index: f"{os.path.basename(path)} {index}")):
+        rows = list(script.rows_of("/p", room))
+    tests.same("rows", rows, [["DejaVuSans.ttf 0", "80 low", 100, 20, 7], ["LinLibertine_R.otf 1", "80 low", 101, 20, 7], ["NotoSansCJK-Regular.ttc 2", "80 spread", 102, 20, 7]])
+    tests.same("what is run", [it for it, _ in given], [["/p", "--quiet", *more, path, f"{room}/out", str(index), glyphs] for (_, path, index), glyphs in zip(fonts, ("3,4,5", "3,4,5", "9,2,7")) for more in ([], ["--no-hinting", "--no-names", "--no-glyph-names"])])
+    with patched((script.subprocess, "run", lambda *_, **__: ended(3, "", "why\n"))):
+        tests.same("a font that is refused", printed(lambda: script.subset_bytes("/p", [], "/f/a.ttf", 0, "1", room))[1], "bytes.py: a.ttf: why")
+    # (a row of run.py has the source and twice the output in KiB: 100 + 40 bytes are 0.1)
+    put("# stamp\nfont,glyphs kept,source and twice the output KiB\nDejaVuSans.ttf 0,80 low,0.1\nDejaVuSans.ttf 0,3 low,0.3\n", room, "truetype.csv")
+    put("# stamp\nfont,glyphs kept,source and twice the output KiB\nLinLibertine_R.otf 1,80 low,0.2\n", room, "cff.csv")
+    tests.same("rows that differ", script.differing(rows, room), rows[1:])
+    with patched((script.build, "commit", lambda: ("abc", True)), (script.results_of, "machine", lambda: "a machine")):
+        script.write(room, rows[:1])
+    tests.same("what is written", re.sub(r"\d{4}-\d\d-\d\d", "DAY", read_of(room, "bytes.csv").decode()), "# compare/bytes.py --results compare/results, commit abc with changes, DAY, a machine\n" + ",".join(script.HEAD) + "\nDejaVuSans.ttf 0,80 low,100,20,7\n")
+    for words, differ, wanted, is_written in (([], rows, "", False), (["--results", room], [], "", True), (["--results", room], rows[:1], "FAILED DejaVuSans.ttf 0: run.py saw other bytes\n", False)):
+        done = []
+        with patched((script.fonts, "install", lambda it, done=done: done.append(sorted(it))), (script, "rows_of", lambda program, _: iter(rows) if program == "/p" else None), (script, "differing", lambda *_, differ=differ: differ), (script, "write", lambda *it, done=done: done.append(it))):
+            said, status = printed(script.main, "--program", "/p", *words)
+        head = "".join(f"| {' | '.join(map(str, it))} |\n" for it in [script.HEAD, ["---"] * 5, *rows])
+        tests.same(f"bytes.py {words}", (said, bool(status), done[1:], len(done[0])), (head + wanted, bool(wanted), [(room, rows)] * is_written, 3))
+    tests.same("its rows", script.TAKEN, [("DejaVuSans.ttf", "80 low"), ("LinLibertine_R.otf", "80 low"), ("NotoSansCJK-Regular.ttc", "80 spread")])
+
+
+def check_processors(tests):
+    """The sums and the mean of cpu.py, what it writes, and its status; which answers of aarch64.py differ."""
+    sys.path.insert(0, os.path.join(ROOT, "dist"))
+    script, room = module("compare/cpu.py"), tempfile.mkdtemp(dir=tests.room)
+    os.mkdir(os.path.join(room, "results"))
+    there = put("", room, "there.ttf")
+    for times, ratio, mean, status in (([(105, 100), (210, 200)], "1.050", "1.050", False), ([(106, 100), (210, 200)], "1.053", "1.055", True), ([(100, 200), (900, 800)], "1.000", "0.750", False)):
+        rows = [["a.ttf", f"{k} low", *it] for k, it in enumerate(times)]
+        given = []
+        with patched((script, "HERE", room), (script, "drivers", lambda at: {"x86-64": at}), (script, "measured", lambda *words, given=given, rows=rows: given.append(words) or iter(rows)), (script.fonts, "install", lambda _: None), (script.fonts, "TRUETYPE_FONTS", [("p", there, 0), ("q", f"{room}/gone.ttf", 0)]),
+                     (script.fonts, "CFF_FONTS", []), (script.subprocess, "run", lambda *_, **__: ended(0, "abc\n")), (script.os, "cpu_count", lambda: 3), (script.os, "getloadavg", lambda: (1, 2, 0.25)), (script.bench, "ROUNDS", 8)):
+            said, ends_with = printed(script.main, "--rounds", "5", "--seconds", "0.5", "--keep", room)
+            tests.same("rounds", script.bench.ROUNDS, 5)
+        lines = [f"a.ttf,{k} low,{one},{other},{one / other:.3f}" for k, (one, other) in enumerate(times)]
+        last = f"2 rows of 1 fonts; sums {sum(it[0] for it in times)} and {sum(it[1] for it in times)} ns, ratio {ratio}; geometric mean of the ratios {mean}"
+        tests.same(f"cpu.py: {times}", (said, ends_with), ("\n".join([*lines, last, ""]), status))
+        tests.same("what it writes", read_of(room, "results", "cpu.csv").decode(), f"# compare/cpu.py --rounds 5 --seconds 0.5 --keep {room}, commit abc, 3 cores, load 0.2; {last}\nfont,glyphs kept,x86-64 ns,x86-64-v2 ns,ratio\n" + "\n".join(lines) + "\n")
+        tests.same("what is measured", given[0][:3], ({"x86-64": room}, [("p", there, 0)], 0.5))
+    tests.same("the most", script.MOST, 1.05)
+    found = [{"x86-64": (7, 9), "x86-64-v2": (6, 8)}, {"x86-64": (5, 9)}]
+    with patched((script.fonts, "glyph_count", lambda *_: 9), (script.fonts, "glyph_sets", lambda _: [("3 low", "1-3"), ("all", "0-8")]), (script.bench, "least_times", popped(found)), (script.fonts, "label", lambda path, index: f"{path} {index}")):
+        tests.same("rows that both have", list(script.measured({"x86-64": "/a", "x86-64-v2": "/b"}, [("p", "/f", 1)], 1, room)), [["/f 1", "3 low", 7, 6]])
+    check_aarch64(tests)
+
+
+def check_aarch64(tests):
+    script, room = module("compare/aarch64.py"), tempfile.mkdtemp(dir=tests.room)
+    put("noise\ncommit abc\nmore\n", room, "PROVED")
+    whole = b"".join(b"a: status %d, x\n" % it for it in (0, 0, 0, 0, 0, 2))
+    for what, one, other, fonts, last, status in (("alike", whole, whole, 2, f"2 fonts, 12 calls on each processor (2 refused), {2 * len(whole)} bytes of answers: 0 fonts differ", 0), ("another byte", whole, whole[:-2] + b"y\n", 2, f"2 fonts, 12 calls on each processor (2 refused), {2 * len(whole)} bytes of answers: 2 fonts differ", 1),
+                                                  ("few answers", whole[16:], whole[16:], 1, f"1 fonts, 6 calls on each processor (1 refused), {len(whole) - 16} bytes of answers: 1 fonts differ", 1), ("no font", whole, whole, 0, "0 fonts, 0 calls on each processor (0 refused), 0 bytes of answers: 0 fonts differ", 1)):
+        given = []
+        with patched((script, "installed", lambda wanted, fonts=fonts: [(9, f"/f{k}") for k in range(fonts)] if wanted == 7 else None), (script, "program", lambda processor, folder, *_: (processor, folder)),
+                     (script, "answers", lambda words, line, _, one=one, other=other, given=given: given.append((words, line)) or (one if words[0] == "x86_64" else other))):
+            said, ends_with = printed(script.main, "--fonts", "7", "--from", room)
+        differs = "".join(f"differs: /f{k}\n" for k in range(fonts)) if what in ("another byte", "few answers") else ""
+        tests.same(f"aarch64.py: {what}", (said, ends_with), (f"{differs}{last}; packages of the commit abc\n", status))
+        tests.same("what is asked", given, [((it, room), f"9 /f{k}\n".encode()) for k in range(fonts) for it in ("x86_64", "aarch64")])
+    tests.same("processors", script.BY, {"x86_64": ("cc", []), "aarch64": ("aarch64-linux-gnu-gcc", ["qemu-aarch64-static", "-L", "/usr/aarch64-linux-gnu"])})
+    given = []
+    with mock.patch.object(script.subprocess, "run", lambda words, **more: given.append((words, more)) or ended(0, b"x")):
+        tests.same("an answer", (script.answers(["/p"], b"line", "/room"), given), (b"x", [(["/p"], {"input": b"line", "stdout": subprocess.PIPE, "cwd": "/room", "check": True})]))
+
+
+def check_platforms(tests):
+    """How numbers are made in pieces and kept, which of them differ, and the status."""
+    script, room = module("compare/platforms.py"), tempfile.mkdtemp(dir=tests.room)
+    path, pieces = script.Path(room), []
+    kept = path / "kept" / "0-2"
+    with mock.patch.object(script.subprocess, "run", lambda words, **_: pieces.append(words) or ended(0, b"0 a\n1 b\n", b"")):
+        first, again = (script.piece(["/p"], "listed", 3, 2, kept) for _ in range(2))
+        tests.same("a piece", (first[0], again[0], pieces, os.listdir(kept.parent)), (["0 a", "1 b"], ["0 a", "1 b"], [["/p", "numbers", "listed", "3", "2"]], ["0-2"]))
+        script.piece(["/p"], "listed", 3, 2, None)
+        tests.same("one that isn't kept", len(pieces), 2)
+    with mock.patch.object(script.subprocess, "run", lambda words, **_: ended(5, b"0 a\n", b"why\n")):
+        tests.same("a piece that fails", printed(lambda: script.piece(["/p"], "listed", 3, 2, path / "kept" / "new"))[1], "platforms.py: /p numbers listed 3 2 ends with 5: why\n")
+        tests.same("it isn't kept", os.listdir(kept.parent), ["0-2"])
+    made = []
+    with mock.patch.object(script, "piece", lambda command, listed, first, count, kept: made.append((first, count, kept and kept.name)) or ([f"{k} x" for k in range(first, first + count)], 1.5)):
+        for count, wanted in ((1100, [(0, 505), (505, 505), (1010, 90)]), (505, [(0, 505)])):
+            made.clear()
+            tests.same(f"{count} numbers", (script.numbers(["/p"], "listed", count, 2, path), sorted(made)), (([f"{k} x" for k in range(count)], 1.5 * len(wanted)), [(*it, f"{it[0]}-{it[1]}") for it in wanted]))
+        made.clear()
+        script.numbers(["/p"], "listed", 3, 2, None)
+        tests.same("not kept", made, [(0, 3, None)])
+    put("packages", room, "tools", "packages")
+    listed = path / "listed"
+    listed.write_text("faces")
+    names = [script.kept_of(path, total, listed, path / "tools", name) for total, name in (("sum", "a"), ("sum", "b"), ("other", "a"))]
+    listed.write_text("other faces")
+    names.append(script.kept_of(path, "sum", listed, path / "tools", "a"))
+    listed.write_text("faces")
+    put("other packages", room, "tools", "packages")
+    names.append(script.kept_of(path, "sum", listed, path / "tools", "a"))
+    tests.same("where pieces are kept", (len(set(names)), [it.name[:2] for it in names], script.kept_of(None, "sum", listed, path, "a")), (5, ["a-", "b-", "a-", "a-", "a-"], None))
+    check_platforms_judged(tests, script, path)
+
+
+def check_platforms_judged(tests, script, path):
+    tools = path / "tools"
+    for what, numbers, words, status, last in (
+            ("alike", {"x86-64": "ab", "s390x": "ab", "windows": "ab"}, [], False, "3 platforms, 2 numbers of 0 faces on each, 0 differ"), ("one differs", {"x86-64": "ab", "s390x": "ac", "windows": "bb"}, [], True, "3 platforms, 2 numbers of 0 faces on each, 2 differ"),
+            ("those that are named", {"x86-64": "ab", "s390x": "ab"}, ["s390x"], False, "2 platforms, 2 numbers of 0 faces on each, 0 differ"), ("the first is named, too", {"x86-64": "ab", "windows": "ab"}, ["windows", "x86-64"], False, "2 platforms, 2 numbers of 0 faces on each, 0 differ"),
+            ("one has fewer", {"x86-64": "ab", "s390x": "a", "windows": "ab"}, [], "platforms.py: s390x gives 1 numbers", None), ("x86-64 has fewer", {"x86-64": "a", "s390x": "ab", "windows": "ab"}, [], "platforms.py: x86-64 gives 1 numbers", None), ("no such platform", {}, ["vax"], "platforms.py: the platforms are s390x x86-64 windows", None)):
+        ran, built = [], []
+
+        class Platform:
+            folder = "folder"
+
+            def __init__(self, at, name):
+                self.name = name
+
+            def build(self, total, built=built):
+                built.append((self.name, total))
+
+            def program(self, folder, name):
+                return [self.name, folder, name]
+        test = types.SimpleNamespace(TARGETS={"s390x": 1, "x86-64": 1, "windows": 1}, OUT=path / "out", run=lambda *words, ran=ran: ran.append(words), sources=lambda: "total", Platform=Platform, MACHINES={"s390x": "m", "x86-64": "m", "windows": "m"})
+        with patched((script, "gate", lambda test=test: test), (script, "faces", lambda _: []), (script, "numbers", lambda command, listed, count, *_, numbers=numbers: ([f"{k} {it}" for k, it in enumerate(numbers[command[0]])], 1))):
+            said, ends_with = printed(script.main, "--count", "2", "--tools", str(tools), *words)
+        tests.same(f"platforms.py: {what}", (ends_with, last is None or said.endswith(f"\n{last}\n")), (status, True))
+        if last:
+            tests.same(f"what is run: {what}", (ran[0][1:], built), ((tools.resolve(), *numbers, "all-fonts"), [(it, "total") for it in numbers]))
+            tests.same(f"differences: {what}", re.findall(r"^(\S+): (\d) (\w), on x86-64 \d (\w)$", said, re.M), [(name, str(k), one, other) for name, text in numbers.items() for k, (one, other) in enumerate(zip(text, "ab")) if one != other])
+
+
+def check_binding(tests):
+    """The least times of the binding's drivers, and whether the bytes are the same; which rows of instances pass a bound."""
+    script, room = module("compare/binding.py"), tempfile.mkdtemp(dir=tests.room)
+    for out, status, wanted in (("ok 9 7 3\n", 0, (7, b"font")), ("error x\n", 0, ("error x", b"")), ("", -9, ("died with -9", b""))):
+        given = []
+        with mock.patch.object(script.subprocess, "run", lambda words, answer=(status, out), given=given, **_: given.append(words) or put(b"font", room, "out") and ended(*answer)):
+            tests.same(f"a driver that says {out!r}", (script.call("/p", "/f", 3, "1-3", 9, room), given), (wanted, [["/p", "/f", "3", "1-3", "9", f"{room}/out"]]))
+    for bytes_of, wanted in (({"port": b"a", "binding": b"a", "original": b"a"}, "same"), ({"port": b"b", "binding": b"a", "original": b"a"}, "DIFFER"), ({"port": b"a", "binding": b"a", "original": b""}, "DIFFER")):
+        times = {"port": [9, 7, 8, 9, 9], "binding": [5, 6, 6, 6, 4], "original": [3, 3, 3, 3, "error"]}
+        with mock.patch.object(script, "call", lambda program, *_, times=times, bytes_of=bytes_of: (times[program].pop(0), bytes_of[program])):
+            tests.same(f"a row of {bytes_of}", script.row({it: it for it in bytes_of}, "/f", 0, "1", 9, room), ["7", "4", "error", wanted])
+    script = module("compare/instance_times.py")
+    tests.same("bounds", (script.BESIDE_HARFBUZZ, script.BESIDE_FONTTOOLS, script.MORE), (1.5, 0.01, 8 * 2 ** 20))
+    for what, row, is_missed in (("within", ("f", 80, 150, 100, 1.5, 15000, 8 * 2 ** 20 + 12, 1, 10), False), ("slow", ("f", 80, 151, 100, 1.51, None, 1, 1, 10), True), ("slow for few glyphs", ("f", 79, 151, 100, 1.51, None, 1, 1, 10), False), ("beside fontTools", ("f", 3, 151, 100, 1, 15000, 1, 1, 10), True),
+                                 ("memory", ("f", 3, 1, 1, 1, None, 8 * 2 ** 20 + 13, 1, 10), True)):
+        with patched((script.build, "program", lambda _: None), (script.font_at, "commit", lambda: "abc"), (script.font_at, "versions", lambda: "v"), (script.font_at, "font_paths", lambda *_: []), (script, "rows_of", lambda *_, row=row: iter([row]))):
+            said, status = printed(script.main, "--no-build", "--results", room)
+        name, count, ours, theirs, ratio, whole, held, length, size = row
+        cells = [name, str(count), str(round(ours / 1000)), str(round(theirs / 1000)), f"{ratio:.2f}", str(round(whole / 1e6)) if whole else "", f"{ours / whole:.5f}" if whole else "", str(held), str(size + 2 * length + 8 * 2 ** 20)]
+        tests.same(f"instance_times.py: {what}", (said.split("\n")[-4:], status), ([f"| {' | '.join(cells)} |{' missed' * is_missed}", "", f"1 rows, {int(is_missed)} past their bound.", ""], int(is_missed)))
+        tests.same(f"what it writes: {what}", read_of(room, "instance_times.csv").decode().split("\n")[2:], [",".join(cells), ""])
+    with patched((script.build, "program", lambda _: None), (script.font_at, "commit", lambda: "abc"), (script.font_at, "versions", lambda: "v"), (script.font_at, "font_paths", lambda *_: []), (script, "rows_of", lambda *_: iter([]))):
+        tests.same("no row", printed(script.main, "--no-build")[1], 1)
+    asked, answers = [], {"p1": [(100, 5)] * 3 + [(1, 9)], "d1": [(50, 0), (100, 0), (200, 0)], "p2": [(10, 0), (20, 0), (30, 0), (1, 7)], "d2": [(10, 0)] * 3}
+    with patched((script.instance_tasks, "tasks_of", lambda path, *_: [(80, ["p1"], ["d1"], None)] if path.endswith("a") else [(3, ["p2"], ["d2"], 7)]), (script.instance_tasks, "said", lambda words: asked.append(words[0]) or answers[words[0]].pop(0)), (script, "memory", lambda words, _: 77), (script.os.path, "getsize", lambda _: 9)):
+        rows = list(script.rows_of(["/x/a", "/x/b"], types.SimpleNamespace(turns=3, no_instancer=False), room))
+    tests.same("rows by turns", (rows, asked[:12]), ([("a", 80, 100, 100, 1, None, 77, 9, 9), ("b", 3, 20, 10, 2, 7, 77, 7, 9)], ["p1", "d1", "p2", "d2"] * 3))
+
+
 # ---- compare/lib/speed_figures.py
 
 # Rows of speed.csv: outlines, glyphs, parts of the crate and of HarfBuzz, of the port by the generated crate, held by the three, and times.
@@ -1968,7 +2165,7 @@ def check_judges(tests):
 
 
 GROUPS = [check_batch, check_limits, check_large, check_drivers, check_program, check_running, check_examples, check_pdf, check_all, check_speed, check_times,
-          check_fresh, check_builds, check_fonts, check_commands, check_gate, check_widths, check_again, check_portable, check_tables, check_original, check_judges]
+          check_fresh, check_builds, check_fonts, check_commands, check_gate, check_widths, check_again, check_portable, check_faces, check_bytes, check_processors, check_platforms, check_binding, check_tables, check_original, check_judges]
 
 
 def main():
