@@ -1,6 +1,7 @@
 #!/usr/bin/env python3
-"""Tests scripts that run programs and judge what these leave, over stand-ins: compare/batch.py, compare/limits.py, compare/all, compare/speed.py
-and compare/cff2_times.py, the rows of .ci/large.py and of .ci/drivers.py, .ci/program.py, .ci/examples.py, .ci/pdf_examples.py and .ci/fresh.
+"""Tests scripts that run programs and judge what these leave, over stand-ins: compare/all and those of compare/ that time, count or compare
+programs (batch, limits, speed, cff2_times, widths, again, portable, portable_times, faces, bytes, cpu, aarch64, platforms, binding and
+instance_times), the rows of .ci/large.py and of .ci/drivers.py, .ci/program.py, .ci/examples.py, .ci/pdf_examples.py and .ci/fresh.
 No build is needed, and no time counts: the clock is a stand-in, too.
 
     .ci/runs_test.py [NAME..]     all groups, or those named
