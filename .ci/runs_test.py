@@ -1733,8 +1733,8 @@ def check_again(tests):
             ("refused", "CID", None, None, 2, None, ["face.ttf: step 2 is refused: no"]), ("not verified", "SID", None, None, None, "/v", [f"face.ttf: step {it}: why" for it in range(1, 6)])):
         step = [0]
 
-        def subset(program, path, index, glyphs, out, step=step, other=other, refused=refused):
-            is_first = out.endswith(".first")
+        def subset(*words, step=step, other=other, refused=refused):
+            is_first = words[-1].endswith(".first")
             step[0] += not is_first
             return "no" if step[0] == refused else b"other" if is_first and step[0] == other else b"font"
         with patched((script, "kind", lambda *_, kind=kind: kind), (script, "table", lambda *_: b""), (script, "u16", lambda *_: 80), (script, "subset", subset), (script, "draws_alike", lambda *_, step=step, wrong=wrong: [2] if step[0] == wrong else []),
@@ -1793,7 +1793,7 @@ def check_portable_parts(tests, script):
         import kinds
         with tempfile.TemporaryDirectory(dir=tests.room) as room, patched((fonts, "install", lambda _: None), (fonts, "faces", lambda: faces), (script, "known_faces", lambda: [("/k", 0), ("/k", 1)]), (script, "run", run), (kinds, "PACKAGES", []),
                                                                           (script.os.path, "getsize", lambda path: 400_000 if path == "/f1" else 399_999), (script.build, "commit", lambda: ("abc", False))):
-            said, _ = printed(lambda: script.compare(given, "/p", room))
+            printed(lambda: script.compare(given, "/p", room))
 
         def text(items):
             return "".join(f"{path}\t{index}\n" for path, index in items)
@@ -1979,7 +1979,7 @@ def check_platforms_judged(tests, script, path):
         class Platform:
             folder = "folder"
 
-            def __init__(self, at, name):
+            def __init__(self, _, name):
                 self.name = name
 
             def build(self, total, built=built):
