@@ -1,7 +1,7 @@
 #!/usr/bin/env python3
 """Tests scripts that run programs and judge what these leave, over stand-ins: compare/all and those of compare/ that time, count or compare
-programs (batch, limits, speed, cff2_times, widths, again, portable, portable_times, faces, bytes, cpu, aarch64, platforms, binding and
-instance_times), the rows of .ci/large.py and of .ci/drivers.py, .ci/program.py, .ci/examples.py, .ci/pdf_examples.py and .ci/fresh.
+programs (batch, limits, speed, cff2_times, widths, again, portable, portable_times, faces, bytes, cpu, aarch64, platforms, binding,
+instance_times, damage, run, options and hostile), the rows of .ci/large.py and of .ci/drivers.py, .ci/program.py, .ci/examples.py, .ci/pdf_examples.py and .ci/fresh.
 No build is needed, and no time counts: the clock is a stand-in, too.
 
     .ci/runs_test.py [NAME..]     all groups, or those named
@@ -2025,6 +2025,223 @@ def check_binding(tests):
     tests.same("rows by turns", (rows, asked[:12]), ([("a", 80, 100, 100, 1, None, 77, 9, 9), ("b", 3, 20, 10, 2, 7, 77, 7, 9)], ["p1", "d1", "p2", "d2"] * 3))
 
 
+def check_damage(tests):
+    """Which answers are the same, how copies are counted and kept, and which pieces are made again."""
+    script, room = module("compare/damage.py"), tempfile.mkdtemp(dir=tests.room)
+    damaged = sys.modules["damaged"]
+    tests.same("lines without times", [damaged.without_times(it) for it in ("ok 7 6 5 0123", "error x", "died", "")], ["ok 5 0123", "error x", "died", ""])
+    tests.same("kinds of answers", [damaged.kind_of(it) for it in (("ok 5 a", "ok 5 a"), ("ok 5 a", "ok 5 b"), ("ok 5 a", "error x"), ("error x", "error y"), ("died", "died"))], [("ok", "ok"), ("ok", "ok, other bytes"), ("ok", "error x"), ("error x", "error y"), ("died", "died")])
+    tests.same("names", damaged.names_of({("b", 1), ("a", 2), ("b", 3)}), "a; b")
+    for lines, wanted in ((["a", "b", "c"], ["a", "b", "c"]), (["a"], ["a", "one b", "one c"]), ([], ["one a", "one b", "one c"])):
+        calls = []
+
+        def lines_of(_, tasks, __, lines=lines, calls=calls):
+            calls.append(tasks)
+            return ([f"one {tasks[0]}"] if len(tasks) == 1 and len(calls) > 1 else lines if len(calls) == 1 else []), "died"
+        with mock.patch.object(damaged, "lines_of", lines_of):
+            tests.same(f"a driver that gives {lines}", damaged.run_list("/p", ["a", "b", "c"], room), wanted)
+    for how in ("died", "no end"):
+        with mock.patch.object(damaged, "lines_of", lambda *_, how=how: ([], how)):
+            tests.same(f"one that gives nothing: {how}", damaged.run_list("/p", ["a", "b"], room), [how, how])
+    for program, ended_by, wanted in (("/p", None, (["a", "b"], "died")), (damaged.LIBRARY, None, (["a", "b"], "died")), ("/p", b"a\n", (["a"], "no end")), ("/p", None, (["a", "b"], "died"))):
+        given = []
+
+        def run(words, given=given, ended_by=ended_by, **more):
+            given.append((words, more["timeout"], read_of(words[-1])))
+            if ended_by:
+                raise subprocess.TimeoutExpired("x", 1, output=ended_by)
+            return ended(-9, b"a\nb\n")
+        with mock.patch.object(damaged.subprocess, "run", run):
+            tests.same("lines of a driver", (damaged.lines_of(program, ["t", "u"], room), given), (wanted, [(["sh", "-c", f'ulimit -v {"unlimited" if program == damaged.LIBRARY else "4000000"}; exec "$@"', "", program, "--list", f"{room}/list"], 200, b"t\nu\n")]))
+    rows = [[7, "ok", "ok", "", ""], [2, "ok", "error x", "a rule", "e"], [1, "ok", "error y", "not explained", "e"]]
+    tests.same("a sum", damaged.summed(rows), ("Of 10 copies the answers differ on 3, of which 1 are not explained.", 1))
+    tests.same("numbers", (damaged.AT_MOST, damaged.FOR_ALL, damaged.AT_ONCE, damaged.PIECE, damaged.PIECE_OF_LIBRARY), (30, 200, 100, 100000, 10000))
+    check_counted(tests, damaged, room)
+    check_pieces(tests, script, room)
+
+
+def check_counted(tests, damaged, room):
+    """Copies by their answers, in lots; those that differ are written, and all that aren't explained."""
+    lots, where = [], os.path.join(room, "where")
+
+    def judged(_, make, lot, seed):
+        lots.append((lot[0], lot[-1], make, seed))
+        kinds = {3: (("ok", "error x", "a rule"), "CFF", b"3"), 4: (("ok", "error x", "a rule"), "CFF", b"4"), 5: (("ok", "error x", "a rule"), "CFF", b"5"), 6: (("ok", "error x", "a rule"), "CFF", b"6"), 9: (("ok", "ok, other bytes", "not explained"), "TrueType", b"9"), 8: (("error x", "error x", ""), "TrueType", b"")}
+        return [(kinds.get(it, (("ok", "ok", ""), "TrueType", b""))[0], *kinds.get(it, (0, "TrueType", b""))[1:2], it, kinds.get(it, (0, 0, b""))[2], f"e{it} ") for it in lot]
+    with mock.patch.object(damaged, "judged", judged), contextlib.redirect_stderr(io.StringIO()) as shown:
+        found = damaged.counted("drivers", "make", range(2, 12), where, "seed", 2, 4)
+    tests.same("counts", found, ([[4, "ok", "ok", "", ""], [4, "ok", "error x", "a rule", "e3 e4 e5 "], [1, "error x", "error x", "", ""], [1, "ok", "ok, other bytes", "not explained", "e9 "]],
+                                 {"TrueType": {"made": 4, "refused": 1, "not explained": 1}, "CFF": {"different": 4}}))
+    tests.same("copies that are written", {it: read_of(where, it) for it in sorted(os.listdir(where))}, {"3.font": b"3", "4.font": b"4", "5.font": b"5", "9.font": b"9"})
+    tests.same("lots", (sorted(lots), shown.getvalue()), ([(2, 5, "make", "seed"), (6, 9, "make", "seed"), (10, 11, "make", "seed")], "6 damaged copies\n10 damaged copies\n12 damaged copies\n"))
+    tests.same("no copies", damaged.refusals({}, [], 0, where), [])
+
+
+def check_pieces(tests, script, room):
+    """Pieces that are there aren't made again but where they are of fewer copies or of another seed; what all say together."""
+    name = os.path.join(room, "pieces")
+    one = {"seed": "s", "commit": "abc", "date": "d", "seconds": 3, "fonts": 9, "kinds": {"CFF": {"made": 5, "not explained": 1}}, "different": [["ok", "x", "a rule", 2], ["ok", "y", "not explained", 1]]}
+    other = {**one, "seconds": 4, "kinds": {"CFF": {"refused": 7}, "TrueType": {"different": 2}}, "different": [["ok", "x", "a rule", 3]]}
+    put("".join(json.dumps(it) + "\n" for it in ({**one, "piece": 0, "copies": 100000}, {**other, "piece": 1, "copies": 20000}, {**one, "piece": 1, "copies": 9, "seed": "t"})), name)
+    tests.same("pieces that are there", ({number: it["seconds"] for number, it in script.pieces_there(name, "s").items()}, script.pieces_there(f"{name}.none", "s")), ({0: 3, 1: 4}, {}))
+    for copies, library, backwards, wanted in ((120000, False, False, []), (100001, False, False, []), (150000, False, False, [(1, 50000)]), (250000, False, True, [(2, 50000), (1, 100000)]), (15000, True, False, [])):
+        made = []
+        given = types.SimpleNamespace(pieces=name, seed="s", library=library, copies=copies, backwards=backwards, jobs=2)
+        with patched((script, "BUILD", room), (script, "make_piece", lambda _, drivers, make, piece, number, *more, made=made: made.append((piece, number))), (script, "tell", lambda lines: len(lines))):
+            try:
+                answer = script.in_pieces("drivers", "make", given, 9)
+            except KeyError:
+                # (a piece that a stand-in made isn't there)
+                answer = None
+        tests.same(f"{copies} copies, {library}, {backwards}", (made, answer), (wanted, None if backwards else 2))
+    lines = list(script.pieces_there(name, "s").values())
+    said, status = printed(lambda: script.tell(lines))
+    tests.same("what pieces say", (status, [it for it in said.split("\n") if it.startswith("| ")]), (1, ["| Kind | Copies | The same font | The same refusal | Different, as listed | Not explained |", "| CFF | 13 | 5 | 7 | 0 | 1 |", "| TrueType | 2 | 0 | 0 | 2 | 0 |", "| Copies | Why the answers differ |", "| 5 | a rule |", "| 1 | not explained |"]))
+    tests.same("its last line", said.split("\n")[-2], "Of 120000 copies the answers differ on 6, of which 1 are not explained. Of 9 fonts; seed s, 2 pieces in 7 seconds; commit abc")
+    for words, unexplained, wanted in ((["--kinds"], 0, 0), (["--kinds"], 3, 1), (["--truetype"], 0, 0), (["--truetype"], 2, 1), ([], 0, 0), ([], 1, 1), (["--tell", "--pieces", name, "--seed", "s"], 0, 1)):
+        with patched((script.fonts, "install", lambda _: None), (script.kinds, "all_fonts", lambda _: []), (script, "by_kinds", lambda _: None), (script, "in_pieces", lambda *_, unexplained=unexplained: unexplained), (script.fonts, "keyed_font", lambda *_: "/k"),
+                     (script, "refusals", lambda *_, unexplained=unexplained: [[9, "ok", "ok", "", ""], [unexplained, "ok", "x", "not explained", ""]])):
+            tests.same(f"damage.py {words}, where {unexplained} aren't explained", printed(script.main, "--no-build", *words)[1], wanted)
+    with patched((script, "counted", lambda drivers, make, numbers, where, seed, jobs, at_once: ([[5, "ok", "ok", "", ""], [2, "ok", "x", "not explained", "e"], [1, "ok", "y", "a rule", "f"]], {"b": {"z": 1, "a": 2}, "a": {}}) if (list(numbers)[0], len(numbers), seed, jobs, at_once) == (30000, 7, "s 3", 2, 500) else 0),
+                 (script.build, "commit", lambda: ("abc", True))):
+        given = types.SimpleNamespace(seed="s", library=True, jobs=2)
+        said = printed(lambda: script.make_piece(f"{name}.new", {}, None, 3, 7, given, 9))[0]
+    line = json.loads(read_of(f"{name}.new"))
+    tests.same("a piece", ({key: it for key, it in line.items() if key not in ("date", "seconds")}, said.split(";")[0]), ({"seed": "s", "piece": 3, "commit": "abc with changes", "copies": 7, "fonts": 9, "kinds": {"a": {}, "b": {"a": 2, "z": 1}}, "different": [["ok", "x", "not explained", 2], ["ok", "y", "a rule", 1]]}, "2 of piece 3: ok, x, not explained"))
+
+
+def check_run(tests):
+    """Where two outputs differ, the cells and the report of run.py, and what it writes."""
+    script, room = module("compare/run.py"), tempfile.mkdtemp(dir=tests.room)
+    font = read_of(ROOT, "bindings", "rust", "tests", "data", "made.ttf")
+    at, length = script.directory(font)["glyf"]
+    changed = font[:at] + bytes([font[at] ^ 1]) + font[at + 1:]
+    tests.same("differences", [script.first_difference(font, it) for it in (font, changed, font[:-1], b"x" + font[1:])], ["same", f"byte {at} (glyf), {len(font)} and {len(font)} bytes", script.first_difference(font, font[:-1]), f"byte 0 (directory or padding), {len(font)} and {len(font)} bytes"])
+    tests.same("one that is cut", script.first_difference(font, font[:-1]).startswith(f"byte {len(font) - 1} ("), True)
+    ok = {"answer": ("ok", 7, 6), "bytes": b"abc"}
+    for port, wanted in ((ok, ["ok", 3, "same"]), ({"answer": ("error x",), "bytes": b""}, ["ok", 3, "original ok, port error x"]), (None, ["ok", 3])):
+        tests.same(f"bytes of {port}", script.bytes_cells({"original": ok, **({"port": port} if port else {})}), wanted)
+    path = put(b"x" * 1024, room, "font")
+    found = {"original": {**ok, "least": 200, "median": 210, "asked": 2048, "peak": 9}, "port": {**ok, "least": 50, "median": 60, "asked": 1024, "peak": 8}, "HarfBuzz": {"least": 70}, "floor": {"least": 5}}
+    tests.same("times", script.time_cells(path, found, {"HarfBuzz": 1, "Binding": 2}), [200, 50, "0.25", 70, "", 5, "2.0", "1.0", "1.0"])
+    tests.same("further", script.further_cells(found), [210, 60, 9, 8])
+    tests.same("times of one that is refused", script.time_cells(path, {**found, "port": {**found["port"], "least": None}}, {}), [200, "", "", 5, "2.0", "1.0", "1.0"])
+    rows = ([["f", 9, "3 low", "ok", 3, "same"], ["g", 9, "3 low", "ok", 3, "byte 1"]], [["f", "3 low", 200, 50, "0.25", 5], ["g", "3 low", 100, 90, "0.90", 5], ["h", "3 low", 100, 90, "", 5]], [["f", "3 low", 1, 2, 3, 4]])
+    text = script.report(rows, [[7, "ok", "ok", "", ""], [1, "ok", "x", "not explained", "e"]], True, {"HarfBuzz": 1})
+    for part in ("\nThe same bytes in 1 of 2 cases.\n", "\nThe greatest ratios: g, 3 low: 0.90; f, 3 low: 0.25.\n", "\nOf 8 copies the answers differ on 1, of which 1 are not explained.\n", "| Font | Kept | Original, ns | Port, ns | Ratio | HarfBuzz, ns | Floor, ns | Original, held | Port, held | Source and twice the output |\n",
+                 "| Font | Kept | Original, median | Port, median | Original, process | Port, process |\n", "| Font | Glyphs | Kept | Original | Bytes | Port |\n"):
+        tests.same(f"the report has {part!r}", part in text, True)
+    times = [["a.ttf", "3 low", 1, 2, "2.00"], ["b.ttc #1", "3 low", 3, 4, "1.33"]]
+    with patched((script.fonts, "CFF_FONTS", [("p", "/x/b.ttc", 1)]), (script.build, "commit", lambda: ("abc", True)), (script.os, "cpu_count", lambda: 3), (sys, "argv", ["run.py", "--all"])):
+        script.write_results(room, times, {"HarfBuzz": 1})
+    head = "# compare/run.py --all, commit abc with changes, 3 cores\nfont,glyphs kept,crate ns,port ns,ratio,harfbuzz ns,floor ns,crate held KiB,port held KiB,source and twice the output KiB\n"
+    tests.same("results", [read_of(room, f"{it}.csv").decode() for it in ("truetype", "cff")], [f"{head}a.ttf,3 low,1,2,2.00\n", f"{head}b.ttc #1,3 low,3,4,1.33\n"])
+
+
+def check_options(tests):
+    """What a subset without an extra may have otherwise, and which faces fail."""
+    sys.path.insert(0, os.path.join(ROOT, "compare", "lib"))
+    script = module("compare/options.py")
+    head, maxp = bytes(range(54)), b"\0\1\0\0" + bytes(range(28))
+    whole = {"glyf": b"1", "loca": b"2", "head": head, "maxp": maxp, "name": b"n", "post": b"\0\2\0\0" + bytes(range(40)), "cvt ": b"c", "fpgm": b"f", "prep": b"p", "hmtx": b"h"}
+    plain = maxp[:14] + b"\0\1" + bytes(12) + maxp[28:]
+    right = {"hinting": {**{it: whole[it] for it in whole if it not in ("cvt ", "fpgm", "prep")}, "glyf": b"less", "loca": b"l", "maxp": plain, "head": head[:8] + b"sums" + head[12:50] + b"xx" + head[52:]},
+             "names": {it: whole[it] for it in whole if it != "name"}, "glyph_names": {**whole, "post": b"\0\3\0\0" + whole["post"][4:32]}}
+
+    def wrong(left_out, **changed):
+        made = {name: it for name, it in {**right[left_out], **changed}.items() if it is not None}
+        with mock.patch.object(script, "tables", lambda data: whole if data == "whole" else made):
+            return script.other_tables("whole", "less", left_out)
+    for left_out, changed, wanted in (
+            ("hinting", {}, []), ("names", {}, []), ("glyph_names", {}, []), ("hinting", {"prep": b"p"}, ["without hinting its tables are glyf head hmtx loca maxp name post prep"]), ("hinting", {"name": None}, ["without hinting its tables are glyf head hmtx loca maxp post"]),
+            ("names", {"name": b"n"}, ["without names its tables are cvt  fpgm glyf head hmtx loca maxp name post prep"]), ("names", {"glyf": b"x"}, ["without names glyf differs"]), ("names", {"head": head[:50] + b"xx" + head[52:]}, ["without names head differs"]),
+            ("names", {"head": head[:8] + b"sums" + head[12:]}, []), ("hinting", {"head": head[:7] + b"x" + head[8:]}, ["without hinting head differs"]), ("hinting", {"maxp": maxp}, ["without hinting maxp differs"]), ("names", {"maxp": plain}, ["without names maxp differs"]), ("hinting", {"hmtx": b"x"}, ["without hinting hmtx differs"]),
+            ("glyph_names", {"post": whole["post"]}, ["without glyph_names post isn't its header"]), ("glyph_names", {"post": b"\0\3\0\0" + whole["post"][4:31]}, ["without glyph_names post isn't its header"]), ("glyph_names", {"loca": b"x"}, ["without glyph_names loca differs"]), ("names", {"post": b"x"}, ["without names post differs"])):
+        tests.same(f"without {left_out}: {changed}", wrong(left_out, **changed), wanted)
+    tests.same("maxp of another version", script.plain_maxp(b"\0\0\x50\0\0\7"), b"\0\0\x50\0\0\7")
+    tests.same("words", (script.WORDS, script.BITS, script.PROGRAMS, script.GLYPHS_A_FACE), ({"hinting": "--no-hinting", "names": "--no-names", "glyph_names": "--no-glyph-names"}, {"hinting": 1, "names": 2, "glyph_names": 4}, ("cvt ", "fpgm", "prep"), 60))
+    for answers, count, is_good, line in (([[], []], 2, True, "2 faces (2 CID), 0 refused with all extras too;"), ([[], None], 2, True, "1 faces (1 CID), 1 refused with all extras too;"), ([["a"], []], 2, False, "2 faces (2 CID), 0 refused with all extras too;"), ([[], []], 3, False, "2 faces (2 CID), 0 refused with all extras too;")):
+        with patched((script, "chosen", lambda folders, count, answers=answers: [("CID", f"/{k}.otf", 0, 9) for k in range(len(answers))]), (script, "one_face", popped(answers))):
+            good = []
+            said = printed(lambda good=good, count=count: good.append(script.compare("/p", count, [])))[0]
+        tests.same(f"faces that are {answers}: {said}", (good, line in said, said.count("FAILED /"), said.count("FAILED")), ([is_good], True, 0, sum(bool(it) for it in answers) + (count > len(answers))))
+    for old, count, is_good, line in ((b"a", 2, True, "4 calls, 0 of them refused: 4 answered alike, 0 not"), (b"b", 2, False, "4 calls, 0 of them refused: 0 answered alike, 4 not"), ("no", 2, False, "4 calls, 4 of them refused: 0 answered alike, 4 not"), (b"a", 3, False, "4 calls, 0 of them refused: 4 answered alike, 0 not")):
+        with patched((script, "faces", lambda _: [("CID", f"/{k}.otf", 0, 9) for k in range(2)]), (script, "answer", lambda program, *_, old=old: old if program == "/old" else b"a")):
+            good = []
+            said = printed(lambda good=good, count=count: good.append(script.same("/old", "/new", count, [])))[0]
+        tests.same(f"programs of which one answers {old!r}", (good, line in said), ([is_good], True))
+    for words, name in (([], "compare"), (["--sizes"], "sizes"), (["--same", "/old"], "same")):
+        for good in (True, False):
+            with patched((script.build, "program", lambda it: it), *((script, it, lambda *_, it=it, good=good, name=name: good if it == name else None) for it in ("compare", "sizes", "same"))):
+                tests.same(f"options.py {words}", printed(script.main, *words)[1], 0 if good else 1)
+
+
+def check_hostile(tests):
+    """What a run under a bound may hold, the slowest of them, and the status; how a run that was refused a request is judged."""
+    script, room = module("compare/hostile.py"), tempfile.mkdtemp(dir=tests.room)
+    for bound, held, answer, wanted in ((1000, 100 + 3000 + 256 * 7, "", True), (1000, 100 + 3000 + 256 * 7 + 1, "", False), (0, 10 ** 9, "", True), (1000, 5, "overflow occurred", True)):
+        given, times = [], [0.05, 0.03, 0.04]
+
+        def seen(words, env, given=given, times=times, held=held, answer=answer):
+            given.append((words, {key: it for key, it in env.items() if key != "PATH"}))
+            put(str(held), env["PEAK"])
+            put(b"y" * 50, room, "out")
+            return times[len(given) - 1], answer
+        with mock.patch.object(script, "seen", seen):
+            found = []
+            said = printed(lambda bound=bound, found=found: found.extend(script.family_row("it", b"x" * 100, 7, bound, room)))[0]
+        work, limits = 100 + (bound or (0 if answer else 50)) + 7 * script.TOKENS, f"{script.TOKENS},64" + (f",{bound}" if bound else "")
+        cells = ["it", "100", "7", str(bound or "none"), answer or "a font of 50 bytes", "30.0", str(held), f"{held / (100 + 3 * bound + 1792):.2f}" if bound else "", f"{0.03e9 / work:.3f}"]
+        tests.same(f"a family under {bound} that holds {held}", (found[0], round(found[1], 6), said), (wanted, round(0.03e9 / work, 6), f"| {' | '.join(cells)} |\n"))
+        words = [script.build.FONT, "--quiet", "--limits", limits, "--gids-file", f"{room}/gids", f"{room}/font", f"{room}/out", "0"]
+        tests.same("how it is run", (given, read_of(room, "gids")), ([(words, {"LD_PRELOAD": script.COUNTER, "PEAK": f"{room}/peak"})] * 3, b"0-6"))
+    for status, err, wanted in ((0, "", ""), (1, "why\nmore\n", "why"), (-9, "", "died with -9")):
+        with mock.patch.object(script.subprocess, "run", lambda *_, status=status, err=err, **__: ended(status, "", err)):
+            tests.same(f"a run that ends with {status}", script.seen(["x"], {})[1], wanted)
+    with mock.patch.object(script.subprocess, "run", side_effect=subprocess.TimeoutExpired("x", 1)):
+        tests.same("one that doesn't end", script.seen(["x"], {}), (600, "no end"))
+    families = [("one", lambda: b"1", 9, None, 0), ("two", lambda: b"2", 8, lambda: b"small", 3)]
+    for holds, status, count in ((True, True, 0), (False, False, 2)):
+        rows = []
+        with patched((script.families, "ALL", families), (script, "family_row", lambda name, font, asked, bound, _, rows=rows, holds=holds: rows.append((name, font, asked, bound)) or (holds or bound != 5, 9.0 if bound == 0 else float(bound)))):
+            said, answer = printed(lambda: script.all_families((5, 7), ""))
+        tests.same("families", (rows, answer, said.split("\n")[-2]), ([("one", b"1", 9, 0), ("one", b"1", 9, 5), ("one", b"1", 9, 7), ("two", b"small", 3, 0), ("two", b"2", 8, 5), ("two", b"2", 8, 7)], status, f"6 runs, of which {count} hold more than they may; at most 7.00 ns under a bound"))
+        with patched((script, "all_families", lambda bounds, only, status=status: status if (tuple(bounds), only) == ((1000000, 64000000), "w") else None)):
+            tests.same("hostile.py --families", printed(script.main, "--no-build", "--families", "--only", "w")[1], 0 if status else 1)
+    tests.same("numbers", (script.BOUNDS, script.ONCE, script.AT_MOST, script.TOKENS), ((1000000, 64000000), 0.1, 600, 1000000))
+    check_refusing(tests, room)
+
+
+def check_refusing(tests, room):
+    refused, given = module("compare/lib/refused.py"), []
+
+    def run(words, answer=0, said="9 1 3 400 reading less 1 2 3 4 5 6 7 8", **more):
+        given.append((words, more["cwd"], {key: it for key, it in more["env"].items() if key != "PATH"}, more["timeout"]))
+        put(said, more["env"]["TOLD"])
+        return ended(answer, b"out", b"err")
+    with mock.patch.object(refused.subprocess, "run", run):
+        got = refused.run(["/p"], room, REFUSE=3, WITHIN="clock")
+    tests.same("how a run ended", got, refused.Ended(0, b"out", b"err", 9, 1, 3, 400, "reading", True, dict(zip(refused.CALLS, range(1, 9)))))
+    tests.same("how it was started", (given, os.path.exists(f"{room}/told")), ([(["/p"], room, {"LD_PRELOAD": refused.REFUSE, "TOLD": f"{room}/told", "REFUSE": "3", "WITHIN": "clock"}, 100)], False))
+    with mock.patch.object(refused.subprocess, "run", lambda *words, **more: run(*words, answer=-11, **more)):
+        tests.same("a run that dies", printed(lambda: refused.run(["/p"], room)), ("refusals.py: ['/p'] with {} died by signal 11\n", 1))
+    for change, is_well in (({}, True), ({"blocks": 4}, False), ({"held": 401}, False), ({"held": 399}, False), ({"requests": 7, "out": b""}, True)):
+        other = refused.Ended(**{**vars(got), **change})
+        said, status = printed(lambda other=other: refused.gives_back(got, other, "it"))
+        tests.same(f"what is given back with {change}", (status, said.startswith("refusals.py: it: memory is lost, 3 blocks were held: ")), (None, False) if is_well else (1, True))
+    numbers = []
+
+    def refusing(words, at, **wishes):
+        numbers.append((words, at, wishes, refused.take(room, "out")))
+        refused.put(room, "out", b"x")
+        return refused.Ended(**{**vars(got), "refused": int(wishes["REFUSE"] < 4)})
+    with mock.patch.object(refused, "run", refusing):
+        tests.same("each refusal", [it for it, _ in refused.each_refusal(["/p"], room, WITHIN="clock")], [1, 2, 3])
+    tests.same("its runs", numbers, [(["/p"], room, {"REFUSE": k, "WITHIN": "clock"}, None) for k in range(1, 5)])
+    for holds, wanted in ((True, ("", None)), (False, ("refusals.py: it: got\n", 1)), (None, ("refusals.py: it: got\n", 1))):
+        tests.same(f"a demand that is {holds}", printed(lambda holds=holds: refused.demand(holds, "it", "got")), wanted)
+
+
 # ---- compare/lib/speed_figures.py
 
 # Rows of speed.csv: outlines, glyphs, parts of the crate and of HarfBuzz, of the port by the generated crate, held by the three, and times.
@@ -2166,7 +2383,7 @@ def check_judges(tests):
 
 
 GROUPS = [check_batch, check_limits, check_large, check_drivers, check_program, check_running, check_examples, check_pdf, check_all, check_speed, check_times,
-          check_fresh, check_builds, check_fonts, check_commands, check_gate, check_widths, check_again, check_portable, check_faces, check_bytes, check_processors, check_platforms, check_binding, check_tables, check_original, check_judges]
+          check_fresh, check_builds, check_fonts, check_commands, check_gate, check_widths, check_again, check_portable, check_faces, check_bytes, check_processors, check_platforms, check_binding, check_damage, check_run, check_options, check_hostile, check_tables, check_original, check_judges]
 
 
 def main():
