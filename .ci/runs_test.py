@@ -2040,6 +2040,9 @@ def check_damage(tests):
             return ([f"one {tasks[0]}"] if len(tasks) == 1 and len(calls) > 1 else lines if len(calls) == 1 else []), "died"
         with mock.patch.object(damaged, "lines_of", lines_of):
             tests.same(f"a driver that gives {lines}", damaged.run_list("/p", ["a", "b", "c"], room), wanted)
+    calls = []
+    with mock.patch.object(damaged, "lines_of", lambda _, tasks, __: calls.append(tasks) or ({1: ["a"], 3: ["c"]}.get(len(calls), []), "died")):
+        tests.same("one that dies at the second of three", (damaged.run_list("/p", ["a", "b", "c"], room), calls), (["a", "died", "c"], [["a", "b", "c"], ["b"], ["c"]]))
     for how in ("died", "no end"):
         with mock.patch.object(damaged, "lines_of", lambda *_, how=how: ([], how)):
             tests.same(f"one that gives nothing: {how}", damaged.run_list("/p", ["a", "b"], room), [how, how])
@@ -2066,14 +2069,15 @@ def check_counted(tests, damaged, room):
 
     def judged(_, make, lot, seed):
         lots.append((lot[0], lot[-1], make, seed))
-        kinds = {3: (("ok", "error x", "a rule"), "CFF", b"3"), 4: (("ok", "error x", "a rule"), "CFF", b"4"), 5: (("ok", "error x", "a rule"), "CFF", b"5"), 6: (("ok", "error x", "a rule"), "CFF", b"6"), 9: (("ok", "ok, other bytes", "not explained"), "TrueType", b"9"), 8: (("error x", "error x", ""), "TrueType", b"")}
+        kinds = {8: (("error x", "error x", ""), "TrueType", b""), **{it: (("ok", "error x", "a rule"), "CFF", b"%d" % it) for it in range(3, 7)},
+                 **{it: (("ok", "ok, other bytes", "not explained"), "TrueType", b"%d" % it) for it in range(9, 13)}}
         return [(kinds.get(it, (("ok", "ok", ""), "TrueType", b""))[0], *kinds.get(it, (0, "TrueType", b""))[1:2], it, kinds.get(it, (0, 0, b""))[2], f"e{it} ") for it in lot]
     with mock.patch.object(damaged, "judged", judged), contextlib.redirect_stderr(io.StringIO()) as shown:
-        found = damaged.counted("drivers", "make", range(2, 12), where, "seed", 2, 4)
-    tests.same("counts", found, ([[4, "ok", "ok", "", ""], [4, "ok", "error x", "a rule", "e3 e4 e5 "], [1, "error x", "error x", "", ""], [1, "ok", "ok, other bytes", "not explained", "e9 "]],
-                                 {"TrueType": {"made": 4, "refused": 1, "not explained": 1}, "CFF": {"different": 4}}))
-    tests.same("copies that are written", {it: read_of(where, it) for it in sorted(os.listdir(where))}, {"3.font": b"3", "4.font": b"4", "5.font": b"5", "9.font": b"9"})
-    tests.same("lots", (sorted(lots), shown.getvalue()), ([(2, 5, "make", "seed"), (6, 9, "make", "seed"), (10, 11, "make", "seed")], "6 damaged copies\n10 damaged copies\n12 damaged copies\n"))
+        found = damaged.counted("drivers", "make", range(2, 14), where, "seed", 2, 4)
+    tests.same("counts", found, ([[4, "ok", "error x", "a rule", "e3 e4 e5 "], [4, "ok", "ok, other bytes", "not explained", "e9 e10 e11 e12 "], [3, "ok", "ok", "", ""], [1, "error x", "error x", "", ""]],
+                                 {"TrueType": {"made": 3, "refused": 1, "not explained": 4}, "CFF": {"different": 4}}))
+    tests.same("copies that are written", {it: read_of(where, it) for it in sorted(os.listdir(where))}, {f"{it}.font": b"%d" % it for it in (10, 11, 12, 3, 4, 5, 9)})
+    tests.same("lots", (sorted(lots), shown.getvalue()), ([(2, 5, "make", "seed"), (6, 9, "make", "seed"), (10, 13, "make", "seed")], "6 damaged copies\n10 damaged copies\n14 damaged copies\n"))
     tests.same("no copies", damaged.refusals({}, [], 0, where), [])
 
 
@@ -2114,7 +2118,7 @@ def check_run(tests):
     """Where two outputs differ, the cells and the report of run.py, and what it writes."""
     script, room = module("compare/run.py"), tempfile.mkdtemp(dir=tests.room)
     font = read_of(ROOT, "bindings", "rust", "tests", "data", "made.ttf")
-    at, length = script.directory(font)["glyf"]
+    at = script.directory(font)["glyf"][0]
     changed = font[:at] + bytes([font[at] ^ 1]) + font[at + 1:]
     tests.same("differences", [script.first_difference(font, it) for it in (font, changed, font[:-1], b"x" + font[1:])], ["same", f"byte {at} (glyf), {len(font)} and {len(font)} bytes", script.first_difference(font, font[:-1]), f"byte 0 (directory or padding), {len(font)} and {len(font)} bytes"])
     tests.same("one that is cut", script.first_difference(font, font[:-1]).startswith(f"byte {len(font) - 1} ("), True)
