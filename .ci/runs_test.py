@@ -1742,6 +1742,18 @@ def check_again(tests):
             found = []
             printed(lambda found=found, verify=verify: found.extend(script.chain("/p", face, 0, verify, room)))
         tests.same(f"a chain: {what}", found, wanted)
+    for said, made, wanted in (("ok 7 6 5 0123\n", b"font", b"font"), ("error x\n", b"older", "error x"), ("", b"older", ""), ("okay\n", b"older", "okay")):
+        given = []
+
+        def run(words, said=said, made=made, given=given, **_):
+            given.append((words, read_of(words[-1])))
+            put(made, room, "made")
+            return ended(0, said.encode())
+        with mock.patch.object(script.subprocess, "run", run):
+            tests.same(f"a subset where dev_bench says {said!r}", (script.subset("/p", "/f", 3, [0, 7], f"{room}/made"), given), (wanted, [(["/p", "--list", f"{room}/made.list"], f"/f 3 0,7 1 {room}/made\n".encode())]))
+    data = os.path.join(ROOT, "bindings", "rust", "tests", "data")
+    made = [read_of(data, it) for it in ("made.ttf", "made.otf")]
+    tests.same("how many glyphs", [script.count(it) for it in made], [struct.unpack(">H", script.table(it, "maxp")[4:6])[0] for it in made])
     for broken, wrong, status in (([], None, 0), (["a chain"], None, 1), ([], "why", 1)):
         with patched((script, "CHAINS", [("/c", 0)]), (script, "chain", lambda *_, broken=broken: broken), (script, "chosen", lambda n: [("/a.ttf", 0), ("/b.ttc", 1)] if n == 9 else []), (script.build, "program", lambda _: None), (script.fonts, "install", lambda _: None),
                      (script, "fixed_point", lambda program, path, *_, wrong=wrong: ("SID" if path == "/a.ttf" else "CID", wrong if path == "/b.ttc" else None))):
@@ -1793,7 +1805,10 @@ def check_portable_parts(tests, script):
         import kinds
         with tempfile.TemporaryDirectory(dir=tests.room) as room, patched((fonts, "install", lambda _: None), (fonts, "faces", lambda: faces), (script, "known_faces", lambda: [("/k", 0), ("/k", 1)]), (script, "run", run), (kinds, "PACKAGES", []),
                                                                           (script.os.path, "getsize", lambda path: 400_000 if path == "/f1" else 399_999), (script.build, "commit", lambda: ("abc", False))):
-            printed(lambda: script.compare(given, "/p", room))
+            done = []
+            printed(lambda done=done: done.extend(script.compare(given, "/p", room)))
+        wanted = [("faces", 0, 3), ("memory", 0, 8), ("damage", 0, 20000), ("damage", 1, 20000), ("damage", 2, 5000)]
+        tests.same(f"the pieces of {only or 'all'}", [(it["part"], it["piece"], it["wanted"]) for it in done], [it for it in wanted if it[0] in names])
 
         def text(items):
             return "".join(f"{path}\t{index}\n" for path, index in items)
@@ -1874,6 +1889,11 @@ def check_bytes(tests):
     tests.same("what is run", [it for it, _ in given], [["/p", "--quiet", *more, path, f"{room}/out", str(index), glyphs] for (_, path, index), glyphs in zip(fonts, ("3,4,5", "3,4,5", "9,2,7")) for more in ([], ["--no-hinting", "--no-names", "--no-glyph-names"])])
     with patched((script.subprocess, "run", lambda *_, **__: ended(3, "", "why\n"))):
         tests.same("a font that is refused", printed(lambda: script.subset_bytes("/p", [], "/f/a.ttf", 0, "1", room))[1], "bytes.py: a.ttf: why")
+    given.clear()
+    with patched((script.subprocess, "run", lambda words, **more: given.append((words, more)))):
+        tests.same("the program", (script.cargo_program("/room"), given), ("/room/release/subset_font", [(["cargo", "build", "--release", "--offline", "--quiet", "--features", "program", "--target-dir", "/room"], {"cwd": f"{ROOT}/bindings/rust", "check": True})]))
+    with patched((script.subprocess, "run", run), (script, "cargo_program", lambda it: f"built in {it}"), (script, "rows_of", lambda program, at: iter([[program == f"built in {at}", 0, 0, 0, 0]])), (script.fonts, "install", lambda _: None)):
+        tests.same("the program where none is named", "| True | 0 | 0 | 0 | 0 |" in printed(script.main)[0], True)
     # (a row of run.py has the source and twice the output in KiB: 100 + 40 bytes are 0.1)
     put("# stamp\nfont,glyphs kept,source and twice the output KiB\nDejaVuSans.ttf 0,80 low,0.1\nDejaVuSans.ttf 0,3 low,0.3\n", room, "truetype.csv")
     put("# stamp\nfont,glyphs kept,source and twice the output KiB\nLinLibertine_R.otf 1,80 low,0.2\n", room, "cff.csv")
@@ -1912,6 +1932,14 @@ def check_processors(tests):
     found = [{"x86-64": (7, 9), "x86-64-v2": (6, 8)}, {"x86-64": (5, 9)}]
     with patched((script.fonts, "glyph_count", lambda *_: 9), (script.fonts, "glyph_sets", lambda _: [("3 low", "1-3"), ("all", "0-8")]), (script.bench, "least_times", popped(found)), (script.fonts, "label", lambda path, index: f"{path} {index}")):
         tests.same("rows that both have", list(script.measured({"x86-64": "/a", "x86-64-v2": "/b"}, [("p", "/f", 1)], 1, room)), [["/f 1", "3 low", 7, 6]])
+    calls = []
+    kit = types.SimpleNamespace(compile=lambda *words: calls.append(("compile", *words)), link=lambda *words: calls.append(("link", *words)))
+    with mock.patch.object(script, "Kit", lambda: kit):
+        both = {it: os.path.join(room, it) for it in ("x86-64", "x86-64-v2")}
+        tests.same("drivers", (script.drivers(room), calls), (both, [it for name, cpu in (("x86-64", None), ("x86-64-v2", "x86-64-v2")) for it in (("compile", "dev_bench", "x86_64", f"{room}/{name}.o", cpu), ("link", f"{room}/{name}.o", f"{room}/{name}"))]))
+        put("", room, "x86-64")
+        calls.clear()
+        tests.same("drivers of which one is there", (script.drivers(room), [it[1] for it in calls if it[0] == "link"]), (both, [f"{room}/x86-64-v2.o"]))
     check_aarch64(tests)
 
 
@@ -2246,6 +2274,79 @@ def check_refusing(tests, room):
         tests.same(f"a demand that is {holds}", printed(lambda holds=holds: refused.demand(holds, "it", "got")), wanted)
 
 
+# ---- the words of all these scripts
+
+# Each option that a script has, with what it is where nobody gives it: ? a choice that isn't taken, nothing at all for none.
+DEFAULTS = """\
+.ci/conventions.py list? shrink? root=.
+.ci/drivers.py crates=crates
+.ci/large.py program=crates/subset_font/out/subset_font
+.ci/program.py program=crates/subset_font/out/subset_font only= first? cargo? system run
+.ci/width.py write? list=.ci/width.txt crate=bindings/rust target alone?
+compare/aarch64.py fonts=200 folder=dist/out
+compare/again.py faces=200 program=crates/dev_bench/out/dev_bench verify no_install?
+compare/batch.py requests=1000 rounds=5 glyphs=80 fonts=10 folder=/dev/shm disk program
+compare/binding.py calls=2000 no_build?
+compare/bytes.py program results no_install?
+compare/cff2.py folders places=20 glyphs=0 seed=1 only= jobs=2 fonts? damage hostile? seconds=1 program no_install?
+compare/cff2_fonts.py folder=compare/build/cff2 glyphs=65535 seed=1 small? no_install?
+compare/cff2_plants.py only= program=crates/subset_font/out/subset_font stand_in
+compare/cff2_times.py folders turns=12 calls=5 only= bench=crates/dev_bench/out/dev_bench no_build? results any_machine?
+compare/contracts.py trees names quiet? twins?
+compare/cpu.py seconds=0.03 rounds=8 only= no_install? keep
+compare/damage.py no_build? copies=20000 seed=aimed jobs=2 only= truetype? library? kinds pieces backwards? tell?
+compare/faces.py no_build? faces=0 jobs=2
+compare/faults.py program only= part=start,calls,signals,disk,folders,streams skip= first?
+compare/gate.py words log minutes commit
+compare/hostile.py no_build? instructions? families? bytes=1000000,64000000 only=
+compare/instance.py folders places=20 glyphs=100 seed=1 only= jobs=2 program=crates/dev_parts/out/dev_parts to results no_install?
+compare/instance_times.py folders turns=12 no_build? no_instancer? results
+compare/instances.py folders places=20 glyphs=100 seed=1 only= jobs=2 damage results hostile?
+compare/limits.py folders all? only= no_build?
+compare/options.py faces fonts= program=crates/subset_font/out/subset_font bench=crates/dev_bench/out/dev_bench sizes? same
+compare/pdf.py font index glyphs faces variable cff2 places=20 only= plant jobs=1 specimen weights keep bare?
+compare/pdf_font.py faces=150 copies=150 seen=6 seed=pdf_font jobs=2 crate=bindings/rust program no_pdfbox? keep
+compare/pdf_font_plants.py only= answers?
+compare/pdf_font_readers.py only= crate=bindings/rust keep
+compare/pdf_font_times.py rounds=20 milliseconds=20 only= any_machine? crate=bindings/rust
+compare/platforms.py count=10095 tools=out/targets jobs=PROCESSORS kept names
+compare/portable.py copies=20000 faces=0 jobs=2 only= results name crate=bindings/rust native=bindings/rust-native library=bindings/c/out
+compare/portable_times.py rounds=20 milliseconds=20 only= instructions? results crate=bindings/rust native=bindings/rust-native library=bindings/c/out
+compare/refusals.py no_build? more? program?
+compare/run.py original_only? no_install? no_build? cff? all? binding? only= growth copies=2000 seconds=0.05 to=compare/build/report.md results
+compare/speed.py growth? runs=5 seconds=0.02 only= font most=2000 results no_install? no_build? stand_in
+compare/widths.py program=crates/subset_font/out/subset_font
+compare/wrong_bodies.py edits anew? jobs=2 results drawn
+"""
+
+
+class Asked(Exception):
+    """A script has come to its words: these, and what each is without one."""
+
+
+def check_defaults(tests):
+    """What each script does where no option says otherwise; none is left out of the table."""
+    def parse(self, *_):
+        raise Asked({it.dest: it.default for it in self._actions if it.dest != "help"})
+
+    def cell(name, value):
+        if value is None or value is False:
+            return name + "?" * (value is False)
+        text = ",".join(map(str, value)) if isinstance(value, (list, tuple)) else str(value)
+        return f"{name}={text.replace(ROOT + os.sep, '').replace(ROOT, '.')}"
+    wanted = dict(it.partition(" ")[::2] for it in DEFAULTS.strip().split("\n"))
+    listed = subprocess.run(["git", "ls-files", "compare/*.py", ".ci/*.py"], cwd=ROOT, capture_output=True, text=True).stdout.split()
+    have = [it for it in listed if it.count("/") == 1 and not it.endswith("_test.py") and b".add_argument(" in read_of(ROOT, it)]
+    tests.same("scripts with words", sorted(have), sorted([*wanted, ".ci/plants.py"]))
+    for path, words in wanted.items():
+        with mock.patch("argparse.ArgumentParser.parse_args", parse), mock.patch("argparse.ArgumentParser.parse_known_args", parse), mock.patch.object(os, "cpu_count", lambda: 4):
+            try:
+                said = printed(module(path).main)
+            except Asked as asked:
+                said = " ".join(cell(*it) for it in asked.args[0].items())
+        tests.same(f"the words of {path}", said, words.replace("PROCESSORS", "4"))
+
+
 # ---- compare/lib/speed_figures.py
 
 # Rows of speed.csv: outlines, glyphs, parts of the crate and of HarfBuzz, of the port by the generated crate, held by the three, and times.
@@ -2387,7 +2488,7 @@ def check_judges(tests):
 
 
 GROUPS = [check_batch, check_limits, check_large, check_drivers, check_program, check_running, check_examples, check_pdf, check_all, check_speed, check_times,
-          check_fresh, check_builds, check_fonts, check_commands, check_gate, check_widths, check_again, check_portable, check_faces, check_bytes, check_processors, check_platforms, check_binding, check_damage, check_run, check_options, check_hostile, check_tables, check_original, check_judges]
+          check_fresh, check_builds, check_fonts, check_commands, check_gate, check_widths, check_again, check_portable, check_faces, check_bytes, check_processors, check_platforms, check_binding, check_damage, check_run, check_options, check_hostile, check_defaults, check_tables, check_original, check_judges]
 
 
 def main():
