@@ -6,6 +6,8 @@ import os
 import re
 import subprocess
 import sys
+import tempfile
+from unittest import mock
 
 sys.dont_write_bytecode = True
 sys.path.insert(0, os.path.join(os.path.dirname(os.path.dirname(os.path.realpath(__file__))), "compare", "lib"))
@@ -134,6 +136,45 @@ def side_commit(room):
     """A commit that is in the repository, but not behind HEAD."""
     side = planted.git(room, "commit-tree", "HEAD^{tree}", "-m", "beside").strip()[:12]
     return planted.plant(room, CHECK, "a commit beside", "docs/PDF.md", None, f"\nMeasured at commit {side}.\n", f"names the commit {side}, which isn't behind HEAD")
+
+
+def merged_side(room):
+    """A commit behind the other side of a merge that isn't committed yet may be named."""
+    side = planted.git(room, "commit-tree", "HEAD^{tree}", "-m", "the other side").strip()
+    with open(os.path.join(room, ".git", "MERGE_HEAD"), "w", encoding="utf-8") as file:
+        file.write(f"{side}\n")
+    planted.edit(room, "the other side", "docs/PDF.md", None, f"\nMeasured at commit {side[:12]}.\n")
+    status, said = planted.run(room, CHECK)
+    os.unlink(os.path.join(room, ".git", "MERGE_HEAD"))
+    planted.git(room, "checkout", "-q", "--", ".")
+    return [] if status == 0 else [f"the other side of a merge: evidence.py fails:\n{said}"]
+
+
+def of_repository():
+    """What git says of a small repository: a file that is renamed has changed under both names, and what isn't committed has changed, too."""
+    with tempfile.TemporaryDirectory(prefix="evidence-") as top, mock.patch.object(repository, "ROOT", os.path.realpath(top)):
+        def put(path):
+            os.makedirs(os.path.dirname(os.path.join(top, path)), exist_ok=True)
+            with open(os.path.join(top, path), "a", encoding="utf-8") as file:
+                file.write("é\n")
+
+        def commit(message):
+            planted.git(top, "add", "-A")
+            planted.git(top, "commit", "-q", "-m", message)
+            return planted.git(top, "rev-parse", "HEAD").strip()
+        planted.git(top, "init", "-q")
+        for path in ("a/one", "b/two", "c/three", "d/é.md", "e.md"):
+            put(path)
+        first = commit("first")
+        os.makedirs(os.path.join(top, "d"), exist_ok=True)
+        planted.git(top, "mv", "a/one", "d/one")
+        second = commit("second")
+        put("b/two")
+        found = [sorted(set(repository.changed_since.__wrapped__(it).split())) for it in (first, second)]
+        found += [[repository.differs(first, it) for it in (("a/*",), ("d/**",), ("b/two",), ("c/**", "e.md"), ())], repository.documents(), sorted(repository.kept.__wrapped__().split("\n"))]
+        found += [[repository.head(it) == (planted.git(top, "rev-parse", "--short", "HEAD").strip(), changed) for it, changed in (("b", True), ("c", False))], repository.read("e.md")]
+    wanted = [["a/one", "b/two", "d/one"], ["b/two"], [True, True, True, False, False], ["d/é.md", "e.md"], ["", "b/two", "c/three", "d/one", "d/é.md", "e.md"], [True, True], "é\n"]
+    return [f"a small repository: {one}, and not {other}" for one, other in zip(found, wanted) if one != other], len(wanted)
 
 
 def data_of_another(room):
@@ -325,7 +366,7 @@ def planted_in(some):
 def single(room):
     """The plants that take more than an edit."""
     planted.git(room, "commit", "-q", "-m", "as it is", "--allow-empty")
-    parts = [strange_file(room), refreshed_by_hand(room), side_commit(room), data_of_another(room), no_results(room)]
+    parts = [strange_file(room), refreshed_by_hand(room), side_commit(room), merged_side(room), data_of_another(room), no_results(room)]
     return [fault for faults in parts for fault in faults], len(parts)
 
 
@@ -341,7 +382,8 @@ def main():
     if status != 0:
         sys.exit(f"evidence_test: evidence.py fails as it is:\n{said}")
     faults = [f"{name}: {answer!r}, and not {wanted!r}" for name, answer, wanted in ANSWERS if answer != wanted]
-    count = len(ANSWERS)
+    more, count = of_repository()
+    faults, count = faults + more, count + len(ANSWERS)
     with concurrent.futures.ThreadPoolExecutor(4) as pool:
         for more, number in pool.map(of_copy, [life, runs, without_history, single, *(planted_in(PLANTS[k::3]) for k in range(3))]):
             faults, count = faults + more, count + number
