@@ -6,11 +6,14 @@ import os
 import re
 import subprocess
 import sys
+import tempfile
+from unittest import mock
 
 sys.dont_write_bytecode = True
 sys.path.insert(0, os.path.join(os.path.dirname(os.path.dirname(os.path.realpath(__file__))), "compare", "lib"))
 
 import comparisons  # noqa: E402
+import evidence  # noqa: E402
 import figures  # noqa: E402
 import planted  # noqa: E402
 import repository  # noqa: E402
@@ -58,6 +61,8 @@ PLANTS = [
     ("paths where nothing is", "compare/lib/comparisons.py", '"bindings/c/*"', '"bindings/cobol/*"', r"speaks of bindings/cobol/\*, where no file is"),
 ]
 
+# What is measured.
+UNITS = ["7 ms", "3.5 µs", "12 ns", "7 s", "7 min", "1 second", "2 seconds", "1 minute", "3 minutes", "1 hour", "4 hours", "12 MB", "1 GB", "1,234.5 KB", "5 %", "7ms"]
 # What functions answer.
 ANSWERS = [
     ("a bound is rounded up", comparisons.at_most(0.4001), "0.41"),
@@ -70,6 +75,37 @@ ANSWERS = [
     ("two tables", results_of.tables_in(["| a | b |", "|---|---|", "| 1 | 2 |", "", "| c |", "|---|", "| 3 |"]), [[{"a": "1", "b": "2"}], [{"c": "3"}]]),
     ("lines and a table", results_of.as_body("x\n| a |\n|---|\ny\n"), ["```text", "x", "```", "", "| a |", "|---|", "", "```text", "y", "```"]),
     ("many lines", results_of.as_body("\n".join("abcdef"), most=4), ["```text", "a", "b", "(2 lines more)", "e", "f", "```"]),
+    ("figures with each unit", [evidence.FIGURE.findall(f"it has {it}, ") for it in UNITS], [[it] for it in UNITS]),
+    ("figures of nothing measured", [it for it in ("7 glyphs", "3 msec", "12 bytes", "1 s-curve", "7 minutesx", "x3ms", "GB 7") if evidence.FIGURE.findall(it)], []),
+    ("figures by hand", [evidence.figures_by_hand(path, f"{text}\n") for path in ("README.md", "docs/WALK.md") for text in ("7 ms", "`7 ms`", "```\n7 ms\n```", "<!-- from x: KEY -->7 ms<!-- end -->", "<!-- from x: KEY -->7 ms<!-- end --> 9 %")],
+     [["README.md: '7 ms' is a figure that no script wrote"], [], [], [], ["README.md: '9 %' is a figure that no script wrote"], *[[]] * 5]),
+    ("where commits are named", [[next(filter(None, it.groups())) for it in evidence.NAMED.finditer(text)] for text in (
+        "commit 1a2b3c4", "Commit 1a2b3c4", "commits 1a2b3c4", "Commits `1a2b3c4`", 'commit "1a2b3c4"', "commit the commit `1234567`", "at 1a2b3c4", "at `1a2b3c4`", "of `1a2b3c4`", '"commit": "1234567"', "commit " + "0a" * 20)],
+     [["1a2b3c4"], ["1a2b3c4"], ["1a2b3c4"], ["1a2b3c4"], ["1a2b3c4"], ["1234567"], ["1a2b3c4"], ["1a2b3c4"], ["1a2b3c4"], ["1234567"], ["0a" * 20]]),
+    ("where none is", [text for text in ("at 1234567", "`1234567`", "`abcdefa`", "of 1a2b3c4", "commit 1a2b3c", "at 1a2b3", "chat 1a2b3c4", "`1a2b3cg`", "commit " + "0a" * 21) if evidence.NAMED.search(text)], []),
+    ("changes of no commit", [[it[1] for it in evidence.CHANGED_TREE.finditer(text)] for text in ("1a2b3c4, changed", "`1a2b3c4` with changes", '"1a2b3c4"-dirty', "1a2b3c4 and changes", "1a2b3c4-dirty", "1a2b3c4 changed", "1a2b3c with changes")], [["1a2b3c4"]] * 5 + [[], []]),
+    ("a sum is no commit", evidence.SUMS.sub("", "- Sum: `1a2b3c4d5e6f7a8b`\n- Commit: `1a2b3c4`\nx - Sum: `1a2b3c5`"), "\n- Commit: `1a2b3c4`\nx - Sum: `1a2b3c5`"),
+    ("the documents with figures", evidence.MEASURED, ("README.md", "docs/PERFORMANCE.md", "docs/PDF.md", "bindings/js/README.md")),
+    ("the first difference", [evidence.first_difference(*it) for it in (("a\nb", "a\nc"), ("a", "a\nb"), ("a\nb", "a"), ("a", "a"), ("x" * 90 + "1", "x" * 90 + "2"))],
+     ["line 2: has 'b', wants 'c'", "line 2: has '(the end)', wants 'b'", "line 2: has 'b', wants '(the end)'", "nothing", f"line 1: has {'x' * 20 + '1'!r}, wants {'x' * 20 + '2'!r}"]),
+    ("pages that aren't there", evidence.missing_pages("a.md", "compare/results/NAME.md compare/results/gone.md, compare/results/gate.md compare/results/gone.md compare/results/lost.csv"),
+     ["a.md names compare/results/gone.md, which isn't there", "a.md names compare/results/lost.csv, which isn't there"]),
+    ("more bytes", [figures.amount(it) for it in (9999, 10000, 999999, 1000001, 2500000, 3000000, 0)], ["9,999 bytes", "10 KB", "1,000 KB", "1.0 MB", "2.5 MB", "3 MB", "0 MB"]),
+    ("the middle of five, and of one", [figures.middle(it) for it in ([5, 1, 4, 2, 3], [7])], [3, 7]),
+    ("a cell", [figures.cut(it) for it in ("a|b", "x" * figures.MOST, "x" * (figures.MOST + 1))], ["a/b", "x" * figures.MOST, "x" * (figures.MOST - 3) + "..."]),
+    ("the fields of a run", results_of.fields_of(True, "1a2b3c4", "make  x", "a machine", "2001-02-03"), {"Passed": "yes", "Commit": "`1a2b3c4`", "Date": "2001-02-03", "Machine": "a machine", "Command": "`make x`"}),
+    ("the fields of a run that failed", results_of.fields_of(False, results_of.NOT_RUN, "x", "m", "2001-02-03", "why"), {"Passed": "no", "Commit": results_of.NOT_RUN, "Date": "2001-02-03", "Machine": "m", "Command": "`x`", "Note": "why"}),
+    ("answers of runs", [results_of.Result(name, results_of.fields_of(passed, "1a2b3c4", "x", "m", "d"), body).answer for name, passed, body in (
+        ("limits", True, ["7 rows."]), ("limits", False, ["7 rows."]), ("limits", True, [""]), ("limits", False, [""]), ("hostile", True, ["no table"]), ("hostile", False, ["| a |", "|---|", "| 1 |"]))],
+     ["7 rows", "failed: 7 rows", "no answer", "failed: no answer", "no answer", "failed: no answer"]),
+    ("a run's commit", [(it.commit, it.passed, it.date, it.machine, it.command) for it in (results_of.Result("limits", results_of.fields_of(True, commit, "a b", "m", "d"), []) for commit in ("1a2b3c4", results_of.NOT_RECORDED))],
+     [("1a2b3c4", True, "d", "m", "a b"), (None, True, "d", "m", "a b")]),
+    ("a commit that isn't known", results_of.mark(results_of.Result("limits", results_of.fields_of(True, results_of.NOT_RUN, "x", "m", "d"), [])), results_of.NOT_RUN),
+    ("this machine", [bool(re.fullmatch(rf"{os.cpu_count()} cores of .+, \w+{load}", results_of.machine(*given))) for given, load in (((), ""), ((1.25,), r", load 1\.2 to \d+\.\d"))], [True, True]),
+    ("tables", results_of.tables_in(["| a | b |", "|:--|--:|", "| 1 |  |", "|-|2|", "text", "| c |", "|---|", "", "| d |", "| - |", "| 4 |"]), [[{"a": "1", "b": ""}, {"a": "-", "b": "2"}], [], [{"d": "4"}]]),
+    ("a body of tables and lines", [results_of.as_body(text, most=5) for text in ("| a |\n|---|", "x  \n\ny\n\n", "\n".join("abcdefgh"))],
+     [["| a |", "|---|"], ["```text", "x", "", "y", "```"], ["```text", "a", "b", "(3 lines more)", "f", "g", "h", "```"]]),
+    ("what waits", (figures.MAY_WAIT, figures.not_measured(["a, b", "c"])), (("speed", "speed, growth"), "Not measured yet: `compare/all 'a, b'`, `compare/all 'c'`.")),
     ("comments in code", figures.blocks("`<!-- from x: sizes -->` `<!-- end -->`\n```\n<!-- from x: sizes -->\n```\n"), []),
     *((f"{pattern} and {path}", bool(repository.pattern(pattern).search(f"x\n{path}\ny")), wanted) for pattern, path, wanted in [
         ("crates/*/src/**", "crates/a/src/b/c.rt", True), ("crates/*/src/**", "crates/a/b/src/c.rt", False), ("crates/*/src/**", "crates/a/src/c.rt", True),
@@ -100,6 +136,45 @@ def side_commit(room):
     """A commit that is in the repository, but not behind HEAD."""
     side = planted.git(room, "commit-tree", "HEAD^{tree}", "-m", "beside").strip()[:12]
     return planted.plant(room, CHECK, "a commit beside", "docs/PDF.md", None, f"\nMeasured at commit {side}.\n", f"names the commit {side}, which isn't behind HEAD")
+
+
+def merged_side(room):
+    """A commit behind the other side of a merge that isn't committed yet may be named."""
+    side = planted.git(room, "commit-tree", "HEAD^{tree}", "-m", "the other side").strip()
+    with open(os.path.join(room, ".git", "MERGE_HEAD"), "w", encoding="utf-8") as file:
+        file.write(f"{side}\n")
+    planted.edit(room, "the other side", "docs/PDF.md", None, f"\nMeasured at commit {side[:12]}.\n")
+    status, said = planted.run(room, CHECK)
+    os.unlink(os.path.join(room, ".git", "MERGE_HEAD"))
+    planted.git(room, "checkout", "-q", "--", ".")
+    return [] if status == 0 else [f"the other side of a merge: evidence.py fails:\n{said}"]
+
+
+def of_repository():
+    """What git says of a small repository: a file that is renamed has changed under both names, and what isn't committed has changed, too."""
+    with tempfile.TemporaryDirectory(prefix="evidence-") as top, mock.patch.object(repository, "ROOT", os.path.realpath(top)):
+        def put(path):
+            os.makedirs(os.path.dirname(os.path.join(top, path)), exist_ok=True)
+            with open(os.path.join(top, path), "a", encoding="utf-8") as file:
+                file.write("é\n")
+
+        def commit(message):
+            planted.git(top, "add", "-A")
+            planted.git(top, "commit", "-q", "-m", message)
+            return planted.git(top, "rev-parse", "HEAD").strip()
+        planted.git(top, "init", "-q")
+        for path in ("a/one", "b/two", "c/three", "d/é.md", "e.md"):
+            put(path)
+        first = commit("first")
+        os.makedirs(os.path.join(top, "d"), exist_ok=True)
+        planted.git(top, "mv", "a/one", "d/one")
+        second = commit("second")
+        put("b/two")
+        found = [sorted(set(repository.changed_since.__wrapped__(it).split())) for it in (first, second)]
+        found += [[repository.differs(first, it) for it in (("a/*",), ("d/**",), ("b/two",), ("c/**", "e.md"), ())], repository.documents(), sorted(repository.kept.__wrapped__().split("\n"))]
+        found += [[repository.head(it) == (planted.git(top, "rev-parse", "--short", "HEAD").strip(), changed) for it, changed in (("b", True), ("c", False))], repository.read("e.md")]
+    wanted = [["a/one", "b/two", "d/one"], ["b/two"], [True, True, True, False, False], ["d/é.md", "e.md"], ["", "b/two", "c/three", "d/one", "d/é.md", "e.md"], [True, True], "é\n"]
+    return [f"a small repository: {one}, and not {other}" for one, other in zip(found, wanted) if one != other], len(wanted)
 
 
 def data_of_another(room):
@@ -291,7 +366,7 @@ def planted_in(some):
 def single(room):
     """The plants that take more than an edit."""
     planted.git(room, "commit", "-q", "-m", "as it is", "--allow-empty")
-    parts = [strange_file(room), refreshed_by_hand(room), side_commit(room), data_of_another(room), no_results(room)]
+    parts = [strange_file(room), refreshed_by_hand(room), side_commit(room), merged_side(room), data_of_another(room), no_results(room)]
     return [fault for faults in parts for fault in faults], len(parts)
 
 
@@ -307,7 +382,8 @@ def main():
     if status != 0:
         sys.exit(f"evidence_test: evidence.py fails as it is:\n{said}")
     faults = [f"{name}: {answer!r}, and not {wanted!r}" for name, answer, wanted in ANSWERS if answer != wanted]
-    count = len(ANSWERS)
+    more, count = of_repository()
+    faults, count = faults + more, count + len(ANSWERS)
     with concurrent.futures.ThreadPoolExecutor(4) as pool:
         for more, number in pool.map(of_copy, [life, runs, without_history, single, *(planted_in(PLANTS[k::3]) for k in range(3))]):
             faults, count = faults + more, count + number

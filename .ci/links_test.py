@@ -1,11 +1,15 @@
 #!/usr/bin/env python3
 """Plants references that lead nowhere in a copy of this repository, one at a time: links.py has to fail with each, and to say
 which. It has to fail too where it can't see the documents."""
+import os
 import re
 import sys
+import tempfile
+from unittest import mock
 
 sys.dont_write_bytecode = True
 
+import links  # noqa: E402
 import planted  # noqa: E402
 
 CHECK = ".ci/links.py"
@@ -58,6 +62,60 @@ PLANTS = [
     ("a module of a table", "docs/MODULES.md", "| `directory` | the records", "| `directories` | the records", r"crates/subsetter_sfnt/src/directories isn't there"),
     ("marks of a merge", "docs/WALK.md", None, "\n<<<<<<< HEAD\n", r"docs/WALK\.md: a merge left its marks"),
 ]
+
+
+TABLES = """### `crates/a`
+
+| Module (`src`) | Definitions (`specs`) |
+|---|---|
+| `x`: it | `y` |
+
+text
+| `z` | w |
+## Where is what in `crates/b`
+| Crate | Laws (`proofs`), (`src/q`) |
+|--|--|
+| `c` | `l` |
+| | `m` |
+"""
+HEADINGS = "# A `b` *c*: d, e!\n## Twice\n## Twice ##\n### [Linked](x.md) and <b>bold</b>\n#No heading\n<a id=\"own\"></a> <a name=\"other\">\n```\n# Code\n```\n"
+MAKEFILE = "all: one \\\n  two\nVAR := x\n.PHONY: all\none two: three\n\tcmd: x\n# no: x\n%.o: %.c\nten::\n"
+# What functions answer.
+ANSWERS = [
+    ("languages of commands", links.SHELL, {"", "sh", "bash", "shell", "console"}),
+    ("commands that make folders", links.MAKES_FOLDERS, {"tar", "mkdir", "unzip", "cargo", "git"}),
+    ("words", [links.words_of(it) for it in ("a [--b] c.. 'd e' # f", "it's # x", "x [A|B]..  y", "")], [["a", "--b", "c", "d e"], ["it's"], ["x", "A|B", "y"], []]),
+    ("without fronts", [links.without_front(it.split()) for it in ("X=1 env sudo bash a/b c", "$ make x", "python3 a.py", "/usr/bin/python3 a.py", "node -e x", "sh", "X_Y=2 Z=3 ls", "bash -c x", "")],
+     [["a/b", "c"], ["make", "x"], ["a.py"], ["a.py"], ["node", "-e", "x"], ["sh"], ["ls"], ["bash", "-c", "x"], []]),
+    ("targets of links", links.targets("[a](b.md) [c](<d.md>) [e](f.md \"g\") ![h](i.png)\n[j]: k.md\n  [l]: <m.md>\n<a href=\"n.md\"><img src=\"o.png\"> `[p](q.md)` `r`\n```\n[s](t.md)\n```\n"), ["b.md", "d.md", "f.md", "i.png", "q.md", "k.md", "m.md", "n.md", "o.png"]),
+    ("what is ours", [it for it in ("compare/x", "./x", "../x", "x", "gone/x", "/x", ".ci/x", "compare") if links.is_ours(it)], ["compare/x", ".ci/x"]),
+    ("options", links.OPTION.findall("--one --two-three -x a--b ---c --d1 --ee=3 `--ff`"), ["--one", "--two-three", "--ee", "--ff"]),
+    ("what isn't looked at", [it for it in ("crates/vhea", "Vhea", "NAME.md", "a<b", "out/x", "x/out", "layout.py", "build/x", "a/build/x", "./x", "rebuild/x", "route", "a./x") if links.SKIPPED.search(it)],
+     ["crates/vhea", "Vhea", "NAME.md", "a<b", "out/x", "x/out", "build/x", "a/build/x", "./x"]),
+    ("paths of documents", [links.below("docs/A.md", it) for it in ("B.md", "../C.md", "x/D.md")] + [links.below("README.md", "x")], ["docs/B.md", "C.md", "docs/x/D.md", "x"]),
+    ("a document without its blocks", links.plain("a\n```\nb\n```\nc\n~~~ sh\nd\n~~~\n````\n```\n````\ne").split(), ["a", "c", "e"]),
+    ("marks", [it[2] for it in links.MARK.finditer("`a` ``b`c`` ```d``` `e\nf` `g")], ["a", "b`c", "d", "e\nf"]),
+    ("tables", [(crate, list(cells)) for crate, cells in links.rows_of_sections(TABLES)],
+     [("crates/a", [("`x`: it", "src"), ("`y`", "specs")]), ("crates/a", []), ("crates/c", [("`c`", None), ("`l`", "proofs")]), ("crates/c", [("", None), ("`m`", "proofs")])]),
+]
+
+
+def answered():
+    """What functions answer wrong; of a document and a Makefile that are stand-ins, too."""
+    with tempfile.TemporaryDirectory(prefix="links-") as top:
+        with open(os.path.join(top, "Makefile"), "w", encoding="utf-8") as file:
+            file.write(MAKEFILE)
+        with mock.patch.object(links, "ROOT", top), mock.patch.object(links.repository, "read", lambda _: HEADINGS):
+            more = [("sections", links.sections.__wrapped__("a.md"), {"a-b-c-d-e", "twice", "twice-1", "linked-and-bold", "own", "other"}),
+                    ("targets of a Makefile", links.make_targets.__wrapped__(""), {"all", "one", "two", "%.o", "ten"}), ("no Makefile", links.make_targets.__wrapped__("none"), None)]
+            entered = []
+            with mock.patch.object(links, "ask", lambda document, path, *places: entered.append(places)):
+                os.makedirs(os.path.join(top, "there", "below"))
+                for path, folder, made in (("there", "", []), ("below", "there", []), ("..", "there/below", []), ("gone", "", []), ("gone", "", ["tar"]), ("gone", "", ["git"]), ("gone/x", "", ["tar"]), ("there", "", ["tar"]), ("/x", "", []), ("~", "", []), ("$X", "", []), ("x", None, [])):
+                    more.append((f"cd {path} in {folder}, behind {made}", links.enter("a.md", path, folder, made), {("there", ""): "there", ("below", "there"): "there/below", ("..", "there/below"): "there", ("gone/x", ""): "gone/x"}.get(
+                        (path, folder), {(): "gone", ("tar",): None, ("git",): ""}[tuple(made)] if path == "gone" else None)))
+            more.append(("folders that have to be there", entered, [("there",), ("there/below",), ("there",), ("gone",), ("gone/x",), ("there",)]))
+    return [f"{name}: {answer!r}, and not {wanted!r}" for name, answer, wanted in [*ANSWERS, *more] if answer != wanted], len(ANSWERS) + len(more)
 
 
 # References that lead somewhere, or that aren't looked at.
@@ -125,7 +183,8 @@ def main():
             sys.exit(f"links_test: links.py fails as it is:\n{said}")
         faults = planted.faults_of_run("one alone", alone(room), PLANTS[0][-1]) + all_at_once(room) + innocent(room)
         more, count = planted.without_git(room, CHECK, "links")
-    return planted.tell(faults + more, len(PLANTS) + 1 + count)
+    wrong, answers = answered()
+    return planted.tell(faults + more + wrong, len(PLANTS) + 1 + count + answers)
 
 
 if __name__ == "__main__":

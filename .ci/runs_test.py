@@ -1,6 +1,7 @@
 #!/usr/bin/env python3
-"""Tests scripts that run programs and judge what these leave, over stand-ins: compare/batch.py, compare/limits.py, compare/all, compare/speed.py
-and compare/cff2_times.py, the rows of .ci/large.py and of .ci/drivers.py, .ci/program.py, .ci/examples.py, .ci/pdf_examples.py and .ci/fresh.
+"""Tests scripts that run programs and judge what these leave, over stand-ins: compare/all and those of compare/ that time, count or compare
+programs (batch, limits, speed, cff2_times, widths, again, portable, portable_times, faces, bytes, cpu, aarch64, platforms, binding,
+instance_times, damage, run, options and hostile), the rows of .ci/large.py and of .ci/drivers.py, .ci/program.py, .ci/examples.py, .ci/pdf_examples.py and .ci/fresh.
 No build is needed, and no time counts: the clock is a stand-in, too.
 
     .ci/runs_test.py [NAME..]     all groups, or those named
@@ -1540,6 +1541,68 @@ def check_commands(tests):
             tests.same(f"{one.name}: options of {words[0]} that it hasn't", known, [])
         is_written = any(word in one.command for word in ("--results", "--pieces", "--growth"))
         tests.same(f"{one.name}: its data files", bool(one.data) == is_written or one.name in ("times", "processors"), True)
+    check_spoken(tests, comparisons)
+    check_said_of_results(tests, comparisons)
+
+
+# What comparisons speak of, by kind; crates by their names.
+KINDS = {
+    "SUBSET": "subsetter subsetter_base subsetter_sfnt subsetter_cff subsetter_cffdata subsetter_type2", "INSTANCE": "subsetter_instance subsetter_points subsetter_variation subsetter_variable",
+    "CFF2": "subsetter_cff_at subsetter_cff_instance subsetter_cff2 subsetter_blend subsetter_variation subsetter_cff subsetter_type2 subsetter_cffdata subsetter_base", "BENCH": "dev_bench", "PARTS": "dev_parts", "AGAIN": "subsetter_again",
+    "PROGRAM": "subset_font subset_args subset_batch subset_lines subset_pdf pdf_objects pdf_sheet pdf_font glyph_names cid_embed cmap late_file", "C": "subsetter_c subsetter_pdf_c cid_embed cid_embed_at bindings/c/*",
+    "CRATE": "bindings/rust/src/**", "JS": "bindings/js/*.mjs bindings/js/Makefile bindings/js/module/**", "PLANTED": "bindings/** dist/* demo/* examples/* .ci/** Makefile",
+    "WRONG": "crates/*/src/** crates/*/specs/** compare/wrong_bodies/**",
+}
+# The comparisons by these kinds, and by what else they speak of.
+SPOKEN = {
+    "WRONG": ["wrong bodies"], "WRONG rows/** .ci/memory.py .ci/program.py .ci/program/** bindings/rust/**": ["wrong bodies, fresh"], "crates/*/src/**": ["refusals"], "PROGRAM bindings/rust/src/host/**": ["faults"],
+    "SUBSET BENCH": ["hostile", "hostile, instructions", "options, before", "faces", "damage", "damage, TrueType", "damage, kinds", "run", "times", "growth"], "SUBSET PROGRAM": ["hostile, families", "widths", "pdf", "pdf, bare", "options", "sizes"],
+    "SUBSET AGAIN PROGRAM": ["again"], "SUBSET INSTANCE PROGRAM": ["pdf, variable"], "SUBSET INSTANCE CFF2 PROGRAM": ["pdf, cff2", "cff2, fonts", "cff2, damaged", "cff2, hostile"], "CRATE": ["pdf font", "pdf font, readers", "pdf font, times", "bytes"],
+    "INSTANCE PARTS": ["instance"], "SUBSET INSTANCE": ["instances", "instances, damaged", "instances, hostile"], "SUBSET INSTANCE BENCH": ["instances, times", "limits"], "CFF2 PARTS": ["cff2"], "SUBSET INSTANCE CFF2 BENCH": ["cff2, times"],
+    "SUBSET INSTANCE C CRATE JS": ["javascript"], "C CRATE JS": ["javascript, modules"], "SUBSET C CRATE JS": ["javascript, times"], "PLANTED": ["plants"], "PLANTED crates/subset_font/completions/* crates/subset_font/subset_font.1": ["plants, fresh"],
+    "SUBSET C bindings/rust-native/src/**": ["binding"], "SUBSET C": ["damage, library", "fuzz", "processors", "aarch64"], "SUBSET BENCH CRATE": ["speed", "speed, growth"], "SUBSET INSTANCE C CRATE": ["portable", "portable, times"],
+    "SUBSET PROGRAM CRATE": ["batch"], "CRATE bindings/platforms/src/**": ["platforms"], "crates/*/*/** bindings/** dist/* .ci/** Makefile": ["gate"],
+}
+# Those that need the Rust crate, that take times, and that are run by themselves.
+OF_ORIGINAL = ["binding", "faces", "damage", "damage, TrueType", "damage, kinds", "damage, library", "run", "times", "speed", "speed, growth", "limits", "growth"]
+TIMED = ["hostile", "hostile, families", "hostile, instructions", "pdf font, times", "instances, hostile", "instances, times", "cff2, hostile", "cff2, times", "javascript, modules", "javascript, times", "binding", "run", "times", "speed", "speed, growth",
+         "batch", "portable, times", "growth", "gate", "processors"]
+BY_HAND = ["options, before", "javascript, modules", "gate"]
+
+
+def check_spoken(tests, comparisons):
+    """Which code each comparison speaks of: where that changes its result is marked; and how each is run."""
+    def paths(words):
+        for word in words.split():
+            yield from (f"crates/{it}/src/**" if re.fullmatch(r"[a-z_\d]+", it) else it for it in KINDS.get(word, word).split())
+    wanted = {name: sorted(set(paths(words))) for words, names in SPOKEN.items() for name in names}
+    for one in comparisons.COMPARISONS:
+        tests.same(f"what {one.name} speaks of", sorted(set(one.paths)), wanted.get(one.name))
+    tests.same("comparisons", sorted(wanted), sorted(comparisons.BY_NAME))
+    for field, names in (("original", OF_ORIGINAL), ("timed", TIMED), ("by_hand", BY_HAND)):
+        tests.same(f"comparisons: {field}", [it.name for it in comparisons.COMPARISONS if getattr(it, field)], [it.name for it in comparisons.COMPARISONS if it.name in names])
+
+
+def check_said_of_results(tests, comparisons):
+    """The answers that are made of several rows or lines."""
+    def answer(name, *rows, body=(), files=None):
+        return comparisons.BY_NAME[name].answer(types.SimpleNamespace(tables=[list(rows)], body=list(body), data=(files or {}).get))
+    slow = [{"Call, ms": ms, "Glyphs": glyphs, "Bytes of the file": size, "Font": font} for ms, glyphs, size, font in (("2.5", "9", "10", "a"), ("10.01", "7", "12345", "b"), ("9.9", "8", "99", "c"))]
+    tests.same("the slowest", answer("hostile", *slow), "at most 11 ms for 7 glyphs, of a file of 12,345 bytes (b)")
+    lines = ["a 0: 200 widths of 1000 units an em, 1 wrong", "noise", "b 1: 150 widths of 2048 units an em, 2 wrong", "3 wrong"]
+    tests.same("widths", answer("widths", body=lines), "350 widths of 2 faces, 3 wrong")
+    tests.same("bytes saved", answer("sizes", {"None of the three": "9,000", "All": "10,000"}, {"None of the three": "250", "All": "1,000"}, {"None of the three": "50", "All": "100"}), "names, glyph names and hinting left out save 10.0 to 75.0 % of the bytes of 3 subsets")
+    tests.same("bytes of the source", answer("bytes", {"Bytes of the subset": "1", "Bytes of the file": "8"}, {"Bytes of the subset": "3,000", "Bytes of the file": "4,000"}), "12.5 to 75.0 % of the source's, for 2 fonts")
+    tests.same("the binding", answer("binding", {"binding, ns": "100", "port, ns": "90", "Bytes": "same"}, {"binding, ns": "300", "port, ns": "200", "Bytes": "DIFFER"}, {"binding, ns": "10", "port, ns": "20", "Bytes": "same"}), "at most 1.50 times the program's time; 2 of 3 cases give the same bytes")
+    of_files = {"truetype.csv": [{"port ns": "10", "crate ns": "40", "harfbuzz ns": "100"}, {"port ns": "30", "crate ns": "60", "harfbuzz ns": "300"}], "cff.csv": [{"port ns": "20", "crate ns": "50", "harfbuzz ns": "100"}]}
+    tests.same("times", answer("times", files=of_files), "3 cases: at most 0.50 of the Rust crate's time, at most 0.20 of HarfBuzz's")
+    tests.same("lines", answer("faults", body=["7 runs with a fault of the system, 0 wrong.", "no 8 runs with a fault of the system", "9 runs with a fault of the system."]), "7 runs with a fault of the system, 0 wrong; 9 runs with a fault of the system")
+    tests.same("hostile instances", answer("instances, hostile", body=["a: refused after 12 ms", "b: refused after 7 ms, c: after 30 ms", "after ms"]), "each refused, after at most 30 ms")
+    tests.same("JavaScript", answer("javascript, times", {"Opened : native": "1.31"}, {"Opened : native": "1.05"}), "at most 1.4 times the native library's time")
+    tests.same("bounds", [comparisons.at_most(*it) for it in ((0.5,), (0.501,), (0.509999,), (1234.0, 0), (1233.2, 0), (0.00011, 4), (1e-12,))], ["0.50", "0.51", "0.51", "1,234", "1,234", "0.0002", "0.00"])
+    for variable, wanted in (("", "compare/it.py --kinds --copies 7"), ("/fonts", "compare/it.py --kinds $VARIABLE_FONTS --copies 7")):
+        with mock.patch.object(comparisons, "VARIABLE", variable):
+            tests.same("a command as it is shown", comparisons.shown(f"compare/it.py --kinds {variable} --copies 7"), wanted)
 
 
 # ---- compare/gate.py
@@ -1563,20 +1626,725 @@ def check_gate(tests):
         found = []
         said = printed(lambda: found.extend(gate.kept("\n".join(lines) + "\n", words)))[1]
         tests.same(f"a gate that prints {lines}", said or found, wanted)
-    for status, took, wanted in ((0, 3720, ("λ\nsaid\n", 62)), (0, 29, ("λ\nsaid\n", 0)), (0, 31, ("λ\nsaid\n", 1)), (2, 60, "gate: it failed, so nothing is recorded"), (-9, 60, "gate: it failed, so nothing is recorded")):
+    for status, took, wanted in ((0, 3720, ("λ\nsaid\n\ufffd\n", 62)), (0, 29, ("λ\nsaid\n\ufffd\n", 0)), (0, 31, ("λ\nsaid\n\ufffd\n", 1)), (2, 60, "gate: it failed, so nothing is recorded"), (-9, 60, "gate: it failed, so nothing is recorded")):
         clock, calls = iter([100.0, 100.0 + took]), []
 
         def run(words, status=status, calls=calls, **given):
             calls.append((words[:2], re.sub(r"tee \S+", "tee LOG", words[2]), words[3:], given))
-            put("λ\nsaid\n", re.search(r"tee (\S+)", words[2])[1])
+            put("λ\nsaid\n".encode() + b"\xff\n", re.search(r"tee (\S+)", words[2])[1])
             return ended(status)
         with mock.patch.object(gate.subprocess, "run", run), mock.patch.object(gate.time, "monotonic", lambda clock=clock: next(clock)):
             tests.same(f"a gate that ends with {status} after {took} s", printed(lambda: gate.run(["SKIP=a", "x y"]))[1], wanted)
         tests.same("how it is run", calls, [(["bash", "-c"], 'set -o pipefail; make test "$@" 2>&1 | tee LOG', ["sh", "SKIP=a", "x y"], {"cwd": gate.repository.ROOT})])
+    log = put("λ\n".encode() + b"\xff\n", tests.room, "gate.log")
+    os.utime(log, (981158400, 981158400))
+    with mock.patch.object(gate.repository, "is_ancestor", lambda it: it != "gone"), mock.patch.object(gate.repository, "git", lambda *words: f"{words[-1]} in short\n"):
+        given = types.SimpleNamespace(log=log, minutes=7, commit="it")
+        tests.same("a log", [str(it) for it in gate.from_log(given)], ["λ\n\ufffd\n", "7", "it in short", "2001-02-03"])
+        given.commit = "gone"
+        tests.same("a log of another history", printed(lambda: gate.from_log(given))[1], "gate: the commit gone isn't behind HEAD")
+    done = []
+    with contextlib.ExitStack() as stack:
+        for owner, name, new in ((gate.repository, "ready", lambda history=False: done.append(("ready", history))), (gate, "clean_commit", lambda: "abc"), (gate, "run", lambda words: ("said", 9)), (gate, "kept", lambda text, words: [text, *words]),
+                                 (gate, "from_log", lambda given: ("log", given.minutes, given.commit, "day")), (gate, "record", lambda *words: done.append(words[:3] + words[4:]))):
+            stack.enter_context(mock.patch.object(owner, name, new))
+        for words, wanted in (([], (["said"], 9, "abc", "make test")), (["SKIP=a,b"], (["said", "SKIP=a,b"], 9, "abc", "make test SKIP=a,b")), (["--from", "x", "--minutes", "0", "--commit", "c", "SKIP=a"], (["log", "SKIP=a"], 0, "c", "make test SKIP=a"))):
+            done.clear()
+            tests.same(f"gate.py {words}: status and output", printed(gate.main, *words), ("", None))
+            tests.same(f"gate.py {words}: what is recorded", done, [("ready", True), wanted])
     tests.same("what may not be changed", gate.CODE, ("crates", "crates.txt", "bindings", "dist", ".ci", "compare", "rows", "demo", "examples", ":!compare/results", ":!compare/README.md", "Makefile"))
     for words in (["--from", "x"], ["--minutes", "0"], ["--commit", "x"], ["--from", "x", "--minutes", "1"], ["--minutes", "1", "--commit", "x"], ["--from", "x", "--commit", "y"]):
         with contextlib.redirect_stderr(io.StringIO()) as shown:
             tests.same(f"gate.py {words}", (printed(gate.main, *words)[1], "--from, --minutes and --commit go together" in shown.getvalue()), (2, True))
+
+
+# ---- other scripts of compare/ that judge
+
+def patched(*changes):
+    """Each (owner, name, new) for some time."""
+    stack = contextlib.ExitStack()
+    for owner, name, new in changes:
+        stack.enter_context(mock.patch.object(owner, name, new))
+    return stack
+
+
+def popped(answers):
+    """A call that gives these answers in turn, whatever it is given."""
+    left = list(answers)
+    return lambda *_, **__: left.pop(0)
+
+
+def check_widths(tests):
+    """Which widths and numbers of glyphs are right, and the status."""
+    script, room = module("compare/widths.py"), tempfile.mkdtemp(dir=tests.room)
+    # (advances of odd numbers give a half)
+    advances, units = {f"g{it}": (501 + it, 0) for it in range(300)}, 2000
+
+    def font_of(names):
+        found = {"head": types.SimpleNamespace(unitsPerEm=units), "maxp": types.SimpleNamespace(numGlyphs=300), "hmtx": {f"g{k}": advances[it] for k, it in enumerate(names)}}
+        return type("Font", (dict,), {"getGlyphName": lambda _, glyph: f"g{glyph}"})(found)
+    for what, fault in (("right", 0), ("a line", 1), ("a width more", 1), ("a width less", 1), ("a width of the last", 1), ("rounded down", None), ("an advance of the new font", 1)):
+        given = []
+
+        def run(words, what=what, given=given, **more):
+            given.append((words, more))
+            asked = list(map(int, words[-1].split(",")))
+            order = list(dict.fromkeys([0, *asked]))
+            widths = [(1000 * advances[f"g{it}"][0] + (0 if what == "rounded down" else units // 2)) // units for it in order]
+            widths = {"a width more": [*widths, 1], "a width less": widths[:-1], "a width of the last": [*widths[:-1], widths[-1] + 1]}.get(what, widths)
+            lines = [f"{it} -> {order.index(it) + (what == 'a line' and it == asked[-1])}" for it in asked]
+            given.append([f"g{it}" for it in order])
+            return ended(0, "\n".join([*lines, f"[0 [{' '.join(map(str, widths))}]]"]) + "\n")
+
+        def font(path, what=what, given=given, **_):
+            names = given[1] if path.startswith(room) else list(advances)
+            return font_of(names[:-1] + ["g0"] if what == "an advance of the new font" and path.startswith(room) else names)
+        with mock.patch.dict(sys.modules, {"fontTools": types.ModuleType("fontTools"), "fontTools.ttLib": types.SimpleNamespace(TTFont=font)}), mock.patch.object(script.subprocess, "run", run):
+            found = []
+            said = printed(lambda found=found: found.extend(script.compared("/program", "/fonts/it.ttf", 3, room)))[0]
+        tests.same(f"widths, {what}: {said}", (len(found) if fault is not None else len(found) > 50, said.startswith("it.ttf 3: ") and said.endswith(f" widths of 2000 units an em, {len(found)} wrong\n")), (fault if fault is not None else True, True))
+        asked = given[0][0][-1].split(",")
+        tests.same("what is run", (given[0][0][:5], given[0][1], len(asked), len(set(asked)), asked[-5:] == asked[:5]), (["/program", "--widths", "/fonts/it.ttf", f"{room}/out", "3"], {"check": True, "capture_output": True, "text": True}, 205, 200, True))
+    for found, status in (([], 0), (["a"], 1), (["a"] * 30, 1)):
+        called = []
+        with patched((script, "compared", lambda program, path, index, folder, found=found, called=called: called.append((program, path, index, os.path.isdir(folder))) or (found if index == 2 else [])), (script.build, "program", lambda it: f"the {it}")):
+            tests.same(f"widths.py with {len(found)} faults", printed(script.main, "/p"), ("a\n" * min(len(found), 20), status))
+        tests.same("its fonts", called, [("the /p", path, index, True) for path, index in script.FONTS])
+    tests.same("so many fonts", (len(script.FONTS), script.GLYPHS, script.PROGRAM), (6, 200, script.build.FONT))
+
+
+def check_again(tests):
+    """What is wrong with subsets of subsets, and the status."""
+    script, room = module("compare/again.py"), tempfile.mkdtemp(dir=tests.room)
+    face = put("x", room, "face.ttf")
+    for what, kind, made, strings, wanted in (
+            ("the same", "TrueType", "aaaa", "ss", None), ("the second is another", "TrueType", "abbb", "ss", "subset 1 isn't given back"), ("the last is another", "TrueType", "aaab", "ss", "subset 1 isn't given back"), ("of a CID-keyed one", "CID", "abbb", "ss", "subset 1 isn't given back"),
+            ("of a SID-keyed one", "SID", "abbb", "ss", None), ("the third of a SID-keyed one", "SID", "abcc", "ss", "subset 2 isn't given back"), ("the last of a SID-keyed one", "SID", "abbc", "ss", "subset 2 isn't given back"), ("other charstrings", "SID", "abbb", "st", "the second subset has other charstrings"),
+            ("other charstrings of another kind", "TrueType", "aaaa", "st", None), ("refused", "SID", ["no"], "ss", "the face is refused: no"), ("the second refused", "TrueType", [b"a", "no"], "ss", "subset 2 is refused: no"), ("the last refused", "TrueType", [b"a", b"a", b"a", "no"], "ss", "subset 4 is refused: no")):
+        given, answers = [], [it.encode() for it in made] if isinstance(made, str) else made
+        take = popped(answers)
+        with patched((script, "kind", lambda *_, kind=kind: kind), (script, "table", lambda *_: b""), (script, "u16", lambda *_: 80), (script, "count", lambda _: 7), (script, "charstrings", popped(strings)),
+                     (script, "subset", lambda program, path, index, glyphs, out, given=given, take=take: given.append((program, path, index, glyphs, out)) or take())):
+            tests.same(f"a fixed point: {what}", script.fixed_point("/p", face, 3, room), (kind, wanted))
+        tests.same("its first subset", (given[0][:3], given[0][3][0], len(set(given[0][3])), given[0][4]), (("/p", face, 3), 0, 61, f"{room}/point0"))
+        tests.same("its others", given[1:], [("/p", f"{room}/point{k}", 0, list(range(7)), f"{room}/point{k + 1}") for k in range(len(given) - 1)])
+    for what, kind, wrong, other, refused, verify, wanted in (
+            ("whole", "CID", None, None, None, None, []), ("a glyph that draws otherwise", "CID", 3, None, None, None, ["face.ttf: step 3, glyph 2 draws otherwise"]), ("another subset", "CID", None, 5, None, None, ["face.ttf: step 5 isn't the subset of the first font"]), ("another one of a SID-keyed font", "SID", None, 5, None, None, []),
+            ("refused", "CID", None, None, 2, None, ["face.ttf: step 2 is refused: no"]), ("not verified", "SID", None, None, None, "/v", [f"face.ttf: step {it}: why" for it in range(1, 6)])):
+        step = [0]
+
+        def subset(*words, step=step, other=other, refused=refused):
+            is_first = words[-1].endswith(".first")
+            step[0] += not is_first
+            return "no" if step[0] == refused else b"other" if is_first and step[0] == other else b"font"
+        with patched((script, "kind", lambda *_, kind=kind: kind), (script, "table", lambda *_: b""), (script, "u16", lambda *_: 80), (script, "subset", subset), (script, "draws_alike", lambda *_, step=step, wrong=wrong: [2] if step[0] == wrong else []),
+                     (script.subprocess, "run", lambda *_, **__: ended(1, b"why"))):
+            found = []
+            printed(lambda found=found, verify=verify: found.extend(script.chain("/p", face, 0, verify, room)))
+        tests.same(f"a chain: {what}", found, wanted)
+    for said, made, wanted in (("ok 7 6 5 0123\n", b"font", b"font"), ("error x\n", b"older", "error x"), ("", b"older", ""), ("okay\n", b"older", "okay")):
+        given = []
+
+        def run(words, said=said, made=made, given=given, **_):
+            given.append((words, read_of(words[-1])))
+            put(made, room, "made")
+            return ended(0, said.encode())
+        with mock.patch.object(script.subprocess, "run", run):
+            tests.same(f"a subset where dev_bench says {said!r}", (script.subset("/p", "/f", 3, [0, 7], f"{room}/made"), given), (wanted, [(["/p", "--list", f"{room}/made.list"], f"/f 3 0,7 1 {room}/made\n".encode())]))
+    data = os.path.join(ROOT, "bindings", "rust", "tests", "data")
+    made = [read_of(data, it) for it in ("made.ttf", "made.otf")]
+    tests.same("how many glyphs", [script.count(it) for it in made], [struct.unpack(">H", script.table(it, "maxp")[4:6])[0] for it in made])
+    for broken, wrong, status in (([], None, 0), (["a chain"], None, 1), ([], "why", 1)):
+        with patched((script, "CHAINS", [("/c", 0)]), (script, "chain", lambda *_, broken=broken: broken), (script, "chosen", lambda n: [("/a.ttf", 0), ("/b.ttc", 1)] if n == 9 else []), (script.build, "program", lambda _: None), (script.fonts, "install", lambda _: None),
+                     (script, "fixed_point", lambda program, path, *_, wrong=wrong: ("SID" if path == "/a.ttf" else "CID", wrong if path == "/b.ttc" else None))):
+            said = "".join(f"FAILED {it}\n" for it in [*broken, *([f"b.ttc #1 (CID): {wrong}"] if wrong else [])])
+            tests.same(f"again.py: {broken}, {wrong}", printed(script.main, "--faces", "9"), ("fixed point: 2 faces, 1 CID, 1 SID\n" + said, status))
+
+
+def check_portable(tests):
+    """What of portable.py's parts counts, which of them are made again, and the status; what portable_times.py judges."""
+    script, room = module("compare/portable.py"), tempfile.mkdtemp(dir=tests.room)
+    for what, done, last, status in (("alike", [("faces", 5, 0), ("memory", 7, 0)], "12 calls, 0 differ", 0), ("one differs", [("faces", 5, 1), ("memory", 7, 2)], "12 calls, 3 differ", 1), ("none was made", [], "0 calls, 0 differ", 1), ("no call", [("faces", 0, 0)], "0 calls, 0 differ", 1), ("nothing was refused", [("memory", 7, 0, 0)], "7 calls, 0 differ", 1),
+                                     ("nothing was refused elsewhere", [("faces", 7, 0, 0)], "7 calls, 0 differ", 0)):
+        lines = [{"part": part, "calls": calls, "different": different, "refused": more[0] if more else 3} for part, calls, different, *more in done]
+        with patched((script, "compare", lambda *_, lines=lines: lines), (script.portable_build, "built", lambda *words: words[1])):
+            tests.same(f"portable.py: {what}", printed(script.main), (f"portable: {last}\n", status))
+    answer = '{"calls": 7, "different": 1}'
+    for text, status, wanted in ((f"different: a\nnoise\n{answer}\n", 0, ("different: a\n", {"calls": 7, "different": 1})), (f"{answer}\n", 3, ("", f"portable.py: faces ended with 3: {answer}\n")), ("", 0, ("", "portable.py: faces ended with 0: ")), (f"{answer}\nmore\n", 0, ("", f"portable.py: faces ended with 0: {answer}\nmore\n"))):
+        found, given = [], []
+        with mock.patch.object(script.subprocess, "run", lambda words, answer=(status, text), given=given, **more: given.append((words, more["env"]["JOBS"])) or ended(*answer)):
+            said, why = printed(lambda found=found: found.append(script.run("/p", ["faces", 7], 3)))
+        tests.same(f"a harness that ends with {status} and {text!r}", (said, why or found[0], given), (*wanted, [(["/p", "faces", "7"], "3")]))
+    tests.same("items that are spread", [script.spread([*range(10)], it) for it in (0, 3, 10, 20)], [[*range(10)], [0, 3, 6], [*range(10)], [*range(10)]])
+    path, made = put('{"part": "faces", "piece": 0, "wanted": 9, "commit": "abc", "calls": 1}\n', room, "lines"), []
+    for commit, changed, name, part, wanted, is_there in (("abc", False, None, ("faces", 0), 9, True), ("abc", True, None, ("faces", 0), 9, False), ("abd", False, None, ("faces", 0), 9, False), ("abd", False, "abc", ("faces", 0), 9, True), ("abc", False, None, ("faces", 0), 8, False),
+                                                          ("abc", False, None, ("faces", 1), 9, False), ("abc", False, None, ("memory", 0), 9, False)):
+        with mock.patch.object(script.build, "commit", lambda commit=commit, changed=changed: (commit, changed)):
+            results = script.Results(types.SimpleNamespace(results=path, name=name))
+        before, made[:], results.path = len(read_of(path)), [], None
+        printed(lambda results=results, part=part, wanted=wanted: results.part(*part, wanted, lambda: made.append(1) or {"calls": 2}))
+        tests.same(f"a part of {commit}, {changed}, {name}: {part} {wanted}", (made, [it["calls"] for it in results.done], len(read_of(path)) - before), ([] if is_there else [1], [1 if is_there else 2], 0))
+    printed(lambda: setattr(results, "path", path) or results.part("memory", 2, 9, lambda: {"calls": 4}))
+    tests.same("what is kept", [{key: it[key] for key in ("part", "piece", "wanted", "commit", "calls")} for it in script.lines_there(path)[1:]], [{"part": "memory", "piece": 2, "wanted": 9, "commit": "abc", "calls": 4}])
+    tests.same("numbers", (script.PIECE, script.REFUSED_FACES, script.REFUSED_SIZE, script.lines_there(None), script.lines_there(f"{room}/none")), (20000, 60, 400_000, [], []))
+    check_portable_parts(tests, script)
+    check_portable_times(tests)
+
+
+def check_portable_parts(tests, script):
+    """What the harness is called with for each part: faces, requests that are refused, and damaged copies in pieces."""
+    faces = [(f"/f{k}", 0) for k in range(7)]
+    for only, names in (("", ["faces", "memory", "damage"]), ("faces", ["faces"]), ("memory", ["memory"]), ("damage", ["damage"])):
+        ran = []
+
+        def run(program, words, jobs, ran=ran):
+            ran.append((program, words[0], read_of(words[1]).decode(), words[2:], jobs))
+            return {"calls": 1, "different": 0, "refused": 1}
+        given = types.SimpleNamespace(faces=3, only=only, copies=45000, jobs=2, results=None, name="it")
+        import fonts
+        import kinds
+        with tempfile.TemporaryDirectory(dir=tests.room) as room, patched((fonts, "install", lambda _: None), (fonts, "faces", lambda: faces), (script, "known_faces", lambda: [("/k", 0), ("/k", 1)]), (script, "run", run), (kinds, "PACKAGES", []),
+                                                                          (script.os.path, "getsize", lambda path: 400_000 if path == "/f1" else 399_999), (script.build, "commit", lambda: ("abc", False))):
+            done = []
+            printed(lambda done=done: done.extend(script.compare(given, "/p", room)))
+        wanted = [("faces", 0, 3), ("memory", 0, 8), ("damage", 0, 20000), ("damage", 1, 20000), ("damage", 2, 5000)]
+        tests.same(f"the pieces of {only or 'all'}", [(it["part"], it["piece"], it["wanted"]) for it in done], [it for it in wanted if it[0] in names])
+
+        def text(items):
+            return "".join(f"{path}\t{index}\n" for path, index in items)
+        known = [("/k", 0), ("/k", 1)]
+        every = {"faces": [("/p", "faces", text([faces[0], faces[2], faces[4]]), [], 2)], "memory": [("/p", "memory", text(known + [it for it in faces if it[0] != "/f1"]), [], 2)],
+                 "damage": [("/p", "damage", text(known * 3 + faces), words, 2) for words in ([0, 20000], [20000, 20000], [40000, 5000])]}
+        tests.same(f"the parts of {only or 'all'}", ran, [it for name in names for it in every[name]])
+
+
+def check_portable_times(tests):
+    """Which ratios pass a bound, the mean, and the status."""
+    script = module("compare/portable_times.py")
+
+    def row(time, memory=100, capacity=100, size=7, original=None):
+        made = {"font": "f", "glyphs": 3, "crate": {"time": time, "memory": memory, "capacity": capacity, "size": size}, "native": {"time": 100, "memory": 100, "capacity": 100, "size": 7}}
+        return {**made, "original": {"time": original}} if original else made
+    tests.same("ratios", (script.ratios_of(row(110, 120, 90, original=550)), script.ratios_of(row(50))), ({"row": 1.1, "memory": 1.2, "capacity": 0.9, "original": 0.2}, {"row": 0.5, "memory": 1, "capacity": 1}))
+    for what, rows, counted_by, wanted in (("within", [row(110), row(110)], False, []), ("slow", [row(126), row(90)], False, ["f 3: row 1.26"]), ("memory", [row(100, memory=111)], False, ["f 3: memory 1.11"]), ("capacity", [row(100, capacity=111)], False, ["f 3: capacity 1.11"]), ("at the bound", [row(100, 110, 110, original=200)], False, []),
+                                           ("beside the original", [row(100, original=199)], False, ["f 3: original 0.50"]), ("another size", [row(100, size=8)], False, ["f 3: 8 bytes, not 7"]), ("the mean", [row(111), row(111)], False, ["the geometric mean is 1.110"]),
+                                           ("instructions", [row(200, original=200), row(100, memory=111)], True, ["f 3: memory 1.11"])):
+        found = []
+        said = printed(lambda rows=rows, counted_by=counted_by, found=found: found.extend(script.passed([(it, script.ratios_of(it)) for it in rows], types.SimpleNamespace(instructions=counted_by))))[0]
+        tests.same(f"bounds, {what}: {said}", found, wanted)
+        mean = 1
+        for it in rows:
+            mean *= it["crate"]["time"] / 100
+        tests.same(f"the mean, {what}", said, f"\nThe geometric mean of the crate's {'instructions' if counted_by else 'times'}, as a part of the library's: {mean ** (1 / len(rows)):.3f}.\n")
+    tests.same("the bounds", script.LIMITS, {"mean": 1.10, "row": 1.25, "original": 0.5, "memory": 1.1, "capacity": 1.1})
+    for rows, wrong, last, status in (([row(100)], [], "1 rows, 0 past a bound", 0), ([row(100)], ["a"], "1 rows, 1 past a bound", 1), ([], [], "0 rows, 1 past a bound", 1)):
+        with patched((script.fonts, "install", lambda _: None), (script.portable_build, "built", lambda *_: "/p"), (script.build, "preload", lambda *_, **__: "/peak"), (script, "rows_of", lambda *_, rows=rows: iter(rows)), (script, "passed", lambda *_, wrong=wrong: wrong)), mock.patch.dict(os.environ, {"ORIGINAL": ""}):
+            said, ends_with = printed(script.main)
+        tests.same(f"portable_times.py: {said}", (said.splitlines()[-1], ends_with), (f"portable_times: {last}", status))
+
+
+def check_faces(tests):
+    """What faces.py takes for the same, its lists, its table and its status."""
+    script, room = module("compare/faces.py"), tempfile.mkdtemp(dir=tests.room)
+    data = os.path.join(ROOT, "bindings", "rust", "tests", "data", "made.ttf")
+    font = read_of(data)
+    at = script.fonts.directory(font)["maxp"][0]
+    # (the second face is the font; places of tables are those in the file)
+    collection = b"ttcf" + struct.pack(">IIII", 0x10000, 2, 12, 20) + font
+    count = struct.unpack(">H", font[at + 4:at + 6])[0]
+    tests.same("how many glyphs", (script.glyphs_of(font, 0), script.glyphs_of(font.replace(b"maxp", b"none"), 0), script.glyphs_of(collection, 1)), (count, 1, struct.unpack(">H", collection[at + 4:at + 6])[0]))
+    lists = script.lists("/a/b.ttf", 1, 100)
+    tests.same("lists", ([len(set(it)) for it in lists], lists == script.lists("/c/b.ttf", 1, 100), lists == script.lists("/a/b.ttf", 2, 100), all(it == sorted(it) for it in lists), lists[0], script.SIZES), ([1, 3, 40, 100], True, False, True, [0], (0, 3, 40, 400)))
+    for said, reason, wanted in (([("a", "a"), ("a", "b")], "a rule", ["", "a rule"]), ([("a", "b"), ("a", "a")], "", ["not explained", ""])):
+        given = []
+        with patched((script, "answers_of", lambda drivers, tasks, folder, given=given, said=said: given.append((drivers, tasks)) or said), (script, "kind_of", lambda it: f"kind of {it[0]}{it[1]}"), (script, "reasons", lambda *_, reason=reason: reason), (script, "ROOM", room), (script, "lists", lambda *_: [[0], [1, 2]])):
+            tests.same(f"answers {said}", (script.judged("drivers", (data, 0)), given), ([(f"kind of {one}{other}", it) for (one, other), it in zip(said, wanted)], [("drivers", [f"{data} 0 0 1", f"{data} 0 1,2 1"])]))
+    for faces, most, answers, line, left, status in (
+            ([("/a", 0), ("/b", 1)], [], [(("x", "x"), ""), (("x", "y"), "a rule")], "2 faces, 4 answers: 2 the same, 2 different, of which 0 are not explained.", "", 0), ([("/a", 0), ("/b", 1)], [], [(("x", "y"), "not explained")], "2 faces, 2 answers: 0 the same, 2 different, of which 2 are not explained.", "not explained: /a 0\nnot explained: /b 1\n", 1),
+            ([], [], [], "0 faces, 0 answers: 0 the same, 0 different, of which 0 are not explained.", "", 1), ([(f"/{k}", 0) for k in range(9)], ["--faces", "3"], [(("x", "x"), "")], "3 faces, 3 answers: 3 the same, 0 different, of which 0 are not explained.", "", 0)):
+        asked = []
+        with patched((script.fonts, "install", lambda _: None), (script.fonts, "faces", lambda faces=faces: faces), (script, "judged", lambda drivers, face, answers=answers, asked=asked: asked.append((face, drivers)) or answers)):
+            said, ends_with = printed(script.main, "--no-build", *most)
+        tests.same(f"faces.py: {line}", (said.partition(line)[2], ends_with), (f"\n{left}", status))
+        tests.same("which faces", sorted(it for it, _ in asked), sorted(faces[::3] if most else faces))
+        tests.same("their drivers", [it for _, it in asked if it != {"original": script.bench.ORIGINAL, "port": script.bench.PORT}], [])
+    table = "| Answers | Original | Port | Why they differ |\n|---|---|---|---|\n| 2 | x | y | a rule |\n"
+    with patched((script.fonts, "install", lambda _: None), (script.fonts, "faces", lambda: [("/a", 0)]), (script, "judged", lambda *_: [(("x", "y"), "a rule")] * 2)):
+        tests.same("the table", printed(script.main, "--no-build")[0].startswith(table), True)
+
+
+def check_bytes(tests):
+    """The bytes of three subsets: what is run, which rows differ from those of run.py, and what is written."""
+    script, room = module("compare/bytes.py"), tempfile.mkdtemp(dir=tests.room)
+    fonts, given = [(f"of {name}", put(b"x" * (100 + k), room, name), k) for k, (name, _) in enumerate(script.TAKEN)], []
+
+    def run(words, **more):
+        given.append((words, more))
+        put(b"y" * (7 if "--no-names" in words else 20), room, "out")
+        return ended(0)
+    sets = [("80 low", "3-5"), ("80 spread", "9,2,7")]
+    with patched((script.subprocess, "run", run), (script.fonts, "TRUETYPE_FONTS", fonts[:1]), (script.fonts, "CFF_FONTS", fonts[1:]), (script.fonts, "glyph_count", lambda *_: 9), (script.fonts, "glyph_sets", lambda _: sets), (script.fonts, "label", lambda path, index: f"{os.path.basename(path)} {index}")):
+        rows = list(script.rows_of("/p", room))
+    tests.same("rows", rows, [["DejaVuSans.ttf 0", "80 low", 100, 20, 7], ["LinLibertine_R.otf 1", "80 low", 101, 20, 7], ["NotoSansCJK-Regular.ttc 2", "80 spread", 102, 20, 7]])
+    tests.same("what is run", [it for it, _ in given], [["/p", "--quiet", *more, path, f"{room}/out", str(index), glyphs] for (_, path, index), glyphs in zip(fonts, ("3,4,5", "3,4,5", "9,2,7")) for more in ([], ["--no-hinting", "--no-names", "--no-glyph-names"])])
+    with patched((script.subprocess, "run", lambda *_, **__: ended(3, "", "why\n"))):
+        tests.same("a font that is refused", printed(lambda: script.subset_bytes("/p", [], "/f/a.ttf", 0, "1", room))[1], "bytes.py: a.ttf: why")
+    given.clear()
+    with patched((script.subprocess, "run", lambda words, **more: given.append((words, more)))):
+        tests.same("the program", (script.cargo_program("/room"), given), ("/room/release/subset_font", [(["cargo", "build", "--release", "--offline", "--quiet", "--features", "program", "--target-dir", "/room"], {"cwd": f"{ROOT}/bindings/rust", "check": True})]))
+    with patched((script.subprocess, "run", run), (script, "cargo_program", lambda it: f"built in {it}"), (script, "rows_of", lambda program, at: iter([[program == f"built in {at}", 0, 0, 0, 0]])), (script.fonts, "install", lambda _: None)):
+        tests.same("the program where none is named", "| True | 0 | 0 | 0 | 0 |" in printed(script.main)[0], True)
+    # (a row of run.py has the source and twice the output in KiB: 100 + 40 bytes are 0.1)
+    put("# stamp\nfont,glyphs kept,source and twice the output KiB\nDejaVuSans.ttf 0,80 low,0.1\nDejaVuSans.ttf 0,3 low,0.3\n", room, "truetype.csv")
+    put("# stamp\nfont,glyphs kept,source and twice the output KiB\nLinLibertine_R.otf 1,80 low,0.2\n", room, "cff.csv")
+    tests.same("rows that differ", script.differing(rows, room), rows[1:])
+    with patched((script.build, "commit", lambda: ("abc", True)), (script.results_of, "machine", lambda: "a machine")):
+        script.write(room, rows[:1])
+    tests.same("what is written", re.sub(r"\d{4}-\d\d-\d\d", "DAY", read_of(room, "bytes.csv").decode()), "# compare/bytes.py --results compare/results, commit abc with changes, DAY, a machine\n" + ",".join(script.HEAD) + "\nDejaVuSans.ttf 0,80 low,100,20,7\n")
+    for words, differ, wanted, is_written in (([], rows, "", False), (["--results", room], [], "", True), (["--results", room], rows[:1], "FAILED DejaVuSans.ttf 0: run.py saw other bytes\n", False)):
+        done = []
+        with patched((script.fonts, "install", lambda it, done=done: done.append(sorted(it))), (script, "rows_of", lambda program, _: iter(rows) if program == "/p" else None), (script, "differing", lambda *_, differ=differ: differ), (script, "write", lambda *it, done=done: done.append(it))):
+            said, status = printed(script.main, "--program", "/p", *words)
+        head = "".join(f"| {' | '.join(map(str, it))} |\n" for it in [script.HEAD, ["---"] * 5, *rows])
+        tests.same(f"bytes.py {words}", (said, bool(status), done[1:], len(done[0])), (head + wanted, bool(wanted), [(room, rows)] * is_written, 3))
+    tests.same("its rows", script.TAKEN, [("DejaVuSans.ttf", "80 low"), ("LinLibertine_R.otf", "80 low"), ("NotoSansCJK-Regular.ttc", "80 spread")])
+
+
+def check_processors(tests):
+    """The sums and the mean of cpu.py, what it writes, and its status; which answers of aarch64.py differ."""
+    sys.path.insert(0, os.path.join(ROOT, "dist"))
+    script, room = module("compare/cpu.py"), tempfile.mkdtemp(dir=tests.room)
+    os.mkdir(os.path.join(room, "results"))
+    there = put("", room, "there.ttf")
+    for times, ratio, mean, status in (([(105, 100), (210, 200)], "1.050", "1.050", False), ([(106, 100), (210, 200)], "1.053", "1.055", True), ([(100, 200), (900, 800)], "1.000", "0.750", False)):
+        rows = [["a.ttf", f"{k} low", *it] for k, it in enumerate(times)]
+        given = []
+        with patched((script, "HERE", room), (script, "drivers", lambda at: {"x86-64": at}), (script, "measured", lambda *words, given=given, rows=rows: given.append(words) or iter(rows)), (script.fonts, "install", lambda _: None), (script.fonts, "TRUETYPE_FONTS", [("p", there, 0), ("q", f"{room}/gone.ttf", 0)]),
+                     (script.fonts, "CFF_FONTS", []), (script.subprocess, "run", lambda *_, **__: ended(0, "abc\n")), (script.os, "cpu_count", lambda: 3), (script.os, "getloadavg", lambda: (1, 2, 0.25)), (script.bench, "ROUNDS", 8)):
+            said, ends_with = printed(script.main, "--rounds", "5", "--seconds", "0.5", "--keep", room)
+            tests.same("rounds", script.bench.ROUNDS, 5)
+        lines = [f"a.ttf,{k} low,{one},{other},{one / other:.3f}" for k, (one, other) in enumerate(times)]
+        last = f"2 rows of 1 fonts; sums {sum(it[0] for it in times)} and {sum(it[1] for it in times)} ns, ratio {ratio}; geometric mean of the ratios {mean}"
+        tests.same(f"cpu.py: {times}", (said, ends_with), ("\n".join([*lines, last, ""]), status))
+        tests.same("what it writes", read_of(room, "results", "cpu.csv").decode(), f"# compare/cpu.py --rounds 5 --seconds 0.5 --keep {room}, commit abc, 3 cores, load 0.2; {last}\nfont,glyphs kept,x86-64 ns,x86-64-v2 ns,ratio\n" + "\n".join(lines) + "\n")
+        tests.same("what is measured", given[0][:3], ({"x86-64": room}, [("p", there, 0)], 0.5))
+    tests.same("the most", script.MOST, 1.05)
+    found = [{"x86-64": (7, 9), "x86-64-v2": (6, 8)}, {"x86-64": (5, 9)}]
+    with patched((script.fonts, "glyph_count", lambda *_: 9), (script.fonts, "glyph_sets", lambda _: [("3 low", "1-3"), ("all", "0-8")]), (script.bench, "least_times", popped(found)), (script.fonts, "label", lambda path, index: f"{path} {index}")):
+        tests.same("rows that both have", list(script.measured({"x86-64": "/a", "x86-64-v2": "/b"}, [("p", "/f", 1)], 1, room)), [["/f 1", "3 low", 7, 6]])
+    calls = []
+    kit = types.SimpleNamespace(compile=lambda *words: calls.append(("compile", *words)), link=lambda *words: calls.append(("link", *words)))
+    with mock.patch.object(script, "Kit", lambda: kit):
+        both = {it: os.path.join(room, it) for it in ("x86-64", "x86-64-v2")}
+        tests.same("drivers", (script.drivers(room), calls), (both, [it for name, cpu in (("x86-64", None), ("x86-64-v2", "x86-64-v2")) for it in (("compile", "dev_bench", "x86_64", f"{room}/{name}.o", cpu), ("link", f"{room}/{name}.o", f"{room}/{name}"))]))
+        put("", room, "x86-64")
+        calls.clear()
+        tests.same("drivers of which one is there", (script.drivers(room), [it[1] for it in calls if it[0] == "link"]), (both, [f"{room}/x86-64-v2.o"]))
+    check_aarch64(tests)
+
+
+def check_aarch64(tests):
+    script, room = module("compare/aarch64.py"), tempfile.mkdtemp(dir=tests.room)
+    put("noise\ncommit abc\nmore\n", room, "PROVED")
+    whole = b"".join(b"a: status %d, x\n" % it for it in (0, 0, 0, 0, 0, 2))
+    for what, one, other, fonts, last, status in (("alike", whole, whole, 2, f"2 fonts, 12 calls on each processor (2 refused), {2 * len(whole)} bytes of answers: 0 fonts differ", 0), ("another byte", whole, whole[:-2] + b"y\n", 2, f"2 fonts, 12 calls on each processor (2 refused), {2 * len(whole)} bytes of answers: 2 fonts differ", 1),
+                                                  ("few answers", whole[16:], whole[16:], 1, f"1 fonts, 6 calls on each processor (1 refused), {len(whole) - 16} bytes of answers: 1 fonts differ", 1), ("no font", whole, whole, 0, "0 fonts, 0 calls on each processor (0 refused), 0 bytes of answers: 0 fonts differ", 1)):
+        given = []
+        with patched((script, "installed", lambda wanted, fonts=fonts: [(9, f"/f{k}") for k in range(fonts)] if wanted == 7 else None), (script, "program", lambda processor, folder, *_: (processor, folder)),
+                     (script, "answers", lambda words, line, _, one=one, other=other, given=given: given.append((words, line)) or (one if words[0] == "x86_64" else other))):
+            said, ends_with = printed(script.main, "--fonts", "7", "--from", room)
+        differs = "".join(f"differs: /f{k}\n" for k in range(fonts)) if what in ("another byte", "few answers") else ""
+        tests.same(f"aarch64.py: {what}", (said, ends_with), (f"{differs}{last}; packages of the commit abc\n", status))
+        tests.same("what is asked", given, [((it, room), f"9 /f{k}\n".encode()) for k in range(fonts) for it in ("x86_64", "aarch64")])
+    tests.same("processors", script.BY, {"x86_64": ("cc", []), "aarch64": ("aarch64-linux-gnu-gcc", ["qemu-aarch64-static", "-L", "/usr/aarch64-linux-gnu"])})
+    given = []
+    with mock.patch.object(script.subprocess, "run", lambda words, **more: given.append((words, more)) or ended(0, b"x")):
+        tests.same("an answer", (script.answers(["/p"], b"line", "/room"), given), (b"x", [(["/p"], {"input": b"line", "stdout": subprocess.PIPE, "cwd": "/room", "check": True})]))
+
+
+def check_platforms(tests):
+    """How numbers are made in pieces and kept, which of them differ, and the status."""
+    script, room = module("compare/platforms.py"), tempfile.mkdtemp(dir=tests.room)
+    path, pieces = script.Path(room), []
+    kept = path / "kept" / "0-2"
+    with mock.patch.object(script.subprocess, "run", lambda words, **_: pieces.append(words) or ended(0, b"0 a\n1 b\n", b"")):
+        first, again = (script.piece(["/p"], "listed", 3, 2, kept) for _ in range(2))
+        tests.same("a piece", (first[0], again[0], pieces, os.listdir(kept.parent)), (["0 a", "1 b"], ["0 a", "1 b"], [["/p", "numbers", "listed", "3", "2"]], ["0-2"]))
+        script.piece(["/p"], "listed", 3, 2, None)
+        tests.same("one that isn't kept", len(pieces), 2)
+    with mock.patch.object(script.subprocess, "run", lambda words, **_: ended(5, b"0 a\n", b"why\n")):
+        tests.same("a piece that fails", printed(lambda: script.piece(["/p"], "listed", 3, 2, path / "kept" / "new"))[1], "platforms.py: /p numbers listed 3 2 ends with 5: why\n")
+        tests.same("it isn't kept", os.listdir(kept.parent), ["0-2"])
+    made = []
+    with mock.patch.object(script, "piece", lambda command, listed, first, count, kept: made.append((first, count, kept and kept.name)) or ([f"{k} x" for k in range(first, first + count)], 1.5)):
+        for count, wanted in ((1100, [(0, 505), (505, 505), (1010, 90)]), (505, [(0, 505)])):
+            made.clear()
+            tests.same(f"{count} numbers", (script.numbers(["/p"], "listed", count, 2, path), sorted(made)), (([f"{k} x" for k in range(count)], 1.5 * len(wanted)), [(*it, f"{it[0]}-{it[1]}") for it in wanted]))
+        made.clear()
+        script.numbers(["/p"], "listed", 3, 2, None)
+        tests.same("not kept", made, [(0, 3, None)])
+    put("packages", room, "tools", "packages")
+    listed = path / "listed"
+    listed.write_text("faces")
+    names = [script.kept_of(path, total, listed, path / "tools", name) for total, name in (("sum", "a"), ("sum", "b"), ("other", "a"))]
+    listed.write_text("other faces")
+    names.append(script.kept_of(path, "sum", listed, path / "tools", "a"))
+    listed.write_text("faces")
+    put("other packages", room, "tools", "packages")
+    names.append(script.kept_of(path, "sum", listed, path / "tools", "a"))
+    tests.same("where pieces are kept", (len(set(names)), [it.name[:2] for it in names], script.kept_of(None, "sum", listed, path, "a")), (5, ["a-", "b-", "a-", "a-", "a-"], None))
+    check_platforms_judged(tests, script, path)
+
+
+def check_platforms_judged(tests, script, path):
+    tools = path / "tools"
+    for what, numbers, words, status, last in (
+            ("alike", {"x86-64": "ab", "s390x": "ab", "windows": "ab"}, [], False, "3 platforms, 2 numbers of 0 faces on each, 0 differ"), ("one differs", {"x86-64": "ab", "s390x": "ac", "windows": "bb"}, [], True, "3 platforms, 2 numbers of 0 faces on each, 2 differ"),
+            ("those that are named", {"x86-64": "ab", "s390x": "ab"}, ["s390x"], False, "2 platforms, 2 numbers of 0 faces on each, 0 differ"), ("the first is named, too", {"x86-64": "ab", "windows": "ab"}, ["windows", "x86-64"], False, "2 platforms, 2 numbers of 0 faces on each, 0 differ"),
+            ("one has fewer", {"x86-64": "ab", "s390x": "a", "windows": "ab"}, [], "platforms.py: s390x gives 1 numbers", None), ("x86-64 has fewer", {"x86-64": "a", "s390x": "ab", "windows": "ab"}, [], "platforms.py: x86-64 gives 1 numbers", None), ("no such platform", {}, ["vax"], "platforms.py: the platforms are s390x x86-64 windows", None)):
+        ran, built = [], []
+
+        class Platform:
+            folder = "folder"
+
+            def __init__(self, _, name):
+                self.name = name
+
+            def build(self, total, built=built):
+                built.append((self.name, total))
+
+            def program(self, folder, name):
+                return [self.name, folder, name]
+        test = types.SimpleNamespace(TARGETS={"s390x": 1, "x86-64": 1, "windows": 1}, OUT=path / "out", run=lambda *words, ran=ran: ran.append(words), sources=lambda: "total", Platform=Platform, MACHINES={"s390x": "m", "x86-64": "m", "windows": "m"})
+        with patched((script, "gate", lambda test=test: test), (script, "faces", lambda _: []), (script, "numbers", lambda command, listed, count, *_, numbers=numbers: ([f"{k} {it}" for k, it in enumerate(numbers[command[0]])], 1))):
+            said, ends_with = printed(script.main, "--count", "2", "--tools", str(tools), *words)
+        tests.same(f"platforms.py: {what}", (ends_with, last is None or said.endswith(f"\n{last}\n")), (status, True))
+        if last:
+            tests.same(f"what is run: {what}", (ran[0][1:], built), ((tools.resolve(), *numbers, "all-fonts"), [(it, "total") for it in numbers]))
+            tests.same(f"differences: {what}", re.findall(r"^(\S+): (\d) (\w), on x86-64 \d (\w)$", said, re.M), [(name, str(k), one, other) for name, text in numbers.items() for k, (one, other) in enumerate(zip(text, "ab")) if one != other])
+
+
+def check_binding(tests):
+    """The least times of the binding's drivers, and whether the bytes are the same; which rows of instances pass a bound."""
+    script, room = module("compare/binding.py"), tempfile.mkdtemp(dir=tests.room)
+    for out, status, wanted in (("ok 9 7 3\n", 0, (7, b"font")), ("error x\n", 0, ("error x", b"")), ("", -9, ("died with -9", b""))):
+        given = []
+        with mock.patch.object(script.subprocess, "run", lambda words, answer=(status, out), given=given, **_: given.append(words) or put(b"font", room, "out") and ended(*answer)):
+            tests.same(f"a driver that says {out!r}", (script.call("/p", "/f", 3, "1-3", 9, room), given), (wanted, [["/p", "/f", "3", "1-3", "9", f"{room}/out"]]))
+    for bytes_of, wanted in (({"port": b"a", "binding": b"a", "original": b"a"}, "same"), ({"port": b"b", "binding": b"a", "original": b"a"}, "DIFFER"), ({"port": b"a", "binding": b"a", "original": b""}, "DIFFER")):
+        times = {"port": [9, 7, 8, 9, 9], "binding": [5, 6, 6, 6, 4], "original": [3, 3, 3, 3, "error"]}
+        with mock.patch.object(script, "call", lambda program, *_, times=times, bytes_of=bytes_of: (times[program].pop(0), bytes_of[program])):
+            tests.same(f"a row of {bytes_of}", script.row({it: it for it in bytes_of}, "/f", 0, "1", 9, room), ["7", "4", "error", wanted])
+    script = module("compare/instance_times.py")
+    tests.same("bounds", (script.BESIDE_HARFBUZZ, script.BESIDE_FONTTOOLS, script.MORE), (1.5, 0.01, 8 * 2 ** 20))
+    for what, row, is_missed in (("within", ("f", 80, 150, 100, 1.5, 15000, 8 * 2 ** 20 + 12, 1, 10), False), ("slow", ("f", 80, 151, 100, 1.51, None, 1, 1, 10), True), ("slow for few glyphs", ("f", 79, 151, 100, 1.51, None, 1, 1, 10), False), ("beside fontTools", ("f", 3, 151, 100, 1, 15000, 1, 1, 10), True),
+                                 ("memory", ("f", 3, 1, 1, 1, None, 8 * 2 ** 20 + 13, 1, 10), True)):
+        with patched((script.build, "program", lambda _: None), (script.font_at, "commit", lambda: "abc"), (script.font_at, "versions", lambda: "v"), (script.font_at, "font_paths", lambda *_: []), (script, "rows_of", lambda *_, row=row: iter([row]))):
+            said, status = printed(script.main, "--no-build", "--results", room)
+        name, count, ours, theirs, ratio, whole, held, length, size = row
+        cells = [name, str(count), str(round(ours / 1000)), str(round(theirs / 1000)), f"{ratio:.2f}", str(round(whole / 1e6)) if whole else "", f"{ours / whole:.5f}" if whole else "", str(held), str(size + 2 * length + 8 * 2 ** 20)]
+        tests.same(f"instance_times.py: {what}", (said.split("\n")[-4:], status), ([f"| {' | '.join(cells)} |{' missed' * is_missed}", "", f"1 rows, {int(is_missed)} past their bound.", ""], int(is_missed)))
+        tests.same(f"what it writes: {what}", read_of(room, "instance_times.csv").decode().split("\n")[2:], [",".join(cells), ""])
+    with patched((script.build, "program", lambda _: None), (script.font_at, "commit", lambda: "abc"), (script.font_at, "versions", lambda: "v"), (script.font_at, "font_paths", lambda *_: []), (script, "rows_of", lambda *_: iter([]))):
+        tests.same("no row", printed(script.main, "--no-build")[1], 1)
+    asked, answers = [], {"p1": [(100, 5)] * 3 + [(1, 9)], "d1": [(50, 0), (100, 0), (200, 0)], "p2": [(10, 0), (20, 0), (30, 0), (1, 7)], "d2": [(10, 0)] * 3}
+    with patched((script.instance_tasks, "tasks_of", lambda path, *_: [(80, ["p1"], ["d1"], None)] if path.endswith("a") else [(3, ["p2"], ["d2"], 7)]), (script.instance_tasks, "said", lambda words: asked.append(words[0]) or answers[words[0]].pop(0)), (script, "memory", lambda words, _: 77), (script.os.path, "getsize", lambda _: 9)):
+        rows = list(script.rows_of(["/x/a", "/x/b"], types.SimpleNamespace(turns=3, no_instancer=False), room))
+    tests.same("rows by turns", (rows, asked[:12]), ([("a", 80, 100, 100, 1, None, 77, 9, 9), ("b", 3, 20, 10, 2, 7, 77, 7, 9)], ["p1", "d1", "p2", "d2"] * 3))
+
+
+def check_damage(tests):
+    """Which answers are the same, how copies are counted and kept, and which pieces are made again."""
+    script, room = module("compare/damage.py"), tempfile.mkdtemp(dir=tests.room)
+    damaged = sys.modules["damaged"]
+    tests.same("lines without times", [damaged.without_times(it) for it in ("ok 7 6 5 0123", "error x", "died", "")], ["ok 5 0123", "error x", "died", ""])
+    tests.same("kinds of answers", [damaged.kind_of(it) for it in (("ok 5 a", "ok 5 a"), ("ok 5 a", "ok 5 b"), ("ok 5 a", "error x"), ("error x", "error y"), ("died", "died"))], [("ok", "ok"), ("ok", "ok, other bytes"), ("ok", "error x"), ("error x", "error y"), ("died", "died")])
+    tests.same("names", damaged.names_of({("b", 1), ("a", 2), ("b", 3)}), "a; b")
+    for lines, wanted in ((["a", "b", "c"], ["a", "b", "c"]), (["a"], ["a", "one b", "one c"]), ([], ["one a", "one b", "one c"])):
+        calls = []
+
+        def lines_of(_, tasks, __, lines=lines, calls=calls):
+            calls.append(tasks)
+            return ([f"one {tasks[0]}"] if len(tasks) == 1 and len(calls) > 1 else lines if len(calls) == 1 else []), "died"
+        with mock.patch.object(damaged, "lines_of", lines_of):
+            tests.same(f"a driver that gives {lines}", damaged.run_list("/p", ["a", "b", "c"], room), wanted)
+    calls = []
+    with mock.patch.object(damaged, "lines_of", lambda _, tasks, __: calls.append(tasks) or ({1: ["a"], 3: ["c"]}.get(len(calls), []), "died")):
+        tests.same("one that dies at the second of three", (damaged.run_list("/p", ["a", "b", "c"], room), calls), (["a", "died", "c"], [["a", "b", "c"], ["b"], ["c"]]))
+    for how in ("died", "no end"):
+        with mock.patch.object(damaged, "lines_of", lambda *_, how=how: ([], how)):
+            tests.same(f"one that gives nothing: {how}", damaged.run_list("/p", ["a", "b"], room), [how, how])
+    for program, ended_by, wanted in (("/p", None, (["a", "b"], "died")), (damaged.LIBRARY, None, (["a", "b"], "died")), ("/p", b"a\n", (["a"], "no end")), ("/p", None, (["a", "b"], "died"))):
+        given = []
+
+        def run(words, given=given, ended_by=ended_by, **more):
+            given.append((words, more["timeout"], read_of(words[-1])))
+            if ended_by:
+                raise subprocess.TimeoutExpired("x", 1, output=ended_by)
+            return ended(-9, b"a\nb\n")
+        with mock.patch.object(damaged.subprocess, "run", run):
+            tests.same("lines of a driver", (damaged.lines_of(program, ["t", "u"], room), given), (wanted, [(["sh", "-c", f'ulimit -v {"unlimited" if program == damaged.LIBRARY else "4000000"}; exec "$@"', "", program, "--list", f"{room}/list"], 200, b"t\nu\n")]))
+    rows = [[7, "ok", "ok", "", ""], [2, "ok", "error x", "a rule", "e"], [1, "ok", "error y", "not explained", "e"]]
+    tests.same("a sum", damaged.summed(rows), ("Of 10 copies the answers differ on 3, of which 1 are not explained.", 1))
+    tests.same("numbers", (damaged.AT_MOST, damaged.FOR_ALL, damaged.AT_ONCE, damaged.PIECE, damaged.PIECE_OF_LIBRARY), (30, 200, 100, 100000, 10000))
+    check_counted(tests, damaged, room)
+    check_pieces(tests, script, room)
+
+
+def check_counted(tests, damaged, room):
+    """Copies by their answers, in lots; those that differ are written, and all that aren't explained."""
+    lots, where = [], os.path.join(room, "where")
+
+    def judged(_, make, lot, seed):
+        lots.append((lot[0], lot[-1], make, seed))
+        kinds = {8: (("error x", "error x", ""), "TrueType", b""), **{it: (("ok", "error x", "a rule"), "CFF", b"%d" % it) for it in range(3, 7)},
+                 **{it: (("ok", "ok, other bytes", "not explained"), "TrueType", b"%d" % it) for it in range(9, 13)}}
+        return [(kinds.get(it, (("ok", "ok", ""), "TrueType", b""))[0], *kinds.get(it, (0, "TrueType", b""))[1:2], it, kinds.get(it, (0, 0, b""))[2], f"e{it} ") for it in lot]
+    with mock.patch.object(damaged, "judged", judged), contextlib.redirect_stderr(io.StringIO()) as shown:
+        found = damaged.counted("drivers", "make", range(2, 14), where, "seed", 2, 4)
+    tests.same("counts", found, ([[4, "ok", "error x", "a rule", "e3 e4 e5 "], [4, "ok", "ok, other bytes", "not explained", "e9 e10 e11 e12 "], [3, "ok", "ok", "", ""], [1, "error x", "error x", "", ""]],
+                                 {"TrueType": {"made": 3, "refused": 1, "not explained": 4}, "CFF": {"different": 4}}))
+    tests.same("copies that are written", {it: read_of(where, it) for it in sorted(os.listdir(where))}, {f"{it}.font": b"%d" % it for it in (10, 11, 12, 3, 4, 5, 9)})
+    tests.same("lots", (sorted(lots), shown.getvalue()), ([(2, 5, "make", "seed"), (6, 9, "make", "seed"), (10, 13, "make", "seed")], "6 damaged copies\n10 damaged copies\n14 damaged copies\n"))
+    tests.same("no copies", damaged.refusals({}, [], 0, where), [])
+
+
+def check_pieces(tests, script, room):
+    """Pieces that are there aren't made again but where they are of fewer copies or of another seed; what all say together."""
+    name = os.path.join(room, "pieces")
+    one = {"seed": "s", "commit": "abc", "date": "d", "seconds": 3, "fonts": 9, "kinds": {"CFF": {"made": 5, "not explained": 1}}, "different": [["ok", "x", "a rule", 2], ["ok", "y", "not explained", 1]]}
+    other = {**one, "seconds": 4, "kinds": {"CFF": {"refused": 7}, "TrueType": {"different": 2}}, "different": [["ok", "x", "a rule", 3]]}
+    put("".join(json.dumps(it) + "\n" for it in ({**one, "piece": 0, "copies": 100000}, {**other, "piece": 1, "copies": 20000}, {**one, "piece": 1, "copies": 9, "seed": "t"})), name)
+    tests.same("pieces that are there", ({number: it["seconds"] for number, it in script.pieces_there(name, "s").items()}, script.pieces_there(f"{name}.none", "s")), ({0: 3, 1: 4}, {}))
+    for copies, library, backwards, wanted in ((120000, False, False, []), (100001, False, False, []), (150000, False, False, [(1, 50000)]), (250000, False, True, [(2, 50000), (1, 100000)]), (15000, True, False, [])):
+        made = []
+        given = types.SimpleNamespace(pieces=name, seed="s", library=library, copies=copies, backwards=backwards, jobs=2)
+        with patched((script, "BUILD", room), (script, "make_piece", lambda _, drivers, make, piece, number, *more, made=made: made.append((piece, number))), (script, "tell", lambda lines: len(lines))):
+            try:
+                answer = script.in_pieces("drivers", "make", given, 9)
+            except KeyError:
+                # (a piece that a stand-in made isn't there)
+                answer = None
+        tests.same(f"{copies} copies, {library}, {backwards}", (made, answer), (wanted, None if backwards else 2))
+    lines = list(script.pieces_there(name, "s").values())
+    said, status = printed(lambda: script.tell(lines))
+    tests.same("what pieces say", (status, [it for it in said.split("\n") if it.startswith("| ")]), (1, ["| Kind | Copies | The same font | The same refusal | Different, as listed | Not explained |", "| CFF | 13 | 5 | 7 | 0 | 1 |", "| TrueType | 2 | 0 | 0 | 2 | 0 |", "| Copies | Why the answers differ |", "| 5 | a rule |", "| 1 | not explained |"]))
+    tests.same("its last line", said.split("\n")[-2], "Of 120000 copies the answers differ on 6, of which 1 are not explained. Of 9 fonts; seed s, 2 pieces in 7 seconds; commit abc")
+    for words, unexplained, wanted in ((["--kinds"], 0, 0), (["--kinds"], 3, 1), (["--truetype"], 0, 0), (["--truetype"], 2, 1), ([], 0, 0), ([], 1, 1), (["--tell", "--pieces", name, "--seed", "s"], 0, 1)):
+        with patched((script.fonts, "install", lambda _: None), (script.kinds, "all_fonts", lambda _: []), (script, "by_kinds", lambda _: None), (script, "in_pieces", lambda *_, unexplained=unexplained: unexplained), (script.fonts, "keyed_font", lambda *_: "/k"),
+                     (script, "refusals", lambda *_, unexplained=unexplained: [[9, "ok", "ok", "", ""], [unexplained, "ok", "x", "not explained", ""]])):
+            tests.same(f"damage.py {words}, where {unexplained} aren't explained", printed(script.main, "--no-build", *words)[1], wanted)
+    with patched((script, "counted", lambda drivers, make, numbers, where, seed, jobs, at_once: ([[5, "ok", "ok", "", ""], [2, "ok", "x", "not explained", "e"], [1, "ok", "y", "a rule", "f"]], {"b": {"z": 1, "a": 2}, "a": {}}) if (list(numbers)[0], len(numbers), seed, jobs, at_once) == (30000, 7, "s 3", 2, 500) else 0),
+                 (script.build, "commit", lambda: ("abc", True))):
+        given = types.SimpleNamespace(seed="s", library=True, jobs=2)
+        said = printed(lambda: script.make_piece(f"{name}.new", {}, None, 3, 7, given, 9))[0]
+    line = json.loads(read_of(f"{name}.new"))
+    tests.same("a piece", ({key: it for key, it in line.items() if key not in ("date", "seconds")}, said.split(";")[0]), ({"seed": "s", "piece": 3, "commit": "abc with changes", "copies": 7, "fonts": 9, "kinds": {"a": {}, "b": {"a": 2, "z": 1}}, "different": [["ok", "x", "not explained", 2], ["ok", "y", "a rule", 1]]}, "2 of piece 3: ok, x, not explained"))
+
+
+def check_run(tests):
+    """Where two outputs differ, the cells and the report of run.py, and what it writes."""
+    script, room = module("compare/run.py"), tempfile.mkdtemp(dir=tests.room)
+    font = read_of(ROOT, "bindings", "rust", "tests", "data", "made.ttf")
+    at = script.directory(font)["glyf"][0]
+    changed = font[:at] + bytes([font[at] ^ 1]) + font[at + 1:]
+    tests.same("differences", [script.first_difference(font, it) for it in (font, changed, font[:-1], b"x" + font[1:])], ["same", f"byte {at} (glyf), {len(font)} and {len(font)} bytes", script.first_difference(font, font[:-1]), f"byte 0 (directory or padding), {len(font)} and {len(font)} bytes"])
+    tests.same("one that is cut", script.first_difference(font, font[:-1]).startswith(f"byte {len(font) - 1} ("), True)
+    ok = {"answer": ("ok", 7, 6), "bytes": b"abc"}
+    for port, wanted in ((ok, ["ok", 3, "same"]), ({"answer": ("error x",), "bytes": b""}, ["ok", 3, "original ok, port error x"]), (None, ["ok", 3])):
+        tests.same(f"bytes of {port}", script.bytes_cells({"original": ok, **({"port": port} if port else {})}), wanted)
+    path = put(b"x" * 1024, room, "font")
+    found = {"original": {**ok, "least": 200, "median": 210, "asked": 2048, "peak": 9}, "port": {**ok, "least": 50, "median": 60, "asked": 1024, "peak": 8}, "HarfBuzz": {"least": 70}, "floor": {"least": 5}}
+    tests.same("times", script.time_cells(path, found, {"HarfBuzz": 1, "Binding": 2}), [200, 50, "0.25", 70, "", 5, "2.0", "1.0", "1.0"])
+    tests.same("further", script.further_cells(found), [210, 60, 9, 8])
+    tests.same("times of one that is refused", script.time_cells(path, {**found, "port": {**found["port"], "least": None}}, {}), [200, "", "", 5, "2.0", "1.0", "1.0"])
+    rows = ([["f", 9, "3 low", "ok", 3, "same"], ["g", 9, "3 low", "ok", 3, "byte 1"]], [["f", "3 low", 200, 50, "0.25", 5], ["g", "3 low", 100, 90, "0.90", 5], ["h", "3 low", 100, 90, "", 5]], [["f", "3 low", 1, 2, 3, 4]])
+    text = script.report(rows, [[7, "ok", "ok", "", ""], [1, "ok", "x", "not explained", "e"]], True, {"HarfBuzz": 1})
+    for part in ("\nThe same bytes in 1 of 2 cases.\n", "\nThe greatest ratios: g, 3 low: 0.90; f, 3 low: 0.25.\n", "\nOf 8 copies the answers differ on 1, of which 1 are not explained.\n", "| Font | Kept | Original, ns | Port, ns | Ratio | HarfBuzz, ns | Floor, ns | Original, held | Port, held | Source and twice the output |\n",
+                 "| Font | Kept | Original, median | Port, median | Original, process | Port, process |\n", "| Font | Glyphs | Kept | Original | Bytes | Port |\n"):
+        tests.same(f"the report has {part!r}", part in text, True)
+    times = [["a.ttf", "3 low", 1, 2, "2.00"], ["b.ttc #1", "3 low", 3, 4, "1.33"]]
+    with patched((script.fonts, "CFF_FONTS", [("p", "/x/b.ttc", 1)]), (script.build, "commit", lambda: ("abc", True)), (script.os, "cpu_count", lambda: 3), (sys, "argv", ["run.py", "--all"])):
+        script.write_results(room, times, {"HarfBuzz": 1})
+    head = "# compare/run.py --all, commit abc with changes, 3 cores\nfont,glyphs kept,crate ns,port ns,ratio,harfbuzz ns,floor ns,crate held KiB,port held KiB,source and twice the output KiB\n"
+    tests.same("results", [read_of(room, f"{it}.csv").decode() for it in ("truetype", "cff")], [f"{head}a.ttf,3 low,1,2,2.00\n", f"{head}b.ttc #1,3 low,3,4,1.33\n"])
+
+
+def check_options(tests):
+    """What a subset without an extra may have otherwise, and which faces fail."""
+    sys.path.insert(0, os.path.join(ROOT, "compare", "lib"))
+    script = module("compare/options.py")
+    head, maxp = bytes(range(54)), b"\0\1\0\0" + bytes(range(28))
+    whole = {"glyf": b"1", "loca": b"2", "head": head, "maxp": maxp, "name": b"n", "post": b"\0\2\0\0" + bytes(range(40)), "cvt ": b"c", "fpgm": b"f", "prep": b"p", "hmtx": b"h"}
+    plain = maxp[:14] + b"\0\1" + bytes(12) + maxp[28:]
+    right = {"hinting": {**{it: whole[it] for it in whole if it not in ("cvt ", "fpgm", "prep")}, "glyf": b"less", "loca": b"l", "maxp": plain, "head": head[:8] + b"sums" + head[12:50] + b"xx" + head[52:]},
+             "names": {it: whole[it] for it in whole if it != "name"}, "glyph_names": {**whole, "post": b"\0\3\0\0" + whole["post"][4:32]}}
+
+    def wrong(left_out, **changed):
+        made = {name: it for name, it in {**right[left_out], **changed}.items() if it is not None}
+        with mock.patch.object(script, "tables", lambda data: whole if data == "whole" else made):
+            return script.other_tables("whole", "less", left_out)
+    for left_out, changed, wanted in (
+            ("hinting", {}, []), ("names", {}, []), ("glyph_names", {}, []), ("hinting", {"prep": b"p"}, ["without hinting its tables are glyf head hmtx loca maxp name post prep"]), ("hinting", {"name": None}, ["without hinting its tables are glyf head hmtx loca maxp post"]),
+            ("names", {"name": b"n"}, ["without names its tables are cvt  fpgm glyf head hmtx loca maxp name post prep"]), ("names", {"glyf": b"x"}, ["without names glyf differs"]), ("names", {"head": head[:50] + b"xx" + head[52:]}, ["without names head differs"]),
+            ("names", {"head": head[:8] + b"sums" + head[12:]}, []), ("hinting", {"head": head[:7] + b"x" + head[8:]}, ["without hinting head differs"]), ("hinting", {"maxp": maxp}, ["without hinting maxp differs"]), ("names", {"maxp": plain}, ["without names maxp differs"]), ("hinting", {"hmtx": b"x"}, ["without hinting hmtx differs"]),
+            ("glyph_names", {"post": whole["post"]}, ["without glyph_names post isn't its header"]), ("glyph_names", {"post": b"\0\3\0\0" + whole["post"][4:31]}, ["without glyph_names post isn't its header"]), ("glyph_names", {"loca": b"x"}, ["without glyph_names loca differs"]), ("names", {"post": b"x"}, ["without names post differs"])):
+        tests.same(f"without {left_out}: {changed}", wrong(left_out, **changed), wanted)
+    tests.same("maxp of another version", script.plain_maxp(b"\0\0\x50\0\0\7"), b"\0\0\x50\0\0\7")
+    tests.same("words", (script.WORDS, script.BITS, script.PROGRAMS, script.GLYPHS_A_FACE), ({"hinting": "--no-hinting", "names": "--no-names", "glyph_names": "--no-glyph-names"}, {"hinting": 1, "names": 2, "glyph_names": 4}, ("cvt ", "fpgm", "prep"), 60))
+    for answers, count, is_good, line in (([[], []], 2, True, "2 faces (2 CID), 0 refused with all extras too;"), ([[], None], 2, True, "1 faces (1 CID), 1 refused with all extras too;"), ([["a"], []], 2, False, "2 faces (2 CID), 0 refused with all extras too;"), ([[], []], 3, False, "2 faces (2 CID), 0 refused with all extras too;")):
+        with patched((script, "chosen", lambda folders, count, answers=answers: [("CID", f"/{k}.otf", 0, 9) for k in range(len(answers))]), (script, "one_face", popped(answers))):
+            good = []
+            said = printed(lambda good=good, count=count: good.append(script.compare("/p", count, [])))[0]
+        tests.same(f"faces that are {answers}: {said}", (good, line in said, said.count("FAILED /"), said.count("FAILED")), ([is_good], True, 0, sum(bool(it) for it in answers) + (count > len(answers))))
+    for old, count, is_good, line in ((b"a", 2, True, "4 calls, 0 of them refused: 4 answered alike, 0 not"), (b"b", 2, False, "4 calls, 0 of them refused: 0 answered alike, 4 not"), ("no", 2, False, "4 calls, 4 of them refused: 0 answered alike, 4 not"), (b"a", 3, False, "4 calls, 0 of them refused: 4 answered alike, 0 not")):
+        with patched((script, "faces", lambda _: [("CID", f"/{k}.otf", 0, 9) for k in range(2)]), (script, "answer", lambda program, *_, old=old: old if program == "/old" else b"a")):
+            good = []
+            said = printed(lambda good=good, count=count: good.append(script.same("/old", "/new", count, [])))[0]
+        tests.same(f"programs of which one answers {old!r}", (good, line in said), ([is_good], True))
+    for words, name in (([], "compare"), (["--sizes"], "sizes"), (["--same", "/old"], "same")):
+        for good in (True, False):
+            with patched((script.build, "program", lambda it: it), *((script, it, lambda *_, it=it, good=good, name=name: good if it == name else None) for it in ("compare", "sizes", "same"))):
+                tests.same(f"options.py {words}", printed(script.main, *words)[1], 0 if good else 1)
+
+
+def check_hostile(tests):
+    """What a run under a bound may hold, the slowest of them, and the status; how a run that was refused a request is judged."""
+    script, room = module("compare/hostile.py"), tempfile.mkdtemp(dir=tests.room)
+    for bound, held, answer, wanted in ((1000, 100 + 3000 + 256 * 7, "", True), (1000, 100 + 3000 + 256 * 7 + 1, "", False), (0, 10 ** 9, "", True), (1000, 5, "overflow occurred", True)):
+        given, times = [], [0.05, 0.03, 0.04]
+
+        def seen(words, env, given=given, times=times, held=held, answer=answer):
+            given.append((words, {key: it for key, it in env.items() if key != "PATH"}))
+            put(str(held), env["PEAK"])
+            put(b"y" * 50, room, "out")
+            return times[len(given) - 1], answer
+        with mock.patch.object(script, "seen", seen):
+            found = []
+            said = printed(lambda bound=bound, found=found: found.extend(script.family_row("it", b"x" * 100, 7, bound, room)))[0]
+        work, limits = 100 + (bound or (0 if answer else 50)) + 7 * script.TOKENS, f"{script.TOKENS},64" + (f",{bound}" if bound else "")
+        cells = ["it", "100", "7", str(bound or "none"), answer or "a font of 50 bytes", "30.0", str(held), f"{held / (100 + 3 * bound + 1792):.2f}" if bound else "", f"{0.03e9 / work:.3f}"]
+        tests.same(f"a family under {bound} that holds {held}", (found[0], round(found[1], 6), said), (wanted, round(0.03e9 / work, 6), f"| {' | '.join(cells)} |\n"))
+        words = [script.build.FONT, "--quiet", "--limits", limits, "--gids-file", f"{room}/gids", f"{room}/font", f"{room}/out", "0"]
+        tests.same("how it is run", (given, read_of(room, "gids")), ([(words, {"LD_PRELOAD": script.COUNTER, "PEAK": f"{room}/peak"})] * 3, b"0-6"))
+    for status, err, wanted in ((0, "", ""), (1, "why\nmore\n", "why"), (-9, "", "died with -9")):
+        with mock.patch.object(script.subprocess, "run", lambda *_, status=status, err=err, **__: ended(status, "", err)):
+            tests.same(f"a run that ends with {status}", script.seen(["x"], {})[1], wanted)
+    with mock.patch.object(script.subprocess, "run", side_effect=subprocess.TimeoutExpired("x", 1)):
+        tests.same("one that doesn't end", script.seen(["x"], {}), (600, "no end"))
+    families = [("one", lambda: b"1", 9, None, 0), ("two", lambda: b"2", 8, lambda: b"small", 3)]
+    for holds, status, count in ((True, True, 0), (False, False, 2)):
+        rows = []
+        with patched((script.families, "ALL", families), (script, "family_row", lambda name, font, asked, bound, _, rows=rows, holds=holds: rows.append((name, font, asked, bound)) or (holds or bound != 5, 9.0 if bound == 0 else float(bound)))):
+            said, answer = printed(lambda: script.all_families((5, 7), ""))
+        tests.same("families", (rows, answer, said.split("\n")[-2]), ([("one", b"1", 9, 0), ("one", b"1", 9, 5), ("one", b"1", 9, 7), ("two", b"small", 3, 0), ("two", b"2", 8, 5), ("two", b"2", 8, 7)], status, f"6 runs, of which {count} hold more than they may; at most 7.00 ns under a bound"))
+        with patched((script, "all_families", lambda bounds, only, status=status: status if (tuple(bounds), only) == ((1000000, 64000000), "w") else None)):
+            tests.same("hostile.py --families", printed(script.main, "--no-build", "--families", "--only", "w")[1], 0 if status else 1)
+    tests.same("numbers", (script.BOUNDS, script.ONCE, script.AT_MOST, script.TOKENS), ((1000000, 64000000), 0.1, 600, 1000000))
+    check_refusing(tests, room)
+
+
+def check_refusing(tests, room):
+    refused, given = module("compare/lib/refused.py"), []
+
+    def run(words, answer=0, said="9 1 3 400 reading less 1 2 3 4 5 6 7 8", **more):
+        given.append((words, more["cwd"], {key: it for key, it in more["env"].items() if key != "PATH"}, more["timeout"]))
+        put(said, more["env"]["TOLD"])
+        return ended(answer, b"out", b"err")
+    with mock.patch.object(refused.subprocess, "run", run):
+        got = refused.run(["/p"], room, REFUSE=3, WITHIN="clock")
+    tests.same("how a run ended", got, refused.Ended(0, b"out", b"err", 9, 1, 3, 400, "reading", True, dict(zip(refused.CALLS, range(1, 9)))))
+    tests.same("how it was started", (given, os.path.exists(f"{room}/told")), ([(["/p"], room, {"LD_PRELOAD": refused.REFUSE, "TOLD": f"{room}/told", "REFUSE": "3", "WITHIN": "clock"}, 100)], False))
+    with mock.patch.object(refused.subprocess, "run", lambda *words, **more: run(*words, answer=-11, **more)):
+        tests.same("a run that dies", printed(lambda: refused.run(["/p"], room)), ("refusals.py: ['/p'] with {} died by signal 11\n", 1))
+    for change, is_well in (({}, True), ({"blocks": 4}, False), ({"held": 401}, False), ({"held": 399}, False), ({"requests": 7, "out": b""}, True)):
+        other = refused.Ended(**{**vars(got), **change})
+        said, status = printed(lambda other=other: refused.gives_back(got, other, "it"))
+        tests.same(f"what is given back with {change}", (status, said.startswith("refusals.py: it: memory is lost, 3 blocks were held: ")), (None, False) if is_well else (1, True))
+    numbers = []
+
+    def refusing(words, at, **wishes):
+        numbers.append((words, at, wishes, refused.take(room, "out")))
+        refused.put(room, "out", b"x")
+        return refused.Ended(**{**vars(got), "refused": int(wishes["REFUSE"] < 4)})
+    with mock.patch.object(refused, "run", refusing):
+        tests.same("each refusal", [it for it, _ in refused.each_refusal(["/p"], room, WITHIN="clock")], [1, 2, 3])
+    tests.same("its runs", numbers, [(["/p"], room, {"REFUSE": k, "WITHIN": "clock"}, None) for k in range(1, 5)])
+    for holds, wanted in ((True, ("", None)), (False, ("refusals.py: it: got\n", 1)), (None, ("refusals.py: it: got\n", 1))):
+        tests.same(f"a demand that is {holds}", printed(lambda holds=holds: refused.demand(holds, "it", "got")), wanted)
+
+
+# ---- the words of all these scripts
+
+# Each option that a script has, with what it is where nobody gives it: ? a choice that isn't taken, nothing at all for none.
+DEFAULTS = """\
+.ci/conventions.py list? shrink? root=.
+.ci/drivers.py crates=crates
+.ci/large.py program=crates/subset_font/out/subset_font
+.ci/program.py program=crates/subset_font/out/subset_font only= first? cargo? system run
+.ci/width.py write? list=.ci/width.txt crate=bindings/rust target alone?
+compare/aarch64.py fonts=200 folder=dist/out
+compare/again.py faces=200 program=crates/dev_bench/out/dev_bench verify no_install?
+compare/batch.py requests=1000 rounds=5 glyphs=80 fonts=10 folder=/dev/shm disk program
+compare/binding.py calls=2000 no_build?
+compare/bytes.py program results no_install?
+compare/cff2.py folders places=20 glyphs=0 seed=1 only= jobs=2 fonts? damage hostile? seconds=1 program no_install?
+compare/cff2_fonts.py folder=compare/build/cff2 glyphs=65535 seed=1 small? no_install?
+compare/cff2_plants.py only= program=crates/subset_font/out/subset_font stand_in
+compare/cff2_times.py folders turns=12 calls=5 only= bench=crates/dev_bench/out/dev_bench no_build? results any_machine?
+compare/contracts.py trees names quiet? twins?
+compare/cpu.py seconds=0.03 rounds=8 only= no_install? keep
+compare/damage.py no_build? copies=20000 seed=aimed jobs=2 only= truetype? library? kinds pieces backwards? tell?
+compare/faces.py no_build? faces=0 jobs=2
+compare/faults.py program only= part=start,calls,signals,disk,folders,streams skip= first?
+compare/gate.py words log minutes commit
+compare/hostile.py no_build? instructions? families? bytes=1000000,64000000 only=
+compare/instance.py folders places=20 glyphs=100 seed=1 only= jobs=2 program=crates/dev_parts/out/dev_parts to results no_install?
+compare/instance_times.py folders turns=12 no_build? no_instancer? results
+compare/instances.py folders places=20 glyphs=100 seed=1 only= jobs=2 damage results hostile?
+compare/limits.py folders all? only= no_build?
+compare/options.py faces fonts= program=crates/subset_font/out/subset_font bench=crates/dev_bench/out/dev_bench sizes? same
+compare/pdf.py font index glyphs faces variable cff2 places=20 only= plant jobs=1 specimen weights keep bare?
+compare/pdf_font.py faces=150 copies=150 seen=6 seed=pdf_font jobs=2 crate=bindings/rust program no_pdfbox? keep
+compare/pdf_font_plants.py only= answers?
+compare/pdf_font_readers.py only= crate=bindings/rust keep
+compare/pdf_font_times.py rounds=20 milliseconds=20 only= any_machine? crate=bindings/rust
+compare/platforms.py count=10095 tools=out/targets jobs=PROCESSORS kept names
+compare/portable.py copies=20000 faces=0 jobs=2 only= results name crate=bindings/rust native=bindings/rust-native library=bindings/c/out
+compare/portable_times.py rounds=20 milliseconds=20 only= instructions? results crate=bindings/rust native=bindings/rust-native library=bindings/c/out
+compare/refusals.py no_build? more? program?
+compare/run.py original_only? no_install? no_build? cff? all? binding? only= growth copies=2000 seconds=0.05 to=compare/build/report.md results
+compare/speed.py growth? runs=5 seconds=0.02 only= font most=2000 results no_install? no_build? stand_in
+compare/widths.py program=crates/subset_font/out/subset_font
+compare/wrong_bodies.py edits anew? jobs=2 results drawn
+"""
+
+
+class Asked(Exception):
+    """A script has come to its words: these, and what each is without one."""
+
+
+def check_defaults(tests):
+    """What each script does where no option says otherwise; none is left out of the table."""
+    def parse(self, *_):
+        raise Asked({it.dest: it.default for it in self._actions if it.dest != "help"})
+
+    def cell(name, value):
+        if value is None or value is False:
+            return name + "?" * (value is False)
+        text = ",".join(map(str, value)) if isinstance(value, (list, tuple)) else str(value)
+        return f"{name}={text.replace(ROOT + os.sep, '').replace(ROOT, '.')}"
+    wanted = dict(it.partition(" ")[::2] for it in DEFAULTS.strip().split("\n"))
+    listed = subprocess.run(["git", "ls-files", "compare/*.py", ".ci/*.py"], cwd=ROOT, capture_output=True, text=True).stdout.split()
+    have = [it for it in listed if it.count("/") == 1 and not it.endswith("_test.py") and b".add_argument(" in read_of(ROOT, it)]
+    tests.same("scripts with words", sorted(have), sorted([*wanted, ".ci/plants.py"]))
+    for path, words in wanted.items():
+        with mock.patch("argparse.ArgumentParser.parse_args", parse), mock.patch("argparse.ArgumentParser.parse_known_args", parse), mock.patch.object(os, "cpu_count", lambda: 4):
+            try:
+                said = printed(module(path).main)
+            except Asked as asked:
+                said = " ".join(cell(*it) for it in asked.args[0].items())
+        tests.same(f"the words of {path}", said, words.replace("PROCESSORS", "4"))
 
 
 # ---- compare/lib/speed_figures.py
@@ -1720,7 +2488,7 @@ def check_judges(tests):
 
 
 GROUPS = [check_batch, check_limits, check_large, check_drivers, check_program, check_running, check_examples, check_pdf, check_all, check_speed, check_times,
-          check_fresh, check_builds, check_fonts, check_commands, check_gate, check_tables, check_original, check_judges]
+          check_fresh, check_builds, check_fonts, check_commands, check_gate, check_widths, check_again, check_portable, check_faces, check_bytes, check_processors, check_platforms, check_binding, check_damage, check_run, check_options, check_hostile, check_defaults, check_tables, check_original, check_judges]
 
 
 def main():

@@ -7,8 +7,10 @@ wrong, bindings/copies and bindings/version over changed files, and which packag
 
 The last line is `tools_test: N checks, M failed`, and the status 1 where one failed.
 """
+import contextlib
 import importlib.machinery
 import importlib.util
+import io
 import json
 import os
 import re
@@ -358,15 +360,15 @@ def check_width_run(tests):
     put("".join(f"    a{k:03}+ b\n" for k in range(1, 121)), room, "src", "proved", "low", "mod.rs")
     mir = "\n".join(body("_5 = AddWithOverflow(copy _1, const 1_usize)", k) for k in range(1, 121))
     beside = body("_5 = AddWithOverflow(copy _1, const 1_usize)", 1, path="src/other.rs")
-    put('#!/bin/bash\necho "$RUSTC_BOOTSTRAP ${RUSTFLAGS:-none} $*" > "$LOG"\nfor it in "$@"; do [[ $it = --emit=mir=* ]] && cp "$MIR" "${it#--emit=mir=}"; done\nexit ${FAILS:-0}\n', room, "tools", "cargo", mode=0o755)
+    put('#!/bin/bash\necho "$RUSTC_BOOTSTRAP ${RUSTFLAGS:-none} ${CARGO_ENCODED_RUSTFLAGS:-none} ${CARGO_BUILD_TARGET:-none} $CARGO_TARGET_DIR $*" > "$LOG"\nfor it in "$@"; do [[ $it = --emit=mir=* ]] && cp "$MIR" "${it#--emit=mir=}"; done\nexit ${FAILS:-0}\n', room, "tools", "cargo", mode=0o755)
     listed, log = os.path.join(room, "list"), os.path.join(room, "log")
 
     def width(*words, text=mir + "\n" + beside, **env):
         put(text, room, "mir")
-        return run(sys.executable, os.path.join(HERE, "width.py"), "--alone", "--crate", room, "--list", listed, *words, tools=f"{room}/tools", MIR=f"{room}/mir", LOG=log, RUSTFLAGS="-x", **env)
+        return run(sys.executable, os.path.join(HERE, "width.py"), "--alone", "--crate", room, "--list", listed, *words, tools=f"{room}/tools", MIR=f"{room}/mir", LOG=log, RUSTFLAGS="-x", CARGO_ENCODED_RUSTFLAGS="-y", CARGO_BUILD_TARGET="z", CARGO_TARGET_DIR="/other", **env)
     status, out, _ = width()
     tests.same("nothing is reviewed", (status, out.count(": not reviewed\n"), out.split("\n")[-2]), (1, 120, "width: 120 steps, 120 wrong"))
-    tests.like("Cargo's words", read(log), r"^1 none rustc --offline --quiet --lib --features program -- --emit=mir=\S+ -Zmir-include-spans=on -C overflow-checks=on -C debug-assertions=on --cap-lints=allow$")
+    tests.like("Cargo's words", read(log), r"^1 none none none (?!/other)\S+/width-\w+/target rustc --offline --quiet --lib --features program -- --emit=mir=\S+ -Zmir-include-spans=on -C overflow-checks=on -C debug-assertions=on --cap-lints=allow$")
     status, out, _ = width("--write")
     tests.same("a list without reasons", (status, out.count(": no reason\n")), (1, 120))
     put(read(listed).replace("\t?\n", "\tsmall\n"), listed)
@@ -377,6 +379,23 @@ def check_width_run(tests):
         status, _, err = width(text=text)
         tests.same(f"{what}: {err}", (status, why in err), (1, True))
     tests.same("Cargo fails", (width(FAILS="1")[0], "no MIR of" in width(FAILS="1")[2]), (1, True))
+    width("--target", f"{room}/own")
+    tests.like("another target folder", read(log), rf"^1 none none none {room}/own rustc ")
+    check_width_drivers(tests, room, listed, mir)
+
+
+def check_width_drivers(tests, room, listed, mir):
+    """The drivers are looked at, too, but for --alone: numbers past 32 bits there, and a MIR without numbers."""
+    width = module(".ci/width.py")
+    wide, none = body("_1 = const 4294967296_usize", name="drivers::it"), body("_1 = copy _1")
+    for what, of_drivers, words, wanted in (("a wide number of the drivers", wide, [], "1"), ("the same, where they are left out", wide, ["--alone"], "0"), ("no number in the drivers", none, [], "width.py: no number was found: the MIR isn't read as it is written"),
+                                            ("drivers without a fault", body("_1 = const 7_usize", name="drivers::it"), [], "0")):
+        width.mir_of, width.mir_of_drivers = lambda crate, target: mir if crate == room else "", lambda target, of_drivers=of_drivers: of_drivers
+        before, sys.argv = sys.argv, ["width.py", "--crate", room, "--list", listed, *words]
+        with contextlib.redirect_stdout(io.StringIO()) as said:
+            status = ends(width.main)
+        sys.argv = before
+        tests.same(f"{what}: {said.getvalue()}", (status, "it: 4294967296_usize isn't a number of 32 bits" in said.getvalue()), (wanted, wanted == "1"))
 
 
 # ---- large.py

@@ -161,7 +161,8 @@ def check_cargo(log, target, folder):
 
 def check_targets(room, log):
     """Each target that there is a tag for, and this machine."""
-    check(len(subsetter_build.TAGS) >= 6 and "x86_64-pc-windows-gnu" in subsetter_build.TAGS, "targets")
+    known = {*(f"{it}-unknown-linux-gnu" for it in ("x86_64", "aarch64", "i686", "s390x")), "x86_64-pc-windows-gnu", "x86_64-pc-windows-msvc"}
+    check(set(subsetter_build.TAGS) == known, f"targets: {set(subsetter_build.TAGS) ^ known}")
     for target in ["", *subsetter_build.TAGS]:
         check_wheel(room, target)
         flags = check_cargo(log, target, os.path.dirname(HERE))

@@ -608,6 +608,56 @@ def check_given_back():
             setattr(library, name, call)
 
 
+# `Py_buffer`, as Python's documentation has it (C API, Buffer Protocol).
+PY_BUFFER = {
+    "buf": ctypes.c_void_p, "obj": ctypes.c_void_p, "len": ctypes.c_ssize_t, "itemsize": ctypes.c_ssize_t, "readonly": ctypes.c_int, "ndim": ctypes.c_int,
+    "format": ctypes.c_char_p, "shape": ctypes.c_void_p, "strides": ctypes.c_void_p, "suboffsets": ctypes.c_void_p, "internal": ctypes.c_void_p,
+}
+
+
+def check_broken_off():
+    """Where an answer can't be read to its end, as there is no memory for a copy, all that was handed over is given back; the error is the caller's."""
+    check(subsetter._View._fields_ == list(PY_BUFFER.items()), f"the fields of a buffer: {subsetter._View._fields_}")
+    library, freed = subsetter._library(), []
+    names = ("subsetter_free", "subsetter_free_pdf_font", "subsetter_free_pdf_objects")
+    font, real, copied = subsetter.pdf_font(TTF, PAIRS), {name: getattr(library, name) for name in names}, ctypes.string_at
+    for name in names:
+        setattr(library, name, lambda argument, name=name: freed.append((name, has_anything(argument._obj))) or real[name](argument))
+    try:
+        for call, name in ((lambda: subsetter.subset(TTF, [1]), names[0]), (lambda: subsetter.subset(TTF, [1], coordinates={}), names[0]), (lambda: subsetter.embed(TTF, [1]), names[0]),
+                           (lambda: subsetter.pdf_font(TTF, PAIRS), names[1]), (lambda: font.objects(4), names[2]), (font.sheet, names[2])):
+            # (the last copy of the answer fails, and so does the first)
+            for left in (0, 2):
+                if left and name != names[1]:
+                    continue
+                freed.clear()
+                count = [left]
+
+                def string_at(*arguments, count=count):
+                    count[0] -= 1
+                    if count[0] < 0:
+                        raise MemoryError("mine")
+                    return copied(*arguments)
+                subsetter.ctypes.string_at = string_at
+                error = raised(call)
+                subsetter.ctypes.string_at = copied
+                what = type(error), str(error)
+                del error
+                check(what == (MemoryError, "mine") and freed == [(name, True)], f"an answer that is broken off: {what}, {freed}")
+        # (and a number that this module doesn't know is of another version)
+        freed.clear()
+        before, subsetter._KINDS = subsetter._KINDS, ()
+        error = raised(subsetter.pdf_font, TTF, PAIRS)
+        subsetter._KINDS = before
+        what = type(error)
+        del error
+        check(what is IndexError and freed == [(names[1], True)], f"a kind that isn't known: {what}, {freed}")
+    finally:
+        subsetter.ctypes.string_at = copied
+        for name, call in real.items():
+            setattr(library, name, call)
+
+
 # ---- documents
 
 # What is said otherwise than in JavaScript; the numbers are the same there too.
@@ -788,7 +838,7 @@ def check_tests():
 
 def main():
     parts = [check_signatures, check_types, check_permissions, check_errors, check_declarations, check_passed, check_refusals, check_messages, check_forms, check_as_embedded, check_copies,
-             check_given_back, check_texts, check_words, check_numbers, check_tests]
+             check_given_back, check_broken_off, check_texts, check_words, check_numbers, check_tests]
     for part in parts:
         before = check.count
         part()

@@ -547,7 +547,8 @@ CALLS = """
         maps = {line.split()[-1] for line in open("/proc/self/maps") if line.count("/") and ".so" in line}
         print(said + " ".join(path for path in maps if "subsetter" in os.path.basename(path)))
     except OSError as error:
-        print(said + str(error))
+        # (what is behind it is no business of the caller's)
+        print(said + ("" if error.__context__ is None or error.__suppress_context__ else "behind another: ") + str(error))
 """
 
 

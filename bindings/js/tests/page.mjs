@@ -579,6 +579,74 @@ function commandsOf(letter) {
     return reading.outline(reading.glyphOf(letter.charCodeAt(0))).map(([command]) => command).join("");
 }
 
+/** What is hidden isn't seen, what is shown is, and each text and each mark stands out from what is behind it, in both schemes of colours. */
+async function style() {
+    const page = await opened({ width: 1280, height: 900 }), example = exampleFont();
+    const seen = async () => (await page.value('["trouble", "result", "face-field"].filter((id) => document.getElementById(id).getClientRects().length > 0)')).join();
+    equal(await seen(), "", "what is seen at first");
+    const pale = await contrasts(page, ["body", "h1", "header p", "#drop", ".big", "#drop .small", "label.button", "#example", "#text", "#numbers", "legend", "#said"]);
+    equal(pale.join("; "), "", "texts that can't be read at first");
+    await set(page, "text", "AB");
+    await after(page, () => page.drop("#drop", [file("dots.ttf", example)]));
+    equal(await seen(), "result", "what is seen of a result");
+    for (const scheme of ["light", "dark"]) {
+        await page.send("Emulation.setEmulatedMedia", { features: [{ name: "prefers-color-scheme", value: scheme }] });
+        const texts = ["#said", "#sizes-title", "#source-size", "#subset-size", "#source-name", "#save", "#sizes th", "#sizes tbody th", "#sizes td", "#table th", "#table td", "#drawn", "figcaption", ".promises li", ".promises p"];
+        equal((await contrasts(page, texts)).join("; "), "", `texts that can't be read, ${scheme}`);
+        const colours = await page.value(`((of) => [[of(".bar.source", "backgroundColor"), of(".bar.subset", "backgroundColor")], [of(".key.source", "backgroundColor"), of(".key.subset", "backgroundColor")],
+            [of(".pair svg", "fill"), of(".pair svg + svg", "fill")], [of("body", "color"), of("#subset-size", "color")]])((selector, name) => getComputedStyle(document.querySelector(selector))[name])`);
+        colours.forEach(([one, other], i) => ok(one !== other, `the source and the subset have one colour, ${scheme}, ${i}: ${one}`));
+        equal(`${colours[0]}`, `${colours[1]}`, `the colours of the key, ${scheme}`);
+        equal(new Set([colours[0][1], colours[2][1], colours[3][1]]).size, 1, `the colours of the subset, ${scheme}`);
+        ok(brightness(await page.value('getComputedStyle(document.documentElement).backgroundColor')) > 0.5 === (scheme === "light"), `the paper, ${scheme}`);
+        // (the bars are as high as they are to be, and the drawings have room)
+        const sizes = await page.value(`[...document.querySelectorAll("#sizes .bar, figure svg")].map((it) => it.getBoundingClientRect()).every(({ width, height }) => width >= 1 && height >= 5)`);
+        ok(sizes, `bars and drawings have a size, ${scheme}`);
+        await after(page, () => set(page, "numbers", "x"));
+        equal(await seen(), "trouble", `what is seen of trouble, ${scheme}`);
+        equal((await contrasts(page, ["#trouble-name", "#trouble-why", "#trouble-do"])).join("; "), "", `trouble that can't be read, ${scheme}`);
+        await after(page, () => set(page, "numbers", ""));
+    }
+    // What is for those who hear the page takes no room; what isn't asked for by its eyes is there all the same.
+    const small = await page.value('[...document.querySelectorAll(".hidden")].map((it) => it.getBoundingClientRect()).map(({ width, height }) => width <= 1 && height <= 1).join()');
+    equal(small, "true,true", "the input and the caption that aren't seen");
+    // Where a font may be dropped is marked while one is above it, and what has the focus, too.
+    const look = (selector) => page.value(`(({ borderColor, backgroundColor, outlineStyle }) => [borderColor, backgroundColor, outlineStyle].join())(getComputedStyle(document.querySelector("${selector}")))`);
+    const before = await look("#drop");
+    await page.value('document.body.classList.add("over")');
+    ok((await look("#drop")) !== before, "a font above the page");
+    await page.value('document.body.classList.remove("over"); document.activeElement.blur()');
+    const plain = [await look("#example"), await look("label.file")];
+    await page.key("Tab");
+    equal(await page.value("document.activeElement.id"), "file", "the first that gets the focus");
+    ok((await look("label.file")) !== plain[1], "the focus of the file is to be seen");
+    await page.key("Tab");
+    ok((await look("#example")) !== plain[0], "the focus of a button is to be seen");
+    await after(page, () => page.drop("#drop", [file("two.ttc", collection([example, example]))]));
+    equal(await seen(), "result,face-field", "what is seen of a collection");
+    quiet(page);
+}
+
+/** How bright a colour is, of 0 to 1 (WCAG 2, relative luminance). */
+function brightness(colour) {
+    const parts = colour.match(/[\d.]+/g).slice(0, 3).map((it) => it / 255).map((it) => (it <= 0.04045 ? it / 12.92 : ((it + 0.055) / 1.055) ** 2.4));
+    return 0.2126 * parts[0] + 0.7152 * parts[1] + 0.0722 * parts[2];
+}
+
+/** The selectors whose first element has a text that is less than 4.5 times as bright or dark as what is behind it (WCAG 2, 1.4.3), or that isn't there. */
+async function contrasts(page, selectors) {
+    const found = await page.value(`${JSON.stringify(selectors)}.map((selector) => {
+        const it = document.querySelector(selector);
+        let behind = it;
+        while (/, 0\\)$/.test(getComputedStyle(behind).backgroundColor) && behind.parentElement) behind = behind.parentElement;
+        return [getComputedStyle(it).color, getComputedStyle(behind).backgroundColor, it.getClientRects().length];
+    })`);
+    return selectors.filter((_, i) => {
+        const [one, other] = found[i].slice(0, 2).map(brightness);
+        return found[i][2] === 0 || (Math.max(one, other) + 0.05) / (Math.min(one, other) + 0.05) < 4.5;
+    }).map((it) => `${it}: ${found[selectors.indexOf(it)]}`);
+}
+
 async function picture(to, font, characters) {
     const page = await opened({ width: 1080, height: 1200 });
     await set(page, "text", characters);
@@ -609,7 +677,8 @@ try {
         await failures();
         await unreadable();
         await belongings();
-        console.log("page: what each error says, files and modules that can't be read, what is given back, what the policy refuses");
+        await style();
+        console.log("page: what each error says, files and modules that can't be read, what is given back, what the policy refuses, what is seen");
     }
 } catch (error) {
     console.log(`page: FAILED: ${error.stack}`);
