@@ -270,12 +270,12 @@ def check_pack(tests):
         put("npm's", built, "subsetter-proved-1.2.3-4.tgz")
         put("one: logic=proved 1\ntwo: logic=proved 2\n\n", built, "lines")
         put("prefix=/placeholder\n", built, "s390x", "lib", "pkgconfig", "subsetter.pc")
-        seen = []
+        seen, said = [], []
         stand_ins = {
             "c_files": lambda *given: seen.append(given) or {"of": given[1]}, "for_linux": lambda *given: (f"linux-{given[1]}", f"{given[2]}".encode()),
             "for_python": lambda *given: (f"wheel-{given[1]['of']}", b"w"), "for_rust": lambda _, trees: [("crate", ",".join(trees).encode()), ("native", b"n")],
             "for_windows": lambda *given: [("zip", given[1].encode()), ("wheel-win", b"v")], "bills": lambda _, __, made: {f"{it}.json": b"bill" for it in made},
-            "commit": lambda: "0123 and changes", "say": lambda _: None,
+            "commit": lambda: "0123 and changes", "say": said.append,
         }
         with instead(make, **stand_ins):
             made = make.pack(own, version, targets, skip, built, room)
@@ -293,6 +293,7 @@ def check_pack(tests):
         wanted["PROVED"] = form("proved.txt", VERSION=VERSION, COMMIT="0123 and changes", KIT=own.line, LINES="one: logic=proved 1\ntwo: logic=proved 2").encode()
         wanted["SHA256SUMS"] = "".join(f"{hashlib.sha256(wanted[it]).hexdigest()}  {it}\n" for it in sorted(wanted)).encode()
         tests.same(f"the files without {skip}", made, wanted)
+        tests.same(f"what it says without {skip}", said, [f"putting together what is for {it}" for it in targets])
         tests.same(f"what they are of without {skip}", seen, [(own, it, built, skip, room) for it in targets])
     tests.same("the form of PROVED", wanted["PROVED"].decode().split("\n")[:4], [f"subsetter {VERSION}", "commit 0123 and changes", "rattle-kit-x logic y", ""])
 
@@ -484,5 +485,14 @@ def check_documents(tests):
     tests.same("what may be skipped", "(aarch64, js, windows, s390x, program, lines)" in words(test.__doc__.split()), ", ".join(test.MADE) == "aarch64, js, windows, s390x, program, lines")
 
 
-GROUPS = [check_documents, check_main, check_put_words, check_modes, check_c_files, check_linux, check_wheels, check_windows, check_rust, check_pack, check_bills, check_commands, check_readelf, check_bytes, check_copied,
+def check_lines(tests):
+    """Each line of the packages' texts is one of texts_test.txt, so that who changes one looks at what is tested of it, too."""
+    lines = [f"{name}: {it}" for name in ("linux.md", "portable.md", "windows.md", "wheel.md", "crate.md", "proved.txt") for it in read(HERE, name).decode().splitlines() if it]
+    known = read(HERE, "texts_test.txt").decode().splitlines()
+    tests.same("lines that texts_test.txt doesn't have", [it for it in lines if it not in known], [])
+    tests.same("lines of texts_test.txt that no text has", [it for it in known if it not in lines], [])
+    tests.same("the lines of the texts", lines, known)
+
+
+GROUPS = [check_documents, check_lines, check_main, check_put_words, check_modes, check_c_files, check_linux, check_wheels, check_windows, check_rust, check_pack, check_bills, check_commands, check_readelf, check_bytes, check_copied,
           check_tools_of_targets, check_left]

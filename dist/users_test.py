@@ -1,5 +1,7 @@
 """Groups of make-test: what dist/test does as the users of the packages do, over a world that says what is given; and the programs of dist/user."""
 import contextlib
+import hashlib
+import json
 import os
 import re
 import shutil
@@ -22,10 +24,20 @@ def font_of(count):
     return b"\0\1\0\0\0\1" + bytes(6) + b"maxp" + bytes(4) + (28).to_bytes(4, "big") + bytes(4) + b"\0\1\0\0" + count.to_bytes(2, "big") + bytes(30)
 
 
+def built(status, said, version=VERSION):
+    """What Cargo answers as it builds a program, and how that ends where the native crate lacks the library."""
+    def answer(_):
+        if os.path.isdir(os.path.join(World.at, "..", f"subsetter-native-{VERSION}", "native", "elsewhere")):
+            return status, said
+        put(f'version = "{version}"\n', World.at, "Cargo.lock")
+        return ""
+    return answer
+
+
 class World:
     """The users of a world in which all is as it should be, but for what `faults` has: another answer by a pattern of the command; and
     `fails` is the number of the command that ends with an error."""
-    faults, fails, calls, made, tools = {}, 0, [], b"the subset", "/tools"
+    faults, fails, calls, made, tools, at = {}, 0, [], b"the subset", "/tools", ""
 
     def __init__(self, room, _root, _is_hidden):
         self.room, self.kit = room, "/opt/kit"
@@ -35,7 +47,7 @@ class World:
         World.calls.append(f"sees {' '.join(folders)}")
 
     def run(self, *words, cwd, may_fail=False, **env):
-        text = " ".join(words)
+        text, World.at = " ".join(words), cwd
         front = "".join(f"{name}={value} " for name, value in env.items())
         line = f"{cwd}$ {front}{text}"
         for place, name in ((self.room, "ROOM"), (World.tools, "TOOLS"), (ROOT, "REPOSITORY"), (sys.executable, "PYTHON"), (os.path.expanduser("~/.bashrc"), "HOME/.bashrc"), (f"{NUMBER}.post{OWN}", "WHEEL"), (f"{NUMBER}-{OWN}", "NPM"), (VERSION, "VERSION"), ("\n", "; ")):
@@ -82,10 +94,8 @@ class World:
             put(font_of(3), cwd, "subset.ttf")
         if words[0] == "node" and words[1] == "readme.mjs":
             put(font_of(3), cwd, "readme.ttf")
-        if "cargo build" in text and os.path.isdir(os.path.join(cwd, "..", f"subsetter-native-{VERSION}", "native", "elsewhere")):
-            return 101, "it carries no library for x86_64-unknown-linux-gnu\n"
         if words[:2] == ("cargo", "build"):
-            put(f'version = "{VERSION}"\n', cwd, "Cargo.lock")
+            return built(101, "it carries no library for x86_64-unknown-linux-gnu\n")(words)
         if words[:2] == ("cargo", "install"):
             put("", words[words.index("--root") + 1], "bin", "subset_font")
         if words[0] == "npm":
@@ -176,6 +186,13 @@ FAULTS = [
     ("hidden", r"echo there", "there\n", f"{ROOT} can be seen"), ("hidden", r"command -v rt", "/opt/kit/bin/rt\n", "rt can be called"), ("hidden", r"/proc/net/dev", "Inter-|\n face |\n    lo: 0 0\n  eth0: 1 1\n", "there is a network: ['    lo: 0 0', '  eth0: 1 1']"),
     ("hidden", r"/proc/net/dev", "Inter-|\n face |\n  eth0: 1 1\n    lo: 0 0\n", "there is a network: ['  eth0: 1 1', '    lo: 0 0']"), ("hidden", r"echo there.*bashrc", "there\n", f"{os.path.expanduser('~/.bashrc')} can be seen"), ("hidden", r"echo there.*opt/kit", "there\n", "/opt/kit can be seen"),
     ("windows", r"shared\.exe$", (0, ""), "the program over the DLL runs without it"),
+    ("program", r" 36$", lambda _: put("x", World.at, "out.ttf") and (1, "malformed font"), "a cut font: "), ("crate", r"^cargo build", built(101, "it carries no library for x86_64-unknown-linux-gnu\n", f"{NUMBER}"), "Cargo took another version"),
+    ("crate", r"^cargo build", built(101, "no library\n"), "without a library: no library"), ("crate", r"^cargo build", built(101, "it carries no library for aarch64-unknown-linux-gnu\n"), "without a library: it carries"),
+    ("crate", r"^cargo build", built(0, "it carries no library for x86_64-unknown-linux-gnu\n"), "without a library: it carries"),
+    ("wheel", r"pip uninstall", lambda words: put("x", os.path.dirname(words[0]), "..", "lib", "python3", "site-packages", "subsetter", "left") and "", "pip leaves ['"),
+    ("wheel", r"pip uninstall", lambda words: put("x", os.path.dirname(words[0]), "..", "lib", "python3", "site-packages", "subsetter-1.dist-info", "left") and "", "pip leaves ['"),
+    ("js", r"^npm", lambda _: put("```js\nconst font = subsetter.subset(bytes);\n```\n", World.at, "node_modules", "subsetter-proved", "README.md") and "", "js: the first example of README loads nothing"),
+    ("js", r"^npm", lambda _: put('```js\nimport { load } from "subsetter-proved";\n```\n', World.at, "node_modules", "subsetter-proved", "README.md") and "", "js: the first example of README loads nothing"),
 ]
 
 
@@ -199,6 +216,33 @@ def check_faults_of_users(tests):
         end, _ = ended(part, tests, [], {pattern: lambda words: put(b"others", words[-3]) and ""})
         tests.same(f"{part}, other bytes of the program: {end}", end.endswith(" writes other bytes"), True)
     tests.same("without the program", [ended("baseline", tests, ["program"], {r"qemu.*/bin/subset_font": lambda _: 1 / 0})[0] for _ in range(1)], ["passed: runs without SSE3"])
+
+
+def check_written(tests):
+    """What the programs of users rest on: the crates as a [patch], vendored, by path and by version, and the examples of READMEs as they are."""
+    _, one = ended("crate", tests)
+    at, native = f"{one.room}/crate", 'subsetter = {{ package = "subsetter-native", {} }}\n'
+    patch = f'[patch.crates-io]\nsubsetter = {{ path = "../subsetter-{VERSION}" }}\n'
+    by_path = native.format(f'path = "../subsetter-native-{VERSION}"')
+
+    def head(name, dependencies):
+        return f'[package]\nname = "{name}"\nversion = "1.0.0"\nedition = "2021"\n\n[dependencies]\n{dependencies}'
+
+    def config(name):
+        return f'[source.crates-io]\nreplace-with = "vendored"\n\n[source.vendored]\ndirectory = "{at}/{name}"\n'
+    user = read(HERE, "user", "user.rs").decode()
+    for name, dependencies, its_config in (("patched", f'subsetter = "0.2.6"\n\n{patch}', ""), ("vendored", 'subsetter = "0.2.6"\n', config("vendor")), ("native", by_path, ""), ("native-vendored", native.format('version = "0.2.6"'), config("native-vendor"))):
+        tests.same(f"the program {name}", [read(at, name, it).decode() for it in ("Cargo.toml", ".cargo/config.toml", "src/main.rs")], [head("user", dependencies), its_config, user])
+    for name, crate in (("vendor", "subsetter"), ("native-vendor", "subsetter-native")):
+        tests.same(f"the crate in {name}", json.loads(read(at, name, f"{crate}-{VERSION}", ".cargo-checksum.json")), {"files": {}, "package": hashlib.sha256(b"packed").hexdigest()})
+    main = f'fn main() -> Result<(), Box<dyn std::error::Error>> {{\n    let data = std::fs::read("{one.font}")?;\nfn main() {{}}\n    Ok(std::fs::write("subset.ttf", font)?)\n}}\n'
+    for name, dependencies, text in (("readme", f'subsetter = "0.2.6"\n\n{patch}', "fn main() {}\n"), ("native-readme", by_path, main)):
+        tests.same(f"the example of {name}", [read(at, name, it).decode() for it in ("Cargo.toml", "src/main.rs")], [head("example", dependencies), text])
+    two = JS_README + "text\n```js\nimport { more } from \"subsetter-proved\";\nsubsetter.embed(bytes, { index: 1 });\n```\n"
+    _, one = ended("js", tests, [], {r"^npm": lambda _: put(two, World.at, "node_modules", "subsetter-proved", "README.md") and ""})
+    tests.same("the examples for Node", (read(one.room, "js", "package.json"), read(one.room, "js", "readme.mjs").decode().split("\n")), (b'{"name": "user", "private": true}', [
+        'import { readFileSync, writeFileSync } from "node:fs";', 'import { load } from "subsetter-proved";', "const subsetter = await load();", f'const bytes = readFileSync("{one.font}");',
+        "{", "", "", "const font = subsetter.subset(bytes, [36, 68], { index: 0 });", 'writeFileSync("readme.ttf", font);', "}", "{", "", "subsetter.embed(bytes, { index: 0 });", "}"]))
 
 
 def check_reference(tests):
@@ -593,4 +637,4 @@ def check_user_mjs(tests):
         tests.same(f"a line of user.mjs: {line}", text.count(line), 1)
 
 
-GROUPS = [check_parts_of_users, check_faults_of_users, check_reference, check_tools_of_users, check_pythons, check_readmes, check_files_and_fails, check_users, check_seen, check_room, check_again, check_user_py, check_user_c, check_user_rs, check_user_mjs]
+GROUPS = [check_parts_of_users, check_faults_of_users, check_written, check_reference, check_tools_of_users, check_pythons, check_readmes, check_files_and_fails, check_users, check_seen, check_room, check_again, check_user_py, check_user_c, check_user_rs, check_user_mjs]

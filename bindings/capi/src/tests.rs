@@ -428,3 +428,13 @@ fn the_manifest_says_what_it_promises() {
         MANIFEST.trim().lines().collect::<Vec<_>>()
     );
 }
+
+#[test]
+fn unsafe_code_and_documents_are_looked_at_by_the_compiler() {
+    let front: Vec<&str> = include_str!("lib.rs")
+        .lines()
+        .filter(|it| it.starts_with("#!["))
+        .collect();
+    let wanted = ["#![warn(missing_docs)]", "#![deny(unsafe_op_in_unsafe_fn)]"];
+    assert_eq!(front, wanted);
+}
