@@ -138,11 +138,11 @@ def made(kind, name, given, where):
 
 
 def is_date(text):
-    """Whether a text is a date, as 2026-11-27."""
-    if not re.fullmatch(r"[0-9]{4}-[0-9]{2}-[0-9]{2}", text):
+    """Whether a text is a date, as 2026-11-27, where a later measure of the day has a number, as 2026-11-27-2."""
+    if not re.fullmatch(r"[0-9]{4}-[0-9]{2}-[0-9]{2}(-[2-9])?", text):
         return False
     try:
-        datetime.date(*map(int, text.split("-")))
+        datetime.date(*map(int, text.split("-")[:3]))
     except ValueError:
         return False
     return True

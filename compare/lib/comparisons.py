@@ -177,7 +177,7 @@ COMPARISONS = [
                SUBSET + JAVASCRIPT, timed=True),
     Comparison("plants", "Does each planted bug fail a test?", ".ci/plants.py --results compare/results/plants.txt", lines_like(r"^(all )?\d+ (of \d+ )?bugs\b.*|^\d+ bugs planted.*"),
                PLANTED, ".ci/plants.py --draw 30", data=("plants.txt",)),
-    Comparison("plants, fresh", "Of 66 bugs that were drawn by fresh eyes before any test was read, how many get through?", ".ci/plants.py --drawn 2026-11-28",
+    Comparison("plants, fresh", "Of 66 bugs that were drawn by fresh eyes before any test was read, how many get through?", ".ci/plants.py --drawn 2026-11-28-2",
                lines_like(r"^\d+ bugs drawn on .*|^\d+ bugs planted.*"), PLANTED + ("crates/subset_font/completions/*", "crates/subset_font/subset_font.1")),
     Comparison("binding", "What does the Rust binding cost beside the program and the Rust crate?", f"{DEBIAN} compare/binding.py", cost_of_binding,
                SUBSET + C + ("bindings/rust-native/src/**",), original=True, timed=True),
