@@ -5,6 +5,7 @@ order of files and of other facts; no build is needed."""
 import contextlib
 import io
 import os
+import re
 import shutil
 import stat
 import sys
@@ -170,7 +171,7 @@ def planted_in_run(name, old, new, wanted):
 def planted_in_text(name, text, old, new):
     """What is wrong where a text names another default or order."""
     with open(os.path.join(planted.ROOT, "crates", "subset_font", "src", "help.rt"), encoding="utf-8") as file:
-        texts = check_texts.texts_beside(file.read())
+        texts = check_texts.texts_beside(re.search(r'HELP: &str = "(.*?)(?<!\\)";', file.read(), re.S)[1].replace('\\"', '"'))
     if check_texts.said_otherwise(texts) or texts[text].count(old) != 1:
         return [f"{name}: {old!r} isn't there, or the texts differ: {check_texts.said_otherwise(texts)}"]
     texts[text] = texts[text].replace(old, new)
