@@ -100,6 +100,10 @@ TEXTS = [
     ("a usage less in the help", "--help", "       subset_font --batch FILE\n", ""),
     ("another count of threads in the manual", "docs/CLI.md", "(1 to 64)", "(1 to 65)"),
     ("the text of another option in the manual page", "subset_font.1", "Leave out the table name.", "Leave out the names of glyphs in post."),
+    ("a sentence more in the manual page", "subset_font.1", "End the options.", "End the options. It may be given twice."),
+    ("the examples of the manual page in one line", "subset_font.1", "\n.nf\n", "\n"),
+    ("a usage more in the help", "--help", "       subset_font --batch FILE\n", "       subset_font --batch FILE\n       subset_font --list FILE\n"),
+    ("a lock in the manual", "docs/CLI.md", "Nothing is to be locked.", "Each call is to be locked."),
 ]
 
 
@@ -171,7 +175,7 @@ def planted_in_run(name, old, new, wanted):
 def planted_in_text(name, text, old, new):
     """What is wrong where a text names another default or order."""
     with open(os.path.join(planted.ROOT, "crates", "subset_font", "src", "help.rt"), encoding="utf-8") as file:
-        texts = check_texts.texts_beside(re.search(r'HELP: &str = "(.*?)(?<!\\)";', file.read(), re.S)[1].replace('\\"', '"'))
+        texts = check_texts.texts_beside(re.search(r'pub const HELP: &str = "([^"\\]*)";', file.read())[1])
     if check_texts.said_otherwise(texts) or texts[text].count(old) != 1:
         return [f"{name}: {old!r} isn't there, or the texts differ: {check_texts.said_otherwise(texts)}"]
     texts[text] = texts[text].replace(old, new)

@@ -228,20 +228,26 @@ const SAYS: [(&str, &[&str]); 7] = [
     (
         "src/remapper.rs",
         &[
-            "in the order in which they come. Glyph 0 always has number 0.",
-            "A mapper holds at most 65,535 glyphs. Where no number is left the calls of 0.2.6 panic, and where memory is refused \
-             they end the process",
-            "A mapper of glyph 0 and these glyphs, in their order, each once. # Panics Where all glyphs from 1 to 65535 are given",
+            "Gives glyphs new consecutive numbers, in the order in which they come. Glyph 0 always has number 0. A mapper holds at \
+             most 65,535 glyphs. Where no number is left the calls of 0.2.6 panic, and where memory is refused they end the process, as \
+             a `Vec` does; the calls `try_..` beside them answer an [`Error`] instead.",
+            "A mapper that holds glyph 0 alone. pub fn new() -> Self {",
+            "A mapper that holds glyph 0 alone. # Errors [`Error::OutOfMemory`]. pub fn try_new()",
+            "A mapper of glyph 0 and these glyphs, in their order, each once. # Panics Where all glyphs from 1 to 65535 are given, as \
+             these leave no number for glyph 0. pub fn new_from_glyphs(",
             "A mapper of glyph 0 and these glyphs, in their order, each once. # Errors [`Error::OverflowError`] where all glyphs from \
              1 to 65535 are given, as these leave no number for glyph 0; [`Error::OutOfMemory`].",
-            "A mapper of glyph 0 and these glyphs in ascending order, each once. # Panics Where all glyphs from 1 to 65535 are given",
-            "A mapper of glyph 0 and these glyphs in ascending order, each once. # Errors As of [`try_from_glyphs`]",
+            "A mapper of glyph 0 and these glyphs in ascending order, each once. # Panics Where all glyphs from 1 to 65535 are given, \
+             as these leave no number for glyph 0. pub fn new_from_glyphs_sorted(",
+            "A mapper of glyph 0 and these glyphs in ascending order, each once. # Errors As of \
+             [`try_from_glyphs`](Self::try_from_glyphs). pub fn try_from_glyphs_sorted(",
             "How many glyphs the mapper holds, from 1 to 65535.",
-            "one without a number gets the next. # Panics Where the glyph has no number and 65,535 others have.",
-            "one without a number gets the next. # Errors [`Error::OverflowError`] where the glyph has no number and 65,535 others \
-             have; [`Error::OutOfMemory`]. The mapper stays as it was.",
+            "The number of a glyph; one without a number gets the next. # Panics Where the glyph has no number and 65,535 others have.",
+            "The number of a glyph; one without a number gets the next. # Errors [`Error::OverflowError`] where the glyph has no \
+             number and 65,535 others have; [`Error::OutOfMemory`]. The mapper stays as it was.",
             "The number of a glyph, if it has one.",
             "The glyphs in the order of their numbers.",
+            "A copy. # Errors [`Error::OutOfMemory`]. pub fn try_clone(",
         ],
     ),
     (
@@ -258,9 +264,10 @@ const SAYS: [(&str, &[&str]); 7] = [
              a degree.",
             "The code of each entry, in order, as [`pdf_font`] gives it. It takes no font, so that pages can be written first. Where a \
              list goes on, the codes of the entries before stay.",
-            "more than 65,535 glyphs ([`Codes::Consecutive`]) or pairs of a glyph and a text ([`Codes::EachText`]), with glyph 0; \
+            "# Errors [`Error::OverflowError`]: more than 65,535 glyphs ([`Codes::Consecutive`]) or pairs of a glyph and a text ([`Codes::EachText`]), with glyph 0; \
              [`Error::OutOfMemory`].",
-            "where outlines in `CFF2` are taken too; [`Error::MalformedFont`] where it has no such table.",
+            "# Errors Those of [`subset`](crate::subset) that come of opening the font, where outlines in `CFF2` are taken too; \
+             [`Error::MalformedFont`] where it has no such table.",
         ],
     ),
     (
