@@ -1,7 +1,7 @@
 #!/usr/bin/env python3
 """Tests scripts that run programs and judge what these leave, over stand-ins: compare/all and those of compare/ that time, count or compare
 programs (batch, limits, speed, cff2_times, widths, again, portable, portable_times, faces, bytes, cpu, aarch64, platforms, binding,
-instance_times, damage, run, options and hostile), the rows of .ci/large.py and of .ci/drivers.py, .ci/program.py, .ci/examples.py, .ci/pdf_examples.py and .ci/fresh.
+instance_times, damage, run, options, hostile, instance, instances, pdf, pdf_font and pdf_font_times), the rows of .ci/large.py and of .ci/drivers.py, .ci/program.py, .ci/examples.py, .ci/pdf_examples.py and .ci/fresh.
 No build is needed, and no time counts: the clock is a stand-in, too.
 
     .ci/runs_test.py [NAME..]     all groups, or those named
@@ -2274,6 +2274,104 @@ def check_refusing(tests, room):
         tests.same(f"a demand that is {holds}", printed(lambda holds=holds: refused.demand(holds, "it", "got")), wanted)
 
 
+def check_instances(tests):
+    """How comparisons at coordinates end; which damaged copies and hostile fonts are wrong."""
+    script, room = module("compare/instances.py"), tempfile.mkdtemp(dir=tests.room)
+    by_font = sys.modules["by_font"]
+    for wrong, compared, said, status in (([], 7, "", 0), (["a"], 7, "", 1), ([], 0, "nothing was compared\n", 1), (["a"], 0, "nothing was compared\n", 1)):
+        tests.same(f"an end with {wrong} of {compared}", printed(lambda wrong=wrong, compared=compared: by_font.end(wrong, compared)), (said, status))
+    tests.same("lines", (by_font.lines(["a"]), len(by_font.lines(["a"] * 50)), by_font.LINES), (["- a"], 40, 40))
+    out = put(b"font", room, "out")
+    for line, wanted, is_read, counts, wrong in (("error malformed font", "MalformedFont", "", {"copies": 1, "refused": 1, "another error": 0}, 0), ("error malformed font", "OverflowError", "", {"copies": 1, "refused": 1, "another error": 1}, 0), ("error malformed font", ("glyphs", "lines"), "", {"copies": 1, "refused": 1, "another error": 0}, 1),
+                                                 ("ok 1000000000 5 6", ("glyphs", "lines"), "", {"copies": 1}, 0), ("ok 1000000001 5 6", ("glyphs", "lines"), "", {"copies": 1}, 1), ("ok 7 5 6", ("glyphs", "lines"), "other", {"copies": 1}, 1), ("ok 7 5 6", "MalformedFont", "", {"copies": 1}, 1)):
+        report, given = script.Report("/a/b.ttf"), []
+        said = []
+        report.say = lambda *words, said=said: said.append(words)
+        with mock.patch.object(script, "is_as_read", lambda *words, is_read=is_read, given=given: given.append(words) or is_read):
+            script.judge_copy(report, out, line, "fvar", wanted, "it")
+        tests.same(f"a copy that is {line}, and read as {wanted}", (dict(report.counts), len(said), given), (counts, wrong, [(b"font", "glyphs", "lines")] if line[0] == "o" and wanted != "MalformedFont" else []))
+    reports = [types.SimpleNamespace(counts={"copies": 7, "refused": 3, "another error": 1, "wrong": 0}), types.SimpleNamespace(counts={"copies": 5, "refused": 1, "another error": 0, "wrong": 2})]
+    found = []
+    said = printed(lambda: found.append(script.say_damage(reports)))[0]
+    tests.same("damaged copies", (found, said), ([12], "Of 12 damaged copies 4 are refused (1 under another name), 8 answered as read; 2 differ.\n"))
+    for line, took, is_sound in (("error x", 0.05, True), ("error x", 0.1, False), ("ok 7 5 6", 0.05, False)):
+        clock = iter([it for k in range(10) for it in (k, k + took + (k != 3))])
+        with patched((script, "hostile_fonts", lambda: [("one", b"font", 7)]), (script, "port", lambda *_, line=line: [line]), (script, "answer_of", lambda *_: "MalformedFont"), (script.time, "perf_counter", lambda clock=clock: next(clock))):
+            found = []
+            said = printed(lambda found=found: found.append(script.hostile()))[0]
+        tests.same(f"a hostile font: {line} after {took} s", (found, said), ([is_sound], f"one, 4 bytes: {line} after {1000 * took:.0f} ms (MalformedFont as read){'' if is_sound else ' WRONG'}\n"))
+    tests.same("texts", script.TEXTS, {"UnknownKind": "unknown font kind", "MalformedFont": "malformed font", "Unimplemented": "unsupported feature in font", "OverflowError": "overflow occurred"})
+    check_instance_words(tests, script)
+
+
+def check_instance_words(tests, script):
+    """What instances.py runs for its words, and its status."""
+    report = types.SimpleNamespace(wrong=["a"], counts={}, refused=[], worst=0)
+    good = types.SimpleNamespace(wrong=[], counts={}, refused=[], worst=0)
+    for words, made, compared, asked, status in ((["--damage", "250"], [good], 9, [("/f", 0), ("/g", 0), ("/f", 1), ("/g", 1), ("/f", 2), ("/g", 2)], 0), (["--damage", "100"], [good], 9, [("/f", 0), ("/g", 0)], 0), (["--damage", "100"], [report], 9, [("/f", 0), ("/g", 0)], 1), (["--damage", "100"], [good], 0, [("/f", 0), ("/g", 0)], 1),
+                                                 ([], [good], 9, [("/f",), ("/g",)], 0), ([], [good, report], 9, [("/f",), ("/g",)], 1), ([], [], 0, [("/f",), ("/g",)], 1)):
+        given = []
+        with patched((script.build, "program", lambda _: None), (script.fonts, "install", lambda _: None), (script.font_at, "font_paths", lambda *_: ["/f", "/g"]), (script, "say_damage", lambda _, compared=compared: compared), (script, "say_fonts", lambda *_, compared=compared: compared),
+                     (script.by_font, "reports", lambda _, compare, *columns, given=given, made=made: given.append((compare, [it[:2] for it in zip(*columns)], [it[2:] for it in zip(*columns)])) or made)):
+            _, ends_with = printed(script.main, *words)
+        is_damage = "--damage" in words
+        tests.same(f"instances.py {words}", (given, ends_with), ([(script.damage_piece if is_damage else script.compare_font, asked, [(50,) if is_damage else ()] * len(asked))], status))
+    for is_sound in (True, False):
+        with patched((script.build, "program", lambda _: None), (script, "hostile", lambda is_sound=is_sound: is_sound)):
+            tests.same("instances.py --hostile", printed(script.main, "--hostile")[1], 0 if is_sound else 1)
+    script = module("compare/instance.py")
+    rows = {it: types.SimpleNamespace(apart={0: 3, 1: 0, 2: 0}) for it in script.ROWS}
+    for wrong, points, status in (([], 3, 0), (["a"], 3, 1), ([], 0, 1)):
+        rows[script.ROWS[6]].apart[0] = points
+        report = types.SimpleNamespace(wrong=wrong, refused=["b", "b"], rows=rows)
+        with patched((script.build, "program", lambda _: None), (script, "font_paths", lambda *_: ["/f"]), (script.by_font, "reports", lambda *_, report=report: [report]), (script, "summary", lambda *_: ["the table"])):
+            tests.same(f"instance.py with {wrong} of {points}", printed(script.main, "--no-install"), (f"the table\n\n{len(wrong)} differences out of bounds.\n{''.join('- a' + chr(10) for _ in wrong)}- refused: b\n" + "nothing was compared\n" * (not points), status))
+
+
+def check_readers(tests):
+    """Which faces are alike in readers of a PDF, and when too little was compared; which times of fonts for a PDF pass a bound."""
+    script = module("compare/pdf.py")
+    for outcomes, line, status in (
+            ([([], []), ([], ["x"])], "2 faces, 4 glyphs: 2 drawn alike by three readers (1 of them by one reader without the glyphs' names alone), 0 not, 0 refused", 0), ([([], []), (["other pixels"], ["x"])], "2 faces, 4 glyphs: 1 drawn alike by three readers (0 of them by one reader without the glyphs' names alone), 1 not, 0 refused", 1),
+            ([([], []), "refused"], "2 faces, 2 glyphs: 1 drawn alike by three readers (0 of them by one reader without the glyphs' names alone), 0 not, 1 refused", 0), (["refused", "unread"], "2 faces, 0 glyphs: 0 drawn alike by three readers (0 of them by one reader without the glyphs' names alone), 0 not, 2 refused", 1), ([], "0 faces, 0 glyphs: 0 drawn alike by three readers (0 of them by one reader without the glyphs' names alone), 0 not, 0 refused", 1)):
+        left = list(outcomes)
+
+        def compare(*_, left=left):
+            it = left.pop(0)
+            if isinstance(it, str):
+                raise script.Refused("no") if it == "refused" else OSError("no")
+            return (["TrueType"], *it)
+        with patched((script.build, "program", lambda _: None), (script, "chosen", lambda count, outcomes=outcomes: [("TrueType", f"/f{k}.ttf", 0) for k in range(len(outcomes))] if count == 9 else None), (script, "some_glyphs", lambda *_: [1, 2]), (script, "compare", compare)):
+            said, ends_with = printed(script.main, "--faces", "9")
+        nothing = "nothing was compared\n" * (not [it for it in outcomes if not isinstance(it, str)])
+        tests.same(f"pdf.py: {outcomes}", (said.endswith(f"{line}\n{nothing}"), ends_with), (True, status))
+    for wrong, status in (([], 0), (["a", "b"], 1)):
+        with patched((script.build, "program", lambda _: None), (script, "compare", lambda font, index, glyphs, *_, wrong=wrong: (["TrueType"], wrong, ["noted"]) if (font, index, glyphs) == ("/f", 3, [1, 2]) else None)):
+            tests.same(f"one face with {wrong}", printed(script.main, "/f", "3", "1,2"), ("\n".join(wrong or ["drawn alike by three readers (TrueType, noted)"]) + "\n", status))
+    script = module("compare/pdf_font.py")
+    whole = {"fonts": 3, "refused": 1, "pictures": 2, "preflight": 2, "files": 9, "texts": 4, "kind TrueType": 2, "moved": 1, "kind BareCff": 1, "kind OpenType": 0, "vertical": 1}
+    given = types.SimpleNamespace(wanted=4, copies=100, seen=6, with_pdfbox=True)
+    for what, total, wrong, more, is_well in (("all is well", {}, [], {}, True), ("a difference", {}, ["a"], {}, False), ("no font", {"fonts": 0}, [], {}, False), ("none refused", {"refused": 0}, [], {}, False), ("none refused of few", {"refused": 0}, [], {"copies": 99}, True), ("no picture", {"pictures": 0}, [], {}, False),
+                                              ("no picture wanted", {"pictures": 0}, [], {"seen": 0}, True), ("no page", {"preflight": 0}, [], {}, False), ("no page wanted", {"preflight": 0}, [], {"with_pdfbox": False}, True)):
+        found = []
+        said = printed(lambda total=total, wrong=wrong, more=more, found=found: found.append(script.report({**whole, **total}, wrong, types.SimpleNamespace(**{**vars(given), **more}))))[0]
+        tests.same(f"pdf_font.py: {what}", (found, f" of 4 fonts compared, {len(wrong)} differences\n" in said), ([is_well], True))
+    script = module("compare/pdf_font_times.py")
+    tests.same("bounds", (script.FIXED, script.A_CODE, script.A_BYTE, script.OF_TEXTS, script.OTHERS, script.bound(1000, 100)), (20, 0.35, 1, 20, 0.1, 56000))
+    for row, wanted in ((["f", 100, 5000, 1000, 56000, 61000], []), (["f", 100, 5000, 1000, 56001, 61000], ["f, 100 glyphs: 56.0 µs, not 56.0"]), (["f", 100, 5000, 1000, 56000, 61001], ["f, 100 glyphs: 1.00 ns a byte"])):
+        found = []
+        printed(lambda row=row, found=found: found.extend(script.printed(row)))
+        tests.same(f"a row {row}", found, wanted)
+    for rows, wrong, spent, others, words, status in (([1], [], 20, 0.1, [], 0), ([1], ["a"], 20, 0, [], 1), ([1], [], 20.1, 0, [], 1), ([1], [], 1, 0.11, [], 1), ([1], [], 1, 0.9, ["--any-machine"], 0), ([], [], 1, 0, [], 1)):
+        with patched((script.fonts, "install", lambda _: None), (script.pdf_harness, "built", lambda _: "/p"), (script, "rows_of_calls", lambda *_, rows=rows: iter(rows)), (script, "printed", lambda _, wrong=wrong: list(wrong)), (script, "numbers", lambda *_, spent=spent: [[9, round(spent * 1e6) + 5, 5]]),
+                     (script.Machine, "others", lambda _, others=others: others)):
+            said, ends_with = printed(script.main, *words)
+        past = len(wrong) + (spent > 20)
+        tests.same(f"pdf_font_times.py: {rows}, {wrong}, {spent} ms, {others}", (said.splitlines()[-1], ends_with), (f"pdf_font_times: {len(rows)} rows, {past} past a bound", status))
+    with patched((script.Machine, "now", staticmethod(popped([(100, 10, 1000), (150, 30, 1200), (1, 1, 1), (1, 1, 1), (0, 0, 0), (5, 9, 10)])))):
+        tests.same("what others use", [script.Machine().others() for _ in range(3)], [0.15, 1, 0])
+
+
 # ---- the words of all these scripts
 
 # Each option that a script has, with what it is where nobody gives it: ? a choice that isn't taken, nothing at all for none.
@@ -2488,7 +2586,7 @@ def check_judges(tests):
 
 
 GROUPS = [check_batch, check_limits, check_large, check_drivers, check_program, check_running, check_examples, check_pdf, check_all, check_speed, check_times,
-          check_fresh, check_builds, check_fonts, check_commands, check_gate, check_widths, check_again, check_portable, check_faces, check_bytes, check_processors, check_platforms, check_binding, check_damage, check_run, check_options, check_hostile, check_defaults, check_tables, check_original, check_judges]
+          check_fresh, check_builds, check_fonts, check_commands, check_gate, check_widths, check_again, check_portable, check_faces, check_bytes, check_processors, check_platforms, check_binding, check_damage, check_run, check_options, check_hostile, check_instances, check_readers, check_defaults, check_tables, check_original, check_judges]
 
 
 def main():
