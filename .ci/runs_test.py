@@ -8,6 +8,7 @@ No build is needed, and no time counts: the clock is a stand-in, too.
 
 The last line is `runs_test: N checks, M failed`, and the status 1 where one failed.
 """
+import collections
 import contextlib
 import importlib.machinery
 import importlib.util
@@ -2372,6 +2373,103 @@ def check_readers(tests):
         tests.same("what others use", [script.Machine().others() for _ in range(3)], [0.15, 1, 0])
 
 
+# ---- compare/lib/pdf_rules.py: the rules of fonts for a PDF that are written a second time
+
+PDF_DATA = os.path.join(ROOT, "bindings", "rust", "tests", "data")
+
+
+def pdf_rows():
+    """The rows of pdf_rows.txt that have an answer, as dicts of fields."""
+    text = read_of(PDF_DATA, "pdf_rows.txt").decode()
+    rows = [dict(re.findall(r"^(\w+)(?: (<<\n.*?(?=^>>$)|[^\n]*)|$)", it, re.M | re.S)) for it in re.split(r"^(?=row )", text, flags=re.M)[1:]]
+    return [{name: value.removeprefix("<<\n") for name, value in it.items()} for it in rows if "error" not in it]
+
+
+def lists_of(text):
+    """Lists as a PDF has them."""
+    return json.loads(re.sub(r"(?<=[\d\]]) (?=[-\d\[])", ", ", text))
+
+
+def check_rules(tests):
+    """The rules give what the stored rows have, which come from another program; where no row has a case, small numbers."""
+    sys.path.insert(0, os.path.join(ROOT, "compare", "lib"))
+    rules, codes = module("compare/lib/pdf_rules.py"), module("compare/lib/pdf_rules_codes.py")
+    done = collections.Counter()
+    for row in pdf_rows():
+        options, program, name = row["options"].split(), bytes.fromhex(row["program"]), row["row"]
+        coordinates = [] if row["coordinates"] == "-" else [(it.split("=")[0], float(it.split("=")[1])) for it in row["coordinates"].split(",")]
+        source = rules.Source(read_of(PDF_DATA, row["font"]), 0, coordinates)
+        check_rule_codes(tests, codes, row, options, source)
+        done["codes"] += 1
+        tests.same(f"{name}: permission", "{} subsetting {} outlines {}".format(*rules.permission(source)).replace("PreviewAndPrint", "preview_and_print").lower(), row["permission"])
+        # (of outlines in CFF, and of MVAR, fontTools reads what is there)
+        if source.is_cff or source["MVAR"] is not None and source.is_moved:
+            continue
+        done["fonts"] += 1
+        made = rules.descriptor(source, rules.Source(program).tables, "bounds=Kept" in options)
+        wanted = {**{it: int(row[it]) for it in ("flags", "ascent", "descent", "cap_height", "stem_v", "font_weight")}, "bounds": [*map(int, row["bounds"].split())], "italic_angle": round(float(row["angle"]) * 1000), "x_height": None if row["x_height"] == "-" else int(row["x_height"])}
+        tests.same(f"{name}: descriptor", made, wanted)
+        tests.same(f"{name}: name", rules.font_name(source, program), row["name"])
+    tests.same("rows", (done["codes"] >= 15, done["fonts"] >= 8), (True, True))
+    check_rule_numbers(tests, rules, codes)
+
+
+def check_rule_codes(tests, codes, row, options, source):
+    """Codes, texts, widths and columns of a row."""
+    name, count = row["row"], int(row["glyph_count"])
+    shown = [(int(glyph), "".join(chr(int(it, 16)) for it in text.split(",") if it)) for glyph, _, text in (it.partition(":") for it in row["shown"].split() if it != "-")]
+    choice = next((it.partition("=")[2] for it in options if it.startswith("codes=")), "")
+    cids, made = codes.cids(shown), codes.codes(shown, choice)
+    numbers = [*map(int, row["cids"].split())], [*map(int, row["codes"].split())], [*map(int, row["is_said"].split())]
+    tests.same(f"{name}: codes", (cids, made, codes.is_said(shown, made)), numbers)
+    tests.same(f"{name}: ToUnicode", codes.to_unicode(shown, made), row["to_unicode"])
+    found = codes.encoding(cids, made, "direction=Vertical" in options)
+    tests.same(f"{name}: encoding", found and found[1], row.get("encoding"))
+    if "cid_set" in options:
+        tests.same(f"{name}: CIDSet", codes.cid_set(count).hex(), row["cid_set"])
+    widths = [*map(int, row["widths"].split())]
+    tests.same(f"{name}: W", codes.widths_in(lists_of(row["w"]) if "w" in row else [], int(row["default_width"]), count), widths)
+    if "columns" in row:
+        columns = [None if it == "-" else tuple(map(int, it.split(","))) for it in row["columns"].split()]
+        said = codes.columns_in(lists_of(row["w2"]) if "w2" in row else [], [*map(int, row["dw2"].split())], widths, count)
+        rounded = [(it[0], -(-it[1] * 2 // 2) if it[1] == int(it[1]) else int(it[1] + 1 / 2), it[2]) for it in said]
+        tests.same(f"{name}: W2", [it for it, wanted in zip(rounded, columns) if wanted], [it for it in columns if it])
+        glyphs = dict(zip(cids, (glyph for glyph, _ in shown)))
+        if not source.is_cff:
+            tests.same(f"{name}: columns", [codes.column(source, glyph, widths[cid]) for cid, glyph in sorted(glyphs.items())], [columns[cid] for cid in sorted(glyphs)])
+
+
+def check_rule_numbers(tests, rules, codes):
+    """Halves, fields that are cut, shortest decimals, weights, and the two forms of W and W2."""
+    tests.same("halves", [rules.half_up(it) for it in (0.5, 1.5, -0.5, -1.5, 0.49, -0.51, 2)], [1, 2, 0, -1, 0, -1, 2])
+    tests.same("thousandths", [rules.thousandths(*it) for it in ((1, 2048), (512, 2048), (-1, 2000), (1, 2000), (-3, 2000))], [0, 250, 0, 1, -1])
+    tests.same("fields", [rules.field(b"\0\1\xff\xfe", *it) for it in ((0, "H"), (2, "h"), (3, "H"), (0, "I"), (1, "I"))] + [rules.field(None, 0, "H")], [1, -2, None, 0x1fffe, None, None])
+    tests.same("tags", (rules.tag_of(b""), rules.tag_of(b"a") != rules.tag_of(b"b"), len(rules.tag_of(b"abc")), rules.tag_of(b"\0")), ("AAAAAA", True, 6, "BAAAAA"))
+    tests.same("decimals", [rules.decimal(it) for it in (65536, 32768, 6554, -98304, 0, 42598400, 1)], ["1", "0.5", "0.1", "-1.5", "0", "650", "0.00002"])
+
+    def weight(os2=None, style=0, at=None):
+        face = type("Face", (dict,), {"is_moved": at is not None, "at": {"wght": at}})
+        return rules.weight(face({"OS/2": None if os2 is None else b"\0\4\0\0" + struct.pack(">H", os2), "head": bytes(44) + struct.pack(">H", style)}))
+    tests.same("weights", [weight(400), weight(9), weight(1), weight(10), weight(1001), weight(0), weight(0, 1), weight(), weight(None, 3), weight(at=42598400), weight(at=65536 * 2000), weight(at=32768)], [400, 900, 100, 10, 1000, 400, 700, 400, 700, 650, 1000, 1])
+
+    def permission(version, bits):
+        return rules.permission({"OS/2": struct.pack(">H", version) + bytes(6) + struct.pack(">H", bits)})
+    tests.same("permissions", [permission(*it) for it in ((3, 0), (3, 2), (3, 4), (3, 8), (3, 0xe), (3, 0x100), (3, 0x200), (1, 0x300), (2, 0x308))] + [rules.permission({"OS/2": b"\0\3"})],
+               [("Installable", 1, 1), ("Restricted", 1, 1), ("PreviewAndPrint", 1, 1), ("Editable", 1, 1), ("Editable", 1, 1), ("Installable", 0, 1), ("Installable", 1, 0), ("Installable", 1, 1), ("Editable", 0, 0), ("Unsaid", 1, 1)])
+    tests.same("W", codes.widths_in([1, [5, 6], 4, 5, 9], 7, 7), [7, 5, 6, 7, 9, 9, 7])
+    tests.same("W2", [tuple(map(float, it)) for it in codes.columns_in([1, [1, 2, 3], 2, 3, -1, -2, -3], [880, -1000], [10, 11, 12, 13, 15], 5)], [(-1000, 5, 880), (1, 2, 3), (-1, -2, -3), (-1, -2, -3), (-1000, 7.5, 880)])
+    for call, array in ((codes.widths_in, [1, []]), (codes.widths_in, [0, [1] * 8191]), (lambda array, *_: codes.columns_in(array, [1, 2], [1] * 9000, 9000), [1, [1, 2]]), (lambda array, *_: codes.columns_in(array, [1, 2], [1] * 9000, 9000), [1, []])):
+        try:
+            tests.same(f"a list of {len(array[1])}", call(array, 7, 9000), "an error")
+        except ValueError as why:
+            tests.same(f"a list of {len(array[1])}", str(why), f"a list of {len(array[1])}")
+    tests.same("the longest list", codes.widths_in([0, [3] * 8190], 7, 8191), [3] * 8190 + [7])
+    tests.same("the most frequent", [codes.most_frequent(it) for it in ([3, 1, 1, 3, 2], [1, 3, 3, 1], [5])], [3, 1, 5])
+    tests.same("blocks", [[it for it in codes.blocks("x", ["r"] * count) if it != "r"] for count in (0, 1, 100, 101)], [[], ["1 beginx", "endx"], ["100 beginx", "endx"], ["100 beginx", "endx", "1 beginx", "endx"]])
+    tests.same("units", [codes.units_of(it) for it in ("A", "\U0001f600", "\0\ufeff\ufffex", "")], ["0041", "D83DDE00", "0078", ""])
+    tests.same("plain characters", [codes.is_plain(ord(it)) for it in "A1é\u00a0\ufb01\u0301 +"], [True, True, True, False, False, False, False, True])
+
+
 # ---- the words of all these scripts
 
 # Each option that a script has, with what it is where nobody gives it: ? a choice that isn't taken, nothing at all for none.
@@ -2586,7 +2684,7 @@ def check_judges(tests):
 
 
 GROUPS = [check_batch, check_limits, check_large, check_drivers, check_program, check_running, check_examples, check_pdf, check_all, check_speed, check_times,
-          check_fresh, check_builds, check_fonts, check_commands, check_gate, check_widths, check_again, check_portable, check_faces, check_bytes, check_processors, check_platforms, check_binding, check_damage, check_run, check_options, check_hostile, check_instances, check_readers, check_defaults, check_tables, check_original, check_judges]
+          check_fresh, check_builds, check_fonts, check_commands, check_gate, check_widths, check_again, check_portable, check_faces, check_bytes, check_processors, check_platforms, check_binding, check_damage, check_run, check_options, check_hostile, check_instances, check_readers, check_rules, check_defaults, check_tables, check_original, check_judges]
 
 
 def main():
