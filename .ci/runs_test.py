@@ -1,7 +1,8 @@
 #!/usr/bin/env python3
 """Tests scripts that run programs and judge what these leave, over stand-ins: compare/all and those of compare/ that time, count or compare
 programs (batch, limits, speed, cff2_times, widths, again, portable, portable_times, faces, bytes, cpu, aarch64, platforms, binding,
-instance_times, damage, run, options, hostile, instance, instances, pdf, pdf_font and pdf_font_times), the rows of .ci/large.py and of .ci/drivers.py, .ci/program.py, .ci/examples.py, .ci/pdf_examples.py and .ci/fresh.
+instance_times, damage, run, options, hostile, instance, instances, pdf, pdf_font, pdf_font_times and refusals), the rows of .ci/large.py and of
+.ci/drivers.py, .ci/program.py, .ci/examples.py, .ci/pdf_examples.py and .ci/fresh; the rules of fonts for a PDF beside stored rows.
 No build is needed, and no time counts: the clock is a stand-in, too.
 
     .ci/runs_test.py [NAME..]     all groups, or those named
@@ -2470,6 +2471,90 @@ def check_rule_numbers(tests, rules, codes):
     tests.same("plain characters", [codes.is_plain(ord(it)) for it in "A1é\u00a0\ufb01\u0301 +"], [True, True, True, False, False, False, False, True])
 
 
+def check_refusals(tests):
+    """What refusals.py demands of a run in which a request was refused or a call failed: each fault ends it with status 1."""
+    script, room = module("compare/refusals.py"), tempfile.mkdtemp(dir=tests.room)
+    plain = sys.modules["refused"].Ended(0, b"ok 7 6 50 abcd\n", b"", 2, 1, 3, 10, "after", False, {it: 9 for it in script.CALLS})
+
+    def ending(**changed):
+        return type(plain)(**{**vars(plain), **changed})
+    memory, less = (ending(out=b"error out of memory\n"), None), ending(is_less=True, out=b"ok 9 8 50 abcd\n")
+    for what, base, settings, gots, is_well in (
+            ("two refusals", {}, (), [memory, memory], True), ("an answer in place of one", {}, (), [memory, (plain, b"font")], False), ("an instance that does without", {}, ("x",), [memory, (plain, b"font")], True), ("an instance that is another", {}, ("x",), [memory, (plain, b"other")], False),
+            ("an instance of another hash", {}, ("x",), [memory, (ending(out=b"ok 7 6 50 abce\n"), b"font")], False), ("a part that isn't given back", {}, (), [memory, (less, b"font")], True), ("the same, and another font", {}, (), [memory, (less, b"other")], False), ("the same, and a refusal", {}, (), [memory, (ending(is_less=True, out=memory[0].out), None)], False),
+            ("a font beside the refusal", {}, (), [memory, (memory[0], b"font")], False), ("a message", {}, (), [memory, (ending(out=memory[0].out, err=b"x"), None)], False), ("another status", {}, (), [memory, (ending(out=memory[0].out, status=1), None)], False), ("another error", {}, (), [memory, (ending(out=b"error malformed font\n"), None)], False),
+            ("fewer refusals than requests", {}, (), [memory], False), ("no refusal", {"requests": 0}, (), [], True), ("blocks that are lost", {}, (), [memory, (ending(out=memory[0].out, blocks=4), None)], False), ("a base that fails", {"status": 1}, (), [memory, memory], False), ("a base that is refused", {"out": b"error x\n"}, (), [memory, memory], False)):
+        files, found, given = iter([b"font", *(it for _, it in gots)]), [], []
+        with patched((script, "run", lambda words, at, base=base, given=given, **wishes: given.append((words, wishes)) or ending(**base)), (script, "take", lambda *_, files=files: next(files)), (script, "each_refusal", lambda words, at, gots=gots, **_: enumerate((it for it, _ in gots), 1))):
+            said, status = printed(lambda found=found, settings=settings: found.append(script.check_subset("it", "/f", "1,2", room, settings)))
+        tests.same(f"a subset: {what}: {said}", (status, found), (None, [len(gots)]) if is_well else (1, []))
+        tests.same(f"how it is run: {what}", given, [([script.BENCH, "/f", "0", "1,2", "1", "out", *settings], {"WITHIN": "clock"})])
+    check_refused_program(tests, script, ending, room)
+    check_failed_files(tests, script, ending, room)
+    tests.same("texts", (script.NO_MEMORY, script.OLD, script.REASON, script.LEFT), (b"error out of memory\n", b"what stood there before", b"Input/output error (os error 5)\n", {"cannot read in": (False, False), "cannot write page": (False, False), "cannot write out": (False, True), "cannot write standard output": (True, True)}))
+    for words, lacking, wanted in (([], "", ""), ([], script.BENCH, f"refusals.py: no {script.BENCH}"), (["--program"], script.BENCH, ""), (["--program"], script.FONT, f"refusals.py: no {script.FONT}"), (["--program"], script.REFUSE, f"refusals.py: no {script.REFUSE}")):
+        done = []
+        with patched((script.build, "preload", lambda *_, **__: None), (script, "build_all", lambda done=done: done.append("built")), (script.os.path, "exists", lambda it, lacking=lacking: it != lacking), (script, "cases_of", lambda _: ["case"]),
+                     (script, "check_library", lambda *_, done=done: done.append("library") or 7), (script, "check_all_of_program", lambda *_, done=done: done.append("program") or 5)):
+            said, status = printed(script.main, *words)
+        parts = ["library", "program"] if not words else ["program"]
+        tests.same(f"refusals.py {words}, without {lacking}", (said, status, done), ("", wanted, ["built"]) if wanted else (f"{12 if not words else 5} requests for memory were refused. All ended as they should, and all memory was given back.\n", None, ["built", *parts]))
+
+
+def check_refused_program(tests, script, ending, room):
+    """The program's runs, request by request."""
+    old, whole, last = [script.OLD], [b"font"], ending(refused=0)
+    before, after = (ending(status=1, out=b"", err=b"out of memory\n", stage=it) for it in ("before", "after"))
+    reading, listed = (ending(status=3, out=b"", err=b"cannot read %s\nout of memory\n" % it, stage="reading") for it in (b"in", b"list"))
+    buffer = ending(status=1, out=b"", err=b"out of memory\n", stage="reading", calls={"read": 0})
+    of_list = ("--gids-file",)
+    for what, front, gots, wanted in (
+            ("each stage", (), [(before, old), (reading, old), (after, old)], {"reading": 1, "before": 1, "after": 1, "no change": 0}), ("a buffer", (), [(buffer, old), (reading, old)], {"reading": 2, "before": 0, "after": 0, "no change": 0}), ("two buffers", (), [(buffer, old), (buffer, old)], None),
+            ("the same answer", (), [(ending(), whole)], {"reading": 0, "before": 0, "after": 0, "no change": 1}), ("another font", (), [(ending(), [b"other"])], None), ("other lines", (), [(ending(out=b"x"), whole)], None), ("a message and status 0", (), [(ending(err=b"x"), whole)], None),
+            ("a font at a refusal", (), [(before, whole)], None), ("lines at a refusal", (), [(ending(status=1, out=b"x", err=b"out of memory\n", stage="before"), old)], None), ("the status of reading before it", (), [(ending(status=3, out=b"", err=reading.err, stage="before"), old)], None),
+            ("no word of IN", (), [(ending(status=1, out=b"", err=b"out of memory\n", stage="reading", calls={"read": 1}), old)], None), ("another stage", (), [(ending(status=1, out=b"", err=b"out of memory\n", stage="none"), old)], None), ("a part that isn't given back", (), [(ending(**{**vars(before), "is_less": True}), old)], None),
+            ("blocks that are lost", (), [(ending(**{**vars(before), "held": 11}), old)], None), ("a list", of_list, [(listed, old), (ending(**{**vars(reading), "stage": "after"}), old)], {"reading": 1, "before": 0, "after": 1, "no change": 0}), ("IN where the list is read", of_list, [(reading, old)], None)):
+        runs, files, found = iter([*(it for it, _ in gots), last]), iter([it for _, it in gots]), []
+        with patched((script, "base_of", lambda *_: (ending(), whole)), (script, "run_font", lambda *_, runs=runs, **__: next(runs)), (script, "take_written", lambda *_, files=files: next(files))):
+            said, status = printed(lambda found=found, front=front: found.append(script.check_program("it", b"", "1", room, front)))
+        tests.same(f"the program: {what}: {said}", (status, found), (None, [wanted]) if wanted else (1, []))
+
+
+def check_failed_files(tests, script, ending, room):
+    """The program's runs, call by call that fails."""
+    calls = {"open": 3, "size": 5, "read": 4, "write": 4, "write1": 1, "write2": 0, "rename": 2, "sync": 2}
+    tests.same("what it does without", {what: [it for it in range(1, count + 1) if script.is_dispensable(what, it, calls)] for what, count in calls.items()},
+               {"open": [1, 2, 3], "size": [1, 2, 3, 4, 5], "read": [2, 3, 4], "write": [3, 4], "write1": [], "write2": [], "rename": [2], "sync": [2]})
+    calls = {"open": 6, "size": 8, "read": 4, "write": 4, "write1": 1, "write2": 0, "rename": 2, "sync": 2}
+    tests.same("what it does without of more", {what: [it for it in range(1, count + 1) if script.is_dispensable(what, it, calls)] for what, count in calls.items() if what in ("open", "size")}, {"open": [3, 4, 5, 6], "size": [1, 2, 5, 6, 7, 8]})
+    base = ending(calls=calls, out=b"1 -> 1\n")
+
+    def right(call):
+        """How such a run has to end, and what is at OUT."""
+        what, _, number = call.partition(":")
+        if script.is_dispensable(what, int(number), calls):
+            return base, b"font"
+        if what == "write1":
+            return ending(status=3, out=b"1 ->", err=b"cannot write standard output\n" + script.REASON), b"font"
+        name = b"write out" if what in ("write", "rename", "sync") or call in ("open:2", "size:4") else b"read in"
+        return ending(status=3, out=b"", err=b"cannot %s\n" % name + script.REASON), script.OLD
+    every = [f"{what}:{number}" for what in (*script.CALLS[:5], "rename", "sync") for number in range(1, calls[what] + 1)]
+    for call in [None, *every]:
+        for change in ({"status": 2}, {"err": b"x"}, {"out": b"other"}, {"blocks": 4}, "font") if call else ({},):
+            ran, found = [], []
+
+            def run_font(_, glyphs, FAIL, call=call, change=change, ran=ran):
+                got, _ = right(FAIL)
+                ran.append(FAIL)
+                return ending(**{**vars(got), **change}) if FAIL == call and change != "font" else got
+            with patched((script, "base_of", lambda *_: (base, (b"font",))), (script, "run_font", run_font), (script, "take", lambda *_, ran=ran, call=call, change=change: b"other" if ran[-1] == call and change == "font" else right(ran[-1])[1])):
+                said, status = printed(lambda found=found: found.append(script.check_files("it", b"", "1", room)))
+            if call:
+                tests.same(f"{call} that is otherwise by {change}: {said}", (status, ran[-1], found), (1, call, []))
+            else:
+                tests.same(f"each failed call: {said}", (status, ran, found), (None, every, [{it: calls[it] for it in (*script.CALLS[:5], "rename", "sync")}]))
+
+
 # ---- the words of all these scripts
 
 # Each option that a script has, with what it is where nobody gives it: ? a choice that isn't taken, nothing at all for none.
@@ -2684,7 +2769,7 @@ def check_judges(tests):
 
 
 GROUPS = [check_batch, check_limits, check_large, check_drivers, check_program, check_running, check_examples, check_pdf, check_all, check_speed, check_times,
-          check_fresh, check_builds, check_fonts, check_commands, check_gate, check_widths, check_again, check_portable, check_faces, check_bytes, check_processors, check_platforms, check_binding, check_damage, check_run, check_options, check_hostile, check_instances, check_readers, check_rules, check_defaults, check_tables, check_original, check_judges]
+          check_fresh, check_builds, check_fonts, check_commands, check_gate, check_widths, check_again, check_portable, check_faces, check_bytes, check_processors, check_platforms, check_binding, check_damage, check_run, check_options, check_hostile, check_instances, check_readers, check_rules, check_refusals, check_defaults, check_tables, check_original, check_judges]
 
 
 def main():
