@@ -2453,6 +2453,8 @@ def check_rule_numbers(tests, rules, codes):
         return rules.weight(face({"OS/2": None if os2 is None else b"\0\4\0\0" + struct.pack(">H", os2), "head": bytes(44) + struct.pack(">H", style)}))
     tests.same("weights", [weight(400), weight(9), weight(1), weight(10), weight(1001), weight(0), weight(0, 1), weight(), weight(None, 3), weight(at=42598400), weight(at=65536 * 2000), weight(at=32768)], [400, 900, 100, 10, 1000, 400, 700, 400, 700, 650, 1000, 1])
 
+    check_rule_fields(tests, rules)
+
     def permission(version, bits):
         return rules.permission({"OS/2": struct.pack(">H", version) + bytes(6) + struct.pack(">H", bits)})
     tests.same("permissions", [permission(*it) for it in ((3, 0), (3, 2), (3, 4), (3, 8), (3, 0xe), (3, 0x100), (3, 0x200), (1, 0x300), (2, 0x308))] + [rules.permission({"OS/2": b"\0\3"})],
@@ -2543,7 +2545,7 @@ def check_failed_files(tests, script, ending, room):
         for change in ({"status": 2}, {"err": b"x"}, {"out": b"other"}, {"blocks": 4}, "font") if call else ({},):
             ran, found = [], []
 
-            def run_font(_, glyphs, FAIL, call=call, change=change, ran=ran):
+            def run_font(*_, FAIL, call=call, change=change, ran=ran):
                 got, _ = right(FAIL)
                 ran.append(FAIL)
                 return ending(**{**vars(got), **change}) if FAIL == call and change != "font" else got
@@ -2553,6 +2555,66 @@ def check_failed_files(tests, script, ending, room):
                 tests.same(f"{call} that is otherwise by {change}: {said}", (status, ran[-1], found), (1, call, []))
             else:
                 tests.same(f"each failed call: {said}", (status, ran, found), (None, every, [{it: calls[it] for it in (*script.CALLS[:5], "rename", "sync")}]))
+
+
+class Face(dict):
+    """Tables of a font, for one rule: a table that isn't there is None."""
+    is_cff = is_moved = False
+    units = 1000
+
+    def __missing__(self, _):
+        return None
+
+    def shift(self, tag):
+        return {"hasc": 7, "hdsc": -9, "cpht": 5, "hcla": 70000}.get(tag, 0) if self.is_moved else 0
+
+    def top_of(self, character):
+        return {"H": 700, "x": 0}[character]
+
+
+def numbers_at(size, **values):
+    """A table of so many bytes with numbers of 16 bits at some places: `at68=5`."""
+    table = bytearray(size)
+    for place, value in values.items():
+        struct.pack_into(">h", table, int(place[2:]), value)
+    return bytes(table)
+
+
+def check_rule_fields(tests, rules):
+    """Which source of several a value of the descriptor is taken of."""
+    hhea, os2 = numbers_at(36, at4=800, at6=-200), {"at68": 810, "at70": -210, "at74": 820, "at76": 220}
+    for what, tables, moved, wanted in (
+            ("hhea", {"hhea": hhea, "OS/2": numbers_at(96, **os2)}, False, (800, -200)), ("the typographic ones", {"hhea": hhea, "OS/2": numbers_at(96, at62=128, **os2)}, False, (810, -210)), ("0 in hhea", {"hhea": bytes(36), "OS/2": numbers_at(96, **os2)}, False, (810, -210)), ("those of Windows", {"hhea": bytes(36), "OS/2": numbers_at(96, at74=820, at76=220)}, False, (820, -220)),
+            ("0 in the typographic ones", {"hhea": hhea, "OS/2": numbers_at(96, at62=128, at74=820, at76=220)}, False, (820, -220)), ("head", {"head": numbers_at(54, at42=900, at38=300)}, False, (900, -300)), ("hhea that is cut", {"hhea": hhea[:6], "OS/2": numbers_at(96, **os2)}, False, (810, -210)), ("a descent above 0", {"hhea": numbers_at(36, at4=800, at6=200)}, False, (800, -200)),
+            ("moved ones", {"hhea": hhea}, True, (807, -209)), ("those moved too far", {"hhea": bytes(36), "OS/2": numbers_at(96, at74=820, at76=220)}, True, (820, -220)), ("one of the two is 0", {"hhea": numbers_at(36, at6=-200), "OS/2": numbers_at(96, **os2)}, False, (0, -200))):
+        face = Face(tables)
+        face.is_moved = moved
+        tests.same(f"ascent and descent by {what}", rules.lines(face), wanted)
+    for what, tables, moved, wanted in (("version 2", numbers_at(96, at0=2, at88=650), False, 650), ("version 1", numbers_at(96, at0=1, at88=650), False, 700), ("0", numbers_at(96, at0=2), False, 700), ("one that is cut", numbers_at(89, at0=2), False, 700), ("moved", numbers_at(96, at0=2, at88=650), True, 655)):
+        face = Face({"OS/2": tables})
+        face.is_moved = moved
+        tests.same(f"CapHeight by {what}", (rules.height(face, 88, "cpht", "H"), rules.height(Face({}), 86, "xhgt", "x")), (wanted, None))
+    post = struct.pack(">Ii", 0x30000, -98304)
+    moved = Face({"post": post})
+    moved.is_moved, moved.at = True, {"slnt": -7 * 65536 - 32768}
+    tests.same("angles", [rules.italic_angle(it) for it in (Face({"post": post}), Face({"post": post[:7]}), Face({}), moved)], [-1500, 0, 0, -7500])
+    for what, tables, angle, wanted in (
+            ("nothing", {}, 0, 4), ("fixed pitch", {"post": bytes(12) + b"\0\0\0\1"}, 0, 5), ("a serif class", {"OS/2": numbers_at(96, at30=0x0500)}, 0, 6), ("class 7", {"OS/2": numbers_at(96, at30=0x0700)}, 0, 6), ("class 6", {"OS/2": numbers_at(96, at30=0x0600)}, 0, 4), ("class 8", {"OS/2": numbers_at(96, at30=0x0800)}, 0, 4),
+            ("a script", {"OS/2": numbers_at(96, at30=0x0a00)}, 0, 12), ("Panose serifs", {"OS/2": numbers_at(96, at32=0x020a)}, 0, 6), ("Panose without", {"OS/2": numbers_at(96, at32=0x020b)}, 0, 4), ("the first Panose serif", {"OS/2": numbers_at(96, at32=0x0202)}, 0, 6), ("no Panose serif", {"OS/2": numbers_at(96, at32=0x0201)}, 0, 4), ("a Panose script", {"OS/2": numbers_at(96, at32=0x0302)}, 0, 12),
+            ("italic", {"OS/2": numbers_at(96, at62=1)}, 0, 68), ("oblique", {"OS/2": numbers_at(96, at62=0x200)}, 0, 68), ("macStyle", {"head": numbers_at(54, at44=2)}, 0, 68), ("macStyle beside OS/2", {"head": numbers_at(54, at44=2), "OS/2": bytes(96)}, 0, 4), ("an angle", {}, 1, 68)):
+        tests.same(f"flags: {what}", rules.flags(Face(tables), angle), wanted)
+    glyf = struct.pack(">5h", 1, -10, -20, 30, 40) + bytes(2) + struct.pack(">5h", 1, 5, -25, 35, 3)
+    program = {"glyf": glyf, "loca": struct.pack(">4I", 0, 12, 12, 22), "head": numbers_at(54, at50=1)}
+    short = {"glyf": glyf, "loca": struct.pack(">4H", 0, 6, 6, 11), "head": numbers_at(54)}
+    tests.same("boxes", [[rules.box_of(it, glyph) for glyph in range(4)] for it in (program, short)], [[(-10, -20, 30, 40), None, (5, -25, 35, 3), None]] * 2)
+    head = numbers_at(54, at36=-1, at38=-3, at40=1501, at42=1999)
+    wide = Face({"head": head})
+    wide.units = 2000
+    cff = Face({"head": bytes(54)})
+    cff.is_cff = True
+    tests.same("bounds", [rules.bounds(it, program, is_kept) for it, is_kept in ((Face({"head": head}), False), (wide, False), (Face({"head": head}), True), (Face({"head": bytes(54)}), False), (cff, True), (Face({}), False))],
+               [[-1, -3, 1501, 1999], [-1, -2, 751, 1000], [-10, -25, 35, 40], [-10, -25, 35, 40], [0, 0, 0, 0], [-10, -25, 35, 40]])
+    tests.same("names", (rules.regular(b"A b(1)/\x7f~"), rules.plain(b"A b-1\xe9")), (b"Ab1~", b"Ab1"))
 
 
 # ---- the words of all these scripts
