@@ -2565,11 +2565,10 @@ class Face(dict):
     def __missing__(self, _):
         return None
 
-    def shift(self, tag):
-        return {"hasc": 7, "hdsc": -9, "cpht": 5, "hcla": 70000}.get(tag, 0) if self.is_moved else 0
 
-    def top_of(self, character):
-        return {"H": 700, "x": 0}[character]
+# (the rules ask a face for these)
+Face.shift = lambda self, tag: {"hasc": 7, "hdsc": -9, "cpht": 5, "hcla": 70000}.get(tag, 0) if self.is_moved else 0
+Face.top_of = lambda _, character: {"H": 700, "x": 0}[character]
 
 
 def numbers_at(size, **values):
