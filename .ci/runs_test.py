@@ -2616,6 +2616,62 @@ def check_rule_fields(tests, rules):
     tests.same("names", (rules.regular(b"A b(1)/\x7f~"), rules.plain(b"A b-1\xe9")), (b"Ab1~", b"Ab1"))
 
 
+# ---- compare/lib/growth.py
+
+def check_growth(tests):
+    """The picture of growth: numbers of glyphs, and where a time is, in which colour and under which name."""
+    sys.path.insert(0, os.path.join(ROOT, "compare", "lib"))
+    growth = module("compare/lib/growth.py")
+    tests.same("numbers of glyphs", [growth.sizes(it) for it in (100, 30, 2)], [[3, 6, 14, 30, 65, 100], [3, 6, 14, 30], [2]])
+    tests.same("decades", [growth.decades(it) for it in ([10, 1000], [11, 999], [1, 7])], [(1, 3), (1, 3), (0, 1)])
+    tests.same("names of times", growth.TICK_NAMES, {0: "1 ns", 1: "10 ns", 2: "100 ns", 3: "1 µs", 4: "10 µs", 5: "100 µs", 6: "1 ms", 7: "10 ms", 8: "100 ms", 9: "1 s", 10: "10 s"})
+    tests.same("names and colours", (growth.TITLES, growth.COLOURS), ({"original": "Rust crate", "harfbuzz": "HarfBuzz", "port": "port", "floor": "floor"}, {"original": "#b03a2e", "harfbuzz": "#b9770e", "port": "#1f618d", "floor": "#808b96"}))
+    curves = {"port": [(10, 100), (100, 1000), (1000, 10000)], "floor": [(10, 100), (1000, 100)]}
+    said = growth.picture([("one", curves), ("two", curves), ("three", curves)])
+    dots = re.findall(r'<circle cx="([\d.]+)" cy="([\d.]+)" r="2.4" fill="(#\w+)"/>', said)
+    # (a panel is 380 by 250, and begins at 62 and 34; two are in a row, of 460 by 324 with their room)
+    own = [(62, 284, "port"), (252, 159, "port"), (442, 34, "port"), (62, 284, "floor"), (442, 284, "floor")]
+    tests.same("dots", dots, [(f"{x + 460 * (k % 2):.1f}", f"{y + 324 * (k // 2):.1f}", growth.COLOURS[name]) for k in range(3) for x, y, name in own])
+    lines = re.findall(r'<polyline points="([^"]*)" fill="none" stroke="(#\w+)"', said)
+    tests.same("curves", lines[:2], [("62.0,284.0 252.0,159.0 442.0,34.0", growth.COLOURS["port"]), ("62.0,284.0 442.0,284.0", growth.COLOURS["floor"])])
+    texts = re.findall(r'<text x="([\d.]+)" y="([\d.]+)" [^>]*>([^<]*)</text>', said)
+    tests.same("labels", texts[:7], [("62.0", "24.0", "one"), ("62.0", "299.0", "10"), ("252.0", "299.0", "100"), ("442.0", "299.0", "1,000"), ("56.0", "288.0", "100 ns"), ("56.0", "163.0", "1 µs"), ("56.0", "38.0", "10 µs")])
+    tests.same("titles and the legend", ([it for *_, it in texts if it in ("one", "two", "three")], [it for *_, it in texts[-3:]]), (["one", "two", "three"], ["port", "floor", "time of a call by the number of kept glyphs, spread and jumbled"]))
+    tests.same("its size", said.split("\n")[0], '<svg xmlns="http://www.w3.org/2000/svg" viewBox="0 0 920 678" font-family="sans-serif" font-size="11" fill="#212f3c">')
+
+
+# ---- compare/lib/figures.py
+
+def check_figures(tests):
+    """Figures of documents, of rows that are made up."""
+    sys.path.insert(0, os.path.join(ROOT, "compare", "lib"))
+    figures = module("compare/lib/figures.py")
+
+    def timed(port, crate, harfbuzz, held="10", source="4", font="f", kept="3 low"):
+        return {"port ns": port, "crate ns": crate, "harfbuzz ns": harfbuzz, "port held KiB": held, "source and twice the output KiB": source, "font": font, "glyphs kept": kept}
+    files = {"truetype.csv": [timed("10", "100", "50"), timed("30", "100", "50", "20.1", "4", "g"), timed("20", "100", "200")], "cff.csv": [timed("25", "100", "100", font="h", kept="all"), timed("21", "100", "100", "4", "5", "i")],
+             "instance_times.csv": [{"Ratio to HarfBuzz": ratio, "Glyphs": glyphs, "Ratio to fontTools": tools, "Memory (bytes)": memory, "Source + 2 × answer + 8 MB": str(1000 + 8 * 2 ** 20)} for ratio, glyphs, tools, memory in (("0.5", "79", "0.001", "2000"), ("1.1", "80", "", "4049"), ("1.2", "2000", "0.00211", "1000"))],
+             "cpu.csv": [{"font": font, "x86-64 ns": one, "x86-64-v2 ns": other} for font, one, other in (("f", "110", "100"), ("g", "110", "100"), ("h", "121", "100"), ("i", "100", "100"))]}
+    hostile = [{"Family": "a", "Bound": bound, "Answer": answer, "Bytes of the file": size, "Glyphs": glyphs, "Process, ms": ms, "Held, bytes": held, "Part of what it may hold": part, "ns of each byte and token": ns} for bound, answer, size, glyphs, ms, held, part, ns in (
+        ("none", "a font of 96056120 bytes", "12000", "7", "1234.5", "1000000", "9.9", "99"), ("1000000", "overflow occurred", "50000", "1234", "1.6", "9999", "0.431", "7.2"), ("64000000", "a font of 2000000 bytes", "50000", "1234", "20", "10000", "0.2", "8.1"))]
+    said = {"hostile, families": types.SimpleNamespace(tables=[hostile]), "sizes": types.SimpleNamespace(body=["text", "| a |", "|---|", "| 1 |", "more", "| b |"]), "hostile": types.SimpleNamespace(body=["| a |", "| 1 |"]),
+            "pdf font, readers": types.SimpleNamespace(tables=[[{"Shown": "one", "A": "read", "B": "text"}, {"Shown": "two", "A": "read", "B": "no"}, {"Shown": "three", "A": "text", "B": "read"}]]),
+            "pdf font": types.SimpleNamespace(body=["1234 fonts (1000 TrueType, x), 56 refused as they should be", "7890 files were read by qpdf, 12 texts were read, 3456 pictures compared, 78 pages judged by PDFBox", "1290 of 1290 fonts compared, 3 differences"])}
+    with mock.patch.object(figures.results_of, "rows", lambda name: files[name]), mock.patch.object(figures.results_of, "result", lambda name: said[name]):
+        answers = {key: figures.BLOCKS[key][0]() for key in ("summary of times", "greatest ratios", "number of times", "ratios of instances", "parts of fontTools' time", "memory of instances", "cost of any processor", "under bounds", "held under bounds", "slowest under bounds", "sizes", "hostile", "readers of a font", "fonts compared")}
+    wanted = {
+        "summary of times": "| | TrueType, 3 rows | CFF, 2 rows |\n|---|---|---|\n| time, as a part of the Rust crate's | at most 0.30, half of the rows at most 0.20 | at most 0.25, half of the rows at most 0.21 |\n"
+                            "| time, as a part of HarfBuzz's | at most 0.60, half of the rows at most 0.20 | at most 0.25, half of the rows at most 0.21 |\n| memory above the source and twice the output | at most 17 KiB | at most 6 KiB |",
+        "greatest ratios": "g, 3 low: 0.30; h, all: 0.25; i, 3 low: 0.21; f, 3 low: 0.20; f, 3 low: 0.10", "number of times": "5", "ratios of instances": "1.10 to 1.20", "parts of fontTools' time": "0.0022", "memory of instances": "3 KiB",
+        "cost of any processor": "10.3 % of the sum of 4 cases; in the geometric mean 10.0 % for fonts with CFF outlines, 10 % for those with TrueType outlines",
+        "under bounds": "| Family | Glyphs | File | No bound: the font, ms, held | 1 MB: the font, ms, held | 64 MB: the font, ms, held |\n|---|---|---|---|---|---|\n| a | 1,234 | 50 KB | 96.1 MB, 1,234, 1 MB (a file of 12 KB, 7 requested) | refused, 2, 9,999 bytes | 2 MB, 20, 10 KB |",
+        "held under bounds": "0.44", "slowest under bounds": "9", "sizes": "| a |\n|---|\n| 1 |", "hostile": "| a |\n| 1 |", "readers of a font": "All read: one; three.\n\n| Shown | A | B |\n|---|---|---|\n| two | read | no |",
+        "fonts compared": "1,234 fonts and 56 refusals, 7,890 files, 12 texts, 3,456 pictures, 78 pages as PDF/A-1b: 3 differences.",
+    }
+    for key, text in wanted.items():
+        tests.same(f"figures: {key}", answers[key], text)
+
+
 # ---- the words of all these scripts
 
 # Each option that a script has, with what it is where nobody gives it: ? a choice that isn't taken, nothing at all for none.
@@ -2830,7 +2886,7 @@ def check_judges(tests):
 
 
 GROUPS = [check_batch, check_limits, check_large, check_drivers, check_program, check_running, check_examples, check_pdf, check_all, check_speed, check_times,
-          check_fresh, check_builds, check_fonts, check_commands, check_gate, check_widths, check_again, check_portable, check_faces, check_bytes, check_processors, check_platforms, check_binding, check_damage, check_run, check_options, check_hostile, check_instances, check_readers, check_rules, check_refusals, check_defaults, check_tables, check_original, check_judges]
+          check_fresh, check_builds, check_fonts, check_commands, check_gate, check_widths, check_again, check_portable, check_faces, check_bytes, check_processors, check_platforms, check_binding, check_damage, check_run, check_options, check_hostile, check_instances, check_readers, check_rules, check_refusals, check_growth, check_figures, check_defaults, check_tables, check_original, check_judges]
 
 
 def main():
