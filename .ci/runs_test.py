@@ -1,13 +1,15 @@
 #!/usr/bin/env python3
 """Tests scripts that run programs and judge what these leave, over stand-ins: compare/all and those of compare/ that time, count or compare
 programs (batch, limits, speed, cff2_times, widths, again, portable, portable_times, faces, bytes, cpu, aarch64, platforms, binding,
-instance_times, damage, run, options and hostile), the rows of .ci/large.py and of .ci/drivers.py, .ci/program.py, .ci/examples.py, .ci/pdf_examples.py and .ci/fresh.
+instance_times, damage, run, options, hostile, instance, instances, pdf, pdf_font, pdf_font_times and refusals), the rows of .ci/large.py and of
+.ci/drivers.py, .ci/program.py, .ci/examples.py, .ci/pdf_examples.py and .ci/fresh; the rules of fonts for a PDF beside stored rows.
 No build is needed, and no time counts: the clock is a stand-in, too.
 
     .ci/runs_test.py [NAME..]     all groups, or those named
 
 The last line is `runs_test: N checks, M failed`, and the status 1 where one failed.
 """
+import collections
 import contextlib
 import importlib.machinery
 import importlib.util
@@ -2274,6 +2276,402 @@ def check_refusing(tests, room):
         tests.same(f"a demand that is {holds}", printed(lambda holds=holds: refused.demand(holds, "it", "got")), wanted)
 
 
+def check_instances(tests):
+    """How comparisons at coordinates end; which damaged copies and hostile fonts are wrong."""
+    script, room = module("compare/instances.py"), tempfile.mkdtemp(dir=tests.room)
+    by_font = sys.modules["by_font"]
+    for wrong, compared, said, status in (([], 7, "", 0), (["a"], 7, "", 1), ([], 0, "nothing was compared\n", 1), (["a"], 0, "nothing was compared\n", 1)):
+        tests.same(f"an end with {wrong} of {compared}", printed(lambda wrong=wrong, compared=compared: by_font.end(wrong, compared)), (said, status))
+    tests.same("lines", (by_font.lines(["a"]), len(by_font.lines(["a"] * 50)), by_font.LINES), (["- a"], 40, 40))
+    out = put(b"font", room, "out")
+    for line, wanted, is_read, counts, wrong in (("error malformed font", "MalformedFont", "", {"copies": 1, "refused": 1, "another error": 0}, 0), ("error malformed font", "OverflowError", "", {"copies": 1, "refused": 1, "another error": 1}, 0), ("error malformed font", ("glyphs", "lines"), "", {"copies": 1, "refused": 1, "another error": 0}, 1),
+                                                 ("ok 1000000000 5 6", ("glyphs", "lines"), "", {"copies": 1}, 0), ("ok 1000000001 5 6", ("glyphs", "lines"), "", {"copies": 1}, 1), ("ok 7 5 6", ("glyphs", "lines"), "other", {"copies": 1}, 1), ("ok 7 5 6", "MalformedFont", "", {"copies": 1}, 1)):
+        report, given = script.Report("/a/b.ttf"), []
+        said = []
+        report.say = lambda *words, said=said: said.append(words)
+        with mock.patch.object(script, "is_as_read", lambda *words, is_read=is_read, given=given: given.append(words) or is_read):
+            script.judge_copy(report, out, line, "fvar", wanted, "it")
+        tests.same(f"a copy that is {line}, and read as {wanted}", (dict(report.counts), len(said), given), (counts, wrong, [(b"font", "glyphs", "lines")] if line[0] == "o" and wanted != "MalformedFont" else []))
+    reports = [types.SimpleNamespace(counts={"copies": 7, "refused": 3, "another error": 1, "wrong": 0}), types.SimpleNamespace(counts={"copies": 5, "refused": 1, "another error": 0, "wrong": 2})]
+    found = []
+    said = printed(lambda: found.append(script.say_damage(reports)))[0]
+    tests.same("damaged copies", (found, said), ([12], "Of 12 damaged copies 4 are refused (1 under another name), 8 answered as read; 2 differ.\n"))
+    for line, took, is_sound in (("error x", 0.05, True), ("error x", 0.1, False), ("ok 7 5 6", 0.05, False)):
+        clock = iter([it for k in range(10) for it in (k, k + took + (k != 3))])
+        with patched((script, "hostile_fonts", lambda: [("one", b"font", 7)]), (script, "port", lambda *_, line=line: [line]), (script, "answer_of", lambda *_: "MalformedFont"), (script.time, "perf_counter", lambda clock=clock: next(clock))):
+            found = []
+            said = printed(lambda found=found: found.append(script.hostile()))[0]
+        tests.same(f"a hostile font: {line} after {took} s", (found, said), ([is_sound], f"one, 4 bytes: {line} after {1000 * took:.0f} ms (MalformedFont as read){'' if is_sound else ' WRONG'}\n"))
+    tests.same("texts", script.TEXTS, {"UnknownKind": "unknown font kind", "MalformedFont": "malformed font", "Unimplemented": "unsupported feature in font", "OverflowError": "overflow occurred"})
+    check_instance_words(tests, script)
+
+
+def check_instance_words(tests, script):
+    """What instances.py runs for its words, and its status."""
+    report = types.SimpleNamespace(wrong=["a"], counts={}, refused=[], worst=0)
+    good = types.SimpleNamespace(wrong=[], counts={}, refused=[], worst=0)
+    for words, made, compared, asked, status in ((["--damage", "250"], [good], 9, [("/f", 0), ("/g", 0), ("/f", 1), ("/g", 1), ("/f", 2), ("/g", 2)], 0), (["--damage", "100"], [good], 9, [("/f", 0), ("/g", 0)], 0), (["--damage", "100"], [report], 9, [("/f", 0), ("/g", 0)], 1), (["--damage", "100"], [good], 0, [("/f", 0), ("/g", 0)], 1),
+                                                 ([], [good], 9, [("/f",), ("/g",)], 0), ([], [good, report], 9, [("/f",), ("/g",)], 1), ([], [], 0, [("/f",), ("/g",)], 1)):
+        given = []
+        with patched((script.build, "program", lambda _: None), (script.fonts, "install", lambda _: None), (script.font_at, "font_paths", lambda *_: ["/f", "/g"]), (script, "say_damage", lambda _, compared=compared: compared), (script, "say_fonts", lambda *_, compared=compared: compared),
+                     (script.by_font, "reports", lambda _, compare, *columns, given=given, made=made: given.append((compare, [it[:2] for it in zip(*columns)], [it[2:] for it in zip(*columns)])) or made)):
+            _, ends_with = printed(script.main, *words)
+        is_damage = "--damage" in words
+        tests.same(f"instances.py {words}", (given, ends_with), ([(script.damage_piece if is_damage else script.compare_font, asked, [(50,) if is_damage else ()] * len(asked))], status))
+    for is_sound in (True, False):
+        with patched((script.build, "program", lambda _: None), (script, "hostile", lambda is_sound=is_sound: is_sound)):
+            tests.same("instances.py --hostile", printed(script.main, "--hostile")[1], 0 if is_sound else 1)
+    script = module("compare/instance.py")
+    rows = {it: types.SimpleNamespace(apart={0: 3, 1: 0, 2: 0}) for it in script.ROWS}
+    for wrong, points, status in (([], 3, 0), (["a"], 3, 1), ([], 0, 1)):
+        rows[script.ROWS[6]].apart[0] = points
+        report = types.SimpleNamespace(wrong=wrong, refused=["b", "b"], rows=rows)
+        with patched((script.build, "program", lambda _: None), (script, "font_paths", lambda *_: ["/f"]), (script.by_font, "reports", lambda *_, report=report: [report]), (script, "summary", lambda *_: ["the table"])):
+            tests.same(f"instance.py with {wrong} of {points}", printed(script.main, "--no-install"), (f"the table\n\n{len(wrong)} differences out of bounds.\n{''.join('- a' + chr(10) for _ in wrong)}- refused: b\n" + "nothing was compared\n" * (not points), status))
+
+
+def check_readers(tests):
+    """Which faces are alike in readers of a PDF, and when too little was compared; which times of fonts for a PDF pass a bound."""
+    script = module("compare/pdf.py")
+    for outcomes, line, status in (
+            ([([], []), ([], ["x"])], "2 faces, 4 glyphs: 2 drawn alike by three readers (1 of them by one reader without the glyphs' names alone), 0 not, 0 refused", 0), ([([], []), (["other pixels"], ["x"])], "2 faces, 4 glyphs: 1 drawn alike by three readers (0 of them by one reader without the glyphs' names alone), 1 not, 0 refused", 1),
+            ([([], []), "refused"], "2 faces, 2 glyphs: 1 drawn alike by three readers (0 of them by one reader without the glyphs' names alone), 0 not, 1 refused", 0), (["refused", "unread"], "2 faces, 0 glyphs: 0 drawn alike by three readers (0 of them by one reader without the glyphs' names alone), 0 not, 2 refused", 1), ([], "0 faces, 0 glyphs: 0 drawn alike by three readers (0 of them by one reader without the glyphs' names alone), 0 not, 0 refused", 1)):
+        left = list(outcomes)
+
+        def compare(*_, left=left):
+            it = left.pop(0)
+            if isinstance(it, str):
+                raise script.Refused("no") if it == "refused" else OSError("no")
+            return (["TrueType"], *it)
+        with patched((script.build, "program", lambda _: None), (script, "chosen", lambda count, outcomes=outcomes: [("TrueType", f"/f{k}.ttf", 0) for k in range(len(outcomes))] if count == 9 else None), (script, "some_glyphs", lambda *_: [1, 2]), (script, "compare", compare)):
+            said, ends_with = printed(script.main, "--faces", "9")
+        nothing = "nothing was compared\n" * (not [it for it in outcomes if not isinstance(it, str)])
+        tests.same(f"pdf.py: {outcomes}", (said.endswith(f"{line}\n{nothing}"), ends_with), (True, status))
+    for wrong, status in (([], 0), (["a", "b"], 1)):
+        with patched((script.build, "program", lambda _: None), (script, "compare", lambda font, index, glyphs, *_, wrong=wrong: (["TrueType"], wrong, ["noted"]) if (font, index, glyphs) == ("/f", 3, [1, 2]) else None)):
+            tests.same(f"one face with {wrong}", printed(script.main, "/f", "3", "1,2"), ("\n".join(wrong or ["drawn alike by three readers (TrueType, noted)"]) + "\n", status))
+    script = module("compare/pdf_font.py")
+    whole = {"fonts": 3, "refused": 1, "pictures": 2, "preflight": 2, "files": 9, "texts": 4, "kind TrueType": 2, "moved": 1, "kind BareCff": 1, "kind OpenType": 0, "vertical": 1}
+    given = types.SimpleNamespace(wanted=4, copies=100, seen=6, with_pdfbox=True)
+    for what, total, wrong, more, is_well in (("all is well", {}, [], {}, True), ("a difference", {}, ["a"], {}, False), ("no font", {"fonts": 0}, [], {}, False), ("none refused", {"refused": 0}, [], {}, False), ("none refused of few", {"refused": 0}, [], {"copies": 99}, True), ("no picture", {"pictures": 0}, [], {}, False),
+                                              ("no picture wanted", {"pictures": 0}, [], {"seen": 0}, True), ("no page", {"preflight": 0}, [], {}, False), ("no page wanted", {"preflight": 0}, [], {"with_pdfbox": False}, True)):
+        found = []
+        said = printed(lambda total=total, wrong=wrong, more=more, found=found: found.append(script.report({**whole, **total}, wrong, types.SimpleNamespace(**{**vars(given), **more}))))[0]
+        tests.same(f"pdf_font.py: {what}", (found, f" of 4 fonts compared, {len(wrong)} differences\n" in said), ([is_well], True))
+    script = module("compare/pdf_font_times.py")
+    tests.same("bounds", (script.FIXED, script.A_CODE, script.A_BYTE, script.OF_TEXTS, script.OTHERS, script.bound(1000, 100)), (20, 0.35, 1, 20, 0.1, 56000))
+    for row, wanted in ((["f", 100, 5000, 1000, 56000, 61000], []), (["f", 100, 5000, 1000, 56001, 61000], ["f, 100 glyphs: 56.0 µs, not 56.0"]), (["f", 100, 5000, 1000, 56000, 61001], ["f, 100 glyphs: 1.00 ns a byte"])):
+        found = []
+        printed(lambda row=row, found=found: found.extend(script.printed(row)))
+        tests.same(f"a row {row}", found, wanted)
+    for rows, wrong, spent, others, words, status in (([1], [], 20, 0.1, [], 0), ([1], ["a"], 20, 0, [], 1), ([1], [], 20.1, 0, [], 1), ([1], [], 1, 0.11, [], 1), ([1], [], 1, 0.9, ["--any-machine"], 0), ([], [], 1, 0, [], 1)):
+        with patched((script.fonts, "install", lambda _: None), (script.pdf_harness, "built", lambda _: "/p"), (script, "rows_of_calls", lambda *_, rows=rows: iter(rows)), (script, "printed", lambda _, wrong=wrong: list(wrong)), (script, "numbers", lambda *_, spent=spent: [[9, round(spent * 1e6) + 5, 5]]),
+                     (script.Machine, "others", lambda _, others=others: others)):
+            said, ends_with = printed(script.main, *words)
+        past = len(wrong) + (spent > 20)
+        tests.same(f"pdf_font_times.py: {rows}, {wrong}, {spent} ms, {others}", (said.splitlines()[-1], ends_with), (f"pdf_font_times: {len(rows)} rows, {past} past a bound", status))
+    with patched((script.Machine, "now", staticmethod(popped([(100, 10, 1000), (150, 30, 1200), (1, 1, 1), (1, 1, 1), (0, 0, 0), (5, 9, 10)])))):
+        tests.same("what others use", [script.Machine().others() for _ in range(3)], [0.15, 1, 0])
+
+
+# ---- compare/lib/pdf_rules.py: the rules of fonts for a PDF that are written a second time
+
+PDF_DATA = os.path.join(ROOT, "bindings", "rust", "tests", "data")
+
+
+def pdf_rows():
+    """The rows of pdf_rows.txt that have an answer, as dicts of fields."""
+    text = read_of(PDF_DATA, "pdf_rows.txt").decode()
+    rows = [dict(re.findall(r"^(\w+)(?: (<<\n.*?(?=^>>$)|[^\n]*)|$)", it, re.M | re.S)) for it in re.split(r"^(?=row )", text, flags=re.M)[1:]]
+    return [{name: value.removeprefix("<<\n") for name, value in it.items()} for it in rows if "error" not in it]
+
+
+def lists_of(text):
+    """Lists as a PDF has them."""
+    return json.loads(re.sub(r"(?<=[\d\]]) (?=[-\d\[])", ", ", text))
+
+
+def check_rules(tests):
+    """The rules give what the stored rows have, which come from another program; where no row has a case, small numbers."""
+    sys.path.insert(0, os.path.join(ROOT, "compare", "lib"))
+    rules, codes = module("compare/lib/pdf_rules.py"), module("compare/lib/pdf_rules_codes.py")
+    done = collections.Counter()
+    for row in pdf_rows():
+        options, program, name = row["options"].split(), bytes.fromhex(row["program"]), row["row"]
+        coordinates = [] if row["coordinates"] == "-" else [(it.split("=")[0], float(it.split("=")[1])) for it in row["coordinates"].split(",")]
+        source = rules.Source(read_of(PDF_DATA, row["font"]), 0, coordinates)
+        check_rule_codes(tests, codes, row, options, source)
+        done["codes"] += 1
+        tests.same(f"{name}: permission", "{} subsetting {} outlines {}".format(*rules.permission(source)).replace("PreviewAndPrint", "preview_and_print").lower(), row["permission"])
+        # (of outlines in CFF, and of MVAR, fontTools reads what is there)
+        if source.is_cff or source["MVAR"] is not None and source.is_moved:
+            continue
+        done["fonts"] += 1
+        made = rules.descriptor(source, rules.Source(program).tables, "bounds=Kept" in options)
+        wanted = {**{it: int(row[it]) for it in ("flags", "ascent", "descent", "cap_height", "stem_v", "font_weight")}, "bounds": [*map(int, row["bounds"].split())], "italic_angle": round(float(row["angle"]) * 1000), "x_height": None if row["x_height"] == "-" else int(row["x_height"])}
+        tests.same(f"{name}: descriptor", made, wanted)
+        tests.same(f"{name}: name", rules.font_name(source, program), row["name"])
+    tests.same("rows", (done["codes"] >= 15, done["fonts"] >= 8), (True, True))
+    check_rule_numbers(tests, rules, codes)
+
+
+def check_rule_codes(tests, codes, row, options, source):
+    """Codes, texts, widths and columns of a row."""
+    name, count = row["row"], int(row["glyph_count"])
+    shown = [(int(glyph), "".join(chr(int(it, 16)) for it in text.split(",") if it)) for glyph, _, text in (it.partition(":") for it in row["shown"].split() if it != "-")]
+    choice = next((it.partition("=")[2] for it in options if it.startswith("codes=")), "")
+    cids, made = codes.cids(shown), codes.codes(shown, choice)
+    numbers = [*map(int, row["cids"].split())], [*map(int, row["codes"].split())], [*map(int, row["is_said"].split())]
+    tests.same(f"{name}: codes", (cids, made, codes.is_said(shown, made)), numbers)
+    tests.same(f"{name}: ToUnicode", codes.to_unicode(shown, made), row["to_unicode"])
+    found = codes.encoding(cids, made, "direction=Vertical" in options)
+    tests.same(f"{name}: encoding", found and found[1], row.get("encoding"))
+    if "cid_set" in options:
+        tests.same(f"{name}: CIDSet", codes.cid_set(count).hex(), row["cid_set"])
+    widths = [*map(int, row["widths"].split())]
+    tests.same(f"{name}: W", codes.widths_in(lists_of(row["w"]) if "w" in row else [], int(row["default_width"]), count), widths)
+    if "columns" in row:
+        columns = [None if it == "-" else tuple(map(int, it.split(","))) for it in row["columns"].split()]
+        said = codes.columns_in(lists_of(row["w2"]) if "w2" in row else [], [*map(int, row["dw2"].split())], widths, count)
+        rounded = [(it[0], -(-it[1] * 2 // 2) if it[1] == int(it[1]) else int(it[1] + 1 / 2), it[2]) for it in said]
+        tests.same(f"{name}: W2", [it for it, wanted in zip(rounded, columns) if wanted], [it for it in columns if it])
+        glyphs = dict(zip(cids, (glyph for glyph, _ in shown)))
+        if not source.is_cff:
+            tests.same(f"{name}: columns", [codes.column(source, glyph, widths[cid]) for cid, glyph in sorted(glyphs.items())], [columns[cid] for cid in sorted(glyphs)])
+
+
+def check_rule_numbers(tests, rules, codes):
+    """Halves, fields that are cut, shortest decimals, weights, and the two forms of W and W2."""
+    tests.same("halves", [rules.half_up(it) for it in (0.5, 1.5, -0.5, -1.5, 0.49, -0.51, 2)], [1, 2, 0, -1, 0, -1, 2])
+    tests.same("thousandths", [rules.thousandths(*it) for it in ((1, 2048), (512, 2048), (-1, 2000), (1, 2000), (-3, 2000))], [0, 250, 0, 1, -1])
+    tests.same("fields", [rules.field(b"\0\1\xff\xfe", *it) for it in ((0, "H"), (2, "h"), (3, "H"), (0, "I"), (1, "I"))] + [rules.field(None, 0, "H")], [1, -2, None, 0x1fffe, None, None])
+    tests.same("tags", (rules.tag_of(b""), rules.tag_of(b"a") != rules.tag_of(b"b"), len(rules.tag_of(b"abc")), rules.tag_of(b"\0")), ("AAAAAA", True, 6, "BAAAAA"))
+    tests.same("decimals", [rules.decimal(it) for it in (65536, 32768, 6554, -98304, 0, 42598400, 1)], ["1", "0.5", "0.1", "-1.5", "0", "650", "0.00002"])
+
+    def weight(os2=None, style=0, at=None):
+        face = type("Face", (dict,), {"is_moved": at is not None, "at": {"wght": at}})
+        return rules.weight(face({"OS/2": None if os2 is None else b"\0\4\0\0" + struct.pack(">H", os2), "head": bytes(44) + struct.pack(">H", style)}))
+    tests.same("weights", [weight(400), weight(9), weight(1), weight(10), weight(1001), weight(0), weight(0, 1), weight(), weight(None, 3), weight(at=42598400), weight(at=65536 * 2000), weight(at=32768)], [400, 900, 100, 10, 1000, 400, 700, 400, 700, 650, 1000, 1])
+
+    check_rule_fields(tests, rules)
+
+    def permission(version, bits):
+        return rules.permission({"OS/2": struct.pack(">H", version) + bytes(6) + struct.pack(">H", bits)})
+    tests.same("permissions", [permission(*it) for it in ((3, 0), (3, 2), (3, 4), (3, 8), (3, 0xe), (3, 0x100), (3, 0x200), (1, 0x300), (2, 0x308))] + [rules.permission({"OS/2": b"\0\3"})],
+               [("Installable", 1, 1), ("Restricted", 1, 1), ("PreviewAndPrint", 1, 1), ("Editable", 1, 1), ("Editable", 1, 1), ("Installable", 0, 1), ("Installable", 1, 0), ("Installable", 1, 1), ("Editable", 0, 0), ("Unsaid", 1, 1)])
+    tests.same("W", codes.widths_in([1, [5, 6], 4, 5, 9], 7, 7), [7, 5, 6, 7, 9, 9, 7])
+    tests.same("W2", [tuple(map(float, it)) for it in codes.columns_in([1, [1, 2, 3], 2, 3, -1, -2, -3], [880, -1000], [10, 11, 12, 13, 15], 5)], [(-1000, 5, 880), (1, 2, 3), (-1, -2, -3), (-1, -2, -3), (-1000, 7.5, 880)])
+    for call, array in ((codes.widths_in, [1, []]), (codes.widths_in, [0, [1] * 8191]), (lambda array, *_: codes.columns_in(array, [1, 2], [1] * 9000, 9000), [1, [1, 2]]), (lambda array, *_: codes.columns_in(array, [1, 2], [1] * 9000, 9000), [1, []])):
+        try:
+            tests.same(f"a list of {len(array[1])}", call(array, 7, 9000), "an error")
+        except ValueError as why:
+            tests.same(f"a list of {len(array[1])}", str(why), f"a list of {len(array[1])}")
+    tests.same("the longest list", codes.widths_in([0, [3] * 8190], 7, 8191), [3] * 8190 + [7])
+    tests.same("the most frequent", [codes.most_frequent(it) for it in ([3, 1, 1, 3, 2], [1, 3, 3, 1], [5])], [3, 1, 5])
+    tests.same("blocks", [[it for it in codes.blocks("x", ["r"] * count) if it != "r"] for count in (0, 1, 100, 101)], [[], ["1 beginx", "endx"], ["100 beginx", "endx"], ["100 beginx", "endx", "1 beginx", "endx"]])
+    tests.same("units", [codes.units_of(it) for it in ("A", "\U0001f600", "\0\ufeff\ufffex", "")], ["0041", "D83DDE00", "0078", ""])
+    tests.same("plain characters", [codes.is_plain(ord(it)) for it in "A1é\u00a0\ufb01\u0301 +"], [True, True, True, False, False, False, False, True])
+
+
+def check_refusals(tests):
+    """What refusals.py demands of a run in which a request was refused or a call failed: each fault ends it with status 1."""
+    script, room = module("compare/refusals.py"), tempfile.mkdtemp(dir=tests.room)
+    plain = sys.modules["refused"].Ended(0, b"ok 7 6 50 abcd\n", b"", 2, 1, 3, 10, "after", False, {it: 9 for it in script.CALLS})
+
+    def ending(**changed):
+        return type(plain)(**{**vars(plain), **changed})
+    memory, less = (ending(out=b"error out of memory\n"), None), ending(is_less=True, out=b"ok 9 8 50 abcd\n")
+    for what, base, settings, gots, is_well in (
+            ("two refusals", {}, (), [memory, memory], True), ("an answer in place of one", {}, (), [memory, (plain, b"font")], False), ("an instance that does without", {}, ("x",), [memory, (plain, b"font")], True), ("an instance that is another", {}, ("x",), [memory, (plain, b"other")], False),
+            ("an instance of another hash", {}, ("x",), [memory, (ending(out=b"ok 7 6 50 abce\n"), b"font")], False), ("a part that isn't given back", {}, (), [memory, (less, b"font")], True), ("the same, and another font", {}, (), [memory, (less, b"other")], False), ("the same, and a refusal", {}, (), [memory, (ending(is_less=True, out=memory[0].out), None)], False),
+            ("a font beside the refusal", {}, (), [memory, (memory[0], b"font")], False), ("a message", {}, (), [memory, (ending(out=memory[0].out, err=b"x"), None)], False), ("another status", {}, (), [memory, (ending(out=memory[0].out, status=1), None)], False), ("another error", {}, (), [memory, (ending(out=b"error malformed font\n"), None)], False),
+            ("fewer refusals than requests", {}, (), [memory], False), ("no refusal", {"requests": 0}, (), [], True), ("blocks that are lost", {}, (), [memory, (ending(out=memory[0].out, blocks=4), None)], False), ("a base that fails", {"status": 1}, (), [memory, memory], False), ("a base that is refused", {"out": b"error x\n"}, (), [memory, memory], False)):
+        files, found, given = iter([b"font", *(it for _, it in gots)]), [], []
+        with patched((script, "run", lambda words, at, base=base, given=given, **wishes: given.append((words, wishes)) or ending(**base)), (script, "take", lambda *_, files=files: next(files)), (script, "each_refusal", lambda words, at, gots=gots, **_: enumerate((it for it, _ in gots), 1))):
+            said, status = printed(lambda found=found, settings=settings: found.append(script.check_subset("it", "/f", "1,2", room, settings)))
+        tests.same(f"a subset: {what}: {said}", (status, found), (None, [len(gots)]) if is_well else (1, []))
+        tests.same(f"how it is run: {what}", given, [([script.BENCH, "/f", "0", "1,2", "1", "out", *settings], {"WITHIN": "clock"})])
+    check_refused_program(tests, script, ending, room)
+    check_failed_files(tests, script, ending, room)
+    tests.same("texts", (script.NO_MEMORY, script.OLD, script.REASON, script.LEFT), (b"error out of memory\n", b"what stood there before", b"Input/output error (os error 5)\n", {"cannot read in": (False, False), "cannot write page": (False, False), "cannot write out": (False, True), "cannot write standard output": (True, True)}))
+    for words, lacking, wanted in (([], "", ""), ([], script.BENCH, f"refusals.py: no {script.BENCH}"), (["--program"], script.BENCH, ""), (["--program"], script.FONT, f"refusals.py: no {script.FONT}"), (["--program"], script.REFUSE, f"refusals.py: no {script.REFUSE}")):
+        done = []
+        with patched((script.build, "preload", lambda *_, **__: None), (script, "build_all", lambda done=done: done.append("built")), (script.os.path, "exists", lambda it, lacking=lacking: it != lacking), (script, "cases_of", lambda _: ["case"]),
+                     (script, "check_library", lambda *_, done=done: done.append("library") or 7), (script, "check_all_of_program", lambda *_, done=done: done.append("program") or 5)):
+            said, status = printed(script.main, *words)
+        parts = ["library", "program"] if not words else ["program"]
+        tests.same(f"refusals.py {words}, without {lacking}", (said, status, done), ("", wanted, ["built"]) if wanted else (f"{12 if not words else 5} requests for memory were refused. All ended as they should, and all memory was given back.\n", None, ["built", *parts]))
+
+
+def check_refused_program(tests, script, ending, room):
+    """The program's runs, request by request."""
+    old, whole, last = [script.OLD], [b"font"], ending(refused=0)
+    before, after = (ending(status=1, out=b"", err=b"out of memory\n", stage=it) for it in ("before", "after"))
+    reading, listed = (ending(status=3, out=b"", err=b"cannot read %s\nout of memory\n" % it, stage="reading") for it in (b"in", b"list"))
+    buffer = ending(status=1, out=b"", err=b"out of memory\n", stage="reading", calls={"read": 0})
+    of_list = ("--gids-file",)
+    for what, front, gots, wanted in (
+            ("each stage", (), [(before, old), (reading, old), (after, old)], {"reading": 1, "before": 1, "after": 1, "no change": 0}), ("a buffer", (), [(buffer, old), (reading, old)], {"reading": 2, "before": 0, "after": 0, "no change": 0}), ("two buffers", (), [(buffer, old), (buffer, old)], None),
+            ("the same answer", (), [(ending(), whole)], {"reading": 0, "before": 0, "after": 0, "no change": 1}), ("another font", (), [(ending(), [b"other"])], None), ("other lines", (), [(ending(out=b"x"), whole)], None), ("a message and status 0", (), [(ending(err=b"x"), whole)], None),
+            ("a font at a refusal", (), [(before, whole)], None), ("lines at a refusal", (), [(ending(status=1, out=b"x", err=b"out of memory\n", stage="before"), old)], None), ("the status of reading before it", (), [(ending(status=3, out=b"", err=reading.err, stage="before"), old)], None),
+            ("no word of IN", (), [(ending(status=1, out=b"", err=b"out of memory\n", stage="reading", calls={"read": 1}), old)], None), ("another stage", (), [(ending(status=1, out=b"", err=b"out of memory\n", stage="none"), old)], None), ("a part that isn't given back", (), [(ending(**{**vars(before), "is_less": True}), old)], None),
+            ("blocks that are lost", (), [(ending(**{**vars(before), "held": 11}), old)], None), ("a list", of_list, [(listed, old), (ending(**{**vars(reading), "stage": "after"}), old)], {"reading": 1, "before": 0, "after": 1, "no change": 0}), ("IN where the list is read", of_list, [(reading, old)], None)):
+        runs, files, found = iter([*(it for it, _ in gots), last]), iter([it for _, it in gots]), []
+        with patched((script, "base_of", lambda *_: (ending(), whole)), (script, "run_font", lambda *_, runs=runs, **__: next(runs)), (script, "take_written", lambda *_, files=files: next(files))):
+            said, status = printed(lambda found=found, front=front: found.append(script.check_program("it", b"", "1", room, front)))
+        tests.same(f"the program: {what}: {said}", (status, found), (None, [wanted]) if wanted else (1, []))
+
+
+def check_failed_files(tests, script, ending, room):
+    """The program's runs, call by call that fails."""
+    calls = {"open": 3, "size": 5, "read": 4, "write": 4, "write1": 1, "write2": 0, "rename": 2, "sync": 2}
+    tests.same("what it does without", {what: [it for it in range(1, count + 1) if script.is_dispensable(what, it, calls)] for what, count in calls.items()},
+               {"open": [1, 2, 3], "size": [1, 2, 3, 4, 5], "read": [2, 3, 4], "write": [3, 4], "write1": [], "write2": [], "rename": [2], "sync": [2]})
+    calls = {"open": 6, "size": 8, "read": 4, "write": 4, "write1": 1, "write2": 0, "rename": 2, "sync": 2}
+    tests.same("what it does without of more", {what: [it for it in range(1, count + 1) if script.is_dispensable(what, it, calls)] for what, count in calls.items() if what in ("open", "size")}, {"open": [3, 4, 5, 6], "size": [1, 2, 5, 6, 7, 8]})
+    base = ending(calls=calls, out=b"1 -> 1\n")
+
+    def right(call):
+        """How such a run has to end, and what is at OUT."""
+        what, _, number = call.partition(":")
+        if script.is_dispensable(what, int(number), calls):
+            return base, b"font"
+        if what == "write1":
+            return ending(status=3, out=b"1 ->", err=b"cannot write standard output\n" + script.REASON), b"font"
+        name = b"write out" if what in ("write", "rename", "sync") or call in ("open:2", "size:4") else b"read in"
+        return ending(status=3, out=b"", err=b"cannot %s\n" % name + script.REASON), script.OLD
+    every = [f"{what}:{number}" for what in (*script.CALLS[:5], "rename", "sync") for number in range(1, calls[what] + 1)]
+    for call in [None, *every]:
+        for change in ({"status": 2}, {"err": b"x"}, {"out": b"other"}, {"blocks": 4}, "font") if call else ({},):
+            ran, found = [], []
+
+            def run_font(*_, FAIL, call=call, change=change, ran=ran):
+                got, _ = right(FAIL)
+                ran.append(FAIL)
+                return ending(**{**vars(got), **change}) if FAIL == call and change != "font" else got
+            with patched((script, "base_of", lambda *_: (base, (b"font",))), (script, "run_font", run_font), (script, "take", lambda *_, ran=ran, call=call, change=change: b"other" if ran[-1] == call and change == "font" else right(ran[-1])[1])):
+                said, status = printed(lambda found=found: found.append(script.check_files("it", b"", "1", room)))
+            if call:
+                tests.same(f"{call} that is otherwise by {change}: {said}", (status, ran[-1], found), (1, call, []))
+            else:
+                tests.same(f"each failed call: {said}", (status, ran, found), (None, every, [{it: calls[it] for it in (*script.CALLS[:5], "rename", "sync")}]))
+
+
+class Face(dict):
+    """Tables of a font, for one rule: a table that isn't there is None."""
+    is_cff = is_moved = False
+    units = 1000
+
+    def __missing__(self, _):
+        return None
+
+
+# (the rules ask a face for these)
+Face.shift = lambda self, tag: {"hasc": 7, "hdsc": -9, "cpht": 5, "hcla": 70000}.get(tag, 0) if self.is_moved else 0
+Face.top_of = lambda _, character: {"H": 700, "x": 0}[character]
+
+
+def numbers_at(size, **values):
+    """A table of so many bytes with numbers of 16 bits at some places: `at68=5`."""
+    table = bytearray(size)
+    for place, value in values.items():
+        struct.pack_into(">h", table, int(place[2:]), value)
+    return bytes(table)
+
+
+def check_rule_fields(tests, rules):
+    """Which source of several a value of the descriptor is taken of."""
+    hhea, os2 = numbers_at(36, at4=800, at6=-200), {"at68": 810, "at70": -210, "at74": 820, "at76": 220}
+    for what, tables, moved, wanted in (
+            ("hhea", {"hhea": hhea, "OS/2": numbers_at(96, **os2)}, False, (800, -200)), ("the typographic ones", {"hhea": hhea, "OS/2": numbers_at(96, at62=128, **os2)}, False, (810, -210)), ("0 in hhea", {"hhea": bytes(36), "OS/2": numbers_at(96, **os2)}, False, (810, -210)), ("those of Windows", {"hhea": bytes(36), "OS/2": numbers_at(96, at74=820, at76=220)}, False, (820, -220)),
+            ("0 in the typographic ones", {"hhea": hhea, "OS/2": numbers_at(96, at62=128, at74=820, at76=220)}, False, (820, -220)), ("head", {"head": numbers_at(54, at42=900, at38=300)}, False, (900, -300)), ("hhea that is cut", {"hhea": hhea[:6], "OS/2": numbers_at(96, **os2)}, False, (810, -210)), ("a descent above 0", {"hhea": numbers_at(36, at4=800, at6=200)}, False, (800, -200)),
+            ("moved ones", {"hhea": hhea}, True, (807, -209)), ("those moved too far", {"hhea": bytes(36), "OS/2": numbers_at(96, at74=820, at76=220)}, True, (820, -220)), ("one of the two is 0", {"hhea": numbers_at(36, at6=-200), "OS/2": numbers_at(96, **os2)}, False, (0, -200))):
+        face = Face(tables)
+        face.is_moved = moved
+        tests.same(f"ascent and descent by {what}", rules.lines(face), wanted)
+    for what, tables, moved, wanted in (("version 2", numbers_at(96, at0=2, at88=650), False, 650), ("version 1", numbers_at(96, at0=1, at88=650), False, 700), ("0", numbers_at(96, at0=2), False, 700), ("one that is cut", numbers_at(89, at0=2), False, 700), ("moved", numbers_at(96, at0=2, at88=650), True, 655)):
+        face = Face({"OS/2": tables})
+        face.is_moved = moved
+        tests.same(f"CapHeight by {what}", (rules.height(face, 88, "cpht", "H"), rules.height(Face({}), 86, "xhgt", "x")), (wanted, None))
+    post = struct.pack(">Ii", 0x30000, -98304)
+    moved = Face({"post": post})
+    moved.is_moved, moved.at = True, {"slnt": -7 * 65536 - 32768}
+    tests.same("angles", [rules.italic_angle(it) for it in (Face({"post": post}), Face({"post": post[:7]}), Face({}), moved)], [-1500, 0, 0, -7500])
+    for what, tables, angle, wanted in (
+            ("nothing", {}, 0, 4), ("fixed pitch", {"post": bytes(12) + b"\0\0\0\1"}, 0, 5), ("a serif class", {"OS/2": numbers_at(96, at30=0x0500)}, 0, 6), ("class 7", {"OS/2": numbers_at(96, at30=0x0700)}, 0, 6), ("class 6", {"OS/2": numbers_at(96, at30=0x0600)}, 0, 4), ("class 8", {"OS/2": numbers_at(96, at30=0x0800)}, 0, 4),
+            ("a script", {"OS/2": numbers_at(96, at30=0x0a00)}, 0, 12), ("Panose serifs", {"OS/2": numbers_at(96, at32=0x020a)}, 0, 6), ("Panose without", {"OS/2": numbers_at(96, at32=0x020b)}, 0, 4), ("the first Panose serif", {"OS/2": numbers_at(96, at32=0x0202)}, 0, 6), ("no Panose serif", {"OS/2": numbers_at(96, at32=0x0201)}, 0, 4), ("a Panose script", {"OS/2": numbers_at(96, at32=0x0302)}, 0, 12),
+            ("italic", {"OS/2": numbers_at(96, at62=1)}, 0, 68), ("oblique", {"OS/2": numbers_at(96, at62=0x200)}, 0, 68), ("macStyle", {"head": numbers_at(54, at44=2)}, 0, 68), ("macStyle beside OS/2", {"head": numbers_at(54, at44=2), "OS/2": bytes(96)}, 0, 4), ("an angle", {}, 1, 68)):
+        tests.same(f"flags: {what}", rules.flags(Face(tables), angle), wanted)
+    glyf = struct.pack(">5h", 1, -10, -20, 30, 40) + bytes(2) + struct.pack(">5h", 1, 5, -25, 35, 3)
+    program = {"glyf": glyf, "loca": struct.pack(">4I", 0, 12, 12, 22), "head": numbers_at(54, at50=1)}
+    short = {"glyf": glyf, "loca": struct.pack(">4H", 0, 6, 6, 11), "head": numbers_at(54)}
+    tests.same("boxes", [[rules.box_of(it, glyph) for glyph in range(4)] for it in (program, short)], [[(-10, -20, 30, 40), None, (5, -25, 35, 3), None]] * 2)
+    head = numbers_at(54, at36=-1, at38=-3, at40=1501, at42=1999)
+    wide = Face({"head": head})
+    wide.units = 2000
+    cff = Face({"head": bytes(54)})
+    cff.is_cff = True
+    tests.same("bounds", [rules.bounds(it, program, is_kept) for it, is_kept in ((Face({"head": head}), False), (wide, False), (Face({"head": head}), True), (Face({"head": bytes(54)}), False), (cff, True), (Face({}), False))],
+               [[-1, -3, 1501, 1999], [-1, -2, 751, 1000], [-10, -25, 35, 40], [-10, -25, 35, 40], [0, 0, 0, 0], [-10, -25, 35, 40]])
+    tests.same("names", (rules.regular(b"A b(1)/\x7f~"), rules.plain(b"A b-1\xe9")), (b"Ab1~", b"Ab1"))
+
+
+# ---- compare/lib/growth.py
+
+def check_growth(tests):
+    """The picture of growth: numbers of glyphs, and where a time is, in which colour and under which name."""
+    sys.path.insert(0, os.path.join(ROOT, "compare", "lib"))
+    growth = module("compare/lib/growth.py")
+    tests.same("numbers of glyphs", [growth.sizes(it) for it in (100, 30, 2)], [[3, 6, 14, 30, 65, 100], [3, 6, 14, 30], [2]])
+    tests.same("decades", [growth.decades(it) for it in ([10, 1000], [11, 999], [1, 7])], [(1, 3), (1, 3), (0, 1)])
+    tests.same("names of times", growth.TICK_NAMES, {0: "1 ns", 1: "10 ns", 2: "100 ns", 3: "1 µs", 4: "10 µs", 5: "100 µs", 6: "1 ms", 7: "10 ms", 8: "100 ms", 9: "1 s", 10: "10 s"})
+    tests.same("names and colours", (growth.TITLES, growth.COLOURS), ({"original": "Rust crate", "harfbuzz": "HarfBuzz", "port": "port", "floor": "floor"}, {"original": "#b03a2e", "harfbuzz": "#b9770e", "port": "#1f618d", "floor": "#808b96"}))
+    curves = {"port": [(10, 100), (100, 1000), (1000, 10000)], "floor": [(10, 100), (1000, 100)]}
+    said = growth.picture([("one", curves), ("two", curves), ("three", curves)])
+    dots = re.findall(r'<circle cx="([\d.]+)" cy="([\d.]+)" r="2.4" fill="(#\w+)"/>', said)
+    # (a panel is 380 by 250, and begins at 62 and 34; two are in a row, of 460 by 324 with their room)
+    own = [(62, 284, "port"), (252, 159, "port"), (442, 34, "port"), (62, 284, "floor"), (442, 284, "floor")]
+    tests.same("dots", dots, [(f"{x + 460 * (k % 2):.1f}", f"{y + 324 * (k // 2):.1f}", growth.COLOURS[name]) for k in range(3) for x, y, name in own])
+    lines = re.findall(r'<polyline points="([^"]*)" fill="none" stroke="(#\w+)"', said)
+    tests.same("curves", lines[:2], [("62.0,284.0 252.0,159.0 442.0,34.0", growth.COLOURS["port"]), ("62.0,284.0 442.0,284.0", growth.COLOURS["floor"])])
+    texts = re.findall(r'<text x="([\d.]+)" y="([\d.]+)" [^>]*>([^<]*)</text>', said)
+    tests.same("labels", texts[:7], [("62.0", "24.0", "one"), ("62.0", "299.0", "10"), ("252.0", "299.0", "100"), ("442.0", "299.0", "1,000"), ("56.0", "288.0", "100 ns"), ("56.0", "163.0", "1 µs"), ("56.0", "38.0", "10 µs")])
+    tests.same("titles and the legend", ([it for *_, it in texts if it in ("one", "two", "three")], [it for *_, it in texts[-3:]]), (["one", "two", "three"], ["port", "floor", "time of a call by the number of kept glyphs, spread and jumbled"]))
+    tests.same("its size", said.split("\n")[0], '<svg xmlns="http://www.w3.org/2000/svg" viewBox="0 0 920 678" font-family="sans-serif" font-size="11" fill="#212f3c">')
+
+
+# ---- compare/lib/figures.py
+
+def check_figures(tests):
+    """Figures of documents, of rows that are made up."""
+    sys.path.insert(0, os.path.join(ROOT, "compare", "lib"))
+    figures = module("compare/lib/figures.py")
+
+    def timed(port, crate, harfbuzz, held="10", source="4", font="f", kept="3 low"):
+        return {"port ns": port, "crate ns": crate, "harfbuzz ns": harfbuzz, "port held KiB": held, "source and twice the output KiB": source, "font": font, "glyphs kept": kept}
+    files = {"truetype.csv": [timed("10", "100", "50"), timed("30", "100", "50", "20.1", "4", "g"), timed("20", "100", "200")], "cff.csv": [timed("25", "100", "100", font="h", kept="all"), timed("21", "100", "100", "4", "5", "i")],
+             "instance_times.csv": [{"Ratio to HarfBuzz": ratio, "Glyphs": glyphs, "Ratio to fontTools": tools, "Memory (bytes)": memory, "Source + 2 × answer + 8 MB": str(1000 + 8 * 2 ** 20)} for ratio, glyphs, tools, memory in (("0.5", "79", "0.001", "2000"), ("1.1", "80", "", "4049"), ("1.2", "2000", "0.00211", "1000"))],
+             "cpu.csv": [{"font": font, "x86-64 ns": one, "x86-64-v2 ns": other} for font, one, other in (("f", "110", "100"), ("g", "110", "100"), ("h", "121", "100"), ("i", "100", "100"))]}
+    hostile = [{"Family": "a", "Bound": bound, "Answer": answer, "Bytes of the file": size, "Glyphs": glyphs, "Process, ms": ms, "Held, bytes": held, "Part of what it may hold": part, "ns of each byte and token": ns} for bound, answer, size, glyphs, ms, held, part, ns in (
+        ("none", "a font of 96056120 bytes", "12000", "7", "1234.5", "1000000", "9.9", "99"), ("1000000", "overflow occurred", "50000", "1234", "1.6", "9999", "0.431", "7.2"), ("64000000", "a font of 2000000 bytes", "50000", "1234", "20", "10000", "0.2", "8.1"))]
+    said = {"hostile, families": types.SimpleNamespace(tables=[hostile]), "sizes": types.SimpleNamespace(body=["text", "| a |", "|---|", "| 1 |", "more", "| b |"]), "hostile": types.SimpleNamespace(body=["| a |", "| 1 |"]),
+            "pdf font, readers": types.SimpleNamespace(tables=[[{"Shown": "one", "A": "read", "B": "text"}, {"Shown": "two", "A": "read", "B": "no"}, {"Shown": "three", "A": "text", "B": "read"}]]),
+            "pdf font": types.SimpleNamespace(body=["1234 fonts (1000 TrueType, x), 56 refused as they should be", "7890 files were read by qpdf, 12 texts were read, 3456 pictures compared, 78 pages judged by PDFBox", "1290 of 1290 fonts compared, 3 differences"])}
+    with mock.patch.object(figures.results_of, "rows", lambda name: files[name]), mock.patch.object(figures.results_of, "result", lambda name: said[name]):
+        answers = {key: figures.BLOCKS[key][0]() for key in ("summary of times", "greatest ratios", "number of times", "ratios of instances", "parts of fontTools' time", "memory of instances", "cost of any processor", "under bounds", "held under bounds", "slowest under bounds", "sizes", "hostile", "readers of a font", "fonts compared")}
+    wanted = {
+        "summary of times": "| | TrueType, 3 rows | CFF, 2 rows |\n|---|---|---|\n| time, as a part of the Rust crate's | at most 0.30, half of the rows at most 0.20 | at most 0.25, half of the rows at most 0.21 |\n"
+                            "| time, as a part of HarfBuzz's | at most 0.60, half of the rows at most 0.20 | at most 0.25, half of the rows at most 0.21 |\n| memory above the source and twice the output | at most 17 KiB | at most 6 KiB |",
+        "greatest ratios": "g, 3 low: 0.30; h, all: 0.25; i, 3 low: 0.21; f, 3 low: 0.20; f, 3 low: 0.10", "number of times": "5", "ratios of instances": "1.10 to 1.20", "parts of fontTools' time": "0.0022", "memory of instances": "3 KiB",
+        "cost of any processor": "10.3 % of the sum of 4 cases; in the geometric mean 10.0 % for fonts with CFF outlines, 10 % for those with TrueType outlines",
+        "under bounds": "| Family | Glyphs | File | No bound: the font, ms, held | 1 MB: the font, ms, held | 64 MB: the font, ms, held |\n|---|---|---|---|---|---|\n| a | 1,234 | 50 KB | 96.1 MB, 1,234, 1 MB (a file of 12 KB, 7 requested) | refused, 2, 9,999 bytes | 2 MB, 20, 10 KB |",
+        "held under bounds": "0.44", "slowest under bounds": "9", "sizes": "| a |\n|---|\n| 1 |", "hostile": "| a |\n| 1 |", "readers of a font": "All read: one; three.\n\n| Shown | A | B |\n|---|---|---|\n| two | read | no |",
+        "fonts compared": "1,234 fonts and 56 refusals, 7,890 files, 12 texts, 3,456 pictures, 78 pages as PDF/A-1b: 3 differences.",
+    }
+    for key, text in wanted.items():
+        tests.same(f"figures: {key}", answers[key], text)
+
+
 # ---- the words of all these scripts
 
 # Each option that a script has, with what it is where nobody gives it: ? a choice that isn't taken, nothing at all for none.
@@ -2488,7 +2886,7 @@ def check_judges(tests):
 
 
 GROUPS = [check_batch, check_limits, check_large, check_drivers, check_program, check_running, check_examples, check_pdf, check_all, check_speed, check_times,
-          check_fresh, check_builds, check_fonts, check_commands, check_gate, check_widths, check_again, check_portable, check_faces, check_bytes, check_processors, check_platforms, check_binding, check_damage, check_run, check_options, check_hostile, check_defaults, check_tables, check_original, check_judges]
+          check_fresh, check_builds, check_fonts, check_commands, check_gate, check_widths, check_again, check_portable, check_faces, check_bytes, check_processors, check_platforms, check_binding, check_damage, check_run, check_options, check_hostile, check_instances, check_readers, check_rules, check_refusals, check_growth, check_figures, check_defaults, check_tables, check_original, check_judges]
 
 
 def main():

@@ -548,7 +548,8 @@ CALLS = """
         print(said + " ".join(path for path in maps if "subsetter" in os.path.basename(path)))
     except OSError as error:
         # (what is behind it is no business of the caller's)
-        print(said + ("" if error.__context__ is None or error.__suppress_context__ else "behind another: ") + str(error))
+        alone = error.__cause__ is None and (error.__context__ is None or error.__suppress_context__)
+        print(said + ("" if alone else "behind another: ") + str(error))
 """
 
 
