@@ -39,8 +39,8 @@ class World:
     `fails` is the number of the command that ends with an error."""
     faults, fails, calls, made, tools, at = {}, 0, [], b"the subset", "/tools", ""
 
-    def __init__(self, room, _root, _is_hidden):
-        self.room, self.kit = room, "/opt/kit"
+    def __init__(self, room, root, is_hidden):
+        self.room, self.kit, self.given = room, "/opt/kit", (room, root, is_hidden)
         World.calls = []
 
     def sees(self, *folders):
@@ -253,6 +253,10 @@ def check_reference(tests):
         tests.same(f"the reference without {skip}", one.reference(), {"said": SAID, "bytes": b"the subset"})
         tests.same(f"it is made once without {skip}", one.reference() is one.reference(), True)
         tests.same(f"how it is made without {skip}", [os.path.basename(it.split("$ ")[1].split()[0]) for it in World.calls], calls)
+    for skip, is_hidden in ([], True), (["js", "program"], True), (["hidden"], False):
+        _, one = ended("files_of_users", tests, skip)
+        tests.same(f"the users without {skip}", (one.users.given[0], len({*one.users.given[:2]}), one.users.given[2]), (one.room, 2, is_hidden))
+        tests.same("their font", (one.font, read(one.font)), (f"{one.room}/font.ttf", bytes(300)))
     _, one = ended("files_of_users", tests)
     folder = one.room_for("a")
     for answer, made, is_version, wanted in ((f"version {VERSION}\n{SAID}", b"the subset", True, "None"), (SAID, b"the subset", False, "None"), (SAID, b"the subset", True, "it prints"), (f"version {VERSION}\n{SAID}", b"the subset", False, "it prints"),
