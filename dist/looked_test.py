@@ -149,7 +149,9 @@ def check_proved(tests):
             changes += [whole[:k] + [line.replace(" b", " cpu=x b")] + whole[k + 1:], whole[:k] + [line.replace("-gnu", "-musl")] + whole[k + 1:]] * ("compiled" in line)
             for listed in changes if k < 2 or k > len(whole) - 4 else changes[:1]:
                 tests.same(f"PROVED without {skip}, {line} changed", len(wrong(skip, "abc", "", text_of(commit="commit abc", listed=listed))), 1)
-        tests.same(f"PROVED with a crate too many without {skip}", len(wrong(skip, "abc", "", text_of(commit="commit abc", listed=[*lines(skip), "more: logic=proved x"]))), 1)
+        found = wrong(skip, "abc", "", text_of(commit="commit abc", listed=[*lines(skip), "more: logic=proved x"]))
+        crates = sorted(looker(skip).crates())
+        tests.same(f"PROVED with a crate too many without {skip}", found, [f"PROVED has the crates {sorted([*crates, 'more'])}, and not {crates}"])
 
 
 def check_traces(tests):

@@ -486,8 +486,11 @@ def check_documents(tests):
 
 
 def check_lines(tests):
-    """Each line of the packages' texts is one of texts_test.txt, so that who changes one looks at what is tested of it, too."""
-    lines = [f"{name}: {it}" for name in ("linux.md", "portable.md", "windows.md", "wheel.md", "crate.md", "proved.txt") for it in read(HERE, name).decode().splitlines() if it]
+    """Each line of the packages' texts, and of what dist/make and dist/test say of themselves, is one of texts_test.txt, so that who changes
+    one looks at what is tested of it, too."""
+    texts = {it: read(HERE, it).decode() for it in ("linux.md", "portable.md", "windows.md", "wheel.md", "crate.md", "proved.txt")}
+    texts.update({"make": make.__doc__, "test": test.__doc__})
+    lines = [f"{name}: {it}" for name, text in texts.items() for it in text.splitlines() if it]
     known = read(HERE, "texts_test.txt").decode().splitlines()
     tests.same("lines that texts_test.txt doesn't have", [it for it in lines if it not in known], [])
     tests.same("lines of texts_test.txt that no text has", [it for it in known if it not in lines], [])

@@ -39,8 +39,8 @@ class World:
     `fails` is the number of the command that ends with an error."""
     faults, fails, calls, made, tools, at = {}, 0, [], b"the subset", "/tools", ""
 
-    def __init__(self, room, _root, _is_hidden):
-        self.room, self.kit = room, "/opt/kit"
+    def __init__(self, room, root, is_hidden):
+        self.room, self.kit, self.given = room, "/opt/kit", (room, root, is_hidden)
         World.calls = []
 
     def sees(self, *folders):
@@ -136,7 +136,7 @@ def ended(part, tests, skip=(), faults=None, fails=0, made=b"the subset"):
     for name in (f"subsetter-{VERSION}.crate", f"subsetter-native-{VERSION}.crate", f"subsetter-{NUMBER}.post{OWN}-py3-none-manylinux_2_17_x86_64.whl", f"subsetter-{NUMBER}.post{OWN}-py3-none-manylinux_2_17_aarch64.whl"):
         put("packed", folder, name)
     tools, font = put("", tests.new(), "tools", "prefix", "drive"), put(bytes(300), tests.new(), "font")
-    with instead(test, Users=World, FONT=font, needs=lambda *_: None, pythons=lambda: [("3.8.1", "/old/python3"), ("3.13.0", "/new/python3")]):
+    with instead(test, Users=World, FONT=font, needs=lambda *tools: World.calls.append(f"needs {' '.join(tools)}"), pythons=lambda: [("3.8.1", "/old/python3"), ("3.13.0", "/new/python3")]):
         one = test.Test(folder, list(skip), room, tests.new())
         # (bindings/targets, which only tells where the tools are)
         World.tools = os.path.dirname(os.path.dirname(tools))
@@ -169,7 +169,7 @@ def check_parts_of_users(tests):
             calls = list(World.calls)
             tests.same(f"the commands of {part} without {skip}", "\n".join(calls), commands[f"{part}{''.join(f' without {it}' for it in skip)}"])
             for number in range(1, len(calls) + 1):
-                if calls[number - 1].startswith(("sees ", "tools ")):
+                if calls[number - 1].startswith(("sees ", "tools ", "needs ")):
                     continue
                 end, _ = ended(part, tests, skip, faults_of(part), fails=number)
                 tests.same(f"{part} without {skip}, where {calls[number - 1][:200]} fails: {end}", end.startswith("wrong: "), True)
@@ -253,6 +253,10 @@ def check_reference(tests):
         tests.same(f"the reference without {skip}", one.reference(), {"said": SAID, "bytes": b"the subset"})
         tests.same(f"it is made once without {skip}", one.reference() is one.reference(), True)
         tests.same(f"how it is made without {skip}", [os.path.basename(it.split("$ ")[1].split()[0]) for it in World.calls], calls)
+    for skip, is_hidden in ([], True), (["js", "program"], True), (["hidden"], False):
+        _, one = ended("files_of_users", tests, skip)
+        tests.same(f"the users without {skip}", (one.users.given[0], len({*one.users.given[:2]}), one.users.given[2]), (one.room, 2, is_hidden))
+        tests.same("their font", (one.font, read(one.font)), (f"{one.room}/font.ttf", bytes(300)))
     _, one = ended("files_of_users", tests)
     folder = one.room_for("a")
     for answer, made, is_version, wanted in ((f"version {VERSION}\n{SAID}", b"the subset", True, "None"), (SAID, b"the subset", False, "None"), (SAID, b"the subset", True, "it prints"), (f"version {VERSION}\n{SAID}", b"the subset", False, "it prints"),
@@ -328,6 +332,7 @@ def check_files_and_fails(tests):
         seen = []
         with instead(test, look=lambda *words: seen.append(words) or (wrong, 7)):
             found, one = ended("files", tests, ["js"])
+        tests.same("what the files are looked at with", World.calls, ["needs readelf objdump git"])
         tests.same(f"{wrong}", (found, seen), (end, [(one.folder, ["js"], VERSION)]))
     good = "dist: FAILED: rt doc\n  ended with 3:\nthere is no kit\n"
     for status, said, is_made, passes in ((1, good, False, True), (1, f"x\n{good}y", False, True), (0, good, False, False), (2, good, False, False), (1, good.replace("3", "1"), False, False), (1, good, True, False), (1, "", False, False)):
