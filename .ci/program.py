@@ -35,14 +35,14 @@ from check_files import check_attributes, check_device, check_links, check_place
 from check_pdf import check_pdf  # noqa: E402
 from check_refused import check_failed_calls, check_inodes, check_kept_room, check_killed, check_little_room, check_refused_memory, check_refused_names, check_refused_reasons, check_requests  # noqa: E402
 from check_shown import check_shown  # noqa: E402
-from check_streams import check_closed, check_many, check_memory, check_number_of_output, check_streams, check_waiting  # noqa: E402
+from check_streams import check_closed, check_held, check_many, check_memory, check_number_of_output, check_streams, check_waiting  # noqa: E402
 from check_texts import check_contents, check_names, check_words  # noqa: E402
 from check_threads import check_jobs_ends, check_jobs_words, check_threads  # noqa: E402
 from made_fonts import FONTS  # noqa: E402
 from running import Ended, Table, messages  # noqa: E402
 from systems import OTHERWISE, UNCHECKED  # noqa: E402
 
-CHECKS = (check_words, check_shown, check_names, check_pdf, check_places, check_links, check_second_names, check_attributes, check_device, check_rights, check_streams, check_waiting, check_closed, check_number_of_output, check_many, check_memory,
+CHECKS = (check_words, check_shown, check_names, check_pdf, check_places, check_links, check_second_names, check_attributes, check_device, check_rights, check_streams, check_waiting, check_closed, check_held, check_number_of_output, check_many, check_memory,
           check_refused_memory, check_refused_names, check_refused_reasons, check_requests, check_little_room, check_kept_room, check_failed_calls, check_killed, check_inodes,
           check_batch, check_opened, check_refused_batch, check_soon, check_progress, check_jobs_words, check_jobs_ends, check_threads)
 

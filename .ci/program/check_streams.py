@@ -2,6 +2,7 @@
 import contextlib
 import os
 import subprocess
+import time
 
 import made
 import row_kinds
@@ -132,6 +133,19 @@ def check_closed(table, room):
         table.demand(ended[0] == ended[1], what, got)
         is_made = "out" in row.words and (wanted.status == 0 or b"standard output" in wanted.err)
         table.demand(os.path.exists(os.path.join(room, "out")) == is_made, f"{what}: OUT", got)
+
+
+def check_held(table, room):
+    """While it runs it holds three descriptors, of a folder, which take the numbers of streams that are closed at the start."""
+    put(room, "in", SIMPLE)
+    with subprocess.Popen([*table.command, "-", "out", "0", "2"], cwd=room, stdin=subprocess.PIPE, stdout=subprocess.PIPE, stderr=subprocess.PIPE) as ran:
+        held, end = [], time.monotonic() + SOON
+        # (it waits for standard input)
+        while held.count("/") < 3 and time.monotonic() < end:
+            time.sleep(0.01)
+            held = [os.readlink(it.path) for it in os.scandir(f"/proc/{ran.pid}/fd") if os.path.lexists(it.path)]
+        out, err = ran.communicate(SIMPLE)
+    table.demand((held.count("/"), ran.returncode, out, err) == (3, 0, lines((2, 1)), b""), "descriptors that are held", (held, ran.returncode, out, err))
 
 
 def check_number_of_output(table, room):

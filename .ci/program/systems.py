@@ -5,6 +5,7 @@ REFUSED_BY_HAND = "compare/drivers/refuse.c stands in front of the calls of this
 # Checks that aren't run there.
 UNCHECKED = {
     "s390x": {
+        "check_held": "the descriptors would be qemu's, too",
         "check_memory": "the limit on memory would be qemu's own",
         **dict.fromkeys(("check_refused_memory", "check_refused_names", "check_refused_reasons", "check_requests", "check_little_room", "check_kept_room", "check_failed_calls", "check_killed", "check_inodes", "check_opened", "check_refused_batch", "check_threads"), REFUSED_BY_HAND),
     },
@@ -16,6 +17,7 @@ UNCHECKED = {
         "check_rights": "users of Unix",
         "check_streams": "/dev/full, and pipes that nobody reads",
         "check_waiting": "pipes that don't wait",
+        "check_held": "descriptors of Unix",
         "check_closed": "wine opens streams that are closed",
         "check_number_of_output": "wine opens streams that are closed",
         "check_memory": "the limit on memory would be wine's own",
