@@ -134,7 +134,8 @@ async function stale() {
         ok(readFileSync(here(`../${name}`)).length > 0, `${name} is there`);
         equal(ask("-W", name), 1, `what make has to do once ${name} is newer`);
     }
-    // So is the page, which is made here without the module, and what the heap's own test runs.
+    // So is the page, which is made here without the module, also where there is one of an earlier build, and what the heap's own test runs.
+    rmSync(here("../out/page.html"), { force: true });
     const made = spawnSync("make", ["-s", "-o", target, "page"], { cwd: here("..") });
     equal(made.status, 0, "the page is made");
     const others = {
