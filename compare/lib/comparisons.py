@@ -210,7 +210,7 @@ COMPARISONS = [
                "compare/portable.py --copies 1000000 --results compare/results/portable.jsonl", lines_like(r"\d+ calls, \d+ differ"),
                PORTABLE, "compare/portable.py", data=("portable.jsonl",)),
     Comparison("batch", "What do many requests in one run take, in threads, beside a run each?", "compare/batch.py",
-               lines_like(r"`--jobs 4` is [\d.]+ times as fast as `--jobs 1` in memory, and [\d.]+ times on a disk; \d+ faults"), SUBSET + PROGRAM + ("bindings/rust/src/**",), timed=True),
+               lines_like(r"`--jobs 4` is [\d.]+ times as fast as `--jobs 1` in memory, and [\d.]+ times on a disk; \d+ faults|^Goal of .*"), SUBSET + PROGRAM + ("bindings/rust/src/**",), timed=True),
     Comparison("portable, times", "What does the generated crate take beside the proved library and the Rust crate?",
                "compare/portable_times.py --results compare/results/portable_times.csv", lines_like(r"^The geometric mean.*|\d+ rows, \d+ past a bound"),
                PORTABLE, data=("portable_times.csv",), timed=True),

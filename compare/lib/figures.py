@@ -10,6 +10,7 @@ import os
 import re
 
 import comparisons
+import goals
 import repository
 import results_of
 from comparisons import at_most
@@ -252,6 +253,20 @@ def cost_of_any_processor():
             f"CFF outlines, {100 * mean_ratio('truetype'):.0f} % for those with TrueType outlines")
 
 
+def bound_of_batch():
+    """How fast four processes that share nothing are beside four threads, and whether these are as fast as the machine lets processes be; nothing for a
+    page from before the processes were measured."""
+    places = [{next(iter(it.values())): it for it in table} for table in results_of.result("batch").tables]
+    if [goals.PROCESSES in it for it in places] != [True, True]:
+        return ""
+    four, apart = ([it[name] for it in places] for name in ("`--jobs 4`", goals.PROCESSES))
+    times = [[it["Times `--jobs 1`"] for it in rows] for rows in (apart, four)]
+    said = (f"{goals.PROCESSES.capitalize()}, each with a quarter of the lines, are together {times[0][0]} times as fast as one thread in memory, and {times[0][1]} times on a disk; "
+            f"`--jobs 4` is {times[1][0]} and {times[1][1]} times as fast.")
+    is_bound = all(float(one["Seconds"]) >= goals.OF_PROCESSES * float(it["Seconds"]) for one, it in zip(apart, four))
+    return said + (" So the machine bounds what more threads gain, not what they share." if is_bound else "")
+
+
 def readers_of_font():
     """The rows that all readers read, and a table of the others."""
     rows = results_of.result("pdf font, readers").tables[0]
@@ -289,6 +304,7 @@ BLOCKS = {
     "parts of fontTools' time": (parts_of_fonttools, ["instances, times"]),
     "memory of instances": (memory_of_instances, ["instances, times"]),
     "source of instances, times": (source_of("instances, times"), ["instances, times"]),
+    "bound of batch": (bound_of_batch, ["batch"]),
     "sizes": (as_table("sizes"), ["sizes"]),
     "source of sizes": (source_of("sizes"), ["sizes"]),
     "readers of a font": (readers_of_font, ["pdf font, readers"]),

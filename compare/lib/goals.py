@@ -7,6 +7,10 @@ TRUETYPE, JUMBLED, CFF = 0.30, 0.35, 0.22
 INSTANCE, HALF_OF_INSTANCES = 1.15, 1.00
 # The generated crate, of the proved build's time: the geometric mean.
 GENERATED = 1.10
+# How many times as fast as one thread four of a batch are; or else what part they reach of the speed of these processes, which are
+# as fast as the machine lets processes be.
+BATCH, OF_PROCESSES = 3.0, 0.9
+PROCESSES = "four processes that share nothing"
 # A goal is met where it holds to so many digits.
 DIGITS = 2
 

@@ -47,7 +47,7 @@ struct Prepared<'a> {
     at: Vec<i32>,
     source: Source<'a>,
     metrics: Vec<LongHorMetric>,
-    lines: Lines,
+    lines: Lines<'a>,
 }
 
 impl<'a> Model for Prepared<'a> {

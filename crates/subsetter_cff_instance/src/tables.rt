@@ -156,7 +156,7 @@ pub fn laid(
     alloc: Global,
     face: &Face<'_>,
     source: &Source<'_>,
-    lines: &Lines,
+    lines: &Lines<'_>,
     mapper: &GlyphRemapper,
     metrics: &[LongHorMetric],
     all: &[Option<LongHorMetric>],

@@ -2,4 +2,5 @@
 pub mod Dicts
 pub mod Entries
 pub mod OperandSteps
+pub mod Plains
 pub mod Shorter

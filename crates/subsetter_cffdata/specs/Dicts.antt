@@ -3,4 +3,5 @@ pub mod Dict
 pub mod Operands
 pub mod ParserView
 pub mod TokenView
+pub mod Plain
 pub mod Tokens

@@ -1,4 +1,5 @@
 -- Glyphs at a location.
+pub mod Bearings
 pub mod Chains
 pub mod Ends
 pub mod Glyphs

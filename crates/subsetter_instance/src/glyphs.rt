@@ -7,4 +7,5 @@ pub mod drawn;
 pub mod glyph;
 pub mod placing;
 pub mod simple;
+pub mod spare;
 pub mod unfolding;

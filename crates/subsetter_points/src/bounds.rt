@@ -1,15 +1,10 @@
 //! The bounding box of an outline.
 
-ghost use Rattle.std.specs.Prelude.{◌≡◌, ◌++◌, OnOk, IfErr};
-ghost use Rattle.std.specs.List.{fold};
-ghost use Rattle.std.specs.Int.{int_min};
-ghost use Rattle.subsetter_base.specs.declared.error.Error.TheVariants.{OutOfMemory};
-ghost use Rattle.subsetter_points.specs.Bounds.{with_point, box_around, bounds_bytes};
-ghost use Rattle.subsetter_points.specs.Simple.{xs_of, box};
+ghost use Rattle.std.specs.Prelude.{◌≡◌, ◌++◌, OnOk};
+ghost use Rattle.subsetter_points.specs.Bounds.{with_point, box_around, bounds_bytes, bounds_of};
 
 use crate::outline::Point;
 use std::alloc::AllocError;
-use subsetter_base::Error;
 use subsetter_base::compare::{larger, smaller};
 
 /// A box around points.
@@ -39,7 +34,7 @@ fn with_point(bounds: Bounds, point: Point) -> Bounds
 }
 
 /// The least box around a point and others.
-pub fn box_around(first: Point, rest: &[Point]) -> Bounds
+fn box_around(first: Point, rest: &[Point]) -> Bounds
     ensures { result ≡ box_around first rest.now }
 {
     let mut bounds = Bounds {
@@ -54,15 +49,19 @@ pub fn box_around(first: Point, rest: &[Point]) -> Bounds
     bounds
 }
 
-/// The least x of a point's, `first`, and of others.
-pub fn least_x(first: i16, rest: &[Point]) -> i16
-    ensures { result ≡ fold int_min first (xs_of rest.now) }
+/// The least box around points, at 0 without points.
+pub fn bounds_of(points: &[Point]) -> Bounds
+    ensures { result ≡ bounds_of points.now }
 {
-    let mut least = first;
-    for point in rest {
-        least = smaller(least, point.x);
+    match points {
+        [first, rest @ ..] => box_around(*first, rest),
+        [] => Bounds {
+            x_min: 0,
+            y_min: 0,
+            x_max: 0,
+            y_max: 0,
+        },
     }
-    least
 }
 
 /// xMin, yMin, xMax and yMax.
@@ -77,17 +76,8 @@ pub fn bounds_bytes(bounds: Bounds) -> [u8; 8]
 }
 
 /// Appends xMin, yMin, xMax and yMax.
-fn write_bounds(out: &mut Vec<u8>, bounds: Bounds) -> Result<(), AllocError>
+pub fn write_bounds(out: &mut Vec<u8>, bounds: Bounds) -> Result<(), AllocError>
     ensures { OnOk result (out.new.items ≡ out.old.items ++ bounds_bytes bounds) }
 {
     out.extend_from_slice(&bounds_bytes(bounds))
-}
-
-/// Writes the bounding box of a point and others.
-pub fn write_box(out: &mut Vec<u8>, first: Point, rest: &[Point]) -> Result<(), Error>
-    ensures ok { OnOk result (out.new.items ≡ out.old.items ++ box first rest.now) }
-    ensures err { IfErr result (λ e. e ≡ OutOfMemory) }
-{
-    write_bounds(out, box_around(first, rest))?;
-    Ok(())
 }

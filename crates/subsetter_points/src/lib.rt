@@ -3,7 +3,7 @@
 //!
 //! - [`read_simple`] reads the [`Outline`] of a simple glyph: its points, and the last point of each contour.
 //! - [`read_columns`] reads the same as [`Columns`]: the flags and the coordinates, not joined.
-//! - [`fits`] is whether an outline can be written, and [`write_simple`] appends its bytes.
+//! - [`fits`] is whether an outline can be written, and [`write_simple`] appends its bytes, as [`write_bounded`] does where the box around its points is known.
 //! - [`laws`] has the law that what is written is read again.
 //!
 //! ```text
@@ -25,8 +25,8 @@ mod points;
 mod reading;
 mod writing;
 
-pub use bounds::{Bounds, bounds_bytes, box_around, least_x};
+pub use bounds::{Bounds, bounds_bytes, bounds_of};
 pub use list_bytes::fitting::fits;
 pub use outline::{Columns, Outline, Point};
 pub use reading::{read_columns, read_simple};
-pub use writing::write_simple;
+pub use writing::{write_bounded, write_simple};

@@ -74,6 +74,21 @@ impl Columns {
             ys: Vec::new(alloc),
         }
     }
+
+    /// The same lists without what they hold.
+    pub fn emptied(self) -> Self
+        ensures ends { result.ends.items ≡ [] }
+        ensures flags { result.flags.items ≡ [] }
+        ensures xs { result.xs.items ≡ [] }
+        ensures ys { result.ys.items ≡ [] }
+    {
+        let mut columns = self;
+        columns.ends.clear();
+        columns.flags.clear();
+        columns.xs.clear();
+        columns.ys.clear();
+        columns
+    }
 }
 
 impl Outline {

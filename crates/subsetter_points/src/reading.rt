@@ -30,10 +30,12 @@ use subsetter_base::read::Reader;
 /// The most contours of a simple glyph: `numberOfContours` is an int16, and below 0 for a composite glyph.
 const MOST_CONTOURS: u16 = 0x7FFF;
 
-/// The flags, the x coordinates and the y coordinates of so many points.
+/// The flags, the x coordinates and the y coordinates of so many points, in the memory of lists that are spare.
 #[tactic(auto, unfolding(crate::specs::Simple::points_at))]
 fn read_points(
-    alloc: Global,
+    spare_flags: Vec<u8>,
+    spare_xs: Vec<i16>,
+    spare_ys: Vec<i16>,
     count: usize,
     bytes: &[u8],
 ) -> Result<Option<(Vec<u8>, Vec<i16>, Vec<i16>)>, Error>
@@ -42,11 +44,11 @@ fn read_points(
     ensures ys { IfOk result (λ o. IfSome o (λ p. vec_len p.2 ≡ length p.0.items)) }
     ensures err { IfErr result (λ e. e ≡ OutOfMemory) }
 {
-    let Some((flags, rest)) = read_flags(alloc, count, bytes)? else {
+    let Some((flags, rest)) = read_flags(spare_flags, count, bytes)? else {
         return Ok(None);
     };
     let Some((xs, rest)) = read_coordinates(
-        alloc,
+        spare_xs,
         X_SHORT_VECTOR,
         X_IS_SAME_OR_POSITIVE_X_SHORT_VECTOR,
         &flags,
@@ -56,7 +58,7 @@ fn read_points(
         return Ok(None);
     };
     let Some((ys, _)) = read_coordinates(
-        alloc,
+        spare_ys,
         Y_SHORT_VECTOR,
         Y_IS_SAME_OR_POSITIVE_Y_SHORT_VECTOR,
         &flags,
@@ -78,7 +80,12 @@ fn read_body(bytes: &[u8]) -> Option<&[u8]>
 
 /// The last points of so many contours, the instructions, which are passed over, and the points.
 #[tactic(auto, unfolding(crate::specs::Simple::parts_at))]
-fn read_parts(alloc: Global, contours: u16, bytes: &[u8]) -> Result<Option<Columns>, Error>
+fn read_parts(
+    alloc: Global,
+    spare: Columns,
+    contours: u16,
+    bytes: &[u8],
+) -> Result<Option<Columns>, Error>
     ensures ok { IfOk result (λ o. option_map parts_of_columns o ≡ parts_at contours bytes.now) }
     ensures xs { IfOk result (λ o. IfSome o (λ c. length c.xs.items ≡ length c.flags.items)) }
     ensures ys { IfOk result (λ o. IfSome o (λ c. length c.ys.items ≡ length c.flags.items)) }
@@ -90,7 +97,8 @@ fn read_parts(alloc: Global, contours: u16, bytes: &[u8]) -> Result<Option<Colum
     let Some(body) = read_body(rest) else {
         return Ok(None);
     };
-    let Some((flags, xs, ys)) = read_points(alloc, count(&ends), body)? else {
+    let Columns { flags, xs, ys, .. } = spare;
+    let Some((flags, xs, ys)) = read_points(flags, xs, ys, count(&ends), body)? else {
         return Ok(None);
     };
     Ok(Some(Columns {
@@ -103,16 +111,21 @@ fn read_parts(alloc: Global, contours: u16, bytes: &[u8]) -> Result<Option<Colum
 
 /// The last points of contours and the points, by what follows the header; none where there are no contours.
 #[tactic(auto, unfolding(crate::specs::Simple::points))]
-fn read_description(alloc: Global, contours: u16, bytes: &[u8]) -> Result<Option<Columns>, Error>
+fn read_description(
+    alloc: Global,
+    spare: Columns,
+    contours: u16,
+    bytes: &[u8],
+) -> Result<Option<Columns>, Error>
     ensures ok { IfOk result (λ o. option_map parts_of_columns o ≡ description_at contours bytes.now) }
     ensures xs { IfOk result (λ o. IfSome o (λ c. length c.xs.items ≡ length c.flags.items)) }
     ensures ys { IfOk result (λ o. IfSome o (λ c. length c.ys.items ≡ length c.flags.items)) }
     ensures err { IfErr result (λ e. e ≡ OutOfMemory) }
 {
     if contours == 0 {
-        return Ok(Some(Columns::new(alloc)));
+        return Ok(Some(spare.emptied()));
     }
-    read_parts(alloc, contours, bytes)
+    read_parts(alloc, spare, contours, bytes)
 }
 
 /// The number of contours, if it isn't that of a composite glyph, and the bytes after the header.
@@ -127,8 +140,9 @@ fn read_header(bytes: &[u8]) -> Option<(u16, &[u8])>
     Some((contours, rest))
 }
 
-/// What [`read_simple`] reads, before the points are joined. Four more coordinates have room behind those of the points.
-pub fn read_columns(alloc: Global, bytes: &[u8]) -> Result<Option<Columns>, Error>
+/// What [`read_simple`] reads, before the points are joined. Flags and coordinates stand in the memory of columns that are spare, whose
+/// contents don't count. Four more coordinates have room behind those of the points.
+pub fn read_columns(alloc: Global, spare: Columns, bytes: &[u8]) -> Result<Option<Columns>, Error>
     ensures parts { IfOk result (λ o. option_map parts_of_columns o ≡ parts bytes.now) }
     ensures xs { IfOk result (λ o. IfSome o (λ c. length c.xs.items ≡ length c.flags.items)) }
     ensures ys { IfOk result (λ o. IfSome o (λ c. length c.ys.items ≡ length c.flags.items)) }
@@ -136,12 +150,12 @@ pub fn read_columns(alloc: Global, bytes: &[u8]) -> Result<Option<Columns>, Erro
     ensures err { IfErr result (λ e. e ≡ OutOfMemory) }
 {
     if bytes.is_empty() {
-        return Ok(Some(Columns::new(alloc)));
+        return Ok(Some(spare.emptied()));
     }
     let Some((contours, rest)) = read_header(bytes) else {
         return Ok(None);
     };
-    read_description(alloc, contours, rest)
+    read_description(alloc, spare, contours, rest)
 }
 
 /// The outline of a simple glyph, if the bytes are its description. A glyph without bytes has an outline without points, and
@@ -153,7 +167,7 @@ pub fn read_simple(alloc: Global, bytes: &[u8]) -> Result<Option<Outline>, Error
     ensures sound { IfOk result (λ o. IfSome o (λ x. IsTrue (are_ends 0 x.ends.items (length x.points.items)))) }
     ensures err { IfErr result (λ e. e ≡ OutOfMemory) }
 {
-    let Some(columns) = read_columns(alloc, bytes)? else {
+    let Some(columns) = read_columns(alloc, Columns::new(alloc), bytes)? else {
         return Ok(None);
     };
     let points = join_points(alloc, &columns.flags, &columns.xs, &columns.ys)?;

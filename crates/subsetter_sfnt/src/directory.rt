@@ -8,6 +8,7 @@ ghost use Rattle.subsetter_sfnt.specs.declared.face.FontKind.TheVariants.{Collec
 
 use crate::face::{
     FontKind, NUM_TABLES, TABLE_DIRECTORY_OFFSETS, TABLE_RECORD_SIZE, TABLE_RECORDS, TableRecord,
+    record_in, tag_in,
 };
 use subsetter_base::Tag;
 use subsetter_base::read::Reader;
@@ -67,14 +68,14 @@ pub fn records(file: &[u8], index: u32) -> Option<&[u8]>
     records_at(file, at)
 }
 
-/// The first record that has a tag.
+/// The first record that has a tag. Of the others only the tag is read.
 pub fn find_record(records: &[u8], tag: Tag) -> Option<TableRecord>
     ensures { result ≡ find_record tag.0 (directory_records (length records.now / 16) records.now) }
 {
     let mut r = Reader::new(records);
-    while let Some(record) = r.read::<TableRecord>() {
-        if record.tag == tag {
-            return Some(record);
+    while let Some(bytes) = r.read_bytes(TABLE_RECORD_SIZE) {
+        if tag_in(bytes) == tag {
+            return Some(record_in(bytes));
         }
     }
     None

@@ -1,5 +1,8 @@
 //! The directory of a font.
 
+ghost use Rattle.std.specs.Prelude.{◌≡◌, length, take};
+ghost use Rattle.subsetter_sfnt.specs.Read.{record_of};
+
 use crate::extras::Extras;
 use subsetter_base::read::{Readable, Reader, u32_at};
 use subsetter_base::write::{Writeable, Writer};
@@ -65,6 +68,27 @@ pub struct TableRecord {
     pub length: u32,
 }
 
+/// The tag in a record's bytes.
+pub(crate) fn tag_in(bytes: &[u8]) -> Tag
+    requires { length bytes.now ≡ 16 }
+    ensures { result.0 ≡ take 4 bytes.now }
+{
+    Tag::new(&[bytes[0], bytes[1], bytes[2], bytes[3]])
+}
+
+/// The record that these bytes are.
+pub(crate) fn record_in(bytes: &[u8]) -> TableRecord
+    requires { length bytes.now ≡ 16 }
+    ensures { result ≡ record_of bytes.now }
+{
+    TableRecord {
+        tag: tag_in(bytes),
+        checksum: u32_at(bytes, 4),
+        offset: u32_at(bytes, 8),
+        length: u32_at(bytes, 12),
+    }
+}
+
 impl Readable<'_> for TableRecord {
     ghost use Rattle.std.specs.Prelude.{Some};
     ghost use Rattle.subsetter_sfnt.specs.Read.{record_of};
@@ -76,13 +100,8 @@ impl Readable<'_> for TableRecord {
     ghost value_of = { λ bytes. Some (record_of bytes) };
 
     fn read(r: &mut Reader<'_>) -> Option<Self> {
-        let b = r.read_bytes(TABLE_RECORD_SIZE)?;
-        Some(TableRecord {
-            tag: Tag::new(&[b[0], b[1], b[2], b[3]]),
-            checksum: u32_at(b, 4),
-            offset: u32_at(b, 8),
-            length: u32_at(b, 12),
-        })
+        let bytes = r.read_bytes(TABLE_RECORD_SIZE)?;
+        Some(record_in(bytes))
     }
 }
 

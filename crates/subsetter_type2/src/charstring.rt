@@ -9,6 +9,7 @@ ghost use Rattle.subsetter_type2.specs.ProgramView.{program_bytes};
 use crate::limits::Limits;
 pub use crate::operators;
 pub use crate::program::{Instruction, Program};
+use crate::runs::fixed_stack::FixedStack;
 use crate::runs::machine::Subroutines;
 use crate::runs::{flattening, recursion};
 use crate::subroutines::SubroutineHandler;
@@ -80,19 +81,22 @@ impl<'a> Decompiler<'a> {
     pub fn flatten(self, alloc: Global, charstring: CharString<'a>) -> Result<Vec<u8>, Error>
         ensures { GivesWithin (λ bytes. bytes.items) self.entry.bytes length result (flat_form self.entry.library self.entry.tokens self.entry.depth charstring.now) }
     {
-        self.flatten_behind(Vec::new(alloc), charstring)
+        let mut rests: FixedStack<&'a [u8], 64> = FixedStack::new(charstring);
+        self.flatten_behind(Vec::new(alloc), charstring, &mut rests)
     }
 
     /// The charstring without its subroutines, written behind these bytes, which count too; they are lost where it can't be.
+    /// What is left of callers goes into a stack, whatever it held, which many charstrings can share.
     ///
     /// The errors are those of `flatten`.
     pub fn flatten_behind(
         self,
         bytes: Vec<u8>,
         charstring: CharString<'a>,
+        rests: &mut FixedStack<&'a [u8], 64>,
     ) -> Result<Vec<u8>, Error>
         ensures { GivesWithin (λ all. all.items) self.entry.bytes length result (behind bytes.items (flat_form self.entry.library self.entry.tokens self.entry.depth charstring.now)) }
     {
-        flattening::flatten_behind(bytes, &self.subroutines, &self.limits, charstring)
+        flattening::flatten_behind(bytes, &self.subroutines, &self.limits, charstring, rests)
     }
 }

@@ -7,3 +7,4 @@ pub mod Masters
 pub mod Quotients
 pub mod Regions
 pub mod Scalars
+pub mod Touching

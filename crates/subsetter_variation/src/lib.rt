@@ -12,7 +12,8 @@
 //! let at = coordinates(alloc, fvar, avar, &[(Tag::new(b"wght"), 650 * 65536)])?;
 //! let table = gvar_table(gvar).ok_or(Error::MalformedFont)?;
 //! let outline = Outline { xs: &xs, ys: &ys, ends: &ends };
-//! let (moved_xs, moved_ys, left) = moved_points(alloc, &table, glyph, &outline, &at, 1_000_000)?;
+//! let mut lists = SpareLists::new(alloc);
+//! let (moved_xs, moved_ys, left) = moved_points(alloc, &mut lists, &table, glyph, &outline, &at, 1_000_000)?;
 //! let x = nearest(moved_xs[0], 1 << 30);
 //! ```
 #![tactic(auto)]

@@ -1,11 +1,14 @@
 //! The requests of a file, read in threads. What a line requests, and whether a line before it names its file, is found by the
-//! calls that find it without threads, so that the requests are the same for each N.
+//! calls that find it without threads, so that the requests are the same for each N. The latter compares a file with those of
+//! all lines before; here it gets the one line that a map has for the file.
 
 use crate::proved::subset_batch::{lines_of, Line};
 use crate::proved::subset_font::{first_state, order_of, Batch, Request, State};
 use crate::rattle::alloc::{AllocError, Global};
 use crate::rattle::prelude;
+use std::collections::BTreeMap;
 use std::panic;
+use std::slice;
 use std::sync::atomic::{AtomicUsize, Ordering};
 use std::thread::{self, Builder};
 use std::vec::Vec;
@@ -16,9 +19,7 @@ const AT_ONCE: usize = 16;
 /// The requests of a file, and how far each is, found in so many threads.
 pub fn requests_in(alloc: Global, file: &[u8], count: usize) -> Result<Batch, AllocError> {
     let lines = lines_of(alloc, file)?;
-    let orders = in_threads(&lines, count, |_, line: &Line<'_>| {
-        order_of(alloc, line.bytes)
-    });
+    let orders = in_threads(&lines, count, |line: &Line<'_>| order_of(alloc, line.bytes));
     let mut requests = prelude::Vec::with_capacity(alloc, lines.len())?;
     let mut states = prelude::Vec::with_capacity(alloc, lines.len())?;
     for (line, order) in lines.iter().zip(orders) {
@@ -30,32 +31,40 @@ pub fn requests_in(alloc: Global, file: &[u8], count: usize) -> Result<Batch, Al
         requests.push(Request { line, job })?;
         states.push(state)?;
     }
-    let found = in_threads(&requests, count, |index, request: &Request| {
-        let job = request.job.as_ref()?;
-        Some(first_state(alloc, &requests[..index], job))
-    });
-    for (state, found) in states.iter_mut().zip(found) {
-        if let Some(found) = found {
-            *state = found;
-        }
-    }
+    find_named_twice(alloc, &requests, &mut states);
     Ok(Batch { requests, states })
 }
 
-/// What a call makes of each item and its index, in the order of the items. So many threads, of which this is one, take some
+/// Sets how far each request is that isn't wrong: it is to be done, unless one before writes its OUT or PDF, too.
+fn find_named_twice(alloc: Global, requests: &[Request], states: &mut [State]) {
+    let mut writers = BTreeMap::new();
+    for (request, state) in requests.iter().zip(states) {
+        if let Some(job) = &request.job {
+            let pdf = job.pdf.as_ref().map(|pdf| &pdf.file);
+            let files = || job.output.iter().chain(pdf).map(|file| file.as_str());
+            // (of those before it one that writes the first of its files that is named says all)
+            let writer = files().find_map(|file| writers.get(file).copied());
+            *state = first_state(alloc, writer.map_or(&[][..], slice::from_ref), job);
+            for file in files() {
+                writers.insert(file, request);
+            }
+        }
+    }
+}
+
+/// What a call makes of each item, in the order of the items. So many threads, of which this is one, take some
 /// items after others; where the system has no thread left, those that there are do all.
 fn in_threads<T: Sync, U: Send>(
     items: &[T],
     count: usize,
-    call: impl Fn(usize, &T) -> U + Sync,
+    call: impl Fn(&T) -> U + Sync,
 ) -> Vec<U> {
     let pieces: Vec<(usize, &[T])> = items.chunks(AT_ONCE).enumerate().collect();
     let next = AtomicUsize::new(0);
     let work = || {
         let mut made = Vec::new();
         while let Some((number, piece)) = pieces.get(next.fetch_add(1, Ordering::Relaxed)) {
-            let indexes = number * AT_ONCE..;
-            let results: Vec<U> = indexes.zip(*piece).map(|(i, it)| call(i, it)).collect();
+            let results: Vec<U> = piece.iter().map(&call).collect();
             made.push((*number, results));
         }
         made

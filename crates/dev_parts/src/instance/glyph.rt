@@ -14,6 +14,7 @@ use subsetter_base::Error;
 use subsetter_instance::source::Source;
 use subsetter_points::read_simple;
 use subsetter_variation::glyphs::movement::{Outline, moved_points};
+use subsetter_variation::glyphs::spare::SpareLists;
 use subsetter_variation::glyphs::tuples::{Gvar, next_header, shared_numbers, tuple_headers};
 
 /// The points behind an outline that carry its metrics.
@@ -82,7 +83,8 @@ fn scalars_in<'a>(
 {
     let mut scalars = Vec::new(alloc);
     let (is_shared, headers) = tuple_headers(bytes).ok_or(Error::MalformedFont)?;
-    let (_, headers) = shared_numbers(alloc, count, is_shared, headers)?;
+    let mut numbers = Vec::new(alloc);
+    let (_, headers) = shared_numbers(alloc, &mut numbers, count, is_shared, headers)?;
     let mut headers = headers;
     for _ in 0..headers.left() {
         let (header, rest) = next_header(gvar, headers).ok_or(Error::MalformedFont)?;
@@ -141,6 +143,7 @@ pub fn parts_of(
         ys: &ys,
         ends: &ends,
     };
-    let (x, y, _) = moved_points(alloc, gvar, glyph, &outline, at, STEPS)?;
+    let mut lists = SpareLists::new(alloc);
+    let (x, y, _) = moved_points(alloc, &mut lists, gvar, glyph, &outline, at, STEPS)?;
     Ok(Parts { scalars, x, y })
 }

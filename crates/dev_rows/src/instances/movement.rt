@@ -18,6 +18,7 @@ use std::alloc::Global;
 use std::marker::Model;
 use subsetter_base::Error;
 use subsetter_variation::glyphs::movement::{Outline, moved_points};
+use subsetter_variation::glyphs::spare::SpareLists;
 use subsetter_variation::glyphs::tuples::{
     Gvar, TupleHeader, gvar_table, next_header, numbers_and_deltas, tuple_headers,
 };
@@ -183,7 +184,8 @@ fn points_moved(
     if table.axis_count() as usize != at.len() || !is_outline(outline) {
         return Err(Failure::Row);
     }
-    match moved_points(alloc, table, glyph, outline, at, steps) {
+    let mut lists = SpareLists::new(alloc);
+    match moved_points(alloc, &mut lists, table, glyph, outline, at, steps) {
         Ok((xs, ys, left)) => {
             let left = Vec::from_array(alloc, [i64::from(left)])?;
             let lists = Vec::from_array(alloc, [xs, ys, left])?;

@@ -166,7 +166,8 @@ pub fn point_numbers(alloc: Global, limit: &str, bytes: &[u8]) -> Result<Answer,
     ensures err { IfErr result (λ e. (e ≡ Memory) ⊎ ((e ≡ Row) × (point_numbers_row limit.now bytes.now ≡ None))) }
 {
     let limit = count(limit)?;
-    match packed::point_numbers(alloc, limit, bytes) {
+    let mut spare = Vec::new(alloc);
+    match packed::point_numbers(alloc, &mut spare, limit, bytes) {
         Ok((numbers, rest)) => {
             let numbers = listed(alloc, &numbers)?;
             let answer = list_and_rest(alloc, numbers, rest)?;
@@ -182,7 +183,7 @@ pub fn deltas(alloc: Global, number: &str, bytes: &[u8]) -> Result<Answer, Failu
     ensures err { IfErr result (λ e. (e ≡ Memory) ⊎ ((e ≡ Row) × (deltas_row number.now bytes.now ≡ None))) }
 {
     let count = count(number)?;
-    match packed::deltas(alloc, count as usize, bytes) {
+    match packed::deltas(Vec::new(alloc), count as usize, bytes) {
         Ok((deltas, rest)) => {
             let deltas = list(alloc, &deltas)?;
             let answer = list_and_rest(alloc, deltas, rest)?;

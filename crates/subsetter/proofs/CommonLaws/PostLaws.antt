@@ -1,6 +1,7 @@
 -- The names of glyphs: `post`.
 pub mod Indexes
 pub mod Marks
+pub mod Runs
 pub mod Entries
 pub mod Steps
 pub mod Own

@@ -7,7 +7,8 @@ use Rattle.subsetter_base.specs.declared.error.Error.{Error}
 use Rattle.subsetter_base.specs.declared.error.Error.TheVariants.{MalformedFont, OverflowError}
 use Rattle.subsetter_cffdata.specs.Dicts.Dict.{Entry, dict, entry_bytes}
 use Rattle.subsetter_cffdata.specs.Numerals.Numbers.{Number, is_too_long}
-use Rattle.subsetter_cff.specs.Write.Laying.Layout.{plain_entry, rewritten_entries}
+use Rattle.subsetter_cff.specs.Write.Laying.Layout.{rewritten_entries}
+use Rattle.subsetter_cffdata.specs.Dicts.Plain.{plain_entry}
 use Rattle.subsetter_cff.specs.Write.NewDicts.Rewritten.{written_entry}
 use Rattle.subsetter_cff.proofs.ReadLaws.Results.{bind_ok, same_Ok, some_of}
 use Rattle.subsetter_variation.specs.Nearest.{nearest}

@@ -12,7 +12,7 @@ use Rattle.subsetter_cffdata.specs.Dicts.Dict.{entry_bytes}
 use Rattle.subsetter_cffdata.specs.Numerals.Numbers.{Number}
 use Rattle.subsetter_cffdata.specs.Views.{number_of}
 use Rattle.subsetter_cffdata.specs.declared.numerals.number.Number.{Number as StoredNumber}
-use Rattle.subsetter_cff.specs.Write.Laying.Layout.{plain_entry}
+use Rattle.subsetter_cffdata.specs.Dicts.Plain.{plain_entry}
 use Rattle.subsetter_cff.specs.Write.NewDicts.Rewritten.{written_entry}
 use Rattle.subsetter_cff.specs.Write.Laying.TableLimits.{limit, short}
 use Rattle.subsetter_cff.proofs.ReadLaws.Failing.{fails_on, goes_on}

@@ -147,3 +147,30 @@ index_again (item ∷ items) fits rest =
     ap index_at (regroup (bytes_high_first 2 n) offs (concat all) rest size)
     ∙ counted n (size ∷ (offs ++ (concat all ++ rest))) (omega arith) fits.count
     ∙ body_again size (length (concat all) + 1) (holds (length (concat all) + 1) fits.size) all rest fits.count (omega arith)
+
+-- ---- how many bytes there are
+pub length-none : (items : List (List ℕ)) → length items ≡ 0 → 2 ≡ length (index items)
+unfolding index
+length-none [] none = refl
+length-none (item ∷ items) none = absurd (omega arith)
+
+length-index : (items : List (List ℕ)) → 0 < length items → FitIndex items → length (index items) ≡ 3 + offset_size (length (concat items) + 1) * (length items + 1) + length (concat items)
+unfolding index header
+length-index [] some fits = absurd (omega arith)
+length-index (item ∷ items) some fits =
+    let all : List (List ℕ) = item ∷ items in
+    let total = length (concat all) + 1 in
+    let size = offset_size total in
+    let ns = numbers size (1 ∷ offsets 1 all) in
+    let count : length (1 ∷ offsets 1 all) ≡ length all + 1 = omega (arith, length-offsets 1 all) in
+    let len : length ns ≡ (length all + 1) * size = length-numbers size total (holds total fits.size) (1 ∷ offsets 1 all) ∙ ap (λ (n : ℕ). n * size) count in
+    let product : size * (length all + 1) ≡ (length all + 1) * size = omega arith in
+    omega (arith, length-append (bytes_high_first 2 (length all) ++ (size ∷ ns)) (concat all), length-append (bytes_high_first 2 (length all)) (size ∷ ns), len, product)
+
+pub length-by : (items : List (List ℕ)) (count total size : ℕ) → count ≡ length items → total ≡ length (concat items) + 1 → 0 < count → FitIndex items → size ≡ 3 + offset_size total * (count + 1) + total → size - 1 ≡ length (index items)
+length-by items count total size n t some fits e =
+    let is : length (index items) ≡ 3 + offset_size total * (count + 1) + length (concat items) =
+    length-index items (omega (arith, n)) fits
+    ∙ ap (λ (k : ℕ). 3 + offset_size k * (length items + 1) + length (concat items)) (sym t)
+    ∙ ap (λ (k : ℕ). 3 + offset_size total * (k + 1) + length (concat items)) (sym n) in
+    omega (arith, is, e, t)

@@ -96,6 +96,13 @@ impl<'a> DictionaryParser<'a> {
         Some(entry.operator)
     }
 
+    /// Where the next entry begins.
+    pub fn next_offset(&self) -> usize
+        ensures { result ≡ self.now.offset }
+    {
+        self.offset
+    }
+
     /// Reads the operands of the entry, as many as the buffer holds; None where no entry can be read, and then none are shown.
     pub fn parse_operands(&mut self) -> Option<()>
         ensures value { option_map (λ _. shown self.new) result ≡ operands_at (length self.old.operands.now) (entry_of self.old) }

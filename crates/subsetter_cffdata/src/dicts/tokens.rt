@@ -10,12 +10,13 @@ ghost use Rattle.subsetter_cffdata.specs.Views.{number_of, operator_of};
 ghost use Rattle.subsetter_cffdata.specs.Dicts.Tokens.{operator_part};
 
 use crate::dicts::operator::{Operator, TWO_BYTE_OPERATOR_MARK};
+use crate::dicts::plain::plain_entry;
 use crate::numerals::number::Number;
 use crate::reading;
 use subsetter_base::read::Reader;
 
 /// Whether an operator begins with a byte, or is reserved.
-fn begins_operator(b: u8) -> bool
+pub(crate) fn begins_operator(b: u8) -> bool
     ensures { result ≡ is_operator b }
 {
     match b {
@@ -72,9 +73,9 @@ pub struct OperatorRead {
     pub end: usize,
 }
 
-/// The operator of the entry at the offset, and where the next one begins.
+/// The operator of the entry at the offset, and where the next one begins, read number by number.
 #[inline(never)]
-pub fn next_operator(bytes: &[u8], offset: usize) -> Option<OperatorRead>
+fn operator_by_tokens(bytes: &[u8], offset: usize) -> Option<OperatorRead>
     ensures { operator_part (entry_at (drop offset bytes.now)) ≡ option_map (λ x. (operator_of x.operator, drop x.end bytes.now)) result }
 {
     let mut r = Reader::new_at(bytes, offset);
@@ -88,6 +89,20 @@ pub fn next_operator(bytes: &[u8], offset: usize) -> Option<OperatorRead>
         }
     }
     None
+}
+
+/// The operator of the entry at the offset, and where the next one begins. Numbers in their first forms are passed and not read.
+pub fn next_operator(bytes: &[u8], offset: usize) -> Option<OperatorRead>
+    ensures { operator_part (entry_at (drop offset bytes.now)) ≡ option_map (λ x. (operator_of x.operator, drop x.end bytes.now)) result }
+{
+    let left = reading::tail(&Reader::new_at(bytes, offset));
+    match plain_entry(left) {
+        Some(entry) => Some(OperatorRead {
+            operator: entry.operator,
+            end: bytes.len() - entry.rest.len(),
+        }),
+        None => operator_by_tokens(bytes, offset),
+    }
 }
 
 /// An entry whose operands were read.

@@ -188,6 +188,19 @@ pub fn write_index<T: AsSlice<u8>>(items: &[T], w: &mut Writer) -> Result<(), Er
     put_items(items, w)
 }
 
+/// How many bytes the INDEX of the items has. Data of 4 GiB, or 65536 items, are `OverflowError`. It takes no memory.
+pub fn index_size<T: AsSlice<u8>>(items: &[T]) -> Result<usize, Error>
+    ensures value { IfOk result (λ n. n ≡ length (index (map T.items items.now))) }
+    ensures fits { OnOk result (FitIndex (map T.items items.now)) }
+    ensures err { IfErr result (λ e. (e ≡ OverflowError) × (FitIndex (map T.items items.now) → ⊥)) }
+{
+    let counts = counts_of(items)?;
+    if counts.items == 0 {
+        return Ok(2);
+    }
+    Ok(index_room(&counts) - 1)
+}
+
 /// Makes an INDEX of the items. Data of 4 GiB, or 65536 items, are `OverflowError`.
 #[tactic(auto, unfolding(crate::specs::Indexes::Index::index))]
 pub fn create_index(alloc: Global, items: &[Vec<u8>]) -> Result<OwnedIndex, Error>

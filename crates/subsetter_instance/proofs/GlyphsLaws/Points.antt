@@ -8,6 +8,8 @@ use Rattle.subsetter_base.specs.Gives.{Fails}
 use Rattle.subsetter_base.proofs.Results.{with_front}
 use Rattle.subsetter_points.specs.declared.outline.Point.{Point}
 use Rattle.subsetter_instance.specs.Glyphs.Drawn.{point_or_fault, points_or_fault}
+use Rattle.subsetter_instance.specs.Glyphs.Unfolded.{on_curve}
+use Rattle.subsetter_instance.proofs.GlyphsLaws.Reach.{on_count}
 
 -- a reading that fails with an error
 pub fails : {Y : Type 0} (e : Error) (read : Result Y Error) → read ≡ Err e → Fails e read
@@ -58,5 +60,9 @@ unfolding points_or_fault
 none_left left [] xs ys h = refl
 none_left left (o ∷ on) xs ys h = absurd (cc)
 
-pub points_end : (left : ℤ) (on : List Bool) (xs ys : List ℤ) (i : ℕ) (front : List Point) → length on ≤ i → with_front front (points_or_fault left (drop i on) (drop i xs) (drop i ys)) ≡ Ok front
+points_end : (left : ℤ) (on : List Bool) (xs ys : List ℤ) (i : ℕ) (front : List Point) → length on ≤ i → with_front front (points_or_fault left (drop i on) (drop i xs) (drop i ys)) ≡ Ok front
 points_end left on xs ys i front past = ap (with_front front) (none_left left (drop i on) (drop i xs) (drop i ys) (drop_all i on past)) ∙ ap (λ l. Ok l) (append-nil front)
+
+-- no flag is left
+pub flags_end : (left : ℤ) (flags : List ℕ) (xs ys : List ℤ) (i : ℕ) (front : List Point) → length flags ≤ i → with_front front (points_or_fault left (drop i (on_curve flags)) (drop i xs) (drop i ys)) ≡ Ok front
+flags_end left flags xs ys i front past = points_end left (on_curve flags) xs ys i front (omega (arith, on_count flags))

@@ -1,13 +1,13 @@
 -- What is unfolded, and within what bounds.
-use Rattle.std.proofs.Common.{◌≡◌, ◌≤◌, ◌<◌, ◌^◌, ◌+◌, ◌++◌, ℕ, ℤ, List, length, map, unsigned_abs, get_or, drop, pos, w64, ap, false, to_z, of_z, [], ◌∷◌, append_assoc, sym, subst, arith, ◌+ℤ◌, ◌∙◌, true, refl, Bool}
+use Rattle.std.proofs.Common.{◌≡◌, ◌≤◌, ◌<◌, ◌^◌, ◌+◌, ◌++◌, ℕ, ℤ, List, length, map, unsigned_abs, get_or, drop, pos, w64, ap, false, to_z, of_z, [], ◌∷◌, append_assoc, sym, subst, arith, ◌+ℤ◌, ◌∙◌, true, Ok, refl, Bool}
 use Rattle.std.specs.Prelude.{All, nat_le, zip, ◌&&◌, if◌then◌else◌}
-use Rattle.std.proofs.lemmas.Bool.{leb-true}
+use Rattle.std.proofs.lemmas.Bool.{leb-true, lt-ltb}
 use Rattle.std.proofs.lemmas.List.Sums.{AllPass-from_list_all}
 use Rattle.std.proofs.lemmas.Int.{to_z-of_z, fits_signed_from_abs}
-use Rattle.std.proofs.lemmas.List.{append-nil, drop_all, drop_more, length-append, length-map}
+use Rattle.std.proofs.lemmas.List.{append-nil, drop_all, drop_more, length-append, length-map, map-append}
 use Rattle.std.proofs.lemmas.List.Elements.{All-append, All-cons, All-map, All-nil, All-weaker}
 use Rattle.subsetter_base.specs.Bytes.{has_flag}
-use Rattle.subsetter_instance.specs.Glyphs.Unfolded.{Unfolded, IsInReach, are_near, joined_parts, moved_part, shifted, with_metrics}
+use Rattle.subsetter_instance.specs.Glyphs.Unfolded.{Unfolded, IsInReach, are_near, joined_moved, joined_parts, moved_part, on_curve, shifted, with_metrics}
 
 wide_47 : (x : ℤ) → unsigned_abs x ≤ 2 ^ 45 → unsigned_abs x ≤ 2 ^ 47
 wide_47 x h = omega arith
@@ -61,7 +61,8 @@ kept z h = to_z-of_z w64 z (fits_signed_from_abs w64 z (omega arith))
 pub one_more : (n : ℕ) (xs ys : List ℤ) (z : ℤ) → ys ≡ xs ++ z ∷ [] → unsigned_abs z ≤ n → All (λ x. unsigned_abs x ≤ n) xs → All (λ x. unsigned_abs x ≤ n) ys
 one_more n xs ys z e h a = subst (All (λ x. unsigned_abs x ≤ n)) (sym e) (All-append (λ x. unsigned_abs x ≤ n) xs (z ∷ []) a (All-cons (λ x. unsigned_abs x ≤ n) z [] h (All-nil (λ x. unsigned_abs x ≤ n))))
 
-near_all : (xs : List ℤ) → are_near xs ≡ true → All (λ x. unsigned_abs x ≤ 2 ^ 45) xs
+-- coordinates that are near
+pub near_all : (xs : List ℤ) → are_near xs ≡ true → All (λ x. unsigned_abs x ≤ 2 ^ 45) xs
 near_all xs h = All-weaker (λ x. nat_le (unsigned_abs x) (2 ^ 45) ≡ true) (λ x. unsigned_abs x ≤ 2 ^ 45) (λ x k. leb-true (unsigned_abs x) (2 ^ 45) k) xs (AllPass-from_list_all (λ x. nat_le (unsigned_abs x) (2 ^ 45)) xs h)
 
 -- a component that is moved and stays near
@@ -78,6 +79,11 @@ moved_reach u x y xs ys h m n p q = record {
   ys = near_all (shifted y ys) q;
 }
 
+-- a component that is moved, stays near and isn't one point too many
+pub joined_is : (a u : Unfolded) (x y : ℤ) (xs ys : List ℤ) (steps : ℕ) → are_near (shifted x xs) ≡ true → are_near (shifted y ys) ≡ true → length a.on + length u.on < 65536 → joined_moved a u x y xs ys steps ≡ Ok (joined_parts a (moved_part u x y xs ys), steps)
+unfolding joined_moved
+joined_is a u x y xs ys steps p q few = rw (p, q, lt-ltb (length a.on + length u.on) 65536 few) refl
+
 abbrev pub unfolded_of : List ℕ → List Bool → List ℤ → List ℤ → ℤ → ℤ → Unfolded
 unfolded_of es on xs ys l r = record { ends = es; on = on; xs = xs; ys = ys; left = l; right = r }
 
@@ -85,6 +91,14 @@ unfolded_of es on xs ys l r = record { ends = es; on = on; xs = xs; ys = ys; lef
 pub same_unfolded : (es fs : List ℕ) (on un : List Bool) (xs zs ys ws : List ℤ) (l m r q : ℤ) → es ≡ fs → on ≡ un → xs ≡ zs → ys ≡ ws → l ≡ m → r ≡ q
     → unfolded_of es on xs ys l r ≡ unfolded_of fs un zs ws m q
 same_unfolded es fs on un xs zs ys ws l m r q a b c d e f = rw (a, b, c, d, e, f) refl
+
+-- as many points as flags
+pub on_count : (fs : List ℕ) → length (on_curve fs) ≡ length fs
+on_count fs = length-map fs (λ f. has_flag f 1)
+
+-- flags behind others
+pub on_joined : (fs gs hs : List ℕ) (on un : List Bool) → hs ≡ fs ++ gs → on_curve fs ≡ on → on_curve gs ≡ un → on_curve hs ≡ on ++ un
+on_joined fs gs hs on un h a b = ap on_curve h ∙ map-append (λ f. has_flag f 1) fs gs ∙ ap (λ (l : List Bool). l ++ on_curve gs) a ∙ ap (λ (l : List Bool). on ++ l) b
 
 both_more : (a b c : Bool) → (a && (b && c)) ≡ ((a && b) && c)
 both_more true b c = refl
@@ -103,3 +117,13 @@ near_step near by vs i v less h =
 
 pub near_end : (near : Bool) (by : ℤ) (vs : List ℤ) (i : ℕ) → length vs ≤ i → (near && are_near (shifted by (drop i vs))) ≡ near
 near_end near by vs i past = ap (λ (l : List ℤ). near && are_near (shifted by l)) (drop_all i vs past) ∙ both_true near
+
+-- the same of coordinates that aren't moved
+pub close_step : (near : Bool) (vs : List ℤ) (i : ℕ) (v : ℤ) → i < length vs → v ≡ get_or vs i (pos 0)
+    → (near && are_near (drop i vs)) ≡ ((near && nat_le (unsigned_abs v) (2 ^ 45)) && are_near (drop (i + 1) vs))
+close_step near vs i v less h =
+    let d : drop i vs ≡ v ∷ drop (i + 1) vs = drop_more vs i (pos 0) less ∙ ap (λ z. z ∷ drop (i + 1) vs) (sym h) in
+    ap (λ (l : List ℤ). near && are_near l) d ∙ both_more near (nat_le (unsigned_abs v) (2 ^ 45)) (are_near (drop (i + 1) vs))
+
+pub close_end : (near : Bool) (vs : List ℤ) (i : ℕ) → length vs ≤ i → (near && are_near (drop i vs)) ≡ near
+close_end near vs i past = ap (λ (l : List ℤ). near && are_near l) (drop_all i vs past) ∙ both_true near

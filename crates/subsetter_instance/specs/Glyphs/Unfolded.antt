@@ -100,11 +100,15 @@ simple_outline bytes m ends points xs ys = record {
   right = right_point bytes m (length points) xs;
 }
 
--- the same by the flags of the points, of which bit 0 says whether they are on the curve
+-- bit 0 of a point's flag says whether it is on the curve
+abbrev pub on_curve : List ℕ → List Bool
+on_curve flags = map (λ f. has_flag f 1) flags
+
+-- the same by the flags of the points
 abbrev pub outline_by_flags : List ℕ → LongHorMetric → List ℕ → List ℕ → List ℤ → List ℤ → Unfolded
 outline_by_flags bytes m ends flags xs ys = record {
   ends = ends;
-  on = map (λ f. has_flag f 1) flags;
+  on = on_curve flags;
   xs = take (length flags) xs;
   ys = take (length flags) ys;
   left = left_point bytes m (length flags) xs;

@@ -8,6 +8,7 @@ ghost use Rattle.subsetter_instance.specs.Glyphs.Cache.{AreKept, IsKept};
 ghost use Rattle.subsetter_instance.specs.Source.{Source};
 ghost use Rattle.subsetter_instance.specs.Glyphs.Unfolded.{IsInReach, counted_description, is_composite, unfolded};
 
+use crate::glyphs::spare::Spare;
 use crate::glyphs::unfolding::{Unfolded, counted_description, is_composite};
 use crate::source::Source as FontSource;
 use std::alloc::{AllocError, Global};
@@ -112,10 +113,11 @@ impl GlyphCache {
     }
 
     /// The same with a glyph that was unfolded at a depth, if it is a simple one of few points: with so many steps before, and so
-    /// many after.
+    /// many after. It is copied, so that no more room is held than it takes, and its lists are kept.
     pub fn with(
         self,
         alloc: Global,
+        spare: &mut Spare,
         source: &FontSource<'_>,
         at: &[i32],
         depth: u8,
@@ -130,8 +132,11 @@ impl GlyphCache {
         ensures { IfOk result (λ k. AreKept source.now at.now k) }
     {
         if !is_simple(source, glyph) || outline.on.len() > MOST_POINTS {
+            let Unfolded { on, xs, ys, .. } = outline;
+            spare.keep(on, xs, ys);
             return Ok(self);
         }
+        let outline = spare.exact(alloc, outline)?;
         let mut places = all_slots(alloc, self.places)?;
         places[usize::from(glyph) % SLOTS] = Some(KeptGlyph {
             glyph,

@@ -222,17 +222,18 @@ fn component_at(bytes: &[u8]) -> Option<(Component, &[u8])>
 }
 
 /// The components, one after another, and the steps that are left. Each takes a step before it is read: where none is left it is
-/// `OverflowError`, and where a component is cut `MalformedFont`.
+/// `OverflowError`, and where a component is cut `MalformedFont`. They stand in the memory of a list that is spare.
 #[tactic(auto, using(crate::proofs::GlyphsLaws::Chains::chain_goes_on, crate::proofs::GlyphsLaws::Chains::chain_ends, crate::proofs::GlyphsLaws::Chains::chain_cut, crate::proofs::GlyphsLaws::Chains::chain_out))]
 pub fn read_components(
-    alloc: Global,
+    spare: Vec<Component>,
     bytes: &[u8],
     steps: u32,
 ) -> Result<(Vec<Component>, u32), Error>
     ensures value { Gives (λ r. (r.0.items, r.1)) result (components_at steps bytes.now) }
     ensures count { IfOk result (λ r. length r.0.items + r.1 ≡ steps) }
 {
-    let mut components = Vec::new(alloc);
+    let mut components = spare;
+    components.clear();
     let mut rest = bytes;
     for read in 0..steps {
         let Some((component, behind)) = component_at(rest) else {
@@ -292,12 +293,14 @@ pub fn offsets_with_phantoms(alloc: Global, components: &[Component]) -> Result<
     Ok(Offsets { xs, ys })
 }
 
-/// The number of each component, which is a contour of its own, and of the four phantom points.
-pub fn ends_with_phantoms(alloc: Global, n: usize) -> Result<Vec<usize>, AllocError>
+/// The number of each component, which is a contour of its own, and of the four phantom points, in the memory of a list that is spare.
+pub fn ends_with_phantoms(spare: Vec<usize>, n: usize) -> Result<Vec<usize>, AllocError>
     requires { n < 2 ^ 32 }
     ensures { IfOk result (λ v. v.items ≡ range_with_len 0 n ++ (n ∷ (n + 1) ∷ (n + 2) ∷ (n + 3) ∷ [])) }
 {
-    let mut ends = Vec::with_capacity(alloc, n.saturating_add(4))?;
+    let mut ends = spare;
+    ends.clear();
+    ends.reserve(n.saturating_add(4))?;
     for k in 0..n {
         ends.push(k)?;
     }

@@ -2,20 +2,22 @@
 
 ghost use Rattle.std.specs.Prelude.{◌≡◌, ◌≤◌, ◌^◌, ◌-ℤ◌, All, IfOk, length, unsigned_abs};
 ghost use Rattle.std.specs.Option.{option_copied};
+ghost use Rattle.subsetter_base.specs.Bytes.{has_flag};
 ghost use Rattle.subsetter_base.specs.Gives.{Gives};
 ghost use Rattle.subsetter_instance.specs.Glyphs.Cache.{AreKept};
 ghost use Rattle.subsetter_instance.specs.Source.{HasAxes};
-ghost use Rattle.subsetter_instance.specs.Glyphs.Drawn.{whole, word_or_fault, point_or_fault, points_or_fault, advance_or_fault, advance, bearing, drawn_if_fit, rounded, drawn};
+ghost use Rattle.subsetter_instance.specs.Glyphs.Drawn.{whole, word_or_fault, point_or_fault, points_or_fault, advance_or_fault, advance, drawn_if_fit, rounded, drawn};
 ghost use Rattle.subsetter_instance.specs.Plain.{drawn_if, drawn_all};
-ghost use Rattle.subsetter_instance.specs.Glyphs.Unfolded.{IsInReach};
+ghost use Rattle.subsetter_instance.specs.Glyphs.Unfolded.{IsInReach, on_curve};
 
 use crate::glyphs::cache::GlyphCache;
+use crate::glyphs::spare::Spare;
 use crate::glyphs::unfolding::{Unfolded, unfold};
 use crate::source::Source;
 use std::alloc::Global;
 use std::marker::Model;
 use subsetter_base::{Error, GlyphRemapper};
-use subsetter_points::{Outline, Point, fits, least_x};
+use subsetter_points::{Bounds, Outline, Point, bounds_of, fits};
 use subsetter_sfnt::fields::hmtx::LongHorMetric;
 use subsetter_variation::items::advances::advance_delta;
 
@@ -35,21 +37,22 @@ pub struct Drawn {
     pub outline: Outline,
     /// The advance width.
     pub advance: u16,
-    /// The left side bearing.
-    pub bearing: i16,
+    /// The box around the points, at 0 where there are none. Its left side is the left side bearing.
+    pub bounds: Bounds,
 }
 
 impl Model for Drawn {
-    ghost use Rattle.std.specs.Prelude.{IsTrue};
+    ghost use Rattle.std.specs.Prelude.{◌≡◌, IsTrue};
+    ghost use Rattle.subsetter_points.specs.Bounds.{bounds_of};
     ghost use Rattle.subsetter_points.specs.Simple.{parts_fit};
     ghost use Rattle.subsetter_instance.specs.Glyphs.Drawn.{Drawn};
 
     ghost Value = { Drawn };
 
-    ghost view = { λ d. record { ends = d.outline.ends.items; points = d.outline.points.items; advance = d.advance; bearing = d.bearing } };
+    ghost view = { λ d. record { ends = d.outline.ends.items; points = d.outline.points.items; advance = d.advance; bearing = d.bounds.x_min } };
 
-    // The outline can be written.
-    ghost invariant = { λ d. IsTrue (parts_fit d.outline.ends.items d.outline.points.items) };
+    // The outline can be written, and the box is around its points.
+    ghost invariant = { λ d. IsTrue (parts_fit d.outline.ends.items d.outline.points.items) × (d.bounds ≡ bounds_of d.outline.points.items) };
 }
 
 /// Parts of 2^30 as a whole number, halves up. What is divided is above 0, so that no sign has to be looked at.
@@ -106,12 +109,19 @@ fn point_or_fault(left: i64, on_curve: bool, x: i64, y: i64) -> Result<Point, Er
     })
 }
 
-/// The points of an unfolded glyph.
-#[tactic(auto, using(crate::proofs::GlyphsLaws::Points::no_front, crate::proofs::GlyphsLaws::Points::points_step, crate::proofs::GlyphsLaws::Points::points_cut, crate::proofs::GlyphsLaws::Points::points_end))]
+/// Whether a point is on the curve, by bit 0 of its flag.
+fn is_on_curve(flag: u8) -> bool
+    ensures { result ≡ has_flag flag 1 }
+{
+    flag & 1 != 0
+}
+
+/// The points of an unfolded glyph, by their flags.
+#[tactic(auto, using(crate::proofs::GlyphsLaws::Points::no_front, crate::proofs::GlyphsLaws::Points::flags_end))]
 fn points_or_fault(
     alloc: Global,
     left: i64,
-    on: &[bool],
+    on: &[u8],
     xs: &[i64],
     ys: &[i64],
 ) -> Result<Vec<Point>, Error>
@@ -120,11 +130,11 @@ fn points_or_fault(
     requires many_ys { length ys.now ≡ length on.now }
     requires xs { All (λ z. unsigned_abs z ≤ 2 ^ 45) xs.now }
     requires ys { All (λ z. unsigned_abs z ≤ 2 ^ 45) ys.now }
-    ensures { Gives (λ v. v.items) result (points_or_fault left on.now xs.now ys.now) }
+    ensures { Gives (λ v. v.items) result (points_or_fault left (on_curve on.now) xs.now ys.now) }
 {
     let mut points = Vec::with_capacity(alloc, on.len())?;
     for i in 0..on.len() {
-        points.push_reserved(point_or_fault(left, on[i], xs[i], ys[i])?);
+        points.push_reserved(point_or_fault(left, is_on_curve(on[i]), xs[i], ys[i])?);
     }
     Ok(points)
 }
@@ -161,35 +171,27 @@ pub fn advance(
     }
 }
 
-/// The left side bearing: the least x, 0 without points.
-fn bearing(points: &[Point]) -> i16
-    ensures { result ≡ bearing points.now }
-{
-    match points {
-        [first, rest @ ..] => least_x(first.x, rest),
-        [] => 0,
-    }
-}
-
 /// What is drawn, unless the outline can't be written, which is `OverflowError`.
+#[tactic(auto, using(crate::proofs::GlyphsLaws::Bearings::bearing_is))]
 fn drawn_if_fit(outline: Outline, advance: u16) -> Result<Drawn, Error>
     ensures { result ≡ drawn_if_fit outline.ends.items outline.points.items advance }
 {
     if !fits(&outline) {
         return Err(Error::OverflowError);
     }
-    let bearing = bearing(&outline.points);
+    let bounds = bounds_of(&outline.points);
     Ok(Drawn {
         outline,
         advance,
-        bearing,
+        bounds,
     })
 }
 
 /// What is drawn of an unfolded glyph: rounded, with its advance and its bearing.
-#[tactic(auto, unfolding(crate::specs::Glyphs::Drawn::rounded))]
+#[tactic(auto, unfolding(crate::specs::Glyphs::Drawn::rounded), using(crate::proofs::GlyphsLaws::Reach::on_count))]
 fn rounded(
     alloc: Global,
+    spare: &mut Spare,
     source: &Source<'_>,
     at: &[i32],
     glyph: u16,
@@ -208,10 +210,15 @@ fn rounded(
         &unfolded.xs,
         &unfolded.ys,
     )?;
-    let outline = Outline {
-        points,
-        ends: unfolded.ends,
-    };
+    let Unfolded {
+        ends,
+        on,
+        xs,
+        ys,
+        ..
+    } = unfolded;
+    spare.keep(on, xs, ys);
+    let outline = Outline { points, ends };
     drawn_if_fit(outline, advance)
 }
 
@@ -219,6 +226,7 @@ fn rounded(
 #[tactic(auto, unfolding(crate::specs::Glyphs::Drawn::drawn))]
 pub fn draw(
     alloc: Global,
+    spare: &mut Spare,
     source: &Source<'_>,
     at: &[i32],
     steps: u32,
@@ -231,14 +239,15 @@ pub fn draw(
     ensures kept { IfOk result (λ r. AreKept source.now at.now r.1) }
 {
     let metric = source.metric(glyph).ok_or(Error::MalformedFont)?;
-    let (unfolded, _, kept) = unfold(alloc, source, at, steps, glyph, kept)?;
-    let drawn = rounded(alloc, source, at, glyph, metric, unfolded)?;
+    let (unfolded, _, kept) = unfold(alloc, spare, source, at, steps, glyph, kept)?;
+    let drawn = rounded(alloc, spare, source, at, glyph, metric, unfolded)?;
     Ok((drawn, kept))
 }
 
 /// What is drawn of a glyph that is requested, and the glyphs that are kept. `MalformedFont` where it is none of the font's.
 fn drawn_if(
     alloc: Global,
+    spare: &mut Spare,
     source: &Source<'_>,
     at: &[i32],
     steps: u32,
@@ -251,7 +260,7 @@ fn drawn_if(
     ensures kept { IfOk result (λ r. AreKept source.now at.now r.1) }
 {
     if glyph < source.count() {
-        draw(alloc, source, at, steps, glyph, kept)
+        draw(alloc, spare, source, at, steps, glyph, kept)
     } else {
         Err(Error::MalformedFont)
     }
@@ -271,8 +280,9 @@ pub fn draw_all(
 {
     let mut all = Vec::with_capacity(alloc, usize::from(mapper.num_gids()))?;
     let mut kept = GlyphCache::new(alloc);
+    let mut spare = Spare::new(alloc);
     for glyph in mapper.remapped_gids() {
-        let (drawn, others) = drawn_if(alloc, source, at, steps, glyph, kept)?;
+        let (drawn, others) = drawn_if(alloc, &mut spare, source, at, steps, glyph, kept)?;
         all.push(drawn)?;
         kept = others;
     }

@@ -8,7 +8,7 @@ ghost use Rattle.subsetter_instance.specs.Tables.Written.{outline_bytes, drawn_m
 use crate::glyphs::drawn::Drawn;
 use crate::tables::extremes::{Extents, glyph_extents};
 use subsetter_base::Error;
-use subsetter_points::write_simple;
+use subsetter_points::write_bounded;
 use subsetter_sfnt::fields::hmtx::LongHorMetric;
 
 impl Drawn {
@@ -30,7 +30,7 @@ impl Drawn {
     pub fn extents(&self) -> Option<Extents>
         ensures { result ≡ glyph_extents self.now.advance self.now.points }
     {
-        glyph_extents(self.advance, &self.outline.points)
+        glyph_extents(self.advance, &self.outline.points, self.bounds)
     }
 
     /// Appends its description, of even length, to `glyf`.
@@ -39,7 +39,7 @@ impl Drawn {
         ensures err { IfErr result (λ e. e ≡ OutOfMemory) }
     {
         let start = glyf.len();
-        write_simple(glyf, &self.outline)?;
+        write_bounded(glyf, &self.outline, self.bounds)?;
         if (glyf.len() - start) % 2 == 1 {
             glyf.push(0)?;
         }
@@ -52,7 +52,7 @@ impl Drawn {
     {
         LongHorMetric {
             advance_width: self.advance,
-            lsb: self.bearing.cast_unsigned(),
+            lsb: self.bounds.x_min.cast_unsigned(),
         }
     }
 }

@@ -1,11 +1,12 @@
 //! A component of a composite glyph: through its matrix, moved, and behind the components before it.
 
-ghost use Rattle.std.specs.Prelude.{◌≡◌, ◌≤◌, ◌<◌, ◌^◌, ◌+◌, ◌++◌, ◌*ℤ◌, ◌+ℤ◌, ◌&&◌, ℕ, nat_le, length, map, zip, slice_get, unsigned_abs, All, IfOk, IfSome};
+ghost use Rattle.std.specs.Prelude.{◌≡◌, ◌≤◌, ◌<◌, ◌^◌, ◌+◌, ◌++◌, ◌*ℤ◌, ◌+ℤ◌, ℕ, length, map, zip, slice_get, unsigned_abs, All, IfOk, IfSome};
 ghost use Rattle.subsetter_base.specs.Gives.{Gives};
 ghost use Rattle.subsetter_variation.specs.Nearest.{nearest};
 ghost use Rattle.subsetter_instance.specs.Glyphs.Unfolded.{IsInReach, are_near, is_identity, is_scaled, joined_moved, joined_parts, matched, moved_part, point_at, shift_by, shifted, swapped, transformed_x, with_metrics, with_part, with_points};
 
 use crate::glyphs::components::{Arguments, Component, Matrix, has};
+use crate::glyphs::simple::is_near_too;
 use crate::glyphs::unfolding::Unfolded;
 use std::alloc::{AllocError, Global};
 use subsetter_base::Error;
@@ -170,13 +171,6 @@ fn shift_by(
     }
 }
 
-/// Whether it held so far, and a coordinate isn't more than 32768 units from 0.
-fn is_near_too(near: bool, v: i64) -> bool
-    ensures { result ≡ (near && nat_le (unsigned_abs v) (2 ^ 45)) }
-{
-    near && v.unsigned_abs() <= 1 << 45
-}
-
 /// Whether no coordinate is more than 32768 units from 0 when it is moved. All are looked at, as a loop with one way out is the
 /// faster.
 #[tactic(auto, using(crate::proofs::GlyphsLaws::Reach::near_step, crate::proofs::GlyphsLaws::Reach::near_end))]
@@ -221,6 +215,7 @@ fn joined_ends(ends: Vec<u16>, n: usize, m: usize, part: &[u16]) -> Result<Vec<u
 }
 
 /// A component, of which these are the points, moved, behind those before it.
+#[tactic(auto, using(crate::proofs::GlyphsLaws::Reach::on_count))]
 fn joined_parts(
     before: Unfolded,
     part: &Unfolded,
@@ -262,7 +257,7 @@ fn joined_parts(
 
 /// A component, of which these are the points, moved, behind those before it, and the steps that are left. `OverflowError` where
 /// one of its coordinates is more than 32768 units from 0, or where there are more than 65535 points.
-#[tactic(auto, unfolding(crate::specs::Glyphs::Unfolded::joined_moved))]
+#[tactic(auto, unfolding(crate::specs::Glyphs::Unfolded::joined_moved), using(crate::proofs::GlyphsLaws::Reach::on_count))]
 fn joined_moved(
     before: Unfolded,
     part: &Unfolded,

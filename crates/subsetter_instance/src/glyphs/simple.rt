@@ -1,14 +1,14 @@
 //! A simple glyph at a location.
 
-ghost use Rattle.std.specs.Prelude.{◌≡◌, ◌≤◌, ◌<◌, ◌^◌, ◌+◌, ◌++◌, ◌∷◌, [], ◌*ℤ◌, ◌+ℤ◌, ℕ, pos, length, map, take, slice_index_or, unsigned_abs, All, IsTrue, IfOk};
+ghost use Rattle.std.specs.Prelude.{◌≡◌, ◌≤◌, ◌<◌, ◌^◌, ◌+◌, ◌++◌, ◌∷◌, [], ◌*ℤ◌, ◌+ℤ◌, ◌&&◌, ℕ, nat_le, pos, length, take, slice_index_or, unsigned_abs, All, IsTrue, IfOk};
 ghost use Rattle.std.specs.Option.{option_copied};
 ghost use Rattle.subsetter_base.specs.Gives.{Gives};
 ghost use Rattle.subsetter_points.specs.Simple.{are_ends};
-ghost use Rattle.subsetter_base.specs.Bytes.{has_flag};
 ghost use Rattle.subsetter_variation.specs.Glyphs.Movement.{AreWithin, IsOutline};
 ghost use Rattle.subsetter_instance.specs.Source.{HasAxes};
 ghost use Rattle.subsetter_instance.specs.Glyphs.Unfolded.{IsInReach, are_near, left_point, left_side, moved, in_range_or_fault, outline_by_flags, right_point, unfolded_by_flags, unfolded_simple, with_phantoms, IsShaped, x_min};
 
+use crate::glyphs::spare::Spare;
 use crate::glyphs::unfolding::Unfolded;
 use crate::source::Source;
 use std::alloc::{AllocError, Global};
@@ -18,6 +18,7 @@ use subsetter_points::header::X_MIN;
 use subsetter_points::{Columns, read_columns};
 use subsetter_sfnt::fields::hmtx::LongHorMetric;
 use subsetter_variation::glyphs::movement::{Outline as DefaultOutline, moved_points, spent};
+use subsetter_variation::glyphs::spare::SpareLists;
 use subsetter_variation::glyphs::tuples::Gvar;
 use subsetter_variation::glyphs::varied::in_units;
 use subsetter_variation::rounding::plus;
@@ -91,12 +92,24 @@ pub fn right_point(bytes: &[u8], metric: LongHorMetric, n: usize, xs: &[i64]) ->
     )
 }
 
-/// Whether no coordinate is more than 32768 units from 0.
+/// Whether it held so far, and a coordinate isn't more than 32768 units from 0.
+pub fn is_near_too(near: bool, v: i64) -> bool
+    ensures { result ≡ (near && nat_le (unsigned_abs v) (2 ^ 45)) }
+{
+    near && v.unsigned_abs() <= 1 << 45
+}
+
+/// Whether no coordinate is more than 32768 units from 0. All are looked at, as a loop with one way out is the faster.
+#[tactic(auto, using(crate::proofs::GlyphsLaws::Reach::close_step, crate::proofs::GlyphsLaws::Reach::close_end))]
 pub fn are_near(coordinates: &[i64]) -> bool
     ensures value { result ≡ are_near coordinates.now }
     ensures within { IsTrue result → All (λ v. unsigned_abs v ≤ 2 ^ 45) coordinates.now }
 {
-    coordinates.iter().all(|v| v.unsigned_abs() <= 1 << 45)
+    let mut near = true;
+    for v in coordinates {
+        near = is_near_too(near, *v);
+    }
+    near
 }
 
 /// A glyph whose points are near, else `OverflowError`.
@@ -115,6 +128,7 @@ pub fn in_range_or_fault(unfolded: Unfolded, steps: u32) -> Result<(Unfolded, u3
 /// Where the points of an outline go.
 pub fn moved(
     alloc: Global,
+    lists: &mut SpareLists,
     gvar: Option<&Gvar<'_>>,
     glyph: u16,
     default: &DefaultOutline<'_>,
@@ -127,12 +141,12 @@ pub fn moved(
     ensures bound { IfOk result (λ r. AreWithin (2 ^ 57) default.now r.0.items r.1.items) }
 {
     match gvar {
-        None => Ok((
-            in_units(alloc, default.xs)?,
-            in_units(alloc, default.ys)?,
-            steps,
-        )),
-        Some(table) => moved_points(alloc, table, glyph, default, at, steps),
+        None => {
+            let xs = in_units(lists.take_xs(alloc), default.xs)?;
+            let ys = in_units(lists.take_ys(alloc), default.ys)?;
+            Ok((xs, ys, steps))
+        }
+        Some(table) => moved_points(alloc, lists, table, glyph, default, at, steps),
     }
 }
 
@@ -145,12 +159,14 @@ fn with_phantoms(coordinates: Vec<i16>) -> Result<Vec<i16>, AllocError>
     Ok(all)
 }
 
-/// The ends of contours of n points, and of the four phantom points, each a contour of its own.
-fn ends_with_phantoms(alloc: Global, ends: &[u16], n: usize) -> Result<Vec<usize>, AllocError>
+/// The ends of contours of n points, and of the four phantom points, each a contour of its own, in the memory of a list that is spare.
+fn ends_with_phantoms(spare: Vec<usize>, ends: &[u16], n: usize) -> Result<Vec<usize>, AllocError>
     requires { n < 2 ^ 32 }
     ensures { IfOk result (λ v. v.items ≡ ends.now ++ (n ∷ (n + 1) ∷ (n + 2) ∷ (n + 3) ∷ [])) }
 {
-    let mut all = Vec::with_capacity(alloc, ends.len().saturating_add(4))?;
+    let mut all = spare;
+    all.clear();
+    all.reserve(ends.len().saturating_add(4))?;
     for end in ends {
         all.push_reserved(*end as usize);
     }
@@ -158,20 +174,10 @@ fn ends_with_phantoms(alloc: Global, ends: &[u16], n: usize) -> Result<Vec<usize
     Ok(all)
 }
 
-/// Whether each point is on the curve, by bit 0 of its flag.
-fn on_curve(alloc: Global, flags: &[u8]) -> Result<Vec<bool>, AllocError>
-    ensures { IfOk result (λ v. v.items ≡ map (λ f. has_flag f 1) flags.now) }
-{
-    let mut on = Vec::with_capacity(alloc, flags.len())?;
-    for flag in flags {
-        on.push_reserved(*flag & 1 != 0);
-    }
-    Ok(on)
-}
-
 /// Where the points of a simple outline go, and its phantom points.
 fn moved_simple(
     alloc: Global,
+    spare: &mut Spare,
     gvar: Option<&Gvar<'_>>,
     glyph: u16,
     ends: &[u16],
@@ -187,7 +193,7 @@ fn moved_simple(
     ensures value { Gives (λ r. (r.0.items, r.1.items, r.2)) result (moved (option_copied gvar.entry) glyph (with_phantoms ends.now xs.items ys.items) at.now steps) }
     ensures bound { IfOk result (λ r. AreWithin (2 ^ 57) (with_phantoms ends.now xs.items ys.items) r.0.items r.1.items) }
 {
-    let all_ends = ends_with_phantoms(alloc, ends, xs.len())?;
+    let all_ends = ends_with_phantoms(spare.take_ends(alloc), ends, xs.len())?;
     let all_xs = with_phantoms(xs)?;
     let all_ys = with_phantoms(ys)?;
     let default = DefaultOutline {
@@ -195,49 +201,50 @@ fn moved_simple(
         ys: &all_ys,
         ends: &all_ends,
     };
-    moved(alloc, gvar, glyph, &default, at, steps)
+    let answer = moved(alloc, &mut spare.lists, gvar, glyph, &default, at, steps);
+    spare.keep_default(all_xs, all_ys, all_ends);
+    answer
 }
 
 /// Moved points, without their phantom points.
 fn simple_outline(
-    alloc: Global,
     bytes: &[u8],
     metric: LongHorMetric,
     ends: Vec<u16>,
-    flags: &[u8],
+    on: Vec<u8>,
     xs: Vec<i64>,
     ys: Vec<i64>,
-) -> Result<Unfolded, AllocError>
-    requires sound { IsTrue (are_ends 0 ends.items (length flags.now)) }
-    requires few { length flags.now + 4 < 2 ^ 32 }
-    requires xs_count { length xs.items ≡ length flags.now + 4 }
-    requires ys_count { length ys.items ≡ length flags.now + 4 }
+) -> Unfolded
+    requires sound { IsTrue (are_ends 0 ends.items (length on.items)) }
+    requires few { length on.items + 4 < 2 ^ 32 }
+    requires xs_count { length xs.items ≡ length on.items + 4 }
+    requires ys_count { length ys.items ≡ length on.items + 4 }
     requires bound { All (λ x. unsigned_abs x ≤ 2 ^ 57) xs.items }
-    ensures value { IfOk result (λ u. u ≡ outline_by_flags bytes.now metric ends.items flags.now xs.items ys.items) }
-    ensures shape { IfOk result (λ u. IsShaped u) }
+    ensures value { result ≡ outline_by_flags bytes.now metric ends.items on.items xs.items ys.items }
+    ensures shape { IsShaped result }
 {
-    let n = flags.len();
+    let n = on.len();
     let left = left_point(bytes, metric, n, &xs);
     let right = right_point(bytes, metric, n, &xs);
-    let on = on_curve(alloc, flags)?;
     let mut xs = xs;
     let mut ys = ys;
     xs.truncate(n);
     ys.truncate(n);
-    Ok(Unfolded {
+    Unfolded {
         ends,
         on,
         xs,
         ys,
         left,
         right,
-    })
+    }
 }
 
 /// A simple glyph at a location, of which the description is read, and the steps that are left.
 #[tactic(auto, unfolding(crate::specs::Glyphs::Unfolded::unfolded_by_flags))]
 fn unfold_columns(
     alloc: Global,
+    spare: &mut Spare,
     source: &Source<'_>,
     at: &[i32],
     steps: u32,
@@ -260,8 +267,9 @@ fn unfold_columns(
         ys,
     } = columns;
     let steps = spent(flags.len() + 5, steps)?;
-    let (xs, ys, steps) = moved_simple(alloc, source.gvar(), glyph, &ends, xs, ys, at, steps)?;
-    let unfolded = simple_outline(alloc, bytes, metric, ends, &flags, xs, ys)?;
+    let gvar = source.gvar();
+    let (xs, ys, steps) = moved_simple(alloc, spare, gvar, glyph, &ends, xs, ys, at, steps)?;
+    let unfolded = simple_outline(bytes, metric, ends, flags, xs, ys);
     in_range_or_fault(unfolded, steps)
 }
 
@@ -269,6 +277,7 @@ fn unfold_columns(
 #[tactic(auto, unfolding(crate::specs::Glyphs::Unfolded::unfolded_simple))]
 pub fn unfold_simple(
     alloc: Global,
+    spare: &mut Spare,
     source: &Source<'_>,
     at: &[i32],
     steps: u32,
@@ -280,6 +289,9 @@ pub fn unfold_simple(
     ensures value { Gives (λ r. (r.0, r.1)) result (unfolded_simple source.now at.now steps glyph bytes.now metric) }
     ensures bound { IfOk result (λ r. IsInReach r.0) }
 {
-    let columns = read_columns(alloc, bytes)?.ok_or(Error::MalformedFont)?;
-    unfold_columns(alloc, source, at, steps, glyph, bytes, metric, columns)
+    let lists = spare.take_columns(alloc);
+    let columns = read_columns(alloc, lists, bytes)?.ok_or(Error::MalformedFont)?;
+    unfold_columns(
+        alloc, spare, source, at, steps, glyph, bytes, metric, columns,
+    )
 }

@@ -11,6 +11,7 @@ ghost use Rattle.subsetter_instance.specs.Glyphs.Drawn.{levels};
 use crate::glyphs::cache::GlyphCache;
 use crate::glyphs::composite::read_composite;
 use crate::glyphs::simple::unfold_simple;
+use crate::glyphs::spare::Spare;
 use crate::source::Source;
 use std::alloc::Global;
 use std::marker::Model;
@@ -21,12 +22,12 @@ use subsetter_points::header::COMPOSITE;
 /// How deep components may have components: 64 levels below a glyph.
 const LEVELS: u8 = 65;
 
-/// A glyph at a location: the number of each contour's last point, which points are on the curve, their coordinates, and x of
-/// the left and of the right phantom point. All coordinates are in parts of 2^30.
+/// A glyph at a location: the number of each contour's last point, the flags of the points, of which bit 0 says whether they are on
+/// the curve, their coordinates, and x of the left and of the right phantom point. All coordinates are in parts of 2^30.
 #[derive(Drop)]
 pub struct Unfolded {
     pub ends: Vec<u16>,
-    pub on: Vec<bool>,
+    pub on: Vec<u8>,
     pub xs: Vec<i64>,
     pub ys: Vec<i64>,
     pub left: i64,
@@ -34,11 +35,11 @@ pub struct Unfolded {
 }
 
 impl Model for Unfolded {
-    ghost use Rattle.subsetter_instance.specs.Glyphs.Unfolded.{Unfolded};
+    ghost use Rattle.subsetter_instance.specs.Glyphs.Unfolded.{Unfolded, on_curve};
 
     ghost Value = { Unfolded };
 
-    ghost view = { λ u. record { ends = u.ends.items; on = u.on.items; xs = u.xs.items; ys = u.ys.items; left = u.left; right = u.right } };
+    ghost view = { λ u. record { ends = u.ends.items; on = on_curve u.on.items; xs = u.xs.items; ys = u.ys.items; left = u.left; right = u.right } };
 }
 
 /// Whether bytes are the description of a composite glyph.
@@ -66,6 +67,7 @@ pub fn counted_description<'a>(source: &Source<'a>, glyph: u16) -> Option<&'a [u
 #[tactic(auto, unfolding(crate::specs::Glyphs::Unfolded::unfolded))]
 fn unfold_within(
     alloc: Global,
+    spare: &mut Spare,
     depth: u8,
     source: &Source<'_>,
     at: &[i32],
@@ -85,12 +87,12 @@ fn unfold_within(
     let bytes = counted_description(source, glyph).ok_or(Error::MalformedFont)?;
     let metric = source.metric(glyph).ok_or(Error::MalformedFont)?;
     if !is_composite(bytes) {
-        let (simple, left) = unfold_simple(alloc, source, at, steps, glyph, bytes, metric)?;
+        let (simple, left) = unfold_simple(alloc, spare, source, at, steps, glyph, bytes, metric)?;
         return Ok((simple, left, kept));
     }
-    let composite = read_composite(alloc, source, at, steps, glyph, bytes, metric)?;
+    let composite = read_composite(alloc, spare, source, at, steps, glyph, bytes, metric)?;
     let parts = &composite;
-    let mut all = parts.no_points(alloc)?;
+    let mut all = parts.no_points(alloc, spare)?;
     let mut left = parts.steps();
     let mut kept = kept;
     for k in 0..parts.count() {
@@ -110,6 +112,7 @@ fn unfold_within(
         } else {
             let (part, rest, others) = unfold_within(
                 alloc,
+                spare,
                 depth - 1,
                 source,
                 at,
@@ -120,6 +123,7 @@ fn unfold_within(
             let (more, next) = parts.with_component(alloc, k, component, all, &part, rest)?;
             kept = others.with(
                 alloc,
+                spare,
                 source,
                 at,
                 depth - 1,
@@ -132,12 +136,14 @@ fn unfold_within(
             left = next;
         }
     }
+    composite.keep(spare);
     Ok((all, left, kept))
 }
 
 /// A glyph at a location, the steps that are left, and the glyphs that are kept.
 pub fn unfold(
     alloc: Global,
+    spare: &mut Spare,
     source: &Source<'_>,
     at: &[i32],
     steps: u32,
@@ -150,5 +156,5 @@ pub fn unfold(
     ensures bound { IfOk result (λ r. IsInReach r.0) }
     ensures kept { IfOk result (λ r. AreKept source.now at.now r.2) }
 {
-    unfold_within(alloc, LEVELS, source, at, steps, glyph, kept)
+    unfold_within(alloc, spare, LEVELS, source, at, steps, glyph, kept)
 }

@@ -1,11 +1,12 @@
 //! The extremes of the glyphs that are drawn (OpenType, "head" and "hhea").
 
 ghost use Rattle.std.specs.Prelude.{◌≡◌, ◌-ℤ◌, pos};
+ghost use Rattle.subsetter_points.specs.Bounds.{bounds_of};
 ghost use Rattle.subsetter_instance.specs.Tables.Extremes.{extents_of, glyph_extents, both, joined, all_extents, widest, box_bytes, saturated, side_bytes, extreme_bytes};
 
 use crate::glyphs::drawn::Drawn;
 use subsetter_base::compare::{larger, smaller};
-use subsetter_points::{Bounds, Point, bounds_bytes, box_around};
+use subsetter_points::{Bounds, Point, bounds_bytes};
 
 /// The extents of a glyph with contours, or of several.
 #[derive(Clone, Copy)]
@@ -34,12 +35,13 @@ fn extents_of(advance: u16, bounds: Bounds) -> Extents
     }
 }
 
-/// The extents of a glyph, if it has points.
-pub fn glyph_extents(advance: u16, points: &[Point]) -> Option<Extents>
+/// The extents of a glyph whose points are in a box, if it has points.
+pub fn glyph_extents(advance: u16, points: &[Point], bounds: Bounds) -> Option<Extents>
+    requires { bounds ≡ bounds_of points.now }
     ensures { result ≡ glyph_extents advance points.now }
 {
     match points {
-        [first, rest @ ..] => Some(extents_of(advance, box_around(*first, rest))),
+        [_, ..] => Some(extents_of(advance, bounds)),
         [] => None,
     }
 }

@@ -109,7 +109,7 @@ pub fn laid(
     source: &Source<'_>,
     mapper: &GlyphRemapper,
     drawn: &[Drawn],
-    lines: &Lines,
+    lines: &Lines<'_>,
 ) -> Result<Vec<u8>, Error>
     requires head { IfSome (table_in face.now.«data».now face.now.records.now (codes "head")) (λ head. 52 ≤ length head) }
     requires hhea { 36 ≤ length lines.now.hhea }

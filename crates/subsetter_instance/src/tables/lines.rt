@@ -1,10 +1,10 @@
 //! The metrics of `hhea` and `post` that vary (OpenType, "MVAR", "hhea" and "post").
 
 ghost use Rattle.std.specs.Prelude.{◌≡◌, ◌≤◌, ◌+◌, ◌++◌, IfOk, IfSome, OnOk, codes, length};
-ghost use Rattle.std.specs.Option.{option_copied, option_map};
+ghost use Rattle.std.specs.Option.{option_copied, option_map, option_or};
 ghost use Rattle.subsetter_base.specs.Gives.{Gives};
 ghost use Rattle.subsetter_sfnt.specs.Read.{table_in};
-ghost use Rattle.subsetter_instance.specs.Tables.Lines.{varied, three_lines, line_bytes, moved_hhea, varied_hhea, moved_post, varied_underline, varied_post, varied_post_if, lines_of};
+ghost use Rattle.subsetter_instance.specs.Tables.Lines.{varied, three_lines, line_bytes, moved_hhea, varied_hhea, moved_post, varied_underline, varied_post_if, lines_of};
 
 use crate::glyphs::drawn::word_or_fault;
 use std::alloc::{AllocError, Global};
@@ -16,20 +16,21 @@ use subsetter_sfnt::fields::hhea::{ADVANCE_WIDTH_MAX, ASCENDER, CARET_SLOPE_RISE
 use subsetter_sfnt::fields::post::{IS_FIXED_PITCH, UNDERLINE_POSITION, UNDERLINE_THICKNESS};
 use subsetter_variation::items::font_metrics::metric_delta;
 
-/// `hhea` and `post` with the metrics that vary.
+/// `hhea` and `post` with the metrics that vary. `post` is the font's own, with the names of all glyphs, where it has none that does.
 #[derive(Drop)]
-pub struct Lines {
-    pub hhea: Vec<u8>,
-    pub post: Option<Vec<u8>>,
+pub struct Lines<'a> {
+    hhea: Vec<u8>,
+    moved_post: Option<Vec<u8>>,
+    post: Option<&'a [u8]>,
 }
 
-impl Model for Lines {
-    ghost use Rattle.std.specs.Option.{option_map};
+impl<'a> Model for Lines<'a> {
+    ghost use Rattle.std.specs.Option.{option_copied, option_map, option_or};
     ghost use Rattle.subsetter_instance.specs.Tables.Lines.{Lines};
 
     ghost Value = { Lines };
 
-    ghost view = { λ l. record { hhea = l.hhea.items; post = option_map (λ v. v.items) l.post } };
+    ghost view = { λ l. record { hhea = l.hhea.items; post = option_or (option_map (λ v. v.items) l.moved_post) (option_copied l.post) } };
 }
 
 /// A number with what the metric of a tag varies by.
@@ -161,53 +162,46 @@ fn varied_underline(alloc: Global, mvar: &[u8], at: &[i32], post: &[u8]) -> Resu
     Ok(moved_post(alloc, post, position, thickness)?)
 }
 
-/// `post` at a location.
-fn varied_post(
-    alloc: Global,
-    mvar: Option<&[u8]>,
-    at: &[i32],
-    post: &[u8],
-) -> Result<Vec<u8>, Error>
-    ensures { Gives (λ v. v.items) result (varied_post (option_copied mvar.entry) at.now post.now) }
-{
-    let Some(mvar) = mvar else {
-        return Ok(copied(alloc, post)?);
-    };
-    if post.len() < IS_FIXED_PITCH {
-        return Ok(copied(alloc, post)?);
-    }
-    varied_underline(alloc, mvar, at, post)
-}
-
-/// `post` at a location, if there is one.
+/// `post` at a location, unless it stays as it is, if there is one at all.
 fn varied_post_if(
     alloc: Global,
     mvar: Option<&[u8]>,
     at: &[i32],
     post: Option<&[u8]>,
 ) -> Result<Option<Vec<u8>>, Error>
-    ensures { Gives (λ o. option_map (λ v. v.items) o) result (varied_post_if (option_copied mvar.entry) at.now (option_copied post.entry)) }
+    ensures { Gives (λ o. option_or (option_map (λ v. v.items) o) (option_copied post.entry)) result (varied_post_if (option_copied mvar.entry) at.now (option_copied post.entry)) }
 {
-    match post {
-        None => Ok(None),
-        Some(post) => Ok(Some(varied_post(alloc, mvar, at, post)?)),
+    let Some(table) = post else {
+        return Ok(None);
+    };
+    let Some(mvar) = mvar else {
+        return Ok(None);
+    };
+    if table.len() < IS_FIXED_PITCH {
+        return Ok(None);
     }
+    Ok(Some(varied_underline(alloc, mvar, at, table)?))
 }
 
 /// `hhea` and `post` of a font at a location. A cut table is `MalformedFont`, a number past 16 bits `OverflowError`.
 #[tactic(auto, unfolding(crate::specs::Tables::Lines::lines_of))]
-pub fn lines_of(alloc: Global, face: &Face<'_>, at: &[i32]) -> Result<Lines, Error>
+pub fn lines_of<'a>(alloc: Global, face: &Face<'a>, at: &[i32]) -> Result<Lines<'a>, Error>
     requires { IfSome (table_in face.now.«data».now face.now.records.now (codes "hhea")) (λ hhea. 36 ≤ length hhea) }
     ensures { Gives (λ l. l) result (lines_of (table_in face.now.«data».now face.now.records.now) at.now) }
 {
     let mvar = face.stored(Tag::new(b"MVAR"));
     let hhea = face.stored(Tag::HHEA).ok_or(Error::MalformedFont)?;
     let hhea = varied_hhea(alloc, mvar, at, hhea)?;
-    let post = varied_post_if(alloc, mvar, at, face.stored(Tag::POST))?;
-    Ok(Lines { hhea, post })
+    let post = face.stored(Tag::POST);
+    let moved_post = varied_post_if(alloc, mvar, at, post)?;
+    Ok(Lines {
+        hhea,
+        moved_post,
+        post,
+    })
 }
 
-impl Lines {
+impl<'a> Lines<'a> {
     /// `hhea`.
     pub fn hhea(&self) -> &[u8]
         ensures { result.now ≡ self.now.hhea }
@@ -219,9 +213,9 @@ impl Lines {
     pub fn post(&self) -> Option<&[u8]>
         ensures { option_copied result ≡ self.now.post }
     {
-        match &self.post {
-            Some(post) => Some(post),
-            None => None,
+        match &self.moved_post {
+            Some(moved) => Some(moved),
+            None => self.post,
         }
     }
 }

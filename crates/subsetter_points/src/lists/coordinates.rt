@@ -6,15 +6,14 @@ ghost use Rattle.subsetter_base.specs.declared.error.Error.TheVariants.{OutOfMem
 ghost use Rattle.subsetter_points.specs.Simple.{coordinates};
 
 use crate::lists::deltas::read_coordinate;
-use std::alloc::Global;
 use subsetter_base::Error;
 
 /// Room for the coordinates of the phantom points of a glyph, which may be put behind those of its points.
 const PHANTOM_POINTS: usize = 4;
 
-/// The coordinate of each flag, by the two bits that encode its delta, and the bytes after them.
+/// The coordinate of each flag, by the two bits that encode its delta, in the memory of a list that is spare, and the bytes after them.
 pub fn read_coordinates<'a>(
-    alloc: Global,
+    spare: Vec<i16>,
     short: u8,
     same: u8,
     flags: &[u8],
@@ -24,7 +23,9 @@ pub fn read_coordinates<'a>(
     ensures len { IfOk result (λ o. IfSome o (λ p. vec_len p.0 ≡ length flags.now)) }
     ensures err { IfErr result (λ e. e ≡ OutOfMemory) }
 {
-    let mut coordinates = Vec::with_capacity(alloc, flags.len().saturating_add(PHANTOM_POINTS))?;
+    let mut coordinates = spare;
+    coordinates.clear();
+    coordinates.reserve(flags.len().saturating_add(PHANTOM_POINTS))?;
     let mut before = 0;
     let mut rest = bytes;
     for flag in flags {

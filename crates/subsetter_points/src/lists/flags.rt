@@ -7,7 +7,6 @@ ghost use Rattle.subsetter_points.specs.Simple.{repeats_at, run_at, next, flags}
 
 use crate::lists::deltas::has;
 use crate::lists::front::read_byte;
-use std::alloc::Global;
 use subsetter_base::Error;
 
 /// The next byte is the number of additional times that the flag is to be repeated.
@@ -56,16 +55,18 @@ fn read_next(run: Run, bytes: &[u8]) -> Option<(Run, &[u8])>
     Some((rest_of_run, bytes))
 }
 
-/// The flags of so many points, and the bytes after them.
+/// The flags of so many points, in the memory of a list that is spare, and the bytes after them.
 pub fn read_flags(
-    alloc: Global,
+    spare: Vec<u8>,
     count: usize,
     bytes: &[u8],
 ) -> Result<Option<(Vec<u8>, &[u8])>, Error>
     ensures ok { IfOk result (λ o. option_map (λ p. (p.0.items, p.1.now)) o ≡ flags count (record { flag = 0; repeats = 0 }) bytes.now) }
     ensures err { IfErr result (λ e. e ≡ OutOfMemory) }
 {
-    let mut flags = Vec::with_capacity(alloc, count)?;
+    let mut flags = spare;
+    flags.clear();
+    flags.reserve(count)?;
     let mut run = Run {
         flag: 0,
         repeats: 0,

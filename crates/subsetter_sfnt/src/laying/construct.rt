@@ -74,13 +74,20 @@ fn search_range(count: u16) -> u16
     }
 }
 
-/// Writes kind, number of tables and the numbers for a search.
-#[tactic(auto, unfolding(crate::specs::Laying::Written::header_bytes))]
-fn write_header(out: &mut Vec<u8>, kind: u32, count: u16)
-    requires count { count < 16 }
-    requires room { length out.old.items + 12 ≤ vec_capacity out.old }
-    ensures items { out.new.items ≡ out.old.items ++ header_bytes kind count }
+/// Overwrites the bytes at an offset.
+fn patch_bytes(out: &mut Vec<u8>, at: usize, bytes: &[u8])
+    requires { at + length bytes.now ≤ length out.old.items }
+    ensures items { out.new.items ≡ take at out.old.items ++ bytes.now ++ drop (at + length bytes.now) out.old.items }
     ensures capacity { vec_capacity out.old ≤ vec_capacity out.new }
+{
+    out[at..at + bytes.len()].copy_from_slice(bytes);
+}
+
+/// Kind, number of tables and the numbers for a search.
+#[tactic(auto, unfolding(crate::specs::Laying::Written::header_bytes))]
+fn new_header(kind: u32, count: u16) -> [u8; 12]
+    requires { count < 16 }
+    ensures { result ≡ header_bytes kind count }
 {
     let range = search_range(count);
     let [a, b, c, d] = kind.to_be_bytes();
@@ -88,84 +95,69 @@ fn write_header(out: &mut Vec<u8>, kind: u32, count: u16)
     let [g, h] = range.to_be_bytes();
     let [i, j] = entry_selector(count).to_be_bytes();
     let [k, l] = (16 * count).saturating_sub(range).to_be_bytes();
-    put(out, &[a, b, c, d, e, f, g, h, i, j, k, l]);
+    [a, b, c, d, e, f, g, h, i, j, k, l]
 }
 
-/// Writes three words.
-fn write_words(out: &mut Vec<u8>, sum: u32, at: u32, len: u32)
-    requires room { length out.old.items + 12 ≤ vec_capacity out.old }
-    ensures items { out.new.items ≡ out.old.items ++ (to_be_bytes w32 sum ++ to_be_bytes w32 at ++ to_be_bytes w32 len) }
-    ensures capacity { vec_capacity out.old ≤ vec_capacity out.new }
+/// The record of a table that is at an offset.
+fn new_record<T: TableBytes>(at: u32, len: u32, sum: u32, table: &NewTable<T>) -> [u8; 16]
+    requires len { len ≡ length (view T.bytes_of table.now).bytes }
+    requires sum { sum ≡ checksum (view T.bytes_of table.now).bytes }
+    ensures { result ≡ record_bytes at (view T.bytes_of table.now) }
 {
+    let tag = table.tag.get();
     let [a, b, c, d] = sum.to_be_bytes();
     let [e, f, g, h] = at.to_be_bytes();
     let [i, j, k, l] = len.to_be_bytes();
-    put(out, &[a, b, c, d, e, f, g, h, i, j, k, l]);
+    [
+        tag[0], tag[1], tag[2], tag[3], a, b, c, d, e, f, g, h, i, j, k, l,
+    ]
 }
 
-/// Writes the record of a table that is at an offset.
-fn write_record<T: TableBytes>(
-    out: &mut Vec<u8>,
-    at: usize,
-    len: usize,
-    sum: u32,
-    table: &NewTable<T>,
-)
-    requires at { at < 2 ^ 32 }
-    requires len { (len ≡ length (view T.bytes_of table.now).bytes) × (len < 2 ^ 32) }
-    requires sum { sum ≡ checksum (view T.bytes_of table.now).bytes }
-    requires room { length out.old.items + 16 ≤ vec_capacity out.old }
-    ensures items { out.new.items ≡ out.old.items ++ record_bytes at (view T.bytes_of table.now) }
-    ensures capacity { vec_capacity out.old ≤ vec_capacity out.new }
-{
-    put(out, table.tag.get());
-    write_words(out, sum, at as u32, len as u32);
-}
-
-/// Writes a table, with zeros up to a multiple of four, and its record, and answers its checksum.
+/// Writes a table, with zeros up to a multiple of four, and its record in the place of other bytes, and answers its checksum.
 fn write_table<T: TableBytes>(
     out: &mut Vec<u8>,
-    front: &mut Vec<u8>,
+    place: usize,
     at: usize,
     table: &NewTable<T>,
 ) -> u32
     requires at { (at < 2 ^ 32) × (length (view T.bytes_of table.now).bytes < 2 ^ 32) }
     requires multiple { length out.old.items % 4 ≡ 0 }
     requires room { length out.old.items + length (aligned 4 (view T.bytes_of table.now).bytes) ≤ vec_capacity out.old }
-    requires front_room { length front.old.items + 16 ≤ vec_capacity front.old }
-    ensures items { out.new.items ≡ out.old.items ++ aligned 4 (view T.bytes_of table.now).bytes }
+    requires is_table { IsTable (view T.bytes_of table.now) }
+    requires place { place + 16 ≤ length out.old.items }
+    ensures record { take (place + 16) out.new.items ≡ take place out.old.items ++ record_bytes at (view T.bytes_of table.now) }
+    ensures items { drop (place + 16) out.new.items ≡ drop (place + 16) out.old.items ++ aligned 4 (view T.bytes_of table.now).bytes }
+    ensures len { length out.new.items ≡ length out.old.items + length (aligned 4 (view T.bytes_of table.now).bytes) }
     ensures capacity { vec_capacity out.old ≤ vec_capacity out.new }
-    ensures front_items { front.new.items ≡ front.old.items ++ record_bytes at (view T.bytes_of table.now) }
-    ensures front_capacity { vec_capacity front.old ≤ vec_capacity front.new }
     ensures sum { result ≡ checksum (view T.bytes_of table.now).bytes }
 {
     let sum = table.data.write_summed(out);
     align(out);
-    write_record(front, at, table.data.len(), sum, table);
+    let bytes = new_record(at as u32, table.data.len() as u32, sum, table);
+    patch_bytes(out, place, &bytes);
     sum
 }
 
-/// Writes tables, each with zeros up to a multiple of four, and the records of tables that are from an offset on.
-/// Answers the checksum of all the tables.
-fn write_tables<T: TableBytes>(
-    out: &mut Vec<u8>,
-    front: &mut Vec<u8>,
-    start: usize,
-    tables: &[NewTable<T>],
-) -> u32
+/// Writes tables, each with zeros up to a multiple of four, and their records in the place of other bytes, all of which are
+/// before an offset. Answers the checksum of all the tables.
+fn write_tables<T: TableBytes>(out: &mut Vec<u8>, start: usize, tables: &[NewTable<T>]) -> u32
     requires tables { AllByRecursion IsTable (views T.bytes_of tables.now) }
     requires fit { fits start (views T.bytes_of tables.now) ≡ true }
-    requires multiple { length out.old.items % 4 ≡ 0 }
+    requires start { start ≡ 12 + 16 * length tables.now }
+    requires few { length tables.now < 16 }
+    requires front { length out.old.items ≡ start }
     requires room { length out.old.items + length (body (views T.bytes_of tables.now)) ≤ vec_capacity out.old }
-    requires front_room { length front.old.items + 16 * length tables.now ≤ vec_capacity front.old }
-    ensures items { out.new.items ≡ out.old.items ++ body (views T.bytes_of tables.now) }
-    ensures front_items { front.new.items ≡ front.old.items ++ directory_bytes start (views T.bytes_of tables.now) }
+    ensures front { take start out.new.items ≡ take 12 out.old.items ++ directory_bytes start (views T.bytes_of tables.now) }
+    ensures items { drop start out.new.items ≡ body (views T.bytes_of tables.now) }
+    ensures len { start ≤ length out.new.items }
     ensures sum { result ≡ checksum (body (views T.bytes_of tables.now)) }
 {
+    let mut place = TABLE_RECORDS;
     let mut at = start;
     let mut sum: u32 = 0;
     for table in tables {
-        sum = sum.wrapping_add(write_table(out, front, at, table));
+        sum = sum.wrapping_add(write_table(out, place, at, table));
+        place += TABLE_RECORD_SIZE;
         at += aligned_len(table.data.len());
     }
     sum
@@ -198,7 +190,7 @@ fn adjust<T: TableBytes>(out: &mut Vec<u8>, start: usize, word: u32, tables: &[N
     }
 }
 
-/// Writes zeros for what is before the tables, which is patched later. At most 252 bytes: a header and 15 records.
+/// Writes zeros for what is before the tables, in whose place it is written later. At most 252 bytes: a header and 15 records.
 fn skip_front(out: &mut Vec<u8>, count: usize)
     requires few { count ≤ 252 }
     requires room { length out.old.items + count ≤ vec_capacity out.old }
@@ -208,39 +200,24 @@ fn skip_front(out: &mut Vec<u8>, count: usize)
     put(out, &[0; 252][..count]);
 }
 
-/// Overwrites the bytes at an offset.
-fn patch_bytes(out: &mut Vec<u8>, at: usize, bytes: &[u8])
-    requires { at + length bytes.now ≤ length out.old.items }
-    ensures { out.new.items ≡ take at out.old.items ++ bytes.now ++ drop (at + length bytes.now) out.old.items }
-{
-    out[at..at + bytes.len()].copy_from_slice(bytes);
-}
-
 /// Lays out a file in room that its caller reserved, also for what is before the tables. No memory is taken.
 /// Each table is summed as it is written.
-pub fn construct<T: TableBytes>(
-    out: Vec<u8>,
-    front: Vec<u8>,
-    flavor: FontFlavor,
-    tables: &[NewTable<T>],
-) -> Vec<u8>
+pub fn construct<T: TableBytes>(out: Vec<u8>, flavor: FontFlavor, tables: &[NewTable<T>]) -> Vec<u8>
     requires few { length tables.now < 16 }
     requires tables { AllByRecursion IsTable (views T.bytes_of tables.now) }
     requires fit { fits (start_of (views T.bytes_of tables.now)) (views T.bytes_of tables.now) ≡ true }
-    requires empty { (out.items ≡ []) × (front.items ≡ []) }
+    requires empty { out.items ≡ [] }
     requires room { length (file (kind_word flavor) (views T.bytes_of tables.now)) ≤ vec_capacity out }
-    requires front_room { start_of (views T.bytes_of tables.now) ≤ vec_capacity front }
     ensures { result.items ≡ file (kind_word flavor) (views T.bytes_of tables.now) }
 {
     let mut out = out;
-    let mut front = front;
     let start = TABLE_RECORDS + TABLE_RECORD_SIZE * tables.len();
     skip_front(&mut out, start);
-    write_header(&mut front, flavor.kind(), tables.len() as u16);
-    let tables_sum = write_tables(&mut out, &mut front, start, tables);
-    patch_bytes(&mut out, 0, &front);
+    let header = new_header(flavor.kind(), tables.len() as u16);
+    patch_bytes(&mut out, 0, &header);
+    let tables_sum = write_tables(&mut out, start, tables);
     // Each table begins at a multiple of four, so the sum of the file is that of its parts.
-    let sum = checksum(&front).wrapping_add(tables_sum);
+    let sum = checksum(&out[..start]).wrapping_add(tables_sum);
     adjust(&mut out, start, FILE_SUM.wrapping_sub(sum), tables);
     out
 }
@@ -272,7 +249,6 @@ pub fn finish<T: TableBytes>(
 {
     let size = file_size(tables)?;
     check_bound(size, bytes)?;
-    let front = Vec::with_capacity(alloc, TABLE_RECORDS + TABLE_RECORD_SIZE * tables.len())?;
     let out = Vec::with_capacity(alloc, size)?;
-    Ok(construct(out, front, flavor, tables))
+    Ok(construct(out, flavor, tables))
 }

@@ -54,16 +54,17 @@ fn flatten_within<'a, const N: usize>(
     subroutines: &Subroutines<'a>,
     limits: &Limits,
     charstring: &'a [u8],
+    rests: &mut FixedStack<&'a [u8], N>,
 ) -> Result<Vec<u8>, Error>
     requires few { N ≤ 255 }
     requires room { limits.now.depth ≤ N }
     ensures { GivesWithin (λ all. all.items) limits.now.bytes length result (behind bytes.items (flat_form (library_of subroutines.now) limits.now.tokens limits.now.depth charstring.now)) }
 {
     let mut machine = Machine::new(Output::behind(bytes));
-    let mut rests: FixedStack<&'a [u8], N> = FixedStack::new(charstring);
+    rests.clear();
     let mut running = charstring;
     let mut tokens = limits.tokens;
-    while let Some(current) = innermost(running, &mut rests) {
+    while let Some(current) = innermost(running, rests) {
         let stretch = machine
             .output
             .take_stretch(current, tokens, machine.mask_len)?;
@@ -78,23 +79,26 @@ fn flatten_within<'a, const N: usize>(
             }
             tokens -= 1;
             let flow = machine.act_at(subroutines, running)?;
-            running = follow(&mut rests, flow, limits.depth)?;
+            running = follow(rests, flow, limits.depth)?;
         }
     }
     Ok(machine.output.finish())
 }
 
-/// The flat form of a charstring behind these bytes. `OverflowError` where all of these pass the bound.
+/// The flat form of a charstring behind these bytes. `OverflowError` where all of these pass the bound. What is left of callers
+/// goes into a stack, whatever it held, where it has room for them.
 pub fn flatten_behind<'a>(
     bytes: Vec<u8>,
     subroutines: &Subroutines<'a>,
     limits: &Limits,
     charstring: &'a [u8],
+    rests: &mut FixedStack<&'a [u8], 64>,
 ) -> Result<Vec<u8>, Error>
     ensures { GivesWithin (λ all. all.items) limits.now.bytes length result (behind bytes.items (flat_form (library_of subroutines.now) limits.now.tokens limits.now.depth charstring.now)) }
 {
     if limits.depth() <= 64 {
-        return flatten_within::<64>(bytes, subroutines, limits, charstring);
+        return flatten_within::<64>(bytes, subroutines, limits, charstring, rests);
     }
-    flatten_within::<255>(bytes, subroutines, limits, charstring)
+    let mut more: FixedStack<&'a [u8], 255> = FixedStack::new(charstring);
+    flatten_within::<255>(bytes, subroutines, limits, charstring, &mut more)
 }

@@ -2,7 +2,7 @@
 use Rattle.std.specs.List.{range_with_len}
 use Rattle.std.proofs.lemmas.List.FromFn.{map-range_with_len_more}
 use Rattle.std.proofs.Common.{map, slice_get, ◌++◌, ◌≡◌, ◌≢◌, ℕ, ◌+◌, ◌<◌, ◌≤◌, List, [], ◌∷◌, length, get_or, drop, Option, Some, None, ℤ, pos, Bool, true, false, nat_eq, cond, refl, ap, ◌∙◌, sym, inl, inr, arith, slice_set, get_or-set_other}
-use Rattle.std.proofs.lemmas.List.{drop_more, drop_all, length-set}
+use Rattle.std.proofs.lemmas.List.{drop_more, drop_all, set_past}
 use Rattle.std.proofs.lemmas.Bool.{cases_lt, eqb-true, eqb-false, ne_eqb}
 use Rattle.std.proofs.lemmas.Grind.{get_or-set_at}
 use Rattle.subsetter_variation.specs.Glyphs.Varied.{delta_of, listed_delta}
@@ -28,16 +28,10 @@ set_at true xs number d k lt e = let same : k ≡ number = sym (eqb-true number 
 set_at false xs number d k lt e = let other : k ≢ number = (λ h. eqb-false number k e (sym h)) in get_or-set_other xs number k (Some d) None other
 
 -- the deltas after one was listed
-pub set_step : (xs ys : List (Option ℤ)) (number : ℕ) (d : ℤ) (k : ℕ) → k < length xs → (number < length xs → ys ≡ slice_set xs number (Some d)) → (length xs ≤ number → ys ≡ xs) → get_or ys k None ≡ cond (nat_eq number k) (Some d) (get_or xs k None)
-set_step xs ys number d k lt inside outside = elim (cases_lt number (length xs)) [
-  | inl h ↦ ap (λ zs. get_or zs k None) (inside h) ∙ set_at (nat_eq number k) xs number d k h refl
-  | inr h ↦ ap (λ zs. get_or zs k None) (outside h) ∙ sym (ap (λ b. cond b (Some d) (get_or xs k None)) (ne_eqb number k (λ e. omega arith)))
-]
-
-pub set_length : (xs ys : List (Option ℤ)) (number : ℕ) (d : ℤ) → (number < length xs → ys ≡ slice_set xs number (Some d)) → (length xs ≤ number → ys ≡ xs) → length ys ≡ length xs
-set_length xs ys number d inside outside = elim (cases_lt number (length xs)) [
-  | inl h ↦ ap length (inside h) ∙ length-set xs number (Some d)
-  | inr h ↦ ap length (outside h)
+pub set_step : (xs ys : List (Option ℤ)) (number : ℕ) (d : ℤ) (k : ℕ) → k < length xs → ys ≡ slice_set xs number (Some d) → get_or ys k None ≡ cond (nat_eq number k) (Some d) (get_or xs k None)
+set_step xs ys number d k lt e = elim (cases_lt number (length xs)) [
+  | inl h ↦ ap (λ zs. get_or zs k None) e ∙ set_at (nat_eq number k) xs number d k h refl
+  | inr h ↦ ap (λ zs. get_or zs k None) (e ∙ set_past xs number (Some d) h) ∙ sym (ap (λ b. cond b (Some d) (get_or xs k None)) (ne_eqb number k (λ q. omega arith)))
 ]
 
 -- the deltas of all points, one more

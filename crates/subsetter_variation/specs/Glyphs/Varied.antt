@@ -36,6 +36,17 @@ deltas_by_point n numbers deltas = map (delta_of numbers deltas) (range_with_len
 abbrev pub points : List ℤ → List (Option ℤ) → List Point
 points coordinates deltas = map (λ p. record { at = p.0; delta = p.1 }) (zip coordinates deltas)
 
+-- the same before a tuple gives any of them a delta
+abbrev pub untouched : List ℤ → List Point
+untouched coordinates = map (λ x. record { at = x; delta = None }) coordinates
+
+-- where points lie, and the deltas that they have
+abbrev pub ats_of : List Point → List ℤ
+ats_of ps = map (λ p. p.at) ps
+
+abbrev pub deltas_of : List Point → List (Option ℤ)
+deltas_of ps = map (λ p. p.delta) ps
+
 -- the sums of the points, and what a tuple moves each by on top: always from the coordinates of the default outline
 abbrev pub added : List ℤ → List ℕ → List (Option ℤ) → ℤ → List ℤ → List ℤ
 added coordinates ends deltas scalar sums = map (λ k. slice_index_or sums k (pos 0) +ℤ moved_in (points coordinates deltas) 0 ends k scalar) (range_with_len 0 (length sums))

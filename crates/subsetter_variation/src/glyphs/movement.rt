@@ -13,6 +13,8 @@ ghost use Rattle.subsetter_base.specs.declared.error.Error.TheVariants.{Malforme
 ghost use Rattle.subsetter_variation.specs.Glyphs.Movement.{AreWithin, IsOutline, IsWithin, spent, moved_by, counted_walk, next_walk, walk_all, start, moved_in_bytes, moved_points};
 ghost use Rattle.subsetter_variation.specs.Glyphs.Tuples.{both_deltas, count_of};
 
+use crate::glyphs::inference::Point;
+use crate::glyphs::spare::{SpareLists, keep_numbers};
 use crate::glyphs::tuples::{
     Gvar, TupleHeader, TupleHeaders, both_deltas, count_of, next_header, shared_numbers,
     tuple_headers,
@@ -96,6 +98,7 @@ pub fn spent(n: usize, steps: u32) -> Result<u32, Error>
 /// The points moved by one tuple, and these steps left.
 fn moved_by<'a>(
     alloc: Global,
+    spare: &mut Vec<Point>,
     o: &Outline<'_>,
     scalar: i64,
     numbers: &Option<Vec<u32>>,
@@ -116,8 +119,8 @@ fn moved_by<'a>(
         headers,
         ..
     } = w;
-    let xs = added(alloc, o.xs, o.ends, numbers, dx, scalar, xs)?;
-    let ys = added(alloc, o.ys, o.ends, numbers, dy, scalar, ys)?;
+    let xs = added(alloc, spare, o.xs, o.ends, numbers, dx, scalar, xs)?;
+    let ys = added(alloc, spare, o.ys, o.ends, numbers, dy, scalar, ys)?;
     Ok(Walk {
         xs,
         ys,
@@ -160,6 +163,7 @@ fn moved_by_each<'a>(
 /// The points moved by a tuple with these point numbers, none for all, and deltas, whose bytes these are, and these steps left.
 fn moved_by_packed<'a>(
     alloc: Global,
+    lists: &mut SpareLists,
     o: &Outline<'_>,
     scalar: i64,
     numbers: &Option<Vec<u32>>,
@@ -176,8 +180,14 @@ fn moved_by_packed<'a>(
     match numbers {
         None => moved_by_each(o, scalar, bytes, left, w).ok_or(Error::MalformedFont),
         Some(_) => {
-            let (dx, dy) = both_deltas(alloc, count_of(o.count() as u32, numbers), bytes)?;
-            Ok(moved_by(alloc, o, scalar, numbers, &dx, &dy, left, w)?)
+            let dx = lists.take_dx(alloc);
+            let dy = lists.take_dy(alloc);
+            let (dx, dy) = both_deltas(dx, dy, count_of(o.count() as u32, numbers), bytes)?;
+            let points = &mut lists.points;
+            let moved = moved_by(alloc, points, o, scalar, numbers, &dx, &dy, left, w)?;
+            lists.dx = dx;
+            lists.dy = dy;
+            Ok(moved)
         }
     }
 }
@@ -186,6 +196,7 @@ fn moved_by_packed<'a>(
 #[tactic(auto, unfolding(crate::specs::Glyphs::Movement::counted_walk, crate::specs::Glyphs::Tuples::tuple_of, crate::specs::Glyphs::Tuples::numbers_and_deltas))]
 fn counted_walk<'a>(
     alloc: Global,
+    lists: &mut SpareLists,
     o: &Outline<'_>,
     shared: &Option<Vec<u32>>,
     scalar: i64,
@@ -201,10 +212,12 @@ fn counted_walk<'a>(
     let n = o.count();
     let left = spent(n, w.steps())?;
     if h.has_private_numbers() {
-        let (numbers, rest) = point_numbers(alloc, n as u32, h.packed())?;
-        moved_by_packed(alloc, o, scalar, &numbers, rest, left, w)
+        let (numbers, rest) = point_numbers(alloc, &mut lists.numbers, n as u32, h.packed())?;
+        let moved = moved_by_packed(alloc, lists, o, scalar, &numbers, rest, left, w);
+        keep_numbers(&mut lists.numbers, numbers);
+        moved
     } else {
-        moved_by_packed(alloc, o, scalar, shared, h.packed(), left, w)
+        moved_by_packed(alloc, lists, o, scalar, shared, h.packed(), left, w)
     }
 }
 
@@ -212,6 +225,7 @@ fn counted_walk<'a>(
 #[tactic(auto, unfolding(crate::specs::Glyphs::Movement::next_walk))]
 fn next_walk<'a>(
     alloc: Global,
+    lists: &mut SpareLists,
     t: &Gvar<'a>,
     o: &Outline<'_>,
     shared: &Option<Vec<u32>>,
@@ -242,7 +256,7 @@ fn next_walk<'a>(
     if s == 0 {
         Ok(w)
     } else {
-        counted_walk(alloc, o, shared, s, header, w)
+        counted_walk(alloc, lists, o, shared, s, header, w)
     }
 }
 
@@ -250,6 +264,7 @@ fn next_walk<'a>(
 #[tactic(auto, using(crate::proofs::GlyphsLaws::Walks::walk_step, crate::proofs::GlyphsLaws::Walks::walk_cut, crate::proofs::GlyphsLaws::Walks::walk_end))]
 fn walk_all<'a>(
     alloc: Global,
+    lists: &mut SpareLists,
     t: &Gvar<'a>,
     o: &Outline<'_>,
     shared: &Option<Vec<u32>>,
@@ -266,7 +281,7 @@ fn walk_all<'a>(
     let count = w.left();
     let mut w = w;
     for i in 0..count {
-        w = next_walk(alloc, t, o, shared, at, w)?;
+        w = next_walk(alloc, lists, t, o, shared, at, w)?;
     }
     Ok(w)
 }
@@ -274,6 +289,7 @@ fn walk_all<'a>(
 /// The points before the first tuple.
 fn start<'a>(
     alloc: Global,
+    lists: &mut SpareLists,
     o: &Outline<'_>,
     steps: u32,
     headers: TupleHeaders<'a>,
@@ -282,8 +298,8 @@ fn start<'a>(
     ensures value { IfOk result (λ w. w ≡ start o.now steps headers.entry) }
     ensures bound { IfOk result (λ w. IsWithin (2 ^ 45) o.now w) }
 {
-    let xs = in_units(alloc, o.xs)?;
-    let ys = in_units(alloc, o.ys)?;
+    let xs = in_units(lists.take_xs(alloc), o.xs)?;
+    let ys = in_units(lists.take_ys(alloc), o.ys)?;
     Ok(Walk {
         xs,
         ys,
@@ -296,6 +312,7 @@ fn start<'a>(
 #[tactic(auto, unfolding(crate::specs::Glyphs::Movement::moved_in_bytes))]
 fn moved_in_bytes<'a>(
     alloc: Global,
+    lists: &mut SpareLists,
     t: &Gvar<'a>,
     o: &Outline<'_>,
     at: &[i32],
@@ -309,9 +326,10 @@ fn moved_in_bytes<'a>(
 {
     let n = o.count() as u32;
     let (is_shared, headers) = tuple_headers(bytes).ok_or(Error::MalformedFont)?;
-    let (shared, headers) = shared_numbers(alloc, n, is_shared, headers)?;
-    let w = start(alloc, o, steps, headers)?;
-    let Walk { xs, ys, steps, .. } = walk_all(alloc, t, o, &shared, at, w)?;
+    let (shared, headers) = shared_numbers(alloc, &mut lists.shared, n, is_shared, headers)?;
+    let w = start(alloc, lists, o, steps, headers)?;
+    let Walk { xs, ys, steps, .. } = walk_all(alloc, lists, t, o, &shared, at, w)?;
+    keep_numbers(&mut lists.shared, shared);
     Ok((xs, ys, steps))
 }
 
@@ -321,6 +339,7 @@ fn moved_in_bytes<'a>(
 #[tactic(auto, unfolding(crate::specs::Glyphs::Movement::moved_points))]
 pub fn moved_points(
     alloc: Global,
+    lists: &mut SpareLists,
     t: &Gvar<'_>,
     glyph: u16,
     o: &Outline<'_>,
@@ -334,7 +353,9 @@ pub fn moved_points(
 {
     let bytes = t.variations_of(glyph).ok_or(Error::MalformedFont)?;
     if bytes.is_empty() {
-        return Ok((in_units(alloc, o.xs)?, in_units(alloc, o.ys)?, steps));
+        let xs = in_units(lists.take_xs(alloc), o.xs)?;
+        let ys = in_units(lists.take_ys(alloc), o.ys)?;
+        return Ok((xs, ys, steps));
     }
-    moved_in_bytes(alloc, t, o, at, steps, bytes)
+    moved_in_bytes(alloc, lists, t, o, at, steps, bytes)
 }

@@ -330,15 +330,20 @@ pub fn next_header<'a>(
     ))
 }
 
-/// The deltas of x and those of y, one for each of so many points.
+/// The deltas of x and those of y, one for each of so many points, in the memory of lists that are spare.
 #[tactic(auto, unfolding(crate::specs::Glyphs::Tuples::both_deltas))]
-pub fn both_deltas(alloc: Global, n: usize, bytes: &[u8]) -> Result<(Vec<i16>, Vec<i16>), Error>
+pub fn both_deltas(
+    spare_x: Vec<i16>,
+    spare_y: Vec<i16>,
+    n: usize,
+    bytes: &[u8],
+) -> Result<(Vec<i16>, Vec<i16>), Error>
     ensures exact { Gives (λ r. (r.0.items, r.1.items)) result (ok_or (both_deltas n bytes.now) MalformedFont) }
     ensures x_count { IfOk result (λ r. length r.0.items ≡ n) }
     ensures y_count { IfOk result (λ r. length r.1.items ≡ n) }
 {
-    let (x, rest) = deltas(alloc, n, bytes)?;
-    let (y, _) = deltas(alloc, n, rest)?;
+    let (x, rest) = deltas(spare_x, n, bytes)?;
+    let (y, _) = deltas(spare_y, n, rest)?;
     Ok((x, y))
 }
 
@@ -361,15 +366,18 @@ pub fn numbers_and_deltas(
 ) -> Result<(Option<Vec<u32>>, Vec<i16>, Vec<i16>), Error>
     ensures { Gives (λ r. (option_map (λ v. v.items) r.0, r.1.items, r.2.items)) result (ok_or (numbers_and_deltas limit bytes.now) MalformedFont) }
 {
-    let (numbers, rest) = point_numbers(alloc, limit, bytes)?;
-    let (x, y) = both_deltas(alloc, count_of(limit, &numbers), rest)?;
+    let mut spare = Vec::new(alloc);
+    let (numbers, rest) = point_numbers(alloc, &mut spare, limit, bytes)?;
+    let count = count_of(limit, &numbers);
+    let (x, y) = both_deltas(Vec::new(alloc), Vec::new(alloc), count, rest)?;
     Ok((numbers, x, y))
 }
 
-/// The point numbers that the tuples share, none for all, and the tuples.
+/// The point numbers that the tuples share, none for all, in the memory of a list that is spare, and the tuples.
 #[tactic(auto, unfolding(crate::specs::Glyphs::Tuples::shared_numbers))]
 pub fn shared_numbers<'a>(
     alloc: Global,
+    spare: &mut Vec<u32>,
     limit: u32,
     is_shared: bool,
     r: TupleHeaders<'a>,
@@ -378,7 +386,7 @@ pub fn shared_numbers<'a>(
     ensures left { IfOk result (λ x. x.1.left ≡ r.entry.left) }
 {
     if is_shared {
-        let (numbers, rest) = point_numbers(alloc, limit, r.serialized())?;
+        let (numbers, rest) = point_numbers(alloc, spare, limit, r.serialized())?;
         Ok((numbers, r.with_serialized(rest)))
     } else {
         Ok((None, r))

@@ -15,6 +15,7 @@ ghost use Rattle.subsetter_base.specs.Bytes.{byte};
 
 use std::alloc::Global;
 use std::marker::Model;
+use std::mem;
 use subsetter_base::Error;
 
 /// The flags of a run of deltas: all are 0, and it has no bytes.
@@ -197,13 +198,16 @@ fn ended<'a>(r: Run<'a>) -> Option<&'a [u8]>
     if r.left == 0 { Some(r.bytes) } else { None }
 }
 
-/// That many deltas, and the bytes behind them. A cut list, or a run that is longer than it, is `MalformedFont`.
+/// That many deltas, in the memory of a list that is spare, and the bytes behind them. A cut list, or a run that is longer than it, is
+/// `MalformedFont`.
 #[tactic(auto, using(crate::proofs::PackingLaws::Runs::deltas_step, crate::proofs::PackingLaws::Runs::deltas_cut, crate::proofs::PackingLaws::Runs::deltas_end), unfolding(crate::specs::Packing::Packed::deltas))]
-pub fn deltas(alloc: Global, n: usize, bytes: &[u8]) -> Result<(Vec<i16>, &[u8]), Error>
+pub fn deltas(spare: Vec<i16>, n: usize, bytes: &[u8]) -> Result<(Vec<i16>, &[u8]), Error>
     ensures exact { Gives (λ r. (r.0.items, r.1.now)) result (ok_or (deltas n bytes.now) MalformedFont) }
     ensures count { IfOk result (λ r. length r.0.items ≡ n) }
 {
-    let mut list = Vec::with_capacity(alloc, n)?;
+    let mut list = spare;
+    list.clear();
+    list.reserve(n)?;
     let mut run = runs(bytes);
     for i in 0..n {
         let (delta, next) = next_delta(run).ok_or(Error::MalformedFont)?;
@@ -214,10 +218,10 @@ pub fn deltas(alloc: Global, n: usize, bytes: &[u8]) -> Result<(Vec<i16>, &[u8])
     Ok((list, rest))
 }
 
-/// So many numbers, which ascend and are below the limit, and the bytes behind them.
+/// So many numbers, which ascend and are below the limit, in the memory of a list that is spare, and the bytes behind them.
 #[tactic(auto, using(crate::proofs::PackingLaws::Runs::points_step, crate::proofs::PackingLaws::Runs::points_cut, crate::proofs::PackingLaws::Runs::points_end))]
 fn points_from(
-    alloc: Global,
+    spare: Vec<u32>,
     limit: u32,
     count: u16,
     bytes: &[u8],
@@ -225,7 +229,9 @@ fn points_from(
     ensures exact { Gives (λ r. (r.0.items, r.1.now)) result (ok_or (points_from limit count 0 0 (runs bytes.now)) MalformedFont) }
     ensures below { IfOk result (λ r. All (λ x. x < limit) r.0.items) }
 {
-    let mut list = Vec::with_capacity(alloc, usize::from(count))?;
+    let mut list = spare;
+    list.clear();
+    list.reserve(usize::from(count))?;
     let mut run = runs(bytes);
     let mut before = 0;
     let mut least = 0;
@@ -240,14 +246,15 @@ fn points_from(
     Ok((list, rest))
 }
 
-/// The points that deltas are given for, none for all, and the bytes behind them. A cut list, a run that is longer than it,
-/// or a number that is given twice or isn't below the limit is `MalformedFont`.
+/// The points that deltas are given for, none for all, in the memory of a list that is spare, and the bytes behind them. A cut list, a
+/// run that is longer than it, or a number that is given twice or isn't below the limit is `MalformedFont`.
 #[tactic(auto, unfolding(crate::specs::Packing::Packed::point_numbers))]
-pub fn point_numbers(
+pub fn point_numbers<'a>(
     alloc: Global,
+    spare: &mut Vec<u32>,
     limit: u32,
-    bytes: &[u8],
-) -> Result<(Option<Vec<u32>>, &[u8]), Error>
+    bytes: &'a [u8],
+) -> Result<(Option<Vec<u32>>, &'a [u8]), Error>
     ensures exact { Gives (λ r. (option_map (λ v. v.items) r.0, r.1.now)) result (ok_or (point_numbers limit bytes.now) MalformedFont) }
     ensures below { IfOk result (λ r. IfSome r.0 (λ v. All (λ x. x < limit) v.items)) }
 {
@@ -255,6 +262,7 @@ pub fn point_numbers(
     if count == 0 {
         return Ok((None, first));
     }
-    let (numbers, rest) = points_from(alloc, limit, count, first)?;
+    let list = mem::replace(spare, Vec::new(alloc));
+    let (numbers, rest) = points_from(list, limit, count, first)?;
     Ok((Some(numbers), rest))
 }

@@ -139,7 +139,6 @@ pub fn after_four(bytes: &[u8]) -> &[u8] {
 }
 
 /// The bytes between two offsets.
-#[cfg(feature = "variable-fonts")]
 pub fn between_offsets(bytes: &[u8], from: usize, to: usize) -> Option<&[u8]> {
     if from <= to {
         Reader::new_at(bytes, from).read_bytes(to - from)

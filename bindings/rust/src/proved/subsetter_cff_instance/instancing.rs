@@ -27,7 +27,7 @@ struct Prepared<'a> {
     at: Vec<i32>,
     source: Source<'a>,
     metrics: Vec<LongHorMetric>,
-    lines: Lines,
+    lines: Lines<'a>,
 }
 
 /// Reads that.

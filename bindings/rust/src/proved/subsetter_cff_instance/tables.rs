@@ -130,7 +130,7 @@ pub fn laid(
     alloc: Global,
     face: &Face<'_>,
     source: &Source<'_>,
-    lines: &Lines,
+    lines: &Lines<'_>,
     _mapper: &GlyphRemapper,
     metrics: &[LongHorMetric],
     all: &[Option<LongHorMetric>],

@@ -4,7 +4,6 @@
 use crate::rattle::prelude::Vec;
 
 use crate::proved::subsetter_base::compare::{larger, smaller};
-use crate::proved::subsetter_base::Error;
 use crate::proved::subsetter_points::outline::Point;
 use crate::rattle::alloc::AllocError;
 
@@ -33,7 +32,7 @@ fn with_point(bounds: Bounds, point: Point) -> Bounds {
 }
 
 /// The least box around a point and others.
-pub fn box_around(first: Point, rest: &[Point]) -> Bounds {
+fn box_around(first: Point, rest: &[Point]) -> Bounds {
     let mut bounds = Bounds {
         x_min: first.x,
         y_min: first.y,
@@ -46,13 +45,17 @@ pub fn box_around(first: Point, rest: &[Point]) -> Bounds {
     bounds
 }
 
-/// The least x of a point's, `first`, and of others.
-pub fn least_x(first: i16, rest: &[Point]) -> i16 {
-    let mut least = first;
-    for point in rest {
-        least = smaller(least, point.x);
+/// The least box around points, at 0 without points.
+pub fn bounds_of(points: &[Point]) -> Bounds {
+    match points {
+        [first, rest @ ..] => box_around(*first, rest),
+        [] => Bounds {
+            x_min: 0,
+            y_min: 0,
+            x_max: 0,
+            y_max: 0,
+        },
     }
-    least
 }
 
 /// xMin, yMin, xMax and yMax.
@@ -65,12 +68,6 @@ pub fn bounds_bytes(bounds: Bounds) -> [u8; 8] {
 }
 
 /// Appends xMin, yMin, xMax and yMax.
-fn write_bounds(out: &mut Vec<u8>, bounds: Bounds) -> Result<(), AllocError> {
+pub fn write_bounds(out: &mut Vec<u8>, bounds: Bounds) -> Result<(), AllocError> {
     out.extend_from_slice(&bounds_bytes(bounds))
-}
-
-/// Writes the bounding box of a point and others.
-pub fn write_box(out: &mut Vec<u8>, first: Point, rest: &[Point]) -> Result<(), Error> {
-    write_bounds(out, box_around(first, rest))?;
-    Ok(())
 }

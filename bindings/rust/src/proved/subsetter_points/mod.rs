@@ -4,7 +4,7 @@
 //!
 //! - `read_simple` reads the [`Outline`] of a simple glyph: its points, and the last point of each contour.
 //! - [`read_columns`] reads the same as [`Columns`]: the flags and the coordinates, not joined.
-//! - [`fits`] is whether an outline can be written, and [`write_simple`] appends its bytes.
+//! - [`fits`] is whether an outline can be written, and `write_simple` appends its bytes, as [`write_bounded`] does where the box around its points is known.
 //!
 //! ```text
 //! let Some(mut outline) = read_simple(alloc, glyph)? else { return Err(Error::MalformedFont) };
@@ -29,7 +29,7 @@ mod reading;
 mod writing;
 
 #[cfg(feature = "variable-fonts")]
-pub use bounds::{bounds_bytes, box_around, least_x, Bounds};
+pub use bounds::{bounds_bytes, bounds_of, Bounds};
 #[cfg(feature = "variable-fonts")]
 pub use list_bytes::fitting::fits;
 #[cfg(feature = "variable-fonts")]
@@ -37,4 +37,4 @@ pub use outline::{Columns, Outline, Point};
 #[cfg(feature = "variable-fonts")]
 pub use reading::read_columns;
 #[cfg(feature = "variable-fonts")]
-pub use writing::write_simple;
+pub use writing::write_bounded;

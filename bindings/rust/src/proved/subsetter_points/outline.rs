@@ -3,8 +3,6 @@
 
 use crate::rattle::prelude::Vec;
 
-use crate::rattle::alloc::Global;
-
 /// A point of an outline, in font design units.
 #[derive(Clone, Copy, Debug, PartialEq, Eq)]
 pub struct Point {
@@ -58,13 +56,13 @@ pub struct Columns {
 }
 
 impl Columns {
-    /// Those of an outline without points.
-    pub fn new(alloc: Global) -> Self {
-        Self {
-            ends: Vec::new(alloc),
-            flags: Vec::new(alloc),
-            xs: Vec::new(alloc),
-            ys: Vec::new(alloc),
-        }
+    /// The same lists without what they hold.
+    pub fn emptied(self) -> Self {
+        let mut columns = self;
+        columns.ends.clear();
+        columns.flags.clear();
+        columns.xs.clear();
+        columns.ys.clear();
+        columns
     }
 }

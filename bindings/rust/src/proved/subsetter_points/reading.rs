@@ -26,20 +26,22 @@ use crate::rattle::alloc::Global;
 /// The most contours of a simple glyph: `numberOfContours` is an int16, and below 0 for a composite glyph.
 const MOST_CONTOURS: u16 = 0x7FFF;
 
-/// The flags, the x coordinates and the y coordinates of so many points.
+/// The flags, the x coordinates and the y coordinates of so many points, in the memory of lists that are spare.
 fn read_points(
-    alloc: Global,
+    spare_flags: Vec<u8>,
+    spare_xs: Vec<i16>,
+    spare_ys: Vec<i16>,
     count: usize,
     bytes: &[u8],
 ) -> Result<Option<(Vec<u8>, Vec<i16>, Vec<i16>)>, Error> {
-    let (flags, rest) = match read_flags(alloc, count, bytes)? {
+    let (flags, rest) = match read_flags(spare_flags, count, bytes)? {
         Some((flags, rest)) => (flags, rest),
         _ => {
             return Ok(None);
         }
     };
     let (xs, rest) = match read_coordinates(
-        alloc,
+        spare_xs,
         X_SHORT_VECTOR,
         X_IS_SAME_OR_POSITIVE_X_SHORT_VECTOR,
         &flags,
@@ -51,7 +53,7 @@ fn read_points(
         }
     };
     let ys = match read_coordinates(
-        alloc,
+        spare_ys,
         Y_SHORT_VECTOR,
         Y_IS_SAME_OR_POSITIVE_Y_SHORT_VECTOR,
         &flags,
@@ -72,7 +74,12 @@ fn read_body(bytes: &[u8]) -> Option<&[u8]> {
 }
 
 /// The last points of so many contours, the instructions, which are passed over, and the points.
-fn read_parts(alloc: Global, contours: u16, bytes: &[u8]) -> Result<Option<Columns>, Error> {
+fn read_parts(
+    alloc: Global,
+    spare: Columns,
+    contours: u16,
+    bytes: &[u8],
+) -> Result<Option<Columns>, Error> {
     let (ends, rest) = match read_ends(alloc, contours, bytes)? {
         Some((ends, rest)) => (ends, rest),
         _ => {
@@ -85,7 +92,8 @@ fn read_parts(alloc: Global, contours: u16, bytes: &[u8]) -> Result<Option<Colum
             return Ok(None);
         }
     };
-    let (flags, xs, ys) = match read_points(alloc, count(&ends), body)? {
+    let Columns { flags, xs, ys, .. } = spare;
+    let (flags, xs, ys) = match read_points(flags, xs, ys, count(&ends), body)? {
         Some((flags, xs, ys)) => (flags, xs, ys),
         _ => {
             return Ok(None);
@@ -100,11 +108,16 @@ fn read_parts(alloc: Global, contours: u16, bytes: &[u8]) -> Result<Option<Colum
 }
 
 /// The last points of contours and the points, by what follows the header; none where there are no contours.
-fn read_description(alloc: Global, contours: u16, bytes: &[u8]) -> Result<Option<Columns>, Error> {
+fn read_description(
+    alloc: Global,
+    spare: Columns,
+    contours: u16,
+    bytes: &[u8],
+) -> Result<Option<Columns>, Error> {
     if contours == 0 {
-        return Ok(Some(Columns::new(alloc)));
+        return Ok(Some(spare.emptied()));
     }
-    read_parts(alloc, contours, bytes)
+    read_parts(alloc, spare, contours, bytes)
 }
 
 /// The number of contours, if it isn't that of a composite glyph, and the bytes after the header.
@@ -117,10 +130,11 @@ fn read_header(bytes: &[u8]) -> Option<(u16, &[u8])> {
     Some((contours, rest))
 }
 
-/// What `read_simple` reads, before the points are joined. Four more coordinates have room behind those of the points.
-pub fn read_columns(alloc: Global, bytes: &[u8]) -> Result<Option<Columns>, Error> {
+/// What `read_simple` reads, before the points are joined. Flags and coordinates stand in the memory of columns that are spare, whose
+/// contents don't count. Four more coordinates have room behind those of the points.
+pub fn read_columns(alloc: Global, spare: Columns, bytes: &[u8]) -> Result<Option<Columns>, Error> {
     if bytes.is_empty() {
-        return Ok(Some(Columns::new(alloc)));
+        return Ok(Some(spare.emptied()));
     }
     let (contours, rest) = match read_header(bytes) {
         Some((contours, rest)) => (contours, rest),
@@ -128,5 +142,5 @@ pub fn read_columns(alloc: Global, bytes: &[u8]) -> Result<Option<Columns>, Erro
             return Ok(None);
         }
     };
-    read_description(alloc, contours, rest)
+    read_description(alloc, spare, contours, rest)
 }

@@ -9,20 +9,25 @@
 use crate::rattle::prelude::Vec;
 
 use crate::proved::subsetter_base::Error;
-use crate::proved::subsetter_points::bounds::write_box;
+use crate::proved::subsetter_points::bounds::{write_bounds, Bounds};
 use crate::proved::subsetter_points::list_bytes::delta_bytes::write_deltas;
 use crate::proved::subsetter_points::list_bytes::end_bytes::write_ends;
 use crate::proved::subsetter_points::list_bytes::flag_bytes::write_flags;
 use crate::proved::subsetter_points::outline::{Column, Outline, Point};
 
-/// Writes points as a simple glyph description, by the last points of their contours.
-fn write_parts(out: &mut Vec<u8>, ends: &[u16], points: &[Point]) -> Result<(), Error> {
+/// Writes points as a simple glyph description, by the last points of their contours and the box around them.
+fn write_parts(
+    out: &mut Vec<u8>,
+    ends: &[u16],
+    points: &[Point],
+    bounds: Bounds,
+) -> Result<(), Error> {
     if points.is_empty() {
         return Ok(());
     }
     let contours = ends.len() as u16;
     out.extend_from_slice(&contours.to_be_bytes())?;
-    write_box(out, points[0], &points[1..])?;
+    write_bounds(out, bounds)?;
     write_ends(out, ends)?;
     out.extend_from_slice(&[0, 0])?;
     write_flags(out, points)?;
@@ -31,7 +36,8 @@ fn write_parts(out: &mut Vec<u8>, ends: &[u16], points: &[Point]) -> Result<(), 
     Ok(())
 }
 
-/// Appends the simple glyph description of an outline that [`fits`](crate::fits) to bytes; nothing where it has no points.
-pub fn write_simple(out: &mut Vec<u8>, outline: &Outline) -> Result<(), Error> {
-    write_parts(out, &outline.ends, &outline.points)
+/// Appends the simple glyph description of an outline that [`fits`](crate::fits) to bytes, by the box around its points; nothing where
+/// it has no points.
+pub fn write_bounded(out: &mut Vec<u8>, outline: &Outline, bounds: Bounds) -> Result<(), Error> {
+    write_parts(out, &outline.ends, &outline.points, bounds)
 }

@@ -3,11 +3,11 @@
 
 use crate::proved::subsetter_base::read::Reader;
 use crate::proved::subsetter_base::Tag;
+use crate::proved::subsetter_sfnt::face::{
+    record_in, tag_in, TableRecord, NUM_TABLES, TABLE_RECORDS, TABLE_RECORD_SIZE,
+};
 #[cfg(feature = "program")]
 use crate::proved::subsetter_sfnt::face::{FontKind, TABLE_DIRECTORY_OFFSETS};
-use crate::proved::subsetter_sfnt::face::{
-    TableRecord, NUM_TABLES, TABLE_RECORDS, TABLE_RECORD_SIZE,
-};
 
 /// What the bytes from an offset on begin with.
 #[cfg(feature = "program")]
@@ -53,12 +53,12 @@ pub fn records(file: &[u8], index: u32) -> Option<&[u8]> {
     records_at(file, at)
 }
 
-/// The first record that has a tag.
+/// The first record that has a tag. Of the others only the tag is read.
 pub fn find_record(records: &[u8], tag: Tag) -> Option<TableRecord> {
     let mut r = Reader::new(records);
-    while let Some(record) = r.read::<TableRecord>() {
-        if record.tag == tag {
-            return Some(record);
+    while let Some(bytes) = r.read_bytes(TABLE_RECORD_SIZE) {
+        if tag_in(bytes) == tag {
+            return Some(record_in(bytes));
         }
     }
     None

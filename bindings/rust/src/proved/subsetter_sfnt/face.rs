@@ -58,17 +58,27 @@ pub struct TableRecord {
     pub length: u32,
 }
 
+/// The tag in a record's bytes.
+pub(crate) fn tag_in(bytes: &[u8]) -> Tag {
+    Tag::new(&[bytes[0], bytes[1], bytes[2], bytes[3]])
+}
+
+/// The record that these bytes are.
+pub(crate) fn record_in(bytes: &[u8]) -> TableRecord {
+    TableRecord {
+        tag: tag_in(bytes),
+        checksum: u32_at(bytes, 4),
+        offset: u32_at(bytes, 8),
+        length: u32_at(bytes, 12),
+    }
+}
+
 impl Readable<'_> for TableRecord {
     const SIZE: usize = 16;
 
     fn read(r: &mut Reader<'_>) -> Option<Self> {
-        let b = r.read_bytes(TABLE_RECORD_SIZE)?;
-        Some(TableRecord {
-            tag: Tag::new(&[b[0], b[1], b[2], b[3]]),
-            checksum: u32_at(b, 4),
-            offset: u32_at(b, 8),
-            length: u32_at(b, 12),
-        })
+        let bytes = r.read_bytes(TABLE_RECORD_SIZE)?;
+        Some(record_in(bytes))
     }
 }
 

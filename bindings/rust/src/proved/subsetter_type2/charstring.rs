@@ -5,6 +5,7 @@ use crate::rattle::prelude::Vec;
 
 use crate::proved::subsetter_base::error::Error;
 use crate::proved::subsetter_type2::limits::Limits;
+use crate::proved::subsetter_type2::runs::fixed_stack::FixedStack;
 use crate::proved::subsetter_type2::runs::flattening;
 use crate::proved::subsetter_type2::runs::machine::Subroutines;
 use crate::proved::subsetter_type2::subroutines::SubroutineHandler;
@@ -32,13 +33,15 @@ impl<'a> Decompiler<'a> {
     }
 
     /// The charstring without its subroutines, written behind these bytes, which count too; they are lost where it can't be.
+    /// What is left of callers goes into a stack, whatever it held, which many charstrings can share.
     ///
     /// The errors are those of `flatten`.
     pub fn flatten_behind(
         self,
         bytes: Vec<u8>,
         charstring: CharString<'a>,
+        rests: &mut FixedStack<&'a [u8], 64>,
     ) -> Result<Vec<u8>, Error> {
-        flattening::flatten_behind(bytes, &self.subroutines, &self.limits, charstring)
+        flattening::flatten_behind(bytes, &self.subroutines, &self.limits, charstring, rests)
     }
 }

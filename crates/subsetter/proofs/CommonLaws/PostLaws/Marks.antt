@@ -1,9 +1,8 @@
 -- Names of `post` that are found from marks.
-use Rattle.std.proofs.Common.{◌≡◌, ◌<◌, ◌≤◌, ℕ, zero, suc, ◌+◌, ◌*◌, ◌/◌, ◌%◌, List, [], ◌∷◌, ◌++◌, cond, length, take, drop, Option, Some, None, refl, sym, ap, ◌∙◌, arith}
+use Rattle.std.proofs.Common.{◌≡◌, ◌<◌, ◌≤◌, ℕ, zero, suc, ◌+◌, ◌*◌, List, [], ◌∷◌, ◌++◌, length, drop, Option, Some, None, refl, sym, ap, ◌∙◌, arith}
 use Rattle.std.specs.Prelude.{slice_get, get_or}
-use Rattle.std.proofs.lemmas.Bool.{lt-leb}
-use Rattle.std.proofs.lemmas.List.{drop-drop, drop_all, drop_more, length-append, length-drop}
-use Rattle.subsetter.specs.Common.Post.Read.{names_in, pascal_strings}
+use Rattle.std.proofs.lemmas.List.{drop-drop, drop_more, length-append, length-drop}
+use Rattle.subsetter.specs.Common.Post.Read.{names_in}
 use Rattle.subsetter.specs.Common.Post.Marks.{AreMarks}
 use Rattle.subsetter.proofs.CommonLaws.PostLaws.Steps.{first_gone}
 
@@ -20,6 +19,10 @@ steps_more step n = omega arith
 pub marks_push : (step : ℕ) (all : List ℕ) (names : List (List ℕ)) (marks : List ℕ) (m : ℕ) → AreMarks step all names marks → names_in (drop m all) ≡ drop (step * length marks) names → m ≤ length all → AreMarks step all names (marks ++ m ∷ [])
 marks_push step all names [] m h e le = (e ∙ ap (λ n. drop n names) (no_step step), (le, tt))
 marks_push step all names (x ∷ marks) m h e le = (h.0, (h.1.0, marks_push step all (drop step names) marks m h.1.1 (e ∙ ap (λ n. drop n names) (sym (steps_more step (length marks))) ∙ sym (drop-drop (step * length marks) step names)) le))
+
+-- no marks at first
+pub no_marks : (step : ℕ) (all marks : List ℕ) → marks ≡ [] → names_in all ≡ drop (step * length marks) (names_in all)
+no_marks step all marks e = ap (λ n. drop n (names_in all)) (sym (ap (λ (l : List ℕ). step * length l) e ∙ no_step step))
 
 -- the same of the code's marks
 pub mark_last : (step : ℕ) (all : List ℕ) (names : List (List ℕ)) (marks after : List ℕ) (m : ℕ) → after ≡ marks ++ m ∷ [] → AreMarks step all names marks → names_in (drop m all) ≡ drop (step * length marks) names → m ≤ length all → AreMarks step all names after
@@ -52,22 +55,6 @@ behind_first bytes at len lt is le =
     let front : drop at bytes ≡ len ∷ drop (at + 1) bytes = drop_more bytes at 0 lt ∙ ap (λ (x : ℕ). x ∷ drop (at + 1) bytes) (sym is) in
     let behind : drop len (drop (at + 1) bytes) ≡ drop (at + 1 + len) bytes = drop-drop len (at + 1) bytes in
     ap names_in (sym behind) ∙ first_gone len (drop (at + 1) bytes) (omega (arith, length-drop (at + 1) bytes)) ∙ ap (λ l. drop 1 (names_in l)) (sym front)
-
--- a name that is cut ends the names
-pub behind_cut : (bytes : List ℕ) (at len : ℕ) → at < length bytes → len ≡ get_or bytes at 0 → length bytes < at + 1 + len → names_in (drop (length bytes) bytes) ≡ drop 1 (names_in (drop at bytes))
-behind_cut bytes at len lt is past =
-    let front : drop at bytes ≡ len ∷ drop (at + 1) bytes = drop_more bytes at 0 lt ∙ ap (λ (x : ℕ). x ∷ drop (at + 1) bytes) (sym is) in
-    let none : names_in (len ∷ drop (at + 1) bytes) ≡ [] = cut len (drop (at + 1) bytes) (omega (arith, length-drop (at + 1) bytes)) in
-    ap names_in (drop_all (length bytes) bytes (omega arith)) ∙ ap (drop 1) (sym (ap names_in front ∙ none))
-  where
-    cut : (len : ℕ) (rest : List ℕ) → length rest < len → names_in (len ∷ rest) ≡ []
-    cut len rest lt = ap (λ b. cond b (take len rest ∷ pascal_strings (length rest) (drop len rest)) []) (lt-leb _ _ lt)
-
--- behind the last
-pub behind_end : (bytes : List ℕ) (at : ℕ) → length bytes ≤ at → names_in (drop at bytes) ≡ drop 1 (names_in (drop at bytes))
-behind_end bytes at le =
-    let none : drop at bytes ≡ [] = drop_all at bytes le in
-    ap names_in none ∙ ap (λ (l : List ℕ). drop 1 (names_in l)) (sym none)
 
 -- one name more is passed over
 pub passed : (bytes : List ℕ) (start at next n : ℕ) → names_in (drop at bytes) ≡ drop n (names_in (drop start bytes)) → names_in (drop next bytes) ≡ drop 1 (names_in (drop at bytes)) → names_in (drop next bytes) ≡ drop (n + 1) (names_in (drop start bytes))

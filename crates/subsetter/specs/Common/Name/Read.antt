@@ -1,9 +1,9 @@
 -- The names of a font (OpenType, "name").
-use Rattle.std.specs.Prelude.{◌≡◌, ◌≢◌, ℕ, zero, suc, ◌+◌, ◌*◌, Bool, false, ◌&&◌, ◌||◌, not, List, [], ◌∷◌, ◌++◌, length, take, drop, map, filter, flat_map, Option, Some, None, nat_lt, ◌==◌, if◌then◌else◌}
+use Rattle.std.specs.Prelude.{◌≡◌, ◌≢◌, ℕ, zero, suc, ◌+◌, ◌*◌, Bool, false, ◌&&◌, ◌||◌, not, List, [], ◌∷◌, ◌++◌, length, drop, map, filter, flat_map, Option, Some, None, nat_lt, ◌==◌, if◌then◌else◌}
 use Rattle.std.specs.Option.{option_and_then, option_map}
 use Rattle.std.specs.Str.{bytes_eq}
 use Rattle.std.specs.Int.{w16, to_be_bytes}
-use Rattle.subsetter_base.specs.Bytes.{be, range, number, from_offset}
+use Rattle.subsetter_base.specs.Bytes.{range, number, from_offset}
 use Rattle.subsetter_sfnt.specs.Fields.Name.{name_record_of, name_record_bytes, string_of, is_unicode}
 use Rattle.subsetter_base.specs.Options.{◌>>=◌}
 use Rattle.subsetter_sfnt.specs.declared.fields.name.NameRecord.{NameRecord}

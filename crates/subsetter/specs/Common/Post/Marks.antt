@@ -1,6 +1,6 @@
 -- Where some of the names of `post` stand.
-use Rattle.std.specs.Prelude.{◌≡◌, ◌≤◌, ℕ, List, [], ◌∷◌, length, drop, Bool, if◌then◌else◌}
-use Rattle.subsetter.specs.Common.Post.Read.{names_in}
+use Rattle.std.specs.Prelude.{◌≡◌, ◌≤◌, ◌<◌, ◌+◌, ℕ, zero, suc, List, [], ◌∷◌, ◌++◌, length, drop, get_or, slice_index, Bool, if◌then◌else◌}
+use Rattle.subsetter.specs.Common.Post.Read.{names_in, pascal_bytes}
 
 -- how many names there are from one mark to the next
 abbrev pub step_of : Bool → ℕ
@@ -10,3 +10,22 @@ step_of is_dense = if is_dense then 1 else 8
 abbrev pub AreMarks : ℕ → List ℕ → List (List ℕ) → List ℕ → Type 0
 AreMarks step all names [] = Unit {0}
 AreMarks step all names (m ∷ marks) = (names_in (drop m all) ≡ names) × ((m ≤ length all) × AreMarks step all (drop step names) marks)
+
+-- so many names from a number on, each behind its length byte, an empty one where none is there
+abbrev pub run_bytes : List (List ℕ) → ℕ → ℕ → List ℕ
+run_bytes names from zero = []
+run_bytes names from (suc n) = run_bytes names from n ++ pascal_bytes (get_or names (from + n) [])
+
+-- where the name with a number begins, if all before it are there
+abbrev pub place_of : List (List ℕ) → ℕ → ℕ
+place_of names k = length (run_bytes names 0 k)
+
+-- the marks are where names begin, as far as there are names
+abbrev pub ArePlaces : List (List ℕ) → List ℕ → Type 0
+ArePlaces names marks = (k : ℕ) → k < length marks → k ≤ length names → slice_index marks k ≡ place_of names k
+
+-- a name stands at a place, and ends at another
+pub record IsName (bytes : List ℕ) (at end : ℕ) : Type 0 where
+  pub some : 1 ≤ length (names_in (drop at bytes))
+  pub place : end ≡ at + length (pascal_bytes (get_or (names_in (drop at bytes)) 0 []))
+  pub behind : names_in (drop end bytes) ≡ drop 1 (names_in (drop at bytes))

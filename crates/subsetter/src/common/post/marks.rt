@@ -4,31 +4,44 @@
 //! requested, and of every one where these are at most four for each kept glyph; past what 32 bits reach a name is found from
 //! the first on.
 
-ghost use Rattle.std.specs.Prelude.{◌≡◌, ◌≤◌, ◌<◌, ◌+◌, ◌*◌, ℕ, [], length, drop, get_or, IfOk, IfErr, IfSome};
+ghost use Rattle.std.specs.Prelude.{◌≡◌, ◌≤◌, ◌<◌, ◌+◌, ◌*◌, ◌^◌, ℕ, true, [], length, drop, get_or, slice_get, Some, IfOk, IfErr, IfNone, IfSome};
 ghost use Rattle.subsetter_base.specs.declared.error.Error.TheVariants.{OutOfMemory};
-ghost use Rattle.subsetter.specs.Common.Post.Marks.{step_of};
+ghost use Rattle.subsetter.specs.Common.Post.Marks.{AreMarks, ArePlaces, IsName, step_of, run_bytes};
 ghost use Rattle.subsetter.specs.Common.Post.Read.{names_in, pascal_bytes};
 
 use std::alloc::Global;
 use std::marker::Model;
 use subsetter_base::Error;
 use subsetter_base::fields::byte_in;
+use subsetter_base::read::between_offsets;
 
-/// The place behind the name at a place; the end of the bytes where no name is there.
-#[tactic(auto, using(crate::proofs::CommonLaws::PostLaws::Marks::behind_first, crate::proofs::CommonLaws::PostLaws::Marks::behind_cut, crate::proofs::CommonLaws::PostLaws::Marks::behind_end))]
-fn behind_name(bytes: &[u8], at: usize) -> usize
-    requires { at ≤ length bytes.now }
-    ensures names { names_in (drop result bytes.now) ≡ drop 1 (names_in (drop at bytes.now)) }
-    ensures within { result ≤ length bytes.now }
+/// The place behind the name at a place, if one is there.
+fn name_end(bytes: &[u8], at: usize) -> Option<usize>
+    ensures there { IfSome result (λ end. IsName bytes.now at end) }
+    ensures within { IfSome result (λ end. end ≤ length bytes.now) }
+    ensures none { IfNone result (names_in (drop at bytes.now) ≡ []) }
 {
     if at >= bytes.len() {
-        return at;
+        return None;
     }
-    let end = at + 1 + usize::from(bytes[at]);
+    let len = usize::from(bytes[at]);
+    let end = at + 1 + len;
     if end > bytes.len() {
-        return bytes.len();
+        return None;
     }
-    end
+    Some(end)
+}
+
+/// The place behind the name at a place; the end of the bytes where no name is there.
+fn behind_name(bytes: &[u8], at: usize) -> usize
+    ensures names { names_in (drop result bytes.now) ≡ drop 1 (names_in (drop at bytes.now)) }
+    ensures within { result ≤ length bytes.now }
+    ensures place { 1 ≤ length (names_in (drop at bytes.now)) → IsName bytes.now at result }
+{
+    match name_end(bytes, at) {
+        Some(end) => end,
+        None => bytes.len(),
+    }
 }
 
 /// The place behind so many names from a place on.
@@ -118,6 +131,7 @@ fn skip_step(bytes: &[u8], at: usize, len: u8, is_dense: bool) -> (usize, u8)
     requires { at ≤ length bytes.now }
     ensures names { names_in (drop result.0 bytes.now) ≡ drop (step_of is_dense) (names_in (drop at bytes.now)) }
     ensures within { result.0 ≤ length bytes.now }
+    ensures place { is_dense ≡ true → 1 ≤ length (names_in (drop at bytes.now)) → IsName bytes.now at result.0 }
 {
     if is_dense {
         (behind_name(bytes, at), len)
@@ -160,6 +174,39 @@ fn from_offset(bytes: &[u8], at: usize) -> &[u8]
     &bytes[at..]
 }
 
+/// An offset that is kept, if there is one.
+fn mark_in(marks: &[u32], place: usize) -> Option<usize>
+    ensures { IfSome result (λ mark. slice_get marks.now place ≡ Some mark) }
+{
+    let mark = marks.get(place)?;
+    Some(*mark as usize)
+}
+
+/// So many names from a number on, each behind its length byte, where every offset is kept and all are there.
+fn run_in<'a>(
+    all: &'a [u8],
+    marks: &[u32],
+    is_dense: bool,
+    from: usize,
+    count: usize,
+) -> Option<&'a [u8]>
+    requires marks { AreMarks (step_of is_dense) all.now (names_in all.now) marks.now }
+    requires places { is_dense ≡ true → ArePlaces (names_in all.now) marks.now }
+    requires small { from + count < 2 ^ 64 }
+    ensures { IfSome result (λ run. run.now ≡ run_bytes (names_in all.now) from count) }
+{
+    if count == 0 {
+        return None;
+    }
+    if !is_dense {
+        return None;
+    }
+    let start = mark_in(marks, from)?;
+    let last = mark_in(marks, from + count - 1)?;
+    let end = name_end(all, last)?;
+    between_offsets(all, start, end)
+}
+
 /// The bytes from a name on, and how many names are to be passed over.
 #[derive(Clone, Copy)]
 struct Mark<'a> {
@@ -178,15 +225,18 @@ pub(crate) struct NameList<'a> {
 }
 
 impl<'a> Model for NameList<'a> {
-    ghost use Rattle.std.specs.Prelude.{ℕ, List};
+    ghost use Rattle.std.specs.Prelude.{◌≡◌, ℕ, List, true};
     ghost use Rattle.subsetter.specs.Common.Post.Read.{names_in};
-    ghost use Rattle.subsetter.specs.Common.Post.Marks.{AreMarks, step_of};
+    ghost use Rattle.subsetter.specs.Common.Post.Marks.{AreMarks, ArePlaces, step_of};
 
     ghost Value = { List (List ℕ) };
 
     ghost view = { λ l. names_in l.all.now };
 
-    ghost invariant = { λ l. AreMarks (step_of l.is_dense) l.all.now (names_in l.all.now) l.marks.items };
+    ghost invariant = { λ l. record {
+      marks : AreMarks (step_of l.is_dense) l.all.now (names_in l.all.now) l.marks.items;
+      places : l.is_dense ≡ true → ArePlaces (names_in l.all.now) l.marks.items;
+    } };
 }
 
 impl<'a> NameList<'a> {
@@ -244,6 +294,14 @@ impl<'a> NameList<'a> {
         let Mark { bytes, count } = self.from_mark(number);
         let at = skip(bytes, 0, count);
         first_entry(&bytes[at..])
+    }
+
+    /// So many names from a number on, each behind its length byte, where every offset is kept and all are there.
+    pub(crate) fn entries(&self, from: usize, count: usize) -> Option<&'a [u8]>
+        requires { from + count < 2 ^ 64 }
+        ensures { IfSome result (λ run. run.now ≡ run_bytes self.now from count) }
+    {
+        run_in(self.all, &self.marks, self.is_dense, from, count)
     }
 
     /// An offset that is kept, 0 where there is none.

@@ -4,11 +4,12 @@
 //! another version than 2.0 is copied. More than 65,278 names of the font's own mean a list of distinct reached glyphs
 //! with such names that is longer than that.
 
-ghost use Rattle.std.specs.Prelude.{◌≡◌, ◌≤◌, ◌<◌, ◌+◌, ◌*◌, ◌++◌, ℕ, [], length, slice_index, flat_map, OnOk, IfOk, IfErr};
+ghost use Rattle.std.specs.Prelude.{◌≡◌, ◌≤◌, ◌<◌, ◌+◌, ◌*◌, ◌^◌, ◌++◌, ℕ, length, slice_index, flat_map, OnOk, IfOk, IfErr};
 ghost use Rattle.std.specs.Option.{option_copied, option_map};
 ghost use Rattle.std.specs.Cow.{cow_slice_items};
 ghost use Rattle.subsetter_base.specs.Gives.{Gives};
 ghost use Rattle.subsetter_base.specs.declared.error.Error.TheVariants.{OutOfMemory};
+ghost use Rattle.subsetter.specs.Common.Post.Marks.{run_bytes};
 ghost use Rattle.subsetter.specs.Common.Post.Read.{names_in};
 ghost use Rattle.subsetter_sfnt.specs.Extras.{without_glyph_names};
 ghost use Rattle.subsetter.specs.Common.Post.Plain.{seen_post, custom_count, new_indexes, entry_of, post_of_indexes, subset_glyph_names, new_post};
@@ -79,17 +80,75 @@ fn write_indexes(w: &mut Writer, indexes: &[u16]) -> Result<(), Error>
     Ok(())
 }
 
-/// Writes the names that the indexes name, an empty one where none is there.
+/// Names that follow one another: so many from a number on.
+#[derive(Clone, Copy)]
+struct Run {
+    from: usize,
+    count: usize,
+}
+
+/// Writes so many names from a number on, one after another, an empty one where none is there.
+fn write_each(w: &mut Writer, names: &NameList<'_>, from: usize, count: usize) -> Result<(), Error>
+    requires { from + count < 2 ^ 32 }
+    ensures ok { OnOk result (w.new ≡ w.old ++ run_bytes names.now from count) }
+    ensures err { IfErr result (λ e. e ≡ OutOfMemory) }
+{
+    for i in 0..count {
+        w.extend(names.entry(from + i))?;
+    }
+    Ok(())
+}
+
+/// Writes the names of a run, an empty one where none is there. Where all are there, they are copied at once.
+fn write_run(w: &mut Writer, names: &NameList<'_>, run: Run) -> Result<(), Error>
+    requires { run.from + run.count < 2 ^ 32 }
+    ensures ok { OnOk result (w.new ≡ w.old ++ run_bytes names.now run.from run.count) }
+    ensures err { IfErr result (λ e. e ≡ OutOfMemory) }
+{
+    if run.count == 1 {
+        return w.extend(names.entry(run.from));
+    }
+    match names.entries(run.from, run.count) {
+        Some(entries) => w.extend(entries),
+        None => write_each(w, names, run.from, run.count),
+    }
+}
+
+/// Puts the name with an index behind a run, if it is one of the font's own. Where it doesn't follow the run, this is written.
+fn go_on(w: &mut Writer, names: &NameList<'_>, run: Run, index: u16) -> Result<Run, Error>
+    requires { run.from + run.count < 2 ^ 17 }
+    ensures ok { IfOk result (λ r. w.new ++ run_bytes names.now r.from r.count ≡ w.old ++ run_bytes names.now run.from run.count ++ entry_of names.now index) }
+    ensures small { IfOk result (λ r. r.from + r.count < 2 ^ 17) }
+    ensures err { IfErr result (λ e. e ≡ OutOfMemory) }
+{
+    if index < STANDARD_NAMES {
+        return Ok(run);
+    }
+    let number = usize::from(index) - FIRST_CUSTOM;
+    let next = run.from + run.count;
+    if number == next {
+        return Ok(Run {
+            from: run.from,
+            count: run.count + 1,
+        });
+    }
+    write_run(w, names, run)?;
+    Ok(Run {
+        from: number,
+        count: 1,
+    })
+}
+
+/// Writes the names that the indexes name, an empty one where none is there. Those that follow one another are a run.
 fn write_names(w: &mut Writer, indexes: &[u16], names: &NameList<'_>) -> Result<(), Error>
     ensures ok { OnOk result (w.new ≡ w.old ++ flat_map (entry_of names.now) indexes.now) }
     ensures err { IfErr result (λ e. e ≡ OutOfMemory) }
 {
+    let mut run = Run { from: 0, count: 0 };
     for index in indexes {
-        if *index >= STANDARD_NAMES {
-            let place = usize::from(*index) - FIRST_CUSTOM;
-            w.extend(names.entry(place))?;
-        }
+        run = go_on(w, names, run, *index)?;
     }
+    write_run(w, names, run)?;
     Ok(())
 }
 

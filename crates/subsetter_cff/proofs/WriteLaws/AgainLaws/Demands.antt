@@ -9,7 +9,8 @@ use Rattle.subsetter_cffdata.specs.Numerals.Numbers.{Number}
 use Rattle.subsetter_cffdata.specs.Dicts.Dict.{NewEntry, meaning}
 use Rattle.subsetter_cff.specs.Read.Strings.{FontString, Standard, Custom, standard_strings}
 use Rattle.subsetter_cff.specs.Read.Entries.Operators.{font_name_operator, copyright_operator, notice_operator, font_matrix_operator, font_box_operator}
-use Rattle.subsetter_cff.specs.Write.Laying.Layout.{FontDict, Parts, Offsets, strings, number_of, integer, plain_entry, string_entries, table_offsets, placed_entries, top_entries_by}
+use Rattle.subsetter_cff.specs.Write.Laying.Layout.{FontDict, Parts, Offsets, strings, number_of, integer, string_entries, table_offsets, placed_entries, top_entries_by}
+use Rattle.subsetter_cffdata.specs.Dicts.Plain.{plain_entry}
 use Rattle.subsetter_cff.specs.Write.Laying.Fits.{Fits, FitsString}
 use Rattle.subsetter_cff.specs.Read.Opened.{meets, all_meet}
 use Rattle.subsetter_cff.specs.Read.Entries.OperandDemands.{Demand, top_demands}

@@ -9,7 +9,8 @@ use Rattle.subsetter_cffdata.specs.Dicts.Dict.{Entry, NewEntry, meaning, entries
 use Rattle.subsetter_cff.specs.Read.Strings.{FontString, standard_strings}
 use Rattle.subsetter_cff.specs.Read.FdArray.Private.{Private, private_by, private_at}
 use Rattle.subsetter_cff.specs.Read.Entries.Operators.{font_name_operator, font_matrix_operator}
-use Rattle.subsetter_cff.specs.Write.Laying.Layout.{FontDict, Parts, strings, integer, plain_entry, private_entry, string_entries, private_bytes, entries_of_font_dict_by, font_dicts_from, privates_offset, cff_table}
+use Rattle.subsetter_cff.specs.Write.Laying.Layout.{FontDict, Parts, strings, integer, private_entry, string_entries, private_bytes, entries_of_font_dict_by, font_dicts_from, privates_offset, cff_table}
+use Rattle.subsetter_cffdata.specs.Dicts.Plain.{plain_entry}
 use Rattle.subsetter_cff.specs.Write.Laying.Fits.{Fits, FitsString}
 use Rattle.subsetter_cff.specs.Read.Opened.{meets, all_meet, all_lead, sound_font_dicts, opened_cid, opened_parts, opened}
 use Rattle.subsetter_cff.specs.Read.Entries.OperandDemands.{font_dict_demands}

@@ -14,7 +14,7 @@ use Rattle.subsetter_cffdata.specs.Dicts.Dict.{Entry, entry_bytes}
 use Rattle.subsetter_cffdata.specs.Numerals.Numbers.{Number, is_too_long}
 use Rattle.subsetter_cffdata.specs.Indexes.Owned.{FitIndex}
 use Rattle.subsetter_cffdata.specs.Views.{number_of}
-use Rattle.subsetter_cff.specs.Write.Laying.Layout.{plain_entry}
+use Rattle.subsetter_cffdata.specs.Dicts.Plain.{plain_entry}
 use Rattle.subsetter_cff.specs.Write.NewDicts.WrittenNumbers.{any_long, entry_numbers}
 use Rattle.subsetter_cff.specs.Write.NewDicts.Rewritten.{is_refused, written_entries, written_entry}
 use Rattle.subsetter_cff.specs.Write.Laying.TableLimits.{limit, short, has_index}

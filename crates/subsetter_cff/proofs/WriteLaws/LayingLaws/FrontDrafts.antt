@@ -9,7 +9,8 @@ use Rattle.subsetter_cffdata.specs.Indexes.Index.{index, header as index_header,
 use Rattle.subsetter_cff.specs.declared.write.laying.table.TableParts.{TableParts}
 use Rattle.subsetter_cff.specs.Write.Glyphs.FlatIndex.{single_header}
 use Rattle.subsetter_cff.specs.Write.Laying.FrontDraft.{named_entries, named_bytes, tail_by, front_of_draft}
-use Rattle.subsetter_cff.specs.Write.Laying.Layout.{Offsets, TopDict, nowhere, header, registry_entry, number_entries, plain_entry, placed_entries, top_entries_by}
+use Rattle.subsetter_cff.specs.Write.Laying.Layout.{Offsets, TopDict, nowhere, header, registry_entry, number_entries, placed_entries, top_entries_by}
+use Rattle.subsetter_cffdata.specs.Dicts.Plain.{plain_entry}
 use Rattle.subsetter_cff.specs.Read.Entries.Operators.{copyright_operator, notice_operator, font_name_operator, font_matrix_operator, font_box_operator}
 use Rattle.subsetter_cff.specs.Write.Laying.PartsView.{front_by, top_by}
 use Rattle.subsetter_cff.specs.Write.Laying.TableBy.{front_size}

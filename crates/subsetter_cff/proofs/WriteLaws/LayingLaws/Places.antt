@@ -8,7 +8,8 @@ use Rattle.subsetter_cffdata.specs.Indexes.Index.{index, header as index_header,
 use Rattle.subsetter_cffdata.specs.Numerals.Numbers.{integer as written_integer}
 use Rattle.subsetter_cffdata.specs.Dicts.Dict.{NewEntry, entry_bytes, dict}
 use Rattle.subsetter_cff.specs.Read.Entries.Operators.{copyright_operator, notice_operator, font_name_operator, font_matrix_operator, font_box_operator}
-use Rattle.subsetter_cff.specs.Write.Laying.Layout.{Parts, Offsets, strings, string_entries, plain_entry, registry_entry, placed_entries, top_entries, top_entries_by, front, nowhere, table_offsets, charset_of, privates, select_of, font_dicts_of, charset_offset, privates_offset, fd_select_offset, fd_array_offset, char_strings_offset, cff_table}
+use Rattle.subsetter_cff.specs.Write.Laying.Layout.{Parts, Offsets, strings, string_entries, registry_entry, placed_entries, top_entries, top_entries_by, front, nowhere, table_offsets, charset_of, privates, select_of, font_dicts_of, charset_offset, privates_offset, fd_select_offset, fd_array_offset, char_strings_offset, cff_table}
+use Rattle.subsetter_cffdata.specs.Dicts.Plain.{plain_entry}
 
 -- ---- the length of the front doesn't depend on the places
 same_header : (d e : List ℕ) → length d ≡ length e → index_header (d ∷ []) ≡ index_header (e ∷ [])

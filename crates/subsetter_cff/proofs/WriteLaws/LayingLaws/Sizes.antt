@@ -12,7 +12,8 @@ use Rattle.subsetter_cffdata.specs.Dicts.Dict.{Plain, NewEntry, dict, IsOperator
 use Rattle.subsetter_cffdata.specs.Indexes.Owned.{FitIndex}
 use Rattle.subsetter_cff.specs.Read.Strings.{FontString, Standard, Custom, standard_strings}
 use Rattle.subsetter_cff.specs.Read.Entries.Operators.{notice_operator, font_box_operator, charset_operator, char_strings_operator, copyright_operator, font_matrix_operator, registry_operator, cid_count_operator, font_dicts_operator, font_dict_select_operator, font_name_operator}
-use Rattle.subsetter_cff.specs.Write.Laying.Layout.{FontDict, Parts, Offsets, strings, number_of, integer, plain_entry, string_entries, offset_entry, private_entry, private_bytes, entries_of_font_dict, entries_of_font_dict_by, font_dicts_from, placed_entries, top_entries, top_entries_by, front, table_offsets, privates_offset, font_dicts_of}
+use Rattle.subsetter_cff.specs.Write.Laying.Layout.{FontDict, Parts, Offsets, strings, number_of, integer, string_entries, offset_entry, private_entry, private_bytes, entries_of_font_dict, entries_of_font_dict_by, font_dicts_from, placed_entries, top_entries, top_entries_by, front, table_offsets, privates_offset, font_dicts_of}
+use Rattle.subsetter_cffdata.specs.Dicts.Plain.{plain_entry}
 use Rattle.subsetter_cff.specs.Write.Laying.Fits.{Fits, FitsString, FitNumbers, FitsFontDict}
 use Rattle.subsetter_cff.proofs.WriteLaws.StringsLaws.Strings.{place_found}
 use Rattle.subsetter_cff.proofs.WriteLaws.LayingLaws.Places.{length-front}

@@ -2,11 +2,12 @@
 use Rattle.std.proofs.Common.{◌≡◌, ℕ, ◌+◌, List, [], ◌++◌, length, refl, ap, ◌∙◌, append_assoc}
 use Rattle.std.proofs.lemmas.List.{append-nil}
 use Rattle.subsetter_cffdata.specs.Indexes.Index.{index}
+use Rattle.subsetter_cffdata.specs.Indexes.Owned.{views}
 use Rattle.subsetter_cff.specs.declared.write.laying.table.TableParts.{TableParts}
 use Rattle.subsetter_cff.specs.declared.write.laying.writing.Pieces.{Pieces}
 use Rattle.subsetter_cff.specs.declared.write.laying.front.FrontDraft.{FrontDraft}
 use Rattle.subsetter_cff.specs.Write.Glyphs.FlatIndex.{flat_header, flat_index}
-use Rattle.subsetter_cff.specs.Write.Laying.FrontDraft.{front_of_draft, IsDraft}
+use Rattle.subsetter_cff.specs.Write.Laying.FrontDraft.{front_of_draft, named_of, tail_of, IsDraft}
 use Rattle.subsetter_cff.proofs.WriteLaws.LayingLaws.FrontDrafts.{front_split}
 use Rattle.subsetter_cff.specs.Write.Laying.Layout.{Offsets, charset_bytes, select_bytes, privates, font_dicts_from, strings, front, font_dicts_of, cff_table}
 use Rattle.subsetter_cff.specs.Write.Laying.PartsView.{select_of_table, parts_view, front_by, HasCharStrings}
@@ -39,19 +40,19 @@ five_written : (w0 w1 w2 w3 w4 w5 a b c d e : List ℕ) → w0 ≡ [] → w1 ≡
 five_written w0 w1 w2 w3 w4 w5 a b c d e g h i j k l = l ∙ rw (k, j, i, h, g) (simp (append_assoc, append-nil))
 
 in_pieces : (t : TableParts) (texts : List (List ℕ)) (glyphs size : ℕ) (x : Pieces) (o : Offsets) → size ≡ front_size texts t → ArePieces texts t glyphs size x
-    → o ≡ offsets_by size x.charset (length x.privates) x.select (length x.font_dicts.items)
-    → front_by texts t o ++ (charset_bytes glyphs ++ (x.privates ++ (select_bytes glyphs (select_of_table t.numbers) ++ (x.font_dicts.items ++ [])))) ≡ laid_by texts t glyphs []
+    → o ≡ offsets_by size x.charset (length x.privates) x.select x.font_dicts_size
+    → front_by texts t o ++ (charset_bytes glyphs ++ (x.privates ++ (select_bytes glyphs (select_of_table t.numbers) ++ (index (views x.font_dicts.items) ++ [])))) ≡ laid_by texts t glyphs []
 unfolding laid_by
-in_pieces t texts glyphs size x o c are d = rw (d, are.charset, are.privates_are, are.select, are.font_dicts, c) refl
+in_pieces t texts glyphs size x o c are d = rw (d, are.charset, are.privates_are, are.select, are.font_dicts_size, are.font_dicts, c) refl
 
-drafted : (t : TableParts) (texts : List (List ℕ)) (d : FrontDraft) (o : Offsets) (w0 w1 : List ℕ) → IsDraft texts t d → w1 ≡ w0 ++ front_of_draft t.names.now d.named d.tail o → w1 ≡ w0 ++ front_by texts t o
+drafted : (t : TableParts) (texts : List (List ℕ)) (d : FrontDraft) (o : Offsets) (w0 w1 : List ℕ) → IsDraft texts t d → w1 ≡ w0 ++ front_of_draft t.names.now (named_of d) (tail_of d) o → w1 ≡ w0 ++ front_by texts t o
 drafted t texts d o w0 w1 is e = e ∙ rw (is.named, is.tail, front_split texts t o) refl
 
 pub laid_written : (t : TableParts) (texts : List (List ℕ)) (glyphs : ℕ) (d : FrontDraft) (x : Pieces) (o : Offsets) (w0 w1 w2 w3 w4 w5 : List ℕ) → IsDraft texts t d → ArePieces texts t glyphs d.size x
-    → o ≡ offsets_by d.size x.charset (length x.privates) x.select (length x.font_dicts.items)
-    → w0 ≡ [] → w1 ≡ w0 ++ front_of_draft t.names.now d.named d.tail o → w2 ≡ w1 ++ charset_bytes glyphs → w3 ≡ w2 ++ x.privates → w4 ≡ w3 ++ select_bytes glyphs (select_of_table t.numbers) → w5 ≡ w4 ++ x.font_dicts.items → w5 ≡ laid_by texts t glyphs []
+    → o ≡ offsets_by d.size x.charset (length x.privates) x.select x.font_dicts_size
+    → w0 ≡ [] → w1 ≡ w0 ++ front_of_draft t.names.now (named_of d) (tail_of d) o → w2 ≡ w1 ++ charset_bytes glyphs → w3 ≡ w2 ++ x.privates → w4 ≡ w3 ++ select_bytes glyphs (select_of_table t.numbers) → w5 ≡ w4 ++ index (views x.font_dicts.items) → w5 ≡ laid_by texts t glyphs []
 laid_written t texts glyphs d x o w0 w1 w2 w3 w4 w5 is are at g h i j k l =
-    five_written w0 w1 w2 w3 w4 w5 (front_by texts t o) (charset_bytes glyphs) x.privates (select_bytes glyphs (select_of_table t.numbers)) x.font_dicts.items g (drafted t texts d o w0 w1 is h) i j k l ∙ in_pieces t texts glyphs d.size x o is.size are at
+    five_written w0 w1 w2 w3 w4 w5 (front_by texts t o) (charset_bytes glyphs) x.privates (select_bytes glyphs (select_of_table t.numbers)) (index (views x.font_dicts.items)) g (drafted t texts d o w0 w1 is h) i j k l ∙ in_pieces t texts glyphs d.size x o is.size are at
 
 -- ---- the charstrings stand behind
 six : (a b c d e z : List ℕ) → (a ++ (b ++ (c ++ (d ++ (e ++ []))))) ++ z ≡ a ++ (b ++ (c ++ (d ++ (e ++ z))))

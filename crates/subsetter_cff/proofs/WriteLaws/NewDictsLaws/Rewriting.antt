@@ -1,7 +1,7 @@
 -- Entries of a DICT that are written again, one after the other.
-use Rattle.std.proofs.Common.{◌≡◌, ℕ, ◌<◌, Bool, true, false, cond, ◌||◌, List, [], ◌∷◌, ◌++◌, map, length, Option, Some, None, Ok, Err, refl, ap, ◌∙◌, sym, append_assoc}
+use Rattle.std.proofs.Common.{◌≡◌, ◌≢◌, ℕ, ◌-◌, ◌<◌, ◌≤◌, Bool, true, false, cond, ◌||◌, List, [], ◌∷◌, ◌++◌, map, length, take, Option, Some, None, Result, Ok, Err, refl, ap, ◌∙◌, sym, append_assoc, length-append, arith}
 use Rattle.std.specs.List.{list_any}
-use Rattle.std.specs.Option.{option_map_or, option_or}
+use Rattle.std.specs.Option.{option_map, option_map_or, option_or}
 use Rattle.std.specs.Str.{bytes_eq}
 use Rattle.std.proofs.lemmas.Option.{none-some, same_Some}
 use Rattle.std.proofs.lemmas.List.{append-nil}
@@ -13,13 +13,15 @@ use Rattle.subsetter_cffdata.specs.declared.numerals.number.Number.{Number as St
 use Rattle.subsetter_cffdata.specs.Numerals.Numbers.{Number, is_too_long}
 use Rattle.subsetter_cffdata.specs.Dicts.Dict.{Entry, entry_bytes, dict, entry_at, entries, limited, operand_limit}
 use Rattle.subsetter_cffdata.specs.Dicts.Operands.{operands_at}
+use Rattle.subsetter_cffdata.specs.Dicts.Plain.{plain_at, IsEntryAndRest, plain_entry}
 use Rattle.subsetter_cffdata.specs.Dicts.Tokens.{operator_part}
 use Rattle.subsetter_cffdata.specs.Views.{number_of}
 use Rattle.subsetter_cffdata.proofs.DictsLaws.Entries.{entries_step, entry_shorter}
-use Rattle.subsetter_cff.specs.Write.Laying.Layout.{plain_entry, rewritten_entries}
+use Rattle.subsetter_cffdata.proofs.DictsLaws.Plains.{entry_stands, front_of, plain_operator, plain_operands}
+use Rattle.subsetter_cff.specs.Write.Laying.Layout.{rewritten_entries}
 use Rattle.subsetter_cff.specs.Read.Entries.Lookup.{without}
 use Rattle.subsetter_cff.specs.Read.Entries.Operators.{subroutines_operator}
-use Rattle.subsetter_cff.specs.Write.NewDicts.Rewritten.{is_refused, written_entries, written_entry, written_if_there}
+use Rattle.subsetter_cff.specs.Write.NewDicts.Rewritten.{is_refused, written_entries, written_entry, written_if_there, rewritten_private, IsCopied, Rewrites}
 use Rattle.subsetter_base.specs.Gives.{behind}
 
 -- ---- an entry
@@ -108,3 +110,59 @@ pub taken_by : (front bytes operator rest : List ℕ) (limit : ℕ) (xs : List N
 taken_by front bytes operator rest limit xs h out room shown =
     ap (λ (o : Option (List Number)). behind front (written_if_there operator o) >>= λ new. behind new (written_entries (without subroutines_operator (entries rest)))) (shown ∙ ap (λ (n : ℕ). operands_at n bytes) room)
     ∙ taken front bytes operator rest h out
+
+-- ---- entries that stand as they are written
+plain_written : (operator bytes rest : List ℕ) (e : IsEntryAndRest operand_limit operator bytes rest) → written_entry operator e.numbers ≡ Ok (entry_bytes (plain_entry operator e.numbers))
+unfolding written_entry
+plain_written operator bytes rest e = rw e.accepted refl
+
+-- such an entry is copied
+plain_taken : (front bytes operator rest : List ℕ) (e : IsEntryAndRest operand_limit operator bytes rest) → operator_part (entry_at bytes) ≡ Some (operator, rest) → bytes_eq operator subroutines_operator ≡ false
+    → behind (front ++ entry_bytes (plain_entry operator e.numbers)) (written_entries (without subroutines_operator (entries rest))) ≡ behind front (written_entries (without subroutines_operator (entries bytes)))
+plain_taken front bytes operator rest e h out =
+    ap (λ (r : Result (List ℕ) Error). behind front r >>= λ new. behind new (written_entries (without subroutines_operator (entries rest)))) (sym (plain_written operator bytes rest e))
+    ∙ taken_by front bytes operator rest operand_limit e.numbers h out refl (plain_operands operator bytes rest e)
+
+pub copied_none : (bytes : List ℕ) → IsCopied bytes bytes
+copied_none bytes = record { text = []; is = refl; copies = λ front. ap (λ (l : List ℕ). behind l (rewritten_private bytes)) (append-nil front) }
+
+pub copied_more : (bytes rest operator more : List ℕ) → IsCopied bytes rest → plain_at rest ≡ Some (operator, more) → bytes_eq operator subroutines_operator ≡ false → IsCopied bytes more
+unfolding rewritten_private
+copied_more bytes rest operator more c h out =
+    let e = entry_stands operand_limit rest operator more h in
+    let text = entry_bytes (plain_entry operator e.numbers) in
+    record {
+      text = c.text ++ text;
+      is = c.is ∙ ap (λ (l : List ℕ). c.text ++ l) e.is ∙ sym (append_assoc c.text text more);
+      copies = λ front.
+          ap (λ (l : List ℕ). behind l (written_entries (without subroutines_operator (entries more)))) (sym (append_assoc front c.text text))
+          ∙ plain_taken (front ++ c.text) rest operator more e (plain_operator rest operator more h) out
+          ∙ c.copies front;
+    }
+
+pub copied_shorter : (bytes rest : List ℕ) → IsCopied bytes rest → length rest ≤ length bytes
+copied_shorter bytes rest c = omega (arith, ap length c.is, length-append c.text rest)
+
+-- they are written as a part of the bytes
+pub copied_from : (old bytes rest now : List ℕ) → IsCopied bytes rest → now ≡ old ++ take (length bytes - length rest) bytes → behind now (rewritten_private rest) ≡ behind old (rewritten_private bytes)
+copied_from old bytes rest now c written =
+    ap (λ (l : List ℕ). behind l (rewritten_private rest)) (written ∙ ap (λ (l : List ℕ). old ++ l) (front_of bytes c.text rest c.is)) ∙ c.copies old
+
+-- a rest that is written on, seen from further in front
+pub rewrites_from : (old now bytes rest new : List ℕ) (more : Option (List ℕ)) → behind now (rewritten_private rest) ≡ behind old (rewritten_private bytes) → length rest ≤ length bytes → Rewrites now rest new more → Rewrites old bytes new more
+rewrites_from old now bytes rest new None same le r = sym same ∙ r
+rewrites_from old now bytes rest new (Some left) same le r = (r.0 ∙ same, let less = r.1 in omega arith)
+
+-- fewer operands than are asked for are all
+all_few : (xs ys : List Number) → xs ≡ take 2 ys → length xs ≢ 2 → xs ≡ take operand_limit ys
+all_few xs [] e few = e
+all_few xs (a ∷ []) e few = e
+all_few xs (a ∷ b ∷ more) e few = absurd (few (ap length e))
+
+few_of : (o : Option (Entry × List ℕ)) (xs : List Number) → Some xs ≡ option_map (λ e. take 2 e.0.operands) o → length xs ≢ 2 → Some xs ≡ option_map (λ e. take operand_limit e.0.operands) o
+few_of None xs e few = absurd (none-some xs (sym e))
+few_of (Some e) xs h few = ap Some (all_few xs e.0.operands (same_Some _ _ h) few)
+
+pub few_operands : (bytes : List ℕ) (xs : List Number) → Some xs ≡ operands_at 2 bytes → length xs ≢ 2 → Some xs ≡ operands_at operand_limit bytes
+unfolding operands_at
+few_operands bytes xs e few = few_of (entry_at bytes) xs e few

@@ -4,7 +4,8 @@ use Rattle.subsetter_cffdata.specs.Numerals.Numbers.{Number}
 use Rattle.subsetter_cffdata.specs.Dicts.Dict.{Plain, value, NewEntry, meaning, Entry}
 use Rattle.subsetter_cff.specs.Read.Entries.Lookup.{last_of}
 use Rattle.subsetter_cff.specs.Read.Entries.Operators.{notice_operator, font_box_operator, charset_operator, char_strings_operator, copyright_operator, font_matrix_operator, registry_operator, font_dicts_operator, font_dict_select_operator, font_name_operator}
-use Rattle.subsetter_cff.specs.Write.Laying.Layout.{Parts, Offsets, strings, integer, top_entries, top_entries_by, placed_entries, plain_entry}
+use Rattle.subsetter_cff.specs.Write.Laying.Layout.{Parts, Offsets, strings, integer, top_entries, top_entries_by, placed_entries}
+use Rattle.subsetter_cffdata.specs.Dicts.Plain.{plain_entry}
 use Rattle.subsetter_cff.proofs.ReadLaws.EntriesLaws.Lookups.{passed, passed_all, met, number_if}
 
 abbrev pub tops : Parts → Offsets → List Entry

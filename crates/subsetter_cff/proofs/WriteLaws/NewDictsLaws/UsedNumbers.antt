@@ -160,3 +160,26 @@ from_first (Some j) = ap Some (let e : 0 + j ≡ j = omega arith in e)
 
 pub all_placed : (o : Option ℕ) (xs : List ℕ) (n i : ℕ) → i ≡ 0 → o ≡ option_map (λ (j : ℕ). i + j) (index_of (drop i xs) n) → o ≡ index_of xs n
 all_placed o xs n i is e = e ∙ ap (λ (m : ℕ). option_map (λ (j : ℕ). m + j) (index_of (drop m xs) n)) is ∙ from_first (index_of xs n)
+
+-- ---- just the first one
+or_same : (b : Bool) → (b || b) ≡ b
+or_same true = refl
+or_same false = refl
+
+listed_zero : (numbers : List ℕ) → ((k : ℕ) → k < length numbers → get_or numbers k 0 ≡ 0) → 0 < length numbers → (n : ℕ) → is_listed numbers n ≡ (0 == n)
+listed_zero [] zeros some n = absurd (omega arith)
+listed_zero (x ∷ []) zeros some n = ap (λ (m : ℕ). (m == n) || false) (zeros 0 (omega arith)) ∙ or_none (0 == n)
+listed_zero (x ∷ y ∷ xs) zeros some n =
+    ap (λ (m : ℕ). (m == n) || is_listed (y ∷ xs) n) (zeros 0 (omega arith))
+    ∙ ap (λ (b : Bool). (0 == n) || b) (listed_zero (y ∷ xs) (λ k lt. zeros (suc k) (omega arith)) (omega arith) n)
+    ∙ or_same (0 == n)
+
+zero_marked : (n : ℕ) → get_or (true ∷ []) n false ≡ (0 == n)
+zero_marked zero = refl
+zero_marked (suc n) = sym (ne_eqb 0 (suc n) (λ e. omega arith))
+
+pub just_first : (numbers : List ℕ) → ((k : ℕ) → k < length numbers → get_or numbers k 0 ≡ 0) → 0 < length numbers → counted_font_dicts numbers ≡ Ok (0 ∷ [])
+just_first numbers zeros some =
+    let listed = listed_zero numbers zeros some in
+    let used = used_are numbers (0 ∷ []) (true ∷ []) 1 (omega arith) (λ i lt. zero_marked i ∙ sym (listed i)) (λ i low. listed i ∙ ne_eqb 0 i (λ e. omega arith)) refl in
+    counted numbers (0 ∷ []) used (omega arith)

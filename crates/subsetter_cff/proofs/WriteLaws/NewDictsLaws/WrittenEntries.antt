@@ -9,7 +9,8 @@ use Rattle.subsetter_cffdata.specs.declared.numerals.number.Number.{Number as St
 use Rattle.std.proofs.lemmas.List.{append-nil}
 use Rattle.std.proofs.lemmas.List.Concat.{flat_map-append}
 use Rattle.subsetter_cff.specs.Read.Entries.Operators.{notice_operator, font_box_operator, private_operator, copyright_operator, font_matrix_operator, registry_operator, font_name_operator}
-use Rattle.subsetter_cff.specs.Write.Laying.Layout.{integer, plain_entry, number_entries, registry_entry, TopDict, entries_of_font_dict_by}
+use Rattle.subsetter_cff.specs.Write.Laying.Layout.{integer, number_entries, registry_entry, TopDict, entries_of_font_dict_by}
+use Rattle.subsetter_cffdata.specs.Dicts.Plain.{plain_entry}
 use Rattle.subsetter_cff.specs.Write.Laying.FrontDraft.{named_bytes}
 
 operands_are : (xs : List StoredNumber) → flat_map (λ x. number (number_of x)) xs ≡ flat_map operand (map Plain (map number_of xs))

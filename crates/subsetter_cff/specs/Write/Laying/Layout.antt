@@ -8,7 +8,8 @@ use Rattle.std.specs.Option.{option_map}
 use Rattle.std.specs.Str.{bytes_eq}
 use Rattle.subsetter_base.specs.Remap.{with_value, index_by}
 use Rattle.subsetter_cffdata.specs.Indexes.Index.{index}
-use Rattle.subsetter_cffdata.specs.Dicts.Dict.{Plain, Long, NewEntry, dict, Entry}
+use Rattle.subsetter_cffdata.specs.Dicts.Dict.{Long, NewEntry, dict, Entry}
+use Rattle.subsetter_cffdata.specs.Dicts.Plain.{plain_entry}
 use Rattle.subsetter_cffdata.specs.Numerals.Numbers.{Number, Integer}
 use Rattle.subsetter_cff.specs.Read.Entries.Operators.{notice_operator, font_box_operator, charset_operator, char_strings_operator, private_operator, copyright_operator, font_matrix_operator, registry_operator, cid_count_operator, font_dicts_operator, font_dict_select_operator, font_name_operator}
 use Rattle.subsetter_cff.specs.Read.Strings.{FontString, Standard, Custom, standard_strings}
@@ -68,9 +69,6 @@ number_of strings (Custom s) = standard_strings + unwrap_or (index_by bytes_eq s
 -- ---- entries of dicts: operands and an operator (section 4 "DICT Data")
 abbrev pub integer : ℕ → Number
 integer n = Integer (pos n)
-
-abbrev pub plain_entry : List ℕ → List Number → NewEntry
-plain_entry operator xs = record { operator = operator; operands = map Plain xs }
 
 abbrev pub number_entries : List ℕ → Option ℕ → List NewEntry
 number_entries operator None = []

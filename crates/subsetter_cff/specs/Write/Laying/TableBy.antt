@@ -1,6 +1,7 @@
 -- A new table, by its strings as they are numbered and its charstrings one behind the other.
 use Rattle.std.specs.Prelude.{◌≡◌, ℕ, ◌+◌, List, [], ◌++◌, length, map}
 use Rattle.subsetter_cffdata.specs.Indexes.Index.{index}
+use Rattle.subsetter_cffdata.specs.Indexes.Owned.{views, FitIndex}
 use Rattle.subsetter_cff.specs.declared.write.laying.table.TableParts.{TableParts}
 use Rattle.subsetter_cff.specs.declared.write.laying.writing.CffPieces.{CffPieces}
 use Rattle.subsetter_cff.specs.declared.write.laying.writing.Pieces.{Pieces}
@@ -19,7 +20,9 @@ pub record ArePieces (texts : List (List ℕ)) (t : TableParts) (glyphs size : �
   pub charset : x.charset ≡ length (charset_bytes glyphs)
   pub privates_are : x.privates ≡ privates (new_dicts t)
   pub select : x.select ≡ length (select_bytes glyphs (select_of_table t.numbers))
-  pub font_dicts : x.font_dicts.items ≡ index (font_dicts_from texts (size + length (charset_bytes glyphs)) (new_dicts t))
+  pub font_dicts : index (views x.font_dicts.items) ≡ index (font_dicts_from texts (size + length (charset_bytes glyphs)) (new_dicts t))
+  pub font_dicts_size : x.font_dicts_size ≡ length (index (font_dicts_from texts (size + length (charset_bytes glyphs)) (new_dicts t)))
+  pub fits : FitIndex (views x.font_dicts.items)
 
 -- the places of pieces behind a front of a size
 abbrev pub offsets_by : ℕ → ℕ → ℕ → ℕ → ℕ → Offsets

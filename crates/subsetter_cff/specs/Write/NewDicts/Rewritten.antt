@@ -1,13 +1,15 @@
 -- DICT entries of the source as they are written again.
-use Rattle.std.specs.Prelude.{ℕ, Bool, if◌then◌else◌, List, [], Option, Some, None, Result, Ok, Err}
+use Rattle.std.specs.Prelude.{◌≡◌, ℕ, ◌<◌, Bool, if◌then◌else◌, List, [], ◌++◌, length, Option, Some, None, Result, Ok, Err}
 use Rattle.std.specs.List.{list_any}
+use Rattle.subsetter_base.specs.Gives.{behind}
 use Rattle.subsetter_base.specs.declared.error.Error.{Error}
 use Rattle.subsetter_base.specs.declared.error.Error.TheVariants.{OverflowError}
 use Rattle.subsetter_cffdata.specs.Numerals.Numbers.{Number, is_too_long}
 use Rattle.subsetter_cffdata.specs.Dicts.Dict.{Entry, entries, dict, entry_bytes}
 use Rattle.subsetter_cff.specs.Read.Entries.Lookup.{without}
 use Rattle.subsetter_cff.specs.Read.Entries.Operators.{subroutines_operator}
-use Rattle.subsetter_cff.specs.Write.Laying.Layout.{plain_entry, rewritten_entries}
+use Rattle.subsetter_cff.specs.Write.Laying.Layout.{rewritten_entries}
+use Rattle.subsetter_cffdata.specs.Dicts.Plain.{plain_entry}
 
 -- a real among the operands is too long to be written
 abbrev pub is_refused : Entry → Bool
@@ -29,3 +31,14 @@ written_if_there operator (Some xs) = written_entry operator xs
 -- a private dict without its subroutines
 unfoldable pub rewritten_private : List ℕ → Result (List ℕ) Error
 rewritten_private bytes = written_entries (without subroutines_operator (entries bytes))
+
+-- entries in front of a rest are written as they stand
+pub record IsCopied (bytes rest : List ℕ) : Type 0 where
+  pub text : List ℕ
+  pub is : bytes ≡ text ++ rest
+  pub copies : (front : List ℕ) → behind (front ++ text) (rewritten_private rest) ≡ behind front (rewritten_private bytes)
+
+-- what is written now, behind a front, is a private dict's first entry where another rest follows it, else the whole dict
+abbrev pub Rewrites : List ℕ → List ℕ → List ℕ → Option (List ℕ) → Type 0
+Rewrites front bytes now None = behind front (rewritten_private bytes) ≡ Ok now
+Rewrites front bytes now (Some rest) = (behind now (rewritten_private rest) ≡ behind front (rewritten_private bytes)) × (length rest < length bytes)

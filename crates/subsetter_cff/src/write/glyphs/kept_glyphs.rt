@@ -19,6 +19,7 @@ use subsetter_base::GlyphRemapper;
 use subsetter_base::error::Error;
 use subsetter_type2::charstring::Decompiler;
 use subsetter_type2::limits::Limits;
+use subsetter_type2::runs::fixed_stack::FixedStack;
 use subsetter_type2::subroutines::SubroutineHandler;
 
 /// A glyph that is kept, behind others.
@@ -77,11 +78,12 @@ fn find_char_string<'a>(source: &Table<'a>, glyph: u16) -> Option<&'a [u8]>
 
 /// Flattens a glyph behind others. `OverflowError` where all of these pass the bound on bytes.
 #[tactic(auto, unfolding(crate::specs::Write::Glyphs::KeptView::kept_behind))]
-fn keep_glyph(
-    source: &Table<'_>,
+fn keep_glyph<'a>(
+    source: &Table<'a>,
     limits: Limits,
     glyph: u16,
     char_strings: Vec<u8>,
+    rests: &mut FixedStack<&'a [u8], 64>,
 ) -> Result<Kept, Error>
     requires { IsSource source.now }
     ensures { GivesWithin kept_view limits.bytes (λ k. length k.bytes) result (kept_behind char_strings.items (cff_of source.now) limits.tokens limits.depth glyph) }
@@ -94,16 +96,18 @@ fn keep_glyph(
     let bytes = Decompiler::with_limits(global, local, limits).flatten_behind(
         char_strings,
         char_string,
+        rests,
     )?;
     Ok(Kept { number, bytes })
 }
 
 /// Flattens one glyph more.
-fn keep_next(
-    source: &Table<'_>,
+fn keep_next<'a>(
+    source: &Table<'a>,
     limits: Limits,
     glyph: u16,
     kept: KeptGlyphs,
+    rests: &mut FixedStack<&'a [u8], 64>,
 ) -> Result<KeptGlyphs, Error>
     requires { IsSource source.now }
     ensures ok { IfOk result (λ k. KeepsNext (cff_of source.now) limits.tokens limits.depth glyph kept k) }
@@ -111,7 +115,7 @@ fn keep_next(
 {
     let mut numbers = kept.numbers;
     let mut ends = kept.ends;
-    let all = keep_glyph(source, limits, glyph, kept.char_strings)?;
+    let all = keep_glyph(source, limits, glyph, kept.char_strings, rests)?;
     numbers.push(all.number)?;
     ends.push(all.bytes.len() + 1)?;
     Ok(KeptGlyphs {
@@ -164,9 +168,9 @@ fn give_back(bytes: &mut Vec<u8>)
 
 /// Flattens all glyphs that are kept. `OverflowError` where their charstrings pass the bound on bytes, before the next one
 /// is flattened.
-pub fn keep_glyphs(
+pub fn keep_glyphs<'a>(
     alloc: Global,
-    source: &Table<'_>,
+    source: &Table<'a>,
     limits: Limits,
     mapper: &GlyphRemapper,
 ) -> Result<KeptGlyphs, Error>
@@ -181,8 +185,9 @@ pub fn keep_glyphs(
         char_strings: Vec::with_capacity(alloc, first_room(count, limits.bytes()))?,
         ends: Vec::with_capacity(alloc, count)?,
     };
+    let mut rests: FixedStack<&'a [u8], 64> = FixedStack::new(source.front.bytes);
     for glyph in mapper.remapped_gids() {
-        kept = keep_next(source, limits, glyph, kept)?;
+        kept = keep_next(source, limits, glyph, kept, &mut rests)?;
     }
     give_back(&mut kept.char_strings);
     are_bytes(&kept.numbers);

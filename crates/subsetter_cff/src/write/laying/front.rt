@@ -1,11 +1,11 @@
 //! The front of a new table: header, Name INDEX, Top DICT INDEX, String INDEX, Global Subr INDEX.
 
-ghost use Rattle.std.specs.Prelude.{◌≡◌, ◌+◌, ◌<◌, ◌^◌, ◌++◌, ◌∷◌, [], length, OnOk, IfOk, IfErr};
+ghost use Rattle.std.specs.Prelude.{◌≡◌, ◌+◌, ◌<◌, ◌≤◌, ◌^◌, ◌++◌, ◌∷◌, [], length, OnOk, IfOk, IfErr};
 ghost use Rattle.subsetter_base.specs.Gives.{Gives};
 ghost use Rattle.subsetter_base.specs.declared.error.Error.TheVariants.{OutOfMemory};
 ghost use Rattle.subsetter_cffdata.specs.Dicts.Dict.{dict};
 ghost use Rattle.subsetter_cffdata.specs.Indexes.Index.{index};
-ghost use Rattle.subsetter_cff.specs.Write.Laying.FrontDraft.{front_of_draft, named_bytes, tail_by, IsDraft};
+ghost use Rattle.subsetter_cff.specs.Write.Laying.FrontDraft.{front_of_draft, named_bytes, named_of, tail_by, tail_of, IsDraft};
 ghost use Rattle.subsetter_cff.specs.Write.Laying.Layout.{placed_entries};
 ghost use Rattle.subsetter_cff.specs.Write.Laying.PartsView.{top_by};
 ghost use Rattle.subsetter_cff.specs.Write.Laying.TableLimits.{limit, has_index, is_offset, numbers_limits, front_limits};
@@ -23,21 +23,35 @@ use std::alloc::Global;
 use subsetter_base::error::Error;
 use subsetter_base::write::Writer;
 
-/// Room for the entries of a top dict, in bytes.
-const TOP_ROOM: usize = 128;
-
-/// Room for a few short strings, in bytes.
-const TAIL_ROOM: usize = 256;
+/// Room for the entries of a top dict and for a few short strings, in bytes.
+const DRAFT_ROOM: usize = 384;
 
 /// A front before its offsets are known: as their offsets have five bytes each, its size is.
 #[derive(Drop)]
 pub struct FrontDraft {
-    /// The entries of the top dict without offsets.
-    pub named: Writer,
-    /// The String INDEX and the Global Subr INDEX.
-    pub tail: Writer,
+    /// The entries of the top dict without offsets, and behind them the String INDEX and the Global Subr INDEX.
+    pub text: Writer,
+    /// How many bytes these entries have.
+    pub named: usize,
     /// How many bytes the front has.
     pub size: usize,
+}
+
+/// The entries of the top dict without offsets.
+fn named_part(draft: &FrontDraft) -> &[u8]
+    requires { draft.now.named ≤ length draft.now.text }
+    ensures value { result.now ≡ named_of draft.now }
+    ensures len { length result.now ≡ draft.now.named }
+{
+    &draft.text.as_slice()[..draft.named]
+}
+
+/// The String INDEX and the Global Subr INDEX.
+fn tail_part(draft: &FrontDraft) -> &[u8]
+    requires { draft.now.named ≤ length draft.now.text }
+    ensures { result.now ≡ tail_of draft.now }
+{
+    &draft.text.as_slice()[draft.named..]
 }
 
 /// What the top dict says.
@@ -62,20 +76,19 @@ fn draft_top(
     ensures value { IfOk result (λ w. w ≡ named_bytes (top_by remapper.now.texts table.now)) }
     ensures checked { Gives (λ _. tt) result (numbers_limits (top_by remapper.now.texts table.now).matrix (top_by remapper.now.texts table.now).box) }
 {
-    let mut named = Writer::with_capacity(alloc, TOP_ROOM)?;
+    let mut named = Writer::with_capacity(alloc, DRAFT_ROOM)?;
     write_named(&new_top_dict(table, remapper), &mut named)?;
     Ok(named)
 }
 
-/// The String INDEX and the Global Subr INDEX. An INDEX that is too large is `OverflowError`.
-fn draft_tail(alloc: Global, remapper: &SidRemapper<'_>) -> Result<Writer, Error>
-    ensures value { IfOk result (λ w. w ≡ tail_by remapper.now.texts) }
+/// Writes the String INDEX and the Global Subr INDEX. An INDEX that is too large is `OverflowError`.
+fn put_tail(remapper: &SidRemapper<'_>, text: &mut Writer) -> Result<(), Error>
+    ensures ok { OnOk result (text.new ≡ text.old ++ tail_by remapper.now.texts) }
     ensures checked { Gives (λ _. tt) result (limit (has_index remapper.now.texts)) }
 {
-    let mut tail = Writer::with_capacity(alloc, TAIL_ROOM)?;
-    write_index(remapper.sorted_strings(), &mut tail)?;
-    tail.extend(&[0, 0])?;
-    Ok(tail)
+    write_index(remapper.sorted_strings(), text)?;
+    text.extend(&[0, 0])?;
+    Ok(())
 }
 
 /// The size of a front. One that passes 2147483647 is `OverflowError`.
@@ -98,22 +111,24 @@ pub fn draft_front(
     ensures value { IfOk result (λ d. IsDraft remapper.now.texts table.now d) }
     ensures checked { Gives (λ _. tt) result (front_limits remapper.now.texts table.now) }
 {
-    let named = draft_top(alloc, table, remapper)?;
-    let top = offset_behind(named.len(), OFFSETS_SIZE)?;
-    let tail = draft_tail(alloc, remapper)?;
-    let size = sum_front(table.names.len(), single_size(top as u32), tail.len())?;
-    Ok(FrontDraft { named, tail, size })
+    let mut text = draft_top(alloc, table, remapper)?;
+    let named = text.len();
+    let top = offset_behind(named, OFFSETS_SIZE)?;
+    put_tail(remapper, &mut text)?;
+    let tail = text.len() - named;
+    let size = sum_front(table.names.len(), single_size(top as u32), tail)?;
+    Ok(FrontDraft { text, named, size })
 }
 
 /// Writes the INDEX of the one top dict.
-fn rewrite_top_dict_index(named: &Writer, offsets: &Offsets, w: &mut Writer) -> Result<(), Error>
+fn rewrite_top_dict_index(named: &[u8], offsets: &Offsets, w: &mut Writer) -> Result<(), Error>
     requires offsets { AreOffsets offsets.now }
     requires small { length named.now + 33 < 2 ^ 31 }
     ensures ok { OnOk result (w.new ≡ w.old ++ index ((named.now ++ dict (placed_entries (offsets_of offsets.now))) ∷ [])) }
     ensures err { IfErr result (λ e. e ≡ OutOfMemory) }
 {
     write_single_header((named.len() + OFFSETS_SIZE) as u32, w)?;
-    w.extend(named.as_slice())?;
+    w.extend(named)?;
     write_offsets(offsets, w)
 }
 
@@ -128,12 +143,13 @@ pub fn write_front(
     w: &mut Writer,
 ) -> Result<(), Error>
     requires offsets { AreOffsets offsets.now }
-    requires small { length draft.now.named + 33 < 2 ^ 31 }
-    ensures ok { OnOk result (w.new ≡ w.old ++ front_of_draft names.now draft.now.named draft.now.tail (offsets_of offsets.now)) }
+    requires small { draft.now.named + 33 < 2 ^ 31 }
+    requires within { draft.now.named ≤ length draft.now.text }
+    ensures ok { OnOk result (w.new ≡ w.old ++ front_of_draft names.now (named_of draft.now) (tail_of draft.now) (offsets_of offsets.now)) }
     ensures err { IfErr result (λ e. e ≡ OutOfMemory) }
 {
     w.extend(&HEADER)?;
     w.extend(names)?;
-    rewrite_top_dict_index(&draft.named, offsets, w)?;
-    w.extend(draft.tail.as_slice())
+    rewrite_top_dict_index(named_part(draft), offsets, w)?;
+    w.extend(tail_part(draft))
 }

@@ -14,7 +14,7 @@ use crate::write::glyphs::flat_index::{header_room, write_flat_header};
 use crate::write::laying::front::{FrontDraft, draft_front, write_front};
 use crate::write::laying::table::{TableParts, number_strings};
 use crate::write::new_dicts::dicts::{
-    make_index, offset_behind, select_size, write_dicts, write_select,
+    offset_behind, put_index, select_size, size_index, write_dicts, write_select,
 };
 use crate::write::new_dicts::top_dict::Offsets;
 use crate::write::strings::sid_remapper::SidRemapper;
@@ -31,8 +31,10 @@ pub struct Pieces {
     pub privates: Writer,
     /// How many bytes FDSelect has.
     pub select: usize,
-    /// FDArray.
-    pub font_dicts: Vec<u8>,
+    /// The font dicts.
+    pub font_dicts: Vec<Vec<u8>>,
+    /// How many bytes FDArray has.
+    pub font_dicts_size: usize,
 }
 
 /// A new table, in two pieces: the second one is large, and needn't be copied behind the first.
@@ -60,12 +62,13 @@ fn write_pieces(
     let select = select_size(table, glyphs);
     let place = offset_behind(size, charset)?;
     let made = write_dicts(alloc, place, remapper, &table.font_dicts)?;
-    let font_dicts = make_index(alloc, &made.dicts)?;
+    let font_dicts_size = size_index(&made.dicts)?;
     Ok(Pieces {
         charset,
         privates: made.privates,
         select,
-        font_dicts,
+        font_dicts: made.dicts,
+        font_dicts_size,
     })
 }
 
@@ -73,13 +76,13 @@ fn write_pieces(
 #[tactic(auto, unfolding(crate::specs::Write::Laying::TableLimits::offset_limits))]
 fn find_offsets(size: usize, pieces: &Pieces) -> Result<Offsets, Error>
     ensures offsets { IfOk result AreOffsets }
-    ensures value { IfOk result (λ o. offsets_of o ≡ offsets_by size pieces.now.charset (length pieces.now.privates) pieces.now.select (length pieces.now.font_dicts.items)) }
-    ensures checked { Gives (λ _. tt) result (offset_limits size pieces.now.charset (length pieces.now.privates) pieces.now.select (length pieces.now.font_dicts.items)) }
+    ensures value { IfOk result (λ o. offsets_of o ≡ offsets_by size pieces.now.charset (length pieces.now.privates) pieces.now.select pieces.now.font_dicts_size) }
+    ensures checked { Gives (λ _. tt) result (offset_limits size pieces.now.charset (length pieces.now.privates) pieces.now.select pieces.now.font_dicts_size) }
 {
     let privates = offset_behind(size, pieces.charset)?;
     let select = offset_behind(privates, pieces.privates.len())?;
     let font_dicts = offset_behind(select, pieces.select)?;
-    let char_strings = offset_behind(font_dicts, pieces.font_dicts.len())?;
+    let char_strings = offset_behind(font_dicts, pieces.font_dicts_size)?;
     Ok(Offsets {
         charset: size as u32,
         char_strings: char_strings as u32,
@@ -110,7 +113,7 @@ fn write_laid(
     rewrite_charset(glyphs, &mut w)?;
     w.extend(pieces.privates.as_slice())?;
     write_select(table, glyphs, &mut w)?;
-    w.extend(&pieces.font_dicts)?;
+    put_index(&pieces.font_dicts, &mut w)?;
     Ok(w)
 }
 

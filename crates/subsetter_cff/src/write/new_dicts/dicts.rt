@@ -6,7 +6,7 @@ ghost use Rattle.subsetter_base.specs.declared.error.Error.TheVariants.{OutOfMem
 ghost use Rattle.std.specs.Option.{option_map};
 ghost use Rattle.subsetter_cffdata.specs.Dicts.Dict.{dict as dict_bytes};
 ghost use Rattle.subsetter_cffdata.specs.Indexes.Index.{index};
-ghost use Rattle.subsetter_cffdata.specs.Indexes.Owned.{views};
+ghost use Rattle.subsetter_cffdata.specs.Indexes.Owned.{views, FitIndex};
 ghost use Rattle.subsetter_cffdata.specs.Views.{number_of as number_view};
 ghost use Rattle.subsetter_cff.specs.Write.Laying.Layout.{entries_of_font_dict, entries_of_font_dict_by, font_dicts_from, number_of, private_bytes, privates, select_bytes};
 ghost use Rattle.subsetter_cff.specs.Write.Laying.PartsView.{font_dict_view, select_of_table, string_view};
@@ -23,7 +23,7 @@ use crate::write::strings::sid_remapper::SidRemapper;
 use std::alloc::Global;
 use subsetter_base::error::Error;
 use subsetter_base::write::Writer;
-use subsetter_cffdata::indexes::index::create_index;
+use subsetter_cffdata::indexes::index::{index_size, write_index};
 use subsetter_type2::limits::Limits;
 
 /// Room for a font dict, in bytes.
@@ -172,14 +172,25 @@ pub fn judge_privates(alloc: Global, table: &TableParts<'_>, limits: Limits) -> 
     Ok(())
 }
 
-/// The INDEX of items. Data of 4 GiB, or 65536 items, are `OverflowError`.
-#[tactic(auto, using(crate::proofs::WriteLaws::LayingLaws::Checked::index_kept, crate::proofs::WriteLaws::LayingLaws::Checked::index_refused))]
-pub fn make_index(alloc: Global, items: &[Vec<u8>]) -> Result<Vec<u8>, Error>
-    ensures value { IfOk result (λ v. v.items ≡ index (views items.now)) }
+/// How many bytes the INDEX of items has. Data of 4 GiB, or 65536 items, are `OverflowError`.
+#[tactic(auto, using(crate::proofs::WriteLaws::LayingLaws::Checked::index_kept, crate::proofs::WriteLaws::LayingLaws::Checked::no_index))]
+pub fn size_index(items: &[Vec<u8>]) -> Result<usize, Error>
+    ensures value { IfOk result (λ n. n ≡ length (index (views items.now))) }
+    ensures fits { OnOk result (FitIndex (views items.now)) }
     ensures checked { Gives (λ _. tt) result (limit (has_index (views items.now))) }
 {
-    let made = create_index(alloc, items)?;
-    Ok(made.data)
+    let size = index_size(items)?;
+    Ok(size)
+}
+
+/// Writes the INDEX of items.
+pub fn put_index(items: &[Vec<u8>], w: &mut Writer) -> Result<(), Error>
+    requires { FitIndex (views items.now) }
+    ensures ok { OnOk result (w.new ≡ w.old ++ index (views items.now)) }
+    ensures err { IfErr result (λ e. e ≡ OutOfMemory) }
+{
+    write_index(items, w)?;
+    Ok(())
 }
 
 /// How many bytes FDSelect has.

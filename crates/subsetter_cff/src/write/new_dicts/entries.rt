@@ -9,7 +9,8 @@ ghost use Rattle.subsetter_cffdata.specs.Dicts.Dict.{entry_bytes, dict};
 ghost use Rattle.subsetter_cffdata.specs.Numerals.Numbers.{offset};
 ghost use Rattle.subsetter_cffdata.specs.Views.{number_of, operator_of};
 ghost use Rattle.subsetter_cff.specs.Write.Laying.TableLimits.{limit, short};
-ghost use Rattle.subsetter_cff.specs.Write.Laying.Layout.{integer, plain_entry, number_entries, offset_entry, private_entry};
+ghost use Rattle.subsetter_cff.specs.Write.Laying.Layout.{integer, number_entries, offset_entry, private_entry};
+ghost use Rattle.subsetter_cffdata.specs.Dicts.Plain.{plain_entry};
 
 use subsetter_base::error::Error;
 use subsetter_base::write::Writer;

@@ -1,6 +1,6 @@
 //! New numbers for the font dicts that are used (Technical Note 5176, section 18 "CID-keyed Fonts").
 
-ghost use Rattle.std.specs.Prelude.{◌≡◌, ◌++◌, ◌∷◌, ◌≤◌, ◌<◌, [], ℕ, false, if◌then◌else◌, map, length, slice_index_or, None, IfOk, OnOk, IfErr};
+ghost use Rattle.std.specs.Prelude.{◌≡◌, ◌++◌, ◌∷◌, ◌≤◌, ◌<◌, [], ℕ, IsTrue, false, if◌then◌else◌, map, length, slice_index, slice_index_or, None, IfOk, OnOk, IfErr};
 ghost use Rattle.std.specs.List.{filter, range_with_len};
 ghost use Rattle.subsetter_base.specs.Gives.{Gives};
 ghost use Rattle.subsetter_base.specs.Indexes.{index_of, is_listed, new_index};
@@ -11,25 +11,38 @@ use std::alloc::{AllocError, Global};
 use std::marker::Model;
 use subsetter_base::error::Error;
 
-/// The used font dicts, ascending, and the index of each among them.
+/// The font dicts, where just the first one is used.
+static FIRST_ALONE: [u8; 1] = [0];
+
+/// The used font dicts, ascending.
 #[derive(Drop)]
 pub struct FontDictRemapper {
+    /// Just the first one is used, and takes no memory.
+    is_first_alone: bool,
     numbers: Vec<u8>,
-    places: [Option<u8>; 256],
 }
 
 impl Model for FontDictRemapper {
-    ghost use Rattle.std.specs.Prelude.{◌≡◌, ℕ, List, length, slice_index_or, None, ◌<◌, ◌≤◌};
-    ghost use Rattle.subsetter_base.specs.Indexes.{index_of};
+    ghost use Rattle.std.specs.Prelude.{ℕ, List, [], ◌∷◌, length, ◌≤◌, if◌then◌else◌};
 
     ghost Value = { List ℕ };
 
-    ghost view = { λ r. r.numbers.items };
+    ghost view = { λ r. if r.is_first_alone then 0 ∷ [] else r.numbers.items };
 
-    ghost invariant = { λ r. record {
-      few : length r.numbers.items ≤ 255;
-      stands : (n : ℕ) → n < 256 → slice_index_or r.places n None ≡ index_of r.numbers.items n;
-    } };
+    ghost invariant = { λ r. length r.numbers.items ≤ 255 };
+}
+
+/// Whether there are numbers, and all of them are 0.
+fn are_zeros(numbers: &[u8]) -> bool
+    ensures zeros { IsTrue result → (k : ℕ) → k < length numbers.now → slice_index numbers.now k ≡ 0 }
+    ensures some { IsTrue result → 0 < length numbers.now }
+{
+    for number in numbers {
+        if *number != 0 {
+            return false;
+        }
+    }
+    !numbers.is_empty()
 }
 
 /// Which numbers are among these.
@@ -99,20 +112,21 @@ impl FontDictRemapper {
     pub fn of_used(alloc: Global, numbers: &[u8]) -> Result<Self, Error>
         ensures { Gives (λ r. r) result (counted_font_dicts numbers.now) }
     {
+        if are_zeros(numbers) {
+            return Ok(FontDictRemapper {
+                is_first_alone: true,
+                numbers: Vec::new(alloc),
+            });
+        }
         let used = mark_used(numbers);
         let numbers = marked_numbers(alloc, &used, end_of(numbers))?;
         if numbers.len() > 255 {
             return Err(Error::OverflowError);
         }
-        let places = indexes_of(&numbers);
-        Ok(FontDictRemapper { numbers, places })
-    }
-
-    /// The new number of a font dict.
-    pub fn get(&self, number: u8) -> Option<u8>
-        ensures { result ≡ index_of self.now number }
-    {
-        self.places[number as usize]
+        Ok(FontDictRemapper {
+            is_first_alone: false,
+            numbers,
+        })
     }
 
     /// The font dicts by their new numbers.
@@ -120,8 +134,19 @@ impl FontDictRemapper {
         ensures value { result.now ≡ self.now }
         ensures few { length self.now ≤ 255 }
     {
+        if self.is_first_alone {
+            return &FIRST_ALONE;
+        }
         &self.numbers
     }
+}
+
+/// The new number of a font dict, by where each of the used ones stands.
+fn new_number(indexes: &[Option<u8>; 256], used: &[u8], number: u8) -> u8
+    requires { (n : ℕ) → n < 256 → slice_index_or indexes.now n None ≡ index_of used.now n }
+    ensures { result ≡ new_index used.now number }
+{
+    indexes[number as usize].unwrap_or(0)
 }
 
 /// The new number of each font dict of a list.
@@ -133,9 +158,11 @@ pub fn renumber(
     ensures ok { IfOk result (λ v. v.items ≡ map (new_index remapper.now) numbers.now) }
     ensures err { IfErr result (λ e. e ≡ OutOfMemory) }
 {
+    let used = remapper.sorted();
+    let indexes = indexes_of(used);
     let mut places = Vec::new(alloc);
     for number in numbers {
-        places.push(remapper.get(*number).unwrap_or(0))?;
+        places.push(new_number(&indexes, used, *number))?;
     }
     Ok(places)
 }

@@ -10,7 +10,7 @@ pub returns-then-is_empty-clause-parts : goal.returns-then-is_empty-clause-parts
 returns-then-is_empty-clause-parts c =
     let none : length c.args.bytes.now ≡ 0 = eqb-true (length c.args.bytes.now) 0 (sym c.if-is_empty.ensures) in
     let is = parts_of_none c.args.bytes.now none in
-    cc (is, no_columns, c.new.ensures.ends, c.new.ensures.flags, c.new.ensures.xs, c.new.ensures.ys)
+    cc (is, no_columns, c.emptied.ensures.ends, c.emptied.ensures.flags, c.emptied.ensures.xs, c.emptied.ensures.ys)
 
 pub returns-in_default-clause-parts : goal.returns-in_default-clause-parts
 returns-in_default-clause-parts c =
@@ -24,7 +24,7 @@ returns-clause-parts c =
     if_ok c.read_description.result (λ o e. e ∙ is) c.read_description.ensures.ok
 
 pub returns-then-is_empty-clause-sound : goal.returns-then-is_empty-clause-sound
-returns-then-is_empty-clause-sound c = sound_of_columns (Some c.new.result) c.args.bytes.now (returns-then-is_empty-clause-parts c) (ap length c.new.ensures.xs ∙ sym (ap length c.new.ensures.flags)) (ap length c.new.ensures.ys ∙ sym (ap length c.new.ensures.flags))
+returns-then-is_empty-clause-sound c = sound_of_columns (Some c.emptied.result) c.args.bytes.now (returns-then-is_empty-clause-parts c) (ap length c.emptied.ensures.xs ∙ sym (ap length c.emptied.ensures.flags)) (ap length c.emptied.ensures.ys ∙ sym (ap length c.emptied.ensures.flags))
 
 pub returns-clause-sound : goal.returns-clause-sound
 returns-clause-sound c = if_ok_three c.read_description.result (λ o e a b. sound_of_columns o c.args.bytes.now e a b) (returns-clause-parts c) c.read_description.ensures.xs c.read_description.ensures.ys

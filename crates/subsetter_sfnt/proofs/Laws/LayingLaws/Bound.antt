@@ -1,8 +1,7 @@
 -- What is laid out of tables, and what isn't.
-use Rattle.std.proofs.Common.{◌≡◌, ℕ, ◌<◌, Bool, true, false, cond, List, length, Option, Some, None, Result, Ok, Err, refl, ap, arith}
+use Rattle.std.proofs.Common.{◌≡◌, ℕ, Bool, true, false, cond, List, length, Option, Some, None, Ok, Err, refl, ap, arith}
 use Rattle.std.proofs.lemmas.Bool.{ltb-true}
 use Rattle.subsetter_base.specs.Within.{is_past, IsTooLong}
-use Rattle.subsetter_base.specs.declared.error.Error.{Error}
 use Rattle.subsetter_base.specs.declared.error.Error.TheVariants.{OverflowError}
 use Rattle.subsetter_sfnt.specs.Plain.{file_of}
 use Rattle.subsetter_sfnt.specs.Laying.Written.{Table, file, fits, start_of}

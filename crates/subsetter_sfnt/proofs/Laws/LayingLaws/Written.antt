@@ -5,7 +5,7 @@ use Rattle.std.specs.List.{AllByRecursion}
 use Rattle.std.specs.Str.{bytes_eq}
 use Rattle.std.specs.Int.{w32, to_be_bytes}
 use Rattle.std.proofs.lemmas.Bool.{ltb-true}
-use Rattle.std.proofs.lemmas.List.{take_at, drop_at, drop-drop, length-append, length-replicate, length-take, length-drop, take-append-drop}
+use Rattle.std.proofs.lemmas.List.{take_at, drop_at, drop-drop, take-append-le, drop-append-le, append-nil, length-append, length-replicate, length-take, length-drop, take-append-drop}
 use Rattle.subsetter_base.specs.Bytes.{aligned}
 use Rattle.subsetter_base.proofs.Lists.{and_parts}
 use Rattle.subsetter_sfnt.specs.Laying.Checksum.{checksum}
@@ -96,6 +96,46 @@ at_index P f (y ∷ ys) (suc i) x all lt is = at_index P f ys i x all.1 (omega a
 pub one_write : (w x a after : List ℕ) → after ≡ w ++ x → x ≡ a → after ≡ w ++ a
 one_write w x a after h is = h ∙ ap (λ (l : List ℕ). w ++ l) is
 
+-- zeros behind bytes that have others in front of them, as many as a multiple of four
+pub aligned_behind : (out bytes : List ℕ) → length out % 4 ≡ 0 → aligned 4 (out ++ bytes) ≡ out ++ aligned 4 bytes
+aligned_behind out bytes multiple =
+    let zeros : (4 - length (out ++ bytes) % 4) % 4 ≡ (4 - length bytes % 4) % 4 = omega (arith, length-append out bytes) in
+    ap (λ (n : ℕ). (out ++ bytes) ++ replicate n 0) zeros ∙ append_assoc out bytes (replicate ((4 - length bytes % 4) % 4) 0)
+
+-- bytes in the place of others, which have more behind them
+pub record Patched (old more piece new : List ℕ) (place size : ℕ) : Type 0 where
+  pub front : take (place + size) new ≡ take place old ++ piece
+  pub behind : drop (place + size) new ≡ drop (place + size) old ++ more
+  pub len : length new ≡ length old + length more
+
+pub patched_in : (old more piece whole bytes new : List ℕ) (place size : ℕ) → whole ≡ old ++ more → bytes ≡ piece → length piece ≡ size → place + size ≤ length old
+    → new ≡ take place whole ++ bytes ++ drop (place + length bytes) whole → Patched old more piece new place size
+patched_in old more piece whole bytes new place size w b n within e =
+    let low : place ≤ length old = omega arith in
+    let head : take place (old ++ more) ≡ take place old = take-append-le place old more low in
+    let tail : drop (place + size) (old ++ more) ≡ drop (place + size) old ++ more = drop-append-le (place + size) old more within in
+    let is : new ≡ (take place old ++ piece) ++ (drop (place + size) old ++ more) =
+    e ∙ ap (λ (l : List ℕ). take place l ++ bytes ++ drop (place + length bytes) l) w
+    ∙ ap (λ (l : List ℕ). take place (old ++ more) ++ l ++ drop (place + length l) (old ++ more)) b
+    ∙ ap (λ (k : ℕ). take place (old ++ more) ++ piece ++ drop (place + k) (old ++ more)) n
+    ∙ ap (λ (l : List ℕ). l ++ piece ++ drop (place + size) (old ++ more)) head
+    ∙ ap (λ (l : List ℕ). take place old ++ piece ++ l) tail in
+    let at : length (take place old ++ piece) ≡ place + size = omega (arith, length-append (take place old) piece, length-take place old) in
+    record {
+      front = ap (take (place + size)) is ∙ take_at (take place old ++ piece) (drop (place + size) old ++ more) (place + size) at;
+      behind = ap (drop (place + size)) is ∙ drop_at (take place old ++ piece) (drop (place + size) old ++ more) (place + size) at;
+      len = omega (arith, ap length is, length-append (take place old ++ piece) (drop (place + size) old ++ more), at, length-append (drop (place + size) old) more, length-drop (place + size) old);
+    }
+
+-- what is written at the end, seen from further behind
+pub behind_more : (new old b : List ℕ) (place start : ℕ) → drop place new ≡ drop place old ++ b → place ≤ start → start ≤ length old → drop start new ≡ drop start old ++ b
+behind_more new old b place start e le within =
+    let k = start - place in
+    let at : start ≡ place + k = omega arith in
+    let inside : k ≤ length (drop place old) = omega (arith, length-drop place old) in
+    let cut : drop k (drop place old ++ b) ≡ drop k (drop place old) ++ b = drop-append-le k (drop place old) b inside in
+    ap (λ (n : ℕ). drop n new) at ∙ sym (drop-drop k place new) ∙ ap (drop k) e ∙ cut ∙ ap (λ (l : List ℕ). l ++ b) (drop-drop k place old ∙ ap (λ (n : ℕ). drop n old) (sym at))
+
 -- ---- the adjustment
 
 -- a list around a part of it
@@ -172,10 +212,14 @@ adjusted_other word t h = ap (λ b. (cond b (record { tag = t.tag; bytes = with_
 
 -- ---- the whole file
 
-pub front_is : (kind : ℕ) (ts : List Table) (n : ℕ) (w0 w1 w2 : List ℕ) → n ≡ length ts → w0 ≡ [] → w1 ≡ w0 ++ header_bytes kind n → w2 ≡ w1 ++ directory_bytes (12 + 16 * n) ts → w2 ≡ front kind ts
+pub front_is : (kind : ℕ) (ts : List Table) (n : ℕ) (header front_bytes : List ℕ) → n ≡ length ts → header ≡ header_bytes kind n → front_bytes ≡ header ++ directory_bytes (12 + 16 * n) ts → front_bytes ≡ front kind ts
 unfolding front
-front_is kind ts n w0 w1 w2 count none h d =
-    d ∙ ap (λ (l : List ℕ). l ++ directory_bytes (12 + 16 * n) ts) (h ∙ ap (λ (l : List ℕ). l ++ header_bytes kind n) none) ∙ ap (λ k. header_bytes kind k ++ directory_bytes (12 + 16 * k) ts) count
+front_is kind ts n header front_bytes count h d =
+    d ∙ ap (λ (l : List ℕ). l ++ directory_bytes (12 + 16 * n) ts) h ∙ ap (λ k. header_bytes kind k ++ directory_bytes (12 + 16 * k) ts) count
+
+-- the header in the place of the first zeros
+pub headed : (zeros header new : List ℕ) (kind n : ℕ) → header ≡ header_bytes kind n → 12 ≤ length zeros → new ≡ take 0 zeros ++ header ++ drop (0 + length header) zeros → Patched zeros [] (header_bytes kind n) new 0 12
+headed zeros header new kind n h long e = patched_in zeros [] (header_bytes kind n) zeros header new 0 12 (sym (append-nil zeros)) h (length-header kind n) long e
 
 -- what construct leaves is the file
 pub made : (kind : ℕ) (ts : List Table) (start sum word : ℕ) (before out : List ℕ) → AllByRecursion IsTable ts → start ≡ 12 + 16 * length ts → before ≡ front kind ts ++ body ts → sum ≡ checksum before → word ≡ adjustment sum
@@ -185,6 +229,3 @@ made kind ts start sum word before out all at is s w so =
     let front_back : take start before ≡ front kind ts = ap (take start) is ∙ take_at (front kind ts) (body ts) start (omega (arith, length-front kind ts all)) in
     let word_is : word ≡ adjustment (checksum (front kind ts ++ body ts)) = w ∙ ap adjustment (s ∙ ap checksum is) in
     so ∙ ap (λ (l : List ℕ). l ++ body (map (adjusted word) ts)) front_back ∙ ap (λ (k : ℕ). front kind ts ++ body (map (adjusted k) ts)) word_is
-
-pub body_left : (kind : ℕ) (ts : List Table) (start : ℕ) (before : List ℕ) → AllByRecursion IsTable ts → start ≡ 12 + 16 * length ts → before ≡ front kind ts ++ body ts → drop start before ≡ body ts
-body_left kind ts start before all at is = ap (drop start) is ∙ drop_at (front kind ts) (body ts) start (omega (arith, length-front kind ts all))

@@ -52,6 +52,11 @@ impl<'a> DictionaryParser<'a> {
         Some(entry.operator)
     }
 
+    /// Where the next entry begins.
+    pub fn next_offset(&self) -> usize {
+        self.offset
+    }
+
     /// Reads the operands of the entry, as many as the buffer holds; None where no entry can be read, and then none are shown.
     pub fn parse_operands(&mut self) -> Option<()> {
         self.show_at(self.operands_offset)?;

@@ -3,11 +3,12 @@
 
 use crate::proved::subsetter_base::read::Reader;
 use crate::proved::subsetter_cffdata::dicts::operator::{Operator, TWO_BYTE_OPERATOR_MARK};
+use crate::proved::subsetter_cffdata::dicts::plain::plain_entry;
 use crate::proved::subsetter_cffdata::numerals::number::Number;
 use crate::proved::subsetter_cffdata::reading;
 
 /// Whether an operator begins with a byte, or is reserved.
-fn begins_operator(b: u8) -> bool {
+pub(crate) fn begins_operator(b: u8) -> bool {
     match b {
         0..=27 => true,
         28..=30 => false,
@@ -55,9 +56,9 @@ pub struct OperatorRead {
     pub end: usize,
 }
 
-/// The operator of the entry at the offset, and where the next one begins.
+/// The operator of the entry at the offset, and where the next one begins, read number by number.
 #[inline(never)]
-pub fn next_operator(bytes: &[u8], offset: usize) -> Option<OperatorRead> {
+fn operator_by_tokens(bytes: &[u8], offset: usize) -> Option<OperatorRead> {
     let mut r = Reader::new_at(bytes, offset);
     let mut operand = Number::zero();
     while let Some(found) = next_token(&mut r, &mut operand) {
@@ -69,6 +70,18 @@ pub fn next_operator(bytes: &[u8], offset: usize) -> Option<OperatorRead> {
         }
     }
     None
+}
+
+/// The operator of the entry at the offset, and where the next one begins. Numbers in their first forms are passed and not read.
+pub fn next_operator(bytes: &[u8], offset: usize) -> Option<OperatorRead> {
+    let left = reading::tail(&Reader::new_at(bytes, offset));
+    match plain_entry(left) {
+        Some(entry) => Some(OperatorRead {
+            operator: entry.operator,
+            end: bytes.len() - entry.rest.len(),
+        }),
+        None => operator_by_tokens(bytes, offset),
+    }
 }
 
 /// An entry whose operands were read.

@@ -4,5 +4,5 @@
 pub use crate::proved::subsetter_cffdata::indexes::index_view::Index;
 pub use crate::proved::subsetter_cffdata::indexes::reading_index::parse_index;
 pub use crate::proved::subsetter_cffdata::indexes::writing_index::{
-    create_index, put_front, put_number, size_of_offset, write_index,
+    index_size, put_front, put_number, size_of_offset, write_index,
 };

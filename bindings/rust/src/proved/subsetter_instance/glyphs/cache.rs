@@ -6,6 +6,7 @@
 
 use crate::rattle::prelude::Vec;
 
+use crate::proved::subsetter_instance::glyphs::spare::Spare;
 use crate::proved::subsetter_instance::glyphs::unfolding::{
     counted_description, is_composite, Unfolded,
 };
@@ -77,10 +78,11 @@ impl GlyphCache {
     }
 
     /// The same with a glyph that was unfolded at a depth, if it is a simple one of few points: with so many steps before, and so
-    /// many after.
+    /// many after. It is copied, so that no more room is held than it takes, and its lists are kept.
     pub fn with(
         self,
         alloc: Global,
+        spare: &mut Spare,
         source: &FontSource<'_>,
         _at: &[i32],
         _depth: u8,
@@ -90,8 +92,11 @@ impl GlyphCache {
         after: u32,
     ) -> Result<Self, AllocError> {
         if !is_simple(source, glyph) || outline.on.len() > MOST_POINTS {
+            let Unfolded { on, xs, ys, .. } = outline;
+            spare.keep(on, xs, ys);
             return Ok(self);
         }
+        let outline = spare.exact(alloc, outline)?;
         let mut places = all_slots(alloc, self.places)?;
         places[usize::from(glyph) % SLOTS] = Some(KeptGlyph {
             glyph,

@@ -182,13 +182,14 @@ fn component_at(bytes: &[u8]) -> Option<(Component, &[u8])> {
 }
 
 /// The components, one after another, and the steps that are left. Each takes a step before it is read: where none is left it is
-/// `OverflowError`, and where a component is cut `MalformedFont`.
+/// `OverflowError`, and where a component is cut `MalformedFont`. They stand in the memory of a list that is spare.
 pub fn read_components(
-    alloc: Global,
+    spare: Vec<Component>,
     bytes: &[u8],
     steps: u32,
 ) -> Result<(Vec<Component>, u32), Error> {
-    let mut components = Vec::new(alloc);
+    let mut components = spare;
+    components.clear();
     let mut rest = bytes;
     for read in 0..steps {
         let (component, behind) = match component_at(rest) {
@@ -246,9 +247,11 @@ pub fn offsets_with_phantoms(
     Ok(Offsets { xs, ys })
 }
 
-/// The number of each component, which is a contour of its own, and of the four phantom points.
-pub fn ends_with_phantoms(alloc: Global, n: usize) -> Result<Vec<usize>, AllocError> {
-    let mut ends = Vec::with_capacity(alloc, n.saturating_add(4))?;
+/// The number of each component, which is a contour of its own, and of the four phantom points, in the memory of a list that is spare.
+pub fn ends_with_phantoms(spare: Vec<usize>, n: usize) -> Result<Vec<usize>, AllocError> {
+    let mut ends = spare;
+    ends.clear();
+    ends.reserve(n.saturating_add(4))?;
     for k in 0..n {
         ends.push(k)?;
     }

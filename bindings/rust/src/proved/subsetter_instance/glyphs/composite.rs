@@ -12,6 +12,7 @@ use crate::proved::subsetter_instance::glyphs::placing::{with_metrics, with_part
 use crate::proved::subsetter_instance::glyphs::simple::{
     coordinate_at, left_point, moved, right_point,
 };
+use crate::proved::subsetter_instance::glyphs::spare::Spare;
 use crate::proved::subsetter_instance::glyphs::unfolding::Unfolded;
 use crate::proved::subsetter_instance::source::Source;
 use crate::proved::subsetter_points::header::HEADER_SIZE;
@@ -36,6 +37,7 @@ pub struct Composite {
 /// Where the offsets of components go, and the phantom points.
 fn moved_offsets(
     alloc: Global,
+    spare: &mut Spare,
     gvar: Option<&Gvar<'_>>,
     glyph: u16,
     components: &[Component],
@@ -43,18 +45,21 @@ fn moved_offsets(
     steps: u32,
 ) -> Result<(Vec<i64>, Vec<i64>, u32), Error> {
     let offsets = offsets_with_phantoms(alloc, components)?;
-    let ends = ends_with_phantoms(alloc, components.len())?;
+    let ends = ends_with_phantoms(spare.take_ends(alloc), components.len())?;
     let default = DefaultOutline {
         xs: &offsets.xs,
         ys: &offsets.ys,
         ends: &ends,
     };
-    moved(alloc, gvar, glyph, &default, at, steps)
+    let answer = moved(alloc, &mut spare.offsets, gvar, glyph, &default, at, steps);
+    spare.ends = ends;
+    answer
 }
 
 /// A composite glyph at a location.
 pub fn read_composite(
     alloc: Global,
+    spare: &mut Spare,
     source: &Source<'_>,
     at: &[i32],
     steps: u32,
@@ -66,8 +71,10 @@ pub fn read_composite(
     let body = Reader::new_at(bytes, HEADER_SIZE)
         .tail()
         .ok_or(Error::MalformedFont)?;
-    let (components, steps) = read_components(alloc, body, steps)?;
-    let (xs, ys, steps) = moved_offsets(alloc, source.gvar(), glyph, &components, at, steps)?;
+    let list = spare.take_components(alloc);
+    let (components, steps) = read_components(list, body, steps)?;
+    let gvar = source.gvar();
+    let (xs, ys, steps) = moved_offsets(alloc, spare, gvar, glyph, &components, at, steps)?;
     let left = left_point(bytes, metric, components.len(), &xs);
     let right = right_point(bytes, metric, components.len(), &xs);
     Ok(Composite {
@@ -96,13 +103,30 @@ impl Composite {
         self.components[k]
     }
 
-    /// No points yet, with room for those of most glyphs.
-    pub fn no_points(&self, alloc: Global) -> Result<Unfolded, AllocError> {
+    /// Keeps its lists for the next one.
+    pub fn keep(self, spare: &mut Spare) {
+        let Composite {
+            components, xs, ys, ..
+        } = self;
+        spare.keep_components(components, xs, ys);
+    }
+
+    /// No points yet, with room for those of most glyphs, in the memory of lists that are spare.
+    pub fn no_points(&self, alloc: Global, spare: &mut Spare) -> Result<Unfolded, AllocError> {
+        let mut on = spare.take_flags(alloc);
+        let mut xs = spare.lists.take_xs(alloc);
+        let mut ys = spare.lists.take_ys(alloc);
+        on.clear();
+        xs.clear();
+        ys.clear();
+        on.reserve(MANY_POINTS)?;
+        xs.reserve(MANY_POINTS)?;
+        ys.reserve(MANY_POINTS)?;
         Ok(Unfolded {
             ends: Vec::new(alloc),
-            on: Vec::with_capacity(alloc, MANY_POINTS)?,
-            xs: Vec::with_capacity(alloc, MANY_POINTS)?,
-            ys: Vec::with_capacity(alloc, MANY_POINTS)?,
+            on,
+            xs,
+            ys,
             left: self.left,
             right: self.right,
         })

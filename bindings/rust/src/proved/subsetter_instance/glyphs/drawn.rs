@@ -5,9 +5,10 @@ use crate::rattle::prelude::Vec;
 
 use crate::proved::subsetter_base::{Error, GlyphRemapper};
 use crate::proved::subsetter_instance::glyphs::cache::GlyphCache;
+use crate::proved::subsetter_instance::glyphs::spare::Spare;
 use crate::proved::subsetter_instance::glyphs::unfolding::{unfold, Unfolded};
 use crate::proved::subsetter_instance::source::Source;
-use crate::proved::subsetter_points::{fits, least_x, Outline, Point};
+use crate::proved::subsetter_points::{bounds_of, fits, Bounds, Outline, Point};
 use crate::proved::subsetter_sfnt::fields::hmtx::LongHorMetric;
 use crate::proved::subsetter_variation::items::advances::advance_delta;
 use crate::rattle::alloc::Global;
@@ -27,8 +28,8 @@ pub struct Drawn {
     pub outline: Outline,
     /// The advance width.
     pub advance: u16,
-    /// The left side bearing.
-    pub bearing: i16,
+    /// The box around the points, at 0 where there are none. Its left side is the left side bearing.
+    pub bounds: Bounds,
 }
 
 /// Parts of 2^30 as a whole number, halves up. What is divided is above 0, so that no sign has to be looked at.
@@ -67,17 +68,22 @@ fn point_or_fault(left: i64, on_curve: bool, x: i64, y: i64) -> Result<Point, Er
     })
 }
 
-/// The points of an unfolded glyph.
+/// Whether a point is on the curve, by bit 0 of its flag.
+fn is_on_curve(flag: u8) -> bool {
+    flag & 1 != 0
+}
+
+/// The points of an unfolded glyph, by their flags.
 fn points_or_fault(
     alloc: Global,
     left: i64,
-    on: &[bool],
+    on: &[u8],
     xs: &[i64],
     ys: &[i64],
 ) -> Result<Vec<Point>, Error> {
     let mut points = Vec::with_capacity(alloc, on.len())?;
     for i in 0..on.len() {
-        points.push_reserved(point_or_fault(left, on[i], xs[i], ys[i])?);
+        points.push_reserved(point_or_fault(left, is_on_curve(on[i]), xs[i], ys[i])?);
     }
     Ok(points)
 }
@@ -109,30 +115,23 @@ pub fn advance(
     }
 }
 
-/// The left side bearing: the least x, 0 without points.
-fn bearing(points: &[Point]) -> i16 {
-    match points {
-        [first, rest @ ..] => least_x(first.x, rest),
-        [] => 0,
-    }
-}
-
 /// What is drawn, unless the outline can't be written, which is `OverflowError`.
 fn drawn_if_fit(outline: Outline, advance: u16) -> Result<Drawn, Error> {
     if !fits(&outline) {
         return Err(Error::OverflowError);
     }
-    let bearing = bearing(&outline.points);
+    let bounds = bounds_of(&outline.points);
     Ok(Drawn {
         outline,
         advance,
-        bearing,
+        bounds,
     })
 }
 
 /// What is drawn of an unfolded glyph: rounded, with its advance and its bearing.
 fn rounded(
     alloc: Global,
+    spare: &mut Spare,
     source: &Source<'_>,
     at: &[i32],
     glyph: u16,
@@ -148,16 +147,18 @@ fn rounded(
         &unfolded.xs,
         &unfolded.ys,
     )?;
-    let outline = Outline {
-        points,
-        ends: unfolded.ends,
-    };
+    let Unfolded {
+        ends, on, xs, ys, ..
+    } = unfolded;
+    spare.keep(on, xs, ys);
+    let outline = Outline { points, ends };
     drawn_if_fit(outline, advance)
 }
 
 /// What is drawn of a glyph at a location, in so many steps, and the glyphs that are kept.
 pub fn draw(
     alloc: Global,
+    spare: &mut Spare,
     source: &Source<'_>,
     at: &[i32],
     steps: u32,
@@ -165,14 +166,15 @@ pub fn draw(
     kept: GlyphCache,
 ) -> Result<(Drawn, GlyphCache), Error> {
     let metric = source.metric(glyph).ok_or(Error::MalformedFont)?;
-    let (unfolded, _, kept) = unfold(alloc, source, at, steps, glyph, kept)?;
-    let drawn = rounded(alloc, source, at, glyph, metric, unfolded)?;
+    let (unfolded, _, kept) = unfold(alloc, spare, source, at, steps, glyph, kept)?;
+    let drawn = rounded(alloc, spare, source, at, glyph, metric, unfolded)?;
     Ok((drawn, kept))
 }
 
 /// What is drawn of a glyph that is requested, and the glyphs that are kept. `MalformedFont` where it is none of the font's.
 fn drawn_if(
     alloc: Global,
+    spare: &mut Spare,
     source: &Source<'_>,
     at: &[i32],
     steps: u32,
@@ -180,7 +182,7 @@ fn drawn_if(
     kept: GlyphCache,
 ) -> Result<(Drawn, GlyphCache), Error> {
     if glyph < source.count() {
-        draw(alloc, source, at, steps, glyph, kept)
+        draw(alloc, spare, source, at, steps, glyph, kept)
     } else {
         Err(Error::MalformedFont)
     }
@@ -196,8 +198,9 @@ pub fn draw_all(
 ) -> Result<Vec<Drawn>, Error> {
     let mut all = Vec::with_capacity(alloc, usize::from(mapper.num_gids()))?;
     let mut kept = GlyphCache::new(alloc);
+    let mut spare = Spare::new(alloc);
     for glyph in mapper.remapped_gids() {
-        let (drawn, others) = drawn_if(alloc, source, at, steps, glyph, kept)?;
+        let (drawn, others) = drawn_if(alloc, &mut spare, source, at, steps, glyph, kept)?;
         all.push(drawn)?;
         kept = others;
     }

@@ -6,7 +6,7 @@ use crate::rattle::prelude::{Cast, Vec};
 use crate::proved::subsetter_base::Error;
 use crate::proved::subsetter_instance::glyphs::drawn::Drawn;
 use crate::proved::subsetter_instance::tables::extremes::{glyph_extents, Extents};
-use crate::proved::subsetter_points::write_simple;
+use crate::proved::subsetter_points::write_bounded;
 use crate::proved::subsetter_sfnt::fields::hmtx::LongHorMetric;
 
 impl Drawn {
@@ -22,13 +22,13 @@ impl Drawn {
 
     /// Its extents, if it has contours.
     pub fn extents(&self) -> Option<Extents> {
-        glyph_extents(self.advance, &self.outline.points)
+        glyph_extents(self.advance, &self.outline.points, self.bounds)
     }
 
     /// Appends its description, of even length, to `glyf`.
     pub fn write_outline(&self, glyf: &mut Vec<u8>) -> Result<(), Error> {
         let start = glyf.len();
-        write_simple(glyf, &self.outline)?;
+        write_bounded(glyf, &self.outline, self.bounds)?;
         if (glyf.len() - start) % 2 == 1 {
             glyf.push(0)?;
         }
@@ -39,7 +39,7 @@ impl Drawn {
     pub fn metric(&self) -> LongHorMetric {
         LongHorMetric {
             advance_width: self.advance,
-            lsb: self.bearing.to_unsigned(),
+            lsb: self.bounds.x_min.to_unsigned(),
         }
     }
 }

@@ -5,6 +5,7 @@ use crate::rattle::prelude::Vec;
 
 use crate::proved::subsetter_base::Error;
 use crate::proved::subsetter_instance::glyphs::components::{has, Arguments, Component, Matrix};
+use crate::proved::subsetter_instance::glyphs::simple::is_near_too;
 use crate::proved::subsetter_instance::glyphs::unfolding::Unfolded;
 use crate::proved::subsetter_points::component::{
     SCALED_COMPONENT_OFFSET, UNSCALED_COMPONENT_OFFSET, USE_MY_METRICS,
@@ -114,11 +115,6 @@ fn shift_by(
             point_at(xs, ys, child),
         ),
     }
-}
-
-/// Whether it held so far, and a coordinate isn't more than 32768 units from 0.
-fn is_near_too(near: bool, v: i64) -> bool {
-    near && v.unsigned_abs() <= 1 << 45
 }
 
 /// Whether no coordinate is more than 32768 units from 0 when it is moved. All are looked at, as a loop with one way out is the

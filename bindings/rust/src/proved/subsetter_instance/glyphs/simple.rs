@@ -5,6 +5,7 @@ use crate::rattle::prelude::{Cast, Vec};
 
 use crate::proved::subsetter_base::read::Reader;
 use crate::proved::subsetter_base::Error;
+use crate::proved::subsetter_instance::glyphs::spare::Spare;
 use crate::proved::subsetter_instance::glyphs::unfolding::Unfolded;
 use crate::proved::subsetter_instance::source::Source;
 use crate::proved::subsetter_points::header::X_MIN;
@@ -13,6 +14,7 @@ use crate::proved::subsetter_sfnt::fields::hmtx::LongHorMetric;
 use crate::proved::subsetter_variation::glyphs::movement::{
     moved_points, spent, Outline as DefaultOutline,
 };
+use crate::proved::subsetter_variation::glyphs::spare::SpareLists;
 use crate::proved::subsetter_variation::glyphs::tuples::Gvar;
 use crate::proved::subsetter_variation::glyphs::varied::in_units;
 use crate::proved::subsetter_variation::rounding::plus;
@@ -62,9 +64,18 @@ pub fn right_point(bytes: &[u8], metric: LongHorMetric, n: usize, xs: &[i64]) ->
     )
 }
 
-/// Whether no coordinate is more than 32768 units from 0.
+/// Whether it held so far, and a coordinate isn't more than 32768 units from 0.
+pub fn is_near_too(near: bool, v: i64) -> bool {
+    near && v.unsigned_abs() <= 1 << 45
+}
+
+/// Whether no coordinate is more than 32768 units from 0. All are looked at, as a loop with one way out is the faster.
 pub fn are_near(coordinates: &[i64]) -> bool {
-    coordinates.iter().all(|v| v.unsigned_abs() <= 1 << 45)
+    let mut near = true;
+    for v in coordinates {
+        near = is_near_too(near, *v);
+    }
+    near
 }
 
 /// A glyph whose points are near, else `OverflowError`.
@@ -79,6 +90,7 @@ pub fn in_range_or_fault(unfolded: Unfolded, steps: u32) -> Result<(Unfolded, u3
 /// Where the points of an outline go.
 pub fn moved(
     alloc: Global,
+    lists: &mut SpareLists,
     gvar: Option<&Gvar<'_>>,
     glyph: u16,
     default: &DefaultOutline<'_>,
@@ -86,12 +98,12 @@ pub fn moved(
     steps: u32,
 ) -> Result<(Vec<i64>, Vec<i64>, u32), Error> {
     match gvar {
-        None => Ok((
-            in_units(alloc, default.xs)?,
-            in_units(alloc, default.ys)?,
-            steps,
-        )),
-        Some(table) => moved_points(alloc, table, glyph, default, at, steps),
+        None => {
+            let xs = in_units(lists.take_xs(alloc), default.xs)?;
+            let ys = in_units(lists.take_ys(alloc), default.ys)?;
+            Ok((xs, ys, steps))
+        }
+        Some(table) => moved_points(alloc, lists, table, glyph, default, at, steps),
     }
 }
 
@@ -102,9 +114,11 @@ fn with_phantoms(coordinates: Vec<i16>) -> Result<Vec<i16>, AllocError> {
     Ok(all)
 }
 
-/// The ends of contours of n points, and of the four phantom points, each a contour of its own.
-fn ends_with_phantoms(alloc: Global, ends: &[u16], n: usize) -> Result<Vec<usize>, AllocError> {
-    let mut all = Vec::with_capacity(alloc, ends.len().saturating_add(4))?;
+/// The ends of contours of n points, and of the four phantom points, each a contour of its own, in the memory of a list that is spare.
+fn ends_with_phantoms(spare: Vec<usize>, ends: &[u16], n: usize) -> Result<Vec<usize>, AllocError> {
+    let mut all = spare;
+    all.clear();
+    all.reserve(ends.len().saturating_add(4))?;
     for end in ends {
         all.push_reserved(*end as usize);
     }
@@ -112,18 +126,10 @@ fn ends_with_phantoms(alloc: Global, ends: &[u16], n: usize) -> Result<Vec<usize
     Ok(all)
 }
 
-/// Whether each point is on the curve, by bit 0 of its flag.
-fn on_curve(alloc: Global, flags: &[u8]) -> Result<Vec<bool>, AllocError> {
-    let mut on = Vec::with_capacity(alloc, flags.len())?;
-    for flag in flags {
-        on.push_reserved(*flag & 1 != 0);
-    }
-    Ok(on)
-}
-
 /// Where the points of a simple outline go, and its phantom points.
 fn moved_simple(
     alloc: Global,
+    spare: &mut Spare,
     gvar: Option<&Gvar<'_>>,
     glyph: u16,
     ends: &[u16],
@@ -132,7 +138,7 @@ fn moved_simple(
     at: &[i32],
     steps: u32,
 ) -> Result<(Vec<i64>, Vec<i64>, u32), Error> {
-    let all_ends = ends_with_phantoms(alloc, ends, xs.len())?;
+    let all_ends = ends_with_phantoms(spare.take_ends(alloc), ends, xs.len())?;
     let all_xs = with_phantoms(xs)?;
     let all_ys = with_phantoms(ys)?;
     let default = DefaultOutline {
@@ -140,40 +146,41 @@ fn moved_simple(
         ys: &all_ys,
         ends: &all_ends,
     };
-    moved(alloc, gvar, glyph, &default, at, steps)
+    let answer = moved(alloc, &mut spare.lists, gvar, glyph, &default, at, steps);
+    spare.keep_default(all_xs, all_ys, all_ends);
+    answer
 }
 
 /// Moved points, without their phantom points.
 fn simple_outline(
-    alloc: Global,
     bytes: &[u8],
     metric: LongHorMetric,
     ends: Vec<u16>,
-    flags: &[u8],
+    on: Vec<u8>,
     xs: Vec<i64>,
     ys: Vec<i64>,
-) -> Result<Unfolded, AllocError> {
-    let n = flags.len();
+) -> Unfolded {
+    let n = on.len();
     let left = left_point(bytes, metric, n, &xs);
     let right = right_point(bytes, metric, n, &xs);
-    let on = on_curve(alloc, flags)?;
     let mut xs = xs;
     let mut ys = ys;
     xs.truncate(n);
     ys.truncate(n);
-    Ok(Unfolded {
+    Unfolded {
         ends,
         on,
         xs,
         ys,
         left,
         right,
-    })
+    }
 }
 
 /// A simple glyph at a location, of which the description is read, and the steps that are left.
 fn unfold_columns(
     alloc: Global,
+    spare: &mut Spare,
     source: &Source<'_>,
     at: &[i32],
     steps: u32,
@@ -189,14 +196,16 @@ fn unfold_columns(
         ys,
     } = columns;
     let steps = spent(flags.len() + 5, steps)?;
-    let (xs, ys, steps) = moved_simple(alloc, source.gvar(), glyph, &ends, xs, ys, at, steps)?;
-    let unfolded = simple_outline(alloc, bytes, metric, ends, &flags, xs, ys)?;
+    let gvar = source.gvar();
+    let (xs, ys, steps) = moved_simple(alloc, spare, gvar, glyph, &ends, xs, ys, at, steps)?;
+    let unfolded = simple_outline(bytes, metric, ends, flags, xs, ys);
     in_range_or_fault(unfolded, steps)
 }
 
 /// A simple glyph at a location, and the steps that are left.
 pub fn unfold_simple(
     alloc: Global,
+    spare: &mut Spare,
     source: &Source<'_>,
     at: &[i32],
     steps: u32,
@@ -204,6 +213,9 @@ pub fn unfold_simple(
     bytes: &[u8],
     metric: LongHorMetric,
 ) -> Result<(Unfolded, u32), Error> {
-    let columns = read_columns(alloc, bytes)?.ok_or(Error::MalformedFont)?;
-    unfold_columns(alloc, source, at, steps, glyph, bytes, metric, columns)
+    let lists = spare.take_columns(alloc);
+    let columns = read_columns(alloc, lists, bytes)?.ok_or(Error::MalformedFont)?;
+    unfold_columns(
+        alloc, spare, source, at, steps, glyph, bytes, metric, columns,
+    )
 }

@@ -8,6 +8,7 @@ use crate::proved::subsetter_base::Error;
 use crate::proved::subsetter_instance::glyphs::cache::GlyphCache;
 use crate::proved::subsetter_instance::glyphs::composite::read_composite;
 use crate::proved::subsetter_instance::glyphs::simple::unfold_simple;
+use crate::proved::subsetter_instance::glyphs::spare::Spare;
 use crate::proved::subsetter_instance::source::Source;
 use crate::proved::subsetter_points::header::COMPOSITE;
 use crate::rattle::alloc::Global;
@@ -15,11 +16,11 @@ use crate::rattle::alloc::Global;
 /// How deep components may have components: 64 levels below a glyph.
 const LEVELS: u8 = 65;
 
-/// A glyph at a location: the number of each contour's last point, which points are on the curve, their coordinates, and x of
-/// the left and of the right phantom point. All coordinates are in parts of 2^30.
+/// A glyph at a location: the number of each contour's last point, the flags of the points, of which bit 0 says whether they are on
+/// the curve, their coordinates, and x of the left and of the right phantom point. All coordinates are in parts of 2^30.
 pub struct Unfolded {
     pub ends: Vec<u16>,
-    pub on: Vec<bool>,
+    pub on: Vec<u8>,
     pub xs: Vec<i64>,
     pub ys: Vec<i64>,
     pub left: i64,
@@ -49,6 +50,7 @@ pub fn counted_description<'a>(source: &Source<'a>, glyph: u16) -> Option<&'a [u
 /// A glyph at a location, the steps that are left, and the glyphs that are kept. It may have components so many levels deep.
 fn unfold_within(
     alloc: Global,
+    spare: &mut Spare,
     depth: u8,
     source: &Source<'_>,
     at: &[i32],
@@ -62,12 +64,12 @@ fn unfold_within(
     let bytes = counted_description(source, glyph).ok_or(Error::MalformedFont)?;
     let metric = source.metric(glyph).ok_or(Error::MalformedFont)?;
     if !is_composite(bytes) {
-        let (simple, left) = unfold_simple(alloc, source, at, steps, glyph, bytes, metric)?;
+        let (simple, left) = unfold_simple(alloc, spare, source, at, steps, glyph, bytes, metric)?;
         return Ok((simple, left, kept));
     }
-    let composite = read_composite(alloc, source, at, steps, glyph, bytes, metric)?;
+    let composite = read_composite(alloc, spare, source, at, steps, glyph, bytes, metric)?;
     let parts = &composite;
-    let mut all = parts.no_points(alloc)?;
+    let mut all = parts.no_points(alloc, spare)?;
     let mut left = parts.steps();
     let mut kept = kept;
     for k in 0..parts.count() {
@@ -79,11 +81,20 @@ fn unfold_within(
             all = more;
             left = rest;
         } else {
-            let (part, rest, others) =
-                unfold_within(alloc, depth - 1, source, at, left, component.glyph, kept)?;
+            let (part, rest, others) = unfold_within(
+                alloc,
+                spare,
+                depth - 1,
+                source,
+                at,
+                left,
+                component.glyph,
+                kept,
+            )?;
             let (more, next) = parts.with_component(alloc, k, component, all, &part, rest)?;
             kept = others.with(
                 alloc,
+                spare,
                 source,
                 at,
                 depth - 1,
@@ -96,17 +107,19 @@ fn unfold_within(
             left = next;
         }
     }
+    composite.keep(spare);
     Ok((all, left, kept))
 }
 
 /// A glyph at a location, the steps that are left, and the glyphs that are kept.
 pub fn unfold(
     alloc: Global,
+    spare: &mut Spare,
     source: &Source<'_>,
     at: &[i32],
     steps: u32,
     glyph: u16,
     kept: GlyphCache,
 ) -> Result<(Unfolded, u32, GlyphCache), Error> {
-    unfold_within(alloc, LEVELS, source, at, steps, glyph, kept)
+    unfold_within(alloc, spare, LEVELS, source, at, steps, glyph, kept)
 }

@@ -3,7 +3,7 @@
 
 use crate::proved::subsetter_base::compare::{larger, smaller};
 use crate::proved::subsetter_instance::glyphs::drawn::Drawn;
-use crate::proved::subsetter_points::{bounds_bytes, box_around, Bounds, Point};
+use crate::proved::subsetter_points::{bounds_bytes, Bounds, Point};
 
 /// The extents of a glyph with contours, or of several.
 #[derive(Clone, Copy)]
@@ -32,10 +32,10 @@ fn extents_of(advance: u16, bounds: Bounds) -> Extents {
     }
 }
 
-/// The extents of a glyph, if it has points.
-pub fn glyph_extents(advance: u16, points: &[Point]) -> Option<Extents> {
+/// The extents of a glyph whose points are in a box, if it has points.
+pub fn glyph_extents(advance: u16, points: &[Point], bounds: Bounds) -> Option<Extents> {
     match points {
-        [first, rest @ ..] => Some(extents_of(advance, box_around(*first, rest))),
+        [_, ..] => Some(extents_of(advance, bounds)),
         [] => None,
     }
 }

@@ -88,7 +88,7 @@ pub fn laid(
     source: &Source<'_>,
     mapper: &GlyphRemapper,
     drawn: &[Drawn],
-    lines: &Lines,
+    lines: &Lines<'_>,
 ) -> Result<Vec<u8>, Error> {
     let head = face.stored(Tag::HEAD).ok_or(Error::MalformedFont)?;
     let new = new_tables(alloc, head, lines.hhea(), source.count(), mapper, drawn)?;

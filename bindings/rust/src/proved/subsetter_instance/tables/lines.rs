@@ -16,10 +16,11 @@ use crate::proved::subsetter_sfnt::fields::post::{
 use crate::proved::subsetter_variation::items::font_metrics::metric_delta;
 use crate::rattle::alloc::{AllocError, Global};
 
-/// `hhea` and `post` with the metrics that vary.
-pub struct Lines {
-    pub hhea: Vec<u8>,
-    pub post: Option<Vec<u8>>,
+/// `hhea` and `post` with the metrics that vary. `post` is the font's own, with the names of all glyphs, where it has none that does.
+pub struct Lines<'a> {
+    hhea: Vec<u8>,
+    moved_post: Option<Vec<u8>>,
+    post: Option<&'a [u8]>,
 }
 
 /// A number with what the metric of a tag varies by.
@@ -130,48 +131,46 @@ fn varied_underline(alloc: Global, mvar: &[u8], at: &[i32], post: &[u8]) -> Resu
     Ok(moved_post(alloc, post, position, thickness)?)
 }
 
-/// `post` at a location.
-fn varied_post(
-    alloc: Global,
-    mvar: Option<&[u8]>,
-    at: &[i32],
-    post: &[u8],
-) -> Result<Vec<u8>, Error> {
-    let mvar = match mvar {
-        Some(mvar) => mvar,
-        _ => {
-            return Ok(copied(alloc, post)?);
-        }
-    };
-    if post.len() < IS_FIXED_PITCH {
-        return Ok(copied(alloc, post)?);
-    }
-    varied_underline(alloc, mvar, at, post)
-}
-
-/// `post` at a location, if there is one.
+/// `post` at a location, unless it stays as it is, if there is one at all.
 fn varied_post_if(
     alloc: Global,
     mvar: Option<&[u8]>,
     at: &[i32],
     post: Option<&[u8]>,
 ) -> Result<Option<Vec<u8>>, Error> {
-    match post {
-        None => Ok(None),
-        Some(post) => Ok(Some(varied_post(alloc, mvar, at, post)?)),
+    let table = match post {
+        Some(table) => table,
+        _ => {
+            return Ok(None);
+        }
+    };
+    let mvar = match mvar {
+        Some(mvar) => mvar,
+        _ => {
+            return Ok(None);
+        }
+    };
+    if table.len() < IS_FIXED_PITCH {
+        return Ok(None);
     }
+    Ok(Some(varied_underline(alloc, mvar, at, table)?))
 }
 
 /// `hhea` and `post` of a font at a location. A cut table is `MalformedFont`, a number past 16 bits `OverflowError`.
-pub fn lines_of(alloc: Global, face: &Face<'_>, at: &[i32]) -> Result<Lines, Error> {
+pub fn lines_of<'a>(alloc: Global, face: &Face<'a>, at: &[i32]) -> Result<Lines<'a>, Error> {
     let mvar = face.stored(Tag::new(b"MVAR"));
     let hhea = face.stored(Tag::HHEA).ok_or(Error::MalformedFont)?;
     let hhea = varied_hhea(alloc, mvar, at, hhea)?;
-    let post = varied_post_if(alloc, mvar, at, face.stored(Tag::POST))?;
-    Ok(Lines { hhea, post })
+    let post = face.stored(Tag::POST);
+    let moved_post = varied_post_if(alloc, mvar, at, post)?;
+    Ok(Lines {
+        hhea,
+        moved_post,
+        post,
+    })
 }
 
-impl Lines {
+impl<'a> Lines<'a> {
     /// `hhea`.
     pub fn hhea(&self) -> &[u8] {
         &self.hhea
@@ -179,9 +178,9 @@ impl Lines {
 
     /// `post`, if there is one.
     pub fn post(&self) -> Option<&[u8]> {
-        match &self.post {
-            Some(post) => Some(post),
-            None => None,
+        match &self.moved_post {
+            Some(moved) => Some(moved),
+            None => self.post,
         }
     }
 }

@@ -5,20 +5,21 @@ use crate::rattle::prelude::Vec;
 
 use crate::proved::subsetter_base::Error;
 use crate::proved::subsetter_points::lists::deltas::read_coordinate;
-use crate::rattle::alloc::Global;
 
 /// Room for the coordinates of the phantom points of a glyph, which may be put behind those of its points.
 const PHANTOM_POINTS: usize = 4;
 
-/// The coordinate of each flag, by the two bits that encode its delta, and the bytes after them.
+/// The coordinate of each flag, by the two bits that encode its delta, in the memory of a list that is spare, and the bytes after them.
 pub fn read_coordinates<'a>(
-    alloc: Global,
+    spare: Vec<i16>,
     short: u8,
     same: u8,
     flags: &[u8],
     bytes: &'a [u8],
 ) -> Result<Option<(Vec<i16>, &'a [u8])>, Error> {
-    let mut coordinates = Vec::with_capacity(alloc, flags.len().saturating_add(PHANTOM_POINTS))?;
+    let mut coordinates = spare;
+    coordinates.clear();
+    coordinates.reserve(flags.len().saturating_add(PHANTOM_POINTS))?;
     let mut before = 0;
     let mut rest = bytes;
     for flag in flags {

@@ -6,7 +6,6 @@ use crate::rattle::prelude::Vec;
 use crate::proved::subsetter_base::Error;
 use crate::proved::subsetter_points::lists::deltas::has;
 use crate::proved::subsetter_points::lists::front::read_byte;
-use crate::rattle::alloc::Global;
 
 /// The next byte is the number of additional times that the flag is to be repeated.
 const REPEAT_FLAG: u8 = 0x08;
@@ -48,13 +47,15 @@ fn read_next(run: Run, bytes: &[u8]) -> Option<(Run, &[u8])> {
     Some((rest_of_run, bytes))
 }
 
-/// The flags of so many points, and the bytes after them.
+/// The flags of so many points, in the memory of a list that is spare, and the bytes after them.
 pub fn read_flags(
-    alloc: Global,
+    spare: Vec<u8>,
     count: usize,
     bytes: &[u8],
 ) -> Result<Option<(Vec<u8>, &[u8])>, Error> {
-    let mut flags = Vec::with_capacity(alloc, count)?;
+    let mut flags = spare;
+    flags.clear();
+    flags.reserve(count)?;
     let mut run = Run {
         flag: 0,
         repeats: 0,

@@ -55,62 +55,56 @@ fn search_range(count: u16) -> u16 {
     }
 }
 
-/// Writes kind, number of tables and the numbers for a search.
-fn write_header(out: &mut Vec<u8>, kind: u32, count: u16) {
+/// Overwrites the bytes at an offset.
+fn patch_bytes(out: &mut Vec<u8>, at: usize, bytes: &[u8]) {
+    out[at..at + bytes.len()].copy_from_slice(bytes);
+}
+
+/// Kind, number of tables and the numbers for a search.
+fn new_header(kind: u32, count: u16) -> [u8; 12] {
     let range = search_range(count);
     let [a, b, c, d] = kind.to_be_bytes();
     let [e, f] = count.to_be_bytes();
     let [g, h] = range.to_be_bytes();
     let [i, j] = entry_selector(count).to_be_bytes();
     let [k, l] = (16 * count).saturating_sub(range).to_be_bytes();
-    put(out, &[a, b, c, d, e, f, g, h, i, j, k, l]);
+    [a, b, c, d, e, f, g, h, i, j, k, l]
 }
 
-/// Writes three words.
-fn write_words(out: &mut Vec<u8>, sum: u32, at: u32, len: u32) {
+/// The record of a table that is at an offset.
+fn new_record<T: TableBytes>(at: u32, len: u32, sum: u32, table: &NewTable<T>) -> [u8; 16] {
+    let tag = table.tag.get();
     let [a, b, c, d] = sum.to_be_bytes();
     let [e, f, g, h] = at.to_be_bytes();
     let [i, j, k, l] = len.to_be_bytes();
-    put(out, &[a, b, c, d, e, f, g, h, i, j, k, l]);
+    [
+        tag[0], tag[1], tag[2], tag[3], a, b, c, d, e, f, g, h, i, j, k, l,
+    ]
 }
 
-/// Writes the record of a table that is at an offset.
-fn write_record<T: TableBytes>(
-    out: &mut Vec<u8>,
-    at: usize,
-    len: usize,
-    sum: u32,
-    table: &NewTable<T>,
-) {
-    put(out, table.tag.get());
-    write_words(out, sum, at as u32, len as u32);
-}
-
-/// Writes a table, with zeros up to a multiple of four, and its record, and answers its checksum.
+/// Writes a table, with zeros up to a multiple of four, and its record in the place of other bytes, and answers its checksum.
 fn write_table<T: TableBytes>(
     out: &mut Vec<u8>,
-    front: &mut Vec<u8>,
+    place: usize,
     at: usize,
     table: &NewTable<T>,
 ) -> u32 {
     let sum = table.data.write_summed(out);
     align(out);
-    write_record(front, at, table.data.len(), sum, table);
+    let bytes = new_record(at as u32, table.data.len() as u32, sum, table);
+    patch_bytes(out, place, &bytes);
     sum
 }
 
-/// Writes tables, each with zeros up to a multiple of four, and the records of tables that are from an offset on.
-/// Answers the checksum of all the tables.
-fn write_tables<T: TableBytes>(
-    out: &mut Vec<u8>,
-    front: &mut Vec<u8>,
-    start: usize,
-    tables: &[NewTable<T>],
-) -> u32 {
+/// Writes tables, each with zeros up to a multiple of four, and their records in the place of other bytes, all of which are
+/// before an offset. Answers the checksum of all the tables.
+fn write_tables<T: TableBytes>(out: &mut Vec<u8>, start: usize, tables: &[NewTable<T>]) -> u32 {
+    let mut place = TABLE_RECORDS;
     let mut at = start;
     let mut sum: u32 = 0;
     for table in tables {
-        sum = sum.wrapping_add(write_table(out, front, at, table));
+        sum = sum.wrapping_add(write_table(out, place, at, table));
+        place += TABLE_RECORD_SIZE;
         at += aligned_len(table.data.len());
     }
     sum
@@ -132,33 +126,26 @@ fn adjust<T: TableBytes>(out: &mut Vec<u8>, start: usize, word: u32, tables: &[N
     }
 }
 
-/// Writes zeros for what is before the tables, which is patched later. At most 252 bytes: a header and 15 records.
+/// Writes zeros for what is before the tables, in whose place it is written later. At most 252 bytes: a header and 15 records.
 fn skip_front(out: &mut Vec<u8>, count: usize) {
     put(out, &[0; 252][..count]);
-}
-
-/// Overwrites the bytes at an offset.
-fn patch_bytes(out: &mut Vec<u8>, at: usize, bytes: &[u8]) {
-    out[at..at + bytes.len()].copy_from_slice(bytes);
 }
 
 /// Lays out a file in room that its caller reserved, also for what is before the tables. No memory is taken.
 /// Each table is summed as it is written.
 pub fn construct<T: TableBytes>(
     out: Vec<u8>,
-    front: Vec<u8>,
     flavor: FontFlavor,
     tables: &[NewTable<T>],
 ) -> Vec<u8> {
     let mut out = out;
-    let mut front = front;
     let start = TABLE_RECORDS + TABLE_RECORD_SIZE * tables.len();
     skip_front(&mut out, start);
-    write_header(&mut front, flavor.kind(), tables.len() as u16);
-    let tables_sum = write_tables(&mut out, &mut front, start, tables);
-    patch_bytes(&mut out, 0, &front);
+    let header = new_header(flavor.kind(), tables.len() as u16);
+    patch_bytes(&mut out, 0, &header);
+    let tables_sum = write_tables(&mut out, start, tables);
     // Each table begins at a multiple of four, so the sum of the file is that of its parts.
-    let sum = checksum(&front).wrapping_add(tables_sum);
+    let sum = checksum(&out[..start]).wrapping_add(tables_sum);
     adjust(&mut out, start, FILE_SUM.wrapping_sub(sum), tables);
     out
 }
@@ -181,7 +168,6 @@ pub fn finish<T: TableBytes>(
 ) -> Result<Vec<u8>, Error> {
     let size = file_size(tables)?;
     check_bound(size, bytes)?;
-    let front = Vec::with_capacity(alloc, TABLE_RECORDS + TABLE_RECORD_SIZE * tables.len())?;
     let out = Vec::with_capacity(alloc, size)?;
-    Ok(construct(out, front, flavor, tables))
+    Ok(construct(out, flavor, tables))
 }

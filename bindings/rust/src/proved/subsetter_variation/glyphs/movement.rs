@@ -8,6 +8,8 @@
 use crate::rattle::prelude::Vec;
 
 use crate::proved::subsetter_base::Error;
+use crate::proved::subsetter_variation::glyphs::inference::Point;
+use crate::proved::subsetter_variation::glyphs::spare::{keep_numbers, SpareLists};
 use crate::proved::subsetter_variation::glyphs::tuples::{
     both_deltas, count_of, next_header, shared_numbers, tuple_headers, Gvar, TupleHeader,
     TupleHeaders,
@@ -63,6 +65,7 @@ pub fn spent(n: usize, steps: u32) -> Result<u32, Error> {
 /// The points moved by one tuple, and these steps left.
 fn moved_by<'a>(
     alloc: Global,
+    spare: &mut Vec<Point>,
     o: &Outline<'_>,
     scalar: i64,
     numbers: &Option<Vec<u32>>,
@@ -74,8 +77,8 @@ fn moved_by<'a>(
     let Walk {
         xs, ys, headers, ..
     } = w;
-    let xs = added(alloc, o.xs, o.ends, numbers, dx, scalar, xs)?;
-    let ys = added(alloc, o.ys, o.ends, numbers, dy, scalar, ys)?;
+    let xs = added(alloc, spare, o.xs, o.ends, numbers, dx, scalar, xs)?;
+    let ys = added(alloc, spare, o.ys, o.ends, numbers, dy, scalar, ys)?;
     Ok(Walk {
         xs,
         ys,
@@ -108,6 +111,7 @@ fn moved_by_each<'a>(
 /// The points moved by a tuple with these point numbers, none for all, and deltas, whose bytes these are, and these steps left.
 fn moved_by_packed<'a>(
     alloc: Global,
+    lists: &mut SpareLists,
     o: &Outline<'_>,
     scalar: i64,
     numbers: &Option<Vec<u32>>,
@@ -118,8 +122,14 @@ fn moved_by_packed<'a>(
     match numbers {
         None => moved_by_each(o, scalar, bytes, left, w).ok_or(Error::MalformedFont),
         Some(_) => {
-            let (dx, dy) = both_deltas(alloc, count_of(o.count() as u32, numbers), bytes)?;
-            Ok(moved_by(alloc, o, scalar, numbers, &dx, &dy, left, w)?)
+            let dx = lists.take_dx(alloc);
+            let dy = lists.take_dy(alloc);
+            let (dx, dy) = both_deltas(dx, dy, count_of(o.count() as u32, numbers), bytes)?;
+            let points = &mut lists.points;
+            let moved = moved_by(alloc, points, o, scalar, numbers, &dx, &dy, left, w)?;
+            lists.dx = dx;
+            lists.dy = dy;
+            Ok(moved)
         }
     }
 }
@@ -127,6 +137,7 @@ fn moved_by_packed<'a>(
 /// The points moved by a tuple that counts: a step for each point, and its deltas.
 fn counted_walk<'a>(
     alloc: Global,
+    lists: &mut SpareLists,
     o: &Outline<'_>,
     shared: &Option<Vec<u32>>,
     scalar: i64,
@@ -136,16 +147,19 @@ fn counted_walk<'a>(
     let n = o.count();
     let left = spent(n, w.steps())?;
     if h.has_private_numbers() {
-        let (numbers, rest) = point_numbers(alloc, n as u32, h.packed())?;
-        moved_by_packed(alloc, o, scalar, &numbers, rest, left, w)
+        let (numbers, rest) = point_numbers(alloc, &mut lists.numbers, n as u32, h.packed())?;
+        let moved = moved_by_packed(alloc, lists, o, scalar, &numbers, rest, left, w);
+        keep_numbers(&mut lists.numbers, numbers);
+        moved
     } else {
-        moved_by_packed(alloc, o, scalar, shared, h.packed(), left, w)
+        moved_by_packed(alloc, lists, o, scalar, shared, h.packed(), left, w)
     }
 }
 
 /// The points moved by the next tuple: a step, its header, its scalar, and its deltas unless that is 0.
 fn next_walk<'a>(
     alloc: Global,
+    lists: &mut SpareLists,
     t: &Gvar<'a>,
     o: &Outline<'_>,
     shared: &Option<Vec<u32>>,
@@ -170,13 +184,14 @@ fn next_walk<'a>(
     if s == 0 {
         Ok(w)
     } else {
-        counted_walk(alloc, o, shared, s, header, w)
+        counted_walk(alloc, lists, o, shared, s, header, w)
     }
 }
 
 /// The points moved by all tuples that are left.
 fn walk_all<'a>(
     alloc: Global,
+    lists: &mut SpareLists,
     t: &Gvar<'a>,
     o: &Outline<'_>,
     shared: &Option<Vec<u32>>,
@@ -186,7 +201,7 @@ fn walk_all<'a>(
     let count = w.left();
     let mut w = w;
     for _ in 0..count {
-        w = next_walk(alloc, t, o, shared, at, w)?;
+        w = next_walk(alloc, lists, t, o, shared, at, w)?;
     }
     Ok(w)
 }
@@ -194,12 +209,13 @@ fn walk_all<'a>(
 /// The points before the first tuple.
 fn start<'a>(
     alloc: Global,
+    lists: &mut SpareLists,
     o: &Outline<'_>,
     steps: u32,
     headers: TupleHeaders<'a>,
 ) -> Result<Walk<'a>, AllocError> {
-    let xs = in_units(alloc, o.xs)?;
-    let ys = in_units(alloc, o.ys)?;
+    let xs = in_units(lists.take_xs(alloc), o.xs)?;
+    let ys = in_units(lists.take_ys(alloc), o.ys)?;
     Ok(Walk {
         xs,
         ys,
@@ -211,6 +227,7 @@ fn start<'a>(
 /// The points moved by all tuples of a glyph, whose bytes these are.
 fn moved_in_bytes<'a>(
     alloc: Global,
+    lists: &mut SpareLists,
     t: &Gvar<'a>,
     o: &Outline<'_>,
     at: &[i32],
@@ -219,9 +236,10 @@ fn moved_in_bytes<'a>(
 ) -> Result<(Vec<i64>, Vec<i64>, u32), Error> {
     let n = o.count() as u32;
     let (is_shared, headers) = tuple_headers(bytes).ok_or(Error::MalformedFont)?;
-    let (shared, headers) = shared_numbers(alloc, n, is_shared, headers)?;
-    let w = start(alloc, o, steps, headers)?;
-    let Walk { xs, ys, steps, .. } = walk_all(alloc, t, o, &shared, at, w)?;
+    let (shared, headers) = shared_numbers(alloc, &mut lists.shared, n, is_shared, headers)?;
+    let w = start(alloc, lists, o, steps, headers)?;
+    let Walk { xs, ys, steps, .. } = walk_all(alloc, lists, t, o, &shared, at, w)?;
+    keep_numbers(&mut lists.shared, shared);
     Ok((xs, ys, steps))
 }
 
@@ -230,6 +248,7 @@ fn moved_in_bytes<'a>(
 /// that aren't there or are cut are `MalformedFont`.
 pub fn moved_points(
     alloc: Global,
+    lists: &mut SpareLists,
     t: &Gvar<'_>,
     glyph: u16,
     o: &Outline<'_>,
@@ -238,7 +257,9 @@ pub fn moved_points(
 ) -> Result<(Vec<i64>, Vec<i64>, u32), Error> {
     let bytes = t.variations_of(glyph).ok_or(Error::MalformedFont)?;
     if bytes.is_empty() {
-        return Ok((in_units(alloc, o.xs)?, in_units(alloc, o.ys)?, steps));
+        let xs = in_units(lists.take_xs(alloc), o.xs)?;
+        let ys = in_units(lists.take_ys(alloc), o.ys)?;
+        return Ok((xs, ys, steps));
     }
-    moved_in_bytes(alloc, t, o, at, steps, bytes)
+    moved_in_bytes(alloc, lists, t, o, at, steps, bytes)
 }

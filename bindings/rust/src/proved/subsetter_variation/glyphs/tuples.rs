@@ -247,10 +247,15 @@ pub fn next_header<'a>(
     ))
 }
 
-/// The deltas of x and those of y, one for each of so many points.
-pub fn both_deltas(alloc: Global, n: usize, bytes: &[u8]) -> Result<(Vec<i16>, Vec<i16>), Error> {
-    let (x, rest) = deltas(alloc, n, bytes)?;
-    let (y, _) = deltas(alloc, n, rest)?;
+/// The deltas of x and those of y, one for each of so many points, in the memory of lists that are spare.
+pub fn both_deltas(
+    spare_x: Vec<i16>,
+    spare_y: Vec<i16>,
+    n: usize,
+    bytes: &[u8],
+) -> Result<(Vec<i16>, Vec<i16>), Error> {
+    let (x, rest) = deltas(spare_x, n, bytes)?;
+    let (y, _) = deltas(spare_y, n, rest)?;
     Ok((x, y))
 }
 
@@ -262,15 +267,16 @@ pub(crate) fn count_of(limit: u32, numbers: &Option<Vec<u32>>) -> usize {
     }
 }
 
-/// The point numbers that the tuples share, none for all, and the tuples.
+/// The point numbers that the tuples share, none for all, in the memory of a list that is spare, and the tuples.
 pub fn shared_numbers<'a>(
     alloc: Global,
+    spare: &mut Vec<u32>,
     limit: u32,
     is_shared: bool,
     r: TupleHeaders<'a>,
 ) -> Result<(Option<Vec<u32>>, TupleHeaders<'a>), Error> {
     if is_shared {
-        let (numbers, rest) = point_numbers(alloc, limit, r.serialized())?;
+        let (numbers, rest) = point_numbers(alloc, spare, limit, r.serialized())?;
         Ok((numbers, r.with_serialized(rest)))
     } else {
         Ok((None, r))

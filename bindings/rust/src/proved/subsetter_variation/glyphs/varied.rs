@@ -8,32 +8,48 @@ use crate::proved::subsetter_variation::glyphs::inference::Point;
 use crate::proved::subsetter_variation::packing::packed_sums::add_deltas;
 use crate::proved::subsetter_variation::rounding::scalar_times_delta;
 use crate::rattle::alloc::{AllocError, Global};
+use crate::rattle::mem;
 
 /// The unit of a scalar, and of a sum: 2^30.
 pub const UNIT: i64 = 1 << 30;
 
-/// The deltas with that of one point, if there is such a point.
-fn with_delta(list: Vec<Option<i16>>, number: usize, delta: i16) -> Vec<Option<i16>> {
-    let mut list = list;
-    if number < list.len() {
-        list[number] = Some(delta);
+/// The points of a glyph before a tuple gives any of them a delta, in the memory of a list that is spare.
+fn untouched(spare: Vec<Point>, coordinates: &[i16]) -> Result<Vec<Point>, AllocError> {
+    let mut points = spare;
+    points.clear();
+    points.reserve(coordinates.len())?;
+    for at in coordinates {
+        points.push_reserved(Point {
+            at: *at,
+            delta: None,
+        });
     }
-    list
+    Ok(points)
 }
 
-/// Of each of so many points the delta that is listed for it, if any.
-fn listed_by_point(
-    alloc: Global,
-    n: usize,
+/// The points with the delta of one of them, if there is such a point.
+fn with_delta(points: Vec<Point>, number: usize, delta: i16) -> Vec<Point> {
+    if number >= points.len() {
+        return points;
+    }
+    let mut points = points;
+    points[number].delta = Some(delta);
+    points
+}
+
+/// The points of a glyph, each with the delta that is listed for its number, if any, in the memory of a list that is spare.
+fn listed_points(
+    spare: Vec<Point>,
+    coordinates: &[i16],
     numbers: &[u32],
     deltas: &[i16],
-) -> Result<Vec<Option<i16>>, AllocError> {
-    let mut list = vec![in alloc; None; n]?;
+) -> Result<Vec<Point>, AllocError> {
+    let mut points = untouched(spare, coordinates)?;
     let count = numbers.len().min(deltas.len());
     for i in 0..count {
-        list = with_delta(list, numbers[i] as usize, deltas[i]);
+        points = with_delta(points, numbers[i] as usize, deltas[i]);
     }
-    Ok(list)
+    Ok(points)
 }
 
 /// The delta of a point, if there are as many.
@@ -50,20 +66,7 @@ fn all_by_point(alloc: Global, n: usize, deltas: &[i16]) -> Result<Vec<Option<i1
     Ok(list)
 }
 
-/// Of each of so many points the delta that a tuple gives it, if any: the one that is listed for its number, or without numbers its own.
-pub fn deltas_by_point(
-    alloc: Global,
-    n: usize,
-    numbers: &Option<Vec<u32>>,
-    deltas: &[i16],
-) -> Result<Vec<Option<i16>>, AllocError> {
-    match numbers {
-        None => all_by_point(alloc, n, deltas),
-        Some(numbers) => listed_by_point(alloc, n, numbers, deltas),
-    }
-}
-
-/// The points of a glyph with the deltas that a tuple gives.
+/// The points of a glyph with these deltas.
 fn points(
     alloc: Global,
     coordinates: &[i16],
@@ -79,6 +82,32 @@ fn points(
         .collect_with(alloc)
 }
 
+/// The points of a glyph, each with its own delta, if there are as many.
+fn own_points(
+    alloc: Global,
+    coordinates: &[i16],
+    deltas: &[i16],
+) -> Result<Vec<Point>, AllocError> {
+    let own = all_by_point(alloc, coordinates.len(), deltas)?;
+    let points = points(alloc, coordinates, &own)?;
+    Ok(points)
+}
+
+/// The points of a glyph with the deltas that a tuple gives: those that are listed for their numbers, or without numbers their own.
+/// Those that are listed stand in the memory of a list that is spare.
+fn points_of_tuple(
+    alloc: Global,
+    spare: Vec<Point>,
+    coordinates: &[i16],
+    numbers: &Option<Vec<u32>>,
+    deltas: &[i16],
+) -> Result<Vec<Point>, AllocError> {
+    match numbers {
+        None => own_points(alloc, coordinates, deltas),
+        Some(numbers) => listed_points(spare, coordinates, numbers, deltas),
+    }
+}
+
 /// Writes coordinates in parts of 2^30.
 fn write_units(sums: &mut [i64], coordinates: &[i16]) {
     for (k, x) in coordinates.iter().enumerate() {
@@ -86,16 +115,26 @@ fn write_units(sums: &mut [i64], coordinates: &[i16]) {
     }
 }
 
-/// Coordinates in parts of 2^30.
-pub fn in_units(alloc: Global, coordinates: &[i16]) -> Result<Vec<i64>, AllocError> {
-    let mut sums = vec![in alloc; 0; coordinates.len()]?;
+/// A list of so many numbers, in the memory of one that is spare.
+fn zeros(spare: Vec<i64>, count: usize) -> Result<Vec<i64>, AllocError> {
+    let mut sums = spare;
+    sums.clear();
+    sums.resize(count, 0)?;
+    Ok(sums)
+}
+
+/// Coordinates in parts of 2^30, in the memory of a list that is spare.
+pub fn in_units(spare: Vec<i64>, coordinates: &[i16]) -> Result<Vec<i64>, AllocError> {
+    let mut sums = zeros(spare, coordinates.len())?;
     write_units(&mut sums, coordinates);
     Ok(sums)
 }
 
-/// The sums of the points, and what a tuple moves each by on top, along one axis, contour by contour.
+/// The sums of the points, and what a tuple moves each by on top, along one axis, contour by contour. The list of points that is spare
+/// is used, and kept.
 pub fn added(
     alloc: Global,
+    spare: &mut Vec<Point>,
     coordinates: &[i16],
     ends: &[usize],
     numbers: &Option<Vec<u32>>,
@@ -103,10 +142,11 @@ pub fn added(
     scalar: i64,
     sums: Vec<i64>,
 ) -> Result<Vec<i64>, AllocError> {
-    let by_point = deltas_by_point(alloc, coordinates.len(), numbers, deltas)?;
-    let points = points(alloc, coordinates, &by_point)?;
+    let list = mem::replace(spare, Vec::new(alloc));
+    let points = points_of_tuple(alloc, list, coordinates, numbers, deltas)?;
     let mut sums = sums;
     add_tuple(&mut sums, &points, ends, scalar);
+    *spare = points;
     Ok(sums)
 }
 

@@ -10,6 +10,7 @@ use crate::rattle::prelude::{Cast, Vec};
 
 use crate::proved::subsetter_base::Error;
 use crate::rattle::alloc::Global;
+use crate::rattle::mem;
 
 /// The flags of a run of deltas: all are 0, and it has no bytes.
 pub(crate) const DELTAS_ARE_ZERO: u8 = 0x80;
@@ -152,9 +153,12 @@ fn ended<'a>(r: Run<'a>) -> Option<&'a [u8]> {
     }
 }
 
-/// That many deltas, and the bytes behind them. A cut list, or a run that is longer than it, is `MalformedFont`.
-pub fn deltas(alloc: Global, n: usize, bytes: &[u8]) -> Result<(Vec<i16>, &[u8]), Error> {
-    let mut list = Vec::with_capacity(alloc, n)?;
+/// That many deltas, in the memory of a list that is spare, and the bytes behind them. A cut list, or a run that is longer than it, is
+/// `MalformedFont`.
+pub fn deltas(spare: Vec<i16>, n: usize, bytes: &[u8]) -> Result<(Vec<i16>, &[u8]), Error> {
+    let mut list = spare;
+    list.clear();
+    list.reserve(n)?;
     let mut run = runs(bytes);
     for _ in 0..n {
         let (delta, next) = next_delta(run).ok_or(Error::MalformedFont)?;
@@ -165,14 +169,16 @@ pub fn deltas(alloc: Global, n: usize, bytes: &[u8]) -> Result<(Vec<i16>, &[u8])
     Ok((list, rest))
 }
 
-/// So many numbers, which ascend and are below the limit, and the bytes behind them.
+/// So many numbers, which ascend and are below the limit, in the memory of a list that is spare, and the bytes behind them.
 fn points_from(
-    alloc: Global,
+    spare: Vec<u32>,
     limit: u32,
     count: u16,
     bytes: &[u8],
 ) -> Result<(Vec<u32>, &[u8]), Error> {
-    let mut list = Vec::with_capacity(alloc, usize::from(count))?;
+    let mut list = spare;
+    list.clear();
+    list.reserve(usize::from(count))?;
     let mut run = runs(bytes);
     let mut before = 0;
     let mut least = 0;
@@ -187,17 +193,19 @@ fn points_from(
     Ok((list, rest))
 }
 
-/// The points that deltas are given for, none for all, and the bytes behind them. A cut list, a run that is longer than it,
-/// or a number that is given twice or isn't below the limit is `MalformedFont`.
-pub fn point_numbers(
+/// The points that deltas are given for, none for all, in the memory of a list that is spare, and the bytes behind them. A cut list, a
+/// run that is longer than it, or a number that is given twice or isn't below the limit is `MalformedFont`.
+pub fn point_numbers<'a>(
     alloc: Global,
+    spare: &mut Vec<u32>,
     limit: u32,
-    bytes: &[u8],
-) -> Result<(Option<Vec<u32>>, &[u8]), Error> {
+    bytes: &'a [u8],
+) -> Result<(Option<Vec<u32>>, &'a [u8]), Error> {
     let (count, first) = count_in(bytes).ok_or(Error::MalformedFont)?;
     if count == 0 {
         return Ok((None, first));
     }
-    let (numbers, rest) = points_from(alloc, limit, count, first)?;
+    let list = mem::replace(spare, Vec::new(alloc));
+    let (numbers, rest) = points_from(list, limit, count, first)?;
     Ok((Some(numbers), rest))
 }

@@ -1,4 +1,4 @@
-use Rattle.std.proofs.Common.{◌≡◌, map, ℕ, List, length, arith, drop}
+use Rattle.std.proofs.Common.{◌≡◌, map, length, arith, drop}
 use Rattle.std.specs.List.{concat}
 use Rattle.std.proofs.lemmas.List.{at_drop_all}
 use Rattle.subsetter_cffdata.proofs.indexes.writing_index.total.Goals as goal

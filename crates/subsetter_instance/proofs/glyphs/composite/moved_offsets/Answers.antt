@@ -9,8 +9,8 @@ use Rattle.subsetter_instance.proofs.glyphs.composite.moved_offsets.Goals as goa
 same : (xs ys us vs : List ℤ) (es fs : List ℕ) → xs ≡ us → ys ≡ vs → es ≡ fs → IsOutline (record { xs = us; ys = vs; ends = fs }) → IsOutline (record { xs = xs; ys = ys; ends = es })
 same xs ys us vs es fs a b e h = rw (a, b, e) h
 
-pub moved-requires-clause-outline : goal.moved-requires-clause-outline
-moved-requires-clause-outline c =
+pub moved-answer-requires-clause-outline : goal.moved-answer-requires-clause-outline
+moved-answer-requires-clause-outline c =
     let cs = c.args.components.now in
     let n : length cs ≡ length (offset_xs cs) = sym (length-map cs (λ d. offset_x d.arguments)) in
     same _ _ _ _ _ _

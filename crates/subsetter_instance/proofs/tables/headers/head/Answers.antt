@@ -1,4 +1,4 @@
-use Rattle.std.proofs.Common.{◌≡◌, ℕ, length, ap, ◌∙◌, arith}
+use Rattle.std.proofs.Common.{◌≡◌, length, ap, ◌∙◌, arith}
 use Rattle.subsetter_sfnt.proofs.Laws.FieldsLaws.HeadLaws.{length-head}
 use Rattle.subsetter_instance.proofs.FileLaws.Head.{eight_bytes}
 use Rattle.subsetter_instance.proofs.tables.headers.head.Goals as goal

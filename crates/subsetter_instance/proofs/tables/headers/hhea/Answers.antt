@@ -1,4 +1,4 @@
-use Rattle.std.proofs.Common.{◌≡◌, ℕ, length, ap, ◌∙◌, arith}
+use Rattle.std.proofs.Common.{◌≡◌, length, ap, ◌∙◌, arith}
 use Rattle.subsetter_sfnt.proofs.Laws.FieldsLaws.HheaLaws.{length-hhea}
 use Rattle.subsetter_instance.proofs.FileLaws.Metrics.{eight_bytes}
 use Rattle.subsetter_instance.proofs.tables.headers.hhea.Goals as goal

@@ -12,10 +12,10 @@ use Rattle.subsetter_type2.proofs.runs.flattening.flatten_within.Goals as goal
 pub loop-current-init : goal.loop-current-init
 loop-current-init g c =
     record {
-      reached = behind_start _ _ _ _ _ _ _ _ (ap (λ r. c.args.charstring.now ∷ rests_of r) c.new-rests.ensures)
+      reached = behind_start _ _ _ _ _ _ _ _ (ap (λ r. c.args.charstring.now ∷ rests_of r) c.clear.ensures)
           (ap (registers_of (λ w. w)) c.new-machine.ensures ∙ ap (λ w. record { operands = w.operands; stems = 0; mask_len = 0 }) c.behind.ensures)
           (ap (λ m. m.output.settled) c.new-machine.ensures ∙ ap (λ w. w.settled) c.behind.ensures);
-      room = omega (arith, ap length c.new-rests.ensures);
+      room = omega (arith, ap length c.clear.ensures);
     }
 
 pub returns-then-tokens-eq0 : goal.returns-then-tokens-eq0

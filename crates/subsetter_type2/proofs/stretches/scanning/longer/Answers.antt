@@ -1,4 +1,4 @@
-use Rattle.std.proofs.Common.{rules, ◌≡◌, ◌≤◌, ◌<◌, ◌+◌, arith, length, get_or, refl, sym}
+use Rattle.std.proofs.Common.{rules, ◌<◌, ◌+◌, arith, get_or, refl, sym}
 use Rattle.subsetter_type2.proofs.StretchesLaws.Stretches.{by_plain}
 use Rattle.subsetter_type2.proofs.stretches.scanning.longer.Goals as goal
 

@@ -15,5 +15,5 @@ returns-in-None-clause-value c =
 pub returns-in-None-clause-bound : goal.returns-in-None-clause-bound
 returns-in-None-clause-bound c b h = subst (λ r. IfOk r (λ v. IsWithin (b + 2 ^ 45) c.args.o.now v)) (sym c.ok_or.ensures.value) (if_ok (λ v. IsWithin (b + 2 ^ 45) c.args.o.now v) c.moved_by_each.result MalformedFont (c.moved_by_each.ensures.bound b h))
 
-pub returns-in_ok-moved_by-in-Some-clause-bound : goal.returns-in_ok-moved_by-in-Some-clause-bound
-returns-in_ok-moved_by-in-Some-clause-bound c b h = c.in_ok-moved_by-in-Some.ensures.bound b h
+pub returns-in_ok-moved-in-Some-clause-bound : goal.returns-in_ok-moved-in-Some-clause-bound
+returns-in_ok-moved-in-Some-clause-bound c b h = c.in_ok-moved-in-Some.ensures.bound b h

@@ -8,19 +8,29 @@
 use crate::rattle::prelude::Vec;
 
 use crate::proved::subsetter_base::fields::byte_in;
+use crate::proved::subsetter_base::read::between_offsets;
 use crate::proved::subsetter_base::Error;
 use crate::rattle::alloc::Global;
 
+/// The place behind the name at a place, if one is there.
+fn name_end(bytes: &[u8], at: usize) -> Option<usize> {
+    if at >= bytes.len() {
+        return None;
+    }
+    let len = usize::from(bytes[at]);
+    let end = at + 1 + len;
+    if end > bytes.len() {
+        return None;
+    }
+    Some(end)
+}
+
 /// The place behind the name at a place; the end of the bytes where no name is there.
 fn behind_name(bytes: &[u8], at: usize) -> usize {
-    if at >= bytes.len() {
-        return at;
+    match name_end(bytes, at) {
+        Some(end) => end,
+        None => bytes.len(),
     }
-    let end = at + 1 + usize::from(bytes[at]);
-    if end > bytes.len() {
-        return bytes.len();
-    }
-    end
 }
 
 /// The place behind so many names from a place on.
@@ -127,6 +137,32 @@ fn from_offset(bytes: &[u8], at: usize) -> &[u8] {
     &bytes[at..]
 }
 
+/// An offset that is kept, if there is one.
+fn mark_in(marks: &[u32], place: usize) -> Option<usize> {
+    let mark = marks.get(place)?;
+    Some(*mark as usize)
+}
+
+/// So many names from a number on, each behind its length byte, where every offset is kept and all are there.
+fn run_in<'a>(
+    all: &'a [u8],
+    marks: &[u32],
+    is_dense: bool,
+    from: usize,
+    count: usize,
+) -> Option<&'a [u8]> {
+    if count == 0 {
+        return None;
+    }
+    if !is_dense {
+        return None;
+    }
+    let start = mark_in(marks, from)?;
+    let last = mark_in(marks, from + count - 1)?;
+    let end = name_end(all, last)?;
+    between_offsets(all, start, end)
+}
+
 /// The bytes from a name on, and how many names are to be passed over.
 #[derive(Clone, Copy)]
 struct Mark<'a> {
@@ -191,6 +227,11 @@ impl<'a> NameList<'a> {
         let Mark { bytes, count } = self.from_mark(number);
         let at = skip(bytes, 0, count);
         first_entry(&bytes[at..])
+    }
+
+    /// So many names from a number on, each behind its length byte, where every offset is kept and all are there.
+    pub(crate) fn entries(&self, from: usize, count: usize) -> Option<&'a [u8]> {
+        run_in(self.all, &self.marks, self.is_dense, from, count)
     }
 
     /// An offset that is kept, 0 where there is none.

@@ -66,14 +66,64 @@ fn write_indexes(w: &mut Writer, indexes: &[u16]) -> Result<(), Error> {
     Ok(())
 }
 
-/// Writes the names that the indexes name, an empty one where none is there.
-fn write_names(w: &mut Writer, indexes: &[u16], names: &NameList<'_>) -> Result<(), Error> {
-    for index in indexes {
-        if *index >= STANDARD_NAMES {
-            let place = usize::from(*index) - FIRST_CUSTOM;
-            w.extend(names.entry(place))?;
-        }
+/// Names that follow one another: so many from a number on.
+#[derive(Clone, Copy)]
+struct Run {
+    from: usize,
+    count: usize,
+}
+
+/// Writes so many names from a number on, one after another, an empty one where none is there.
+fn write_each(
+    w: &mut Writer,
+    names: &NameList<'_>,
+    from: usize,
+    count: usize,
+) -> Result<(), Error> {
+    for i in 0..count {
+        w.extend(names.entry(from + i))?;
     }
+    Ok(())
+}
+
+/// Writes the names of a run, an empty one where none is there. Where all are there, they are copied at once.
+fn write_run(w: &mut Writer, names: &NameList<'_>, run: Run) -> Result<(), Error> {
+    if run.count == 1 {
+        return w.extend(names.entry(run.from));
+    }
+    match names.entries(run.from, run.count) {
+        Some(entries) => w.extend(entries),
+        None => write_each(w, names, run.from, run.count),
+    }
+}
+
+/// Puts the name with an index behind a run, if it is one of the font's own. Where it doesn't follow the run, this is written.
+fn go_on(w: &mut Writer, names: &NameList<'_>, run: Run, index: u16) -> Result<Run, Error> {
+    if index < STANDARD_NAMES {
+        return Ok(run);
+    }
+    let number = usize::from(index) - FIRST_CUSTOM;
+    let next = run.from + run.count;
+    if number == next {
+        return Ok(Run {
+            from: run.from,
+            count: run.count + 1,
+        });
+    }
+    write_run(w, names, run)?;
+    Ok(Run {
+        from: number,
+        count: 1,
+    })
+}
+
+/// Writes the names that the indexes name, an empty one where none is there. Those that follow one another are a run.
+fn write_names(w: &mut Writer, indexes: &[u16], names: &NameList<'_>) -> Result<(), Error> {
+    let mut run = Run { from: 0, count: 0 };
+    for index in indexes {
+        run = go_on(w, names, run, *index)?;
+    }
+    write_run(w, names, run)?;
     Ok(())
 }
 

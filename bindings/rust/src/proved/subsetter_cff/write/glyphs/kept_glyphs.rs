@@ -9,6 +9,7 @@ use crate::proved::subsetter_cff::read::fd_array::private::PrivateDict;
 use crate::proved::subsetter_cff::read::source::Table;
 use crate::proved::subsetter_type2::charstring::Decompiler;
 use crate::proved::subsetter_type2::limits::Limits;
+use crate::proved::subsetter_type2::runs::fixed_stack::FixedStack;
 use crate::proved::subsetter_type2::subroutines::SubroutineHandler;
 use crate::rattle::alloc::Global;
 
@@ -55,32 +56,37 @@ fn find_char_string<'a>(source: &Table<'a>, glyph: u16) -> Option<&'a [u8]> {
 }
 
 /// Flattens a glyph behind others. `OverflowError` where all of these pass the bound on bytes.
-fn keep_glyph(
-    source: &Table<'_>,
+fn keep_glyph<'a>(
+    source: &Table<'a>,
     limits: Limits,
     glyph: u16,
     char_strings: Vec<u8>,
+    rests: &mut FixedStack<&'a [u8], 64>,
 ) -> Result<Kept, Error> {
     let number = source_number(source, glyph).ok_or(Error::MalformedFont)?;
     let private = find_private(source, glyph, number).ok_or(Error::MalformedFont)?;
     let char_string = find_char_string(source, glyph).ok_or(Error::MalformedFont)?;
     let global = SubroutineHandler::new(source.front.subroutines);
     let local = SubroutineHandler::new(private.subroutines);
-    let bytes =
-        Decompiler::with_limits(global, local, limits).flatten_behind(char_strings, char_string)?;
+    let bytes = Decompiler::with_limits(global, local, limits).flatten_behind(
+        char_strings,
+        char_string,
+        rests,
+    )?;
     Ok(Kept { number, bytes })
 }
 
 /// Flattens one glyph more.
-fn keep_next(
-    source: &Table<'_>,
+fn keep_next<'a>(
+    source: &Table<'a>,
     limits: Limits,
     glyph: u16,
     kept: KeptGlyphs,
+    rests: &mut FixedStack<&'a [u8], 64>,
 ) -> Result<KeptGlyphs, Error> {
     let mut numbers = kept.numbers;
     let mut ends = kept.ends;
-    let all = keep_glyph(source, limits, glyph, kept.char_strings)?;
+    let all = keep_glyph(source, limits, glyph, kept.char_strings, rests)?;
     numbers.push(all.number)?;
     ends.push(all.bytes.len() + 1)?;
     Ok(KeptGlyphs {
@@ -129,9 +135,9 @@ fn give_back(bytes: &mut Vec<u8>) {
 
 /// Flattens all glyphs that are kept. `OverflowError` where their charstrings pass the bound on bytes, before the next one
 /// is flattened.
-pub fn keep_glyphs(
+pub fn keep_glyphs<'a>(
     alloc: Global,
-    source: &Table<'_>,
+    source: &Table<'a>,
     limits: Limits,
     mapper: &GlyphRemapper,
 ) -> Result<KeptGlyphs, Error> {
@@ -141,8 +147,9 @@ pub fn keep_glyphs(
         char_strings: Vec::with_capacity(alloc, first_room(count, limits.bytes()))?,
         ends: Vec::with_capacity(alloc, count)?,
     };
+    let mut rests: FixedStack<&'a [u8], 64> = FixedStack::new(source.front.bytes);
     for glyph in mapper.remapped_gids() {
-        kept = keep_next(source, limits, glyph, kept)?;
+        kept = keep_next(source, limits, glyph, kept, &mut rests)?;
     }
     give_back(&mut kept.char_strings);
     are_bytes(&kept.numbers);

@@ -13,20 +13,27 @@ use crate::proved::subsetter_cff::write::new_dicts::top_dict::{
 use crate::proved::subsetter_cff::write::strings::sid_remapper::SidRemapper;
 use crate::rattle::alloc::Global;
 
-/// Room for the entries of a top dict, in bytes.
-const TOP_ROOM: usize = 128;
-
-/// Room for a few short strings, in bytes.
-const TAIL_ROOM: usize = 256;
+/// Room for the entries of a top dict and for a few short strings, in bytes.
+const DRAFT_ROOM: usize = 384;
 
 /// A front before its offsets are known: as their offsets have five bytes each, its size is.
 pub struct FrontDraft {
-    /// The entries of the top dict without offsets.
-    pub named: Writer,
-    /// The String INDEX and the Global Subr INDEX.
-    pub tail: Writer,
+    /// The entries of the top dict without offsets, and behind them the String INDEX and the Global Subr INDEX.
+    pub text: Writer,
+    /// How many bytes these entries have.
+    pub named: usize,
     /// How many bytes the front has.
     pub size: usize,
+}
+
+/// The entries of the top dict without offsets.
+fn named_part(draft: &FrontDraft) -> &[u8] {
+    &draft.text.as_slice()[..draft.named]
+}
+
+/// The String INDEX and the Global Subr INDEX.
+fn tail_part(draft: &FrontDraft) -> &[u8] {
+    &draft.text.as_slice()[draft.named..]
 }
 
 /// What the top dict says.
@@ -46,17 +53,16 @@ fn draft_top(
     table: &TableParts<'_>,
     remapper: &SidRemapper<'_>,
 ) -> Result<Writer, Error> {
-    let mut named = Writer::with_capacity(alloc, TOP_ROOM)?;
+    let mut named = Writer::with_capacity(alloc, DRAFT_ROOM)?;
     write_named(&new_top_dict(table, remapper), &mut named)?;
     Ok(named)
 }
 
-/// The String INDEX and the Global Subr INDEX. An INDEX that is too large is `OverflowError`.
-fn draft_tail(alloc: Global, remapper: &SidRemapper<'_>) -> Result<Writer, Error> {
-    let mut tail = Writer::with_capacity(alloc, TAIL_ROOM)?;
-    write_index(remapper.sorted_strings(), &mut tail)?;
-    tail.extend(&[0, 0])?;
-    Ok(tail)
+/// Writes the String INDEX and the Global Subr INDEX. An INDEX that is too large is `OverflowError`.
+fn put_tail(remapper: &SidRemapper<'_>, text: &mut Writer) -> Result<(), Error> {
+    write_index(remapper.sorted_strings(), text)?;
+    text.extend(&[0, 0])?;
+    Ok(())
 }
 
 /// The size of a front. One that passes 2147483647 is `OverflowError`.
@@ -71,17 +77,19 @@ pub fn draft_front(
     table: &TableParts<'_>,
     remapper: &SidRemapper<'_>,
 ) -> Result<FrontDraft, Error> {
-    let named = draft_top(alloc, table, remapper)?;
-    let top = offset_behind(named.len(), OFFSETS_SIZE)?;
-    let tail = draft_tail(alloc, remapper)?;
-    let size = sum_front(table.names.len(), single_size(top as u32), tail.len())?;
-    Ok(FrontDraft { named, tail, size })
+    let mut text = draft_top(alloc, table, remapper)?;
+    let named = text.len();
+    let top = offset_behind(named, OFFSETS_SIZE)?;
+    put_tail(remapper, &mut text)?;
+    let tail = text.len() - named;
+    let size = sum_front(table.names.len(), single_size(top as u32), tail)?;
+    Ok(FrontDraft { text, named, size })
 }
 
 /// Writes the INDEX of the one top dict.
-fn rewrite_top_dict_index(named: &Writer, offsets: &Offsets, w: &mut Writer) -> Result<(), Error> {
+fn rewrite_top_dict_index(named: &[u8], offsets: &Offsets, w: &mut Writer) -> Result<(), Error> {
     write_single_header((named.len() + OFFSETS_SIZE) as u32, w)?;
-    w.extend(named.as_slice())?;
+    w.extend(named)?;
     write_offsets(offsets, w)
 }
 
@@ -97,6 +105,6 @@ pub fn write_front(
 ) -> Result<(), Error> {
     w.extend(&HEADER)?;
     w.extend(names)?;
-    rewrite_top_dict_index(&draft.named, offsets, w)?;
-    w.extend(draft.tail.as_slice())
+    rewrite_top_dict_index(named_part(draft), offsets, w)?;
+    w.extend(tail_part(draft))
 }

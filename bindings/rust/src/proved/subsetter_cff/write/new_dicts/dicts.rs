@@ -12,7 +12,7 @@ use crate::proved::subsetter_cff::write::laying::table::{name_number, FontDictPa
 use crate::proved::subsetter_cff::write::new_dicts::font_dict::write_font_dict;
 use crate::proved::subsetter_cff::write::new_dicts::private_dict::rewrite_private_dict;
 use crate::proved::subsetter_cff::write::strings::sid_remapper::SidRemapper;
-use crate::proved::subsetter_cffdata::indexes::index::create_index;
+use crate::proved::subsetter_cffdata::indexes::index::{index_size, write_index};
 use crate::proved::subsetter_type2::limits::Limits;
 use crate::rattle::alloc::Global;
 
@@ -137,10 +137,16 @@ pub fn judge_privates(alloc: Global, table: &TableParts<'_>, limits: Limits) -> 
     Ok(())
 }
 
-/// The INDEX of items. Data of 4 GiB, or 65536 items, are `OverflowError`.
-pub fn make_index(alloc: Global, items: &[Vec<u8>]) -> Result<Vec<u8>, Error> {
-    let made = create_index(alloc, items)?;
-    Ok(made.data)
+/// How many bytes the INDEX of items has. Data of 4 GiB, or 65536 items, are `OverflowError`.
+pub fn size_index(items: &[Vec<u8>]) -> Result<usize, Error> {
+    let size = index_size(items)?;
+    Ok(size)
+}
+
+/// Writes the INDEX of items.
+pub fn put_index(items: &[Vec<u8>], w: &mut Writer) -> Result<(), Error> {
+    write_index(items, w)?;
+    Ok(())
 }
 
 /// How many bytes FDSelect has.

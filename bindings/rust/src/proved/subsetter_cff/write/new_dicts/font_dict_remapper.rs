@@ -6,10 +6,24 @@ use crate::rattle::prelude::Vec;
 use crate::proved::subsetter_base::error::Error;
 use crate::rattle::alloc::{AllocError, Global};
 
-/// The used font dicts, ascending, and the index of each among them.
+/// The font dicts, where just the first one is used.
+static FIRST_ALONE: [u8; 1] = [0];
+
+/// The used font dicts, ascending.
 pub struct FontDictRemapper {
+    /// Just the first one is used, and takes no memory.
+    is_first_alone: bool,
     numbers: Vec<u8>,
-    places: [Option<u8>; 256],
+}
+
+/// Whether there are numbers, and all of them are 0.
+fn are_zeros(numbers: &[u8]) -> bool {
+    for number in numbers {
+        if *number != 0 {
+            return false;
+        }
+    }
+    !numbers.is_empty()
 }
 
 /// Which numbers are among these.
@@ -61,24 +75,35 @@ fn indexes_of(numbers: &[u8]) -> [Option<u8>; 256] {
 impl FontDictRemapper {
     /// The font dicts among these numbers. 256 are `OverflowError`.
     pub fn of_used(alloc: Global, numbers: &[u8]) -> Result<Self, Error> {
+        if are_zeros(numbers) {
+            return Ok(FontDictRemapper {
+                is_first_alone: true,
+                numbers: Vec::new(alloc),
+            });
+        }
         let used = mark_used(numbers);
         let numbers = marked_numbers(alloc, &used, end_of(numbers))?;
         if numbers.len() > 255 {
             return Err(Error::OverflowError);
         }
-        let places = indexes_of(&numbers);
-        Ok(FontDictRemapper { numbers, places })
-    }
-
-    /// The new number of a font dict.
-    pub fn get(&self, number: u8) -> Option<u8> {
-        self.places[number as usize]
+        Ok(FontDictRemapper {
+            is_first_alone: false,
+            numbers,
+        })
     }
 
     /// The font dicts by their new numbers.
     pub fn sorted(&self) -> &[u8] {
+        if self.is_first_alone {
+            return &FIRST_ALONE;
+        }
         &self.numbers
     }
+}
+
+/// The new number of a font dict, by where each of the used ones stands.
+fn new_number(indexes: &[Option<u8>; 256], _used: &[u8], number: u8) -> u8 {
+    indexes[number as usize].unwrap_or(0)
 }
 
 /// The new number of each font dict of a list.
@@ -87,9 +112,11 @@ pub fn renumber(
     remapper: &FontDictRemapper,
     numbers: &[u8],
 ) -> Result<Vec<u8>, Error> {
+    let used = remapper.sorted();
+    let indexes = indexes_of(used);
     let mut places = Vec::new(alloc);
     for number in numbers {
-        places.push(remapper.get(*number).unwrap_or(0))?;
+        places.push(new_number(&indexes, used, *number))?;
     }
     Ok(places)
 }

@@ -2,27 +2,103 @@
 //! Private dicts, written again (Technical Note 5176, section 15 "Private DICT Data").
 
 use crate::proved::subsetter_base::error::Error;
+use crate::proved::subsetter_base::read::Reader;
 use crate::proved::subsetter_base::write::Writer;
 use crate::proved::subsetter_cff::read::entries::operators::same_operator;
 use crate::proved::subsetter_cff::write::new_dicts::entries::write_numbers;
 use crate::proved::subsetter_cffdata::dicts::dict::operators::SUBRS;
 use crate::proved::subsetter_cffdata::dicts::dict::DictionaryParser;
 use crate::proved::subsetter_cffdata::dicts::operator::Operator;
+use crate::proved::subsetter_cffdata::dicts::plain::plain_entry;
 use crate::proved::subsetter_cffdata::numerals::number::Number;
+use crate::proved::subsetter_cffdata::reading;
 
 /// Whether an operator is that of the local subroutines.
 fn is_subroutines(operator: &Operator) -> bool {
     same_operator(operator, &SUBRS)
 }
 
+/// What follows the entries in front that stand as they are written and don't lead to subroutines.
+fn skip_plain(bytes: &[u8]) -> &[u8] {
+    let mut rest = bytes;
+    while let Some(entry) = plain_entry(rest) {
+        if is_subroutines(&entry.operator) {
+            return rest;
+        }
+        rest = entry.rest;
+    }
+    rest
+}
+
+/// Writes the entry at the front, whose operands a parser shows, unless it leads to subroutines. A real that is too long is
+/// `OverflowError`.
+fn write_shown(
+    w: &mut Writer,
+    _bytes: &[u8],
+    operator: Operator,
+    parser: &DictionaryParser<'_>,
+) -> Result<(), Error> {
+    if is_subroutines(&operator) {
+        return Ok(());
+    }
+    write_numbers(parser.operands(), operator, w)?;
+    Ok(())
+}
+
+/// The bytes from an offset on, which are none past the end.
+fn bytes_from(bytes: &[u8], at: usize) -> &[u8] {
+    reading::tail(&Reader::new_at(bytes, at))
+}
+
+/// Writes an entry of many operands, unless it leads to subroutines, and answers what follows it; None where no entry can be
+/// read. A real that is too long is `OverflowError`.
+#[inline(never)]
+fn write_long_entry<'a>(w: &mut Writer, bytes: &'a [u8]) -> Result<Option<&'a [u8]>, Error> {
+    let mut operands = [Number::zero(); 48];
+    let mut parser = DictionaryParser::new(bytes, &mut operands);
+    let operator = match parser.parse_entry() {
+        Some(operator) => operator,
+        _ => {
+            return Ok(None);
+        }
+    };
+    write_shown(w, bytes, operator, &parser)?;
+    Ok(Some(bytes_from(bytes, parser.next_offset())))
+}
+
+/// Writes an entry by its numbers, unless it leads to subroutines, and answers what follows it; None where no entry can be
+/// read. A real that is too long is `OverflowError`. Nearly every entry with a real has one operand.
+fn write_entry<'a>(w: &mut Writer, bytes: &'a [u8]) -> Result<Option<&'a [u8]>, Error> {
+    let mut operands = [Number::zero(); 2];
+    let mut parser = DictionaryParser::new(bytes, &mut operands);
+    let operator = match parser.parse_entry() {
+        Some(operator) => operator,
+        _ => {
+            return Ok(None);
+        }
+    };
+    if parser.operands().len() == 2 {
+        return write_long_entry(w, bytes);
+    }
+    write_shown(w, bytes, operator, &parser)?;
+    Ok(Some(bytes_from(bytes, parser.next_offset())))
+}
+
+/// Writes entries that stand as they are written at once, then one by its numbers, and answers what follows them; None where
+/// no further entry can be read. A real that is too long is `OverflowError`.
+fn write_run<'a>(w: &mut Writer, bytes: &'a [u8]) -> Result<Option<&'a [u8]>, Error> {
+    let rest = skip_plain(bytes);
+    let end = bytes.len() - rest.len();
+    w.extend(&bytes[..end])?;
+    let more = write_entry(w, rest)?;
+    Ok(more)
+}
+
 /// Writes the entries of a private dict without those that lead to subroutines. A real that is too long is `OverflowError`.
 pub fn rewrite_private_dict(w: &mut Writer, private_dict: &[u8]) -> Result<(), Error> {
-    let mut operands = [Number::zero(); 48];
-    let mut parser = DictionaryParser::new(private_dict, &mut operands);
-    while let Some(operator) = parser.parse_entry() {
-        if !is_subroutines(&operator) {
-            write_numbers(parser.operands(), operator, w)?;
-        }
+    let mut left = private_dict;
+    while let Some(rest) = write_run(w, left)? {
+        left = rest;
     }
     Ok(())
 }

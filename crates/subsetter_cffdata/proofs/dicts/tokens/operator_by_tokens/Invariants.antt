@@ -2,7 +2,7 @@ use Rattle.std.proofs.Common.{◌≡◌, length, drop}
 use Rattle.subsetter_cffdata.specs.Dicts.Dict.{entry_at}
 use Rattle.subsetter_cffdata.specs.Reading.{rest}
 use Rattle.subsetter_cffdata.specs.Dicts.Tokens.{operator_part}
-use Rattle.subsetter_cffdata.proofs.dicts.tokens.next_operator.Given as goal
+use Rattle.subsetter_cffdata.proofs.dicts.tokens.operator_by_tokens.Given as goal
 
 -- the entry that is left has the operator of the whole
 abbrev pub invariant-loop-found : goal.invariant-loop-found
