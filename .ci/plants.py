@@ -39,8 +39,9 @@ LISTS = os.path.join(".ci", "plants")
 DRAWN_AT_MOST = 30
 # The seconds within which a build or a test without a plant has to end.
 FIRST = 3600
-# What is otherwise in the builds of a copy: little is optimized, as each plant is built anew. (That all is optimized as one is a plant.)
-PROFILE = {"CARGO_PROFILE_DEV_DEBUG": "0", "CARGO_PROFILE_RELEASE_OPT_LEVEL": "1"}
+# What is otherwise in a copy: little is optimized, as each plant is built anew (that all is optimized as one is a plant), and a test that
+# looks at END_AT_FIRST ends at its first failure, with its status.
+PROFILE = {"CARGO_PROFILE_DEV_DEBUG": "0", "CARGO_PROFILE_RELEASE_OPT_LEVEL": "1", "END_AT_FIRST": "1"}
 # The date of each file of a copy.
 DATE = 1_600_000_000
 # Plants of one test that one copy takes at a time.
@@ -203,8 +204,9 @@ def end_all():
 # ---- tests
 
 def limit_of(seconds):
-    """The seconds after which a test that took so many is taken not to end."""
-    return max(300, 10 * seconds)
+    """The seconds after which a test that took so many is taken not to end. Beside the proofs, on a machine that others use too, one of ten
+    seconds has taken five minutes."""
+    return max(1800, 10 * seconds)
 
 
 def why_of(said):
@@ -378,19 +380,17 @@ def plant_all(lists, plants, jobs):
         # (tests that root runs start programs as another user, who has to reach them)
         os.chmod(top, 0o755)
         work = Work(lists, plants, built_once(lists, plants, top, jobs))
-        threads = [threading.Thread(target=work.run, args=(os.path.join(top, str(i)),)) for i in range(min(jobs, len(work.pieces)))]
-        try:
-            for thread in threads:
-                thread.start()
-            for thread in threads:
-                thread.join()
-        except BaseException:
-            work.stop()
-            for thread in threads:
-                # (one that hasn't begun can't be waited for)
-                if thread.ident:
-                    thread.join()
-            raise
+        # (Thread.join that a signal interrupts takes its thread for ended)
+        with concurrent.futures.ThreadPoolExecutor(max_workers=jobs) as pool:
+            try:
+                copies = [pool.submit(work.run, os.path.join(top, str(i))) for i in range(min(jobs, len(work.pieces)))]
+                concurrent.futures.wait(copies)
+            except BaseException:
+                work.stop()
+                raise
+    for it in copies:
+        if it.exception():
+            print(f"plants: a copy ended early: {it.exception()!r}", file=sys.stderr)
     found = {}
     while not work.outcomes.empty():
         outcome = work.outcomes.get()

@@ -69,6 +69,9 @@ def demand(holds, what, got=""):
     if not holds:
         failures.append(what)
         print(f"FAILED: plants_test: {what}\n{got}")
+        # (to a planted bug, one failure says all)
+        if "END_AT_FIRST" in os.environ:
+            sys.exit(1)
 
 
 def write(root, name, text):
@@ -156,7 +159,7 @@ def check_ends(here):
     room = os.path.join(here.at, ".ci", "plants.py")
     with open(room, encoding="utf-8") as file:
         whole = file.read()
-    hurried = whole.replace("return max(300, 10 * seconds)", "return 2 * seconds + 13")
+    hurried = whole.replace("return max(1800, 10 * seconds)", "return 2 * seconds + 13")
     demand(hurried != whole, "the limit of a test can't be made short")
     write(here.at, ".ci/plants.py", hurried)
     here.lists(SEEN, "test: adds\nrun: echo checks; if grep -q -e ' - ' add.sh; then sleep 600; fi; bash test.sh\nran: checks\nseconds: 1\n")
@@ -165,24 +168,39 @@ def check_ends(here):
     demand(broken != whole, "a thread can't be ended")
     write(here.at, ".ci/plants.py", broken)
     here.lists(SEEN)
-    here.ends("a status that is lost", 1, r"NOT TRIED: its status is lost", r"^1 bugs planted, 0 seen, 1 got through$")
+    here.ends("a status that is lost", 1, r"NOT TRIED: its status is lost", r"^plants: a copy ended early: SystemExit", r"^1 bugs planted, 0 seen, 1 got through$")
     write(here.at, ".ci/plants.py", whole)
 
 
 def check_stop(here):
-    """A run that is ended from outside ends its tests and leaves no copies."""
-    here.lists(SEEN, f"test: adds\nrun: echo begun > \"$REPOSITORY/built\"; sleep 150.{os.getpid()}; touch \"$REPOSITORY/left\"\nran: checks\nseconds: 1\n")
+    """A run that is ended from outside ends its tests and leaves no copies, also where a copy is still at work."""
+    room = os.path.join(here.at, ".ci", "plants.py")
+    with open(room, encoding="utf-8") as file:
+        whole = file.read()
+    slow = whole.replace("    def restore(self):\n", "    def restore(self):\n        for i in range(2000):\n            os.makedirs(f'{self.at}-{i}')\n            time.sleep(0.001)\n")
+    slow = slow.replace("        self.is_over = True\n        end_all()\n", "        self.is_over = True\n        end_all()\n        time.sleep(1)\n")
+    demand("range(2000)" in slow and "sleep(1)" in slow, "a copy can't be made slow")
+    for i, (what, text) in enumerate((("a run", whole), ("a run whose copy is slow", slow))):
+        write(here.at, ".ci/plants.py", text)
+        stop(here, what, f"150.{os.getpid()}{i}")
+    write(here.at, ".ci/plants.py", whole)
+
+
+def stop(here, what, seconds):
+    """Ends a run in its test, which sleeps so long."""
+    here.lists(SEEN, f"test: adds\nrun: echo begun > \"$REPOSITORY/built\"; sleep {seconds}; touch \"$REPOSITORY/left\"\nran: checks\nseconds: 1\n")
     folder = os.path.join(os.path.dirname(here.at), "temporary")
-    os.makedirs(folder)
+    os.makedirs(folder, exist_ok=True)
+    runner.remove(os.path.join(here.at, "built"))
     ran = subprocess.Popen([sys.executable, os.path.join(here.at, ".ci", "plants.py")], env={**planted.ENVIRONMENT, "TMPDIR": folder}, stdout=subprocess.PIPE,
                            stderr=subprocess.STDOUT, stdin=subprocess.DEVNULL, text=True)
     is_begun = comes(lambda: os.path.exists(os.path.join(here.at, "built")) or ran.poll() is not None)
     ran.terminate()
     said, _ = ran.communicate(timeout=1800)
-    demand(is_begun, "a test that is begun", said)
-    demand(ran.returncode == 1 and "ended from outside" in said and not os.listdir(folder), f"a run that is ended: {ran.returncode}, {os.listdir(folder)}", said)
-    demand(not os.path.exists(os.path.join(here.at, "left")), "a run that is ended waits for its test", said)
-    demand(is_gone(f"sleep 150.{os.getpid()}"), "a test goes on behind a run that is ended")
+    demand(is_begun and ran.returncode == 1, f"{what}: a test that is begun", said)
+    demand("ended from outside" in said and not os.listdir(folder), f"{what} that is ended: {ran.returncode}, {os.listdir(folder)}", said)
+    demand(not os.path.exists(os.path.join(here.at, "left")), f"{what} that is ended waits for its test", said)
+    demand(is_gone(f"sleep {seconds}"), f"{what} that is ended: its test goes on")
 
 
 def comes(is_there):
@@ -319,7 +337,7 @@ def check_results(here):
 
 def check_rules():
     """How long a test may take, which statuses are none of its own, what is printed of it, and in which pieces plants are taken."""
-    demand([runner.limit_of(it) for it in (0, 1, 30, 31, 100)] == [300, 300, 300, 310, 1000], "the limits of tests", runner.limit_of(31))
+    demand([runner.limit_of(it) for it in (0, 1, 180, 181, 600)] == [1800, 1800, 1800, 1810, 6000], "the limits of tests", runner.limit_of(181))
     demand((runner.DRAWN_AT_MOST, runner.FIRST, sorted(runner.NEVER)) == (30, 3600, [126, 127, 137, 143]), "numbers of the runner")
     for said, wanted in (("one\n  FAILED: two \nthree\n", "FAILED: two"), ("an error: x\nFAILED\n", "an error: x"), ("one\ntwo\n\n", "two"), ("", "nothing is printed"), ("x" * 200, "x" * 160), ("a\nthread panicked\n", "thread panicked"),
                          ("a\nIt GOT THROUGH\nb\n", "It GOT THROUGH"), ("a\nthe files are different\nb", "the files are different")):
@@ -411,7 +429,7 @@ def check_clone(room):
 
 def check_environment(here):
     """What a test is started with: nothing of the caller's libraries and of make, a folder of its own for what is temporary."""
-    lines = ['[ -z "${SUBSETTER_LIBRARY:-}${MAKEFLAGS:-}${MAKELEVEL:-}${MFLAGS:-}" ]', f'[ "$REPOSITORY" = "{os.path.realpath(here.at)}" ]', '[ "$PYTHONDONTWRITEBYTECODE" = 1 ]', '[ "$CARGO_PROFILE_DEV_DEBUG" = 0 ]', '[ "$CARGO_PROFILE_RELEASE_OPT_LEVEL" = 1 ]',
+    lines = ['[ -z "${SUBSETTER_LIBRARY:-}${MAKEFLAGS:-}${MAKELEVEL:-}${MFLAGS:-}" ]', f'[ "$REPOSITORY" = "{os.path.realpath(here.at)}" ]', '[ "$PYTHONDONTWRITEBYTECODE" = 1 ]', '[ "$CARGO_PROFILE_DEV_DEBUG" = 0 ]', '[ "$CARGO_PROFILE_RELEASE_OPT_LEVEL" = 1 ]', '[ "$END_AT_FIRST" = 1 ]',
              '[ -z "$(ls -A "$TMPDIR")" ]', 'touch "$TMPDIR/left"', '[ "$(pwd)" != "$REPOSITORY" ]', "false | true && exit 7 || bash test.sh"]
     here.lists(SEEN, f"test: adds\nrun: {' && '.join(lines[:-1])} && {{ {lines[-1]}; }}\nran: checks\nseconds: 1\n")
     with mock.patch.dict(planted.ENVIRONMENT, {"SUBSETTER_LIBRARY": "x", "MAKEFLAGS": "n", "MAKELEVEL": "1", "MFLAGS": "-n"}):

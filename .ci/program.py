@@ -67,9 +67,9 @@ def read_words():
 def run_rows(table, only):
     """Runs the rows. Those that name a new font are always run, as others have it."""
     rows = row_files.rows(FONTS, messages())
-    for row in rows:
-        if only in row.line or "out" in row.after:
-            with tempfile.TemporaryDirectory(prefix="program-") as room:
+    with tempfile.TemporaryDirectory(prefix="program-") as room:
+        for row in rows:
+            if only in row.line or "out" in row.after:
                 table.run_row(row, room)
     for words in OTHERWISE.get(table.system, {}):
         table.demand(words in [row.line for row in rows], words, f"listed for {table.system}, and no row")

@@ -8,6 +8,7 @@ import os
 import re
 import shutil
 import stat
+import subprocess
 import sys
 import tempfile
 
@@ -85,7 +86,17 @@ RUNS = [
     ("a file beside it", "exit 1", "echo > further; exit 1", "the file further has"),
     ("a file that changes", "exit 1", "echo > list; exit 1", "the file list has"),
     ("a font that goes", "exit 1", "rm simple; exit 1", "the file simple has b'' (or isn't there)"),
+    ("a folder beside it", "exit 1", "mkdir further; exit 1", "the file further has b'(a folder)'"),
+    ("a link to nothing beside it", "exit 1", "ln -s nowhere further; exit 1", "the file further has b'(a link)'"),
+    ("a link in place of a font", "exit 1", "cat simple > list; ln -sf list simple; exit 1", "the file simple has b'(a link)'"),
     ("another standard input", "cat > /dev/null", '[ "$(cat)" = in ] || exit 1; exit 2', "status 2, wanted 1"),
+]
+
+# What a row may leave in its folder, which isn't there for the next.
+LEFT = [
+    ("a file", "echo > further"), ("a folder with a file", "mkdir deep; echo > deep/simple"), ("a link to nothing", "ln -s nowhere further"), ("a link to a folder", "mkdir deep; ln -s deep further"),
+    ("a font that changes", "echo > simple"), ("a font that goes", "rm simple"), ("a font that is cut", ": > simple"), ("a font that nobody may write", "chmod 444 simple"),
+    ("a font by a second name", "ln simple further"), ("two fonts that are one file", "ln -f twin simple"), ("a link to a font of the same bytes", "ln -sf twin simple"), ("a folder in place of a font", "rm simple; mkdir simple; echo > simple/it"),
 ]
 
 # A text beside the program, what it says of a default or of an order, and what it says instead.
@@ -153,13 +164,13 @@ def printed_of_run(text, again):
         os.mkdir(listed)
         with open(os.path.join(listed, "row.txt"), "w", encoding="ascii") as file:
             file.write(ROW)
-        table = running.Table(path)
+        table, room = running.Table(path), os.path.join(top, "room")
+        os.mkdir(room)
         for run in (text, again):
             with open(path, "w", encoding="utf-8") as file:
                 file.write(f"#!/bin/sh\n{run}\n")
             os.chmod(path, stat.S_IRWXU)
-            with tempfile.TemporaryDirectory(prefix="rows-") as room:
-                table.run_row(row_files.rows(made_fonts.FONTS, running.messages(), listed, "rows")[0], room)
+            table.run_row(row_files.rows(made_fonts.FONTS, running.messages(), listed, "rows")[0], room)
     return shown.getvalue(), table.wrong
 
 
@@ -170,6 +181,25 @@ def planted_in_run(name, old, new, wanted):
     if wanted is None:
         return [f"{name}: {wrong} wrong: {shown}"] if wrong or shown else []
     return [] if wrong and wanted in shown else [f"{name}: {'GOT THROUGH' if not wrong else f'not {wanted!r}'}: {shown}"]
+
+
+def left_by_row(name, mess):
+    """What is wrong where a row leaves something in its folder: what of it is there for the next."""
+    once, alone = printed_of_run(RUN.replace("exit 1", f"{mess}; exit 1"), RUN)[1], printed_of_run(RUN, RUN)[1]
+    if alone or once > 1:
+        return [f"{name}, left by a row: {once} wrong, and without it {alone}"]
+    with tempfile.TemporaryDirectory(prefix="rows-") as room:
+        files = {"simple": b"1", "twin": b"1", "other": b"2"}
+        running.lay_out(room, files)
+        before = os.stat(os.path.join(room, "other"))
+        subprocess.run(["sh", "-c", mess], cwd=room, check=True)
+        running.lay_out(room, files)
+        there = {it.name: (it.is_file(follow_symlinks=False), running.take(it.path), oct(it.stat().st_mode), it.stat().st_nlink) for it in os.scandir(room)}
+        wanted = {it: (True, data, oct(before.st_mode), 1) for it, data in files.items()}
+        after = os.stat(os.path.join(room, "other"))
+        if there != wanted or (after.st_ino, after.st_mtime_ns) != (before.st_ino, before.st_mtime_ns):
+            return [f"{name}, left in a folder: {there}"]
+    return []
 
 
 def planted_in_text(name, text, old, new):
@@ -185,8 +215,9 @@ def planted_in_text(name, text, old, new):
 def main():
     faults = [fault for it in PLANTS for fault in planted_in_files(*it)]
     faults += [fault for it in RUNS for fault in planted_in_run(*it)]
+    faults += [fault for it in LEFT for fault in left_by_row(*it)]
     faults += [fault for it in TEXTS for fault in planted_in_text(*it)]
-    return planted.tell(faults, len(PLANTS) + len(RUNS) + len(TEXTS))
+    return planted.tell(faults, len(PLANTS) + len(RUNS) + len(LEFT) + len(TEXTS))
 
 
 if __name__ == "__main__":

@@ -42,6 +42,9 @@ class Tests:
         if got != wanted:
             self.failed += 1
             print(f"FAILED: {what}:\n  {got!r}\n  and not\n  {wanted!r}")
+            # (to a planted bug, one failure says all)
+            if "END_AT_FIRST" in os.environ:
+                sys.exit(1)
 
 
 def put(data, *path, mode=0o644):
@@ -79,6 +82,7 @@ GLYPHS = {("/one.ttf", "0"): 10, ("/two.otf", "2"): 300}
 FACES = [("a", "/one.ttf", 0), ("b", "/two.otf", 2), ("c", "/three.ttf", 0)]
 # What is requested of the first two faces: numbers at equal distances, from the next one on each time.
 REQUESTED = [("/one.ttf", 0, [1, 3, 5]), ("/two.otf", 2, [1, 76, 151]), ("/one.ttf", 0, [2, 4, 6]), ("/two.otf", 2, [2, 77, 152]), ("/one.ttf", 0, [1, 3, 5])]
+PROCESSES = "four processes that share nothing"
 BATCHED = """5 requests of 2 fonts, 3 glyphs each.
 
 | The new fonts are in memory | Seconds | Requests a second | Times `--jobs 1` |
@@ -87,16 +91,21 @@ BATCHED = """5 requests of 2 fonts, 3 glyphs each.
 | `--jobs 1` | 0.012 | 427 | 1.00 |
 | `--jobs 2` | 0.008 | 640 | 1.50 |
 | `--jobs 4` | 0.006 | 853 | 2.00 |
+| four processes that share nothing | {memory.seconds:.3f} | {memory.a_second} | {memory.faster:.2f} |
 
 | The new fonts are on a disk | Seconds | Requests a second | Times `--jobs 1` |
 |---|--:|--:|--:|
 | a run each | 0.024 | 205 | 0.48 |
 | `--jobs 1` | 0.012 | 427 | 1.00 |
 | `--jobs 2` | 0.008 | 640 | 1.50 |
-| `--jobs 4` | {four:.3f} | {a_second} | {faster:.2f} |
+| `--jobs 4` | {four.seconds:.3f} | {four.a_second} | {four.faster:.2f} |
+| four processes that share nothing | {disk.seconds:.3f} | {disk.a_second} | {disk.faster:.2f} |
 
-`--jobs 4` is 2.00 times as fast as `--jobs 1` in memory, and {faster:.2f} times on a disk; {faults} faults.
+`--jobs 4` is 2.00 times as fast as `--jobs 1` in memory, and {four.faster:.2f} times on a disk; {faults} faults.
+Goal of 3.0, or 0.9 of four processes' speed: {goals}.
 """
+# The lines and threads of what is run in a round, in its order: threads with all lines, and four processes with the next part of the lines each.
+BATCHES = [(range(5), "1"), (range(5), "2"), (range(5), "4"), ([0], "1"), ([1], "1"), ([2], "1"), ([3, 4], "1")]
 
 
 class Batch:
@@ -116,29 +125,51 @@ class Batch:
         requests = [json.loads(it) for it in given.get("input", b"").splitlines()]
         if kind == "--json":
             requests = [{"gids": list(map(int, words[3].split(","))), "out": words[8]}]
-        for it in requests:
-            more = "more" if otherwise == "font" and it is requests[-1] else ""
-            put(f"font of {it['gids']}{more}", folder, it["out"])
-        name = "each" if kind == "--json" else words[-1] if kind == "--batch" else kind
-        taken = self.seconds.get(f"{name} on a disk" if place == self.disk else name) or self.seconds[name]
-        # (each time is taken by turns)
-        taken.append(taken[0])
-        self.clock += taken.pop(0)
-        said = json.dumps({"glyphs": GLYPHS[words[3], words[4]]}) if kind == "--info" else "".join(f"{it['out']} {otherwise == 'answer'}\n" for it in requests)
+        self.write(requests, folder, otherwise)
+        self.clock += self.taken("each" if kind == "--json" else kind, place)
+        said = json.dumps({"glyphs": GLYPHS[words[3], words[4]]}) if kind == "--info" else ""
         status = 3 if otherwise == "status" else 0
         if given.get("check") and status:
             raise subprocess.CalledProcessError(status, words)
         return types.SimpleNamespace(returncode=status, stdout=said.encode())
 
-    def run(self, four=4.0, processors=4, otherwise=None):
+    def write(self, requests, folder, otherwise):
+        for it in requests:
+            more = "more" if otherwise == "font" and it is requests[-1] else ""
+            put(f"font of {it['gids']}{more}", folder, it["out"])
+
+    def taken(self, name, place):
+        """The time of a run; those of one name are taken by turns."""
+        taken = self.seconds.get(f"{name} on a disk" if place == self.disk else name) or self.seconds[name]
+        taken.append(taken[0])
+        return taken.pop(0)
+
+    def begin(self, words, cwd, stdout):
+        """A process of a batch. Its fonts and answers are there once it has been waited for, and the clock is at its end then."""
+        place, otherwise = os.path.dirname(os.path.dirname(cwd)), self.otherwise.get(len(self.ran))
+        requests, said = [json.loads(it) for it in read_of(words[2]).splitlines()], os.dup(stdout.fileno())
+        self.ran.append(([words[1], [it["out"] for it in requests], *words[3:]], place, sorted(os.listdir(cwd))))
+        end = self.clock + self.taken(words[4] if len(requests) == 5 else "a part", place)
+
+        def wait():
+            self.write(requests, cwd, otherwise)
+            os.write(said, "".join(f'{{"line":{number},"out":"{it["out"]}"}} {otherwise == "answer"}\n' for number, it in enumerate(requests, 1)).encode())
+            os.close(said)
+            self.clock = max(self.clock, end)
+            return 3 if otherwise == "status" else 0
+        return types.SimpleNamespace(wait=wait)
+
+    def run(self, four=4.0, processors=4, otherwise=None, memory=5.5, disk=2.0):
         """What it prints, and its status. `four` is the time of four threads on a disk in 1,024ths of a second, as all times are here: sums of these
-        are exact."""
+        are exact. `memory` and `disk` are those of the slowest of four processes."""
         self.ran, self.otherwise = [], otherwise or {}
-        times = {"--info": [7.0], "each": [2.0], "each on a disk": [5.0], "1": [99.0, 12.0, 11.5, 12.5, 1.0], "2": [8.0], "4": [6.0], "4 on a disk": [four]}
+        times = {"--info": [7.0], "each": [2.0], "each on a disk": [5.0], "1": [99.0, 12.0, 11.5, 12.5, 1.0], "2": [8.0], "4": [6.0], "4 on a disk": [four], "a part": [1.0, memory, 1.5, 0.5],
+                 "a part on a disk": [0.5, 1.0, disk, 1.0]}
         self.seconds = {name: [it / 1024 for it in all_times] for name, all_times in times.items()}
         with contextlib.ExitStack() as stack:
             for owner, name, new in ((self.batch, "FONTS", FACES), (self.batch.time, "perf_counter", lambda: self.clock), (self.batch.os, "cpu_count", lambda: processors),
-                                     (self.batch.fonts, "install", self.installed.append), (self.batch.subprocess, "run", self.start)):
+                                     (self.batch.fonts, "install", self.installed.append), (self.batch.subprocess, "run", self.start),
+                                     (self.batch.subprocess, "Popen", self.begin)):
                 stack.enter_context(mock.patch.object(owner, name, new))
             numbers = ("--requests", "5", "--rounds", "5", "--glyphs", "3", "--fonts", "2")
             return printed(self.batch.main, "--program", "/program", "--folder", self.memory, "--disk", self.disk, *numbers)
@@ -148,30 +179,41 @@ def check_batch(tests):
     """What is requested and run, the whole table, and each fault."""
     here = Batch(tests.room)
 
-    def said(four=4.0, faults=()):
-        return BATCHED.format(four=four / 1024, a_second=f"{5 * 1024 / four:,.0f}", faster=12 / four, faults=len(faults)) + "".join(f"\n{it}" for it in faults) + "\n"
+    def cells(time):
+        return types.SimpleNamespace(seconds=time / 1024, a_second=f"{5 * 1024 / time:,.0f}", faster=12 / time)
+
+    def said(four=4.0, faults=(), memory=5.5, disk=2.0, goals="0.92 of it in memory, met on a disk"):
+        return BATCHED.format(four=cells(four), memory=cells(memory), disk=cells(disk), faults=len(faults), goals=goals) + "".join(f"\n{it}" for it in faults) + "\n"
     tests.same("batch.py", here.run(), (said(), 0))
     infos = [(["--info", "--json", path, index], None, None) for path, index in GLYPHS]
     runs = [(it, place, there) for place in (here.memory, here.disk) for it, there in runs_of_a_folder()]
     tests.same("what is run, and what is in its folder before", here.ran, [*infos, *runs])
     tests.same("what is installed", here.installed, [["a", "b"]])
     tests.same("what is left", (os.listdir(here.memory), os.listdir(here.disk)), ([], []))
-    # (of the runs the first two are questions, then come for each folder five of a font each, and five rounds of three)
+    # (of the runs the first two are questions, then come for each folder five of a font each, and five rounds of three and of four processes)
     failed_each = ("in memory: a run each: it failed", "on a disk: a run each: it failed")
     for what, number, fault in (("status", 7, "in memory: --jobs 1, round 0: status 3"), ("font", 8, "in memory: --jobs 2, round 0: status 0"),
-                                ("answer", 9, "in memory: --jobs 4, round 0: status 0"), ("answer", 21, "in memory: --jobs 4, round 4: status 0"),
-                                ("status", 2, failed_each[0]), ("status", 6, failed_each[0]), ("status", 22, failed_each[1]),
-                                ("font", 28, "on a disk: --jobs 2, round 0: status 0"), ("status", 41, "on a disk: --jobs 4, round 4: status 3")):
+                                ("answer", 9, "in memory: --jobs 4, round 0: status 0"), ("answer", 37, "in memory: --jobs 4, round 4: status 0"),
+                                ("status", 2, failed_each[0]), ("status", 6, failed_each[0]), ("status", 42, failed_each[1]),
+                                ("font", 48, "on a disk: --jobs 2, round 0: status 0"), ("status", 77, "on a disk: --jobs 4, round 4: status 3"),
+                                ("font", 13, f"in memory: {PROCESSES}, round 0: status 0, 0, 0, 0"), ("answer", 53, f"on a disk: {PROCESSES}, round 0: status 0, 0, 0, 0"),
+                                *((("status", 10 + 7 * 2 + it, f"in memory: {PROCESSES}, round 2: status {', '.join('3' if it == other else '0' for other in range(4))}")) for it in range(4))):
         fault += "" if fault in failed_each else ", or other answers or fonts"
         tests.same(f"another {what} in run {number}", here.run(otherwise={number: what}), (said(faults=[fault]), 1))
-    tests.same("two faults", here.run(otherwise={2: "status", 26: "status"}), (said(faults=failed_each), 1))
-    for where, numbers in (("in memory", (2, 6)), ("on a disk", (22, 26))):
-        wrong = [f"{where}: --jobs {jobs}, round {number}: status 0, or other answers or fonts" for number in range(5) for jobs in (1, 2, 4)]
+    tests.same("two faults", here.run(otherwise={2: "status", 46: "status"}), (said(faults=failed_each), 1))
+    for where, numbers in (("in memory", (2, 6)), ("on a disk", (42, 46))):
+        ended = [*((f"--jobs {jobs}", "0") for jobs in (1, 2, 4)), (PROCESSES, "0, 0, 0, 0")]
+        wrong = [f"{where}: {name}, round {number}: status {status}, or other answers or fonts" for number in range(5) for name, status in ended]
         for number in numbers:
             tests.same("another font of a run of its own", here.run(otherwise={number: "font"}), (said(faults=wrong), 1))
-    slow = [f"on a disk --jobs 4 is {12 / 4.125:.2f} times as fast, not 3.0"]
+    slow = [f"on a disk --jobs 4 is {12 / 4.125:.2f} times as fast, not 3.0, and 0.48 of the speed of {PROCESSES}, not 0.9"]
     for processors, faults in ((4, slow), (8, slow), (3, []), (None, [])):
-        tests.same(f"too slow on {processors} processors", here.run(4.125, processors), (said(4.125, faults), int(bool(faults))))
+        tests.same(f"too slow on {processors} processors", here.run(4.125, processors), (said(4.125, faults, goals="0.92 of it in memory, 0.48 of it on a disk"), int(bool(faults))))
+    # (of the speed of processes: just enough on a disk, just too little, and too little in memory; faster than these)
+    slow = [f"on a disk --jobs 4 is 2.40 times as fast, not 3.0, and 0.88 of the speed of {PROCESSES}, not 0.9"], [f"in memory --jobs 4 is 2.00 times as fast, not 3.0, and 0.89 of the speed of {PROCESSES}, not 0.9"]
+    for four, memory, disk, parts, faults in ((5.0, 5.5, 4.5625, ("0.92", "0.91"), []), (5.0, 5.5, 4.375, ("0.92", "0.88"), slow[0]), (5.0, 5.3125, 4.5625, ("0.89", "0.91"), slow[1]), (8.0, 12.0, 24.0, ("2.00", "3.00"), [])):
+        goals = f"{parts[0]} of it in memory, {parts[1]} of it on a disk"
+        tests.same(f"{parts} of the speed of processes", here.run(four, memory=memory, disk=disk), (said(four, faults, memory, disk, goals), int(bool(faults))))
     try:
         tests.same("a program that doesn't answer", here.run(otherwise={1: "status"}), "an error")
     except subprocess.CalledProcessError as why:
@@ -184,17 +226,19 @@ def runs_of_a_folder():
     for number, (path, index, gids) in enumerate(REQUESTED):
         words = ["--json", "--gids", ",".join(map(str, gids)), "--face-index", str(index), path, "-o", f"{number}.ttf"]
         yield words, [f"{it}.ttf" for it in range(number)]
-    for jobs in ("1", "2", "4") * 5:
-        yield ["--batch", "-", "--jobs", jobs], []
+    for numbers, jobs in BATCHES * 5:
+        yield ["--batch", [f"{it}.ttf" for it in numbers], "--jobs", jobs], []
 
 
 def check_batch_words(tests, batch):
     """The numbers where no word gives them, what is built, and the fonts; one line of a request."""
-    given, calls = [], []
-    with mock.patch.object(batch.fonts, "install"), mock.patch.object(batch, "built", lambda: "program"), mock.patch.object(batch, "requests_of", lambda _, it: given.append(it) or []), \
-            mock.patch.object(batch, "compare", side_effect=SystemExit):
+    given, calls, order = [], [], []
+    with mock.patch.object(batch.fonts, "install"), mock.patch.object(batch, "built", lambda: order.append("built") or "program"), \
+            mock.patch.object(batch.os, "sync", lambda: order.append("on the disk")), \
+            mock.patch.object(batch, "requests_of", lambda _, it: order.append("asked") or given.append(it) or []), mock.patch.object(batch, "compare", side_effect=SystemExit):
         printed(batch.main)
-    tests.same("the defaults", vars(given[0]), {"requests": 1000, "rounds": 5, "glyphs": 80, "fonts": 10, "folder": "/dev/shm", "disk": None, "program": None})
+    tests.same("what is built is on the disk before the program runs", order, ["built", "on the disk", "asked"])
+    tests.same("the defaults", vars(given[0]), {"requests": 1000, "rounds": 9, "glyphs": 80, "fonts": 10, "folder": "/dev/shm", "disk": None, "program": None})
     with mock.patch.object(batch.subprocess, "run", lambda words, **more: calls.append((words, more))):
         made = batch.built()
     target = os.path.join(ROOT, "compare", "build", "batch")
@@ -203,6 +247,7 @@ def check_batch_words(tests, batch):
     tests.same("its fonts", [it[1].rpartition(".")[2] for it in batch.FONTS[:10]], ["ttf", "otf"] * 5)
     with mock.patch.object(batch, "count_of", lambda *_: 2), mock.patch.object(batch, "FONTS", FACES):
         few = list(batch.requests_of("", types.SimpleNamespace(requests=2, fonts=1, glyphs=3)))
+    tests.same("the goals of a batch", (batch.goals.BATCH, batch.goals.OF_PROCESSES, batch.goals.PROCESSES), (3.0, 0.9, PROCESSES))
     tests.same("requests of a face with few glyphs", few, [{"in": "/one.ttf", "out": f"{number}.ttf", "index": 0, "gids": [1]} for number in range(2)])
 
 
@@ -1591,6 +1636,9 @@ def check_said_of_results(tests, comparisons):
         return comparisons.BY_NAME[name].answer(types.SimpleNamespace(tables=[list(rows)], body=list(body), data=(files or {}).get))
     slow = [{"Call, ms": ms, "Glyphs": glyphs, "Bytes of the file": size, "Font": font} for ms, glyphs, size, font in (("2.5", "9", "10", "a"), ("10.01", "7", "12345", "b"), ("9.9", "8", "99", "c"))]
     tests.same("the slowest", answer("hostile", *slow), "at most 11 ms for 7 glyphs, of a file of 12,345 bytes (b)")
+    first, goal = "`--jobs 4` is 2.23 times as fast as `--jobs 1` in memory, and 2.19 times on a disk; 1 faults", "Goal of 3.0, or 0.9 of four processes' speed: 0.97 of it in memory, met on a disk"
+    tests.same("batch", [answer("batch", body=["| `--jobs 4` | 2 |", f"{first}.", *more]) for more in ([], ["", "no Goal of it"], [f"{goal}.", "on a disk --jobs 4 is 2.19 times"])], [first, first, f"{first}; {goal}"])
+    tests.same("an answer that a cell has room for", len(f"failed: {first}; {goal}".replace("met on", "0.97 of it on")) <= 200, True)
     lines = ["a 0: 200 widths of 1000 units an em, 1 wrong", "noise", "b 1: 150 widths of 2048 units an em, 2 wrong", "3 wrong"]
     tests.same("widths", answer("widths", body=lines), "350 widths of 2 faces, 3 wrong")
     tests.same("bytes saved", answer("sizes", {"None of the three": "9,000", "All": "10,000"}, {"None of the three": "250", "All": "1,000"}, {"None of the three": "50", "All": "100"}), "names, glyph names and hinting left out save 10.0 to 75.0 % of the bytes of 3 subsets")
@@ -2670,6 +2718,24 @@ def check_figures(tests):
     }
     for key, text in wanted.items():
         tests.same(f"figures: {key}", answers[key], text)
+    check_bound_of_batch(tests, figures)
+
+
+def check_bound_of_batch(tests, figures):
+    """What bounds a batch: nothing is told where the processes weren't measured, or in one place alone."""
+    def place(where, four, apart, more="1.50"):
+        rows = {"`--jobs 1`": ("0.300", "1.00"), "`--jobs 4`": four, PROCESSES: apart, "other": ("0.1", more)}
+        return [{f"The new fonts are {where}": name, "Seconds": row[0], "Times `--jobs 1`": row[1]} for name, row in rows.items() if row]
+    slow, fast = ("0.200", "1.50"), ("0.120", "2.50")
+    told = PROCESSES.capitalize() + ", each with a quarter of the lines, are together {} times as fast as one thread in memory, and {} times on a disk; `--jobs 4` is {} and {} times as fast."
+    bound = " So the machine bounds what more threads gain, not what they share."
+    memory, just, little = place("in memory", fast, ("0.118", "2.54")), ("0.181", "1.66"), ("0.179", "1.68")
+    for tables, wanted in (([memory, place("on a disk", slow, just)], told.format("2.54", "1.66", "2.50", "1.50") + bound), ([memory, place("on a disk", slow, little)], told.format("2.54", "1.68", "2.50", "1.50")),
+                           ([place("in memory", slow, little), place("on a disk", fast, fast)], told.format("1.68", "2.50", "1.50", "2.50")), ([place("in memory", fast, None), place("on a disk", slow, None)], ""),
+                           ([memory, place("on a disk", slow, None)], ""), ([memory], ""), ([], "")):
+        with mock.patch.object(figures.results_of, "result", {"batch": types.SimpleNamespace(tables=tables)}.get):
+            tests.same("figures: bound of batch", figures.BLOCKS["bound of batch"][0](), wanted)
+    tests.same("bound of batch", figures.BLOCKS["bound of batch"][1], ["batch"])
 
 
 # ---- the words of all these scripts
@@ -2683,7 +2749,7 @@ DEFAULTS = """\
 .ci/width.py write? list=.ci/width.txt crate=bindings/rust target alone?
 compare/aarch64.py fonts=200 folder=dist/out
 compare/again.py faces=200 program=crates/dev_bench/out/dev_bench verify no_install?
-compare/batch.py requests=1000 rounds=5 glyphs=80 fonts=10 folder=/dev/shm disk program
+compare/batch.py requests=1000 rounds=9 glyphs=80 fonts=10 folder=/dev/shm disk program
 compare/binding.py calls=2000 no_build?
 compare/bytes.py program results no_install?
 compare/cff2.py folders places=20 glyphs=0 seed=1 only= jobs=2 fonts? damage hostile? seconds=1 program no_install?

@@ -647,9 +647,13 @@ def check_words(tests, script):
         tests.same(f"words {words}", printed(script.words_of, *words)[1], wanted)
     for parts, wanted in ((["s390x"], "s390x fonts"), (["no-std"], "build-std x86-64"), (["program"], "s390x windows"), (["program", "s390x"], "s390x windows fonts"), (ALL_PARTS, "x86-64 aarch64 i686 s390x windows wasm32 build-std fonts"), ([], "")):
         calls = []
-        with mock.patch.object(script, "run", lambda *words, calls=calls: calls.append(words)):
+        with mock.patch.object(script, "run", lambda *words, calls=calls, **given: calls.append((words, given))):
             script.fetch(Path("/t"), parts)
-        tests.same(f"targets of {parts}", calls, [(ROOT / "bindings/targets", Path("/t"), *wanted.split())] if wanted else [])
+        tests.same(f"targets of {parts}", calls, [((ROOT / "bindings/targets", Path("/t"), *wanted.split()), {"timeout": 3600})] if wanted else [])
+    for given, wanted in (({}, 1200), ({"timeout": 3600}, 3600)):
+        with mock.patch.object(script.subprocess, "run", mock.Mock(return_value=mock.Mock(returncode=0, stdout=b""))) as ran:
+            script.run("it", **given)
+        tests.same(f"the seconds of a command with {given}", ran.call_args.kwargs["timeout"], wanted)
     made = []
     with mock.patch.object(script, "program_rows", lambda *words: made.append(("program", *words))), mock.patch.object(script.no_std, "tested", lambda *words: made.append(("no-std", *words))), \
             mock.patch.object(script, "platform", lambda *words: made.append(("platform", *words))), mock.patch.object(script, "OUT", "out"):

@@ -1,7 +1,7 @@
 #!/usr/bin/env python3
 """Tests small scripts that the gate calls, each over stand-ins for what takes long: which libraries .ci/keep.py stamps, what .ci/times.py,
 .ci/counts.py and .ci/width.py print, which sets of features .ci/crate and .ci/old-crate build, what .ci/large.py says of a program that is
-wrong, bindings/copies and bindings/version over changed files, and which package .ci/install wants for which target.
+wrong, bindings/copies and bindings/version over changed files, which package .ci/install wants for which target, and where other tests end.
 
     .ci/tools_test.py [NAME..]     all groups, or those named
 
@@ -35,6 +35,9 @@ class Tests:
         if got != wanted:
             self.failed += 1
             print(f"FAILED: {what}:\n  {got!r}\n  and not\n  {wanted!r}")
+            # (to a planted bug, one failure says all)
+            if "END_AT_FIRST" in os.environ:
+                sys.exit(1)
 
     def like(self, what, got, pattern):
         self.same(f"{what}: {pattern}\n{got}", bool(re.search(pattern, got, re.M)), True)
@@ -619,7 +622,33 @@ def check_install(tests):
         tests.same(f"install {words}", (status, out, err.startswith("usage: .ci/install")), (1, "", True))
 
 
-GROUPS = [check_keep, check_times, check_counts, check_features, check_width, check_large, check_copies, check_version, check_install]
+# A check that fails, in each test that counts its checks.
+FAILING = {
+    ".ci/tools_test.py": "Tests('').same('a', 1, 2)", ".ci/runs_test.py": "Tests('').same('a', 1, 2)", "dist/testing.py": "Tests('').same('a', 1, 2)",
+    ".ci/door-test": "Tests().demand(False, 'a')", ".ci/plants_test.py": "demand(False, 'a')", "bindings/python/checks.py": "Checks()(False, 'a')",
+}
+LOADED = """
+import importlib.machinery, importlib.util, os, sys
+sys.path.insert(0, os.path.dirname(sys.argv[1]))
+loader = importlib.machinery.SourceFileLoader("loaded", sys.argv[1])
+loaded = importlib.util.module_from_spec(importlib.util.spec_from_loader("loaded", loader))
+loader.exec_module(loaded)
+eval("loaded." + sys.argv[2])
+print("goes on")
+"""
+
+
+def check_ends(tests):
+    """Tests go on behind a failure, but not where END_AT_FIRST is set: then they end with status 1."""
+    for path, call in FAILING.items():
+        for more, wanted in (({}, (0, True)), ({"END_AT_FIRST": "1"}, (1, False))):
+            env = {key: value for key, value in os.environ.items() if key != "END_AT_FIRST"}
+            ran = subprocess.run([sys.executable, "-B", "-c", LOADED, os.path.join(ROOT, path), call], env={**env, **more}, capture_output=True, text=True)
+            tests.same(f"{path} with {more}: {ran.stderr[-200:]}", (ran.returncode, "goes on" in ran.stdout), wanted)
+            tests.like(f"{path} with {more} says", ran.stdout, "^FAILED: ")
+
+
+GROUPS = [check_keep, check_times, check_counts, check_features, check_width, check_large, check_copies, check_version, check_install, check_ends]
 
 
 def main():

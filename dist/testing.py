@@ -35,6 +35,9 @@ class Tests:
         if got != wanted:
             self.failed += 1
             print(f"FAILED: make-test: {what}:\n  {str(got)[:1500]}\n  and not\n  {str(wanted)[:1500]}")
+            # (to a planted bug, one failure says all)
+            if "END_AT_FIRST" in os.environ:
+                sys.exit(1)
 
     def fails(self, what, call, wanted, kind=kit.Failed):
         """A call fails, and says so."""

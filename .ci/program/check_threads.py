@@ -89,7 +89,10 @@ GOOD = [{"in": name, "out": f"{name}-{k}", "gids": [1], "quiet": k == 1} for k i
 WRONG = [{"in": "six", "out": "one", "gids": [60]}, {"in": "none", "out": "two", "gids": [1]}, {"in": "six", "out": "none/three", "gids": [1]}]
 
 # (lines are read 16 at a time: wrong ones at the ends of such pieces, and OUT of one in another)
-MANY = [{"in": 1} if k in (0, 15, 16, 49) else {"in": ("six", "small")[k % 2], "out": f"of-{2 if k in (15, 17, 40) else k}", "gids": [1]} for k in range(50)]
+TWICE = {17: 2, 40: 2, 43: 41, 48: 25}
+MANY = [{"in": 1} if k in (0, 15, 16, 49) else {"in": ("six", "small")[k % 2], "out": f"of-{TWICE.get(k, k)}", "gids": [1]} for k in range(50)]
+# OUT and PDF of requests. What a line before names is an OUT or a PDF there, also of a line that fails; where a line before names both, OUT is told.
+PAIRS = [("a", None), ("b", "c"), ("c", None), ("d", "a"), ("d", None), ("e", "c"), ("f", "f2"), ("none/g", "h"), ("h", None), ("none/g", "i"), ("c", "a"), ("i", "j"), ("k", "b")]
 
 
 def ended(got):
@@ -128,7 +131,7 @@ def check_jobs_ends(table, room):
     put_fonts(room)
     for what, requests, status in (("all are done", GOOD, 0), ("one", GOOD[:1], 0), ("none", [], 0), ("the first fails", WRONG[:1] + GOOD, 1), ("the last fails", GOOD + WRONG[1:2], 1), ("all fail", WRONG, 1),
                                    ("a wrong line", [*GOOD[:2], {"in": 1}], 1), ("wrong lines alone", [{"in": 1}, {"in": 2}], 1), ("OUT twice", [*GOOD, GOOD[0]], 1),
-                                   ("many lines", MANY, 1)):
+                                   ("many lines", MANY, 1), ("PDFs", [{"in": "small", "out": out, "text": "A", "quiet": True, **({"pdf": pdf} if pdf else {})} for out, pdf in PAIRS], 1)):
         # (blank lines are counted, and no requests)
         text = b"\n" + lines_of(requests).replace(b"}\n", b"}\n\n", 2)
         put(room, "requests", text)
@@ -284,12 +287,11 @@ def check_turns(table, room):
 
 
 def check_lines(table, room, library, noted):
-    """Of more than 16 lines each piece of 16 may have a thread, up to N with the one that there is, for what it requests and again for its OUT; where the system
-    has none the one that there is reads all."""
+    """Of more than 16 lines each piece of 16 may have a thread, up to N with the one that there is; where the system has none the one that there is reads all."""
     put(room, "requests", lines_of(MANY))
     base = table.start(["--batch", "requests"], room)
     files = [taken(room, it) for it in MANY if "out" in it]
-    # (four pieces; 23 requests of each source are begun, as two OUTs are named before)
+    # (four pieces; 21 requests of each source are begun, as four OUTs are named before)
     due = [it["in"] for k, it in enumerate(MANY) if "out" in it and it["out"] not in [other.get("out") for other in MANY[:k]]]
     for number, refused, of_lines in (("1", "", 0), ("2", "", 1), ("4", "", 3), ("9", "", 3), ("4", "1", 1), ("4", "01", 2), ("4", "1" * 40, 1)):
         remove(noted)
@@ -298,8 +300,7 @@ def check_lines(table, room, library, noted):
         table.demand(ended(got) == ended(base) and [taken(room, it) for it in MANY if "out" in it] == files, what, got)
         signs = (take(noted) or b"").replace(b"o", b"")
         each = 1 if number == "1" else 2 * int(number)
-        second = of_lines if set(refused) == {"1"} and len(refused) > 1 else min(int(number), 4) - 1
-        wanted = of_lines + second + sum(min(each, due.count(name)) for name in ("six", "small"))
+        wanted = of_lines + sum(min(each, due.count(name)) for name in ("six", "small"))
         table.demand(len(signs) == wanted, what, f"{len(signs)} threads, wanted {wanted}")
 
 

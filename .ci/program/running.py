@@ -2,6 +2,7 @@
 import functools
 import os
 import re
+import shutil
 import stat
 import subprocess
 
@@ -11,6 +12,10 @@ from systems import OTHERWISE, WINDOWS_NUMBERS
 
 ROOT = os.path.dirname(os.path.dirname(row_files.HERE))
 OLD = b"what stood there before"
+# The rights of a file that is written here.
+UMASK = os.umask(0)
+os.umask(UMASK)
+MODE = 0o666 & ~UMASK
 
 
 # ---- files
@@ -32,6 +37,11 @@ def take(path):
         return file.read()
 
 
+def left(path):
+    """The bytes of a file that a row has left; of a folder or a link, that it is one."""
+    return b"(a link)" if os.path.islink(path) else b"(a folder)" if os.path.isdir(path) else take(path)
+
+
 def mode_of(path):
     return stat.S_IMODE(os.stat(path).st_mode) if os.path.exists(path) else None
 
@@ -39,6 +49,25 @@ def mode_of(path):
 def remove(path):
     if os.path.exists(path):
         os.unlink(path)
+
+
+def is_laid_out(path, data):
+    """Whether a file is as `put` would write it."""
+    return os.path.isfile(path) and not os.path.islink(path) and mode_of(path) == MODE and os.stat(path).st_nlink == 1 and take(path) == data
+
+
+def lay_out(room, files):
+    """Makes a folder hold these files and nothing else. A file that is as it should be stays: most rows change none of the hundred fonts."""
+    for name in os.listdir(room):
+        path = os.path.join(room, name)
+        if name in files and is_laid_out(path, files[name]):
+            continue
+        if os.path.isdir(path) and not os.path.islink(path):
+            shutil.rmtree(path)
+        else:
+            os.unlink(path)
+    for name in files.keys() - set(os.listdir(room)):
+        put(room, name, files[name])
 
 
 def few_bytes():
@@ -146,11 +175,11 @@ class Table:
         return found + [f"the file {it} has {after.get(it, b'')[:60]!r} (or isn't there)" for it in names if after.get(it) != wanted.get(it)]
 
     def run_row(self, row, room):
+        """Runs a row in a folder, whatever rows before have left there."""
         before = FONTS | row.files
-        for name, data in before.items():
-            put(room, name, data)
+        lay_out(room, before)
         got = self.start(row.words, room, input=row.stdin)
-        problems = self.problems(row, before, {name: take(os.path.join(room, name)) for name in os.listdir(room)}, got)
+        problems = self.problems(row, before, {name: left(os.path.join(room, name)) for name in os.listdir(room)}, got)
         self.ran += 1
         what = f"{row.where}: {row.line}"
         if row.line in OTHERWISE.get(self.system, {}):

@@ -1,4 +1,6 @@
 """What the tests of the Python module count."""
+import os
+import sys
 
 
 class Checks:
@@ -12,3 +14,6 @@ class Checks:
         if not holds:
             self.failed.append(what)
             print(f"FAILED: {self.front}{what}")
+            # (to a planted bug, one failure says all)
+            if "END_AT_FIRST" in os.environ:
+                sys.exit(1)

@@ -784,18 +784,25 @@ def tests():
     return found
 
 
-def failures(module, call, *arguments, **environment):
-    """What a call of test.py finds wrong, and what it prints, in such an environment."""
-    before, count = dict(os.environ), len(module.check.failed)
-    for name in ("SUBSETTER_FONT_ROWS", "SUBSETTER_SKIP"):
+@contextlib.contextmanager
+def variables(**environment):
+    """Such an environment for a while, without what else tests look at there."""
+    before = dict(os.environ)
+    for name in ("SUBSETTER_FONT_ROWS", "SUBSETTER_SKIP", "END_AT_FIRST"):
         os.environ.pop(name, None)
     os.environ.update(environment)
     try:
-        with contextlib.redirect_stdout(io.StringIO()) as said:
-            call(*arguments)
+        yield
     finally:
         os.environ.clear()
         os.environ.update(before)
+
+
+def failures(module, call, *arguments, **environment):
+    """What a call of test.py finds wrong, and what it prints, in such an environment."""
+    count = len(module.check.failed)
+    with variables(**environment), contextlib.redirect_stdout(io.StringIO()) as said:
+        call(*arguments)
     found = module.check.failed[count:]
     del module.check.failed[count:]
     return found, said.getvalue()
@@ -831,7 +838,7 @@ def check_tests():
     check(not found and said == "the font of this machine is skipped, as was asked for\n", f"a font that is skipped: {found} {said}")
     check(failures(module, module.check_font_rows, texts, SUBSETTER_FONT_ROWS=os.devnull)[0] != [], "no rows of a font of this machine")
     counts = Checks()
-    with contextlib.redirect_stdout(io.StringIO()) as said:
+    with variables(), contextlib.redirect_stdout(io.StringIO()) as said:
         counts(True, "one"), counts(0, "two"), counts([], "three"), counts("it", "four")
     check((counts.count, counts.failed, said.getvalue()) == (4, ["two", "three"], "FAILED: two\nFAILED: three\n"), "what is counted")
 
