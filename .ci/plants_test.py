@@ -105,7 +105,8 @@ class Repository:
 
     def run(self, *words):
         """The status, and what is printed."""
-        environment = {key: value for key, value in planted.ENVIRONMENT.items() if not key.startswith("PLANTS_")}
+        # (a run in a copy has END_AT_FIRST of the run that made it)
+        environment = {key: value for key, value in planted.ENVIRONMENT.items() if key != "END_AT_FIRST" and not key.startswith("PLANTS_")}
         ran = subprocess.run([sys.executable, os.path.join(self.at, ".ci", "plants.py"), *words], env=environment, stdout=subprocess.PIPE, stderr=subprocess.STDOUT,
                              stdin=subprocess.DEVNULL, text=True, timeout=1800)
         return ran.returncode, ran.stdout
@@ -284,6 +285,7 @@ def check_choice(here):
     here.ends("a layer that there isn't", 1, r"^plants: no layer large", words=["--layer", "large"])
     skipped = here.ends("without the kit", 0, r"^14 plants", words=["--skip", "kit", "--list"])
     demand("a product" not in skipped and "a difference" in skipped, "what is skipped", skipped)
+    here.ends("without what needs node, where that needs the kit", 0, r"^15 plants", words=["--skip", "node", "--list"])
     for words in (["--skip", "kits"], ["--draw", "0"], ["--draw", "x"], ["--jobs", "0"], ["--seed", "abc"], ["--colour"]):
         here.ends(f"wrong words {words}", 2, r"^usage: |plants\.py: error", words=words)
     draws = [here.run("--draw", "5", "--seed", seed, "--list")[1] for seed in ("abc", "abc", "abd")]
