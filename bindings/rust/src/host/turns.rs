@@ -64,7 +64,7 @@ mod tests {
     use super::*;
     use std::boxed::Box;
     use std::panic::{catch_unwind, resume_unwind};
-    use std::sync::mpsc::{channel, Receiver, Sender};
+    use std::sync::mpsc::{channel, Receiver, RecvTimeoutError, Sender};
     use std::thread;
     use std::time::Duration;
     use std::vec::Vec;
@@ -75,12 +75,21 @@ mod tests {
     /// How long something is waited for. What holds comes at once, so that this is over in a test that fails alone.
     const LATE: Duration = Duration::from_secs(120);
 
-    /// Runs a test that has so many turns, and demands them back. Then there are none.
-    fn with_turns(count: usize, test: impl FnOnce()) {
+    /// Runs a test that has so many turns, in a thread, so that it fails where no turn comes back, and demands them back. Then there
+    /// are none.
+    fn with_turns(count: usize, test: impl FnOnce() + Send + 'static) {
         let _alone = ALONE.lock().unwrap_or_else(PoisonError::into_inner);
         set(count);
         assert_eq!(*free(), Some(count));
-        test();
+        let (works, working): (Sender<()>, _) = channel();
+        let tested = thread::spawn(move || {
+            let _works = works;
+            test();
+        });
+        // (its sender is dropped at its end, also where it panics)
+        let end = working.recv_timeout(LATE);
+        assert_eq!(end, Err(RecvTimeoutError::Disconnected));
+        tested.join().unwrap();
         assert_eq!(free().take(), Some(count));
     }
 
