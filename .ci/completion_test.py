@@ -181,7 +181,8 @@ def check_shells(tries):
 
 
 def check_quoted(tries):
-    """In bash a file's name with a blank is completed as one word, with a blank behind it, and a folder's name with a stroke."""
+    """In bash a file's name with a blank is completed as one word, with a blank behind it, and a folder's name with a stroke. What is typed
+    behind the key shows that the completion is over, whatever it did."""
     if not shutil.which("bash"):
         return
     with tempfile.TemporaryDirectory(prefix="completion-") as room:
@@ -191,18 +192,19 @@ def check_quoted(tries):
         process, handle = pty.fork()
         if process == 0:
             os.chdir(room)
-            os.execvpe("bash", ["bash", "--norc", "--noprofile", "-i"], dict(os.environ, TERM="dumb", HOME=room, HISTFILE="", PS1="", INPUTRC="/dev/null"))
+            os.execvpe("bash", ["bash", "--norc", "--noprofile", "-i"], dict(os.environ, TERM="dumb", HOME=room, HISTFILE="", PS1="next: ", INPUTRC="/dev/null"))
+        # (before its prompt the terminal shows each key that is typed)
         os.write(handle, f"source '{tries.file('subset_font.bash')}'; echo rea''dy\n".encode())
-        shown = read_until(handle, "ready")
-        os.write(handle, b"subset_font --json one\t")
-        shown = read_until(handle, "font.ttf ") if "ready" in shown else f"no shell: {shown!r}"
-        os.write(handle, b"--gids-file fol\t")
-        shown += read_until(handle, "folder/")
+        shown = read_until(handle, "ready\r\nnext: ")
+        os.write(handle, b"subset_font --json one\t=1= ")
+        shown = read_until(handle, "=1= ") if "ready" in shown else f"no shell: {shown!r}"
+        os.write(handle, b"--gids-file fol\t=2=")
+        shown += read_until(handle, "=2=")
         os.kill(process, signal.SIGKILL)
         os.waitpid(process, 0)
         os.close(handle)
-    tries.demand("one\\ font.ttf " in shown, "bash: a name with a blank", repr(shown))
-    tries.demand("folder/" in shown, "bash: a folder", repr(shown))
+    tries.demand("one\\ font.ttf =1= " in shown, "bash: a name with a blank", repr(shown))
+    tries.demand("folder/=2=" in shown, "bash: a folder", repr(shown))
 
 
 def said_by_fish(text):
