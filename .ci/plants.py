@@ -8,7 +8,7 @@ and the copy is made what it was. A test that doesn't end, can't be started or i
 --draw takes N of those that are drawn in the gate: their tests need what `make quick` needs, and at most 30 seconds of a processor. Which
 depends on the plant's name and on the COMMIT alone. --drawn takes the plants of a measure: those that were drawn on that day by somebody
 who had read the sources and no test. Each is then listed with what came of it, at first and now. A long run may be done in parts, each with --results, of which
---taken then makes one report. The last line is `N bugs planted, N seen, N got through`, and the names of those that
+--taken then makes one report; with --rest what none of them has as seen is planted first. The last line is `N bugs planted, N seen, N got through`, and the names of those that
 weren't seen are above it. The status is 0 where each was seen, else 1; 2 where an argument is wrong.
 """
 import argparse
@@ -415,6 +415,18 @@ def taken_from(paths, plants):
     return [found.get(front) or Outcome(plant, "NOT TRIED", "no run has it", 0) for front, plant in by_front.items()]
 
 
+def planted_or_taken(lists, plants, given):
+    """The outcomes, in the order of the lists: of plants that are tried now, that earlier runs wrote, or of the rest now and the others so."""
+    if not given.taken:
+        return plant_all(lists, plants, given.jobs)
+    taken = taken_from(given.taken, plants)
+    left = [it.plant for it in taken if it.result != SEEN]
+    if not given.rest or not left:
+        return taken
+    now = {it.plant.where: it for it in plant_all(lists, left, given.jobs)}
+    return [now.get(it.plant.where, it) for it in taken]
+
+
 def line_of(outcome):
     return f"{outcome.plant.layer}: {outcome.plant.name}: {outcome.result}{outcome.why and ': ' + outcome.why}"
 
@@ -483,10 +495,13 @@ def read_words(words):
     given.add_argument("--jobs", type=count_of, default=os.cpu_count() or 1, metavar="N", help="copies that are tested beside each other: as many as there are processors")
     given.add_argument("--results", metavar="FILE", help="a line for each plant goes there")
     given.add_argument("--taken", action="append", default=[], metavar="FILE", help="plant nothing, and report what earlier runs wrote by --results; several may be given")
+    given.add_argument("--rest", action="store_true", help="plant what none of these runs has as seen, and take the others from them")
     given.add_argument("--list", action="store_true", help="print what is chosen, and plant nothing")
     found = given.parse_args(words)
     if found.seed and not found.draw:
         given.error("--seed is of --draw")
+    if found.rest and not found.taken:
+        given.error("--rest is of --taken")
     if found.draw and not found.seed:
         found.seed = planted.git(ROOT, "rev-parse", "HEAD", environment=os.environ).strip()
     return found
@@ -533,7 +548,7 @@ def main(words):
     if given.list:
         print_list(lists, plants)
         return 0
-    outcomes = taken_from(given.taken, plants) if given.taken else plant_all(lists, plants, given.jobs)
+    outcomes = planted_or_taken(lists, plants, given)
     words = words_of_choice(lists, plants, given)
     if given.results:
         write_results(given.results, outcomes, words)

@@ -286,7 +286,7 @@ def check_choice(here):
     skipped = here.ends("without the kit", 0, r"^14 plants", words=["--skip", "kit", "--list"])
     demand("a product" not in skipped and "a difference" in skipped, "what is skipped", skipped)
     here.ends("without what needs node, where that needs the kit", 0, r"^15 plants", words=["--skip", "node", "--list"])
-    for words in (["--skip", "kits"], ["--draw", "0"], ["--draw", "x"], ["--jobs", "0"], ["--seed", "abc"], ["--colour"]):
+    for words in (["--skip", "kits"], ["--draw", "0"], ["--draw", "x"], ["--jobs", "0"], ["--seed", "abc"], ["--rest"], ["--colour"]):
         here.ends(f"wrong words {words}", 2, r"^usage: |plants\.py: error", words=words)
     draws = [here.run("--draw", "5", "--seed", seed, "--list")[1] for seed in ("abc", "abc", "abd")]
     demand(draws[0] == draws[1] and draws[0] != draws[2] and draws[0].count("\n") == 6, "a draw by the commit", draws)
@@ -333,7 +333,14 @@ def check_results(here):
                      r"^not seen: small: number 1: IT NO LONGER APPLIES: FAILED", r"^not seen: small: number 10: GOT THROUGH: FAILED", r"^not seen: small: number 11: NOT TRIED: no run has it$",
                      r"^13 bugs planted, 9 seen, 4 got through$", words=["--taken", path, "--taken", os.path.join(here.at, "more.txt")])
     demand("large" not in said and before == {it: os.stat(os.path.join(here.at, it)).st_mtime_ns for it in FILES}, "a report plants bugs, or has others", said)
-    for name in ("results.txt", "more.txt"):
+    # The rest: what was seen is taken as it is written there, also the bug that is no longer one, and what wasn't is tried.
+    said = here.ends("the rest", 1, r"^all 13 bugs$", r"^ +4/4 .* number (1|10|11): seen|^ +4/4 .* the other order: GOT THROUGH$", r"^not seen: small: the other order: GOT THROUGH$",
+                     r"^13 bugs planted, 12 seen, 1 got through$", words=["--taken", path, "--taken", os.path.join(here.at, "more.txt"), "--rest", "--results", os.path.join(here.at, "rest.txt")])
+    with open(os.path.join(here.at, "rest.txt"), encoding="utf-8") as file:
+        rest = file.read().splitlines()
+    demand([it for i, it in enumerate(rest) if i not in (0, 1, 3, 12, 13)] == [it for i, it in enumerate(lines) if i not in (0, 1, 3, 12, 13)], "what was seen isn't taken", rest)
+    here.ends("no rest", 0, r"^12 of 13 bugs$", r"^12 bugs planted, 12 seen, 0 got through$", words=["--taken", os.path.join(here.at, "rest.txt"), "--rest", "--only", "number"])
+    for name in ("results.txt", "more.txt", "rest.txt"):
         os.unlink(os.path.join(here.at, name))
 
 

@@ -42,9 +42,11 @@ from made_fonts import FONTS  # noqa: E402
 from running import Ended, Table, messages  # noqa: E402
 from systems import OTHERWISE, UNCHECKED  # noqa: E402
 
+# (those that take longest are last, as a planted bug needs no more than the first that differs)
 CHECKS = (check_words, check_shown, check_names, check_pdf, check_places, check_links, check_second_names, check_attributes, check_device, check_rights, check_streams, check_waiting, check_closed, check_held, check_number_of_output, check_many, check_memory,
-          check_refused_memory, check_refused_names, check_refused_reasons, check_requests, check_little_room, check_kept_room, check_failed_calls, check_killed, check_inodes,
-          check_batch, check_opened, check_refused_batch, check_soon, check_progress, check_jobs_words, check_jobs_ends, check_threads)
+          check_batch, check_opened, check_soon, check_progress, check_jobs_words, check_jobs_ends, check_threads,
+          check_refused_reasons, check_requests, check_kept_room, check_failed_calls, check_killed, check_inodes,
+          check_refused_memory, check_refused_names, check_refused_batch, check_little_room)
 
 
 def read_words():
