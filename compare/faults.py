@@ -463,10 +463,18 @@ def read_words():
     return given
 
 
+def heed_signals():
+    """A signal that is ignored here (as what runs behind a shell's `&` or `nohup` ignores some) would be ignored by the program, too."""
+    for it in (signal.SIGINT, signal.SIGHUP, signal.SIGQUIT):
+        if signal.getsignal(it) is signal.SIG_IGN:
+            signal.signal(it, signal.SIG_DFL)
+
+
 def main():
     given, lacking = read_words(), needs()
     if lacking:
         sys.exit(f"faults.py: {lacking}")
+    heed_signals()
     table = Table(os.path.realpath(given.program or cargo_program()), given.first)
     try:
         check_all(table, given.ways, given.parts)
