@@ -1,4 +1,5 @@
 """Files beside IN and OUT: rights, links, devices, and failed writes."""
+import itertools
 import os
 import shutil
 import struct
@@ -115,7 +116,13 @@ def check_second_names(table, room):
         table.demand(is_well, f"OUT with a name of {length} bytes", got)
         table.demand((os.stat(out).st_ino == before) == wanted, f"OUT with a name of {length} bytes", f"its number {'changed' if wanted else 'is what it was'}")
         table.demand(os.listdir(os.path.join(room, "folder")) == ["out"], f"OUT with a name of {length} bytes leaves", os.listdir(os.path.join(room, "folder")))
+        # What has one already is written where it is.
+        other = os.path.join(room, "other")
+        os.link(put(room, "folder/out", OLD * 1000), other)
+        got = table.start(["in", name, "0", "2"], room)
+        table.demand(got.returncode == 0 and os.path.samefile(out, other) and take(other) == table.same["simple 2"], f"OUT with a name of {length} bytes, and a second one", got)
         os.unlink(out)
+        os.unlink(other)
 
 
 # An access list of Linux (version 2): the owner may read and write, so may the user 4243, the group has no rights, and 4243's are masked by rw.
@@ -193,11 +200,13 @@ def check_rights(table, room):
     got = start("in", "folder/out", "0", "2")
     table.demand(got.returncode == 0 and take(out) == wanted, "OUT in a shut folder", got)
     os.chmod(os.path.join(room, "folder"), 0o755)
-    for owner, group in owners(is_root):
+    # (the build by Cargo makes no second name of many bytes)
+    for (owner, group), name in itertools.product(owners(is_root), ("of another", "." + "/" * LONG_NAME + "of another")):
         other = put(room, "of another", OLD, 0o666)
         os.chown(other, owner, group)
-        got = start("in", "of another", "0", "2")
+        got = start("in", name, "0", "2")
         kept = os.stat(other).st_uid, os.stat(other).st_gid
-        table.demand(got.returncode == 0 and take(other) == wanted and kept == (owner, group), f"OUT of the user {owner} and the group {group}", (got, kept))
-        table.demand(sorted(os.listdir(room)) == ["folder", "in", "of another", "program", "secret", "shut"], "and leaves", os.listdir(room))
+        what = f"OUT of the user {owner} and the group {group}, with a name of {len(name)} bytes"
+        table.demand(got.returncode == 0 and take(other) == wanted and kept == (owner, group), what, (got, kept))
+        table.demand(sorted(os.listdir(room)) == ["folder", "in", "of another", "program", "secret", "shut"], f"{what}, leaves", os.listdir(room))
         os.unlink(other)
