@@ -7,9 +7,10 @@ and the copy is made what it was. A test that doesn't end, can't be started or i
 
 --draw takes N of those that are drawn in the gate: their tests need what `make quick` needs, and at most 30 seconds of a processor. Which
 depends on the plant's name and on the COMMIT alone. --drawn takes the plants of a measure: those that were drawn on that day by somebody
-who had read the sources and no test. Each is then listed with what came of it, at first and now. A long run may be done in parts, each with --results, of which
---taken then makes one report; with --rest what none of them has as seen is planted first. The last line is `N bugs planted, N seen, N got through`, and the names of those that
-weren't seen are above it. The status is 0 where each was seen, else 1; 2 where an argument is wrong.
+who had read the sources and no test. Each is then listed with what came of it, at first and now. A long run may be done in parts, each
+with --results, of which --taken then makes one report; with --rest what none of them has as seen is planted first. The last line is
+`N bugs planted, N seen, N got through`, with `, N not tried` where that is so, and the names of those that weren't seen are above it.
+The status is 0 where each was seen, else 1; 2 where an argument is wrong.
 """
 import argparse
 import collections
@@ -46,7 +47,7 @@ PROFILE = {"CARGO_PROFILE_DEV_DEBUG": "0", "CARGO_PROFILE_RELEASE_OPT_LEVEL": "1
 DATE = 1_600_000_000
 # Plants of one test that one copy takes at a time.
 AT_ONCE = 6
-SEEN = "seen"
+SEEN, NOT_TRIED = "seen", "NOT TRIED"
 # What bash ends with where a command can't be started, or was ended from outside.
 NEVER = {126: "its test can't be started", 127: "its test can't be found", 128 + signal.SIGKILL: "its test was killed", 128 + signal.SIGTERM: "its test was ended"}
 # The commands that run, the lock under which one begins, and whether none may begin any more.
@@ -353,7 +354,7 @@ class Work:
         test, start = self.lists.tests[plant.test], time.time()
         self.prepare(room, test)
         if test.name in room.unfit:
-            result, why = "NOT TRIED", f"{test.name}: {room.unfit[test.name]}"
+            result, why = NOT_TRIED, f"{test.name}: {room.unfit[test.name]}"
         else:
             start = time.time()
             result, why = tried(room, test, plant)
@@ -396,7 +397,7 @@ def plant_all(lists, plants, jobs):
         outcome = work.outcomes.get()
         found[outcome.plant.where] = outcome
     # (a thread that ended early leaves plants without an outcome)
-    return [found.get(it.where) or Outcome(it, "NOT TRIED", "its status is lost", 0) for it in plants]
+    return [found.get(it.where) or Outcome(it, NOT_TRIED, "its status is lost", 0) for it in plants]
 
 
 # ---- what is printed
@@ -412,7 +413,7 @@ def taken_from(paths, plants):
             if front:
                 result, _, why = line[len(front):].partition(": ")
                 found[front] = Outcome(by_front[front], result, why, int(seconds))
-    return [found.get(front) or Outcome(plant, "NOT TRIED", "no run has it", 0) for front, plant in by_front.items()]
+    return [found.get(front) or Outcome(plant, NOT_TRIED, "no run has it", 0) for front, plant in by_front.items()]
 
 
 def planted_or_taken(lists, plants, given):
@@ -458,7 +459,9 @@ def report(outcomes, chosen_of, date=""):
         print(f"{measured(outcomes, date)}\n")
     for outcome in missed:
         print(f"not seen: {line_of(outcome)}")
-    print(f"{len(outcomes)} bugs planted, {len(outcomes) - len(missed)} seen, {len(missed)} got through")
+    left = sum(it.result == NOT_TRIED for it in outcomes)
+    planted_now, seen = len(outcomes) - left, len(outcomes) - len(missed)
+    print(f"{planted_now} bugs planted, {seen} seen, {planted_now - seen} got through{f', {left} not tried' if left else ''}")
     return 1 if missed or not outcomes else 0
 
 

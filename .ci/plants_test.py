@@ -148,7 +148,8 @@ def check_tests(here):
         ("a bug that doesn't build", "build: ! grep -q -e ' - ' add.sh\nrun: bash test.sh\nran: checks", r"IT DOESN'T BUILD"),
     ):
         here.lists(SEEN, f"test: adds\n{test}\nseconds: 1\n")
-        here.ends(what, 1, rf"^not seen: small: a difference: {wanted}", r"^1 bugs planted, 0 seen, 1 got through$")
+        numbers = "0 bugs planted, 0 seen, 0 got through, 1 not tried" if wanted.startswith("NOT TRIED") else "1 bugs planted, 0 seen, 1 got through"
+        here.ends(what, 1, rf"^not seen: small: a difference: {wanted}", f"^{numbers}$")
     here.lists(SEEN, "test: adds\nrun: bash test.sh\nran: checks\nseconds: 1\nover: part\n\nbuilt: part\nrun: false\nkeeps: built\n")
     here.ends("what isn't built", 1, r"^plants: part isn't built")
     here.lists(SEEN, "test: adds\nrun: [ -e built/it ] && bash test.sh\nran: checks\nseconds: 1\nover: part\n\nbuilt: part\nrun: mkdir built && touch built/it\nkeeps: built\n")
@@ -169,7 +170,7 @@ def check_ends(here):
     demand(broken != whole, "a thread can't be ended")
     write(here.at, ".ci/plants.py", broken)
     here.lists(SEEN)
-    here.ends("a status that is lost", 1, r"NOT TRIED: its status is lost", r"^plants: a copy ended early: SystemExit", r"^1 bugs planted, 0 seen, 1 got through$")
+    here.ends("a status that is lost", 1, r"NOT TRIED: its status is lost", r"^plants: a copy ended early: SystemExit", r"^0 bugs planted, 0 seen, 0 got through, 1 not tried$")
     write(here.at, ".ci/plants.py", whole)
 
 
@@ -331,7 +332,7 @@ def check_results(here):
     before = {it: os.stat(os.path.join(here.at, it)).st_mtime_ns for it in FILES}
     said = here.ends("a report of what was written", 1, r"^all 13 bugs$", r"^\| small \| 13 \| 9 \| 4 \|$", r"^not seen: small: the other order: GOT THROUGH$",
                      r"^not seen: small: number 1: IT NO LONGER APPLIES: FAILED", r"^not seen: small: number 10: GOT THROUGH: FAILED", r"^not seen: small: number 11: NOT TRIED: no run has it$",
-                     r"^13 bugs planted, 9 seen, 4 got through$", words=["--taken", path, "--taken", os.path.join(here.at, "more.txt")])
+                     r"^12 bugs planted, 9 seen, 3 got through, 1 not tried$", words=["--taken", path, "--taken", os.path.join(here.at, "more.txt")])
     demand("large" not in said and before == {it: os.stat(os.path.join(here.at, it)).st_mtime_ns for it in FILES}, "a report plants bugs, or has others", said)
     # The rest: what was seen is taken as it is written there, also the bug that is no longer one, and what wasn't is tried.
     said = here.ends("the rest", 1, r"^all 13 bugs$", r"^ +4/4 .* number (1|10|11): seen|^ +4/4 .* the other order: GOT THROUGH$", r"^not seen: small: the other order: GOT THROUGH$",
