@@ -9,7 +9,8 @@ and the copy is made what it was. A test that doesn't end, can't be started or i
 depends on the plant's name and on the COMMIT alone. --drawn takes the plants of a measure: those that were drawn on that day by somebody
 who had read the sources and no test. Each is then listed with what came of it, at first and now. A long run may be done in parts, each
 with --results, of which --taken then makes one report; with --rest what none of them has as seen is planted first. The last line is
-`N bugs planted, N seen, N got through`, with `, N not tried` where that is so, and the names of those that weren't seen are above it.
+`N bugs planted, N seen, N got through`, with `, N not tried` where that is so, and the names of those that weren't seen are above it, but
+for those that no run has.
 The status is 0 where each was seen, else 1; 2 where an argument is wrong.
 """
 import argparse
@@ -47,7 +48,7 @@ PROFILE = {"CARGO_PROFILE_DEV_DEBUG": "0", "CARGO_PROFILE_RELEASE_OPT_LEVEL": "1
 DATE = 1_600_000_000
 # Plants of one test that one copy takes at a time.
 AT_ONCE = 6
-SEEN, NOT_TRIED = "seen", "NOT TRIED"
+SEEN, NOT_TRIED, NO_RUN = "seen", "NOT TRIED", "no run has it"
 # What bash ends with where a command can't be started, or was ended from outside.
 NEVER = {126: "its test can't be started", 127: "its test can't be found", 128 + signal.SIGKILL: "its test was killed", 128 + signal.SIGTERM: "its test was ended"}
 # The commands that run, the lock under which one begins, and whether none may begin any more.
@@ -413,7 +414,7 @@ def taken_from(paths, plants):
             if front:
                 result, _, why = line[len(front):].partition(": ")
                 found[front] = Outcome(by_front[front], result, why, int(seconds))
-    return [found.get(front) or Outcome(plant, NOT_TRIED, "no run has it", 0) for front, plant in by_front.items()]
+    return [found.get(front) or Outcome(plant, NOT_TRIED, NO_RUN, 0) for front, plant in by_front.items()]
 
 
 def planted_or_taken(lists, plants, given):
@@ -457,8 +458,10 @@ def report(outcomes, chosen_of, date=""):
     print(f"{chosen_of}\n\n{table('Layer', outcomes, lambda it: it.layer)}\n\n{table('Class', outcomes, lambda it: it.kind)}\n")
     if date:
         print(f"{measured(outcomes, date)}\n")
+    # (what no run has may be hundreds: the file of results names it)
     for outcome in missed:
-        print(f"not seen: {line_of(outcome)}")
+        if outcome.why != NO_RUN:
+            print(f"not seen: {line_of(outcome)}")
     left = sum(it.result == NOT_TRIED for it in outcomes)
     planted_now, seen = len(outcomes) - left, len(outcomes) - len(missed)
     print(f"{planted_now} bugs planted, {seen} seen, {planted_now - seen} got through{f', {left} not tried' if left else ''}")

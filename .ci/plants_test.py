@@ -331,9 +331,9 @@ def check_results(here):
     write(here.at, "more.txt", f"# another run\n{lines[-2].replace(': seen: ', ': GOT THROUGH: ')}\n   7 s  large: number 3: GOT THROUGH\n   1/12 {lines[3].replace(': seen: ', ': IT NO LONGER APPLIES: ')}\n")
     before = {it: os.stat(os.path.join(here.at, it)).st_mtime_ns for it in FILES}
     said = here.ends("a report of what was written", 1, r"^all 13 bugs$", r"^\| small \| 13 \| 9 \| 4 \|$", r"^not seen: small: the other order: GOT THROUGH$",
-                     r"^not seen: small: number 1: IT NO LONGER APPLIES: FAILED", r"^not seen: small: number 10: GOT THROUGH: FAILED", r"^not seen: small: number 11: NOT TRIED: no run has it$",
+                     r"^not seen: small: number 1: IT NO LONGER APPLIES: FAILED", r"^not seen: small: number 10: GOT THROUGH: FAILED",
                      r"^12 bugs planted, 9 seen, 3 got through, 1 not tried$", words=["--taken", path, "--taken", os.path.join(here.at, "more.txt")])
-    demand("large" not in said and before == {it: os.stat(os.path.join(here.at, it)).st_mtime_ns for it in FILES}, "a report plants bugs, or has others", said)
+    demand("large" not in said and "number 11" not in said and before == {it: os.stat(os.path.join(here.at, it)).st_mtime_ns for it in FILES}, "a report plants bugs, or has others", said)
     # The rest: what was seen is taken as it is written there, also the bug that is no longer one, and what wasn't is tried.
     said = here.ends("the rest", 1, r"^all 13 bugs$", r"^ +4/4 .* number (1|10|11): seen|^ +4/4 .* the other order: GOT THROUGH$", r"^not seen: small: the other order: GOT THROUGH$",
                      r"^13 bugs planted, 12 seen, 1 got through$", words=["--taken", path, "--taken", os.path.join(here.at, "more.txt"), "--rest", "--results", os.path.join(here.at, "rest.txt")])

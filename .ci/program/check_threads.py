@@ -221,8 +221,8 @@ class Stopped:
         return found
 
     def settle(self, threads):
-        """Waits until so many threads all sleep, and do so each time that one looks."""
-        end, times = time.monotonic() + LATE, 0
+        """Waits until so many threads all sleep, and do so each time that one looks, at most for half a minute: what comes later isn't found."""
+        end, times = time.monotonic() + 30, 0
         while times < 5 and time.monotonic() < end and self.ran.poll() is None:
             times = times + 1 if self.states() == "S" * threads else 0
             time.sleep(0.01)
