@@ -270,6 +270,7 @@ def check_features(tests):
     wanted = []
     for features in ("--no-default-features", "", "--no-default-features --features variable-fonts"):
         wanted += [f"cargo test {words} {features} {some}", f"cargo test {words} {features} --doc"]
+    wanted.append(f"cargo test {words} --no-default-features --test rows")
     wanted += [f"cargo doc {words} --no-deps {it} by -D warnings" for it in ("--no-default-features", "", "--features variable-fonts", "--all-features")]
     wanted = [" ".join(it.split()) for it in wanted]
     of_old = [f"cargo build {WORDS}{room}/target {it}" for it in ("--no-default-features", "", "--features variable-fonts", "--features program", "--all-features")]
