@@ -11,6 +11,7 @@ import { exampleFont, sfnt } from "../page/example.mjs";
 import { Font, charstringCommands } from "../page/outlines.mjs";
 import { compare, damagedFonts, realFonts } from "./compare.mjs";
 import { runDrawn } from "./drawn.mjs";
+import { endsAfter } from "./ends.mjs";
 import { fontFiles, readFont, some } from "./fonts.mjs";
 import { runMaking } from "./making.mjs";
 import { runParts } from "./parts.mjs";
@@ -105,7 +106,17 @@ async function moduleTwice() {
     same(opened[1].subset([2, 1]), wanted, "a font that is open while the other's is closed");
 }
 
+/** What never comes back is ended, once it took its seconds of a processor. */
+function endless() {
+    const folder = mkdtempSync(join(tmpdir(), "subsetter-endless-")), file = join(folder, "endless.mjs");
+    writeFileSync(file, `import { endsAfter } from ${JSON.stringify(new URL("ends.mjs", import.meta.url))};\nendsAfter(2);\nfor (;;);\n`);
+    const { signal, stdout } = spawnSync(process.execPath, [file], { encoding: "utf8", timeout: 240_000, killSignal: "SIGKILL" });
+    rmSync(folder, { recursive: true });
+    equal(`${signal}: ${stdout}`, "SIGABRT: node: FAILED: it doesn't end: 2 s of a processor\n", "how what never ends is ended");
+}
+
 async function calls() {
+    endless();
     const parts = await runCalls(library, wasm, table, 10000);
     await moduleTwice();
     return `${parts.length} parts: ${parts.join(", ")}`;
@@ -324,6 +335,7 @@ async function drawings() {
     return `${drawn} glyphs draw alike (${[...kinds].join(" and ")})`;
 }
 
+endsAfter(300);
 const all = { rows, calls, pdf, parts, stale, package: packed, fonts, drawings };
 for (const name of process.argv.slice(2)) {
     try {
@@ -331,5 +343,7 @@ for (const name of process.argv.slice(2)) {
     } catch (error) {
         console.log(`node, ${name}: FAILED: ${error.stack}${error.cause ? `\n${error.cause.stack}` : ""}`);
         process.exitCode = 1;
+        // (to a planted bug, one failure says all)
+        if ("END_AT_FIRST" in process.env) process.exit();
     }
 }
