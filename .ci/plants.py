@@ -159,7 +159,7 @@ class Room:
         with tempfile.TemporaryFile() as said:
             with BEGINS:
                 if OVER.is_set():
-                    return -signal.SIGKILL, ""
+                    return 128 + signal.SIGKILL, ""
                 ran = subprocess.Popen(["bash", "-o", "pipefail", "-c", command], cwd=self.at, env=env, stdin=subprocess.DEVNULL, stdout=said,
                                        stderr=subprocess.STDOUT, start_new_session=True)
                 RUNNING.add(ran)
@@ -171,7 +171,8 @@ class Room:
                 RUNNING.discard(ran)
                 end_group(ran)
             said.seek(0)
-            return status, said.read().decode(errors="replace")
+            # (bash may be replaced by its last command, whose signal is then a status below 0, and else one above 128)
+            return 128 - status if status is not None and status < 0 else status, said.read().decode(errors="replace")
 
     def keep(self):
         mirror(self.at, self.kept)
@@ -268,7 +269,7 @@ def tried(room, test, plant):
             return "IT DOESN'T BUILD", ended(status, said)
     for command in test.runs:
         status, said = room.run(command, limit)
-        if status is None or status in NEVER or status < 0:
+        if status is None or status in NEVER:
             return "ITS TEST NEVER RAN", ended(status, said)
         if status != 0:
             return SEEN, why_of(said)

@@ -150,6 +150,9 @@ def check_tests(here):
         here.lists(SEEN, f"test: adds\n{test}\nseconds: 1\n")
         numbers = "0 bugs planted, 0 seen, 0 got through, 1 not tried" if wanted.startswith("NOT TRIED") else "1 bugs planted, 0 seen, 1 got through"
         here.ends(what, 1, rf"^not seen: small: a difference: {wanted}", f"^{numbers}$")
+    for signals in ("kill -ABRT $$", "bash -c 'kill -ABRT $$'"):
+        here.lists(SEEN, f"test: adds\nrun: echo checks: 1; if grep -q -e ' - ' add.sh; then {signals}; fi\nran: checks\nseconds: 1\n")
+        here.ends(f"a test that ends itself by {signals}", 0, r"^1 bugs planted, 1 seen")
     here.lists(SEEN, "test: adds\nrun: bash test.sh\nran: checks\nseconds: 1\nover: part\n\nbuilt: part\nrun: false\nkeeps: built\n")
     here.ends("what isn't built", 1, r"^plants: part isn't built")
     here.lists(SEEN, "test: adds\nrun: [ -e built/it ] && bash test.sh\nran: checks\nseconds: 1\nover: part\n\nbuilt: part\nrun: mkdir built && touch built/it\nkeeps: built\n")
@@ -242,9 +245,9 @@ def check_over(room):
         ended.set()
         runner.end_all()
         thread.join()
-    demand(found == [(-9, "")], "a command that is just beginning where the run ends", found)
+    demand(found == [(137, "")], "a command that is just beginning where the run ends", found)
     found = made.run("echo it begins", 1800)
-    demand(found == (-9, ""), "a command behind the end of a run", found)
+    demand(found == (137, ""), "a command behind the end of a run", found)
     runner.OVER.clear()
     found = made.run("echo it begins", 1800)
     demand(found == (0, "it begins\n") and not runner.RUNNING, "a command", (found, runner.RUNNING))

@@ -596,6 +596,7 @@ firefox-esr | firefox-esr | test | firefox
 /usr/lib/python3.*/ensurepip | python3-venv | test dist-test | pip packages-wheel
 qemu-x86_64-static | qemu-user-static | test dist-test | packages-baseline
 aarch64-linux-gnu-gcc | gcc-aarch64-linux-gnu | test dist dist-test | packages-aarch64
+/usr/aarch64-linux-gnu/include/stdlib.h | libc6-dev-arm64-cross | test dist dist-test | packages-aarch64
 qemu-aarch64-static | qemu-user-static | test dist-test | packages-aarch64
 unshare | util-linux | test dist-test fresh | fresh packages-hidden"""
 

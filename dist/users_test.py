@@ -277,7 +277,10 @@ def check_tools_of_users(tests):
     """Where the tools of a target are, and that they are asked for; a target without tools ends its part."""
     _, one = ended("files_of_users", tests)
     del one.tools
-    for given, folder in ((None, f"{ROOT}/out/targets"), ("", f"{ROOT}/out/targets"), ("/t/x/..", "/t")):
+    # (what is reached by a link has another name for who looks from an empty root)
+    own, link = os.path.realpath(f"{ROOT}/out/targets"), os.path.join(tests.new(), "link")
+    os.symlink("real", link)
+    for given, folder in ((None, own), ("", own), ("/t/x/..", "/t"), (link, os.path.join(os.path.realpath(os.path.dirname(link)), "real"))):
         for status in (0, 1, 3):
             seen, World.calls = [], []
             run = types.SimpleNamespace(run=lambda words, **_: seen.append(words) or types.SimpleNamespace(returncode=status, stdout="it said so"), PIPE=-1, STDOUT=-2)
