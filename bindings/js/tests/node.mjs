@@ -106,17 +106,18 @@ async function moduleTwice() {
     same(opened[1].subset([2, 1]), wanted, "a font that is open while the other's is closed");
 }
 
-/** What never comes back is ended, once it took its seconds of a processor. */
-function endless() {
-    const folder = mkdtempSync(join(tmpdir(), "subsetter-endless-")), file = join(folder, "endless.mjs");
-    writeFileSync(file, `import { endsAfter } from ${JSON.stringify(new URL("ends.mjs", import.meta.url))};\nendsAfter(2);\nfor (;;);\n`);
-    const { signal, stdout } = spawnSync(process.execPath, [file], { encoding: "utf8", timeout: 240_000, killSignal: "SIGKILL" });
-    rmSync(folder, { recursive: true });
-    equal(`${signal}: ${stdout}`, "SIGABRT: node: FAILED: it doesn't end: 2 s of a processor\n", "how what never ends is ended");
+/** These tests themselves: what never comes back is ended, once it took its seconds of a processor, and a part that fails is a status. */
+function ownEnds() {
+    const run = (name, env) => {
+        const { status, signal, stdout } = spawnSync(process.execPath, [fileURLToPath(import.meta.url), name], { encoding: "utf8", env: { ...process.env, ...env }, timeout: 240_000, killSignal: "SIGKILL" });
+        return `${status} ${signal}: ${stdout.split("\n")[0]}`;
+    };
+    equal(run("never", { SECONDS_AT_MOST: "2" }), "null SIGABRT: node: FAILED: it doesn't end: 2 s of a processor", "how what never ends is ended");
+    equal(run("fails", {}), "1 null: node, fails: FAILED: Error: as it should", "how a part that fails ends");
 }
 
 async function calls() {
-    endless();
+    ownEnds();
     const parts = await runCalls(library, wasm, table, 10000);
     await moduleTwice();
     return `${parts.length} parts: ${parts.join(", ")}`;
@@ -335,8 +336,11 @@ async function drawings() {
     return `${drawn} glyphs draw alike (${[...kinds].join(" and ")})`;
 }
 
-endsAfter(300);
-const all = { rows, calls, pdf, parts, stale, package: packed, fonts, drawings };
+// What `ownEnds` runs.
+const never = () => { for (;;); }, fails = () => { throw new Error("as it should"); };
+
+endsAfter(Number(process.env.SECONDS_AT_MOST ?? 300));
+const all = { rows, calls, pdf, parts, stale, package: packed, fonts, drawings, never, fails };
 for (const name of process.argv.slice(2)) {
     try {
         console.log(`node, ${name}: ${await all[name]()}`);
