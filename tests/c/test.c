@@ -730,7 +730,7 @@ static int is_once(const struct row *row)
 
 static void *many_calls(void *wrong)
 {
-    for (int turn = 0; turn < (is_brief ? 1 : 30); turn++)
+    for (int turn = 0; turn < (is_brief ? 1 : 5); turn++)
         for (const struct row *row = rows; row < rows + row_count; row++) {
             if (!is_short(row) || is_once(row))
                 continue;
