@@ -630,33 +630,25 @@ static void check_last_bit(const struct row *row)
 
 /* ---- lists of words, as another binding hands them over */
 
+/* The row's font has no metrics, so that it can't be embedded; unknown words are refused first. */
 static void check_word_list(const struct row *row, const uint32_t *words, size_t count, uint32_t status)
 {
-    struct answer all = exact(row), *a = &all;
-    subsetter_made made;
     size_t size = status == 0 ? row->size : 0;
-    a->sizes.cids = a->sizes.widths = 0;
-    a->status = subsetter_subset_by_words(FONT, GLYPHS, words, count, ALONE);
-    check(status == 0 ? is_right(row, a) : is_refusal(a, status), "words", row->name);
-    memset(&made, FILLED, sizeof made);
-    check(subsetter_make_subset_by_words(FONT, GLYPHS, words, count, &made) == status && made.font_size == size
-        && is_same(made.font, row->bytes, size) && made.cid_count == 0 && made.width_count == 0, "made by words", row->name);
-    subsetter_free(&made);
-    give_up(a);
-}
-
-/* The row's font has no metrics, so it can't be embedded; unknown words are refused first. */
-static void check_embedding_words(const struct row *row)
-{
-    static const uint32_t five[] = {20};
-    for (size_t count = 0; count < 2; count++) {
-        uint32_t status = count == 0 ? 2 : 10;
+    for (int embeds = 0; embeds < 2; embeds++) {
         struct answer all = exact(row), *a = &all;
         subsetter_made made;
-        a->status = subsetter_embed_by_words(FONT, GLYPHS, five, count, WHOLE);
-        check(is_refusal(a, status), "embedding by words", row->name);
         memset(&made, FILLED, sizeof made);
-        check(subsetter_make_embedded_by_words(FONT, GLYPHS, five, count, &made) == status && is_nothing(&made), "embedding made by words", row->name);
+        if (embeds) {
+            status = status == 0 ? 2 : status;
+            a->status = subsetter_embed_by_words(FONT, GLYPHS, words, count, WHOLE);
+            check(subsetter_make_embedded_by_words(FONT, GLYPHS, words, count, &made) == status && is_nothing(&made), "made by words", row->name);
+        } else {
+            a->sizes.cids = a->sizes.widths = 0;
+            a->status = subsetter_subset_by_words(FONT, GLYPHS, words, count, ALONE);
+            check(subsetter_make_subset_by_words(FONT, GLYPHS, words, count, &made) == status && made.font_size == size
+                && is_same(made.font, row->bytes, size) && made.cid_count == 0 && made.width_count == 0, "made by words", row->name);
+        }
+        check(status == 0 ? is_right(row, a) : is_refusal(a, status), "words", row->name);
         subsetter_free(&made);
         give_up(a);
     }
@@ -677,42 +669,6 @@ static void check_words(const struct row *row)
     };
     for (size_t i = 0; i < sizeof lists / sizeof *lists; i++)
         check_word_list(row, lists[i].words, lists[i].count, lists[i].status);
-    check_embedding_words(row);
-}
-
-/* ---- a font for a PDF */
-
-static int is_within(const uint8_t *part, size_t size, const uint8_t *whole, size_t whole_size)
-{
-    for (size_t i = 0; i + size <= whole_size; i++)
-        if (memcmp(part, whole + i, size) == 0)
-            return 1;
-    return 0;
-}
-
-/* The row's glyphs in a font for a PDF, without text: refused as the call that embeds them without names, and with its outlines, CIDs
- * and widths. Whether it was made. */
-static int check_pdf(const struct row *row)
-{
-    subsetter_options options = row->options;
-    options.drop |= SUBSETTER_DROP_NAMES | SUBSETTER_DROP_GLYPH_NAMES;
-    const subsetter_pdf_options of_pdf = {sizeof of_pdf, options.tokens, options.depth, options.drop, options.bytes, 0, 0, 0, 0, 0, 0, {0, 0}};
-    size_t *ends = memset(room((row->glyph_count + 1) * sizeof *ends), 0, (row->glyph_count + 1) * sizeof *ends);
-    subsetter_made made;
-    subsetter_pdf_font font;
-    uint32_t status = subsetter_make_embedded_at(FONT, PLACE, GLYPHS, &options, &made);
-    uint32_t found = subsetter_make_pdf_font(FONT, PLACE, GLYPHS, NULL, 0, ends, row->glyph_count, &of_pdf, &font);
-    /* (outlines in `glyf` need a `maxp` there) */
-    check(found == status || (found == 2 && status == 0 && !has_bytes(row, "maxp")), "a font for a PDF", row->name);
-    if (found == 0 && status == 0) {
-        check(is_within(font.program, font.program_size, made.font, made.font_size), "its program", row->name);
-        check(font.cid_count == made.cid_count && is_same(font.cids, made.cids, 2 * made.cid_count), "its CIDs", row->name);
-        check(font.width_count >= made.width_count && is_same(font.widths, made.widths, 4 * made.width_count), "its widths", row->name);
-    }
-    subsetter_free(&made);
-    subsetter_free_pdf_font(&font);
-    __real_free(ends);
-    return found == 0 && status == 0;
 }
 
 /* ---- all */
@@ -792,15 +748,12 @@ static void check_named(int word, const char *name, void (*checked)(const struct
 
 int main(int argc, char **argv)
 {
-    size_t pdf_count = 0, end_count = 0;
+    size_t end_count = 0;
     is_brief = argc > 1 && strcmp(argv[1], "--brief") == 0;
     for (int i = 1 + is_brief; i < argc; i++)
         read_rows(argv[i]);
     for (const struct row *row = rows; row < rows + row_count; row++) {
         check_row(row);
-        /* (in a `branch` that the compiler made of two tests Valgrind takes a part that isn't used for an error) */
-        if (!is_brief && row->embeds && row->glyph_count < 1000)
-            pdf_count += (size_t)check_pdf(row);
         if (row->coordinate_count == 1 && row->coordinates[0].value == INT32_MAX && row->status == 0) {
             check_last_bit(row);
             end_count++;
@@ -809,7 +762,6 @@ int main(int argc, char **argv)
     check_named(1, "sid_keyed", check_words);
     check_named(1, "embedded_within", check_wide_options);
     check_named(2, "two_faces", check_faces);
-    check(is_brief || pdf_count > 20, "rows whose fonts are made for a PDF", "a font for a PDF");
     check(end_count > 0, "a row at the end of an axis", "the last bit");
     check(subsetter_version() == SUBSETTER_VERSION, "the version of the header", "version");
     check_threads();
