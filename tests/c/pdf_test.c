@@ -565,6 +565,8 @@ static void try_options(const struct row *row)
     static const char name[] = "options";
     subsetter_pdf_font font;
     subsetter_pdf_options options = defaults();
+    for (size_t word = 1; word < ALL_WORDS; word++)
+        check((&options.size)[word] == 0, "a default", name);
     check(status_of(row, NULL) == 0, "none", name);
     /* Of a shorter struct the rest is 0, and a size that isn't known is refused. */
     options.cid_set = 1;
