@@ -10,7 +10,7 @@
 #include <stdlib.h>
 #include <string.h>
 
-enum { MOST_FONTS = 512, MOST_BYTES = 8000, MOST_LINE = 1 << 20, CALLS = 7, FILLED = 0xA5 };
+enum { MOST_FONTS = 512, MOST_BYTES = 8000, MOST_LINE = 1 << 20, CALLS = 4, FILLED = 0xA5 };
 
 static struct named_font {
     uint8_t *bytes;
@@ -177,20 +177,14 @@ static struct list drawn_room(uint32_t most, size_t size)
 
 static uint32_t called(const struct input *in, struct output *out)
 {
-    if (in->call < 4)
+    if (in->call < 2)
         out->sizes.cids = out->sizes.widths = 0;
     switch (in->call) {
     case 0:
-        return subsetter_subset(THE_FONT, THE_GLYPHS, ALONE);
-    case 1:
-        return subsetter_subset_with_limits(THE_FONT, THE_GLYPHS, (uint32_t)in->words.count * 100, (uint8_t)in->index, ALONE);
-    case 2:
         return subsetter_subset_by_words(THE_FONT, THE_GLYPHS, THE_WORDS, ALONE);
-    case 3:
+    case 1:
         return subsetter_subset_at_by_words(THE_FONT, THE_PLACE, THE_GLYPHS, THE_WORDS, ALONE);
-    case 4:
-        return subsetter_embed(THE_FONT, THE_GLYPHS, WHOLE);
-    case 5:
+    case 2:
         return subsetter_embed_by_words(THE_FONT, THE_GLYPHS, THE_WORDS, WHOLE);
     default:
         return subsetter_embed_at_by_words(THE_FONT, THE_PLACE, THE_GLYPHS, THE_WORDS, WHOLE);
@@ -202,14 +196,10 @@ static uint32_t made_by(const struct input *in, subsetter_made *made)
 {
     switch (in->call) {
     case 0:
-        return subsetter_make_subset_by_words(THE_FONT, THE_GLYPHS, NULL, 0, made);
-    case 2:
         return subsetter_make_subset_by_words(THE_FONT, THE_GLYPHS, THE_WORDS, made);
-    case 3:
+    case 1:
         return subsetter_make_subset_at_by_words(THE_FONT, THE_PLACE, THE_GLYPHS, THE_WORDS, made);
-    case 4:
-        return subsetter_make_embedded_by_words(THE_FONT, THE_GLYPHS, NULL, 0, made);
-    case 5:
+    case 2:
         return subsetter_make_embedded_by_words(THE_FONT, THE_GLYPHS, THE_WORDS, made);
     default:
         return subsetter_make_embedded_at_by_words(THE_FONT, THE_PLACE, THE_GLYPHS, THE_WORDS, made);
@@ -289,8 +279,7 @@ static void one_call(void)
     add_number(out.sizes.font);
     add_number(out.sizes.cids);
     add_number(out.sizes.widths);
-    if (in.call != 1)
-        check_made(&in, &out);
+    check_made(&in, &out);
     struct list lists[] = {in.font, in.glyphs, in.coordinates, in.words, out.font, out.cids, out.widths};
     for (size_t i = 0; i < sizeof lists / sizeof *lists; i++)
         free(lists[i].block);
