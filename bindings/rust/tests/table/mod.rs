@@ -1,11 +1,10 @@
-//! The worked rows of `crates/dev_rows/data/subset.txt`, and those of a font of this machine.
+//! The worked rows of `crates/dev_rows/data/subset.txt`.
 
 #![allow(dead_code)] // (each test takes a part of it)
 
 pub mod answers;
 
 use std::collections::HashMap;
-use std::env;
 use std::fs;
 use subsetter::{Embedded, Error, Limits, Options, Tag};
 
@@ -160,20 +159,12 @@ impl Table {
             },
         });
     }
-
-    fn read(&mut self, name: &str) {
-        let text = fs::read_to_string(name).unwrap();
-        let lines = text.lines().filter(|line| !line.starts_with('#'));
-        lines.for_each(|line| self.add(line));
-    }
 }
 
 /// The worked rows.
 pub fn table() -> Table {
-    table_of(concat!(
-        env!("CARGO_MANIFEST_DIR"),
-        "/../../crates/dev_rows/data/subset.txt"
-    ))
+    let folder = env!("CARGO_MANIFEST_DIR");
+    table_of(&format!("{folder}/../../crates/dev_rows/data/subset.txt"))
 }
 
 /// The worked rows of a file.
@@ -183,29 +174,11 @@ pub fn table_of(name: &str) -> Table {
         texts: HashMap::new(),
         rows: Vec::new(),
     };
-    table.read(name);
+    let text = fs::read_to_string(name).unwrap();
+    let lines = text.lines().filter(|line| !line.starts_with('#'));
+    lines.for_each(|line| table.add(line));
     assert!(table.rows.len() > 300);
     table
-}
-
-/// The rows of a font of this machine, made by the program; none where they are skipped by name.
-pub fn font_rows() -> Vec<Row> {
-    let mut table = Table {
-        fonts: HashMap::new(),
-        texts: HashMap::new(),
-        rows: Vec::new(),
-    };
-    match env::var("SUBSETTER_FONT_ROWS") {
-        Ok(name) => {
-            table.read(&name);
-            assert!(table.rows.len() > 4);
-        }
-        Err(_) if env::var("SUBSETTER_SKIP").as_deref() == Ok("font") => {
-            println!("the font of this machine is skipped, as requested")
-        }
-        Err(_) => panic!("no SUBSETTER_FONT_ROWS: run bindings/test"),
-    }
-    table.rows
 }
 
 impl Row {
@@ -237,38 +210,33 @@ impl Row {
             bytes,
             ..
         } = self.choice;
-        let is_default = |number| number == 0 && self.call != Call::Limits;
-        let limits = Limits::new(
-            if is_default(tokens) {
-                1_000_000
-            } else {
-                tokens
-            },
-            if is_default(depth) { 64 } else { depth as u8 },
-        )?;
-        Some(if bytes == 0 {
-            limits
-        } else {
-            limits.with_bytes(bytes)
+        let or_default = |number, default| match number {
+            0 if self.call != Call::Limits => default,
+            _ => number,
+        };
+        let limits = Limits::new(or_default(tokens, 1_000_000), or_default(depth, 64) as u8)?;
+        Some(match bytes {
+            0 => limits,
+            _ => limits.with_bytes(bytes),
         })
     }
 
-    /// The options of the row, built in the order in which their bits stand.
+    /// The options of the row.
     pub fn options(&self, limits: Limits) -> Options {
-        let mut options = Options::new();
-        if self.choice.drop & 1 != 0 {
-            options = options.hinting(false);
+        let Choice {
+            tokens,
+            depth,
+            drop,
+            bytes,
+        } = self.choice;
+        let options = Options::new()
+            .hinting(drop & 1 == 0)
+            .names(drop & 2 == 0)
+            .glyph_names(drop & 4 == 0);
+        match (tokens, depth, bytes) {
+            (0, 0, 0) => options,
+            _ => options.limits(limits),
         }
-        if self.choice.drop & 2 != 0 {
-            options = options.names(false);
-        }
-        if self.choice.drop & 4 != 0 {
-            options = options.glyph_names(false);
-        }
-        if (self.choice.tokens, self.choice.depth, self.choice.bytes) != (0, 0, 0) {
-            options = options.limits(limits);
-        }
-        options
     }
 
     pub fn wanted(&self) -> Result<Embedded, Error> {
