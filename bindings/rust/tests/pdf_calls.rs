@@ -321,27 +321,6 @@ fn tags_have_six_capitals() {
     }
 }
 
-#[test]
-fn the_default_is_the_first_of_each_choice() {
-    let first = FontOptions::new()
-        .limits(Limits::default())
-        .hinting(true)
-        .program(ProgramChoice::Smallest)
-        .codes(Codes::Consecutive)
-        .direction(Direction::Horizontal)
-        .bounds(Bounds::Font)
-        .cid_set(false)
-        .rights(Rights::AsSaid);
-    assert_eq!(first, FontOptions::new());
-    assert_eq!(first, FontOptions::default());
-    assert_eq!(
-        format!("{:?}", first.tag(SubsetTag::new(b"ZYXWVU").unwrap())),
-        "FontOptions { limits: Limits { tokens: 1000000, depth: 64, bytes: None }, hinting: true, program: Smallest, \
-         codes: Consecutive, direction: Horizontal, bounds: Font, cid_set: false, tag: Some(SubsetTag(ZYXWVU)), \
-         rights: AsSaid }"
-    );
-}
-
 // ---- objects and sheets
 
 fn plain(options: &FontOptions) -> PdfFont {
