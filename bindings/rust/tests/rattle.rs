@@ -20,7 +20,6 @@ use rattle::alloc::{AllocError, Global};
 use rattle::borrow::CowSlice;
 use rattle::collections::HashMap;
 use rattle::prelude::{SliceExt, Vec};
-use std::cell::Cell;
 
 /// Calls with no request allowed, one, and so on until none is refused. Each answer must be an error while one is; how many
 /// were refused.
@@ -379,7 +378,7 @@ mod program {
     use super::*;
     use rattle::io::{BufWriter, Error, ErrorKind, Read, Write};
     use rattle::prelude::String;
-    use std::cell::RefCell;
+    use std::cell::{Cell, RefCell};
 
     #[test]
     fn texts_answer_as_rusts() {
