@@ -51,6 +51,7 @@ class Users:
         self.environment = {
             **os.environ, "HOME": str(room / "home"), "CARGO_HOME": str(room / "home/cargo"), "PATH": f"{room}/absent:{os.environ['PATH']}",
             "RUSTUP_HOME": os.environ.get("RUSTUP_HOME", f"{home}/.rustup")}
+        self.environment.pop("CARGO_TARGET_DIR", None)
         # (a registry without crates)
         (room / "registry").mkdir()
         write(room / ".cargo/config.toml", f'[source.crates-io]\nreplace-with = "none"\n[source.none]\ndirectory = "{room}/registry"\n')
