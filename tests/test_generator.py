@@ -20,6 +20,7 @@ sys.dont_write_bytecode = True
 sys.path.insert(0, str(PACKAGE))
 
 from generator.crates import Crates  # noqa: E402
+from generator.source import Source  # noqa: E402
 from generator.tokens import Refused  # noqa: E402
 
 LIB_RS = """//! A crate.
@@ -309,6 +310,15 @@ def test_what_it_does_not_know_is_refused(small, after, text, why):
 def test_items_that_do_not_end_are_refused(small, more, why):
     small.write("crates/low/src/lib.rt", LOW + more)
     assert small.refused() == f"crates/low/src/lib.rt:{LOW.count(chr(10)) + 1}: {why}"
+
+
+def test_a_part_of_a_contract_that_is_written_again_is_refused(small):
+    small.write("crates/low/src/lib.rt", "pub fn it(one: u8) -> u8\n    ensures { result == one }\n{\n    one\n}\n")
+    source = Source(small.folder / "crates/low/src/lib.rt", "lib.rt", "low", None)
+    source.cut_contracts()
+    source.written[source.texts.index("result")] = "result"
+    with pytest.raises(Refused, match="^lib.rt:2: a contract is left over$"):
+        source.check()
 
 
 def test_calls_and_conditions_of_the_front_are_known(small):
