@@ -128,6 +128,7 @@ fn a_pdf_font_has_all_its_parts() {
     let objects = font.objects(4).unwrap();
     assert_eq!(objects.offsets.len(), 5);
     assert!(objects.bytes[objects.offsets[1]..].starts_with(b"5 0 obj\n"));
+    assert!(font.objects(1).unwrap().bytes.starts_with(b"1 0 obj\n"));
     assert_eq!(font.objects(u32::MAX), Err(Error::OverflowError));
     let pages = |layout| {
         let sheet = font.sheet(&SHOWN, layout).unwrap();
@@ -159,6 +160,8 @@ fn each_choice_is_heeded() {
     };
     assert_eq!(program(&[650.0, f32::NAN]), program(&[400.0]));
     assert_ne!(program(&[f32::NAN, 650.0]), program(&[400.0]));
+    let slanted = pdf_font(varied, 0, &[(*b"slnt", -21.0 / 65536.0)], &SHOWN, &new).unwrap();
+    assert!(slanted.font_name().ends_with("_-0.00032slnt"), "{}", slanted.font_name());
 }
 
 #[test]

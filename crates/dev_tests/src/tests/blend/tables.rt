@@ -1,6 +1,6 @@
 //! Worked rows of tables at coordinates. The expected bytes are worked out by hand from the formats; fontTools, HarfBuzz and FreeType read both sides.
 
-use crate::rows::{FOUR_DATA, LEAST, LEAST_MADE, ONE_DICT_OF_TWO, SQUARE, THREE_DICTS};
+use super::rows::{FOUR_DATA, LEAST, LEAST_MADE, ONE_DICT_OF_TWO, SQUARE, THREE_DICTS};
 use std::alloc::Global;
 use std::test::*;
 use subsetter_base::error::Error;

@@ -16,7 +16,7 @@ pub struct Three {
 }
 
 impl Regions for Three {
-    ghost use Rattle.dev_blend_tests.specs.Three.{scalars_of};
+    ghost use Rattle.dev_tests.specs.Three.{scalars_of};
 
     ghost scalars = { λ t n. scalars_of t.first t.second t.third n };
 

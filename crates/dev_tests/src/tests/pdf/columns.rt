@@ -1,18 +1,10 @@
-//! `pdf_glyphs`: tops, boxes and columns of three fonts made for this, against the values of an independent program; of the
-//! one that is moved against those of fontTools' instancer.
+//! `pdf_glyphs`: columns of a font that is moved, against those of fontTools' instancer.
 
-use crate::tests::made::tables::{bold, regular, vertical};
-use pdf_glyphs::{
-    HeightVariation, OutlineTables, VerticalTables, box_around, columns_at, columns_of, top_of,
-};
+use super::vertical;
+use pdf_glyphs::{HeightVariation, OutlineTables, VerticalTables, columns_at};
 use pdf_text::Column;
-use pdf_values::GlyphBox;
 use std::alloc::Global;
 use std::test::*;
-
-const GLYPHS: [u16; 8] = [1, 2, 5, 6, 8, 2, 11, 10];
-
-const WIDTHS: [u32; 9] = [500, 667, 667, 556, 1000, 667, 0, 500, 333];
 
 /// Whether columns have these numbers.
 fn are(columns: &[Column], wanted: &[[i32; 3]]) -> bool {
@@ -25,93 +17,6 @@ fn are(columns: &[Column], wanted: &[[i32; 3]]) -> bool {
         }
     }
     true
-}
-
-#[test]
-fn truetype_columns(rt: HostRuntime) -> Result<(), Fail> {
-    let outlines = OutlineTables {
-        head: Some(&regular::HEAD),
-        loca: Some(&regular::LOCA),
-        glyf: Some(&regular::GLYF),
-    };
-    assert_eq!(rt; top_of(outlines, Some(&regular::CMAP), 'H'), Some(1409));
-    assert_eq!(rt; top_of(outlines, Some(&regular::CMAP), 'x'), Some(1000));
-    assert_eq!(rt; top_of(outlines, Some(&regular::CMAP), 'Z'), None);
-    assert!(rt;
-        box_around(outlines, 12)
-            == Some(GlyphBox {
-                x_min: 0,
-                y_min: -300,
-                x_max: 1948,
-                y_max: 1900
-            })
-    );
-    let tables = VerticalTables {
-        vhea: Some(&regular::VHEA),
-        vmtx: Some(&regular::VMTX),
-        vorg: Some(&bold::VORG),
-        outlines,
-    };
-    let made = columns_of(rt.alloc(), tables, &GLYPHS, &WIDTHS)?;
-    let wanted = [
-        [-1000, 250, 880],
-        [-1000, 334, 880],
-        [-1000, 334, 880],
-        [-500, 278, 880],
-        [-1000, 500, 929],
-        [-1000, 334, 880],
-        [-1000, 0, 880],
-        [-1000, 250, 880],
-    ];
-    assert!(rt; are(&made.each, &wanted));
-    assert!(rt; made.default.y == 880 && made.default.advance == -1000);
-    Ok(())
-}
-
-#[test]
-fn cff_columns(rt: HostRuntime) -> Result<(), Fail> {
-    let outlines = OutlineTables {
-        head: Some(&bold::HEAD),
-        loca: None,
-        glyf: None,
-    };
-    let tables = VerticalTables {
-        vhea: Some(&bold::VHEA),
-        vmtx: Some(&bold::VMTX),
-        vorg: Some(&bold::VORG),
-        outlines,
-    };
-    let made = columns_of(rt.alloc(), tables, &GLYPHS, &WIDTHS)?;
-    let wanted = [
-        [-1000, 250, 880],
-        [-1000, 334, 880],
-        [-1000, 334, 880],
-        [-500, 278, 700],
-        [-1000, 500, 880],
-        [-1000, 334, 880],
-        [-1000, 0, 880],
-        [-1000, 250, 880],
-    ];
-    assert!(rt; are(&made.each, &wanted));
-    let cut = VerticalTables {
-        vmtx: Some(&bold::VMTX[..21]),
-        ..tables
-    };
-    let made = columns_of(rt.alloc(), cut, &[5, 4], &WIDTHS)?;
-    assert!(rt;
-        are(
-            &made.each,
-            &[[-1000, 250, 880], [-1000, 334, 880], [-1000, 334, 880]]
-        )
-    );
-    let none = VerticalTables {
-        vmtx: None,
-        ..tables
-    };
-    let made = columns_of(rt.alloc(), none, &[5], &WIDTHS)?;
-    assert!(rt; are(&made.each, &[[-1000, 250, 880], [-1000, 334, 880]]));
-    assert!(rt; made.default.y == 880 && made.default.advance == -1000);
-    Ok(())
 }
 
 /// Whether the advances at these coordinates, by these bytes of `VVAR`, are these; the origins are the default's.

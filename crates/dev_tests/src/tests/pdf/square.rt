@@ -1,6 +1,5 @@
 //! FontBBox of outlines in `CFF2`, against fontTools' instancer and `ControlBoundsPen`.
 
-use crate::tests::font::wanted::with_cid_set;
 use pdf_font::{Bounds, FontOptions, Shown, pdf_font};
 use pdf_values::Edges;
 use std::alloc::Global;
@@ -92,10 +91,10 @@ fn edges(x_min: i32, y_min: i32, x_max: i32, y_max: i32) -> Option<Edges> {
 #[test]
 fn boxes_of_cff2(rt: HostRuntime) -> Result<(), Fail> {
     let alloc = rt.alloc();
-    let all = with_cid_set();
+    let all = FontOptions::default();
     let kept = FontOptions {
         bounds: Bounds::Kept,
-        ..with_cid_set()
+        ..FontOptions::default()
     };
     assert!(rt; bounds_at(alloc, 26214400, &all) == edges(0, 0, 1000, 1000));
     assert!(rt; bounds_at(alloc, 26214400, &kept) == edges(100, 0, 400, 700));

@@ -3,10 +3,16 @@
 mod rows;
 
 use self::rows::{GRID, LINE, TABLE, three, values};
-use crate::tests::has_at;
 use pdf_sheet::{Layout, SheetGlyph, write_sheet};
 use std::alloc::Global;
 use std::test::*;
+
+/// Whether a text has another at an offset.
+fn has_at(text: &[u8], offset: usize, part: &[u8]) -> bool {
+    offset <= text.len()
+        && part.len() <= text.len() - offset
+        && &text[offset..offset + part.len()] == part
+}
 
 /// So many glyphs without a text, with codes from 0 on.
 fn many(alloc: Global, count: u16) -> Result<Vec<SheetGlyph<'static>>, Fail> {
