@@ -160,8 +160,8 @@ fn each_choice_is_heeded() {
     };
     assert_eq!(program(&[650.0, f32::NAN]), program(&[400.0]));
     assert_ne!(program(&[f32::NAN, 650.0]), program(&[400.0]));
-    let slanted = pdf_font(varied, 0, &[(*b"slnt", -21.0 / 65536.0)], &SHOWN, &new).unwrap();
-    assert!(slanted.font_name().ends_with("_-0.00032slnt"), "{}", slanted.font_name());
+    let slanted = pdf_font(varied, 0, &[(*b"slnt", -65.0 / 65536.0)], &SHOWN, &new).unwrap();
+    assert!(slanted.font_name().ends_with("_-0.00099slnt"), "{}", slanted.font_name());
 }
 
 #[test]
