@@ -95,25 +95,6 @@ fn each_face_of_a_collection_is_its_own() {
     }
 }
 
-#[test]
-fn a_font_without_characters_is_refused() {
-    let font = made("made.ttf");
-    let lacking = without(&font, b"cmap");
-    assert_eq!(glyphs_of(&lacking, 0, "A"), Err(Error::MalformedFont));
-    assert_eq!(glyphs_of(b"no font", 0, "A"), Err(Error::UnknownKind));
-    assert_eq!(glyphs_of(&font[..40], 0, "A"), Err(Error::MalformedFont));
-    // Without outlines it isn't opened; those in `CFF2` are taken, too, and that font has no `cmap`.
-    let bare = without(&font, b"glyf");
-    assert_eq!(glyphs_of(&bare, 0, "A"), Err(Error::UnknownKind));
-    let bare = without(&made("made_version_1.otf"), b"CFF ");
-    assert_eq!(glyphs_of(&bare, 0, "A"), Err(Error::UnknownKind));
-    let blended = made("made_cff2.otf");
-    assert_eq!(glyphs_of(&blended, 0, "A"), Err(Error::MalformedFont));
-    // A collection without faces.
-    let none = b"ttcf\0\x01\0\0\0\0\0\0";
-    assert_eq!(glyphs_of(none, 0, "A"), Err(Error::MalformedFont));
-}
-
 // ---- codes
 
 #[test]
@@ -141,85 +122,6 @@ fn codes_need_no_font() {
     for codes in [Codes::Consecutive, Codes::EachText] {
         assert_eq!(codes_of(&far, codes), Ok(vec![1, 2, 3, 2]));
     }
-}
-
-#[test]
-fn codes_run_out() {
-    let texts: Vec<String> = (0..65_535).map(|n| n.to_string()).collect();
-    let shown: Vec<Shown> = texts.iter().map(|text| Shown::new(7, text)).collect();
-    assert_eq!(
-        codes_of(&shown[1..], Codes::EachText).unwrap()[65_533],
-        65_534
-    );
-    let refused = codes_of(&shown, Codes::EachText);
-    assert_eq!(refused, Err(Error::OverflowError));
-    assert_eq!(codes_of(&shown, Codes::Consecutive).unwrap()[65_534], 1);
-    let options = FontOptions::new().codes(Codes::EachText);
-    let refused = pdf_font(&made("made.ttf"), 0, &[], &shown, &options);
-    assert_eq!(refused.unwrap_err(), Error::OverflowError.into());
-}
-
-/// A font of 300 empty glyphs, each one thousandth wider than the one before, from 400 on.
-fn of_300_glyphs() -> Vec<u8> {
-    let bytes =
-        |words: &[u16]| -> Vec<u8> { words.iter().flat_map(|it| it.to_be_bytes()).collect() };
-    let [mut head, mut hhea, mut maxp] = [[0; 27], [0; 27], [0; 27]];
-    (head[9], head[25]) = (1000, 1);
-    hhea[17] = 300;
-    (maxp[0], maxp[2]) = (1, 300);
-    let metrics: Vec<u16> = (400..700).flat_map(|advance| [advance, 0]).collect();
-    let tables = [
-        (b"glyf", vec![]),
-        (b"head", bytes(&head)),
-        (b"hhea", bytes(&hhea[..18])),
-        (b"hmtx", bytes(&metrics)),
-        (b"loca", vec![0; 4 * 301]),
-        (b"maxp", bytes(&maxp[..16])),
-    ];
-    let mut font = vec![0, 1, 0, 0, 0, 6, 0, 0, 0, 0, 0, 0];
-    let mut at = 12 + 16 * tables.len();
-    for (tag, table) in &tables {
-        font.extend(*tag);
-        font.extend([0; 4]);
-        font.extend((at as u32).to_be_bytes());
-        font.extend((table.len() as u32).to_be_bytes());
-        at += table.len();
-    }
-    tables.iter().for_each(|(_, table)| font.extend(table));
-    font
-}
-
-#[test]
-fn lists_have_more_than_256_items() {
-    let font = of_300_glyphs();
-    let texts: Vec<String> = (0..600)
-        .map(|n| char::from_u32(0x4e00 + n).unwrap().to_string())
-        .collect();
-    let each: Vec<Shown> = (1..300)
-        .map(|glyph| Shown::new(glyph, &texts[usize::from(glyph)]))
-        .collect();
-    for codes in [Codes::Consecutive, Codes::Source, Codes::EachText] {
-        let options = FontOptions::new().codes(codes).cid_set(true);
-        let options = options.direction(Direction::Vertical);
-        let font = pdf_font(&font, 0, &[], &each, &options).unwrap();
-        assert_eq!(font.glyph_count(), 300);
-        assert!(font.cids().iter().copied().eq(1..300));
-        assert!(font.codes().iter().copied().eq(1..300));
-        assert!(font.widths().iter().copied().eq(400..700));
-        assert_eq!(font.is_said(), [true; 299]);
-        // A bit for each glyph.
-        let set = [&[0xff; 37][..], &[0xf0]].concat();
-        assert_eq!(font.cid_set(), Some(&set[..]));
-        assert_eq!(font.columns().unwrap().each.len(), 300);
-    }
-    // One glyph with as many texts.
-    let all: Vec<Shown> = texts.iter().map(|text| Shown::new(299, text)).collect();
-    let options = FontOptions::new().codes(Codes::EachText);
-    let font = pdf_font(&font, 0, &[], &all, &options).unwrap();
-    assert!(font.codes().iter().copied().eq(1..=600));
-    assert_eq!(font.cids(), [1; 600]);
-    assert_eq!(font.is_said(), [true; 600]);
-    assert_eq!((font.glyph_count(), font.widths()), (2, &[400, 699][..]));
 }
 
 // ---- the program
@@ -533,16 +435,4 @@ fn errors_have_texts() {
     let refused = pdf_font(&made("made.otf"), 0, &[], &SHOWN, &FontOptions::new());
     let text = refused.unwrap_err().to_string();
     assert_eq!(text, "embedding not permitted");
-}
-
-#[test]
-fn the_debug_text_of_a_font_is_short() {
-    let font = pdf_font(&made("made.ttf"), 0, &[], &SHOWN, &FontOptions::new()).unwrap();
-    let text = format!("{font:?}");
-    assert!(text.contains("+Made-Regular") && text.len() < 600, "{text}");
-    let (count, values) = (font.glyph_count(), font.descriptor());
-    let whole = format!(
-        "PdfFont {{ kind: TrueType, glyph_count: {count}, codes: [1, 2, 1, 3], descriptor: {values:?}, .. }}"
-    );
-    assert_eq!(text, whole);
 }

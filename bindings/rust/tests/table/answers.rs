@@ -22,15 +22,15 @@ pub fn answers(row: &Row) -> Vec<Answer> {
     let limits = match row.limits() {
         Some(limits) => limits,
         None => {
-            assert!(row.status == 9 || row.choice.tokens == 0, "{}", row.name);
+            assert!(row.status == 9 || row.choice[0] == 0, "{}", row.name);
             return Vec::new();
         }
     };
     let options = row.options(limits);
-    if row.call.varies() {
+    if row.varies() {
         return answers_at(row, &options);
     }
-    let (is_default, keeps_all) = (options == Options::new(), row.choice.drop == 0);
+    let (is_default, keeps_all) = (options == Options::new(), row.choice[2] == 0);
     let mut found = Vec::new();
     if row.embeds() {
         found.push(("options", embed_with_options(font, index, glyphs, &options)));
