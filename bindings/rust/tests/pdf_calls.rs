@@ -1,4 +1,4 @@
-//! What the rows don't say of the calls in `subsetter::pdf`: faces, lists of more than 256 items, numbers of 32 bits, each choice.
+//! What the rows don't say of the calls in `subsetter::pdf`: faces, numbers of 32 bits, each choice.
 #![cfg(feature = "variable-fonts")]
 
 #[path = "table/pdf.rs"]
