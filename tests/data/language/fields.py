@@ -90,6 +90,8 @@ def whole(line, value, size, signed, word):
 
 def field(line, kind, word, labels, formats):
     """The bytes of one field."""
+    if kind == "tag" and (word == "0" or word.startswith("hex:")):
+        return bytes.fromhex(word[4:]) or bytes(4)
     if kind == "tag":
         text = unquoted(word)
         if len(text) != 4:
@@ -121,8 +123,12 @@ def fields(line, labels, formats):
 
 
 def struct(line, labels, formats):
-    """A line `STRUCTURE VALUE.. FIELD=VALUE..`: the first fields in their order, the others by name; the rest are 0."""
+    """A line `STRUCTURE VALUE.. FIELD=VALUE..`: the first fields in their order, the others by name; the rest are 0. `STRUCTURE
+    VALUE,VALUE VALUE,VALUE` is several structures."""
     members = formats.structs[line.words[0]]
+    if len(line.words) > 1 and all("," in it for it in line.words[1:]):
+        each = [reading.Line([line.words[0], *it.split(",")], line.where) for it in line.words[1:]]
+        return b"".join(struct(it, labels, formats) for it in each)
     pairs, others = line.keys()
     if len(others) > len(members):
         line.fails(f"{line.words[0]} has {len(members)} fields")
@@ -134,6 +140,26 @@ def struct(line, labels, formats):
             line.fails(f"{name} is given twice")
         given[name] = value
     return b"".join(field(line, kind, given.get(name, "0"), labels, formats) for name, kind in members)
+
+
+def rectangle(line):
+    """A line `rectangle LEFT LOWER RIGHT UPPER [overlap]`: a simple glyph of four points, from the left lower corner on up, without
+    instructions and as short as can be, padded to 2 bytes."""
+    left, lower, right, upper = map(int, line.words[1:5])
+    flags, columns = [1, 1, 1, 1], [b"", b""]
+    flags[0] |= 64 * (line.words[5:] == ["overlap"])
+    for axis, deltas in enumerate(((left, 0, right - left, 0), (lower, upper - lower, 0, lower - upper))):
+        short, same = 2 << axis, 16 << axis
+        for point, delta in enumerate(deltas):
+            if delta == 0:
+                flags[point] |= same
+            elif abs(delta) < 256:
+                flags[point] |= short | same * (delta > 0)
+                columns[axis] += bytes([abs(delta)])
+            else:
+                columns[axis] += delta.to_bytes(2, "big", signed=True)
+    made = b"".join(it.to_bytes(2, "big", signed=True) for it in (1, left, lower, right, upper, 3, 0)) + bytes(flags) + b"".join(columns)
+    return made + bytes(len(made) % 2)
 
 
 def texts(line):

@@ -1,6 +1,7 @@
 """The entries of a readable file as lines of today's files: named bytes, and rows of a request and what it gives."""
 from fractions import Fraction
 
+import pdf
 import sfnt
 from reading import Line
 
@@ -51,10 +52,10 @@ def drop(line, text):
 
 
 class Library:
-    """What has a name: fonts and other bytes, and the new fonts of rows."""
+    """What has a name: fonts and other bytes, the new fonts of rows, and the fields of rows for PDF."""
 
     def __init__(self, formats):
-        self.formats, self.fonts, self.new = formats, {}, {}
+        self.formats, self.fonts, self.new, self.pdf = formats, {}, {}, {}
 
     def named(self, line, words):
         """The font NAME, or `new NAME`, the new font of a row."""
@@ -95,8 +96,8 @@ class Library:
         elif word == "cut" and len(rest) == 2:
             at = font.find(line, rest[0])
             font.tables[at] = sfnt.Table(font.tables[at].tag, font.tables[at].lines + [Line(["cut", rest[1]], line.where)])
-        elif word == "cut":
-            font.cuts.append(line)
+        elif word in ("cut", "patch"):
+            font.changes.append(line)
         elif word == "table":
             font.put(sfnt.Table(sfnt.fields.unquoted(rest[0]).ljust(4), line.children))
         elif word in self.formats.tables:
@@ -108,13 +109,15 @@ class Library:
         """A line `sfnt VERSION`, with how the file is put together."""
         pairs, others = line.keys()
         version = sfnt.VERSIONS.get(others[0]) or int(others[0], 16).to_bytes(4, "big")
-        if set(others[1:]) - {"checksums", "packed", "padded"} or set(pairs) - {"numTables", "search"}:
-            line.fails("sfnt VERSION checksums packed padded numTables=N search=A,B,C")
+        if set(others[1:]) - {"checksums", "packed", "padded"} or set(pairs) - {"numTables", "search", "order"}:
+            line.fails("sfnt VERSION checksums packed padded numTables=N search=A,B,C order=TAG,..")
         font.version, font.options = version, {it: True for it in others[1:]}
         if "numTables" in pairs:
             font.options["numTables"] = int(pairs["numTables"])
         if "search" in pairs:
             font.options["search"] = [int(it) for it in pairs["search"].split(",")]
+        if "order" in pairs:
+            font.options["order"] = [it.ljust(4) for it in pairs["order"].split(",")]
 
     def hex(self, font):
         return font.bytes(self.formats).hex() or "-"
@@ -162,6 +165,8 @@ class Library:
             made = self.hex(font)
             self.keep(line, self.fonts, line.words[1], font)
             return f"{kind} {line.words[1]} {made}" if kind != "base" else None
+        if kind == "pdf":
+            return pdf.row(line, self)
         if kind in ROWS:
             return self.row(line)
         if kind == "text":
@@ -171,9 +176,9 @@ class Library:
         return " ".join(coordinates(line, it) if kind == "coordinates" and "=" in it else it for it in line.words)
 
 
-def compiled(entries, formats):
+def compiled(entries, library):
     """The lines of today's file."""
-    library, made = Library(formats), []
+    made = []
     for entry in entries:
         try:
             text = entry if isinstance(entry, str) else library.entry(entry)

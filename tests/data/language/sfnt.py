@@ -26,6 +26,8 @@ def contents(line, labels, formats):
         return fields.texts(line)
     if word in fields.RUNS:
         return fields.packed(line, labels, formats)
+    if word == "rectangle":
+        return fields.rectangle(line)
     if word == "filler":
         return fields.filler(line)
     if word == "charstring":
@@ -146,15 +148,21 @@ def cut(line, data, count):
     return data[:int(count)]
 
 
+def patched(line, data):
+    """The file with other bytes at a place: `patch OFFSET HEX`."""
+    at, new = int(line.words[1]), bytes.fromhex(line.words[2])
+    return data[:at] + new + data[at + len(new):]
+
+
 class Font:
     """Tables in a file, or (with a version of None) one list of fields. `faces` are the fonts of a collection."""
 
     def __init__(self, like=None):
-        self.version, self.options, self.tables, self.faces, self.cuts = None, {}, [], None, []
+        self.version, self.options, self.tables, self.faces, self.changes = None, {}, [], None, []
         self.is_changed = like is not None
         if like:
             self.version, self.options, self.faces = like.version, dict(like.options), like.faces
-            self.tables, self.cuts = list(like.tables), list(like.cuts)
+            self.tables, self.changes = list(like.tables), list(like.changes)
 
     def find(self, line, tag):
         tag = fields.unquoted(tag).ljust(4) if tag else ""
@@ -190,28 +198,31 @@ class Font:
             data = b"".join(it.bytes(formats) for it in self.tables)
         else:
             data = self.file(formats, front)
-        for line in self.cuts:
-            data = cut(line, data, line.words[1])
+        for line in self.changes:
+            data = patched(line, data) if line.words[0] == "patch" else cut(line, data, line.words[1])
         return data
 
     def collection(self, formats):
-        at, offsets, data = 12 + 4 * len(self.faces), b"", b""
+        at, places, data = 12 + 4 * len(self.faces), {}, b""
         for face in self.faces:
-            offsets += (at + len(data)).to_bytes(4, "big")
-            data += face.bytes(formats, at + len(data))
-        return b"ttcf\0\1\0\0" + len(self.faces).to_bytes(4, "big") + offsets + data
+            if id(face) not in places:
+                places[id(face)] = at + len(data)
+                data += face.bytes(formats, at + len(data))
+        offsets = [places[id(it)] for it in self.faces]
+        return b"ttcf\0\1\0\0" + b"".join(it.to_bytes(4, "big") for it in (len(offsets), *offsets)) + data
 
     def file(self, formats, front):
         at = 12 + 16 * len(self.tables)
-        records, data = b"", b""
-        for number, table in enumerate(self.tables):
+        records, data, order = {}, b"", self.options.get("order", [])
+        ordered = sorted(self.tables, key=lambda it: order.index(it.tag) if it.tag in order else len(order))
+        for table in ordered:
             made, given = table.bytes(formats), table.record()
             checksum = checksum_of(table.tag, made) if "checksums" in self.options else 0
             numbers = (given.get("checksum", checksum), given.get("offset", front + at + len(data)), given.get("length", len(made)))
-            records += table.tag.encode("ascii") + b"".join(it.to_bytes(4, "big") for it in numbers)
-            last = number == len(self.tables) - 1
-            is_padded = "packed" not in self.options and (not last or self.options.keys() & {"checksums", "padded"})
+            records[id(table)] = table.tag.encode("ascii") + b"".join(it.to_bytes(4, "big") for it in numbers)
+            is_padded = "packed" not in self.options and (table is not ordered[-1] or self.options.keys() & {"checksums", "padded"})
             data += made + bytes(-len(made) % 4 if is_padded else 0)
+        records = b"".join(records[id(it)] for it in self.tables)
         whole = self.version + b"".join(it.to_bytes(2, "big") for it in self.search()) + records + data
         return adjusted(whole, records) if "checksums" in self.options else whole
 
