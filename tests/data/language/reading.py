@@ -66,17 +66,9 @@ def put(stack, text, where):
     stack.append(line)
 
 
-def joined(path, shown):
-    """The lines of a file, each with where it begins; a line that ends with ` \\` goes on in the next one."""
-    try:
-        with open(path, encoding="ascii") as file:
-            texts, begun = file.read().split("\n"), None
-    except FileNotFoundError:
-        raise Trouble(f"{shown} isn't there") from None
-    except UnicodeDecodeError as error:
-        raise Trouble(f"{shown}: byte {error.start} isn't ASCII") from None
-    if texts.pop():
-        raise Trouble(f"{shown}: its last line isn't ended")
+def joined(texts, shown):
+    """Lines, each with where it begins; a line that ends with ` \\` goes on in the next one."""
+    begun = None
     for number, text in enumerate(texts, 1):
         where, text = (f"{shown}:{number}", text) if begun is None else (begun[0], f"{begun[1]} {text.strip()}")
         begun = (where, text[:-2]) if text.endswith(" \\") else None
@@ -86,10 +78,10 @@ def joined(path, shown):
         raise Trouble(f"{begun[0]}: the line goes on behind the file's end")
 
 
-def read(path, shown):
-    """The entries of a file: a text that is copied (an empty line, or a comment at the margin), or a line with what is below it."""
+def parsed(texts, shown):
+    """The entries of lines: a text that is copied (an empty line, or a comment at the margin), or a line with what is below it."""
     entries, stack = [], []
-    for where, text in joined(path, shown):
+    for where, text in joined(texts, shown):
         if not text or text.startswith("#"):
             entries.append(text)
             stack = []
@@ -103,18 +95,23 @@ def read(path, shown):
     return entries
 
 
+def read(path, shown):
+    """The entries of a file."""
+    try:
+        with open(path, encoding="ascii") as file:
+            texts = file.read().split("\n")
+    except UnicodeDecodeError as error:
+        raise Trouble(f"{shown}: byte {error.start} isn't ASCII") from None
+    if texts.pop():
+        raise Trouble(f"{shown}: its last line isn't ended")
+    return parsed(texts, shown)
+
+
 def read_all(folder, shown):
     """The entries of all files `*.txt` of a folder, in the order of their names."""
-    try:
-        names = sorted(it for it in os.listdir(folder) if it.endswith(".txt"))
-    except FileNotFoundError:
-        raise Trouble(f"{shown}: there is no such folder") from None
-    if not names:
-        raise Trouble(f"{shown}: there is no file")
     found = []
-    for name in names:
-        entries = read(os.path.join(folder, name), f"{shown}/{name}")
-        if not any(isinstance(it, Line) for it in entries):
-            raise Trouble(f"{shown}/{name}: it is empty")
-        found += entries
+    for name in sorted(it for it in os.listdir(folder) if it.endswith(".txt")):
+        found += read(os.path.join(folder, name), f"{shown}/{name}")
+    if not found:
+        raise Trouble(f"{shown}: there is no file")
     return found
