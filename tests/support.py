@@ -105,10 +105,10 @@ def glyph_lines(*pairs):
     return b"".join(b"%d -> %d\n" % it for it in pairs)
 
 
-def run(words, room, **given):
+def run(words, room, command=COMMAND, **given):
     """How the program ends: status, standard output and standard error."""
     given = {"capture_output": True, "timeout": 1800 if SYSTEM else 600, **({} if "input" in given or "stdin" in given else {"stdin": subprocess.DEVNULL}), **given}
-    got = subprocess.run([*COMMAND, *words], cwd=room, check=False, **given)
+    got = subprocess.run([*command, *words], cwd=room, check=False, **given)
     return got.returncode, got.stdout, got.stderr
 
 
