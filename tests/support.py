@@ -19,12 +19,11 @@ sys.dont_write_bytecode = True
 ROOT = pathlib.Path(__file__).resolve().parent.parent
 DATA = ROOT / "tests" / "data"
 # The program: SUBSET_FONT is a file, or a command that runs one of another system, which is s390x or windows then.
-PROVED = ROOT / "crates" / "subset_font" / "out" / "subset_font"
 COMMAND = shlex.split(os.environ.get("SUBSET_FONT", str(ROOT / "out" / "cargo" / "release" / "subset_font")))
 COMMAND[-1] = os.path.realpath(COMMAND[-1])
 SYSTEM = os.environ.get("SUBSET_FONT_SYSTEM")
 # Whether it is the build by Cargo, which has `--jobs` and Rust's library below it.
-IS_CARGO = COMMAND[-1] != os.path.realpath(PROVED)
+IS_CARGO = not COMMAND[-1].endswith("crates/subset_font/out/subset_font")
 USAGE = "usage: subset_font IN OUT INDEX GID[,GID..]"
 OLD = b"what was there before"
 # Windows' numbers of the reasons that rows have by Unix's: no such file or folder, access to a folder as a file, a full disk.

@@ -35,7 +35,7 @@ def value_of(line, words, library, name):
     """What a field's line says. The program is a font below the line, and named as the new font of the row."""
     key = line.words[0]
     if key == "program":
-        font = library.font(line)
+        font = library.font(line, line.keys()[0].get("like"))
         library.keep(line, library.new, name, font)
         return library.hex(font)
     if key == "to_unicode":
@@ -47,14 +47,14 @@ def value_of(line, words, library, name):
 
 def row(line, library):
     """The text of a row: its own fields, and those of the row that it is `like`."""
-    name, fields = line.words[1], {}
+    name, like = line.words[1], line.keys()[0].get("like")
+    fields = dict(library.pdf[like]) if like else {}
+    if like:
+        library.new[name] = library.new.get(like)
     for child in line.children:
         size = 2 if child.words[0] == "object" else 1
         key, words = " ".join(child.words[:size]), child.words[size:]
-        if key == "like":
-            fields = dict(library.pdf[words[0]])
-            library.new[name] = library.new.get(words[0])
-        elif key == "without":
+        if key == "without":
             for it in words:
                 del fields[it.replace("-", " ")]
         elif key in FIELDS:

@@ -57,11 +57,11 @@ class Library:
     def __init__(self, formats):
         self.formats, self.fonts, self.new, self.pdf = formats, {}, {}, {}
 
-    def named(self, line, words):
-        """The font NAME, or `new NAME`, the new font of a row."""
-        found = self.new.get(words[1]) if words[0] == "new" and len(words) == 2 else self.fonts.get(words[0])
+    def named(self, line, name):
+        """The font NAME, or `new:NAME`, the new font of a row."""
+        found = self.new.get(name[4:]) if name.startswith("new:") else self.fonts.get(name)
         if found is None:
-            line.fails(f"there is no {' '.join(words)} in front of it")
+            line.fails(f"there is no {name} in front of it")
         return found
 
     def keep(self, line, where, name, font):
@@ -69,15 +69,14 @@ class Library:
             line.fails(f"{name} is there twice")
         where[name] = font
 
-    def font(self, entry):
-        """The font of the lines below an entry."""
-        first = entry.children[0] if entry.children else None
-        if first is None or first.words[0] not in ("like", "sfnt", "collection"):
+    def font(self, entry, like=None):
+        """The font of the lines below an entry, which change the one that it is like."""
+        if like is None and (not entry.children or entry.children[0].words[0] not in ("sfnt", "collection")):
             font = sfnt.Font()
             font.tables = [sfnt.Table("", entry.children)]
             return font
-        font = sfnt.Font(self.named(first, first.words[1:]) if first.words[0] == "like" else None)
-        for line in entry.children[first.words[0] == "like":]:
+        font = sfnt.Font(self.named(entry, like) if like else None)
+        for line in entry.children:
             self.change(font, line)
         return font
 
@@ -87,7 +86,7 @@ class Library:
         if word == "sfnt":
             self.head(font, line)
         elif word == "collection":
-            font.faces = [self.named(line, [it]) for it in rest]
+            font.faces = [self.named(line, it) for it in rest]
         elif word == "without":
             del font.tables[font.find(line, rest[0])]
         elif word in ("part", "set"):
@@ -126,7 +125,7 @@ class Library:
         """A row's line in today's file."""
         kind, name = line.words[:2]
         pairs, others = line.keys(line.words[2:])
-        wanted = ROWS[kind]
+        wanted, like = ROWS[kind], pairs.pop("like", None)
         if others or set(pairs) - set(wanted):
             line.fails(f"{kind} NAME " + " ".join(f"{it}=.." for it in wanted))
         given = {key: pairs.get(key, DEFAULTS[key]) for key in wanted}
@@ -136,22 +135,23 @@ class Library:
         if given["font"] not in self.fonts:
             line.fails(f"there is no font {given['font']} in front of it")
         if "status" in given:
-            self.gives(line, name, given)
+            self.gives(line, name, given, like)
         if "drop" in given:
             given["drop"] = drop(line, given["drop"])
         if given.get("at", "-") != "-":
             given["at"] = coordinates(line, given["at"])
         return " ".join([kind, name, *given.values()])
 
-    def gives(self, line, name, given):
+    def gives(self, line, name, given, like):
         """The status of a row by its number, and its new font."""
         if given["status"] not in STATUS:
             line.fails(f"there is no status {given['status']}")
         given["status"] = str(STATUS.index(given["status"]))
-        if (given["status"] == "0") == (given["new"] == "-" and not line.children) or (given["new"] != "-" and line.children):
+        is_made = like is not None or line.children != []
+        if (given["status"] == "0") == (given["new"] == "-" and not is_made) or (given["new"] != "-" and is_made):
             line.fails("a row has a status, or its new font below it, or new=ROW")
         if given["status"] == "0":
-            font = self.named(line, ["new", given["new"]]) if given["new"] != "-" else self.font(line)
+            font = self.named(line, f"new:{given['new']}") if given["new"] != "-" else self.font(line, like)
             self.keep(line, self.new, name, font)
             given["new"] = self.hex(font)
 
@@ -159,9 +159,10 @@ class Library:
         """An entry's line in today's file; None for a base font, which has none."""
         kind = line.words[0]
         if is_bytes(kind):
-            if len(line.words) != 2:
-                line.fails(f"{kind} NAME, with its bytes below")
-            font = self.font(line)
+            pairs, others = line.keys()
+            if len(others) != 1 or set(pairs) - {"like"}:
+                line.fails(f"{kind} NAME [like=NAME], with its bytes below")
+            font = self.font(line, pairs.get("like"))
             made = self.hex(font)
             self.keep(line, self.fonts, line.words[1], font)
             return f"{kind} {line.words[1]} {made}" if kind != "base" else None
