@@ -107,7 +107,11 @@ def glyph_lines(*pairs):
 def run(words, room, command=COMMAND, **given):
     """How the program ends: status, standard output and standard error."""
     given = {"capture_output": True, "timeout": 1800 if SYSTEM else 600, **({} if "input" in given or "stdin" in given else {"stdin": subprocess.DEVNULL}), **given}
-    got = subprocess.run([*command, *words], cwd=room, check=False, **given)
+    for _ in range(2 if SYSTEM == "windows" else 1):
+        got = subprocess.run([*command, *words], cwd=room, check=False, **given)
+        # (wine, where it can't start a program, says nothing; the program always says why it ends with 1)
+        if (got.returncode, got.stdout, got.stderr) != (1, b"", b""):
+            break
     return got.returncode, got.stdout, got.stderr
 
 

@@ -13,7 +13,7 @@ import subprocess
 
 import pytest
 import support
-from support import COMMAND, DATA, ROOT, SYSTEM, fonts, read, remove, run, tables_of
+from support import DATA, ROOT, SYSTEM, fonts, read, remove, run, tables_of
 
 # ---- rows
 
@@ -56,8 +56,6 @@ def differences(row, room):
         (room / name).write_bytes(data)
     status, out, err = run(row.words, room, input=row.stdin)
     after = {it.name: read(it) for it in room.iterdir()}
-    if row.line in OTHERWISE:
-        return [] if status in range(4) and status != row.status else [f"listed for {SYSTEM} as otherwise"]
     wanted = before | {name: known(font, after.get(name)) for name, font in row.after.items()}
     new = NEW.get(row.out_font) if row.out_font else after.get("out", b"")
     wanted_out, row.err = (it.replace(b"@new@", b"%d" % len(new or b"")) for it in (row.out, row.err))
@@ -66,7 +64,10 @@ def differences(row, room):
         found.append(f"standard output {out[:300]!r}, wanted {(new if row.out_font else wanted_out)[:300]!r}")
     if not is_message(row, err):
         found.append(f"standard error {err[:300]!r}, wanted {row.err!r}")
-    return found + [f"the file {it} has {after.get(it, b'')[:60]!r} (or isn't there)" for it in sorted(after.keys() | wanted.keys()) if after.get(it) != wanted.get(it)]
+    found += [f"the file {it} has {after.get(it, b'')[:60]!r} (or isn't there)" for it in sorted(after.keys() | wanted.keys()) if after.get(it) != wanted.get(it)]
+    if row.line in OTHERWISE:
+        return [] if found and status in range(4) else [f"status {status}, listed for {SYSTEM} as otherwise"]
+    return found
 
 
 @pytest.mark.parametrize("path", support.row_files(), ids=lambda it: it.stem)
