@@ -1,0 +1,21 @@
+"""The tests run on the C library that Cargo makes of the crate, or on the one that SUBSETTER_LIBRARY names."""
+
+import os
+import subprocess
+import sys
+
+import hypothesis
+
+from common import MODULE, ROOT
+
+sys.path.insert(0, str(MODULE))
+hypothesis.settings.register_profile("same", derandomize=True, database=None, deadline=None, max_examples=300)
+hypothesis.settings.load_profile("same")
+
+
+def pytest_configure():
+    if "SUBSETTER_LIBRARY" not in os.environ:
+        package = ROOT / "bindings/capi"
+        words = ["cargo", "build", "--quiet", "--release", "--offline", "--locked", "--manifest-path", package / "Cargo.toml"]
+        subprocess.run([*words, "--target-dir", package / "target"], check=True)
+        os.environ["SUBSETTER_LIBRARY"] = str(package / "target/release/libsubsetter.so")
