@@ -1,0 +1,109 @@
+"""`OutOfMemory` is answered only where memory was refused.
+
+A contract can't tell a refused request from a lie: "or memory ran out" holds of both. A refused request becomes the error by `?`; each
+other place in crates/*/src whose code names the case, a batch's `NoMemory` or an allocator's refusal is listed here with its reason.
+"""
+import collections
+import glob
+import os
+import re
+
+ROOT = os.path.dirname(os.path.dirname(os.path.realpath(__file__)))
+# (crate, function or enum): how often, and why it may.
+ALLOWED = {
+    ("subsetter_base", "enum Error"): (1, "the case itself"),
+    ("subsetter_base", "fmt"): (1, "its text"),
+    ("subsetter_c", "status_of"): (1, "its status"),
+    ("subsetter_base", "write_decimal"): (1, "`write!` reports a refused request as fmt::Error, and a number's text has no other error"),
+    ("dev_rows", "status_of"): (1, "its status"),
+    ("dev_rows", "fmt"): (1, "the list of all errors, in which a status is looked up"),
+    ("pdf_names", "write_whole"): (1, "`write!` reports a refused request as fmt::Error, and a number's text has no other error"),
+    ("pdf_text", "write_cid"): (1, "`write!` reports a refused request as fmt::Error, and a number's text has no other error"),
+    ("pdf_text", "write_integer"): (1, "`write!` reports a refused request as fmt::Error, and a number's text has no other error"),
+    ("pdf_text", "write_count"): (1, "`write!` reports a refused request as fmt::Error, and a number's text has no other error"),
+    ("subset_args", "enum ArgsError"): (1, "the case itself"),
+    ("subset_args", "glyphs_of"): (1, "`push` takes memory and has no other error"),
+    ("subset_font", "no_memory"): (2, "its argument is an allocator's refusal"),
+    ("subset_font", "text_of"): (1, "`json_numbers` writes into a vector, which has no other error"),
+    ("subset_font", "after_name"): (1, "`collect` takes memory and has no other error"),
+    ("subset_font", "read_arguments"): (2, "the system's own error for memory"),
+    ("subset_batch", "enum Unread"): (1, "the case itself"),
+    ("subset_batch", "read_request"): (2, "passes on that of `request_in`"),
+    ("subset_font", "order_of"): (2, "passes on that of `read_request`"),
+    ("subset_font", "order_by"): (2, "passes on that of `read_words`"),
+    ("subset_font", "enum Answer"): (1, "the case itself"),
+    ("subset_font", "failed"): (1, "its argument is the result of a request"),
+    ("subset_font", "has_failed"): (1, "looks at it"),
+    ("subset_font", "write_answer"): (1, "looks at it"),
+    ("subset_font", "batch_or_status"): (1, "its argument is an allocator's refusal"),
+    ("subset_font", "printed"): (1, "`write_numbers` writes into a vector, which has no other error"),
+    ("subset_font", "answer_failed"): (3, "compares with it; the texts of `text_of` take memory, and have no other error"),
+    ("subset_font", "run_requests"): (1, "`BufWriter::new` takes memory and has no other error"),
+    ("subset_args", "read_either"): (2, "passes on that of `read_by_options`"),
+    ("subset_font", "run_words"): (2, "passes on that of `read_words`"),
+    ("subset_font", "unread"): (1, "a failure to read of which the reader kept no error is one of memory"),
+    ("subset_font", "read_list_file"): (2, "passes on that of `read_list`"),
+    ("subset_font", "carry_buffered"): (1, "`BufWriter::new` takes memory and has no other error"),
+    ("subset_font", "show_buffered"): (1, "`BufWriter::new` takes memory and has no other error"),
+    ("subset_font", "is_of_memory"): (1, "compares with it"),
+    ("subset_font", "parts_of"): (1, "passes on that of `make_of`"),
+    ("subset_font", "show_face"): (2, "`tables_of` and `try_all` have no other error"),
+    ("subset_font", "has_name"): (1, "`text_of_name` writes into a vector, which has no other error"),
+    ("subset_font", "push_name"): (1, "`text_of_name` writes into a vector, which has no other error"),
+    ("subset_font", "instance_settings"): (2, "`settings_of` and `find_named` have no other error"),
+    ("subset_font", "known_axes"): (2, "passes on that of `axes_there`"),
+    ("subset_font", "lines_of_sizes"): (1, "`size_lines` writes into a vector, which has no other error"),
+    ("subset_font", "members_of"): (1, "`json_members` writes into a vector, which has no other error"),
+    ("subset_font", "member_of"): (1, "`json_pdf` writes into a vector, which has no other error"),
+    ("subset_font", "with_more"): (2, "`more_of` and `names_for` have no other error"),
+    ("subset_font", "names_of_fvar"): (2, "passes on that of `read_axes`"),
+    ("pdf_cff", "unless_memory"): (2, "passes on that of its argument"),
+    ("glyph_names", "read_charset"): (2, "passes on that of `Table::parse`"),
+}
+WORDS = re.compile(r"\bOutOfMemory\b|\bNoMemory\b|\b(?:AllocError|AllocFailed)\b(?!\s*[>,}]|<\w)")
+# `Unwritten` of subset_lines is that a writer failed: a write or a request that failed is right before it.
+UNWRITTEN = re.compile(r"(?<!struct )\bUnwritten\b(?!\s*[>,}])")
+FAILED = re.compile(r"(?:\.is_err\(\)\)*\s*(?:\{\s*return|=>)|\blet Ok\(\w+\) = [\w\s(.,)]+\belse\s*\{\s*return) Err\($|\.map_err\(\|_\| $")
+# Clauses, ghost items, tests and `From` don't count.
+HEADS = (r"\b(?:requires|ensures)\b[*]?[^{\n]*\{", r"\bghost \w+\s*[:=]\s*\{", r"#\[cfg\(test\)\]\s*(?:pub )?mod \w+\s*\{", r"#\[test\]", r"\bimpl(?:<[^{]*>)? From<[^{]*\{")
+
+
+def without_braces(text, start):
+    """A text without the braces that open first at or after a place, and what is before them from there."""
+    depth = 0
+    for at in range(text.index("{", start), len(text)):
+        depth += {"{": 1, "}": -1}.get(text[at], 0)
+        if depth == 0:
+            return text[:start] + text[at + 1:]
+    raise ValueError("braces that don't end")
+
+
+def code_of(text):
+    text = re.sub(r'//[^\n]*|b?"(?:\\.|[^"\\])*"|\'(?:\\.|[^\'\\])\'', "", text)
+    text = re.sub(r"\b(?:ghost )?(?:pub )?use [^;]*;", "", text)
+    for head in HEADS:
+        while found := re.search(head, text):
+            text = without_braces(text, found.start())
+    return text
+
+
+def places():
+    """The code of each place, with its crate, the function or enum, the word, and what is before it."""
+    for path in sorted(glob.glob(os.path.join(ROOT, "crates", "*", "src", "**", "*.rt"), recursive=True)):
+        crate, _, module = os.path.relpath(path, os.path.join(ROOT, "crates")).partition("/src/")
+        if re.search(r"(^|/)tests?(/|\.rt$)", module):
+            continue
+        with open(path, encoding="utf-8") as file:
+            code = code_of(file.read())
+        for pattern in (WORDS, UNWRITTEN) if crate == "subset_lines" else (WORDS,):
+            for found in pattern.finditer(code):
+                items = re.findall(r"\bfn (\w+)|\b(enum \w+)", code[:found.start()])
+                yield crate, "".join(items[-1]) if items else "", found[0], code[:found.start()]
+
+
+def test_out_of_memory():
+    found = list(places())
+    counts = collections.Counter((crate, item) for crate, item, word, _ in found if word != "Unwritten")
+    assert counts == {key: count for key, (count, _) in ALLOWED.items()}
+    unwritten = [(item, front[-300:]) for _, item, word, front in found if word == "Unwritten"]
+    assert unwritten and [it for it in unwritten if not FAILED.search(it[1])] == []
