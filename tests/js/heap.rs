@@ -1,8 +1,8 @@
-//! The heap alone, under names that its test calls (tests/parts.mjs).
+//! The heap alone, under names that its test calls.
 
 #![deny(unsafe_op_in_unsafe_fn)]
 
-#[path = "../module/heap.rs"]
+#[path = "../../bindings/js/module/heap.rs"]
 mod heap;
 
 use std::alloc::{alloc, dealloc, realloc, Layout};
