@@ -120,11 +120,11 @@ class Looker:
     # ---- the bills of materials
 
     def kit(self):
-        """The kit's line in PROVED. Its logic, which is what proves, is README.md's; kits of several names have the same."""
-        with open(os.path.join(ROOT, "README.md"), encoding="utf-8") as file:
-            logic = re.search(r"`rattle-kit-\S+ (logic \w+)`", file.read())[1]
+        """The kit's line in PROVED. Its logic, which is what proves, is that of the file KIT; kits of several names have the same."""
+        with open(os.path.join(ROOT, "KIT"), encoding="utf-8") as file:
+            logic = re.search(r"rattle-kit-\S+ (logic \w+)", file.read())[1]
         line = self.read("PROVED").decode().split("\n")[2]
-        self.demand(re.fullmatch(rf"rattle-kit-\S+ {logic}", line), f"PROVED has the kit {line}, and README.md {logic}")
+        self.demand(re.fullmatch(rf"rattle-kit-\S+ {logic}", line), f"PROVED has the kit {line}, and KIT {logic}")
         return line
 
     def bill(self, name):

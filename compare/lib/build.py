@@ -1,4 +1,5 @@
-"""What the scripts of compare/ run: where each program is, and how it is built."""
+"""What the comparisons run, and how it is built: the program, the C library, the harness and the drivers in C."""
+import ctypes
 import os
 import subprocess
 import sys
@@ -7,41 +8,67 @@ import sys
 HERE = os.path.dirname(os.path.dirname(os.path.realpath(__file__)))
 ROOT = os.path.dirname(HERE)
 DRIVERS, BUILD = os.path.join(HERE, "drivers"), os.path.join(HERE, "build")
-# What the C compiler and Cargo may use, as the port does.
-PROCESSOR = "x86-64-v2"
+CARGO = os.path.join(BUILD, "cargo")
+NAME = os.path.basename(sys.argv[0])
+# With CANARY in the environment a comparison changes one answer, and has to end with status 1.
+CANARY = "CANARY" in os.environ
+PROVED = os.path.join(ROOT, "bindings", "c", "out", "libsubsetter.so")
 
 
-def built(crate, name=None):
-    """Where `rt` puts a crate's program."""
-    return os.path.join(ROOT, "crates", crate, "out", name or crate)
+class Canary:
+    """Changes the first answer that it is given."""
+
+    def __init__(self):
+        self.is_due = CANARY
+
+    def changed(self, data):
+        """The bytes, or under CANARY the first ones with a bit in the middle changed."""
+        if not self.is_due or not data:
+            return data
+        self.is_due, data = False, bytearray(data)
+        data[len(data) // 2] ^= 1
+        return bytes(data)
 
 
-BENCH, FONT, PARTS = built("dev_bench"), built("subset_font"), built("dev_parts")
+def cargo(manifest, *words, target=CARGO, flags=""):
+    """Builds by Cargo, without the network."""
+    env = dict(os.environ, RUSTFLAGS=flags)
+    command = ["cargo", "build", "--offline", "--quiet", "--manifest-path", os.path.join(ROOT, manifest, "Cargo.toml"), "--target-dir", target]
+    subprocess.run([*command, *words], env=env, check=True)
+    return target
 
 
-def rt(crate, verb="run"):
-    """Proves and builds a crate. `run` runs its program without arguments, which may print its usage and end with status 2. Where `rt` fails
-    the script ends: a program of an earlier build is another program."""
-    done = subprocess.run([os.environ.get("RT", "rt"), verb], cwd=os.path.join(ROOT, "crates", crate), stdout=subprocess.DEVNULL)
-    if done.returncode not in ((0, 2) if verb == "run" else (0,)):
-        sys.exit(f"{os.path.basename(sys.argv[0])}: rt {verb} of {crate} ended with {done.returncode}")
+def program():
+    """The program: SUBSET_FONT, or as Cargo builds it."""
+    if "SUBSET_FONT" in os.environ:
+        return named("SUBSET_FONT")
+    return os.path.join(cargo("bindings/rust", "--release", "--features", "program", target=os.path.join(ROOT, "out", "cargo")), "release", "subset_font")
 
 
-def program(path):
-    """A program's path. One of the crates is built where it is missing; the script ends where there is none then."""
-    crates = os.path.join(ROOT, "crates") + os.sep
-    if not os.path.exists(path) and path.startswith(crates):
-        rt(path.removeprefix(crates).split(os.sep)[0])
+def library():
+    """The C library: LIBRARY, or as Cargo builds it."""
+    if "LIBRARY" in os.environ:
+        return named("LIBRARY")
+    return os.path.join(cargo("bindings/capi", "--release"), "release", "libsubsetter.so")
+
+
+def named(variable):
+    """A file that the environment names; the script ends where it isn't there."""
+    path = os.path.realpath(os.environ[variable])
     if not os.path.exists(path):
-        sys.exit(f"{os.path.basename(sys.argv[0])}: no program {path}")
+        sys.exit(f"{NAME}: no {variable} {path}")
     return path
+
+
+def harness(profile="release"):
+    return os.path.join(cargo("compare/harness", "--profile", profile), profile, "harness")
 
 
 def gcc(source, *more, to):
     """The path of what gcc makes of a C file of drivers/."""
     os.makedirs(BUILD, exist_ok=True)
     path = os.path.join(BUILD, to)
-    subprocess.run(["gcc", "-O3", f"-march={PROCESSOR}", "-o", path, os.path.join(DRIVERS, source), *more], check=True)
+    subprocess.run(["gcc", "-O3", "-march=x86-64-v2", "-o", path, os.path.join(DRIVERS, source), *more], check=True)
     return path
 
 
@@ -50,27 +77,42 @@ def preload(source, to):
     return gcc(source, "-shared", "-fPIC", to=to)
 
 
-def cargo_driver(folder):
-    """Where Cargo puts the driver of a folder."""
-    return os.path.join(HERE, folder, "target", "release", f"{folder}_bench")
-
-
-def cargo(folder):
-    """Builds the driver of a folder, without the network."""
-    flags = dict(os.environ, RUSTFLAGS=f"-C target-cpu={PROCESSOR}")
-    command = ["cargo", "build", "--release", "--offline", "--quiet"]
-    subprocess.run(command, cwd=os.path.join(HERE, folder), env=flags, check=True)
-    return cargo_driver(folder)
-
-
-def library():
-    """Builds the C library."""
-    subprocess.run(["make"], cwd=os.path.join(ROOT, "bindings", "c"), check=True)
-
-
 def commit():
-    """The commit that is checked out, and whether the crates differ from it."""
+    """The commit that is checked out, and whether anything differs from it."""
     git = ["git", "-C", ROOT]
-    name = subprocess.run([*git, "rev-parse", "--short", "HEAD"], capture_output=True, text=True).stdout.strip()
-    changed = subprocess.run([*git, "status", "--porcelain", "crates"], capture_output=True, text=True).stdout.strip()
-    return name, bool(changed)
+    name = subprocess.run([*git, "rev-parse", "--short=8", "HEAD"], capture_output=True, text=True, check=True).stdout.strip()
+    return name, bool(subprocess.run([*git, "status", "--porcelain"], capture_output=True, text=True, check=True).stdout)
+
+
+# ---- the C library
+
+class Coordinate(ctypes.Structure):
+    _fields_ = [("tag", ctypes.c_uint32), ("value", ctypes.c_int32)]
+
+
+class Made(ctypes.Structure):
+    _fields_ = [(name, kind) for list_, count in (("font", "font_size"), ("cids", "cid_count"), ("widths", "width_count"))
+                for name, kind in ((list_, ctypes.c_void_p), (count, ctypes.c_size_t))]
+
+
+STATUSES = {1: "UnknownKind", 2: "MalformedFont", 3: "Unimplemented", 4: "SubsetError", 5: "OverflowError", 6: "CFFError", 7: "OutOfMemory"}
+
+
+class Library:
+    """`subset` of the C library, as the font is and at coordinates."""
+
+    def __init__(self, path):
+        self.calls, self.canary = ctypes.CDLL(path), Canary()
+
+    def subset(self, data, glyphs, place=(), index=0):
+        """The new font, or the name of the error. `place` has pairs of a tag and a value in 65536ths."""
+        at = (Coordinate * len(place))(*[Coordinate(int.from_bytes(tag.encode("latin-1"), "big"), value) for tag, value in place])
+        kept, made = (ctypes.c_uint16 * len(glyphs))(*glyphs), Made()
+        before, after = (data, ctypes.c_size_t(len(data)), ctypes.c_uint32(index)), (kept, ctypes.c_size_t(len(glyphs)), None, ctypes.c_size_t(0), ctypes.byref(made))
+        if place:
+            status = self.calls.subsetter_make_subset_at_by_words(*before, at, ctypes.c_size_t(len(at)), *after)
+        else:
+            status = self.calls.subsetter_make_subset_by_words(*before, *after)
+        font = ctypes.string_at(made.font, made.font_size) if status == 0 else STATUSES.get(status, f"status {status}")
+        self.calls.subsetter_free(ctypes.byref(made))
+        return font if status else self.canary.changed(font)

@@ -3,7 +3,7 @@
 A new font has to draw what HarfBuzz draws of the damaged copy, each coordinate rounded once. Where HarfBuzz draws something else, as it goes on
 where a table is broken and knows other limits, it has to be what fontTools reads, in exact fractions. Where HarfBuzz draws nothing, or fontTools
 reads nothing, it may also be what a third reading (cff2_dicts.py) has: fontTools reads no table with a dict that can't be read to its end, and
-takes the last of the ranges of font dicts that have a glyph, not the first. The advance is HarfBuzz's, or that of the second reading (variable.py).
+takes the last of the ranges of font dicts that have a glyph, not the first. The advance is HarfBuzz's, or that of the second reading (reading.py).
 A private dict that has an operator without its operand is in the new font as it is in the copy: FreeType has to open neither.
 """
 import os
@@ -15,7 +15,7 @@ import cff2_dicts
 import copies
 import font_at
 import fonts
-import variable
+import reading
 from cff2_drawn import CLOSED, HarfBuzz, contours
 from cff2_exact import Source, drawn_exactly, half_up
 from cff2_others import FreeType, advance_by
@@ -94,7 +94,7 @@ class Copy:
         with open(path, "rb") as file:
             data = file.read()
         self.tables = {tag.encode("latin-1"): data[at:at + size] for tag, (at, size) in fonts.directory(data, face.index).items()}
-        self.at = variable.place_of(self.tables, [(tag.encode("latin-1"), value) for tag, value in place])
+        self.at = reading.place_of(self.tables, [(tag.encode("latin-1"), value) for tag, value in place])
         self.harfbuzz = HarfBuzz(path, face.index)
         self.harfbuzz.place(self.at)
         self.metrics, self.names = face.metrics, face.names
@@ -127,7 +127,7 @@ class Copy:
         """Whether an advance is HarfBuzz's, or that of the second reading."""
         default = self.metrics[self.names[glyph]][0]
         if b"HVAR" in self.tables:
-            exact = default + variable.advance_delta(self.tables[b"HVAR"], self.at, glyph) / variable.UNIT
+            exact = default + reading.advance_delta(self.tables[b"HVAR"], self.at, glyph) / reading.UNIT
         else:
             exact = default
         return advance in (max(half_up(exact), 0), max(advance_by(self.harfbuzz, glyph), 0))
@@ -151,7 +151,7 @@ def judge(report, copy, data, old, room, label):
             return
         try:
             sound = copy.has_advance(glyph, advance_by(new, number))
-        except variable.Fault as it:
+        except reading.Fault as it:
             report.say("damage", f"{label}: glyph {glyph} has an advance, and not {it.args[0]}")
             return
         if not sound:
@@ -192,7 +192,7 @@ def one_copy(words, report, face, data, rng, room, label):
         report.say("damage", f"{label}, {done}: {took:.1f} seconds")
     try:
         copy = Copy(path, face, place)
-    except variable.Fault as it:
+    except reading.Fault as it:
         report.say("damage", f"{label}, {done}: answered, and not {it.args[0]}")
         return
     judge(report, copy, answer, old, room, f"{label}, {done}")

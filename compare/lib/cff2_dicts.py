@@ -5,7 +5,7 @@ import types
 
 import cff2_private
 from cff2_exact import Source, recorder
-from variable import cut, number
+from reading import cut, number
 
 CHARSTRINGS, SELECT, DICTS, STORE = (17,), (12, 37), (12, 36), (24,)
 PRIVATE, SUBROUTINES, VSINDEX = (18,), (19,), (22,)

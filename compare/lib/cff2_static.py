@@ -3,7 +3,7 @@ and each edge is rounded once."""
 import cff2_private
 import made
 import pdf_file
-import variable
+import reading
 from cff2_exact import drawn_by_each, half_up
 
 STEMS, MASKS = {(1,), (3,), (18,), (23,)}, {(19,), (20,)}
@@ -91,7 +91,7 @@ def static_font(face, at, order):
     """The bytes of a static font at coordinates that has these glyphs of a face, in this order; None is an empty one. (It has no charset, so
     FreeType reads it where it has at most 229 glyphs.)"""
     advances = {glyph: face.rounded_advance(glyph, at) for glyph in order if glyph is not None}
-    hhea = bytearray(variable.varied_lines(face.tables.get(b"MVAR"), at, b"hhea", face.tables[b"hhea"]))
+    hhea = bytearray(reading.varied_lines(face.tables.get(b"MVAR"), at, b"hhea", face.tables[b"hhea"]))
     hhea[10:12], hhea[34:36] = max(advances.values()).to_bytes(2, "big"), len(order).to_bytes(2, "big")
     rows = [(0, 0) if glyph is None else (advances[glyph], face.metrics[face.names[glyph]][1] % 65536) for glyph in order]
     made_face = pdf_file.Face.__new__(pdf_file.Face)
@@ -101,5 +101,5 @@ def static_font(face, at, order):
     if b"name" in face.tables:
         made_face.tables["name"] = face.tables[b"name"]
     if b"post" in face.tables:
-        made_face.tables["post"] = variable.varied_lines(face.tables.get(b"MVAR"), at, b"post", face.tables[b"post"])
+        made_face.tables["post"] = reading.varied_lines(face.tables.get(b"MVAR"), at, b"post", face.tables[b"post"])
     return made_face.file_without()

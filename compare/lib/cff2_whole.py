@@ -9,7 +9,7 @@ import cff2_private
 import font_at
 import pdf_file
 import pdf_variable
-import variable
+import reading
 from cff2_drawn import HarfBuzz, contours, is_near_a_half, rounded
 from cff2_exact import Source, drawn, hints, rounded_hints, written
 
@@ -63,7 +63,7 @@ def subset_at(program, path, index, place, glyphs, room):
 
 
 class Face:
-    """A face with CFF2, as fontTools, HarfBuzz and the second reading (variable.py) read it."""
+    """A face with CFF2, as fontTools, HarfBuzz and the second reading (reading.py) read it."""
 
     def __init__(self, path, index=0):
         with open(path, "rb") as file:
@@ -78,12 +78,12 @@ class Face:
 
     def at(self, place):
         """The normalized coordinates in 16384ths."""
-        return variable.place_of(self.tables, [(tag.encode("latin-1"), value) for tag, value in place])
+        return reading.place_of(self.tables, [(tag.encode("latin-1"), value) for tag, value in place])
 
     def advance(self, glyph, at):
         """The advance at coordinates before rounding, in parts of 2^30."""
-        default = self.it.advance(glyph) * variable.UNIT
-        return default + (variable.advance_delta(self.tables[b"HVAR"], at, glyph) if b"HVAR" in self.tables else 0)
+        default = self.it.advance(glyph) * reading.UNIT
+        return default + (reading.advance_delta(self.tables[b"HVAR"], at, glyph) if b"HVAR" in self.tables else 0)
 
     def is_made(self, word):
         """Whether the font's name begins with a word."""
@@ -98,7 +98,7 @@ class Face:
         return self.privates[key]
 
     def rounded_advance(self, glyph, at):
-        return max(variable.nearest(self.advance(glyph, at), variable.UNIT), 0)
+        return max(reading.nearest(self.advance(glyph, at), reading.UNIT), 0)
 
 
 class Report:
@@ -163,13 +163,13 @@ def faults_of_headers(face, font, new, at, advances):
     head = face.tables[b"head"]
     if tables["head"][:8] + tables["head"][12:] != head[:8] + head[12:]:
         found.append("head")
-    hhea = bytearray(variable.varied_lines(face.tables.get(b"MVAR"), at, b"hhea", face.tables[b"hhea"]))
+    hhea = bytearray(reading.varied_lines(face.tables.get(b"MVAR"), at, b"hhea", face.tables[b"hhea"]))
     hhea[10:12], hhea[34:36] = max(advances).to_bytes(2, "big"), tables["hhea"][34:36]
     if tables["hhea"] != hhea:
         found.append(f"hhea {tables['hhea'].hex()}, and not {hhea.hex()}")
     if tables["maxp"] != b"\0\0\x50\0" + len(advances).to_bytes(2, "big"):
         found.append("maxp")
-    post = variable.varied_lines(face.tables.get(b"MVAR"), at, b"post", face.tables.get(b"post"))
+    post = reading.varied_lines(face.tables.get(b"MVAR"), at, b"post", face.tables.get(b"post"))
     if post is not None and tables.get("post", b"")[4:32] != post[4:32]:
         found.append("post")
     kept = len(font["name"].names) if "name" in font else 0
@@ -207,7 +207,7 @@ def compare_advance(report, face, at, glyph, advance):
     if advance != wanted:
         report.say("advance", f"glyph {glyph} at {at}: {advance}, and not {wanted}")
     # (without HVAR HarfBuzz 6 has 0, once there are coordinates)
-    if b"HVAR" in face.tables and not is_near_a_half(exact / variable.UNIT):
+    if b"HVAR" in face.tables and not is_near_a_half(exact / reading.UNIT):
         theirs = max(cff2_others.advance_by(face.harfbuzz, glyph), 0)
         if advance != theirs:
             report.say("advance", f"glyph {glyph} at {at}: {advance}, and by HarfBuzz {theirs}")

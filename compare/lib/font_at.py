@@ -7,7 +7,7 @@ import os
 import build
 import fonts
 
-PACKAGES = ["fonts-inter-variable", "libharfbuzz0b", "python3-freetype", "python3-fonttools"]
+PACKAGES = ["fonts-inter-variable", "python3-freetype", "python3-fonttools"]
 INTER = f"{fonts.TRUETYPE}/inter-vf"
 HARFBUZZ_BOUND = 0.01
 FREETYPE_BOUND = 1

@@ -1,0 +1,139 @@
+"""The programs of the READMEs and of examples/ run, and readers take the PDF that each writes; the README's commands run in a clone."""
+import functools
+import os
+import re
+import shutil
+import subprocess
+import sys
+import venv
+
+import pytest
+
+ROOT = os.path.dirname(os.path.dirname(os.path.realpath(__file__)))
+TEXT = "Hello, Ελλάδα!"
+
+
+def read(*path):
+    with open(os.path.join(ROOT, *path), encoding="utf-8") as file:
+        return file.read()
+
+
+def write(path, text):
+    path.parent.mkdir(parents=True, exist_ok=True)
+    path.write_text(text, encoding="utf-8")
+
+
+def run(room, *words, **env):
+    ran = subprocess.run([str(it) for it in words], cwd=room, env={**os.environ, **env}, stdin=subprocess.DEVNULL, stdout=subprocess.PIPE, stderr=subprocess.STDOUT, text=True, errors="replace")
+    assert ran.returncode == 0, f"{words}: {ran.stdout[-3000:]}"
+    return ran.stdout
+
+
+def blocks(document, *languages):
+    """The blocks of a document in these languages that write hello.pdf."""
+    found = re.findall(r"^```(\S+)\n(.*?)^```$", read(document), re.M | re.S)
+    found = [text for language, text in found if language.split(",")[0] in languages and "hello.pdf" in text]
+    assert found, f"{document} has no program that writes hello.pdf"
+    return found
+
+
+def demand_pdf(room):
+    """hello.pdf is sound, its one subset is embedded, the text comes back, and something is drawn."""
+    assert "No syntax or stream encoding errors found" in run(room, "qpdf", "--check", "hello.pdf")
+    fonts = [line for line in run(room, "pdffonts", "hello.pdf").splitlines()[2:] if not line.startswith("Helvetica ")]
+    assert len(fonts) == 1 and re.search(r"^[A-Z]{6}\+.* yes yes yes +\d+ +\d+$", fonts[0]), fonts
+    assert run(room, "pdftotext", "-enc", "UTF-8", "hello.pdf", "-").strip() == TEXT
+    run(room, "mutool", "draw", "-q", "-F", "txt", "-o", "mupdf.txt", "hello.pdf")
+    assert (room / "mupdf.txt").read_text(encoding="utf-8").strip() == TEXT
+    run(room, "pdftoppm", "-gray", "-r", "50", "-singlefile", "hello.pdf", "page")
+    assert sum(point < 128 for point in (room / "page.pgm").read_bytes().split(b"\n", 3)[-1]) > 100
+
+
+@functools.lru_cache(maxsize=None)
+def library():
+    run(ROOT, "make", "-s", "-C", "bindings/capi", "all")
+    return os.path.join(ROOT, "bindings", "capi", "out")
+
+
+@functools.lru_cache(maxsize=None)
+def package():
+    run(ROOT, "make", "-s", "-C", "bindings/js", "package")
+    [name] = [it for it in os.listdir(os.path.join(ROOT, "bindings", "js", "out")) if it.endswith(".tgz")]
+    return os.path.join(ROOT, "bindings", "js", "out", name)
+
+
+def rust(room, program):
+    write(room / "src" / "main.rs", program)
+    write(room / "Cargo.toml", '[package]\nname = "user"\nversion = "1.0.0"\nedition = "2021"\n\n[dependencies]\n'
+          f'subsetter = {{ path = "{ROOT}/bindings/rust", features = ["variable-fonts"] }}\n')
+    run(room, "cargo", "run", "--quiet", "--offline", "--release", CARGO_TARGET_DIR=os.path.join(ROOT, "out", "examples"))
+
+
+def c(room, program):
+    write(room / "user.c", program)
+    run(room, "cc", "-std=c11", "-Wall", "-Wextra", "-Werror", "-I", f"{ROOT}/bindings/c", "user.c", f"{library()}/libsubsetter.so", f"-Wl,-rpath,{library()}", "-o", "user")
+    run(room, "./user")
+
+
+def python(room, program):
+    write(room / "user.py", program)
+    run(room, "/usr/bin/python3", "user.py", PYTHONPATH=f"{ROOT}/bindings/python", SUBSETTER_LIBRARY=f"{library()}/libsubsetter.so", PYTHONDONTWRITEBYTECODE="1")
+
+
+def js(room, program):
+    run(room, "npm", "install", "--silent", "--offline", package())
+    write(room / "user.mjs", program)
+    run(room, "node", "user.mjs")
+
+
+PROGRAMS = [
+    *((rust, "README.md", "rust"), (python, "README.md", "python"), (rust, "bindings/rust/README.md", "rust")),
+    *((c, "bindings/capi/README.md", "c"), (python, "bindings/python/README.md", "python"), (js, "bindings/js/README.md", "mjs")),
+]
+
+
+@pytest.mark.parametrize("how, document, language", PROGRAMS)
+def test_programs_of_documents(tmp_path, how, document, language):
+    for program in blocks(document, language):
+        how(tmp_path, program)
+        demand_pdf(tmp_path)
+
+
+@pytest.mark.parametrize("how, name", [(rust, "writer.rs"), (c, "plain.c"), (python, "with_pikepdf.py"), (python, "with_reportlab.py")])
+def test_examples(tmp_path, how, name):
+    how(tmp_path, read("examples", name))
+    demand_pdf(tmp_path)
+
+
+def test_commands_of_the_readme(tmp_path):
+    """The commands of the README's table, in a clone of a bare repository with an empty home, as far as they need no network."""
+    bare, clone, home = tmp_path / "bare.git", tmp_path / "clone", tmp_path / "home"
+    run(ROOT, "git", "clone", "-q", "--bare", ROOT, bare)
+    run(ROOT, "git", "clone", "-q", bare, clone)
+    venv.create(home / "venv", with_pip=True)
+    path = f"{home}/venv/bin:{os.environ['PATH']}"
+    room = tmp_path / "room"
+    write(room / "Cargo.toml", '[package]\nname = "user"\nversion = "1.0.0"\nedition = "2021"\n\n[dependencies]\n')
+    write(room / "src" / "main.rs", blocks("README.md", "rust")[0])
+    commands = re.findall(r"^\| [^|]+ \| `([^`]+)` \|", read("README.md").partition("## Install\n")[2].partition("\n## ")[0], re.M)
+    assert len(commands) == 5
+    env = {"HOME": str(home), "PATH": path, "CARGO_HOME": str(home / "cargo"), "CARGO_NET_OFFLINE": "true", "PIP_NO_INDEX": "1", "npm_config_offline": "true", "DESTDIR": ""}
+    rustup = os.path.expanduser("~/.rustup")
+    if os.path.isdir(rustup):
+        env["RUSTUP_HOME"] = rustup
+    targets = os.path.join(ROOT, "out", "targets")
+    if os.path.isdir(targets):
+        os.makedirs(clone / "out", exist_ok=True)
+        os.symlink(targets, clone / "out" / "targets")
+    for command in commands:
+        command = command.replace("CLONE", str(clone)).replace("/usr/local", str(home / "local"))
+        run(room, "bash", "-e", "-o", "pipefail", "-c", command, **env)
+    run(room, "cargo", "run", "--quiet", **env)
+    demand_pdf(room)
+    (room / "hello.pdf").unlink()
+    write(room / "user.py", blocks("README.md", "python")[0])
+    run(room, "python", "user.py", **env)
+    demand_pdf(room)
+    assert (home / "local" / "lib" / "libsubsetter.so").exists() and (home / "local" / "include" / "subsetter.h").exists()
+    assert shutil.which("subset_font", path=str(home / "cargo" / "bin")) and sys.version_info
+    assert run(clone, "git", "status", "--porcelain") == ""
