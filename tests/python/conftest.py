@@ -15,7 +15,6 @@ hypothesis.settings.load_profile("same")
 
 def pytest_configure():
     if "SUBSETTER_LIBRARY" not in os.environ:
-        package = ROOT / "bindings/capi"
-        words = ["cargo", "build", "--quiet", "--release", "--offline", "--locked", "--manifest-path", package / "Cargo.toml"]
-        subprocess.run([*words, "--target-dir", package / "target"], check=True)
-        os.environ["SUBSETTER_LIBRARY"] = str(package / "target/release/libsubsetter.so")
+        folder = ROOT / "bindings/capi"
+        subprocess.run(["make", "-s", "-C", folder], check=True)
+        os.environ["SUBSETTER_LIBRARY"] = str(folder / "out/libsubsetter.so")
