@@ -33,6 +33,16 @@ test("a program that takes the package", () => {
     assert.equal(run(process.execPath, "program.mjs"), `true ${version}\n`);
 });
 
+test("the examples of its README", () => {
+    const blocks = [...read("bindings/js/README.md").toString().matchAll(/^```js\n(.*?)^```$/gms)].map(([, text]) => text);
+    const [first, ...others] = blocks, ends = ["font.length > 1000, made.cids", "latin.length > 1000, greek.cids", "heavy.length > 1000"];
+    assert.equal(blocks.length, ends.length);
+    const front = 'import { readFileSync } from "node:fs";\nconst bytes = readFileSync("/usr/share/fonts/truetype/dejavu/DejaVuSans.ttf");\n';
+    const end = (i) => `console.log(JSON.stringify([${ends[i]}]));`;
+    writeFileSync(join(folder, "readme.mjs"), `${front}${first}${end(0)}\n${others.map((text, i) => `{\n${text}${end(i + 1)}\n}`).join("\n")}`);
+    assert.equal(run(process.execPath, "readme.mjs"), "[true,[1,2]]\n[true,[1,2]]\n[true]\n");
+});
+
 test("the types", () => {
     copyFileSync(path("tests/js/uses.mts"), join(folder, "uses.mts"));
     try {

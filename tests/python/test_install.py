@@ -8,10 +8,12 @@ import shutil
 import sys
 import sysconfig
 import tarfile
+import textwrap
 import zipfile
+from pathlib import Path
 
 import pytest
-from common import MODULE, ROOT, made, run
+from common import MODULE, ROOT, run
 
 sys.path.insert(0, str(MODULE))
 import subsetter_build  # noqa: E402
@@ -23,13 +25,14 @@ TAGS = {
     "x86_64-unknown-linux-gnu": "linux_x86_64", "aarch64-unknown-linux-gnu": "linux_aarch64", "i686-unknown-linux-gnu": "linux_i686",
     "s390x-unknown-linux-gnu": "linux_s390x", "x86_64-pc-windows-gnu": "win_amd64", "x86_64-pc-windows-msvc": "win_amd64",
 }
-# Runs in an empty folder, without the clone.
-PROGRAM = """
-import subsetter, sys
-data = open(sys.argv[1], "rb").read()
-font = subsetter.pdf_font(data, subsetter.glyphs_of(data, "AH"))
-print(subsetter.__file__.startswith(sys.prefix), subsetter.embed(data, [1, 5]).cids, font.codes, font.sheet()[:8])
-"""
+FONT = Path("/usr/share/fonts/truetype/dejavu/DejaVuSans.ttf")
+
+
+def examples():
+    """The examples of the README and of the module's docstring."""
+    found = re.findall(r"^```python\n(.*?)^```$", (MODULE / "README.md").read_text(), re.M | re.S)
+    docstring = (MODULE / "subsetter/__init__.py").read_text().split('"""')[1]
+    return found + [textwrap.dedent(it) for it in re.findall(r"(?<=\n\n)(?:    .*\n)+", docstring)]
 
 
 @pytest.fixture(scope="module")
@@ -81,10 +84,13 @@ def test_install(room, tmp_path):
     before = files_of(room / "clone")
     ran = pip(room, "install", room / "clone/bindings/python")
     assert ran.returncode == 0, ran.stdout
-    font = tmp_path / "font.ttf"
-    font.write_bytes(made("made.ttf"))
-    ran = run(room / "venv/bin/python", "-c", PROGRAM, font, folder=tmp_path)
-    assert ran.stdout == "True [1, 2] [1, 2] b'%PDF-1.7'\n"
+    # The module runs in an empty folder, without the clone.
+    (tmp_path / "font.ttf").write_bytes(FONT.read_bytes())
+    assert len(examples()) == 4
+    for program, end in zip(examples(), 2 * ["embedded.font == font, embedded.cids", "font.codes[:4]"]):
+        ran = run(room / "venv/bin/python", "-c", f"{program}\nimport sys; print(subsetter.__file__.startswith(sys.prefix), {end})", folder=tmp_path)
+        assert ran.stdout == f"True {'True [1, 2]' if 'cids' in end else '[1, 2, 3, 3]'}\n"
+    assert (tmp_path / "hello.pdf").read_bytes().startswith(b"%PDF-1.7")
     assert files_of(room / "clone") == before
 
 

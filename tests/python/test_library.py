@@ -1,4 +1,4 @@
-"""Where the library is looked for and what is refused of one; the module in threads, interpreters and forked processes, and twice."""
+"""Where the library is looked for and what is refused of one; the module in threads and forked processes, and twice."""
 
 import os
 import re
@@ -168,38 +168,7 @@ def test_two_first_calls_at_once():
     """) == "True True\n"
 
 
-# ---- interpreters, forked processes, the module twice
-
-def test_further_interpreters():
-    """One after the other and in threads: each answers as the first does."""
-    assert child("""
-        import threading
-        from programs import *
-        try:
-            import _interpreters as interpreters  # (from Python 3.13 on)
-            create = lambda: interpreters.create("legacy")
-        except ImportError:
-            import _xxsubinterpreters as interpreters
-            create = lambda: interpreters.create(isolated=False)
-        reading, writing = os.pipe()
-        program = "from programs import *\\nos.write(%d, b'.' if all(answers(subsetter) == wanted for _ in range(20)) else b'!')" % writing
-        program += "\\nkept = subsetter.pdf_font(made('made.ttf'), [(1, 'A')])"
-
-        def run():
-            one = create()
-            print(interpreters.run_string(one, program) or "", end="")
-            interpreters.destroy(one)
-
-        run()
-        threads = [threading.Thread(target=run) for _ in range(3)]
-        for it in threads:
-            it.start()
-        same = all(answers(subsetter) == wanted for _ in range(20))
-        for it in threads:
-            it.join()
-        print(os.read(reading, 100).decode(), same, answers(subsetter) == wanted)
-    """) == ".... True True\n"
-
+# ---- forked processes, the module twice
 
 def test_forked_processes():
     """What was loaded and made before is there in both, also where another thread was about to load the library."""
@@ -246,42 +215,18 @@ def test_forked_processes():
 
 
 def test_the_module_twice():
-    """Loaded again beside what was made before; and copies of it, over the same library and over a copy of that."""
+    """Loaded again beside what was made before, and a copy of it, where another module declares Python's own calls as it likes."""
     assert child("""
-        import ctypes, importlib, importlib.util, shutil, tempfile
+        import ctypes, importlib, importlib.util
         from programs import *
-
-        def refused(module):
-            try:
-                module.subset(b"", [])
-            except Exception as error:
-                return type(error)
 
         font, error, call = subsetter.pdf_font(made("made.ttf"), [(1, "A"), (5, "fi")]), subsetter.UnknownKind, subsetter.subset
         before = parts(font)
-        importlib.reload(importlib.reload(subsetter))
-        print(answers(subsetter) == wanted, parts(font) == before, refused(subsetter) is subsetter.UnknownKind is not error, call(made("made.ttf"), [1, 5]) == wanted[0])
-
-        def other(name):
-            folder = os.path.join(top, name)
-            shutil.copytree(os.path.dirname(subsetter.__file__), folder, ignore=shutil.ignore_patterns("__pycache__"))
-            spec = importlib.util.spec_from_file_location(name, os.path.join(folder, "__init__.py"))
-            sys.modules[name] = module = importlib.util.module_from_spec(spec)
-            spec.loader.exec_module(module)
-            return module
-
-        import sys
-        with tempfile.TemporaryDirectory() as top:
-            path = os.path.realpath(subsetter._library()._name)
-            copied = shutil.copy(path, os.path.join(top, "copied.so"))
-            modules = [subsetter]
-            for name, library in (("one", path), ("two", copied)):
-                os.environ["SUBSETTER_LIBRARY"] = library
-                modules.append(other(name))
-            # What another module declares of Python's own calls is its own business.
-            ctypes.pythonapi.PyObject_GetBuffer.argtypes = ctypes.pythonapi.PyBuffer_Release.argtypes = [ctypes.c_int]
-            print(all(answers(it) == wanted for it in modules * 2), len({refused(it) for it in modules}), len({it._library()._name for it in modules}))
-            fonts = [it.pdf_font(made("made.ttf"), [(1, "A"), (5, "fi")]) for it in modules]
-            del fonts[1]
-            print(all(parts(it) == before for it in fonts))
-    """) == "True True True True\nTrue 3 2\nTrue\n"
+        importlib.reload(subsetter)
+        print(answers(subsetter) == wanted, parts(font) == before, subsetter.UnknownKind is not error, call(made("made.ttf"), [1, 5]) == wanted[0])
+        spec = importlib.util.spec_from_file_location("other", subsetter.__file__)
+        other = importlib.util.module_from_spec(spec)
+        spec.loader.exec_module(other)
+        ctypes.pythonapi.PyObject_GetBuffer.argtypes = ctypes.pythonapi.PyBuffer_Release.argtypes = [ctypes.c_int]
+        print(all(answers(it) == wanted for it in (subsetter, other) * 2), parts(other.pdf_font(made("made.ttf"), [(1, "A"), (5, "fi")])) == before)
+    """) == "True True True True\nTrue True\n"
