@@ -1,7 +1,7 @@
 /** What the calls for PDF take and refuse, and what an answer is besides what the rows have of it. */
 import assert from "node:assert/strict";
 import { test } from "node:test";
-import { latin1, library, made, subsetter, throws } from "./support.mjs";
+import { fonts, latin1, library, made, subsetter, throws } from "./support.mjs";
 
 const { CFFError, InvalidText, MalformedFont, NotPermitted, OverflowError, UnknownKind } = library;
 const TTF = made("made.ttf"), SHOWN = [{ glyph: 1, text: "A" }, { glyph: 5, text: "fi" }, { glyph: 1, text: "a" }];
@@ -33,6 +33,12 @@ test("choices", () => {
     assert.deepEqual(plain.program, subsetter.embed(TTF, [1, 5], { names: false, glyphNames: false }).font);
     throws(() => subsetter.pdfFont(TTF, SHOWN, { limits: { bytes: 100 } }), OverflowError, "a bound");
     throws(() => subsetter.pdfFont(made("made_version_1.otf"), SHOWN, { limits: { tokens: 1 } }), CFFError, "a limit");
+    for (const [limits, error] of [[{ depth: 2, tokens: 3 }], [{ depth: 1 }, CFFError], [{ tokens: 2 }, CFFError], [{ bytes: 10 }, OverflowError]]) {
+        const deep = subsetter.open(fonts.one_call_with_metrics);
+        for (const call of [() => deep.pdfFont([], { limits }), () => subsetter.pdfFont(fonts.one_call_with_metrics, [], { limits })]) error ? throws(call, error, "limits") : call();
+    }
+    const lengths = [{}, { hinting: true }, { hinting: false }].map((options) => subsetter.pdfFont(fonts.full, [], options).program.length);
+    assert.ok(lengths[0] === lengths[1] && lengths[1] > lengths[2]);
     const wrong = [{ tag: "ABCDE" }, { tag: "ABCDEf" }, { tag: "ABCDEF\n" }, { tag: "" }].map((it) => [RangeError, it]);
     for (const [name, value] of [["program", "opentype"], ["codes", "source"], ["bounds", "kept"], ["rights", "held"]]) {
         for (const text of ["", value.toUpperCase(), `${value} `, `${value}\n`]) wrong.push([RangeError, { [name]: text }]);

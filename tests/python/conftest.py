@@ -4,12 +4,14 @@ import os
 import subprocess
 import sys
 
-import hypothesis
-
 from common import MODULE, ROOT
 
+# (what hypothesis keeps for itself stays out of the repository)
+os.environ["HYPOTHESIS_STORAGE_DIRECTORY"] = str(ROOT / "out/hypothesis")
+import hypothesis  # noqa: E402
+
 sys.path.insert(0, str(MODULE))
-hypothesis.settings.register_profile("same", derandomize=True, database=None, deadline=None, max_examples=300)
+hypothesis.settings.register_profile("same", derandomize=True, database=None, deadline=None, max_examples=200)
 hypothesis.settings.load_profile("same")
 
 

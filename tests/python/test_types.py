@@ -6,6 +6,6 @@ from common import HERE, MODULE, run
 
 @pytest.mark.parametrize("words", [[], ["--python-version", "3.8"], ["--platform", "win32"], ["--platform", "darwin"]], ids=" ".join)
 def test_mypy(tmp_path, words):
-    for path in (HERE / "uses.py", MODULE / "subsetter/__init__.py"):
-        ran = run("/usr/bin/python3", "-m", "mypy", "--strict", "--cache-dir", tmp_path, *words, path, MYPYPATH=MODULE)
-        assert ran.returncode == 0, ran.stdout
+    paths = [HERE / "uses.py", MODULE / "subsetter/__init__.py"]
+    ran = run("/usr/bin/python3", "-m", "mypy", "--strict", "--cache-dir", tmp_path, *words, *paths, MYPYPATH=MODULE)
+    assert ran.returncode == 0, ran.stdout
