@@ -1,7 +1,7 @@
 """Subsets of variable fonts at random places, drawn by three PDF readers, beside FreeType's picture of the variable font itself.
 
 Of each font some places are taken, the same in each run, and up to 24 glyphs at each. `subset_font --at` makes their subset at that place, and
-the PDF file that embeds it has two pages: the glyphs on a grid, 256 pixels an em, and a line of them, 80 pixels an em, which `/W`
+the PDF file that embeds it has two pages: the glyphs on a grid, 128 pixels an em, and a line of them, 40 pixels an em, which `/W`
 alone moves on. FreeType, the library by which each of the readers reads fonts, draws the same of the variable font, to which it is
 told the place (FT_Set_Var_Design_Coordinates), without hints; the line by its own advances. Of MuPDF, Poppler and Ghostscript
 
@@ -12,7 +12,7 @@ told the place (FT_Set_Var_Design_Coordinates), without hints; the line by its o
 
 And by MuPDF's trace each glyph of the line must be as wide as FreeType says, to a thousandth of the em.
 
-The glyphs lean by a ten thousandth, a fortieth of a pixel, as Ghostscript lets FreeType hint what stands upright.
+The glyphs lean by a ten thousandth, an eightieth of a pixel, as Ghostscript lets FreeType hint what stands upright.
 """
 import ctypes
 import os
@@ -26,14 +26,14 @@ from report import Report
 
 GLYPHS_A_PLACE = 24
 PAGE, BASE = (480, 180), 80
-# Pixels an inch: eight a point, so that the grid's places are whole pixels.
-DPI = 576
+# Pixels an inch: four a point, so that the grid's places are whole pixels. (At eight Poppler 22.12 leaves out wide glyphs whose first flag is OVERLAP_SIMPLE.)
+DPI = 288
 SCALE = DPI // 72
 LEAN = 0.0001
 # FreeType's flag of an outline whose contours overlap, which python3-freetype doesn't name.
 OVERLAP = 0x40
 # How far a pixel may lie from those that count. A point of the instance is rounded to a whole unit, so it lies within half of one: that
-# is an eighth of a pixel where the em has 1,000. How much of a pixel at an edge is ink each reader finds in its own way (Ghostscript by
+# is a sixteenth of a pixel where the em has 1,000. How much of a pixel at an edge is ink each reader finds in its own way (Ghostscript by
 # a raster of 4 by 4), so an edge may seem to lie up to a pixel elsewhere. A stroke or a slit that is thinner than a pixel has no pixel of
 # full ink, or none, beside it: there the greys themselves are compared, to a fourth of 255 for that raster and an eighth for rounding.
 SLACK = 96
