@@ -1,10 +1,7 @@
 """Subsets of variable fonts at random places, drawn by three PDF readers, beside FreeType's picture of the variable font itself.
 
-    compare/pdf.py --variable [FOLDER ..] [--places N] [--only WORD] [--plant BUG] [--keep FOLDER]
-
-The fonts are Inter's six (Debian's fonts-inter-variable) and each variable font with `glyf` in a FOLDER. For each it takes N places
-(20) as instance.py does, the same in each run, and up to 24 glyphs at each. `subset_font --at` makes their subset at that place, and
-the PDF file that embeds it has two pages: the glyphs on a grid, 256 pixels an em, and a line of them, 80 pixels an em, which `/W`
+Of each font some places are taken, the same in each run, and up to 24 glyphs at each. `subset_font --at` makes their subset at that place, and
+the PDF file that embeds it has two pages: the glyphs on a grid, 128 pixels an em, and a line of them, 40 pixels an em, which `/W`
 alone moves on. FreeType, the library by which each of the readers reads fonts, draws the same of the variable font, to which it is
 told the place (FT_Set_Var_Design_Coordinates), without hints; the line by its own advances. Of MuPDF, Poppler and Ghostscript
 
@@ -15,10 +12,7 @@ told the place (FT_Set_Var_Design_Coordinates), without hints; the line by its o
 
 And by MuPDF's trace each glyph of the line must be as wide as FreeType says, to a thousandth of the em.
 
-The glyphs lean by a ten thousandth, a fortieth of a pixel, as Ghostscript lets FreeType hint what stands upright. --plant makes a mistake
-before the program is called: `place` moves the first axis by a fifth of its range, `axes` gives each axis the value of the next one,
-`widths` takes those of the default. The status is 1 where a place differs or is refused, or nothing was
-compared.
+The glyphs lean by a ten thousandth, an eightieth of a pixel, as Ghostscript lets FreeType hint what stands upright.
 """
 import ctypes
 import os
@@ -26,21 +20,20 @@ import random
 import tempfile
 
 import font_at
-import fonts
-import pdf_drawn
+import drawn_by
 from pdf_file import Face, Pdf, embedded, pages
+from report import Report
 
-PACKAGES = [*font_at.PACKAGES, "mupdf-tools", "poppler-utils", "ghostscript", "python3-pil"]
 GLYPHS_A_PLACE = 24
 PAGE, BASE = (480, 180), 80
-# Pixels an inch: eight a point, so that the grid's places are whole pixels.
-DPI = 576
+# Pixels an inch: four a point, so that the grid's places are whole pixels. (At eight Poppler 22.12 leaves out wide glyphs whose first flag is OVERLAP_SIMPLE.)
+DPI = 288
 SCALE = DPI // 72
 LEAN = 0.0001
 # FreeType's flag of an outline whose contours overlap, which python3-freetype doesn't name.
 OVERLAP = 0x40
 # How far a pixel may lie from those that count. A point of the instance is rounded to a whole unit, so it lies within half of one: that
-# is an eighth of a pixel where the em has 1,000. How much of a pixel at an edge is ink each reader finds in its own way (Ghostscript by
+# is a sixteenth of a pixel where the em has 1,000. How much of a pixel at an edge is ink each reader finds in its own way (Ghostscript by
 # a raster of 4 by 4), so an edge may seem to lie up to a pixel elsewhere. A stroke or a slit that is thinner than a pixel has no pixel of
 # full ink, or none, beside it: there the greys themselves are compared, to a fourth of 255 for that raster and an eighth for rounding.
 SLACK = 96
@@ -60,20 +53,8 @@ def words_at(place):
 
 
 def subset_at(font, place, glyphs, out):
-    """As pdf_drawn.subset, of a variable font at a place."""
-    return pdf_drawn.subset(font, 0, glyphs, out, True, ["--at", words_at(place)])
-
-
-def mistaken(plant, place, axes):
-    """The place that the program is told where a bug is planted."""
-    if plant == "axes":
-        values = [value for _, value in place]
-        return [(tag, value) for (tag, _), value in zip(place, values[1:] + values[:1])]
-    if plant == "place":
-        (tag, value), (_, low, _, high) = place[0], axes[0]
-        step = round((high - low) * 65536 / 5)
-        return [(tag, value - step if value - step >= low * 65536 else value + step), *place[1:]]
-    return place
+    """As drawn_by.subset, of a variable font at a place."""
+    return drawn_by.subset(font, 0, glyphs, out, True, ["--at", words_at(place)])
 
 
 # ---- FreeType
@@ -120,10 +101,10 @@ class Shown:
     def pictures(self, glyphs, line):
         """The two pages."""
         grid, row = blank(), blank()
-        for glyph, (x, y) in zip(glyphs, pdf_drawn.cells(len(glyphs), PAGE)):
-            self.put(grid, glyph, pdf_drawn.GRID, x, y)
+        for glyph, (x, y) in zip(glyphs, drawn_by.cells(len(glyphs), PAGE)):
+            self.put(grid, glyph, drawn_by.GRID, x, y)
         for glyph, x in zip(*line):
-            self.put(row, glyph, pdf_drawn.LINE, 20 + x, BASE)
+            self.put(row, glyph, drawn_by.LINE, 20 + x, BASE)
         return grid, row
 
 
@@ -180,15 +161,15 @@ def write(folder, contents, data, widths):
 def usual_lines(folder):
     """What each reader says of two empty pages."""
     write(folder, ["", ""], None, None)
-    return {reader: pdf_drawn.drawn(reader, folder, DPI)[1] for reader in pdf_drawn.READERS}
+    return {reader: drawn_by.drawn(reader, folder, DPI)[1] for reader in drawn_by.READERS}
 
 
 def is_wide(folder, line, shown):
     """Whether MuPDF moves on by FreeType's advances."""
-    places = pdf_drawn.places_by_trace(folder)
+    places = drawn_by.places_by_trace(folder)
     steps = [there - here for here, there in zip(places, places[1:])]
-    slack = pdf_drawn.LINE * 0.001 + 0.001
-    wanted = [shown.advance(glyph) * pdf_drawn.LINE / shown.units for glyph in line[0][:-1]]
+    slack = drawn_by.LINE * 0.001 + 0.001
+    wanted = [shown.advance(glyph) * drawn_by.LINE / shown.units for glyph in line[0][:-1]]
     return len(places) == len(line[0]) and all(abs(a - b) <= slack for a, b in zip(steps, wanted))
 
 
@@ -200,8 +181,8 @@ def differences(folder, grid, row, usual):
     limits = around(grid, ImageChops.darker), around(grid, ImageChops.lighter)
     if grid.getextrema()[0] > 128:
         wrong.append("nothing is seen")
-    for reader in pdf_drawn.READERS:
-        found, said = pdf_drawn.drawn(reader, folder, DPI)
+    for reader in drawn_by.READERS:
+        found, said = drawn_by.drawn(reader, folder, DPI)
         wrong += [f"{reader} warns: {line}" for line in sorted(said - usual[reader])[:1]]
         if found is None:
             wrong.append(f"{reader} draws nothing")
@@ -214,16 +195,12 @@ def differences(folder, grid, row, usual):
     return wrong, off, out
 
 
-def compare_place(path, source, place, glyphs, usual, folder, plant):
-    os.makedirs(folder, exist_ok=True)
+def compare_place(path, source, place, glyphs, usual, folder):
     out = os.path.join(folder, "subset.font")
-    numbers, widths = subset_at(path, mistaken(plant, place, source.axes), glyphs, out)
-    if plant == "widths":
-        default = [(tag, round(value * 65536)) for tag, _, value, _ in source.axes]
-        widths = subset_at(path, default, glyphs, out + ".default")[1]
+    numbers, widths = subset_at(path, place, glyphs, out)
     shown = Shown(path, source.axes, place)
-    line = pdf_drawn.line_of(shown, glyphs)
-    contents = [pdf_drawn.grid([numbers[g] for g in glyphs], PAGE, LEAN), pdf_drawn.line_by_widths([numbers[g] for g in line[0]], BASE, LEAN)]
+    line = drawn_by.line_of(shown, glyphs)
+    contents = [drawn_by.grid([numbers[g] for g in glyphs], PAGE, LEAN), drawn_by.line_by_widths([numbers[g] for g in line[0]], BASE, LEAN)]
     with open(out, "rb") as file:
         write(folder, contents, file.read(), widths)
     wrong, off, out = differences(folder, *shown.pictures(glyphs, line), usual)
@@ -232,55 +209,23 @@ def compare_place(path, source, place, glyphs, usual, folder, plant):
 
 # ---- all
 
-class Report:
-    """How many places were compared, and how far off they were at most."""
-
-    def __init__(self, alike=0, different=0, refused=0, glyphs=0, off=0, out=0):
-        self.alike, self.different, self.refused, self.glyphs, self.off, self.out = alike, different, refused, glyphs, off, out
-
-    def add(self, other):
-        for name in "alike", "different", "refused", "glyphs":
-            setattr(self, name, getattr(self, name) + getattr(other, name))
-        self.off, self.out = max(self.off, other.off), max(self.out, other.out)
-
-    def text(self):
-        return (f"{self.alike + self.different + self.refused} places, {self.glyphs} glyphs: {self.alike} drawn by three readers as by FreeType, "
-                f"{self.different} not, {self.refused} refused; pixels at most {self.off} of 255 off, the line's ink {self.out} pixels")
-
-
-def compare_font(path, count, usual, keep, plant):
-    report, source, name = Report(), font_at.Source(path), os.path.basename(path)
-    rng = random.Random(name)
+def compare_font(words, path):
+    """Some places of a font."""
+    report, source = Report(path), font_at.Source(path)
+    rng = random.Random(report.label)
     with open(path, "rb") as file:
         there = Face(file.read()).glyphs_drawn()
-    for number in range(count):
-        place = font_at.random_place(source.axes, rng)
-        glyphs = rng.sample(there, min(len(there), GLYPHS_A_PLACE))
-        with tempfile.TemporaryDirectory(prefix="places-") as room:
-            folder = os.path.join(keep, f"{name}-{number}") if keep else room
-            try:
-                wrong, off, out = compare_place(path, source, place, glyphs, usual, folder, plant)
-                report.add(Report(not wrong, bool(wrong), 0, len(glyphs), off, out))
-            except pdf_drawn.Refused as it:
-                wrong = [f"refused: {it}"]
-                report.add(Report(refused=1))
-        if wrong:
-            print(f"  {number}, at {words_at(place)}: {'; '.join(wrong)}", flush=True)
-    print(f"{name}: {report.text()}", flush=True)
-    return report
-
-
-def all_fonts(folders, count, only, keep, plant):
-    """A line a font, and the sum; whether all places are alike."""
-    fonts.install(PACKAGES)
-    total, paths = Report(), font_at.font_paths(folders, only)
-    print(f"Variable fonts in PDF files, commit {font_at.commit()}, {count} places of each, {DPI} pixels an inch"
-          + f", with a planted bug ({plant})" * bool(plant), flush=True)
     with tempfile.TemporaryDirectory(prefix="empty-") as room:
         usual = usual_lines(room)
-    for path in paths:
-        total.add(compare_font(path, count, usual, keep, plant))
-    print(f"{len(paths)} fonts, {total.text()}")
-    if not total.alike + total.different:
-        print("nothing was compared")
-    return total.different + total.refused == 0 and total.alike > 0
+    for number in range(words.places):
+        place = font_at.random_place(source.axes, rng)
+        glyphs = rng.sample(there, min(len(there), GLYPHS_A_PLACE))
+        report.counts["places"] += 1
+        with tempfile.TemporaryDirectory(prefix="places-") as room:
+            try:
+                wrong, _, _ = compare_place(path, source, place, glyphs, usual, room)
+            except drawn_by.Refused as it:
+                wrong = [f"refused: {it}"]
+        for it in wrong:
+            report.say(f"at {words_at(place)}", it)
+    return report

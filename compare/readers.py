@@ -1,17 +1,12 @@
 #!/usr/bin/python3
 """Shows by three PDF readers that a subset is drawn as its source.
 
-    compare/pdf.py FONT INDEX GID[,GID..] [--bare] [--keep FOLDER]
-    compare/pdf.py --faces N [--bare] [--keep FOLDER]
-    compare/pdf.py --variable [FOLDER ..] [--places N] [--only WORD] [--plant BUG] [--keep FOLDER]
-    compare/pdf.py --cff2 [FOLDER ..] [--places N] [--only WORD] [--plant BUG] [--jobs J] [--keep FOLDER]
-    compare/pdf.py --specimen PNG
-    compare/pdf.py --weights PNG
+    compare/readers.py [FOLDER ..] [--short] [--faces N] [--bare N] [--fonts N] [--places N] [--only WORD] [--jobs J]
 
-For a font and glyphs it writes two PDF files by hand. `source.pdf` embeds the whole font and shows the glyphs by their old
-numbers; `subset.pdf` embeds what `subset_font --widths` made of it and shows them by the numbers that this printed.
-TrueType outlines stand in them as CIDFontType2 with FontFile2; CFF ones twice, as CIDFontType0C (the bare table) and as
-OpenType (the whole file).
+For N faces of the fonts that are installed (one after another TrueType, SID-keyed, CID-keyed) and some glyphs of each it writes two PDF files by
+hand. `source.pdf` embeds the whole font and shows the glyphs by their old numbers; `subset.pdf` embeds what `subset_font --widths` made of
+it and shows them by the numbers that this printed. TrueType outlines stand in them as CIDFontType2 with FontFile2; CFF ones twice, as
+CIDFontType0C (the bare table) and as OpenType (the whole file). --bare N faces are taken without hinting, names and glyph names.
 
 The first page has the glyphs on a grid. The second has a line of them: in the source each glyph stands where the
 advances of the source's `hmtx` put it; in the subset it is one string, whose glyphs `/W` alone moves on.
@@ -20,25 +15,14 @@ MuPDF, Poppler and Ghostscript draw both. Of each reader
     the pictures of the grid must be the same, pixel for pixel, and not blank. (Ghostscript lets FreeType hint outlines
     that have no hints of their own, and that goes by letters which FreeType finds in the font by `cmap` or by the glyphs'
     names. A subset may lack these letters. So where pictures differ, both fonts are drawn again without `cmap` and
-    `post`: these pictures must be the same, and the line says so.)
+    `post`, and a bare TrueType source without instructions too: these pictures must be the same.)
     the line must end at the same place: by MuPDF's trace of the glyphs as near as widths in whole thousandths are, by
     each picture to a pixel; and
     no warning may come for the subset that doesn't come for the source.
 
---faces N takes N faces of the fonts that are installed (one after another TrueType, SID-keyed, CID-keyed), some glyphs
-of each, and prints a line a face and the sum. A font that is refused is named, and the next is taken.
---bare takes subsets without hinting, names and glyph names. MuPDF and Poppler hint nothing, Ghostscript 10 always does: the
-TrueType source without `cmap` and `post`, which it draws where pictures differ, is then without instructions too.
---variable takes places of variable fonts, and compares with FreeType's pictures of these: lib/pdf_variable.py says how.
---cff2 takes places of CFF2 fonts, and compares with fonts of the same outlines, made by another way: lib/pdf_cff2.py says how.
---specimen draws four scripts from subsets of three fonts into a picture, --weights one line at five weights of a variable font
-by each of the three readers.
---keep FOLDER leaves the files there. Status 0 where nothing differs, else 1.
-
-Needs Debian's mupdf-tools, poppler-utils and ghostscript, for --specimen and --weights also libharfbuzz-bin, for --variable, --cff2 and
---weights python3-pil, and the program (`rt run` in crates/subset_font builds it).
+Of variable fonts (Debian's Inter, those with CFF2 of lib/cff2_fonts.py, and those of each FOLDER) N are taken, at N places: lib/drawn_variable.py and lib/drawn_cff2.py say
+how. The program is as Cargo builds it, or SUBSET_FONT. The status is 1 where something differs, or nothing was compared.
 """
-import argparse
 import io
 import os
 import random
@@ -48,10 +32,17 @@ import tempfile
 
 sys.path.insert(0, os.path.join(os.path.dirname(os.path.realpath(__file__)), "lib"))
 
-import build  # noqa: E402
+import cff2_fonts  # noqa: E402
+import drawn_by  # noqa: E402
+import drawn_cff2  # noqa: E402
+import drawn_variable  # noqa: E402
+import font_at  # noqa: E402
+import fonts  # noqa: E402
+import report as reports  # noqa: E402
 from cff import cids  # noqa: E402
-from pdf_drawn import LINE, PAGE, PROGRAM, READERS, UNREADABLE, Refused, drawn, grid, line_by_widths, line_of, places_by_trace, subset  # noqa: E402
+from drawn_by import LINE, PAGE, READERS, UNREADABLE, Refused, drawn, grid, line_by_widths, line_of, places_by_trace, subset  # noqa: E402
 from pdf_file import Face, Pdf, embedded, pages  # noqa: E402
+from report import Report  # noqa: E402
 
 GLYPHS_A_FACE = 40
 # The tables by which a reader finds letters in a font.
@@ -197,84 +188,37 @@ def some_glyphs(path, index):
     return take
 
 
-def all_faces(count, keep, bare):
-    """A line a face, and the sum; whether all are alike."""
-    alike = refused = different = glyphs = nameless = 0
-    for kind, path, index in chosen(count):
-        name = os.path.basename(path) + (f" #{index}" if path.endswith(".ttc") else "")
-        with tempfile.TemporaryDirectory() as room:
-            folder = os.path.join(keep, f"{name.replace(' ', '')}") if keep else room
-            os.makedirs(folder, exist_ok=True)
-            try:
-                asked = some_glyphs(path, index)
-                _, wrong, noted = compare(path, index, asked, folder, bare)
-            except Refused as it:
-                refused += 1
-                print(f"{kind:9} {name}: refused: {it}", flush=True)
-                continue
-            except UNREADABLE as it:
-                refused += 1
-                print(f"{kind:9} {name}: not read by this script: {it!r}", flush=True)
-                continue
-        glyphs += len(asked)
-        alike, different = (alike, different + 1) if wrong else (alike + 1, different)
-        nameless += bool(noted and not wrong)
-        said = "; ".join(wrong) or "drawn alike by three readers" + "".join(f" ({it})" for it in noted)
-        print(f"{kind:9} {name}: {len(asked)} glyphs: {said}", flush=True)
-    print(f"{alike + different + refused} faces, {glyphs} glyphs: {alike} drawn alike by three readers ({nameless} of them by "
-          f"one reader without the glyphs' names alone), {different} not, {refused} refused")
-    if not alike + different:
-        print("nothing was compared")
-    return different == 0 and alike > 0
+def compare_face(bare, path, index):
+    """A face by each way to embed it."""
+    report = Report(fonts.label(path, index))
+    with tempfile.TemporaryDirectory(prefix="readers-") as room:
+        try:
+            asked = some_glyphs(path, index)
+            _, wrong, noted = compare(path, index, asked, room, bare)
+        except Refused as it:
+            wrong, noted = [f"refused: {it}"], []
+        except UNREADABLE as it:
+            wrong, noted = [f"not read by this script: {it!r}"], []
+    report.counts.update(faces=1, bare=int(bare), nameless=int(bool(noted)))
+    for it in wrong:
+        report.say("bare" if bare else "whole", it)
+    return report
 
 
 def main():
-    words = argparse.ArgumentParser(description=__doc__, formatter_class=argparse.RawDescriptionHelpFormatter)
-    words.add_argument("font", nargs="?")
-    words.add_argument("index", nargs="?", type=int)
-    words.add_argument("glyphs", nargs="?")
-    words.add_argument("--faces", type=int, metavar="N", help="so many faces, spread over all")
-    words.add_argument("--variable", nargs="*", metavar="FOLDER")
-    words.add_argument("--cff2", nargs="*", metavar="FOLDER")
-    words.add_argument("--places", type=int, default=20, metavar="N", help="random coordinates for each font")
-    words.add_argument("--only", default="", metavar="WORD", help="take those whose names have this word")
-    words.add_argument("--plant", choices=["place", "axes", "widths", "unit"], help="a planted bug, which has to be seen; `unit` with --cff2")
-    words.add_argument("--jobs", type=int, default=1, metavar="J", help="so many fonts at a time, with --cff2")
-    words.add_argument("--specimen")
-    words.add_argument("--weights")
-    words.add_argument("--keep", metavar="FOLDER", help="leave the files there")
-    words.add_argument("--bare", action="store_true")
-    given = words.parse_args()
-    if given.plant == "unit" and given.cff2 is None:
-        words.error("--plant unit is for --cff2")
-    build.program(PROGRAM)
-    if given.specimen or given.weights:
-        import specimen
-        return specimen.draw(given.specimen) if given.specimen else specimen.draw_weights(given.weights)
-    if given.variable is not None:
-        import pdf_variable
-        return 0 if pdf_variable.all_fonts(given.variable, given.places, given.only, given.keep, given.plant) else 1
-    if given.cff2 is not None:
-        import pdf_cff2
-        return 0 if pdf_cff2.all_fonts(given.cff2, given.places, given.only, given.keep, given.plant, given.jobs) else 1
-    if given.faces:
-        return 0 if all_faces(given.faces, given.keep, given.bare) else 1
-    if given.glyphs is None:
-        words.error("FONT INDEX GID[,GID..], --faces N, --variable, --cff2, --specimen PNG or --weights PNG is wanted")
-    with tempfile.TemporaryDirectory() as room:
-        folder = given.keep or room
-        os.makedirs(folder, exist_ok=True)
-        try:
-            ways, wrong, noted = compare(given.font, given.index, [int(g) for g in given.glyphs.split(",")], folder, given.bare)
-        except Refused as it:
-            print(f"refused: {it}")
-            return 1
-        except UNREADABLE as it:
-            print(f"not read by this script: {it!r}")
-            return 1
-    print("\n".join(wrong) or f"drawn alike by three readers ({', '.join(ways + noted)})")
-    return 1 if wrong else 0
+    words = reports.words(__doc__, faces=(200, 15), bare=(60, 6), fonts=(1000, 3), places=(20, 1))
+    fonts.install([*drawn_by.PACKAGES, *font_at.PACKAGES])
+    drawn_by.program()
+    faces = [(bare, path, index) for bare, count in ((False, words.faces), (True, words.bare)) for _, path, index in chosen(count) if words.only in path]
+    found = reports.beside(words.jobs, compare_face, *zip(*faces)) if faces else []
+    variable = font_at.font_paths(words.folders, words.only)[:words.fonts]
+    found += reports.beside(words.jobs, drawn_variable.compare_font, [words] * len(variable), variable)
+    cff2 = cff2_fonts.faces(words.folders, words.only)[:words.fonts]
+    found += reports.beside(words.jobs, drawn_cff2.compare_face, *zip(*[(words, *it) for it in cff2])) if cff2 else []
+    counts = reports.total(found)
+    reports.end(found, counts["faces"] + counts["places"], f"{counts['faces']} faces, {counts['bare']} of them bare ({counts['nameless']} drawn alike by one reader without the glyphs' names alone), "
+                f"and {counts['places']} places of {len(variable)} fonts with `glyf` and {len(cff2)} with CFF2, by three readers")
 
 
 if __name__ == "__main__":
-    sys.exit(main())
+    main()

@@ -1,4 +1,5 @@
-"""Subsets in PDF files, drawn by three PDF readers: what pdf.py, pdf_variable.py and specimen.py share."""
+"""Subsets in PDF files, drawn by three PDF readers."""
+import functools
 import os
 import re
 import struct
@@ -6,11 +7,12 @@ import subprocess
 
 import build
 
-PROGRAM = os.environ.get("SUBSET_FONT", build.FONT)
+PACKAGES = ["mupdf-tools", "poppler-utils", "ghostscript", "python3-pil"]
+CANARY = build.Canary()
 PAGE = (480, 560)
 # Points: the grid's distance and letters, and the letters of the line.
 CELL, GRID, LINE = 56, 32, 10
-# With --bare: the words of the program.
+# Without hinting and names: the words of the program.
 BARE = ["--no-hinting", "--no-names", "--no-glyph-names"]
 
 
@@ -22,14 +24,24 @@ class Refused(Exception):
 UNREADABLE = (OSError, KeyError, IndexError, struct.error)
 
 
+@functools.lru_cache(maxsize=None)
+def program():
+    return build.program()
+
+
 def subset(font, index, glyphs, out, bare=False, more=()):
     """The new number of each glyph, and the widths of the new glyphs as the text of `/W`."""
-    words = [PROGRAM, *more, *(BARE if bare else []), "--widths", font, out, str(index), ",".join(map(str, glyphs))]
+    words = [program(), *more, *(BARE if bare else []), "--widths", font, out, str(index), ",".join(map(str, glyphs))]
     answer = subprocess.run(words, capture_output=True, text=True)
     if answer.returncode:
         raise Refused(answer.stderr.strip())
     *lines, widths = answer.stdout.splitlines()
-    return {int(old): int(new) for old, new in (line.split(" -> ") for line in lines)}, widths
+    numbers = {int(old): int(new) for old, new in (line.split(" -> ") for line in lines)}
+    if CANARY.is_due:
+        # (two glyphs of the first answer under each other's number)
+        one, other = glyphs[:2]
+        CANARY.is_due, numbers[one], numbers[other] = False, numbers[other], numbers[one]
+    return numbers, widths
 
 
 def cells(count, page=PAGE):
