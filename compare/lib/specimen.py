@@ -5,9 +5,9 @@ import os
 import subprocess
 import tempfile
 
-from pdf_drawn import READERS, drawn, subset
+from drawn_by import READERS, drawn, subset
 from pdf_file import Face, Pdf, embedded, pages
-from pdf_variable import subset_at
+from drawn_variable import subset_at
 
 NOTO = "/usr/share/fonts/truetype/noto"
 CJK = "/usr/share/fonts/opentype/noto"

@@ -1,0 +1,583 @@
+"""Files, streams and memory of the program: rights, links, attributes, full disks, closed streams, and calls of the system that fail.
+
+    SUBSET_FONT=FILE /usr/bin/python3 -m pytest -q tests/test_files.py
+
+For Linux. System calls fail by strace, requests for memory by compare/drivers/refuse.c.
+"""
+import contextlib
+import errno
+import os
+import re
+import resource
+import shutil
+import stat
+import struct
+import subprocess
+import time
+from dataclasses import dataclass
+
+import pytest
+from support import COMMAND, IS_CARGO, OLD, SYSTEM, cannot, few_bytes, fonts, glyph_lines, is_whole, read, reason, remove, run
+
+SIMPLE, WANTED, LINES = fonts()["simple"], fonts()["simple_2"], glyph_lines((2, 1))
+SHORT = ["in", "out", "0", "2"]
+# The bytes of a name of which the build by Cargo makes no second name (Rust's library requests memory for it).
+LONG_NAME = 384
+NOBODY = 65534
+
+
+def mode_of(path):
+    return stat.S_IMODE(os.stat(path).st_mode)
+
+
+def names_in(room):
+    return sorted(it.name for it in room.iterdir())
+
+
+def put(path, data=OLD, mode=0o644):
+    path.write_bytes(data)
+    path.chmod(mode)
+    return path
+
+
+# ---- rights, links, devices
+
+def test_rights_stay(room):
+    out = put(room / "out", mode=0o640)
+    assert run(SHORT, room) == (0, LINES, b"") and read(out) == WANTED and mode_of(out) == 0o640
+    assert run(["in", "new", "0", "2"], room, umask=0o027)[0] == 0 and mode_of(room / "new") == 0o640
+    assert names_in(room) == ["in", "new", "out"]
+    (room / "folder").mkdir()
+    assert run(["in", "folder/out", "0", "2"], room)[0] == 0 and read(room / "folder" / "out") == WANTED and names_in(room / "folder") == ["out"]
+
+
+@pytest.mark.parametrize("out", ["out", "new", "in"])
+def test_file_too_large(room, out):
+    """A file may have 100 bytes: OUT is as it was, and nothing is beside it."""
+    put(room / "out")
+    before = {it: read(room / it) for it in names_in(room)}
+    assert run(["in", out, "0", "2"], room, preexec_fn=few_bytes) == (3, b"", cannot("write", out, "EFBIG"))
+    assert {it: read(room / it) for it in names_in(room)} == before
+
+
+def test_pdf_too_large(room):
+    """A PDF is written before OUT: where it can't be, both are as they were."""
+    put(room / "small", fonts()["small"])
+    put(room / "page")
+    put(room / "out")
+    words = ["small", "--text", "AB", "--pdf", "page", "-o", "out"]
+    assert run(words, room, preexec_fn=few_bytes) == (3, b"", cannot("write", "page", "EFBIG"))
+    assert read(room / "page") == read(room / "out") == OLD and names_in(room) == ["in", "out", "page", "small"]
+
+
+def test_taken_names(room):
+    """All 100 names beside OUT are taken: it is written in place. While one is free, a write that fails leaves it as it was."""
+    for number in range(99):
+        put(room / f"out.part{number}")
+    for taken, given, wanted in ((99, {"preexec_fn": few_bytes}, OLD), (99, {}, WANTED), (100, {}, WANTED)):
+        put(room / "out")
+        if taken == 100:
+            put(room / "out.part99")
+        before = names_in(room)
+        assert run(SHORT, room, **given)[0] == (0 if wanted == WANTED else 3) and read(room / "out") == wanted and names_in(room) == before
+    assert {read(room / f"out.part{number}") for number in range(100)} == {OLD}
+
+
+def test_long_name(room):
+    """A name beside OUT would be too long: it is written in place."""
+    for _ in range(2):
+        assert run(["in", "n" * 255, "0", "2"], room)[0] == 0 and read(room / ("n" * 255)) == WANTED
+
+
+def test_links(room):
+    """Links and second names stay, and what they lead to is written; a pipe and a device are written."""
+    put(room / "real", OLD * 1000)
+    (room / "link").symlink_to("real")
+    (room / "hanging").symlink_to("nowhere")
+    for name, real in (("link", "real"), ("hanging", "nowhere")):
+        assert run(["in", name, "0", "2"], room)[0] == 0 and (room / name).is_symlink() and read(room / real) == WANTED
+    put(room / "one", OLD * 1000)
+    os.link(room / "one", room / "other")
+    assert run(["in", "one", "0", "2"], room)[0] == 0 and read(room / "other") == WANTED and os.path.samefile(room / "one", room / "other")
+    os.mkfifo(room / "pipe")
+    with subprocess.Popen(["timeout", "60", "cat", "pipe"], cwd=room, stdout=subprocess.PIPE) as reader:
+        assert run(["in", "pipe", "0", "2"], room) == (0, LINES, b"") and reader.communicate()[0] == WANTED
+    assert run(["in", "/dev/null", "0", "2"], room) == (0, LINES, b"")
+    assert names_in(room) == ["hanging", "in", "link", "nowhere", "one", "other", "pipe", "real"]
+
+
+@pytest.mark.parametrize("length", [40, *range(LONG_NAME - 8, LONG_NAME + 2), 1000])
+def test_same_file(room, length):
+    """OUT keeps its number and its rights, by a second name while it is written; the build by Cargo makes none of many bytes."""
+    folder = room / "folder"
+    folder.mkdir()
+    # (further strokes change nothing)
+    name = "folder" + "/" * (length - len("folderout")) + "out"
+    out = put(folder / "out", mode=0o640)
+    before = os.stat(out).st_ino
+    assert run(["in", name, "0", "2"], room) == (0, LINES, b"") and read(out) == WANTED and mode_of(out) == 0o640
+    assert (os.stat(out).st_ino == before) == (not IS_CARGO or length + len(".part1") < LONG_NAME) and names_in(folder) == ["out"]
+    # What has a second name already is written where it is.
+    os.link(put(out, OLD * 1000), room / "other")
+    assert run(["in", name, "0", "2"], room)[0] == 0 and os.path.samefile(out, room / "other") and read(out) == WANTED
+
+
+# An access list of Linux (version 2): the owner may read and write, so may the user 4243, the group has no rights, and 4243's are masked by rw.
+ACCESS_LIST = struct.pack("<I", 2) + b"".join(struct.pack("<HHI", *it) for it in ((1, 6, 2**32 - 1), (2, 6, 4243), (4, 0, 2**32 - 1), (16, 6, 2**32 - 1), (32, 0, 2**32 - 1)))
+
+
+def test_attributes(room):
+    """OUT keeps its access list, its other attributes and its number; where the file can't be written again, OUT is whole all the same."""
+    out = put(room / "out", OLD * 1000, 0o640)
+    os.setxattr(out, "user.note", b"kept")
+    os.setxattr(out, "system.posix_acl_access", ACCESS_LIST)
+
+    def known():
+        return {it: os.getxattr(out, it) for it in os.listxattr(out)}, os.stat(out).st_ino, mode_of(out)
+    before = known()
+    assert run(SHORT, room) == (0, LINES, b"") and read(out) == WANTED and known() == before
+    assert run(SHORT, room, preexec_fn=few_bytes)[0] == 3 and read(out) == WANTED and known() == before
+    assert names_in(room) == ["in", "out"]
+
+
+class Other:
+    """A room where the program runs as a user who isn't root."""
+
+    def __init__(self, room):
+        assert os.geteuid() == 0, "needs root, to run the program as another user"
+        self.room = room
+        shutil.copy(COMMAND[-1], room / "program")
+        for it in (room, *room.parents):
+            if it.stat().st_uid == os.geteuid():
+                it.chmod(it.stat().st_mode | 0o755)
+        room.chmod(0o777)
+
+    def run(self, *words):
+        got = subprocess.run(["./program", *words], cwd=self.room, capture_output=True, check=False, user=NOBODY, group=NOBODY, extra_groups=[])
+        return got.returncode, got.stderr
+
+
+@pytest.fixture
+def other(room):
+    return Other(room)
+
+
+def test_forbidden(other, room):
+    """Files that may not be read or written, and a folder in which no file can be made."""
+    shut = put(room / "shut", mode=0o444)
+    assert other.run("in", "shut", "0", "2") == (3, cannot("write", "shut", "EACCES")) and read(shut) == OLD
+    put(room / "secret", SIMPLE, 0)
+    assert other.run("secret", "out", "0", "2") == (3, cannot("read", "secret", "EACCES"))
+    (room / "folder").mkdir()
+    out = put(room / "folder" / "out", mode=0o666)
+    (room / "folder").chmod(0o555)
+    assert other.run("in", "folder/out", "0", "2")[0] == 0 and read(out) == WANTED and names_in(room) == ["folder", "in", "program", "secret", "shut"]
+
+
+@pytest.mark.parametrize(("owner", "group"), [(0, 0), (0, NOBODY), (NOBODY, 4242)])
+@pytest.mark.parametrize("front", ["", "." + "/" * LONG_NAME])
+def test_owner_stays(other, room, owner, group, front):
+    out = put(room / "out", mode=0o666)
+    os.chown(out, owner, group)
+    assert other.run("in", front + "out", "0", "2")[0] == 0 and read(out) == WANTED
+    assert (out.stat().st_uid, out.stat().st_gid) == (owner, group) and names_in(room) == ["in", "out", "program"]
+
+
+# ---- standard streams
+
+def to(stream, words, room, **given):
+    """How a run ends whose standard output is a stream, and its messages."""
+    got = subprocess.run([*COMMAND, *words], cwd=room, check=False, timeout=60, **{"stdin": subprocess.DEVNULL, "stdout": stream, "stderr": subprocess.PIPE, **given})
+    return got.returncode, got.stderr
+
+
+@pytest.mark.parametrize(("words", "named"), [(SHORT, "standard output"), (["--help"], "standard output"), (["--version"], "standard output"), (["in", "-", "0", "2"], "-")], ids=str)
+def test_output_fails(room, words, named):
+    """A full disk, a pipe that nobody reads, and one that would have to wait, which isn't written again and again. OUT is whole."""
+    with open("/dev/full", "wb") as full:
+        assert to(full, words, room) == (3, cannot("write", named, "ENOSPC"))
+    reading, writing = os.pipe()
+    os.set_blocking(writing, False)
+    with contextlib.suppress(BlockingIOError):
+        while True:
+            os.write(writing, bytes(1 << 16))
+    assert to(writing, words, room) == (3, cannot("write", named, "EAGAIN"))
+    os.close(reading)
+    assert to(writing, words, room) == (3, cannot("write", named, "EPIPE"))
+    os.close(writing)
+    assert read(room / "out") == (WANTED if words == SHORT else None)
+
+
+@pytest.mark.parametrize(("words", "named", "whole"), [(["in", "/dev/null", "0", ",".join(["2", "1"] * 50)], "standard output", glyph_lines(*((2, 1), (1, 2)) * 50)), (["in", "-", "0", "2"], "-", WANTED)])
+def test_short_output(room, words, named, whole):
+    """Standard output takes 100 bytes: the first write is short, and the next one fails."""
+    with open(room / "short", "wb") as file:
+        assert to(file, words, room, preexec_fn=few_bytes) == (3, cannot("write", named, "EFBIG"))
+    assert read(room / "short") == whole[:100]
+
+
+def test_messages_fail(room):
+    """The lines go to standard error, which is full; OUT, which is standard output, is whole."""
+    with open("/dev/full", "wb") as full:
+        got = subprocess.run([*COMMAND, "in", "-", "0", "2"], cwd=room, check=False, stdout=subprocess.PIPE, stderr=full)
+    assert (got.returncode, got.stdout) == (3, WANTED)
+
+
+def test_output_is_out(room):
+    """The lines go to standard error where standard output is OUT itself, and else to it."""
+    for name, out, err in (("out", WANTED, LINES), ("other", LINES, b"")):
+        with open(room / name, "wb") as file:
+            assert to(file, SHORT, room) == (0, err)
+        assert read(room / name) == out and read(room / "out") == WANTED
+
+
+@pytest.mark.parametrize(("words", "status"), [(["-", "out", "0", "2"], 3), (["--gids-file", "-", "in", "out", "0"], 3), (["--batch", "-"], 2)], ids=str)
+def test_input_waits(room, words, status):
+    """Standard input has no bytes yet, and doesn't wait: it isn't read again and again."""
+    reading, writing = os.pipe()
+    os.set_blocking(reading, False)
+    assert to(subprocess.DEVNULL, words, room, stdin=reading) == (status, cannot("read", "-", "EAGAIN"))
+    os.close(reading)
+    os.close(writing)
+
+
+AS_NULL = "by Cargo a closed stream is /dev/null, which Rust's library opens"
+BAD_OUTPUT = cannot("write", "standard output", "EBADF")
+# Words, the stream that is closed, the end (status, standard output, standard error; of the closed one nothing is read), and that by Cargo where it is another.
+CLOSED = [
+    ("- out 0 2", 0, (3, b"", cannot("read", "-", "EISDIR")), (1, b"", b"unknown font kind\nthe file is empty\n")),
+    ("--gids-file - six out 0", 0, (3, b"", cannot("read", "-", "EISDIR")), (0, b"", b"")),
+    ("simple out 0 2", 0, (0, LINES, b""), None),
+    ("simple out 0 2", 1, (3, b"", BAD_OUTPUT), (0, b"", b"")),
+    ("simple - 0 2", 1, (3, b"", cannot("write", "-", "EBADF")), (0, b"", LINES)),
+    ("--help", 1, (3, b"", BAD_OUTPUT), (0, b"", b"")),
+    ("--version", 1, (3, b"", BAD_OUTPUT), (0, b"", b"")),
+    ("--axes variable 0", 1, (3, b"", BAD_OUTPUT), (0, b"", b"")),
+    ("--at wdth=1 simple out 0 2", 1, (3, b"", BAD_OUTPUT), (0, b"", b"no axis wdth in the font\naxes: none\n")),
+    ("--quiet simple out 0 2", 1, (0, b"", b""), None),
+    ("simple out 0 9", 1, (1, b"", b"malformed font\nglyph 9: loca has no entries for it\n"), None),
+    ("simple - 0 2", 2, (3, WANTED, b""), (0, WANTED, b"")),
+    ("simple out 0 2", 2, (0, LINES, b""), None),
+    ("simple out 0 x", 2, (2, b"", b""), None),
+]
+
+
+@pytest.mark.parametrize(("words", "number", "wanted", "by_cargo"), CLOSED, ids=lambda it: it if isinstance(it, str) else str(it) if isinstance(it, int) else "")
+def test_closed(fonts_room, words, number, wanted, by_cargo):
+    wanted = list(by_cargo if IS_CARGO and by_cargo else wanted)
+    got = list(run(words.split(" "), fonts_room, preexec_fn=lambda: os.close(number), stdin=None if number == 0 else subprocess.DEVNULL))
+    if number:
+        got[number] = wanted[number] = b""
+    assert got == wanted
+    is_made = " out " in words and (wanted[0] == 0 or wanted[2] == BAD_OUTPUT)
+    new = read(fonts_room / "out")
+    assert is_whole(new) if is_made else new is None
+
+
+def test_closed_output_is_no_file(room):
+    """No file gets the number of standard output that is closed at the start: OUT has the font alone, without a line."""
+    status, _, err = run(["-", "out", "0", "2"], room, preexec_fn=lambda: os.close(1), input=SIMPLE)
+    assert (status, err) == ((0, b"") if IS_CARGO else (3, BAD_OUTPUT)) and read(room / "out") == WANTED
+
+
+def test_held_descriptors(room):
+    """While it runs it holds three descriptors of a folder, which would take the numbers of closed streams."""
+    with subprocess.Popen([*COMMAND, "-", "out", "0", "2"], cwd=room, stdin=subprocess.PIPE, stdout=subprocess.PIPE, stderr=subprocess.PIPE) as ran:
+        held, end = [], time.monotonic() + 60
+        # (it waits for standard input)
+        while held.count("/") < 3 and time.monotonic() < end:
+            time.sleep(0.01)
+            held = [os.readlink(it.path) for it in os.scandir(f"/proc/{ran.pid}/fd") if os.path.lexists(it.path)]
+        assert ran.communicate(SIMPLE) == (LINES, b"") and (held.count("/"), ran.returncode) == (3, 0)
+
+
+# ---- system calls that fail
+
+@dataclass
+class Way:
+    """A run whose calls fail: its words, the files before it, and those that it writes."""
+    words: list
+    files: dict
+    written: tuple
+    in_place: bool = False
+
+
+BOTH = fonts()["both"]
+# (more bytes than the program writes at a time)
+MANY = ",".join(["1", "2"] * 1500)
+WAYS = {
+    "a new OUT": Way(["in", "out", "0", "1,2"], {}, ("out",)),
+    "OUT over a file": Way(["in", "out", "0", MANY], {"out": OLD}, ("out",)),
+    "a PDF and OUT": Way(["--pdf", "page", "--text", "A", "in", "out", "0"], {"out": OLD, "page": OLD}, ("page", "out")),
+    "OUT with a second name": Way(["in", "out", "0", "1,2"], {"out": OLD, "other": None}, ("out",), in_place=True),
+    "OUT of another group": Way(["in", "out", "0", "1,2"], {"out": OLD}, ("out",), in_place=True),
+}
+CALLS = "openat read write fdatasync fsync rename renameat2 linkat unlink unlinkat statx newfstatat fstat fchmod copy_file_range close fcntl open".split()
+
+
+class Traced:
+    """Runs of a way under strace."""
+
+    def __init__(self, name, top):
+        self.way, self.work, self.log, self.is_group = WAYS[name], top / "work", top / "log", "group" in name
+        self.base = self.run()
+        lines = self.log.read_text(errors="replace").split("\n")
+        # (what is in front is the start of the C library and of Rust's)
+        first = next(at for at, it in enumerate(lines) if re.search(r'"(in|out|page)"', it) and not it.startswith("execve"))
+        found = [it.partition("(")[0] for it in lines]
+        self.calls = [(it, found[:at + 1].count(it), lines[at]) for at, it in enumerate(found) if at >= first and it in CALLS]
+        self.before = self.lay()
+        assert self.base[0] == 0 and self.base[3] != self.before and len(self.calls) > 10, self.base
+
+    def files(self):
+        return {it.name: (read(it), mode_of(it)) for it in self.work.iterdir()}
+
+    def lay(self):
+        shutil.rmtree(self.work, ignore_errors=True)
+        self.work.mkdir()
+        put(self.work / "in", BOTH)
+        for name, data in self.way.files.items():
+            put(self.work / name, data, 0o640) if data is not None else os.link(self.work / "out", self.work / name)
+        if self.is_group:
+            os.chown(self.work / "out", -1, next(it for it in [NOBODY, *os.getgroups()] if it != os.getegid()))
+        return self.files()
+
+    def run(self, what=None):
+        """Status, standard output, standard error and files of a run in which something is done to a call."""
+        self.lay()
+        return *run(self.way.words, self.work, command=["strace", "-qq", "-o", self.log, *(["-e", f"inject={what}"] if what else []), *COMMAND]), self.files()
+
+    def end(self, got, error):
+        """How a run ended in which a call failed: whole, unread, unwritten or unlined; None where that is wrong."""
+        status, out, err, files = got
+        if got == self.base:
+            return "whole"
+        if status != 3:
+            return None
+        if err == cannot("write", "standard output", error) and files == self.base[3] and self.base[1].startswith(out):
+            return "unlined"
+        # (of two files the first may be whole; one that is written in place may be a part)
+        kept = [{**self.before, **{it: self.base[3][it] for it in self.way.written[:count]}} for count in range(len(self.way.written))]
+        is_kept = files in kept or self.way.in_place and {it: file for it, file in files.items() if file != files["out"]}.items() <= self.before.items() and files.keys() == self.before.keys()
+        ends = {cannot("read", "in", error): "unread", **{cannot("write", it, error): "unwritten" for it in self.way.written}}
+        return ends.get(err) if out == b"" and is_kept else None
+
+
+@pytest.fixture(params=WAYS)
+def traced(request, tmp_path):
+    if SYSTEM:
+        pytest.fail("strace traces programs of this system")
+    return Traced(request.param, tmp_path)
+
+
+@pytest.mark.parametrize("error", ["EIO", "ENOSPC", "EINTR"])
+def test_calls_fail(traced, error):
+    """Each call for files fails in turn: status 3 and the reason, or all is whole; no other file is left."""
+    ends = {}
+    for call, number, line in traced.calls:
+        got = traced.run(f"{call}:error={error}:when={number}")
+        end = traced.end(got, error)
+        # (a file beside OUT that can't be removed stays)
+        left = call.startswith("unlink") and error != "EINTR" and got[3].keys() - traced.before.keys() == {"out.part0"}
+        assert end or left, (call, number, line, got[:3], {name: (len(it[0]), it[1]) for name, it in got[3].items()})
+        ends.setdefault(call, []).append(end)
+    assert error == "EINTR" or {"unread", "unwritten"} <= {*ends["openat"], *ends["read"], *ends["write"]}, ends
+    assert error == "EINTR" or "unlined" in {*ends["write"], *ends.get("fcntl", [])}, ends
+    # the first write and the first sync are those of the new file
+    if error != "EINTR" and not traced.way.in_place:
+        assert [ends[it][0] for it in ("write", "fdatasync", "rename")] == ["unwritten"] * 3, ends
+    elif error == "EINTR" and IS_CARGO:
+        assert {it for call in ("openat", "read", "write", "fdatasync") for it in ends.get(call, [])} <= {"whole"}, ends
+
+
+def test_killed(traced):
+    """The process is killed at each call: a file that isn't written in place is as it was or whole, and only files beside it are left."""
+    seen = set()
+    for call, number, line in [] if traced.way.in_place else traced.calls:
+        status, _, _, files = traced.run(f"{call}:signal=SIGKILL:when={number}")
+        assert status == -9 and all(files.get(it) in (traced.before.get(it), traced.base[3][it]) for it in traced.way.written), line
+        assert all(re.fullmatch(r"(out|page)\.part[01]", it) for it in files.keys() - traced.base[3].keys()), (line, files)
+        seen.add((files.get("out") == traced.base[3]["out"], bool(files.keys() - traced.base[3].keys())))
+    assert traced.way.in_place or {(False, False), (False, True), (True, False)} <= seen, seen
+
+
+@pytest.mark.parametrize(("error", "end"), [("ENOSPC", "unwritten"), ("EDQUOT", "unwritten"), ("EACCES", "whole"), ("EPERM", "whole"), ("EROFS", "whole")])
+def test_no_file_beside(tmp_path, error, end):
+    """No file can be made beside OUT: it is written in place. But where the disk has no room for one, or the user may take no more, OUT is what it was."""
+    traced = Traced("OUT over a file", tmp_path)
+    call, number, _ = next(it for it in traced.calls if '"out.part0", O_WRONLY|O_CREAT|O_EXCL' in it[2])
+    got = traced.run(f"{call}:error={error}:when={number}+1" if end == "whole" else f"{call}:error={error}:when={number}")
+    assert traced.end(got, error) == end or end == "whole" and traced.end(got, error) == "unwritten"
+
+
+def test_no_sync(tmp_path):
+    """A file system that has no sync."""
+    traced = Traced("OUT over a file", tmp_path)
+    assert traced.end(traced.run("fdatasync:error=ENOSYS:when=1"), "ENOSYS") == ("whole" if IS_CARGO else "unwritten")
+
+
+def test_unknown_out(tmp_path):
+    """Where nothing can be known of OUT it isn't touched."""
+    traced = Traced("OUT over a file", tmp_path)
+    call, number, _ = next(it for it in traced.calls if '"out"' in it[2] and "NOFOLLOW" in it[2])
+    assert traced.end(traced.run(f"{call}:error=EACCES:when={number}"), "EACCES") == "unwritten"
+
+
+# ---- memory
+
+# What refused memory may end with: before OUT is made, and without a line.
+REFUSED = ((1, b"", b"out of memory\n"), *((3, b"", f"cannot read {it}\nout of memory\n".encode()) for it in ("in", "list", "-")))
+# What Rust's library requests by itself, in bytes: before main the name of the main thread and what its stack is, and the buffer of standard output.
+# Where that alone is refused the process ends. It requests the arguments, too: their list, and each that isn't empty.
+BY_STD = (4, 544, 1024)
+
+
+@dataclass
+class Ended:
+    """How a run under refuse.c ended: status and streams, what is at OUT, the names in its folder, and what was refused of how many requests."""
+    answer: tuple
+    out: bytes
+    names: list
+    refused: int
+    requests: int
+
+    def is_whole(self, base):
+        return (self.answer, self.out, self.names) == (base.answer, base.out, base.names)
+
+    def is_refused(self, base):
+        return self.answer in REFUSED and self.out == OLD and self.names == base.names
+
+    def by_std(self, front=b""):
+        """How many bytes Rust's library was refused where it ended the process; a message may be printed before."""
+        said = re.match(rb"memory allocation of (\d+) bytes failed\n", self.answer[2].removeprefix(front))
+        return int(said[1]) if IS_CARGO and said and self.answer[:2] == (-6, b"") else None
+
+
+@pytest.fixture
+def refusing(room, refuser, tmp_path_factory):
+    """A function that runs the program over an OUT that is there, with wishes of refuse.c."""
+    counts = tmp_path_factory.mktemp("counts") / "counts"
+    put(room / "in", BOTH)
+    put(room / "list", b"1-2 4")
+
+    def start(words, stdin=b"", out="out", **wishes):
+        put(room / out)
+        remove(counts)
+        answer = run(words, room, env={"LD_PRELOAD": refuser, "TOLD": str(counts), **{name: str(it) for name, it in wishes.items()}}, input=stdin)
+        requests, refused = map(int, (read(counts) or b"0 1").split()[:2])
+        return Ended(answer, read(room / out), names_in((room / out).parent), refused, requests)
+    return start
+
+
+DEEP = "/".join(["folder" * 20] * 4)
+RUNS = [SHORT, ["--json", "--pdf", "page", "--text", "A", "in", "out", "0"], ["--json", "--widths", "--gids-file", "list", "in", "out", "0"], ["--text", "A", "in", "-", "0"]]
+
+
+@pytest.mark.parametrize("words", RUNS, ids=" ".join)
+def test_refused_memory(refusing, words):
+    """Each request is refused in turn: never does a run end with 0 and another output."""
+    base, by_std, number = refusing(words, REFUSE=0), [], 0
+    assert base.answer[0] == 0 and base.out != OLD or "-" in words
+    for number in range(1, base.requests + 1):
+        got = refusing(words, REFUSE=number)
+        if size := got.by_std():
+            by_std.append(size)
+            assert got.out == OLD and got.names == base.names, got
+        else:
+            assert got.is_whole(base) or got.is_refused(base), (number, got)
+    assert number > 5 and sorted(by_std) == (sorted([*BY_STD, 24 * (len(words) + 1), *(len(it) for it in (COMMAND[-1], *words))]) if IS_CARGO else [])
+
+
+def test_refused_names(refusing, room):
+    """The same for an OUT of a long name: there the build by Cargo may end while a file is beside OUT."""
+    (room / DEEP).mkdir(parents=True)
+    out, left = f"{DEEP}/out", 0
+    words = ["in", out, "0", "2"]
+    base = refusing(words, out=out, REFUSE=0)
+    for number in range(1, base.requests + 1):
+        got = refusing(words, out=out, REFUSE=number)
+        size = got.by_std()
+        if size and size > LONG_NAME and got.names == ["out", "out.part0"]:
+            left += 1
+            remove(room / DEEP / "out.part0")
+        unwritten = got.answer == (3, b"", f"cannot write {out}\nout of memory\n".encode()) and got.names == base.names
+        assert got.out == OLD and (size or unwritten or got.is_refused(base)) or got.is_whole(base), (number, got)
+    assert (left > 0) == IS_CARGO
+
+
+@pytest.mark.parametrize(("words", "said"), [
+    (["none", "out", "0", "2"], ("read", "none")), (["--gids-file", "none", "in", "out", "0"], ("read", "none")), (["--axes", "none"], ("read", "none")),
+    (["in", "none/out", "0", "2"], ("write", "none/out")), (["in", "--gids", "2", "--pdf", "none/page", "-o", "out"], ("write", "none/page"))], ids=str)
+def test_refused_reason(refusing, words, said):
+    """The system refuses a file, and the last requests for memory are refused in turn, those for the reason among them: the run ends with a status and its
+    first line, without the reason where there is no memory for that."""
+    whole, by_std, ends = cannot(*said, "ENOENT"), [], set()
+    first = whole[:whole.index(b"\n") + 1]
+    base = refusing(words, REFUSE=0)
+    assert base.answer == (3, b"", whole) and base.out == OLD
+    for number in range(max(base.requests - 8, 0) + 1, base.requests + 1):
+        got = refusing(words, REFUSE=number)
+        by_std.append(got.by_std(first))
+        ends.add(got.answer)
+        assert by_std[-1] or got.answer in (*REFUSED, *((3, b"", first + it) for it in (b"", b"out of memory\n", whole[len(first):]))), (number, got)
+        assert got.out == OLD and got.names == base.names, (number, got)
+    # (the last one is of Rust's own, which it isn't asked for twice)
+    assert not IS_CARGO or by_std[-1] == len(os.strerror(errno.ENOENT)) and (3, b"", first) in ends
+
+
+@pytest.mark.parametrize(("words", "stdin", "out"), [*((it, b"", "out") for it in RUNS), (["-", "out", "0", "2"], BOTH, "out"), (["in", f"{DEEP}/out", "0", "2"], b"", f"{DEEP}/out")], ids=str)
+def test_little_room(refusing, room, words, stdin, out):
+    """With room for so many bytes a run is whole, or ends before OUT is touched; and no file is left beside OUT."""
+    (room / out).parent.mkdir(parents=True, exist_ok=True)
+    base = refusing(words, stdin, out)
+    for size in range(0, 1 << 20, 360):
+        got = refusing(words, stdin, out, ROOM=size)
+        assert got.is_whole(base) or got.is_refused(base), (size, got)
+        if got.refused == 0:
+            break
+    assert size > 8000 and got.answer[0] == 0
+
+
+def test_requests(refusing, room):
+    """Room for all of IN is requested at once: a large file takes as many requests as a small one, and from standard input it takes some more."""
+    large = BOTH + bytes(1 << 20)
+    small = refusing(SHORT)
+    put(room / "in", large)
+    found = [refusing(SHORT), refusing(["-", *SHORT[1:]], stdin=large)]
+    assert 5 < small.requests == found[0].requests < found[1].requests and all(it.is_whole(small) for it in found)
+
+
+@pytest.mark.parametrize("folder", ["short", DEEP])
+def test_kept_room(refusing, room, folder):
+    """Where no memory is left once a file beside OUT is made, it still gets its name, and is removed where it can't be written."""
+    (room / folder).mkdir(parents=True)
+    words, out = ["--quiet", "in", f"{folder}/out", "0", "2"], f"{folder}/out"
+    base, got = refusing(words, out=out), refusing(words, out=out, SPARE=0)
+    assert base.answer == (0, b"", b"") and base.out != OLD and (got.is_whole(base) or not IS_CARGO)
+    got, said = refusing(words, out=out, SPARE=0, FAIL="write:1"), cannot("write", out, "EIO")
+    assert got.out == OLD and got.names == base.names and (got.answer in ((3, b"", said), (3, b"", said[:said.index(b"\n") + 1])) or not IS_CARGO)
+
+
+def test_messages_and_more_fail(refusing):
+    """Standard error fails once, too: what can be written of a message is."""
+    got = refusing(["none", "out", "0", "2"], FAIL="write:1" if IS_CARGO else "write2:1")
+    assert got.answer == (3, b"", f"{reason('ENOENT')}\n".encode()) and got.out == OLD
+
+
+def test_inodes(refusing, room, refuser):
+    """Where all files have one inode number, OUT and standard output are one file on one device alone."""
+    assert os.stat("/dev/null").st_dev != os.stat(room).st_dev
+    for output, err in (("out", LINES), ("/dev/null", b"")):
+        put(room / "out")
+        with open(room / output, "wb") as file:
+            assert to(file, SHORT, room, env={"LD_PRELOAD": refuser, "INODE": "7"}) == (0, err)
+
+
+def test_little_memory(room):
+    """Room is taken for the file alone, and not many times it."""
+    def little():
+        resource.setrlimit(resource.RLIMIT_AS, (64 << 20, 64 << 20))
+    put(room / "in", SIMPLE + bytes(1 << 20))
+    assert run(SHORT, room, preexec_fn=little)[:2] == (0, LINES)
+    put(room / "in", SIMPLE + bytes(80 << 20))
+    assert run(["in", "other", "0", "2"], room, preexec_fn=little) == (3, b"", b"cannot read in\nout of memory\n") and not (room / "other").exists()
