@@ -149,6 +149,21 @@ static void check_text(uint32_t status, const char *digits)
     __real_free(wanted);
 }
 
+/* No bit of a status is lost; and the texts of the header are the library's. */
+static void check_texts(void)
+{
+    for (uint32_t status = 0; status < 300; status++)
+        for (int bit = 8; bit < 33; bit++) {
+            uint32_t it = bit < 32 ? status | 1u << bit : status;
+            const char *wanted = it > SUBSETTER_INVALID_TEXT ? "unknown status" : subsetter_status_text(it);
+            uint8_t text[64];
+            size_t length = 0;
+            check(strcmp(subsetter_status_text(it), wanted) == 0, "the text of the header", "a status");
+            check(subsetter_error_text(it, text, sizeof text, &length) == 0 && length == strlen(wanted) && memcmp(text, wanted, length) == 0,
+                "the text of the library", "a status");
+        }
+}
+
 static void read_line(char *line)
 {
     static const char kinds[] = " subset limits options bounded_options embed embed_options embed_bounded_options subset_at embed_at ";
@@ -763,6 +778,7 @@ int main(int argc, char **argv)
     check_named(1, "embedded_within", check_wide_options);
     check_named(2, "two_faces", check_faces);
     check(end_count > 0, "a row at the end of an axis", "the last bit");
+    check_texts();
     check(subsetter_version() == SUBSETTER_VERSION, "the version of the header", "version");
     check_threads();
     printf("C: %zu rows, %zu checks, %zu failed\n", row_count, checks, failures);
