@@ -1,13 +1,23 @@
-"""Two specimens, drawn from subsets that hold the glyphs of one line each: four scripts (`compare/pdf.py --specimen PNG`), and one
-line at five weights of a variable font by each of three PDF readers (`--weights PNG`)."""
+#!/usr/bin/python3
+"""Draws two specimens from subsets that hold the glyphs of one line each.
+
+    demo/specimen.py docs/specimen.png              four scripts, by MuPDF
+    demo/specimen.py --weights docs/weights.png     a line at five weights of a variable font, by each of three PDF readers
+
+It needs Debian's fonts-noto-core, fonts-noto-cjk, fonts-inter-variable, libharfbuzz-bin, mupdf-tools, poppler-utils, ghostscript and python3-pil.
+"""
 import json
 import os
 import subprocess
+import sys
 import tempfile
 
-from drawn_by import READERS, drawn, subset
-from pdf_file import Face, Pdf, embedded, pages
-from drawn_variable import subset_at
+sys.path.insert(0, os.path.join(os.path.dirname(os.path.dirname(os.path.realpath(__file__))), "compare", "lib"))
+sys.dont_write_bytecode = True
+
+from drawn_by import READERS, drawn, subset  # noqa: E402
+from drawn_variable import subset_at  # noqa: E402
+from pdf_file import Face, Pdf, embedded, pages  # noqa: E402
 
 NOTO = "/usr/share/fonts/truetype/noto"
 CJK = "/usr/share/fonts/opentype/noto"
@@ -119,3 +129,8 @@ def draw_weights(png):
     print(f"{os.path.basename(VARIABLE)}, {size_of(VARIABLE)} bytes: the subsets at {', '.join(map(str, WEIGHTS))} have {', '.join(map(str, sizes))}")
     print(f"{png}: {size_of(png)} bytes")
     return 0
+
+
+if __name__ == "__main__":
+    *front, name = sys.argv[1:] or sys.exit(__doc__)
+    sys.exit(draw_weights(name) if front == ["--weights"] else draw(name))
