@@ -80,6 +80,32 @@ def check_wheel(path, platform, library, traces):
     return data
 
 
+def test_tags(tmp_path):
+    """What pip reads of a wheel before it is built."""
+    assert {*subsetter_build.TAGS} == {*TAGS}
+    for target, tag in TAGS.items():
+        subsetter_build.prepare_metadata_for_build_wheel(tmp_path, {"target": target})
+        assert f"\nTag: py3-none-{tag}\n" in (tmp_path / INFO / "WHEEL").read_text()
+    with pytest.raises(SystemExit):
+        subsetter_build.build_wheel(tmp_path, {"target": "mips-unknown-linux-gnu"})
+
+
+def test_sdist(tmp_path):
+    assert subsetter_build.build_sdist(tmp_path) == f"{FRONT}.tar.gz"
+    whole = (tmp_path / f"{FRONT}.tar.gz").read_bytes()
+    subsetter_build.build_sdist(tmp_path)
+    assert (tmp_path / f"{FRONT}.tar.gz").read_bytes() == whole
+    with tarfile.open(tmp_path / f"{FRONT}.tar.gz") as file:
+        members = file.getmembers()
+    own = {"PKG-INFO", "LICENSE", "NOTICE", "README.md", "pyproject.toml", "subsetter_build.py", "subsetter/__init__.py", "subsetter/py.typed",
+           "crates/capi/Cargo.toml", "crates/capi/Cargo.lock", "crates/capi/build.rs", "crates/rust/Cargo.toml", "crates/rust/README.md"}
+    for name in ("capi", "rust"):
+        folder = ROOT / "bindings" / name
+        own |= {f"crates/{name}/{path.relative_to(folder)}" for path in (folder / "src").rglob("*") if path.is_file()}
+    assert {it.name for it in members} == {f"{FRONT}/{name}" for name in own}
+    assert {(it.mtime, it.uid, it.uname, it.mode) for it in members} == {(315532800, 0, "", 0o644)}
+
+
 def test_install(room, tmp_path):
     before = files_of(room / "clone")
     ran = pip(room, "install", room / "clone/bindings/python")
@@ -94,20 +120,9 @@ def test_install(room, tmp_path):
     assert files_of(room / "clone") == before
 
 
-def test_sdist_and_its_wheel(room, tmp_path):
-    packages = {f"{FRONT}.tar.gz"}
-    for _ in range(2):
-        assert subsetter_build.build_sdist(tmp_path) in packages
-    with tarfile.open(tmp_path / f"{FRONT}.tar.gz") as file:
-        members = file.getmembers()
-    own = {"PKG-INFO", "LICENSE", "NOTICE", "README.md", "pyproject.toml", "subsetter_build.py", "subsetter/__init__.py", "subsetter/py.typed",
-           "crates/capi/Cargo.toml", "crates/capi/Cargo.lock", "crates/capi/build.rs", "crates/rust/Cargo.toml", "crates/rust/README.md"}
-    for name in ("capi", "rust"):
-        folder = ROOT / "bindings" / name
-        own |= {f"crates/{name}/{path.relative_to(folder)}" for path in (folder / "src").rglob("*") if path.is_file()}
-    assert {it.name for it in members} == {f"{FRONT}/{name}" for name in own}
-    assert {(it.mtime, it.uid, it.uname, it.mode) for it in members} == {(315532800, 0, "", 0o644)}
-    # Built by its own crates, as the clone is away.
+def test_wheel_of_the_sdist(room, tmp_path):
+    """Built by its own crates, as the clone is away."""
+    subsetter_build.build_sdist(tmp_path)
     (room / "clone").rename(room / "away")
     ran = pip(room, "wheel", "-w", tmp_path / "wheel", tmp_path / f"{FRONT}.tar.gz")
     (room / "away").rename(room / "clone")
@@ -119,13 +134,3 @@ def test_sdist_and_its_wheel(room, tmp_path):
 def test_without_cargo(room, tmp_path):
     ran = pip(room, "wheel", "-w", tmp_path, room / "clone/bindings/python", PATH=tmp_path)
     assert ran.returncode != 0 and "no cargo on the PATH" in ran.stdout
-
-
-def test_tags(tmp_path):
-    """What pip reads of a wheel before it is built."""
-    assert {*subsetter_build.TAGS} == {*TAGS}
-    for target, tag in TAGS.items():
-        subsetter_build.prepare_metadata_for_build_wheel(tmp_path, {"target": target})
-        assert f"\nTag: py3-none-{tag}\n" in (tmp_path / INFO / "WHEEL").read_text()
-    with pytest.raises(SystemExit):
-        subsetter_build.build_wheel(tmp_path, {"target": "mips-unknown-linux-gnu"})

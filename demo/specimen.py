@@ -1,13 +1,21 @@
-"""Two specimens, drawn from subsets that hold the glyphs of one line each: four scripts (`compare/pdf.py --specimen PNG`), and one
-line at five weights of a variable font by each of three PDF readers (`--weights PNG`)."""
+#!/usr/bin/python3
+"""Draws two specimens from subsets that hold the glyphs of one line each.
+
+    demo/specimen.py docs/specimen.png              four scripts, by MuPDF
+    demo/specimen.py --weights docs/weights.png     a line at five weights of a variable font, by each of three PDF readers
+"""
 import json
 import os
 import subprocess
+import sys
 import tempfile
 
-from drawn_by import READERS, drawn, subset
-from pdf_file import Face, Pdf, embedded, pages
-from drawn_variable import subset_at
+sys.path.insert(0, os.path.join(os.path.dirname(os.path.dirname(os.path.realpath(__file__))), "compare", "lib"))
+sys.dont_write_bytecode = True
+
+from drawn_by import READERS, drawn, subset  # noqa: E402
+from drawn_variable import subset_at  # noqa: E402
+from pdf_file import Face, Pdf, embedded, pages  # noqa: E402
 
 NOTO = "/usr/share/fonts/truetype/noto"
 CJK = "/usr/share/fonts/opentype/noto"
@@ -20,7 +28,6 @@ LINES = [
 ]
 LABELS = f"{NOTO}/NotoSans-Regular.ttf"
 PAGE, LINE, LABEL = (560, 270), 21, 8
-# The line at five weights: of Debian's fonts-inter-variable.
 VARIABLE, TEXT = "/usr/share/fonts/truetype/inter-vf/Inter.var.ttf", "Dragon & Größe"
 WEIGHTS = 100, 300, 500, 700, 900
 COLUMN = 208, 184
@@ -42,10 +49,6 @@ def set_line(glyphs, numbers, units, name, size, x, y):
     return "\n".join(text + ["ET"])
 
 
-def size_of(path):
-    return os.path.getsize(path)
-
-
 def label(pdf, labels, name, room):
     """A font for labels, and the labels: (text, x, y)."""
     lines = [(shaped(LABELS, 0, text), x, y) for text, x, y in labels]
@@ -58,7 +61,6 @@ def label(pdf, labels, name, room):
 
 
 def draw(png):
-    """Draws the four scripts, and prints the sizes of each source and its subset."""
     pdf, fonts, content, labels = Pdf(), [], [], []
     with tempfile.TemporaryDirectory() as room:
         for place, (font, index, text) in enumerate(LINES):
@@ -70,44 +72,39 @@ def draw(png):
             fonts.append(embedded(pdf, face, way, f"AAAAA{chr(65 + place)}+Specimen", widths))
             y = PAGE[1] - 46 - 60 * place
             content.append(set_line(glyphs, numbers, face.units, f"F{place}", LINE, 24, y))
-            sizes = size_of(font), size_of(out)
-            print(f"{os.path.basename(font)}: {sizes[0]} bytes; the subset {sizes[1]}")
+            sizes = os.path.getsize(font), os.path.getsize(out)
             words = f"{os.path.basename(font)}, {sizes[0]:,} bytes: {len(set(numbers))} glyphs, {sizes[1]:,} bytes"
             labels.append((words, 24, y - 18))
         font, lines = label(pdf, labels, f"F{len(LINES)}", room)
         name = os.path.join(room, "specimen.pdf")
         with open(name, "wb") as file:
             file.write(pages(pdf, PAGE, fonts + [font], ["\n".join(content + lines)]))
-        print(f"the whole PDF {size_of(name)}")
         subprocess.run(["mutool", "draw", "-q", "-r", "110", "-c", "gray", "-o", png, name], check=True, stderr=subprocess.DEVNULL)
     return 0
 
 
 def weights_file(reader, room):
-    """A PDF file of the line at each weight, under a reader's name, and the size of each subset."""
-    pdf, fonts, content, sizes = Pdf(), [], [], []
+    pdf, fonts, content = Pdf(), [], []
     labels = [(reader, 12, COLUMN[1] - 16)]
     for place, weight in enumerate(WEIGHTS):
         glyphs, out = shaped(VARIABLE, 0, TEXT, f"--variations=wght={weight}"), os.path.join(room, "subset")
         numbers, widths = subset_at(VARIABLE, [("wght", weight << 16)], [it["g"] for it in glyphs], out)
         with open(out, "rb") as file:
             face = Face(file.read())
-        sizes.append(size_of(out))
         fonts.append(embedded(pdf, face, "TrueType", f"AAAAA{chr(65 + place)}+Specimen", widths))
         y = COLUMN[1] - 46 - 32 * place
         content.append(set_line(glyphs, numbers, face.units, f"F{place}", LINE, 34, y))
         labels.append((str(weight), 12, y))
     font, lines = label(pdf, labels, f"F{len(WEIGHTS)}", room)
-    return pages(pdf, COLUMN, fonts + [font], ["\n".join(content + lines)] * 2), sizes
+    return pages(pdf, COLUMN, fonts + [font], ["\n".join(content + lines)] * 2)
 
 
 def draw_weights(png):
-    """Draws the line at five weights by each reader, side by side, in sixteen greys, and prints the sizes of the subsets."""
     from PIL import Image
     columns = []
     with tempfile.TemporaryDirectory() as room:
         for reader in READERS:
-            data, sizes = weights_file(reader, room)
+            data = weights_file(reader, room)
             with open(os.path.join(room, "page.pdf"), "wb") as file:
                 file.write(data)
             width, height, grey = drawn(reader, room, 110)[0][0]
@@ -116,6 +113,9 @@ def draw_weights(png):
     for place, column in enumerate(columns):
         picture.paste(column, (place * columns[0].width, 0))
     picture.quantize(16).save(png, optimize=True)
-    print(f"{os.path.basename(VARIABLE)}, {size_of(VARIABLE)} bytes: the subsets at {', '.join(map(str, WEIGHTS))} have {', '.join(map(str, sizes))}")
-    print(f"{png}: {size_of(png)} bytes")
     return 0
+
+
+if __name__ == "__main__":
+    *front, name = sys.argv[1:] or sys.exit(__doc__)
+    sys.exit(draw_weights(name) if front == ["--weights"] else draw(name))
