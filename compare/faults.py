@@ -1,5 +1,7 @@
 #!/usr/bin/python3
-"""Has each system call of the program fail in turn, and looks at how it ends and what it leaves: faults.py [--program FILE] [--only WORD]
+"""Has each system call of the program fail in turn, and looks at how it ends and what it leaves.
+
+    compare/faults.py [--short] [--part PART,..] [--skip PART,..] [--only WORD]
 
 The program runs in its main ways (lib/fault_ways.py). drivers/inject.c counts its system calls by ptrace, which serves a program
 that is linked statically, too, and fails one of them. What docs/CLI.md promises is demanded of each run: a status of its table, a
@@ -12,7 +14,7 @@ message that names the file and the system's reason, OUT and the PDF as they wer
     folders   a folder in which nothing can be made, and files that get no larger than so many bytes
     streams   a standard stream is closed, full, or a pipe that nobody else has
 
-Without --program it is the program that Cargo builds of bindings/rust. --part takes parts, --only the ways with this word in their names, and --skip
+The program is as Cargo builds it, or SUBSET_FONT. --part takes parts, --only the ways with this word in their names, and --skip
 leaves parts out by their names: `disk` mounts file systems (unshare), and `folders` runs the program as another user where it is started by root.
 Quotas can't be set everywhere: EDQUOT is injected. It prints what was done to which call, and how the runs ended. The status is 1 where a run ended in
 another way, and where nothing was injected.
@@ -39,15 +41,13 @@ from injected import Room, Trouble, needs  # noqa: E402
 class Table:
     """What was done to each call, how the runs ended, and what is wrong."""
 
-    def __init__(self, program, is_first=False):
-        self.program, self.wrong, self.runs, self.is_first = program, 0, 0, is_first
+    def __init__(self, program):
+        self.program, self.wrong, self.runs = program, 0, 0
         self.done = collections.defaultdict(collections.Counter)
 
     def fault(self, what, why):
         self.wrong += 1
         print(f"faults.py: {what}: {why}", flush=True)
-        if self.is_first:
-            sys.exit(1)
 
     def note(self, call, end):
         self.runs += 1
@@ -57,13 +57,6 @@ class Table:
         if not holds:
             self.fault(what, str(why)[:600])
         return holds
-
-
-def cargo_program():
-    """The program as Cargo builds it of the crate."""
-    crate = os.path.join(build.ROOT, "bindings", "rust")
-    subprocess.run(["cargo", "build", "--release", "--offline", "--quiet", "--features", "program"], cwd=crate, check=True)
-    return os.path.join(crate, "target", "release", "subset_font")
 
 
 # ---- each call fails
@@ -260,8 +253,8 @@ def check_disk(table, room, ways):
             if way.name in ON_DISK:
                 check_disk_of(table, room, way)
         return
-    words = ["unshare", "-rm", sys.executable, os.path.realpath(__file__), "--program", table.program, "--part", "disk"]
-    ran = subprocess.run(words, env={**os.environ, INSIDE: "1"}, stdout=subprocess.PIPE, text=True)
+    words = ["unshare", "-rm", sys.executable, os.path.realpath(__file__), "--part", "disk"]
+    ran = subprocess.run(words, env={**os.environ, INSIDE: "1", "SUBSET_FONT": table.program}, stdout=subprocess.PIPE, text=True)
     lines = ran.stdout.splitlines()
     for it in lines:
         if it.startswith("faults.py: "):
@@ -402,6 +395,8 @@ def check_streams(table, room, ways):
 
 # ---- all
 
+# The ways of the short form.
+SHORT = ("a new OUT", "OUT over a file", "OUT over IN", "a PDF and OUT", "OUT to standard output")
 PARTS = {"start": check_start, "calls": check_calls, "signals": check_signals, "disk": check_disk, "folders": check_folders, "streams": check_streams}
 ENDS = ["whole", "silent", "out of memory", "cannot read", "cannot write", "stopped", "ended by a signal", "otherwise"]
 
@@ -450,14 +445,13 @@ def can_be(way):
 
 def read_words():
     words = argparse.ArgumentParser(description=__doc__, formatter_class=argparse.RawDescriptionHelpFormatter)
-    words.add_argument("--program", metavar="FILE", help="another program than Cargo's, as the one that `rt run` in crates/subset_font builds")
+    words.add_argument("--short", action="store_true", help="fewer ways, without signals")
     words.add_argument("--only", default="", metavar="WORD", help="the ways with this word in their names")
     words.add_argument("--part", type=names, default=list(PARTS), metavar="PART,..", help=f"of {', '.join(PARTS)}")
     words.add_argument("--skip", type=names, default=[], metavar="PART,..", help="leaves these out")
-    words.add_argument("--first", action="store_true", help="ends at the first run that ended otherwise")
     given = words.parse_args()
-    given.parts = [it for it in given.part if it not in given.skip]
-    given.ways = [it for it in WAYS if given.only in it.name and can_be(it)]
+    given.parts = [it for it in given.part if it not in given.skip and not (given.short and it == "signals")]
+    given.ways = [it for it in WAYS if given.only in it.name and can_be(it) and not (given.short and it.name not in SHORT)]
     if not given.parts or not given.ways:
         sys.exit("faults.py: nothing is chosen")
     return given
@@ -475,14 +469,14 @@ def main():
     if lacking:
         sys.exit(f"faults.py: {lacking}")
     heed_signals()
-    table = Table(os.path.realpath(given.program or cargo_program()), given.first)
+    table = Table(build.program())
     try:
         check_all(table, given.ways, given.parts)
     except Trouble as trouble:
         table.fault("a run", trouble)
     print_table(table)
     left_out = f", without {', '.join(given.skip)}" if given.skip else ""
-    print(f"{table.runs} runs with a fault of the system{left_out}: {table.wrong} ended otherwise than docs/CLI.md has it")
+    print(f"faults: runs with a fault of the system{left_out}, which end as docs/CLI.md has it; {table.runs} compared, {table.wrong} differ")
     sys.exit(1 if table.wrong or not table.runs else 0)
 
 

@@ -1,166 +1,245 @@
 #!/usr/bin/python3
-"""The largest work from a small file: hostile.py [--no-build] [--instructions]
-                                        hostile.py --families [--no-build] [--bytes N ..] [--only WORD]
+"""Fonts, lists and batches that ask for as much work as they can: does it grow as input and answer do?
 
-It makes fonts that ask for as much as they can, subsets them by dev_bench, and prints what a kept glyph takes: the
-least time of several calls, and the most bytes that a call has asked of the allocator and not given back, its output
-among them (counted by peak.c). The fonts:
+    compare/hostile.py [--short] [--only WORD]
 
-    calls      CFF: each charstring runs 1,000,000 tokens that write nothing
-    numbers    CFF: each charstring runs 1,000,000 tokens, of which nearly all are numbers of five bytes
-    masks      CFF: each charstring has 1,000,000 tokens, every third of which is a mask of so many bytes
-    crowd      TrueType: so many glyphs that share one outline, which is put together of all of them; glyph 0 is asked for
-
---instructions counts the instructions of a call, too (valgrind).
-
---families takes more fonts (lib/families.py) and the program subset_font, without a bound on the bytes of the new font and with
-each of --bytes (1,000,000 and 64,000,000), and prints the time of the whole process on the processor and what it has held at most. The status
-is 1 where that is more than the source, three times the bound and 256 bytes for each asked glyph; the program's own words
-are some 20,000 bytes of that. The last column is the time divided by the bytes of the source, those of the bound (or of the
-output) and the tokens that all asked glyphs may run.
+Each family is made at half its size, at its size and at twice that: what takes a call of the crate, or a run of the program (as Cargo builds it, or
+SUBSET_FONT), of a processor, and what does it hold at most? A family fails where from half to twice the size the time, or the bytes held, for each byte
+of input and answer grow by more than GROWTH, where it takes more than SECONDS and 20 microseconds for each byte, or holds more than HELD and 64 bytes
+for each byte, and where it doesn't end. The families of BOUND run as many tokens or steps as the limits let them; these have to end. --short halves the
+sizes. The status is 1 where one fails.
 """
-import argparse
+import json
 import os
-import re
-import resource
 import subprocess
 import sys
 import tempfile
 
 sys.path.insert(0, os.path.join(os.path.dirname(os.path.realpath(__file__)), "lib"))
 
-import build  # noqa: E402
-import families  # noqa: E402
-from build import BENCH, BUILD  # noqa: E402
-from families import TOKENS, calls_font, crowd_font, masks_font, numbers_font  # noqa: E402
+import build, made, made2  # noqa: E402, E401
+import report as reports  # noqa: E402
+from made import number, u16s, u32s  # noqa: E402
 
-COUNTER = os.path.join(BUILD, "peak.so")
-BOUNDS = (1000000, 64000000)
-# A run that takes more seconds isn't repeated, and one without an end is stopped.
-ONCE, AT_MOST = 0.1, 600
-
-
-def measured(path, glyphs, room):
-    """The least nanoseconds of a call, the output's length, and the bytes that a run holds at most."""
-    words = [BENCH, path, "0", glyphs]
-    line = subprocess.run([*words, "3"], capture_output=True, text=True, check=True).stdout.split()
-    if line[:1] != ["ok"]:
-        sys.exit(f"hostile.py: {path}: {' '.join(line)}")
-    peak = os.path.join(room, "peak")
-    env = {"PATH": os.environ["PATH"], "LD_PRELOAD": COUNTER, "PEAK": peak}
-    subprocess.run([*words, "1"], capture_output=True, env=env, check=True)
-    with open(peak) as file:
-        return int(line[2]), int(line[3]), int(file.read())
+# By how much a byte may cost more at twice the size than at half, where a run takes or holds so much at least.
+GROWTH, LEAST_SECONDS, LEAST_HELD = 2.5, 0.03, 2 ** 26
+SECONDS, HELD, ENDLESS = 2, 2 ** 28, 60
+LIMITS = "1000000,64,67108864"
+# What these cost goes by tokens or steps.
+BOUND = {"tree of subroutines", "numbers of five bytes", "masks of stems", "one outline of composites"}
 
 
-def instructions(path, glyphs, room):
-    """The instructions of a call: those of two calls without those of one."""
-    def counted(times):
-        words = ["valgrind", "--tool=callgrind", f"--callgrind-out-file={room}/callgrind", BENCH, path, "0", glyphs, times]
-        said = subprocess.run(words, capture_output=True, text=True, check=True).stderr
-        return int(re.search(r"Collected : (\d+)", said)[1])
-    return counted("2") - counted("1")
+# ---- what fonts are made of
+
+def static(count, **tables):
+    """A TrueType font of so many glyphs, of which the first has an outline."""
+    outline = u16s(1, 0, 0, 100, 100, 2, 0) + b"\1\1\1" + u16s(0, 100, 65486, 0, 0, 100) + b"\0"
+    usual = {"head": made.HEAD[:18] + u16s(1000) + made.HEAD[20:], "hhea": u32s(0x10000) + u16s(800, 65336) + bytes(26) + u16s(1),
+             "maxp": u32s(0x10000) + u16s(count) + bytes(26), "hmtx": u16s(500, 0) + bytes(2 * count - 2), "glyf": outline,
+             "loca": u32s(0, *[len(outline)] * count), "post": u32s(0x30000) + bytes(28), "name": u16s(0, 0, 6)}
+    return made.font(sorted((tag, body) for tag, body in {**usual, **tables}.items() if body is not None))
 
 
-def row(name, font, kept, drawn, room, counts):
-    """A line of the table; `drawn` is the count of the glyphs in the output."""
-    path = os.path.join(room, "font")
-    with open(path, "wb") as file:
-        file.write(font)
-    glyphs = f"0-{kept - 1}" if kept > 1 else "0"
-    least, length, held = measured(path, glyphs, room)
-    cells = [name, len(font), drawn, f"{least / 1e6:.2f}", f"{least / drawn / 1e3:.1f}", length, f"{held / drawn:.0f}"]
-    if counts:
-        cells.append(f"{instructions(path, glyphs, room) / drawn:.0f}")
-    print("|", " | ".join(map(str, cells)), "|", flush=True)
+def fvar(axes, instances=b"", count=0):
+    records = b"".join((b"wght" if k == 0 else u32s(0x41000000 + k)) + u32s(100 << 16, 400 << 16, 900 << 16) + u16s(0, 256) for k in range(axes))
+    return u16s(1, 0, 16, 2, axes, 20, count, min(4 + 4 * axes, 65535)) + records + instances
 
 
-# ---- families
-
-def seen(words, env):
-    """The seconds of a run on the processor, and what it answers: nothing, or why it fails."""
-    def spent():
-        used = resource.getrusage(resource.RUSAGE_CHILDREN)
-        return used.ru_utime + used.ru_stime
-
-    before = spent()
-    try:
-        ran = subprocess.run(words, stdout=subprocess.DEVNULL, stderr=subprocess.PIPE, text=True, env=env, timeout=AT_MOST)
-    except subprocess.TimeoutExpired:
-        return AT_MOST, "no end"
-    took = spent() - before
-    return took, "" if ran.returncode == 0 else (ran.stderr.splitlines() or [f"died with {ran.returncode}"])[0]
+def store(axes, regions):
+    """One region of so many axes, and one item of so many indexes of it."""
+    listed = u16s(axes, 1) + bytes(6 * axes)
+    return u16s(1) + u32s(12) + u16s(1) + u32s(12 + len(listed)) + listed + u16s(1, 0, regions) + bytes(3 * regions)
 
 
-def family_row(name, font, asked, bound, room):
-    """A line of the table, and whether the run holds no more than it should."""
-    path, out, gids, peak = (os.path.join(room, it) for it in ("font", "out", "gids", "peak"))
-    with open(path, "wb") as file:
-        file.write(font)
-    with open(gids, "w") as file:
-        file.write(f"0-{asked - 1}" if asked > 1 else "0")
-    limits = f"{TOKENS},64" + (f",{bound}" if bound else "")
-    words = [build.FONT, "--quiet", "--limits", limits, "--gids-file", gids, path, out, "0"]
-    env = {"PATH": os.environ["PATH"], "LD_PRELOAD": COUNTER, "PEAK": peak}
-    took, answer = seen(words, env)
-    for _ in range(2 if took < ONCE else 0):
-        took = min(took, seen(words, env)[0])
-    length = 0 if answer else os.path.getsize(out)
-    with open(peak) as file:
-        held = int(file.read())
-    may = len(font) + 3 * bound + 256 * asked
-    work = len(font) + (bound or length) + asked * TOKENS
-    cells = [name, len(font), asked, bound or "none", answer or f"a font of {length} bytes", f"{took * 1e3:.1f}", held,
-             f"{held / may:.2f}" if bound else "", f"{took * 1e9 / work:.3f}"]
-    print("|", " | ".join(map(str, cells)), "|", flush=True)
-    return not bound or held <= may, took * 1e9 / work
+def varied(axes, count, **tables):
+    offsets = 20 + 4 * (count + 1)
+    gvar = u16s(1, 0, axes, 0) + u32s(offsets) + u16s(count, 1) + u32s(offsets) + bytes(4 * (count + 1))
+    return static(count, **{"fvar": fvar(axes), "gvar": gvar, **tables})
 
 
-def all_families(bounds, only):
-    """Prints the table, and answers whether each run under a bound holds no more than it should."""
-    head = ["Family", "Bytes of the file", "Glyphs", "Bound", "Answer", "Process, ms", "Held, bytes", "Part of what it may hold",
-            "ns of each byte and token"]
-    print("|", " | ".join(head), "|\n|" + "---|" * len(head), flush=True)
-    sound, slowest = [], 0
-    with tempfile.TemporaryDirectory(prefix="hostile-") as room:
-        for name, large, many, small, few in families.ALL:
-            if only not in name:
-                continue
-            font = large()
-            for bound in (0, *bounds):
-                made, asked = (font, many) if bound or not small else (small(), few)
-                holds, constant = family_row(name, made, asked, bound, room)
-                sound.append(holds)
-                slowest = max(slowest, constant if bound else 0)
-    print(f"\n{len(sound)} runs, of which {sound.count(False)} hold more than they may; at most {slowest:.2f} ns under a bound")
-    return all(sound)
+def hvar(axes, regions, count=200):
+    held = store(axes, regions)
+    return varied(axes, count, HVAR=u16s(1, 0) + u32s(20, 20 + len(held), 0, 0) + held + u16s(0, 1) + b"\0")
+
+
+def vvar(size):
+    held = store(size, 6 * size)
+    table = u16s(1, 0) + u32s(24, 24 + len(held), 0, 0, 24 + len(held)) + held + u16s(0, 1) + b"\0"
+    return varied(size, 200, VVAR=table, vhea=u32s(0x10000) + bytes(30) + u16s(1), vmtx=u16s(1000, 0) + bytes(398))
+
+
+def mvar(size):
+    tags = sorted([b"hasc", b"hdsc", b"hlgp", b"hcrs", b"hcrn", b"hcof", b"undo", b"unds", b"xhgt", b"cpht"])
+    return varied(size, 4, MVAR=u16s(1, 0, 0, 8, len(tags), 12 + 8 * len(tags)) + b"".join(it + bytes(4) for it in tags) + store(size, 6 * size))
+
+
+def tuples(size):
+    count, shared, data, first = 200, bytes(2 * size - 2) + u16s(16384), u16s(size, 4 + 4 * size) + bytes(4 * size), 824
+    gvar = u16s(1, 0, size, 1) + u32s(first) + u16s(count, 1) + u32s(first + len(shared)) + u32s(0, *[len(data)] * count)
+    return varied(size, count, gvar=gvar + shared + data)
+
+
+def font2(count, table):
+    """A font with a table `CFF2` and an axis."""
+    return static(count, fvar=fvar(1), CFF2=table, glyf=None, loca=None).replace(b"\0\1\0\0", b"OTTO", 1)
+
+
+def blends(size):
+    """So many regions, and so many blends after a `vsindex`."""
+    glyph = number(1) + made2.VSINDEX + (made2.called(0, 1, made2.GLOBAL_CALL) * (size // 100))
+    held = made2.store([[(0, 0, 0)]], [[0], [0] * size])
+    return font2(3, made2.cff2([b"", glyph, b""], subroutines=[(number(0) + made2.BLEND) * 100], variation=held))
+
+
+def private_blends(size):
+    entries = number(1) + made2.PRIVATE_VSINDEX + (number(0) + made2.PRIVATE_BLEND) * size
+    return font2(1, made2.cff2([b""], [(entries, ())], variation=made2.store([[(0, 0, 0)]], [[0], [0] * size])))
+
+
+def keyed(count, dicts=(b"",), times=1, select=None, charstring=b"\x0e"):
+    table = made.cff([charstring] * count, dicts=[(it, ()) for it in dicts], select=select or bytes(count + 1), times=times)
+    return static(count, **{"CFF ": table, "glyf": None, "loca": None}).replace(b"\0\1\0\0", b"OTTO", 1)
+
+
+def select3(size):
+    """Ranges of FDSelect that don't ascend."""
+    ranges = (u16s(size - 1) + b"\0") * (size - 2) + u16s(0) + b"\0"
+    return keyed(size, select=b"\3" + u16s(size - 1) + ranges + u16s(size))
+
+
+def named(size, length=255):
+    """So many glyphs with names of their own, or of one name that all share."""
+    own = range(size) if length else [0] * size
+    return static(size, post=u32s(0x20000) + bytes(28) + u16s(size, *[258 + k for k in own]) + (b"\xff" + b"A" * 255) * (size if length else 1))
+
+
+def records(size):
+    heads = b"".join(u16s(3, 1, 0x409, 1 + k % 9, 12, k) for k in range(size))
+    return static(3, name=u16s(0, size, 6 + 12 * size) + heads + b"".join(u16s(k) for k in range((size + 12) // 2 + 1)))
+
+
+def instances(size, length=0):
+    """So many named instances, of one long name or of the last of as many records."""
+    name = u16s(0, 1, 18, 3, 1, 0x409, 300, 2 * length, 0) + b"\0A" * length if length else u16s(0, size, 6) + u16s(1, 0, 0, 1, 0, 0) * (size - 1) + u16s(0, 3, 0, 300, 2, 0)
+    return varied(1, 4, fvar=fvar(1, (u16s(300, 0) + u32s(400 << 16)) * size, size), name=name)
+
+
+def groups(size):
+    """Groups of `cmap`, format 12, that no character reaches."""
+    table = u16s(12, 0) + u32s(16 + 12 * size, 0, size) + b"".join(u32s(0x110000 + k, 0x110000 + k, 1) for k in range(size))
+    return static(10, cmap=u16s(0, 1, 3, 10) + u32s(12) + table)
+
+
+def segments(size):
+    return static(10, cmap=u16s(0, 1, 3, 1) + u32s(12) + u16s(4, 0, 0, 2 * size, 0, 0, 0) + bytes(8 * size + 16))
+
+
+def tree(size, depth=16, leaf=b"\x0b"):
+    """Glyphs that call a subroutine, which calls the next one twice, and so on."""
+    bodies = [(number(k + 1 - 107) + b"\x1d") * 2 + b"\x0b" for k in range(depth)] + [leaf]
+    return made.cff_font(made.cff([number(-107) + b"\x1d\x0e"] * size, subroutines=bodies), [("head", made.HEAD), ("maxp", u32s(0x5000) + u16s(size))])
+
+
+def crowd(size):
+    """Each even number is a glyph of all the bytes of `glyf`, which is put together of all of them."""
+    outline = made.composite([2 * k for k in range(size)])
+    return made.font([("glyf", outline), ("head", made.HEAD), ("loca", u32s(*[0, len(outline)] * size))])
+
+
+def wide(size):
+    metrics = b"".join(u16s(k * 7919 % 3000, 0) for k in range(size))
+    return static(size, hhea=(head := u32s(0x10000) + u16s(800, 65336) + bytes(26) + u16s(size)), vhea=head, hmtx=metrics, vmtx=metrics)
+
+
+def lines(size, kind):
+    return "".join(json.dumps({"in": f"/no/{k if kind == 'in' else 0}", "out": f"{k}", "gids": 1}) + "\n" for k in range(size)).encode()
+
+
+# ---- the families: name, maker, size, and the call of the crate (with its glyphs) or the words of the program
+
+AT = "wght=650"
+CALLS = [
+    ("font dicts with one private dict", lambda n: keyed(3, [b"\x8b\x0b" * 5 * n], n), 800, "subset 0-1 -"),
+    ("the same for a PDF", lambda n: keyed(3, [b"\x8b\x0b" * 5 * n], n), 300, "pdf 0-1 -"),
+    ("blends of many regions", blends, 8000, f"at 1 {AT}"), ("blends of a private dict", private_blends, 8000, f"at 0 {AT}"),
+    ("HVAR, axes", lambda n: hvar(n, 6 * n), 5000, f"at 0-19 {AT}"), ("HVAR, glyphs", lambda n: hvar(1, n, n), 16000, f"at 0-{{last}} {AT}"),
+    ("VVAR", vvar, 2000, f"columns 1-9 {AT}"), ("MVAR", mvar, 2000, f"pdf 1-2 {AT}"), ("gvar, tuples and axes", tuples, 2000, f"at 0 {AT}"),
+    ("FDSelect out of order", select3, 16000, "subset 0-{last} -"), ("names of glyphs", named, 16000, "subset 0-{last} -"),
+    ("one name of all glyphs", lambda n: named(n, 0), 16000, "subset 0-{last} -"), ("names of the font", records, 2500, "subset 0 -"),
+    ("groups of cmap", groups, 40000, "glyphs 0-{size} -"), ("segments of cmap", segments, 8000, "glyphs 1-{size} -"),
+    ("widths and ToUnicode", wide, 16000, "pdf 1-{last} -"), ("heights", wide, 16000, "columns 1-{last} -"), ("a chain of composites", lambda n: made.truetype([made.composite([k + 1]) for k in range(n - 1)] + [b""]), 16000, "subset 0 -"),
+    ("tree of subroutines", tree, 20, "subset 0-{last} -"), ("numbers of five bytes", lambda n: tree(n, 12, b"\xff\1\2\3\4" * 8 + b"\5\x0b"), 20, "subset 0-{last} -"),
+    ("masks of stems", lambda n: tree(n, 12, b"\x8b\x8b\x01\x13\xaa\x0b"), 20, "subset 0-{last} -"), ("one outline of composites", crowd, 2000, "subset 0 -"),
+]
+RUNS = [
+    ("instances of one long name", lambda n: instances(n, 2 * n), 2000, ["--at", "Foo", "IN", "OUT", "0", "1"]),
+    ("instances and records of names", instances, 8000, ["--at", "Foo", "IN", "OUT", "0", "1"]),
+    ("--axes of instances", lambda n: instances(n, 2 * n), 1000, ["--axes", "IN"]), ("--json of names", named, 16000, ["--json", "--gids", "0-LAST", "IN", "OUT", "0"]),
+    ("--unicodes-file", lambda n: b"0-10FFFF," * n, 8, ["--unicodes-file", "IN", "/usr/share/fonts/truetype/dejavu/DejaVuSans.ttf", "OUT", "0"]),
+    ("--gids-file", lambda n: b"0-5000," * n, 400, ["--gids-file", "IN", "/usr/share/fonts/truetype/dejavu/DejaVuSans.ttf", "OUT", "0"]),
+    ("a batch of many OUT", lambda n: lines(n, "out"), 10000, ["--batch", "IN"]), ("a batch of many IN", lambda n: lines(n, "in"), 10000, ["--batch", "IN"]),
+    ("--info of a tree", tree, 200, ["--info", "IN"]), ("a refusal's reason", lambda n: crowd(2 * n), 8000, ["--limits", LIMITS, "IN", "OUT", "0", "0"]),
+]
+
+
+def by_crate(harness, path, call, size):
+    """The seconds of a call, the bytes that it answers, those that it holds, and its status."""
+    call, glyphs, at = call.format(last=size - 1, size=size).split()
+    ran = subprocess.run([harness, "cost", call, path, glyphs, at, LIMITS], stdout=subprocess.PIPE, text=True, check=True, timeout=ENDLESS)
+    took, answered, held, status = map(int, ran.stdout.split())
+    return took / 1e9, answered + (4 * size if call == "glyphs" else 0), held, status
+
+
+def by_program(program, path, call, size):
+    """The same of a run of the program, whose answer is what it prints and the new font."""
+    room = os.path.dirname(path)
+    words = [{"IN": path, "OUT": os.path.join(room, "out"), "0-LAST": f"0-{size - 1}"}.get(it, it) for it in call]
+    with open(os.path.join(room, "said"), "wb") as said:
+        ran = subprocess.Popen(["timeout", str(ENDLESS), program, *words], stdout=said, stderr=said, cwd=room)
+        _, status, used = os.wait4(ran.pid, 0)
+    ran.returncode = os.waitstatus_to_exitcode(status)
+    if ran.returncode not in (0, 1, 2, 3):
+        raise subprocess.TimeoutExpired(words, ENDLESS)
+    answered = sum(os.path.getsize(os.path.join(room, it)) for it in ("said", "out") if os.path.exists(os.path.join(room, it)))
+    return used.ru_utime + used.ru_stime, answered, used.ru_maxrss * 1024, ran.returncode
+
+
+def measure(report, runner, name, make, usual, call):
+    """Measures a family, and says where it costs too much."""
+    cells, rows = [], []
+    for size in (usual // 2, usual, 2 * usual):
+        with tempfile.TemporaryDirectory(prefix="hostile-") as room:
+            path = os.path.join(room, "in")
+            with open(path, "wb") as file:
+                file.write(make(size))
+            length = os.path.getsize(path)
+            try:
+                took, answered, held, status = runner(path, call, size)
+            except subprocess.SubprocessError as error:
+                report.say(name, f"size {size}: {error}"[:200])
+                return
+        # (under CANARY twice the size takes 60 times as long)
+        took *= 60 if build.CANARY and size > usual else 1
+        work = length + answered
+        rows.append((took / work, held / work))
+        cells.append(f"{work:,} bytes: {1000 * took:.0f} ms, {held / 2 ** 20:.0f} MB" + f", status {status}" * (status > 0))
+        if name not in BOUND and (took > SECONDS + work * 20e-6 or held > HELD + 64 * work):
+            report.say(name, f"size {size}, {cells[-1]}")
+    report.counts["families"] += 1
+    print(f"{name}: {'; '.join(cells)}", flush=True)
+    for of, what, is_much in ((0, "time", took > LEAST_SECONDS), (1, "memory", held > LEAST_HELD)):
+        if is_much and rows[2][of] > GROWTH * rows[0][of] and name not in BOUND:
+            report.say(name, f"the {what} of a byte grows {rows[2][of] / rows[0][of]:.1f} times from half to twice the size")
 
 
 def main():
-    words = argparse.ArgumentParser(description=__doc__, formatter_class=argparse.RawDescriptionHelpFormatter)
-    words.add_argument("--no-build", action="store_true", help="take what is built")
-    words.add_argument("--instructions", action="store_true", help="count instructions, too")
-    words.add_argument("--families", action="store_true", help="more fonts, under bounds on the new font")
-    words.add_argument("--bytes", type=int, nargs="*", default=BOUNDS, metavar="N", help="bounds, with --families")
-    words.add_argument("--only", default="", metavar="WORD", help="take those whose names have this word")
-    given = words.parse_args()
-    if not given.no_build:
-        build.preload("peak.c", to="peak.so")
-        build.rt("subset_font" if given.families else "dev_bench")
-    if given.families:
-        sys.exit(0 if all_families(given.bytes, given.only) else 1)
-    head = ["Font", "Bytes of the file", "Glyphs", "Call, ms", "A glyph, µs", "Bytes of the output", "Held a glyph, bytes"]
-    head += ["Instructions a glyph"] if given.instructions else []
-    print("|", " | ".join(head), "|\n|" + "---|" * len(head))
-    with tempfile.TemporaryDirectory(prefix="hostile-") as room:
-        for glyphs in (1, 10, 40):
-            row("calls", calls_font(glyphs), glyphs, glyphs, room, given.instructions)
-        for glyphs in (1, 10, 40):
-            row("numbers", numbers_font(glyphs), glyphs, glyphs, room, given.instructions)
-        for length in (30, 300, 1200):
-            row(f"masks of {length}", masks_font(1, length), 1, 1, room, given.instructions)
-        for glyphs in (500, 1000, 2000, 4000):
-            row("crowd", crowd_font(glyphs), 1, glyphs, room, given.instructions)
+    words = reports.words(__doc__)
+    harness, program, report = build.harness(), build.program(), reports.Report("hostile")
+    for families, runner, by in ((CALLS, by_crate, harness), (RUNS, by_program, program)):
+        for name, make, size, call in families:
+            if words.only in name:
+                measure(report, lambda *it: runner(by, *it), name, make, size // (2 if words.short else 1), call)
+    reports.end([report], report.counts["families"], f"{report.counts['families']} families at three sizes")
 
 
 if __name__ == "__main__":

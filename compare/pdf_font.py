@@ -1,10 +1,9 @@
 #!/usr/bin/python3
 """Compares what the crate's `pdf_font` says of random fonts with rules that are written a second time, and shows it to PDF readers.
 
-    compare/pdf_font.py [--faces N] [--copies N] [--seen K] [--seed S] [--jobs J] [--crate FOLDER] [--program FILE] [--no-pdfbox]
-                        [--keep FOLDER]
+    compare/pdf_font.py [--short] [--faces N] [--copies N] [--seed S] [--jobs J]
 
-Of N faces of the machine (150: Debian's fonts, and a tenth more of variable ones at random coordinates) and of N damaged copies (150) it
+Of N faces of the machine (Debian's fonts, and a tenth more of variable ones at random coordinates) and of N damaged copies it
 takes up to 40 characters, ligatures, and texts of several characters, with random options. A copy has a table `OS/2`, `post`, `name`,
 `vhea`, `vmtx`, `VORG` or `VVAR` that is missing, cut, changed or another font's, or other numbers in `head` or `hhea`. Of each font
 
@@ -12,7 +11,7 @@ takes up to 40 characters, ligatures, and texts of several characters, with rand
   file that `sheet` writes, are those of lib/pdf_rules.py; the dictionaries have these entries and no others;
 - an error is that of `embed`, or comes as lib/pdf_rules.py says that the font isn't permitted;
 
-and of one in K (6; 0 for none), in turn:
+and of one in 6, in turn:
 
 - `qpdf --check` finds nothing in the line, the grid, and a page made of `objects`, and these have the same values;
 - Poppler reads the text of the grid; MuPDF does where each glyph has one text, which its code says (several characters beyond U+FFFF
@@ -21,10 +20,8 @@ and of one in K (6; 0 for none), in turn:
 - MuPDF draws the line, and Poppler the grid, as with the whole font (off a variable font's default fontTools' instance of it), each glyph
   at the point that the source's own advance gives it: ink lies within two pixels, at 100 an inch, of ink.
 
-It needs Cargo, and installs Debian's packages that are missing; without PDFBox it says so, and passes only with --no-pdfbox. The status
-is 1 where something differs, or nothing was compared.
+It needs Cargo. The status is 1 where something differs, or too little was compared.
 """
-import argparse
 import collections
 import os
 import random
@@ -35,16 +32,19 @@ from concurrent.futures import ThreadPoolExecutor
 
 sys.path.insert(0, os.path.join(os.path.dirname(os.path.realpath(__file__)), "lib"))
 
+import build  # noqa: E402
 import fonts  # noqa: E402
 import pdf_harness  # noqa: E402
 import pdf_readers as readers  # noqa: E402
 import pdf_rules as rules  # noqa: E402
+import report as reports  # noqa: E402
 from pdf_cases import LOOSE, Case, damaged  # noqa: E402
 from pdf_faults import Font, archival_page, faults_of_calls, faults_of_file, faults_of_ink, faults_of_text, faults_of_values, outcome  # noqa: E402
 
 FONTS = [it[0] for it in fonts.TRUETYPE_FONTS + fonts.CFF_FONTS] + ["fonts-inter-variable"]
-OF_THE_CRATE = [os.path.join(pdf_harness.CRATE, "tests", "data", it) for it in ("made.ttf", "made.otf", "made_variable.ttf")]
-PIECE = 120
+OF_THE_CRATE = [os.path.join(build.ROOT, "bindings", "rust", "tests", "data", it) for it in ("made.ttf", "made.otf", "made_variable.ttf")]
+# The cases of a piece, and of which one goes to the readers.
+PIECE, SEEN = 120, 6
 
 
 # ---- a case
@@ -92,7 +92,7 @@ def compared_piece(cases, program, given, room):
             total.update(done)
             wrong += [(case, it) for it in faults]
     paths = sorted(os.path.join(pages, it) for it in os.listdir(pages))
-    if paths and given.with_pdfbox:
+    if paths:
         by_name = {os.path.basename(it.folder) + ".pdf": it for it in cases}
         for path, faults in zip(paths, readers.preflight(paths, room)):
             wrong += [(by_name[os.path.basename(path)], it) for it in faults]
@@ -102,7 +102,7 @@ def compared_piece(cases, program, given, room):
 
 def chosen(given):
     """Faces and copies to take: a path, a face, and the number of a copy. A further draw of a variable font has one below 0."""
-    rng = random.Random(f"{given.seed}")
+    rng = random.Random("pdf_font" if given.seed == "1" else given.seed)
     known = fonts.faces() + [(path, 0) for path in OF_THE_CRATE]
     there = [it for it in known if os.path.getsize(it[0]) < 40_000_000]
     taken = [(*it, 0) for it in rng.sample(there, min(given.faces, len(there)))]
@@ -116,7 +116,7 @@ def case_of(path, index, copy, others, given, folder, is_seen):
     """A case, or None for a font without outlines or letters."""
     with open(path, "rb") as file:
         data = file.read()
-    rng, name = random.Random(f"{given.seed} {path} {index} {copy}"), fonts.label(path, index)
+    rng, name = random.Random(f"{'pdf_font' if given.seed == '1' else given.seed} {path} {index} {copy}"), fonts.label(path, index)
     tables = rules.Source(data, index).tables
     if not ({"glyf", "CFF "} & set(tables) and {"head", "hhea", "hmtx", "cmap"} <= set(tables)):
         return None
@@ -133,7 +133,7 @@ def pieces(given, room):
     """Lists of cases, each with a folder of its own."""
     others, cases = {}, []
     for number, (path, index, copy) in enumerate(chosen(given)):
-        is_seen = given.seen > 0 and number % given.seen == 0
+        is_seen = number % SEEN == 0
         case = case_of(path, index, copy, others, given, os.path.join(room, str(number // PIECE), f"{number:05d}"), is_seen)
         cases += [case] if case else []
         if len(cases) == PIECE:
@@ -143,49 +143,26 @@ def pieces(given, room):
         yield cases
 
 
-def report(total, wrong, given):
-    """The last lines; whether all is well."""
-    print(f"{total['fonts']} fonts ({total['kind TrueType']} TrueType, {total['moved']} of them off their default, {total['kind BareCff']} bare CFF, {total['kind OpenType']} OpenType; "
-          f"{total['vertical']} in columns), {total['refused']} refused as they should be")
-    print(f"{total['files']} files were read by qpdf, {total['texts']} texts were read, {total['pictures']} pictures compared, {total['preflight']} pages judged by PDFBox")
-    print(f"{total['fonts'] + total['refused']} of {given.wanted} fonts compared, {len(wrong)} differences")
-    if not total["fonts"] or not total["refused"] and given.copies >= 100 or not total["pictures"] and given.seen:
-        print("too little was compared")
-        return False
-    if not total["preflight"] and given.with_pdfbox:
-        print("PDFBox judged nothing")
-        return False
-    return not wrong
-
-
 def main():
-    words = argparse.ArgumentParser(description=__doc__, formatter_class=argparse.RawDescriptionHelpFormatter)
-    words.add_argument("--faces", type=int, default=150, metavar="N", help="so many faces, spread over all")
-    words.add_argument("--copies", type=int, default=150, metavar="N", help="so many damaged copies")
-    words.add_argument("--seen", type=int, default=6, metavar="K", help="one in K goes to the readers; 0 for none")
-    words.add_argument("--seed", default="pdf_font", metavar="S", help="the seed of the random choices")
-    words.add_argument("--jobs", type=int, default=2, metavar="J", help="so many at a time")
-    words.add_argument("--crate", default=pdf_harness.CRATE, metavar="FOLDER", help="in place of bindings/rust")
-    words.add_argument("--program", help="in place of the harness")
-    words.add_argument("--no-pdfbox", action="store_true")
-    words.add_argument("--keep", metavar="FOLDER", help="leave the files there")
-    given = words.parse_args()
-    given.with_pdfbox = not given.no_pdfbox and given.seen > 0
-    fonts.install(FONTS + readers.PACKAGES + (readers.PDFBOX if given.with_pdfbox else []))
-    if given.with_pdfbox and not readers.has_pdfbox():
-        sys.exit("pdf_font: PDFBox isn't there, and --no-pdfbox wasn't given")
-    program, total, wrong, given.wanted = given.program or pdf_harness.built(given.crate), collections.Counter(), [], 0
-    with tempfile.TemporaryDirectory(prefix="pdf-font-") as own:
-        room = given.keep or own
+    given = reports.words(__doc__, faces=(150, 24), copies=(150, 120))
+    fonts.install(FONTS + readers.PACKAGES + readers.PDFBOX)
+    if not readers.has_pdfbox():
+        sys.exit("pdf_font: PDFBox isn't there: apt-get install " + " ".join(readers.PDFBOX))
+    program, total, all_, wanted = build.harness(), collections.Counter(), reports.Report("pdf_font"), 0
+    with tempfile.TemporaryDirectory(prefix="pdf-font-") as room:
         for number, cases in enumerate(pieces(given, room)):
-            given.wanted += len(cases)
+            wanted += len(cases)
             found, done = compared_piece(cases, program, given, os.path.join(room, str(number)))
             total.update(done)
-            wrong += found
             for case, it in found:
-                print(f"different: {case.name}, {' '.join(case.options)}, {case.coordinates}: {it}"[:400], flush=True)
-            print(f"{given.wanted} fonts, {len(wrong)} differences", file=sys.stderr, flush=True)
-    sys.exit(0 if report(total, wrong, given) else 1)
+                all_.say(case.name, f"{' '.join(case.options)}, {case.coordinates}: {it}")
+    for kind in ("fonts", "refused", "pictures", "preflight"):
+        if not total[kind]:
+            all_.say(kind, "none was compared")
+    if total["fonts"] + total["refused"] != wanted:
+        all_.say("fonts", f"{total['fonts'] + total['refused']} of {wanted} compared")
+    reports.end([all_], total["fonts"] + total["refused"], f"{total['kind TrueType']} TrueType, {total['moved']} of them off their default, {total['kind BareCff']} bare CFF, {total['kind OpenType']} OpenType, "
+                f"{total['vertical']} in columns, {total['refused']} refused as they should be; {total['files']} files read by qpdf, {total['texts']} texts, {total['pictures']} pictures, {total['preflight']} pages judged by PDFBox")
 
 
 if __name__ == "__main__":

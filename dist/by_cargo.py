@@ -1,6 +1,6 @@
 """The C library as Cargo makes it of the crate (bindings/capi), for targets that the kit doesn't compile for.
 
-The compilers are Debian's, which `bindings/targets` unpacks into a folder: out/targets, or the one that TARGETS names.
+The compilers are Debian's, which `tests/platforms/targets` unpacks into a folder: out/targets, or the one that TARGETS names.
 """
 import os
 import re
@@ -9,7 +9,7 @@ import shutil
 from kit import ROOT, Failed, run
 
 TARGETS = ["windows", "s390x"]
-# What is linked in beside the crate, by a part of a package's name, with the versions that bindings/targets has of Debian.
+# What is linked in beside the crate, by a part of a package's name, with the versions that tests/platforms/targets has of Debian.
 RUST = {"rust": "1.63.0"}
 LINKED = {"s390x": RUST, ".tgz": RUST, **dict.fromkeys(["windows", "win_amd64"], {**RUST, "mingw": "10.0.0", "gcc": "12.2.0"})}
 # A DLL has no date in its head.
@@ -50,7 +50,7 @@ class Target:
 
     def __init__(self, name, room):
         folder = os.path.abspath(os.environ.get("TARGETS") or os.path.join(ROOT, "out", "targets"))
-        run([os.path.join(ROOT, "bindings", "targets"), folder, name])
+        run([os.path.join(ROOT, "tests", "platforms", "targets"), folder, name])
         self.name, self.tools, self.room = name, os.path.join(folder, name), os.path.join(room, f"cargo-{name}")
         self.sources = copied(self.room)
         self.built = os.path.join(self.room, "target", text_of(self.tools, "triple").strip(), "release")

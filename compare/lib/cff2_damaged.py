@@ -1,4 +1,4 @@
-"""Damaged CFF2 fonts, and what the program may answer of them: what cff2.py --damage takes.
+"""Damaged CFF2 fonts, and what the program may answer of them: what cff2.py takes.
 
 A new font has to draw what HarfBuzz draws of the damaged copy, each coordinate rounded once. Where HarfBuzz draws something else, as it goes on
 where a table is broken and knows other limits, it has to be what fontTools reads, in exact fractions. Where HarfBuzz draws nothing, or fontTools
@@ -188,7 +188,7 @@ def one_copy(words, report, face, data, rng, room, label):
     finally:
         took = spent() - before
         report.worst = max(report.worst, took)
-    if took > words.seconds:
+    if took > SECONDS:
         report.say("damage", f"{label}, {done}: {took:.1f} seconds")
     try:
         copy = Copy(path, face, place)
@@ -205,6 +205,6 @@ def piece(words, path, index, number):
     with open(path, "rb") as file:
         data = file.read()
     with tempfile.TemporaryDirectory(prefix="damaged-") as room:
-        for k in range(min(PIECE, words.damage)):
+        for k in range(min(PIECE, words.copies)):
             one_copy(words, report, face, data, rng, room, f"piece {number}, copy {k}")
     return report

@@ -4,7 +4,7 @@ import math
 
 import cff2_static
 from cff2_exact import Pen
-from instance_others import advance_by
+from others import advance_by
 
 PPEM, PIXEL = 16, 64
 # Where a stem lies so that half a unit decides where FreeType puts it, rounding alone moves it by more than a pixel. What rounding does is

@@ -1,15 +1,16 @@
-"""Whole fonts that the program makes of CFF2 fonts at coordinates, beside their sources: what cff2.py --fonts compares."""
-import collections
+"""Whole fonts that the program makes of CFF2 fonts at coordinates, beside their sources: what cff2.py compares."""
 import os
 import random
 import subprocess
 
+import build
 import cff2_others
 import cff2_private
 import font_at
 import pdf_file
-import pdf_variable
+import drawn_variable
 import reading
+import report
 from cff2_drawn import HarfBuzz, contours, is_near_a_half, rounded
 from cff2_exact import Source, drawn, hints, rounded_hints, written
 
@@ -29,6 +30,9 @@ MUTATED = 5000
 KINDS = ["drawing", "advance", "width", "hints", "private dict", "FreeType", "fontTools", "file"]
 
 
+CANARY = build.Canary()
+
+
 class Refused(Exception):
     """The program refused a font; the first line that it said."""
 
@@ -42,7 +46,7 @@ def subset_at(program, path, index, place, glyphs, room):
     gids, out = os.path.join(room, "gids"), os.path.join(room, "out")
     with open(gids, "w") as file:
         file.write(",".join(map(str, glyphs)))
-    words = [program, "--at", pdf_variable.words_at(place), "--gids-file", gids, path, out, str(index)]
+    words = [program, "--at", drawn_variable.words_at(place), "--gids-file", gids, path, out, str(index)]
     try:
         ran = subprocess.run(words, capture_output=True, text=True, errors="replace", timeout=LONG)
     except subprocess.TimeoutExpired:
@@ -55,7 +59,7 @@ def subset_at(program, path, index, place, glyphs, room):
     numbers = [tuple(map(int, line.split(" -> "))) for line in ran.stdout.splitlines()]
     old = {new: old for old, new in [(0, 0), *numbers]}
     with open(out, "rb") as file:
-        data = file.read()
+        data = CANARY.changed(file.read())
     os.unlink(out)
     if sorted(old) != list(range(len(old))) or set(old.values()) != {0, *glyphs}:
         raise Broken("its lines don't number the requested glyphs")
@@ -101,16 +105,12 @@ class Face:
         return max(reading.nearest(self.advance(glyph, at), reading.UNIT), 0)
 
 
-class Report:
+class Report(report.Report):
     """What came of a face."""
 
     def __init__(self, label):
-        self.label, self.counts, self.wrong, self.otherwise = label, collections.Counter(), [], []
-        self.halves = self.worst = self.units = 0
-
-    def say(self, kind, text):
-        self.counts["wrong"] += 1
-        self.wrong.append(f"{self.label}: {kind}: {text}")
+        super().__init__(label)
+        self.otherwise, self.halves, self.worst, self.units = [], 0, 0, 0
 
 
 # ---- the file
@@ -299,7 +299,7 @@ def compare_face(words, path, index, room):
             if is_too_wide(face, face.at(place), glyphs) and str(it) == TOO_LARGE:
                 report.counts["too wide"] += 1
                 continue
-            report.say("answer", f"at {pdf_variable.words_at(place) or 'the default'}: {it}")
+            report.say("answer", f"at {drawn_variable.words_at(place) or 'the default'}: {it}")
             continue
         compare_font(report, face, face.at(place), data, old, cff2_others.Others(face, place, count <= MUTATED), room)
     if not cff2_others.is_seldom(face, report.counts["hinted otherwise"], report.counts["FreeType"]):

@@ -1,26 +1,19 @@
-"""Damaged copies of fonts, what the drivers answer on them, and which intended difference explains it: what damage.py, faces.py and run.py share."""
+"""Damaged copies of fonts, what two drivers answer on them, and which intended difference explains it: for original.py."""
 import collections
 import os
 import random
 import subprocess
-import sys
 import tempfile
-from concurrent.futures import ThreadPoolExecutor
 
 import build
-import copies
 import explain
 import fonts
-from fonts import glyph_count
 
-# Seconds for a task, and for a list of them; how many copies are made at once, and are a piece.
-AT_MOST, FOR_ALL, AT_ONCE, PIECE = 30, 200, 100, 100000
-# (the library under AddressSanitizer takes ten times as long)
-PIECE_OF_LIBRARY = 10000
+# Seconds for a task, and for a list of them.
+AT_MOST, FOR_ALL = 30, 200
 # A file system in memory, where there is one.
 ROOM = "/dev/shm" if os.path.isdir("/dev/shm") else None
-# The driver of the C library under AddressSanitizer.
-LIBRARY = os.path.join(build.HERE, "fuzz", "out", "driver")
+CANARY = build.Canary()
 Copy = collections.namedtuple("Copy", "number kind path source index glyphs what data file")
 
 
@@ -29,9 +22,7 @@ def lines_of(program, tasks, room):
     name = os.path.join(room, "list")
     with open(name, "w") as file:
         file.write("".join(f"{task}\n" for task in tasks))
-    # (AddressSanitizer takes more addresses than there are)
-    limit = "unlimited" if program == LIBRARY else "4000000"
-    words = ["sh", "-c", f'ulimit -v {limit}; exec "$@"', "", program, "--list", name]
+    words = ["sh", "-c", 'ulimit -v 4000000; exec "$@"', "", program, "--list", name]
     try:
         said = subprocess.run(words, stdout=subprocess.PIPE, stderr=subprocess.DEVNULL, timeout=FOR_ALL if len(tasks) > 1 else AT_MOST).stdout
         return said.decode().splitlines(), "died"
@@ -62,20 +53,6 @@ def kept(copy):
 
 def task(copy, file):
     return f"{file} {copy.index} {copy.glyphs} 1"
-
-
-def by_bytes(sources, is_aimed):
-    """Copies of fonts whose bytes are changed."""
-    paths = list(sources)
-
-    def make(rng, number):
-        path = paths[number % len(paths)]
-        data = sources[path]
-        glyphs = ",".join(str(rng.randrange(glyph_count(path, 0))) for _ in range(20))
-        places = copies.regions(data, [0, *map(int, glyphs.split(","))]) if is_aimed else []
-        done, what = copies.aimed_damage(rng, data, places) if is_aimed else copies.damage(rng, data)
-        return "", path, data, 0, glyphs, what, done
-    return make
 
 
 def by_kinds(found):
@@ -120,7 +97,10 @@ def names_of(found):
 
 def answers_of(drivers, tasks, room):
     """What each driver answers on each task."""
-    return list(zip(*([without_times(line) for line in run_list(program, tasks, room)] for program in drivers.values())))
+    said = {name: [without_times(line) for line in run_list(program, tasks, room)] for name, program in drivers.items()}
+    if CANARY.is_due and "crate" in said:
+        CANARY.is_due, said["crate"][0] = False, said["crate"][0] + "0"
+    return list(zip(*said.values()))
 
 
 def reasons_of(drivers, differing, room):
@@ -145,61 +125,16 @@ def kind_of(answers):
     return ("ok", "ok, other bytes") if len(set(answers)) > 1 and set(key) == {"ok"} else key
 
 
-def judged(drivers, make, numbers, seed):
-    """The answers on each copy of some numbers with the reason where they differ, the copy's kind, its number, its bytes
-    where they differ, and what was done to it."""
+def judged(drivers, make, numbers, seed, report):
+    """Compares the answers on each copy of some numbers."""
     rng = random.Random(f"{seed} {numbers[0]}")
     with tempfile.TemporaryDirectory(prefix="compare-", dir=ROOM) as room:
         made = written(make, rng, numbers, room)
         said = answers_of(drivers, [task(it, it.file) for it in made], room)
         differing = [it for it, answers in zip(made, said) if len(set(answers)) > 1]
         reasons = dict(zip((it.number for it in differing), reasons_of(drivers, differing, room)))
-    found = []
     for copy, answers in zip(made, said):
         reason = reasons.get(copy.number, "")
-        example = f"{copy.number}.font: {os.path.basename(copy.path)} {copy.index}, {copy.what}; glyphs {copy.glyphs}<br>"
-        found.append(((*kind_of(answers), reason), copy.kind, copy.number, copy.data if reason else b"", example))
-    return found
-
-
-def counted(drivers, make, numbers, where, seed, jobs, at_once=AT_ONCE):
-    """How often each pair of answers came, with three examples where they differ, and how often in each kind of font. These
-    copies are written to a folder, and all that aren't explained."""
-    os.makedirs(where, exist_ok=True)
-    pairs, kinds = {}, {}
-    lots = [range(first, min(numbers[-1] + 1, first + at_once)) for first in range(numbers[0], numbers[-1] + 1, at_once)]
-    with ThreadPoolExecutor(jobs) as pool:
-        for lot, found in zip(lots, pool.map(lambda it: judged(drivers, make, it, seed), lots)):
-            for key, kind, number, data, example in found:
-                seen = pairs.setdefault(key, [0, ""])
-                seen[0] += 1
-                if key[-1] and (seen[0] <= 3 or key[-1] == "not explained"):
-                    seen[1] += example
-                    with open(os.path.join(where, f"{number}.font"), "wb") as file:
-                        file.write(data)
-                of = kinds.setdefault(kind, collections.Counter())
-                of["not explained" if key[-1] == "not explained" else "different" if key[-1] else "made" if key[0] == "ok" else "refused"] += 1
-            print(f"{lot[-1] + 1} damaged copies", file=sys.stderr, flush=True)
-    return [[count, *key, example] for key, (count, example) in sorted(pairs.items(), key=lambda it: -it[1][0])], kinds
-
-
-def refusals(drivers, paths, number, where, seed=20240607, jobs=1, is_aimed=False):
-    """How often each pair of answers came on so many copies of fonts whose bytes are changed."""
-    if not number:
-        return []
-    sources = {}
-    for path in paths:
-        with open(path, "rb") as file:
-            sources[path] = file.read()
-    return counted(drivers, by_bytes(sources, is_aimed), range(number), where, seed, jobs)[0]
-
-
-def sentence(number, different, unexplained):
-    return f"Of {number} copies the answers differ on {different}, of which {unexplained} are not explained."
-
-
-def summed(rows):
-    """The sum of the rows in a sentence, and how many copies aren't explained."""
-    differing = [row for row in rows if row[3]]
-    unexplained = sum(row[0] for row in differing if row[3] == "not explained")
-    return sentence(sum(row[0] for row in rows), sum(row[0] for row in differing), unexplained), unexplained
+        report.counts.update({"copies": 1, "refused": int(answers[-1] == answers[0] != "ok" and not answers[0].startswith("ok")), "explained": int(reason not in ("", "not explained"))})
+        if reason == "not explained":
+            report.say(f"{os.path.basename(copy.path)} {copy.index}, copy {copy.number} of {seed}", f"{copy.what}; glyphs {copy.glyphs}: {', '.join(kind_of(answers))}")

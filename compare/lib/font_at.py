@@ -4,7 +4,6 @@ import glob
 import math
 import os
 
-import build
 import fonts
 
 PACKAGES = ["fonts-inter-variable", "python3-freetype", "python3-fonttools"]
@@ -239,22 +238,3 @@ def font_paths(folders, only):
     for folder in folders:
         found += sorted(path for path in glob.glob(os.path.join(folder, "*")) if path.endswith((".ttf", ".otf")))
     return [path for path in found if only in os.path.basename(path) and is_variable(path)]
-
-
-def harfbuzz_version():
-    harfbuzz = ctypes.CDLL("libharfbuzz.so.0")
-    harfbuzz.hb_version_string.restype = ctypes.c_char_p
-    return f"HarfBuzz {harfbuzz.hb_version_string().decode()}"
-
-
-def versions():
-    from fontTools import version
-    import freetype
-
-    return f"{harfbuzz_version()}, FreeType {'.'.join(map(str, freetype.version()))}, fontTools {version}"
-
-
-def commit():
-    """The commit of this folder, and whether the crates hold more than that."""
-    name, changed = build.commit()
-    return (name or "no commit") + (" with changes" if changed else "")

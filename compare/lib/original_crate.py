@@ -36,7 +36,7 @@ std = []
 
 
 def stop(why):
-    sys.exit(f"assemble.py: {why}")
+    sys.exit(f"original: {why}")
 
 
 def original_folder():
@@ -102,4 +102,4 @@ def lay_out():
     source = original_folder()
     os.makedirs(BUILD, exist_ok=True)
     lay_crate(source)
-    print(f"laid out {BUILD}/subsetter and rustc-hash {lay_hash()}")
+    lay_hash()

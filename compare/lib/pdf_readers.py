@@ -1,5 +1,4 @@
 """The PDF readers of Debian that the comparisons of PDF fonts ask: whether a file is in order, its text, its picture."""
-import html
 import json
 import os
 import re
@@ -8,7 +7,6 @@ import subprocess
 import unicodedata
 from fractions import Fraction
 
-import build
 
 JAVA = "/usr/share/java"
 JARS = "preflight pdfbox2 pdfbox2-tools fontbox2 xmpbox commons-logging javax.activation jaxb-api".split()
@@ -62,47 +60,6 @@ def text_by_mupdf(path):
     return ran("mutool", "draw", "-q", "-F", "txt", path).decode("utf-8", "replace")
 
 
-def text_by_ghostscript(path):
-    words = ["gs", "-q", "-dSAFER", "-dBATCH", "-dNOPAUSE", "-sDEVICE=txtwrite", "-sOutputFile=-", path]
-    return ran(*words).decode("utf-8", "replace")
-
-
-def merged(paths, room):
-    """One file of the first pages of others."""
-    path = os.path.join(room, "merged.pdf")
-    ran("qpdf", "--empty", "--pages", *(word for it in paths for word in (it, "1")), "--", path)
-    return path
-
-
-def texts_by_pdfbox(paths, room):
-    """The texts of the first pages of files, in one run of PDFBox."""
-    words = ["java", "-cp", class_path(), "org.apache.pdfbox.tools.ExtractText", "-console", "-html", "-encoding", "UTF-8", merged(paths, room)]
-    said = ran(*words).decode("utf-8", "replace").partition("<body>")[2].rpartition("</body>")[0]
-    pages = said.split('<div style="page-break-before:always; page-break-after:always">')[1:]
-    if len(pages) != len(paths):
-        raise Unread(f"PDFBox finds {len(pages)} pages, not {len(paths)}")
-    return [html.unescape(re.sub(r"<[^>]*>", "", it)) for it in pages]
-
-
-def pictures_by_pdfbox(paths, room, dpi=DPI):
-    """The pictures of the first pages of files, in one run of PDFBox."""
-    folder = os.path.join(room, "pictures")
-    os.makedirs(folder)
-    ran("java", "-Djava.awt.headless=true", "-cp", class_path(), "org.apache.pdfbox.tools.PDFToImage", "-dpi", str(dpi), "-color", "gray", "-format", "png",
-        "-prefix", os.path.join(folder, "page"), merged(paths, room))
-    found = []
-    for number in range(1, len(paths) + 1):
-        with open(os.path.join(folder, f"page{number}.png"), "rb") as file:
-            found.append(picture(file.read()))
-    return found
-
-
-def text_by_pdfjs(path):
-    return ran("node", os.path.join(build.DRIVERS, "pdf_text.mjs"), path).decode("utf-8", "replace")
-
-
-# ---- pictures
-
 def picture(data):
     """A picture in grey, of PGM bytes."""
     import io
@@ -118,11 +75,6 @@ def by_mupdf(path, dpi=DPI):
 
 def by_poppler(path, dpi=DPI):
     return picture(ran("pdftoppm", "-r", str(dpi), "-gray", "-f", "1", "-l", "1", path))
-
-
-def by_ghostscript(path, dpi=DPI):
-    words = ["gs", "-q", "-dSAFER", "-dBATCH", "-dNOPAUSE", "-sDEVICE=pgmraw", f"-r{dpi}", "-dTextAlphaBits=4", "-dGraphicsAlphaBits=4"]
-    return picture(ran(*words, "-dLastPage=1", "-sOutputFile=-", path))
 
 
 def ink(it, level):

@@ -1,121 +1,157 @@
-//! All that a PDF has of a font, from one call: the font program, the codes, the widths, the values of the font descriptor,
-//! ToUnicode and the CMap of the codes.
-//!
-//! Sections and tables in brackets are those of ISO 32000-1. Lengths are in thousandths of the em, angles in thousandths of a
-//! degree. Where memory is refused the process ends, as with any `Vec`.
-//!
-//! ```
-//! use subsetter::pdf::{glyphs_of, pdf_font, FontOptions};
-//!
-//! # fn main() -> Result<(), subsetter::pdf::FontError> {
-//! # let data = include_bytes!("../../rust/tests/data/made.ttf");
-//! // `data` is a whole font file. A text without shaping: each character has the glyph that `cmap` gives it.
-//! let shown = glyphs_of(data, 0, "ABBA")?;
-//! let font = pdf_font(data, 0, &[], &shown, &FontOptions::new())?;
-//! // Strings of the page hold the codes, two bytes each.
-//! assert_eq!(font.codes(), [1, 2, 2, 1]);
-//! assert_eq!(font.widths(), [500, 667, 667]);
-//! assert_eq!(font.descriptor().cap_height, 688);
-//! assert!(font.to_unicode().starts_with(b"/CIDInit"));
-//! # Ok(())
-//! # }
-//! ```
+//! All that a PDF has of a font.
 
-mod calls;
-mod codes;
-mod error;
-mod font;
-mod objects;
-mod options;
-mod permission;
-mod shown;
-mod values;
-mod written;
+use crate::library::{self, Column, Entries, Font, Numbers};
+use crate::{Error, Options};
 
-pub use codes::codes_of;
-pub use error::FontError;
-pub use font::PdfFont;
-pub use objects::{Dictionaries, Layout, Objects, References};
-pub use options::{Bounds, Codes, Direction, FontOptions, ProgramChoice, Rights, SubsetTag};
-pub use shown::Shown;
-pub use values::{Cmap, Column, Columns, Descriptor, Permission, ProgramKind, Usage};
-
-use crate::library::{self, pdf as native};
-use crate::{Error, Tag};
-
-/// The glyph of each character of a text, by the font's table `cmap`, with the character as its text.
-///
-/// The text isn't shaped: there are no ligatures, no kerning, no reordering and no marks put in position, as a writer of Latin,
-/// Greek, Cyrillic or CJK mostly does without, and a writer of Arabic or Devanagari doesn't. A character that the font doesn't
-/// have gets glyph 0. The first Unicode table of format 12 is taken, else the first of format 4.
-///
-/// # Errors
-///
-/// Those of [`subset`](crate::subset) that come of opening the font; [`Error::MalformedFont`] where it has no such table.
-pub fn glyphs_of<'a>(data: &[u8], index: u32, text: &'a str) -> Result<Vec<Shown<'a>>, Error> {
-    let characters: Vec<u32> = text.chars().map(u32::from).collect();
-    let glyphs = native::glyphs_of(data, index, &characters).map_err(Error::of_status)?;
-    let found = text.char_indices().zip(glyphs);
-    let shown = found.map(|((at, character), glyph)| Shown {
-        glyph,
-        text: &text[at..at + character.len_utf8()],
-    });
-    Ok(shown.collect())
+/// Choices with the values that `subsetter.h` gives them.
+macro_rules! choices {
+    ($($about:literal $name:ident: $first:ident $(, $other:ident)*;)*) => {$(
+        #[doc = $about]
+        #[derive(Debug, Copy, Clone, Default, Eq, PartialEq, Hash)]
+        pub enum $name {
+            #[default]
+            $first,
+            $($other,)*
+        }
+    )*};
 }
 
-/// The glyphs in use as the library takes them.
-fn taken(shown: &[Shown<'_>]) -> native::Entries {
-    let mut entries = native::Entries::with_capacity(shown.len());
-    for it in shown {
-        entries.push(it.glyph, it.text);
+choices! {
+    "What the font program of a font with outlines in `CFF ` is: the bytes of `CFF `, or the whole file." Program: Smallest, OpenType;
+    "How the glyphs in use get codes." Codes: Consecutive, Source, EachText;
+    "How text runs." Direction: Horizontal, Vertical;
+    "Which glyphs FontBBox holds: all of the font, or those of the font program." Bounds: Font, Kept;
+    "Whose permission counts: that of the font's maker, as `fsType` says it, or the caller's." Rights: AsSaid, Held;
+    "How a sheet shows glyphs: in one line, or each in a cell." Layout: Line, Grid;
+}
+
+/// The choices of a font for a PDF. (Names of the font and of its glyphs are always dropped.)
+#[derive(Debug, Copy, Clone, Default, Eq, PartialEq, Hash)]
+pub struct PdfOptions {
+    pub options: Options,
+    pub program: Program,
+    pub codes: Codes,
+    pub direction: Direction,
+    pub bounds: Bounds,
+    pub cid_set: bool,
+    pub rights: Rights,
+    /// The tag in front of the font's name, six capitals; none: it is computed of the font program.
+    pub tag: Option<[u8; 6]>,
+}
+
+impl PdfOptions {
+    fn words(&self) -> [u32; 13] {
+        let [_, tokens, depth, drop, bytes] = self.options.words();
+        let [front, back] =
+            self.tag.map_or([0, 0], |[a, b, c, d, e, f]| [[0, a, b, c], [0, d, e, f]].map(u32::from_be_bytes));
+        let choices = [self.program as u32, self.codes as u32, self.direction as u32, self.bounds as u32];
+        let [program, codes, direction, bounds] = choices;
+        let (cid_set, rights) = (u32::from(self.cid_set), self.rights as u32);
+        [52, tokens, depth, drop, bytes, program, codes, direction, bounds, cid_set, rights, front, back]
     }
-    entries
 }
 
-/// All that a PDF has of a font for the glyphs in use, at coordinates (none: the font's default).
-///
-/// `data`, `index` and `variation_coordinates` are as for [`embed_with_variations`](crate::embed_with_variations), which makes
-/// the font program; names of the font and of its glyphs are never kept. `shown` are glyphs in order of use, with repeats if
-/// need be.
-///
-/// ```
-/// use subsetter::pdf::{pdf_font, Codes, Direction, FontOptions, Shown};
-/// use subsetter::Tag;
-///
-/// # fn main() -> Result<(), subsetter::pdf::FontError> {
-/// # let data = include_bytes!("../../rust/tests/data/made_variable.ttf");
-/// // As a shaper has them: glyph 5 is a ligature.
-/// let shown = [Shown::new(1, "A"), Shown::new(5, "fi")];
-/// let options = FontOptions::new().codes(Codes::Source).direction(Direction::Vertical);
-/// let font = pdf_font(data, 0, &[(Tag::new(b"wght"), 650.0)], &shown, &options)?;
-/// assert_eq!(font.codes(), [1, 5]);
-/// assert_eq!(font.cids(), [1, 2]);
-/// assert!(font.encoding().is_some() && font.columns().is_some());
-/// # Ok(())
-/// # }
-/// ```
+/// The glyph of each character of a text, by the font's `cmap`: 0 where it has none. The text isn't shaped.
 ///
 /// # Errors
 ///
-/// The first of these that comes:
+/// [`Error::UnknownKind`], [`Error::MalformedFont`] (also without a Unicode table) and [`Error::OutOfMemory`].
+pub fn glyphs_of(data: &[u8], index: u32, text: &str) -> Result<Vec<u16>, Error> {
+    let text: Vec<u32> = text.chars().map(u32::from).collect();
+    library::glyphs_of(data, index, &text)
+}
+
+/// All that a PDF has of a font for glyphs in use, each with its text, at coordinates as of [`subset`](crate::subset).
 ///
-/// - [`FontError::Subset`]: the font can't be opened.
-/// - [`FontError::NotPermitted`]: `fsType` of the table `OS/2` forbids embedding, subsets or outlines, and
-///   [`Rights::Held`] isn't chosen.
-/// - [`FontError::TextTooLong`]: a text has more than 256 UTF-16 units (512 bytes: 9.10.3).
-/// - [`FontError::Subset`]: what [`embed_with_variations`](crate::embed_with_variations) answers; [`Error::MalformedFont`]
-///   where a font with outlines in `glyf` has no `maxp` (9.9); [`Error::OverflowError`] as in [`codes_of`].
+/// # Errors
 ///
-/// No value of the font descriptor is a reason: where a table is missing or cut, another source of the value is taken.
+/// All of [`Error`]; of a tag that isn't six capitals [`Error::UnknownOption`].
 pub fn pdf_font(
     data: &[u8],
     index: u32,
-    variation_coordinates: &[(Tag, f32)],
-    shown: &[Shown<'_>],
-    options: &FontOptions,
-) -> Result<PdfFont, FontError> {
-    let coordinates = library::coordinates(variation_coordinates);
-    let made = native::Font::of(data, index, &coordinates, &taken(shown), &options.words());
-    let made = made.map_err(|status| FontError::of_status(status, data, index))?;
-    Ok(PdfFont::new(made))
+    coordinates: &[([u8; 4], f32)],
+    shown: &[(u16, &str)],
+    options: &PdfOptions,
+) -> Result<PdfFont, Error> {
+    let (at, shown) = (library::coordinates(coordinates), Entries::of(shown));
+    Font::of(data, index, &at, &shown, &options.words()).map(PdfFont)
+}
+
+/// What [`pdf_font`] made. An entry is a glyph in use with its text, as the call was given them.
+pub struct PdfFont(Font);
+
+fn ascii(bytes: &[u8]) -> &str {
+    std::str::from_utf8(bytes).unwrap_or("")
+}
+
+macro_rules! lists {
+    ($($about:literal $name:ident: $item:ty;)*) => {$(
+        #[doc = $about]
+        pub fn $name(&self) -> &[$item] {
+            self.0.$name()
+        }
+    )*};
+}
+
+impl PdfFont {
+    lists! {
+        "The font program." program: u8;
+        "The CID of each entry." cids: u16;
+        "The code of each entry." codes: u16;
+        "Of each entry 1 where readers find its text by its code." is_said: u8;
+        "The width of each CID of the font program." widths: u32;
+        "In vertical writing each CID from 0 on that a string can show." columns: Column;
+        "The ToUnicode CMap." to_unicode: u8;
+    }
+
+    /// FontName.
+    pub fn font_name(&self) -> &str {
+        ascii(self.0.font_name())
+    }
+
+    /// The CMap from codes to CIDs and its name; none where each code is its CID.
+    pub fn encoding(&self) -> Option<(&str, &[u8])> {
+        let cmap = self.0.encoding();
+        (!cmap.is_empty()).then(|| (ascii(self.0.encoding_name()), cmap))
+    }
+
+    /// The bytes of CIDSet; none where it wasn't chosen.
+    pub fn cid_set(&self) -> Option<&[u8]> {
+        let set = self.0.cid_set();
+        (!set.is_empty()).then_some(set)
+    }
+
+    /// The numbers of the font and its descriptor.
+    pub fn numbers(&self) -> &Numbers {
+        &self.0.numbers
+    }
+
+    /// The objects of the font, with numbers from `first` on.
+    ///
+    /// # Errors
+    ///
+    /// [`Error::OverflowError`] where seven numbers from `first` on don't fit 32 bits, and [`Error::OutOfMemory`].
+    pub fn objects(&self, first: u32) -> Result<Objects, Error> {
+        let made = self.0.objects(first)?;
+        Ok(Objects { bytes: made.bytes().to_vec(), offsets: made.offsets().to_vec() })
+    }
+
+    /// A whole PDF file that shows the glyphs that the font was made of, or the first of them.
+    ///
+    /// # Errors
+    ///
+    /// [`Error::OverflowError`] and [`Error::OutOfMemory`].
+    pub fn sheet(&self, shown: &[(u16, &str)], layout: Layout) -> Result<Vec<u8>, Error> {
+        let made = self.0.sheet(&Entries::of(shown), layout as u32)?;
+        Ok(made.bytes().to_vec())
+    }
+}
+
+/// The objects of a font for a PDF file.
+#[derive(Debug, Clone, Eq, PartialEq, Hash)]
+pub struct Objects {
+    /// The objects, one behind the other.
+    pub bytes: Vec<u8>,
+    /// Where each begins in these bytes.
+    pub offsets: Vec<usize>,
 }

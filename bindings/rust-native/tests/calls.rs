@@ -1,136 +1,184 @@
-//! The tests of `../../rust/tests/calls.rs`, by the native library, and its errors.
+//! The worked rows by the native library, a font for a PDF, and errors.
 
-#[path = "../../rust/tests/calls.rs"]
-mod calls;
+use std::collections::HashMap;
+use std::fs;
+use subsetter_native::{embed, glyphs_of, pdf_font, subset, Codes, Direction, Error, Layout, Options};
+use subsetter_native::{Embedded, PdfFont, PdfOptions, Rights};
 
-use core::fmt::{Debug, Display};
-use core::hash::Hash;
-use core::panic::{RefUnwindSafe, UnwindSafe};
-use core::str::FromStr;
-use subsetter::{Embedded, Error, GlyphRemapper, Limits, Options, Tag};
-
-/// A `match` of the six errors of 0.2.6 is whole.
-fn text(error: Error) -> &'static str {
-    match error {
-        Error::UnknownKind => "unknown font kind",
-        Error::MalformedFont => "malformed font",
-        Error::Unimplemented => "unsupported feature in font",
-        Error::SubsetError => "subsetting of font failed",
-        Error::OverflowError => "overflow occurred",
-        Error::CFFError => "processing CFF table failed",
-    }
+fn bytes(word: &str) -> Vec<u8> {
+    let digits = word.trim_matches('-').as_bytes().chunks(2);
+    digits.map(|two| u8::from_str_radix(std::str::from_utf8(two).unwrap(), 16).unwrap()).collect()
 }
 
-#[test]
-fn errors_are_those_of_0_2_6() {
-    for error in [
-        Error::UnknownKind,
-        Error::MalformedFont,
-        Error::Unimplemented,
-        Error::SubsetError,
-        Error::OverflowError,
-        Error::CFFError,
-    ] {
-        let boxed: Box<dyn std::error::Error + Send + Sync> = Box::new(error);
-        assert_eq!(boxed.to_string(), text(error));
-    }
-}
-
-// ---- names, types and traits: what is lost or changed doesn't compile here
-
-/// What every public type has.
-fn is_plain<T: Send + Sync + Unpin + UnwindSafe + RefUnwindSafe + 'static>() {}
-
-fn is_value<T: Copy + Clone + Eq + PartialEq + Debug>() {}
-
-fn is_shown<T: Display>() {}
-
-fn is_hashed<T: Clone + Eq + PartialEq + Hash + Debug>() {}
-
-type Answer = Result<Vec<u8>, Error>;
-type Embedding = Result<Embedded, Error>;
-
-#[test]
-fn names_and_types_are_those_of_0_2_6() {
-    let _: fn(&[u8], u32, &GlyphRemapper) -> Answer = subsetter::subset;
-    let _: [fn() -> GlyphRemapper; 2] = [GlyphRemapper::new, GlyphRemapper::default];
-    let _: [fn(&[u16]) -> GlyphRemapper; 2] = [
-        GlyphRemapper::new_from_glyphs,
-        GlyphRemapper::new_from_glyphs_sorted,
-    ];
-    let _: fn(&GlyphRemapper) -> u16 = GlyphRemapper::num_gids;
-    let _: fn(&mut GlyphRemapper, u16) -> u16 = GlyphRemapper::remap;
-    let _: fn(&GlyphRemapper, u16) -> Option<u16> = GlyphRemapper::get;
-    fn glyphs(mapper: &GlyphRemapper) -> impl Iterator<Item = u16> + '_ {
-        mapper.remapped_gids()
-    }
-    assert!(glyphs(&GlyphRemapper::default()).eq([0]));
-    is_hashed::<GlyphRemapper>();
-    is_plain::<GlyphRemapper>();
-    let _: fn(&[u8; 4]) -> Tag = Tag::new;
-    let _: for<'a> fn(&'a Tag) -> &'a [u8; 4] = Tag::get;
-    fn is_tag<T: Copy + Ord + Display + FromStr<Err = core::array::TryFromSliceError>>() {}
-    is_tag::<Tag>();
-    is_hashed::<Tag>();
-    is_plain::<Tag>();
-    is_value::<Error>();
-    is_shown::<Error>();
-    is_plain::<Error>();
-}
-
-#[test]
-fn names_and_types_are_those_of_the_crate() {
-    type Limited = fn(&[u8], u32, &GlyphRemapper, &Limits) -> Answer;
-    type Chosen = fn(&[u8], u32, &GlyphRemapper, &Options) -> Answer;
-    let _: Limited = subsetter::subset_with_limits;
-    let _: Chosen = subsetter::subset_with_options;
-    let _: fn(&[u8], u32, &[u16]) -> Embedding = subsetter::embed;
-    let _: fn(&[u8], u32, &[u16], &Limits) -> Embedding = subsetter::embed_with_limits;
-    let _: fn(&[u8], u32, &[u16], &Options) -> Embedding = subsetter::embed_with_options;
-    // All fields are public, and these are all.
-    let Embedded { font, cids, widths } = Embedded {
-        font: vec![1u8],
-        cids: vec![2u16],
-        widths: vec![3u32],
+/// Numbers of a list as `1,4..7`.
+fn numbers(word: &str) -> Vec<u32> {
+    let parts = word.split(',').filter(|part| *part != "-");
+    let range = |part: &str| {
+        let (first, last) = part.split_once("..").unwrap_or((part, part));
+        first.parse::<u32>().unwrap()..=last.parse().unwrap()
     };
-    assert_eq!((font, cids, widths), (vec![1], vec![2], vec![3]));
-    is_hashed::<Embedded>();
-    is_plain::<Embedded>();
-    is_hashed::<Limits>();
-    is_value::<Options>();
-    is_plain::<Options>();
+    parts.flat_map(range).collect()
 }
 
-#[cfg(feature = "variable-fonts")]
+fn glyphs(word: &str) -> Vec<u16> {
+    numbers(word).into_iter().map(|it| it as u16).collect()
+}
+
+/// The coordinates of a list as `wght=42598400`, in 65536ths; none where one has no such number.
+fn coordinates(word: &str) -> Option<Vec<([u8; 4], f32)>> {
+    let parts = word.split(',').filter(|part| *part != "-");
+    let coordinate = |part: &str| {
+        let (tag, value) = part.split_once('=').unwrap();
+        let value: i32 = value.parse().unwrap();
+        let number = (f64::from(value) / 65536.0) as f32;
+        let is_exact = f64::from(number) * 65536.0 == f64::from(value);
+        is_exact.then(|| (tag.as_bytes().try_into().unwrap(), number))
+    };
+    parts.map(coordinate).collect()
+}
+
+/// How many coordinates and options a row of each call has.
+const CALLS: [(&str, usize, usize); 8] = [
+    ("subset", 0, 0),
+    ("options", 0, 3),
+    ("bounded_options", 0, 4),
+    ("embed", 0, 0),
+    ("embed_options", 0, 3),
+    ("embed_bounded_options", 0, 4),
+    ("subset_at", 1, 4),
+    ("embed_at", 1, 4),
+];
+
 #[test]
-fn calls_take_coordinates() {
-    type At = fn(&[u8], u32, &[(Tag, f32)], &GlyphRemapper) -> Answer;
-    type Chosen = fn(&[u8], u32, &[(Tag, f32)], &GlyphRemapper, &Options) -> Answer;
-    type Embeds = fn(&[u8], u32, &[(Tag, f32)], &[u16]) -> Embedding;
-    type EmbedsChosen = fn(&[u8], u32, &[(Tag, f32)], &[u16], &Options) -> Embedding;
-    let _: At = subsetter::subset_with_variations;
-    let _: Chosen = subsetter::subset_with_variations_and_options;
-    let _: Embeds = subsetter::embed_with_variations;
-    let _: EmbedsChosen = subsetter::embed_with_variations_and_options;
+fn each_row_is_answered() {
+    let path = concat!(env!("CARGO_MANIFEST_DIR"), "/../../crates/dev_rows/data/subset.txt");
+    let (rows, mut fonts, mut checked) = (fs::read_to_string(path).unwrap(), HashMap::new(), 0);
+    for line in rows.lines() {
+        let words: Vec<&str> = line.split_whitespace().collect();
+        if let ["font", name, digits] = words[..] {
+            fonts.insert(name, bytes(digits));
+        }
+        let (varies, choices) = match CALLS.iter().find(|it| words.first() == Some(&it.0)) {
+            Some((_, varies, choices)) => (*varies, *choices),
+            None => continue,
+        };
+        let (font, index, list) = (&fonts[words[2]], words[3].parse().unwrap(), glyphs(words[4]));
+        let (mut at, behind) = match coordinates(if varies == 1 { words[5] } else { "-" }) {
+            Some(at) => (at, &words[5 + varies..]),
+            None => continue,
+        };
+        let choice = |at: usize| if at < choices { behind[at].parse().unwrap() } else { 0 };
+        let options = Options { tokens: choice(0), depth: choice(1), drop: choice(2), bytes: choice(3) };
+        let behind = &behind[choices..];
+        // (NaN, the default, where a call at no coordinates is meant)
+        if varies == 1 && at.is_empty() {
+            at.push((*b"none", f32::NAN));
+        }
+        let found = match words[0].contains("embed") {
+            true => embed(font, index, &at, &list, &options),
+            false => {
+                subset(font, index, &at, &list, &options).map(|font| Embedded { font, cids: vec![], widths: vec![] })
+            }
+        };
+        let list = |at: usize| behind.get(at).copied().unwrap_or("-");
+        let wanted = match behind[0].parse().unwrap() {
+            0 => Ok(Embedded { font: bytes(behind[1]), cids: glyphs(list(2)), widths: numbers(list(3)) }),
+            status => Err(ERRORS[status - 1]),
+        };
+        assert!(found == wanted, "{line}");
+        checked += 1;
+    }
+    assert!(checked > 400, "{checked}");
 }
 
-// ---- mappers without a number
+/// The errors of the statuses from 1 on; 8 and 9 can't be answered.
+const ERRORS: [Error; 10] = [
+    Error::UnknownKind,
+    Error::MalformedFont,
+    Error::Unimplemented,
+    Error::SubsetError,
+    Error::OverflowError,
+    Error::CFFError,
+    Error::OutOfMemory,
+    Error::Unknown(8),
+    Error::Unknown(9),
+    Error::UnknownOption,
+];
 
-/// The panic's text, of a call that panics.
-fn panic_of(call: impl FnOnce() + UnwindSafe) -> String {
-    let payload = std::panic::catch_unwind(call).unwrap_err();
-    payload.downcast_ref::<String>().unwrap().to_string()
+const MADE: &[u8] = include_bytes!("../../rust/tests/data/made.ttf");
+const SHOWN: [(u16, &str); 4] = [(1, "A"), (5, "fi"), (1, "a"), (8, "Á")];
+
+fn made(options: &PdfOptions) -> PdfFont {
+    pdf_font(MADE, 0, &[], &SHOWN, options).unwrap()
 }
 
 #[test]
-fn a_mapper_without_numbers_panics_in_words() {
-    let all: Vec<u16> = (1..=65535).collect();
-    let mut full = GlyphRemapper::new_from_glyphs(&all[1..]);
-    let texts = [
-        panic_of(|| drop(GlyphRemapper::new_from_glyphs(&all))),
-        panic_of(|| drop(GlyphRemapper::new_from_glyphs_sorted(&all))),
-        panic_of(move || assert_eq!(full.remap(1), 0)),
-    ];
-    let wanted = [65535, 65535, 1].map(|glyph| format!("no number is left for glyph {glyph}"));
-    assert_eq!(texts, wanted);
+fn a_pdf_font_has_all_its_parts() {
+    assert_eq!(glyphs_of(MADE, 0, "AHz"), Ok(vec![1, 9, 0]));
+    let font = made(&PdfOptions::default());
+    assert!(font.font_name().ends_with("+Made-Regular"));
+    assert_eq!((font.cids(), font.codes(), font.is_said()), (&[1, 2, 1, 3][..], &[1, 2, 1, 3][..], &[1, 1, 0, 1][..]));
+    assert_eq!(font.widths()[..4], [500, 667, 556, 667]);
+    assert!(font.encoding().is_none() && font.cid_set().is_none() && font.columns().is_empty());
+    let numbers = font.numbers();
+    assert_eq!((numbers.kind, numbers.bounds, numbers.usage), (0, [0, -147, 952, 928], 2));
+    assert_eq!((numbers.italic_angle, numbers.ascent, numbers.descent, numbers.font_weight), (-9400, 905, -212, 400));
+    let embedded = embed(MADE, 0, &[], &SHOWN.map(|it| it.0), &Options { drop: 6, ..Options::default() }).unwrap();
+    assert_eq!((font.program(), font.cids()), (&embedded.font[..], &embedded.cids[..]));
+    let objects = font.objects(4).unwrap();
+    assert_eq!(objects.offsets.len(), 5);
+    assert!(objects.bytes[objects.offsets[1]..].starts_with(b"5 0 obj\n"));
+    assert!(font.objects(1).unwrap().bytes.starts_with(b"1 0 obj\n"));
+    assert_eq!(font.objects(u32::MAX), Err(Error::OverflowError));
+    let pages = |layout| {
+        let sheet = font.sheet(&SHOWN, layout).unwrap();
+        String::from_utf8_lossy(&sheet).matches(" Tm\n").count()
+    };
+    assert_eq!((pages(Layout::Line), pages(Layout::Grid)), (1, 4));
+}
+
+#[test]
+fn each_choice_is_heeded() {
+    let new = PdfOptions::default();
+    let vertical = made(&PdfOptions { direction: Direction::Vertical, ..new });
+    assert_eq!((vertical.columns()[1].advance, vertical.numbers().default_column), (-1000, [880, -1000]));
+    let source = made(&PdfOptions { codes: Codes::Source, cid_set: true, ..new });
+    assert_eq!((source.codes(), source.cid_set()), (&[1, 5, 1, 8][..], Some(&[0xf8][..])));
+    let (name, cmap) = source.encoding().unwrap();
+    assert!(String::from_utf8_lossy(cmap).contains(&format!("/CMapName /{name} def")));
+    assert!(String::from_utf8_lossy(&source.objects(1).unwrap().bytes).contains(&format!("/CMapName /{name} ")));
+    assert_eq!(made(&PdfOptions { codes: Codes::EachText, ..new }).codes(), [1, 2, 3, 4]);
+    assert!(made(&PdfOptions { tag: Some(*b"ZYXWVU"), ..new }).font_name().starts_with("ZYXWVU+"));
+    let refused = |options| pdf_font(MADE, 0, &[], &SHOWN, &options).err();
+    assert_eq!(refused(PdfOptions { tag: Some(*b"ZYXWVu"), ..new }), Some(Error::UnknownOption));
+    let few = Options { bytes: 100, ..Options::default() };
+    assert_eq!(refused(PdfOptions { options: few, ..new }), Some(Error::OverflowError));
+    let varied = include_bytes!("../../rust/tests/data/made_variable.ttf");
+    let program = |at: &[f32]| {
+        let at: Vec<_> = at.iter().map(|value| (*b"wght", *value)).collect();
+        pdf_font(varied, 0, &at, &SHOWN, &new).unwrap().program().to_vec()
+    };
+    assert_eq!(program(&[650.0, f32::NAN]), program(&[400.0]));
+    assert_ne!(program(&[f32::NAN, 650.0]), program(&[400.0]));
+    let slanted = pdf_font(varied, 0, &[(*b"slnt", -65.0 / 65536.0)], &SHOWN, &new).unwrap();
+    assert!(slanted.font_name().ends_with("_-0.00099slnt"), "{}", slanted.font_name());
+}
+
+#[test]
+fn errors_have_the_names_of_their_statuses() {
+    let restricted = {
+        let mut font = MADE.to_vec();
+        let at = font.windows(4).position(|it| it == b"OS/2").unwrap();
+        let table = u32::from_be_bytes(font[at + 8..at + 12].try_into().unwrap()) as usize;
+        font[table + 9] = 2;
+        font
+    };
+    let made = |options| pdf_font(&restricted, 0, &[], &SHOWN, &options).err();
+    assert_eq!(made(PdfOptions::default()), Some(Error::NotPermitted));
+    assert_eq!(made(PdfOptions { rights: Rights::Held, ..PdfOptions::default() }), None);
+    let long = "a".repeat(257);
+    assert_eq!(pdf_font(MADE, 0, &[], &[(1, &long)], &PdfOptions::default()).err(), Some(Error::InvalidText));
+    assert_eq!(subset(MADE, 0, &[], &[], &Options { depth: 256, ..Options::default() }), Err(Error::UnknownOption));
+    assert_eq!(glyphs_of(b"no font", 0, "A"), Err(Error::UnknownKind));
+    assert_eq!(Error::NotPermitted.to_string(), "embedding not permitted");
 }

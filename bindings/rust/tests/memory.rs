@@ -1,114 +1,39 @@
 //! Memory: each request of each call is refused in turn. A call that answers a `Result` then answers `OutOfMemory`, keeps
 //! nothing and changes nothing, or it does without the memory; a call of 0.2.6 without a `Result` ends the process.
 
+mod heap;
 mod table;
 
-use std::alloc::{GlobalAlloc, Layout, System};
-use std::cell::Cell;
-use subsetter::{
-    embed, embed_with_limits, embed_with_options, Error, GlyphRemapper, Limits, Options,
-};
+use heap::{held, with, with_one_refused};
+use std::fmt::Debug;
+use subsetter::{embed, embed_with_limits, embed_with_options};
 use subsetter::{subset, subset_with_limits, subset_with_options};
+use subsetter::{Error, GlyphRemapper, Limits, Options};
 use table::table;
-
-/// The system's memory, of which a thread's requests are counted and refused.
-struct Counting;
-
-#[global_allocator]
-static COUNTING: Counting = Counting;
-
-thread_local! {
-    /// How many requests of this thread are granted before one is refused; usize::MAX where none is.
-    static GRANTED: Cell<usize> = const { Cell::new(usize::MAX) };
-    /// Whether all requests after that one are refused too.
-    static FOR_GOOD: Cell<bool> = const { Cell::new(true) };
-    /// How many of its requests were refused.
-    static REFUSED: Cell<usize> = const { Cell::new(0) };
-    /// How many bytes it holds.
-    static HELD: Cell<usize> = const { Cell::new(0) };
-}
-
-/// Whether a request is granted.
-fn grants() -> bool {
-    let left = GRANTED.with(Cell::get);
-    if left == usize::MAX {
-        return true;
-    }
-    if left > 0 {
-        GRANTED.with(|granted| granted.set(left - 1));
-        return true;
-    }
-    REFUSED.with(|refused| refused.set(refused.get() + 1));
-    if !FOR_GOOD.with(Cell::get) {
-        GRANTED.with(|granted| granted.set(usize::MAX));
-    }
-    false
-}
-
-fn hold(at: *mut u8, more: usize, less: usize) -> *mut u8 {
-    if !at.is_null() {
-        HELD.with(|held| held.set(held.get().wrapping_add(more).wrapping_sub(less)));
-    }
-    at
-}
-
-// SAFETY: all is handed on to the system's allocator; a refused request is answered null, as the trait allows. What is counted
-// is in cells without a destructor, which take no memory.
-unsafe impl GlobalAlloc for Counting {
-    unsafe fn alloc(&self, layout: Layout) -> *mut u8 {
-        if !grants() {
-            return std::ptr::null_mut();
-        }
-        hold(System.alloc(layout), layout.size(), 0)
-    }
-
-    unsafe fn dealloc(&self, at: *mut u8, layout: Layout) {
-        hold(at, 0, layout.size());
-        System.dealloc(at, layout);
-    }
-
-    unsafe fn realloc(&self, at: *mut u8, layout: Layout, size: usize) -> *mut u8 {
-        if !grants() {
-            return std::ptr::null_mut();
-        }
-        hold(System.realloc(at, layout, size), size, layout.size())
-    }
-}
-
-/// What a call answers where one request is refused, and how many then were.
-fn with_a_refusal<T>(request: usize, call: impl FnOnce() -> T) -> (T, usize) {
-    REFUSED.with(|refused| refused.set(0));
-    GRANTED.with(|granted| granted.set(request));
-    let answer = call();
-    GRANTED.with(|granted| granted.set(usize::MAX));
-    (answer, REFUSED.with(Cell::get))
-}
-
-/// Refuses each request of a call in turn, alone and with all after it: how many requests the call makes. `last` is its
-/// answer where none is refused.
-fn refuse_each<T: PartialEq + std::fmt::Debug>(
-    call: impl Fn() -> Result<T, Error>,
-    last: &Result<T, Error>,
-) -> usize {
-    FOR_GOOD.with(|for_good| for_good.set(false));
-    let requests = refuse_in_turn(&call, last);
-    FOR_GOOD.with(|for_good| for_good.set(true));
-    assert!(refuse_in_turn(&call, last) <= requests);
-    requests
-}
 
 /// How many requests of a call may be refused without an error: those for a smaller room, as the larger one is kept then.
 const MOST_KEPT: usize = 2;
 
-fn refuse_in_turn<T: PartialEq + std::fmt::Debug>(
-    call: &impl Fn() -> Result<T, Error>,
+/// Refuses each request of a call in turn, alone and with all after it: how many requests the call makes. `last` is its
+/// answer where none is refused.
+fn refuse_each<T: PartialEq + Debug>(
+    call: impl Fn() -> Result<T, Error>,
+    last: &Result<T, Error>,
+) -> usize {
+    let requests = refuse_in_turn(|request| with_one_refused(request, &call), last);
+    assert!(refuse_in_turn(|request| with(request, &call), last) <= requests);
+    requests
+}
+
+fn refuse_in_turn<T: PartialEq + Debug>(
+    call: impl Fn(usize) -> (Result<T, Error>, bool),
     last: &Result<T, Error>,
 ) -> usize {
     let mut kept = 0;
     for request in 0.. {
-        let before = HELD.with(Cell::get);
-        let (answer, refused) = with_a_refusal(request, call);
-        if refused == 0 {
+        let before = held();
+        let (answer, was_refused) = call(request);
+        if !was_refused {
             assert_eq!(answer, *last);
             return request;
         }
@@ -118,7 +43,7 @@ fn refuse_in_turn<T: PartialEq + std::fmt::Debug>(
             assert!(kept <= MOST_KEPT, "request {request}");
         }
         drop(answer);
-        assert_eq!(HELD.with(Cell::get), before, "request {request}");
+        assert_eq!(held(), before, "request {request}");
     }
     unreachable!()
 }
@@ -318,8 +243,8 @@ fn a_mapper_stays_as_it_was_where_memory_is_refused() {
     for glyph in (64..6400).step_by(17) {
         let before = mapper.clone();
         for request in 0.. {
-            let (answer, refused) = with_a_refusal(request, || mapper.try_remap(glyph));
-            if refused == 0 {
+            let (answer, was_refused) = with(request, || mapper.try_remap(glyph));
+            if !was_refused {
                 assert_eq!(answer, Ok(before.num_gids()));
                 break;
             }
@@ -328,10 +253,7 @@ fn a_mapper_stays_as_it_was_where_memory_is_refused() {
             refusals += 1;
         }
         // A known glyph takes no memory.
-        assert_eq!(
-            with_a_refusal(0, || mapper.try_remap(glyph)).0,
-            Ok(before.num_gids())
-        );
+        assert_eq!(with(0, || mapper.try_remap(glyph)).0, Ok(before.num_gids()));
     }
     assert!(refusals > 10, "{refusals}");
 }
@@ -339,59 +261,30 @@ fn a_mapper_stays_as_it_was_where_memory_is_refused() {
 #[test]
 fn texts_and_numbers_take_no_memory() {
     let mapper = GlyphRemapper::new_from_glyphs(&[3, 5]);
-    let (found, refused) = with_a_refusal(0, || {
+    let found = with(0, || {
         let sum: u32 = mapper.remapped_gids().map(u32::from).sum();
         (sum, mapper.num_gids(), mapper.get(5), mapper == mapper)
     });
-    assert_eq!((found, refused), ((8, 3, Some(2), true), 0));
+    assert_eq!(found, ((8, 3, Some(2), true), false));
 }
 
 // ---- the calls of 0.2.6
 
-/// Refuses the first request alone, so that a panic, which takes memory itself, would be seen as one.
-fn refuse_first(call: impl FnOnce()) {
+/// Refuses the first request of a call alone, so that a panic, which takes memory itself, would be seen as one.
+#[test]
+#[ignore = "run by another test"]
+fn call_without_memory() {
+    let (mut mapper, call) = (GlyphRemapper::new(), std::env::var("CALL").unwrap());
     println!("calls");
-    FOR_GOOD.with(|for_good| for_good.set(false));
-    with_a_refusal(0, call);
+    with_one_refused(0, || match &*call {
+        "new" => drop(GlyphRemapper::new()),
+        "default" => drop(GlyphRemapper::default()),
+        "new_from_glyphs" => drop(GlyphRemapper::new_from_glyphs(&[1])),
+        "new_from_glyphs_sorted" => drop(GlyphRemapper::new_from_glyphs_sorted(&[1])),
+        "clone" => drop(mapper.clone()),
+        _ => drop(mapper.remap(9999)),
+    });
     println!("goes on");
-}
-
-#[test]
-#[ignore = "run by another test"]
-fn new_without_memory() {
-    refuse_first(|| drop(GlyphRemapper::new()));
-}
-
-#[test]
-#[ignore = "run by another test"]
-fn default_without_memory() {
-    refuse_first(|| drop(GlyphRemapper::default()));
-}
-
-#[test]
-#[ignore = "run by another test"]
-fn new_from_glyphs_without_memory() {
-    refuse_first(|| drop(GlyphRemapper::new_from_glyphs(&[1])));
-}
-
-#[test]
-#[ignore = "run by another test"]
-fn new_from_glyphs_sorted_without_memory() {
-    refuse_first(|| drop(GlyphRemapper::new_from_glyphs_sorted(&[1])));
-}
-
-#[test]
-#[ignore = "run by another test"]
-fn clone_without_memory() {
-    let mapper = GlyphRemapper::new();
-    refuse_first(|| drop(mapper.clone()));
-}
-
-#[test]
-#[ignore = "run by another test"]
-fn remap_without_memory() {
-    let mut mapper = GlyphRemapper::new();
-    refuse_first(|| assert_eq!(mapper.remap(9999), 1));
 }
 
 #[cfg(unix)]
@@ -399,6 +292,7 @@ fn remap_without_memory() {
 fn without_memory_the_mappers_of_0_2_6_end_the_process() {
     use std::os::unix::process::ExitStatusExt;
     use std::{env, process::Command};
+    let words = "--exact call_without_memory --ignored --nocapture --test-threads=1";
     for call in [
         "new",
         "default",
@@ -407,16 +301,9 @@ fn without_memory_the_mappers_of_0_2_6_end_the_process() {
         "clone",
         "remap",
     ] {
-        let child = format!("{call}_without_memory");
-        let words = [
-            "--exact",
-            &child,
-            "--ignored",
-            "--nocapture",
-            "--test-threads=1",
-        ];
         let mut command = Command::new(env::current_exe().unwrap());
-        let output = command.args(words).output().unwrap();
+        command.args(words.split(' ')).env("CALL", call);
+        let output = command.output().unwrap();
         let printed = String::from_utf8(output.stdout).unwrap();
         let said = String::from_utf8(output.stderr).unwrap();
         let ended = printed.contains("calls") && !printed.contains("goes on");

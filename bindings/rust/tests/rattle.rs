@@ -11,106 +11,15 @@ mod rattle;
 #[path = "../src/host/mod.rs"]
 mod host;
 
+mod heap;
+
 extern crate alloc;
 
+use heap::with;
 use rattle::alloc::{AllocError, Global};
 use rattle::borrow::CowSlice;
 use rattle::collections::HashMap;
 use rattle::prelude::{SliceExt, Vec};
-use std::alloc::{GlobalAlloc, Layout, System};
-use std::cell::Cell;
-use std::ptr::null_mut;
-
-thread_local! {
-    static LEFT: Cell<Option<usize>> = const { Cell::new(None) };
-    static REFUSED: Cell<bool> = const { Cell::new(false) };
-    /// How many bytes the first requests are for, and how many requests there were.
-    static ASKED: Cell<([usize; 8], usize)> = const { Cell::new(([0; 8], 0)) };
-    /// How many bytes a thread holds.
-    static HELD: Cell<usize> = const { Cell::new(0) };
-}
-
-/// The system's memory, but for the requests of a thread that it is told to refuse.
-struct Heap;
-
-/// Notes a request, and answers whether it is refused.
-fn is_refused(bytes: usize) -> bool {
-    ASKED.with(|asked| {
-        let (mut first, count) = asked.get();
-        if let Some(one) = first.get_mut(count) {
-            *one = bytes;
-        }
-        asked.set((first, count + 1));
-    });
-    LEFT.with(|left| match left.get() {
-        Some(0) => {
-            REFUSED.with(|refused| refused.set(true));
-            true
-        }
-        Some(n) => {
-            left.set(Some(n - 1));
-            false
-        }
-        None => false,
-    })
-}
-
-/// Notes what a thread holds more, and what it gives back.
-fn hold(at: *mut u8, more: usize, less: usize) -> *mut u8 {
-    if !at.is_null() {
-        HELD.with(|held| held.set(held.get().wrapping_add(more).wrapping_sub(less)));
-    }
-    at
-}
-
-// SAFETY: each call is the system's, or answers that there is no memory.
-unsafe impl GlobalAlloc for Heap {
-    unsafe fn alloc(&self, layout: Layout) -> *mut u8 {
-        if is_refused(layout.size()) {
-            return null_mut();
-        }
-        hold(System.alloc(layout), layout.size(), 0)
-    }
-
-    unsafe fn dealloc(&self, at: *mut u8, layout: Layout) {
-        hold(at, 0, layout.size());
-        System.dealloc(at, layout)
-    }
-
-    unsafe fn realloc(&self, at: *mut u8, layout: Layout, size: usize) -> *mut u8 {
-        if is_refused(size) {
-            return null_mut();
-        }
-        hold(System.realloc(at, layout, size), size, layout.size())
-    }
-}
-
-#[global_allocator]
-static HEAP: Heap = Heap;
-
-/// What a call answers where each request for memory but the first so many is refused, and whether one was.
-fn with<T>(requests: usize, call: impl FnOnce() -> T) -> (T, bool) {
-    REFUSED.with(|refused| refused.set(false));
-    LEFT.with(|left| left.set(Some(requests)));
-    let answer = call();
-    LEFT.with(|left| left.set(None));
-    (answer, REFUSED.with(|refused| refused.get()))
-}
-
-/// What a call answers, and how many bytes each of its requests is for (of the first eight).
-#[cfg(all(feature = "program", unix))]
-fn asked_by<T>(call: impl FnOnce() -> T) -> (T, std::vec::Vec<usize>) {
-    ASKED.with(|asked| asked.set(([0; 8], 0)));
-    let answer = call();
-    let (first, count) = ASKED.with(Cell::get);
-    (answer, first[..count.min(8)].to_vec())
-}
-
-/// How many bytes this thread holds.
-#[cfg(all(feature = "program", unix))]
-fn held() -> usize {
-    HELD.with(Cell::get)
-}
 
 /// Calls with no request allowed, one, and so on until none is refused. Each answer must be an error while one is; how many
 /// were refused.
@@ -437,21 +346,6 @@ fn iterators_are_collected() {
 #[test]
 fn casts_keep_the_bits() {
     use rattle::prelude::Cast;
-    assert_eq!((255u8.to_signed(), (-1i8).to_unsigned()), (-1i8, 255u8));
-    assert_eq!(
-        (0x8000u16.to_signed(), i16::MIN.to_unsigned()),
-        (i16::MIN, 0x8000)
-    );
-    assert_eq!(
-        (u32::MAX.to_signed(), (-2i32).to_unsigned()),
-        (-1, u32::MAX - 1)
-    );
-    assert_eq!(
-        (u64::MAX.to_signed(), (-2i64).to_unsigned()),
-        (-1, u64::MAX - 1)
-    );
-    assert_eq!((7u16.to_unsigned(), 7i16.to_signed()), (7u16, 7i16));
-    // Each has the other of as many bits.
     macro_rules! check {
         ($($unsigned:ident $signed:ident)*) => {$(
             let of_most: $signed = $unsigned::MAX.to_signed();
@@ -469,7 +363,7 @@ mod program {
     use super::*;
     use rattle::io::{BufWriter, Error, ErrorKind, Read, Write};
     use rattle::prelude::String;
-    use std::cell::RefCell;
+    use std::cell::{Cell, RefCell};
 
     #[test]
     fn texts_answer_as_rusts() {

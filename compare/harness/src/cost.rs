@@ -4,11 +4,26 @@ use crate::calls::{status_of, tags};
 use crate::heap;
 use std::fs;
 use std::time::{Duration, Instant};
-use subsetter::pdf::{glyphs_of, pdf_font, FontError, FontOptions, Layout, Rights, Shown};
+use subsetter::pdf::{
+    glyphs_of, pdf_font, Direction, FontError, FontOptions, Layout, Rights, Shown,
+};
 use subsetter::{
     embed_with_variations_and_options, subset_with_options, subset_with_variations_and_options,
     GlyphRemapper, Limits, Options,
 };
+
+extern "C" {
+    fn clock_gettime(clock: i32, time: *mut [i64; 2]) -> i32;
+}
+const THREAD_CPUTIME: i32 = 3;
+
+/// The nanoseconds that this thread has had of a processor.
+fn spent() -> i64 {
+    let mut time = [0; 2];
+    // SAFETY: the system writes a `timespec`, which has two numbers of 64 bits on the platforms of the comparisons.
+    unsafe { clock_gettime(THREAD_CPUTIME, &mut time) };
+    time[0] * 1_000_000_000 + time[1]
+}
 
 /// The glyphs of a list of numbers and ranges, as `3,10-12`.
 fn glyphs_in(list: &str) -> Vec<u16> {
@@ -63,7 +78,7 @@ pub fn of_call(words: &[String]) {
     let mapper = GlyphRemapper::new_from_glyphs(&glyphs);
     let shown: Vec<Shown> = glyphs.iter().map(|it| Shown::new(*it, "x")).collect();
     let before = heap::start();
-    let start = Instant::now();
+    let start = spent();
     let answer = match call.as_str() {
         "subset" => subset_with_options(&data, 0, &mapper, &options).map(|it| it.len()),
         "at" => {
@@ -72,8 +87,12 @@ pub fn of_call(words: &[String]) {
         "embed" => embed_with_variations_and_options(&data, 0, &at, &glyphs, &options)
             .map(|it| it.font.len()),
         "glyphs" => glyphs_of(&data, 0, &text).map(|it| it.len()),
-        "pdf" => {
+        "pdf" | "columns" => {
             let options = FontOptions::new().limits(limits).rights(Rights::Held);
+            let options = match call.as_str() {
+                "pdf" => options,
+                _ => options.direction(Direction::Vertical),
+            };
             match pdf_font(&data, 0, &at, &shown, &options) {
                 Ok(font) => font.sheet(&shown, Layout::Line).map(|it| it.len()),
                 Err(FontError::Subset(error)) => Err(error),
@@ -82,7 +101,7 @@ pub fn of_call(words: &[String]) {
         }
         word => panic!("no call {word}"),
     };
-    let took = start.elapsed().as_nanos();
+    let took = spent() - start;
     let (length, status) = answer.map_or_else(|error| (0, status_of(error)), |length| (length, 0));
     println!("{took} {length} {} {status}", heap::most() - before);
 }

@@ -1,13 +1,13 @@
 //! Files, standard streams, arguments and errors as the program's stand-in has them, each call by itself. The tests run in a
 //! process of their own, one behind the other: a call that doesn't ask for the memory that `std` requests next ends it.
 
+use crate::heap::{asked_by, held, with};
 use crate::host::streams::prepare;
 use crate::rattle::fs::{self, OpenFile, OpenOptions};
 use crate::rattle::io::{self, Error, ErrorKind, Read, Write};
 use crate::rattle::prelude::{Eprint, HostRuntime, Input, Print};
 use crate::rattle::process::{self, ExitCode, Termination};
 use crate::rattle::{env, fmt};
-use crate::{asked_by, held, with};
 use std::cell::RefCell;
 use std::ffi::OsString;
 use std::fs::Permissions;
@@ -444,43 +444,6 @@ fn numbers_of_the_system_have_their_kinds() {
         let wanted = of_number.map_or(ErrorKind::Other, |it| it.1);
         // (95 says so too, by a `std` that is newer)
         assert!(error.kind() == wanted || number == 95, "{}", number);
-    }
-}
-
-#[test]
-#[ignore = "run by another test"]
-fn other_systems_have_their_numbers() {
-    let bare = |text: &str| text.split_whitespace().collect::<String>();
-    // (what isn't compiled here) A full disk and a quota: ERROR_DISK_FULL and ERROR_DISK_QUOTA_EXCEEDED of Windows, ENOSPC and EDQUOT.
-    let streams = bare(include_str!("../../src/host/streams.rs"));
-    let full = "ifcfg!(windows){(112,1295)}elseifcfg!(any(target_os=\"linux\",target_os=\"android\")){(28,122)}else{(28,69)};";
-    assert!(streams.contains(full));
-    assert!(streams.contains("fnopened<S>(stream:S)->std::io::Result<S>{Ok(stream)}"));
-    // (there what is written stays in a buffer)
-    let flushed = "letcount=output.write(bytes)?;output.flush()?;Ok(count)";
-    assert!(streams.contains(flushed));
-    // What has no call for it, elsewhere than on Linux and on Unix.
-    let files = bare(include_str!("../../src/host/fs.rs"));
-    for part in [
-        "matchturns::waiting(||File::sync_data(self)){//",
-        "Err(_)ifcfg!(not(target_os=\"linux\"))&&!File::metadata(self)?.is_file()=>{Err(ErrorKind::Unsupported.into())}",
-        "matchstd::fs::symlink_metadata(name){Err(error)ifcfg!(not(unix))&&error.kind()!=std::io::ErrorKind::NotFound=>{Err(ErrorKind::Unsupported.into())}",
-    ] {
-        assert!(files.contains(part), "{}", part);
-    }
-    // A file has one name, and is known by nothing.
-    let os = bare(include_str!("../../src/host/os.rs"));
-    for part in [
-        "fndev(&self)->u64{0}",
-        "fnino(&self)->u64{0}",
-        "fnmode(&self)->u32{0}",
-        "fnnlink(&self)->u64{1}",
-        "fnuid(&self)->u32{0}",
-        "fngid(&self)->u32{0}",
-        "#[cfg(unix)]pubusestd::os::unix::fs::MetadataExt;",
-        "#[cfg(not(unix))]implMetadataExtforstd::fs::Metadata{}",
-    ] {
-        assert!(os.contains(part), "{}", part);
     }
 }
 

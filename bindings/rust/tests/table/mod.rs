@@ -1,61 +1,36 @@
-//! The worked rows of `crates/dev_rows/data/subset.txt`, and those of a font of this machine.
+//! The worked rows of `crates/dev_rows/data/subset.txt`.
 
 #![allow(dead_code)] // (each test takes a part of it)
 
 pub mod answers;
 
 use std::collections::HashMap;
-use std::env;
 use std::fs;
 use subsetter::{Embedded, Error, Limits, Options, Tag};
 
-/// What a row asks for.
-#[derive(Clone, Copy, Eq, PartialEq, Debug)]
-pub enum Call {
-    Subset,
-    Limits,
-    Options,
-    BoundedOptions,
-    Embed,
-    EmbedOptions,
-    EmbedBoundedOptions,
-    SubsetAt,
-    EmbedAt,
-}
-
-impl Call {
-    fn embeds(self) -> bool {
-        matches!(
-            self,
-            Call::Embed | Call::EmbedOptions | Call::EmbedBoundedOptions | Call::EmbedAt
-        )
-    }
-
-    /// Whether the row has coordinates.
-    pub fn varies(self) -> bool {
-        matches!(self, Call::SubsetAt | Call::EmbedAt)
-    }
-}
-
-/// The numbers of a row with choices; the others have those of the library.
-#[derive(Clone, Copy)]
-pub struct Choice {
-    pub tokens: u32,
-    pub depth: u32,
-    pub drop: u32,
-    /// The most bytes of a new font, 0 for no such limit.
-    pub bytes: u32,
-}
+/// The calls of rows, each with how many numbers of options its rows have.
+const CALLS: [(&str, usize); 9] = [
+    ("subset", 0),
+    ("limits", 2),
+    ("options", 3),
+    ("bounded_options", 4),
+    ("embed", 0),
+    ("embed_options", 3),
+    ("embed_bounded_options", 4),
+    ("subset_at", 4),
+    ("embed_at", 4),
+];
 
 pub struct Row {
-    pub call: Call,
+    pub call: &'static str,
     pub name: String,
     pub font: Vec<u8>,
     pub index: u32,
     pub glyphs: Vec<u16>,
-    /// Tags with values in 65536ths, of `SubsetAt` and `EmbedAt` alone.
+    /// Tags with values in 65536ths, of `subset_at` and `embed_at` alone.
     pub coordinates: Vec<(Tag, i32)>,
-    pub choice: Choice,
+    /// Tokens, depth, what is dropped, and bytes; 0 is the library's default but for `limits`.
+    pub choice: [u32; 4],
     pub status: u32,
     pub wanted: Embedded,
 }
@@ -67,24 +42,20 @@ pub struct Table {
 }
 
 pub fn bytes(word: &str) -> Vec<u8> {
-    if word == "-" {
-        return Vec::new();
-    }
-    assert_eq!(word.len() % 2, 0, "{word}");
     let digit = |byte: u8| (byte as char).to_digit(16).unwrap() as u8;
-    word.as_bytes()
-        .chunks(2)
+    let digits = word.trim_matches('-').as_bytes().chunks(2);
+    digits
         .map(|two| 16 * digit(two[0]) + digit(two[1]))
         .collect()
 }
 
 fn numbers(word: &str) -> Vec<u32> {
-    let mut found = Vec::new();
-    for part in word.split(',').filter(|part| *part != "-") {
+    let parts = word.split(',').filter(|part| *part != "-");
+    let range = |part: &str| {
         let (first, last) = part.split_once("..").unwrap_or((part, part));
-        found.extend(first.parse::<u32>().unwrap()..=last.parse().unwrap());
-    }
-    found
+        first.parse::<u32>().unwrap()..=last.parse().unwrap()
+    };
+    parts.flat_map(range).collect()
 }
 
 fn short_numbers(word: &str) -> Vec<u16> {
@@ -105,75 +76,65 @@ fn coordinates(word: &str) -> Vec<(Tag, i32)> {
 impl Table {
     fn add(&mut self, line: &str) {
         let words: Vec<&str> = line.split_whitespace().collect();
-        let (call, choices) = match words[..] {
-            [] => return,
+        match words[..] {
+            [] => {}
             ["font", name, digits] => {
                 self.fonts.insert(name.to_string(), bytes(digits));
-                return;
             }
             ["text", status, digits] => {
                 let text = String::from_utf8(bytes(digits)).unwrap();
                 self.texts.insert(status.parse().unwrap(), text);
-                return;
             }
-            ["subset", ..] => (Call::Subset, 0),
-            ["limits", ..] => (Call::Limits, 2),
-            ["options", ..] => (Call::Options, 3),
-            ["bounded_options", ..] => (Call::BoundedOptions, 4),
-            ["embed", ..] => (Call::Embed, 0),
-            ["embed_options", ..] => (Call::EmbedOptions, 3),
-            ["embed_bounded_options", ..] => (Call::EmbedBoundedOptions, 4),
-            ["subset_at", ..] => (Call::SubsetAt, 4),
-            ["embed_at", ..] => (Call::EmbedAt, 4),
-            _ => panic!("no row: {line}"),
-        };
-        let embeds = call.embeds();
-        let first = if call.varies() { 6 } else { 5 };
-        assert_eq!(
-            words.len(),
-            2 + first + choices + if embeds { 2 } else { 0 },
-            "{line}"
-        );
-        let mut chosen = words[first..first + choices]
-            .iter()
-            .map(|word| word.parse().unwrap());
-        let behind = &words[first + choices..];
-        let list = |at: usize| behind.get(at).copied().unwrap_or("-");
-        self.rows.push(Row {
-            call,
-            name: words[1].to_string(),
-            font: self.fonts[words[2]].clone(),
-            index: words[3].parse().unwrap(),
-            glyphs: short_numbers(words[4]),
-            coordinates: coordinates(if first == 6 { words[5] } else { "-" }),
-            choice: Choice {
-                tokens: chosen.next().unwrap_or(0),
-                depth: chosen.next().unwrap_or(0),
-                drop: chosen.next().unwrap_or(0),
-                bytes: chosen.next().unwrap_or(0),
-            },
-            status: behind[0].parse().unwrap(),
-            wanted: Embedded {
-                font: bytes(behind[1]),
-                cids: short_numbers(list(2)),
-                widths: numbers(list(3)),
-            },
-        });
+            _ => {
+                let call = CALLS.iter().find(|it| it.0 == words[0]);
+                let (call, choices) = call.unwrap_or_else(|| panic!("no row: {}", line));
+                self.rows.push(row(call, *choices, &words, &self.fonts));
+            }
+        }
     }
+}
 
-    fn read(&mut self, name: &str) {
-        let text = fs::read_to_string(name).unwrap();
-        let lines = text.lines().filter(|line| !line.starts_with('#'));
-        lines.for_each(|line| self.add(line));
+fn row(
+    call: &'static str,
+    choices: usize,
+    words: &[&str],
+    fonts: &HashMap<String, Vec<u8>>,
+) -> Row {
+    let first = if call.ends_with("_at") { 6 } else { 5 };
+    let mut choice = [0; 4];
+    for (number, word) in choice.iter_mut().zip(&words[first..first + choices]) {
+        *number = word.parse().unwrap();
+    }
+    let behind = &words[first + choices..];
+    let is_embedded = call.starts_with("embed");
+    assert_eq!(
+        behind.len(),
+        if is_embedded { 4 } else { 2 },
+        "{}",
+        words[1]
+    );
+    let list = |at: usize| behind.get(at).copied().unwrap_or("-");
+    Row {
+        call,
+        name: words[1].to_string(),
+        font: fonts[words[2]].clone(),
+        index: words[3].parse().unwrap(),
+        glyphs: short_numbers(words[4]),
+        coordinates: coordinates(if first == 6 { words[5] } else { "-" }),
+        choice,
+        status: behind[0].parse().unwrap(),
+        wanted: Embedded {
+            font: bytes(behind[1]),
+            cids: short_numbers(list(2)),
+            widths: numbers(list(3)),
+        },
     }
 }
 
 /// The worked rows.
 pub fn table() -> Table {
-    table_of(concat!(
-        env!("CARGO_MANIFEST_DIR"),
-        "/../../crates/dev_rows/data/subset.txt"
-    ))
+    let folder = env!("CARGO_MANIFEST_DIR");
+    table_of(&format!("{folder}/../../crates/dev_rows/data/subset.txt"))
 }
 
 /// The worked rows of a file.
@@ -183,41 +144,27 @@ pub fn table_of(name: &str) -> Table {
         texts: HashMap::new(),
         rows: Vec::new(),
     };
-    table.read(name);
+    let text = fs::read_to_string(name).unwrap();
+    let lines = text.lines().filter(|line| !line.starts_with('#'));
+    lines.for_each(|line| table.add(line));
     assert!(table.rows.len() > 300);
     table
-}
-
-/// The rows of a font of this machine, made by the program; none where they are skipped by name.
-pub fn font_rows() -> Vec<Row> {
-    let mut table = Table {
-        fonts: HashMap::new(),
-        texts: HashMap::new(),
-        rows: Vec::new(),
-    };
-    match env::var("SUBSETTER_FONT_ROWS") {
-        Ok(name) => {
-            table.read(&name);
-            assert!(table.rows.len() > 4);
-        }
-        Err(_) if env::var("SUBSETTER_SKIP").as_deref() == Ok("font") => {
-            println!("the font of this machine is skipped, as requested")
-        }
-        Err(_) => panic!("no SUBSETTER_FONT_ROWS: run bindings/test"),
-    }
-    table.rows
 }
 
 impl Row {
     /// Whether Rust can say what the row asks for: a mapper holds at most 65,535 glyphs.
     pub fn can_be_said(&self) -> bool {
-        self.choice.drop < 8
-            && self.choice.depth < 256
-            && (self.glyphs.len() < 65_535 || self.embeds())
+        let [_, depth, drop, _] = self.choice;
+        drop < 8 && depth < 256 && (self.glyphs.len() < 65_535 || self.embeds())
     }
 
     pub fn embeds(&self) -> bool {
-        self.call.embeds()
+        self.call.starts_with("embed")
+    }
+
+    /// Whether the row has coordinates.
+    pub fn varies(&self) -> bool {
+        self.call.ends_with("_at")
     }
 
     /// The coordinates as numbers of Rust; None where one has no such number.
@@ -231,44 +178,29 @@ impl Row {
 
     /// The limits of the row: None where they are no limits.
     pub fn limits(&self) -> Option<Limits> {
-        let Choice {
-            tokens,
-            depth,
-            bytes,
-            ..
-        } = self.choice;
-        let is_default = |number| number == 0 && self.call != Call::Limits;
-        let limits = Limits::new(
-            if is_default(tokens) {
-                1_000_000
-            } else {
-                tokens
-            },
-            if is_default(depth) { 64 } else { depth as u8 },
-        )?;
-        Some(if bytes == 0 {
-            limits
-        } else {
-            limits.with_bytes(bytes)
+        let [tokens, depth, _, bytes] = self.choice;
+        let or_default = |number, default| match number {
+            0 if self.call != "limits" => default,
+            _ => number,
+        };
+        let limits = Limits::new(or_default(tokens, 1_000_000), or_default(depth, 64) as u8)?;
+        Some(match bytes {
+            0 => limits,
+            _ => limits.with_bytes(bytes),
         })
     }
 
-    /// The options of the row, built in the order in which their bits stand.
+    /// The options of the row.
     pub fn options(&self, limits: Limits) -> Options {
-        let mut options = Options::new();
-        if self.choice.drop & 1 != 0 {
-            options = options.hinting(false);
+        let [tokens, depth, drop, bytes] = self.choice;
+        let options = Options::new()
+            .hinting(drop & 1 == 0)
+            .names(drop & 2 == 0)
+            .glyph_names(drop & 4 == 0);
+        match (tokens, depth, bytes) {
+            (0, 0, 0) => options,
+            _ => options.limits(limits),
         }
-        if self.choice.drop & 2 != 0 {
-            options = options.names(false);
-        }
-        if self.choice.drop & 4 != 0 {
-            options = options.glyph_names(false);
-        }
-        if (self.choice.tokens, self.choice.depth, self.choice.bytes) != (0, 0, 0) {
-            options = options.limits(limits);
-        }
-        options
     }
 
     pub fn wanted(&self) -> Result<Embedded, Error> {

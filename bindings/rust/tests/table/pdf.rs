@@ -26,8 +26,9 @@ impl PdfRow {
 }
 
 pub fn data(name: &str) -> PathBuf {
-    let tests = concat!(env!("CARGO_MANIFEST_DIR"), "/../rust/tests/data");
-    Path::new(tests).join(name)
+    Path::new(env!("CARGO_MANIFEST_DIR"))
+        .join("tests/data")
+        .join(name)
 }
 
 fn character(word: &str) -> char {

@@ -1,5 +1,0 @@
-//! The program `subset_font`.
-
-fn main() -> std::process::ExitCode {
-    subsetter::subset_font()
-}

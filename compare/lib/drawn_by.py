@@ -1,0 +1,111 @@
+"""Subsets in PDF files, drawn by three PDF readers."""
+import functools
+import os
+import re
+import struct
+import subprocess
+
+import build
+
+PACKAGES = ["mupdf-tools", "poppler-utils", "ghostscript", "python3-pil"]
+CANARY = build.Canary()
+PAGE = (480, 560)
+# Points: the grid's distance and letters, and the letters of the line.
+CELL, GRID, LINE = 56, 32, 10
+# Without hinting and names: the words of the program.
+BARE = ["--no-hinting", "--no-names", "--no-glyph-names"]
+
+
+class Refused(Exception):
+    """The program refused the font; what it said."""
+
+
+# What reading a source that is cut or is no font comes to.
+UNREADABLE = (OSError, KeyError, IndexError, struct.error)
+
+
+@functools.lru_cache(maxsize=None)
+def program():
+    return build.program()
+
+
+def subset(font, index, glyphs, out, bare=False, more=()):
+    """The new number of each glyph, and the widths of the new glyphs as the text of `/W`."""
+    words = [program(), *more, *(BARE if bare else []), "--widths", font, out, str(index), ",".join(map(str, glyphs))]
+    answer = subprocess.run(words, capture_output=True, text=True)
+    if answer.returncode:
+        raise Refused(answer.stderr.strip())
+    *lines, widths = answer.stdout.splitlines()
+    numbers = {int(old): int(new) for old, new in (line.split(" -> ") for line in lines)}
+    if CANARY.is_due:
+        # (two glyphs of the first answer under each other's number)
+        one, other = glyphs[:2]
+        CANARY.is_due, numbers[one], numbers[other] = False, numbers[other], numbers[one]
+    return numbers, widths
+
+
+def cells(count, page=PAGE):
+    """Where so many glyphs of the grid stand, in points from the page's left lower corner."""
+    across = page[0] // CELL
+    return [(12 + CELL * (place % across), page[1] - CELL * (place // across + 1)) for place in range(count)]
+
+
+def grid(codes, page=PAGE, lean=0):
+    """The first page: each code in a cell of its own."""
+    text = ["BT"]
+    for code, (x, y) in zip(codes, cells(len(codes), page)):
+        text.append(f"/F0 {GRID} Tf 1 {lean} 0 1 {x} {y} Tm <{code:04X}> Tj")
+    return "\n".join(text + ["ET"])
+
+
+def line_by_widths(codes, y=500, lean=0):
+    """The second page of the subset: one string, moved on by `/W`."""
+    return f"BT /F0 {LINE} Tf 1 {lean} 0 1 20 {y} Tm <{''.join(f'{code:04X}' for code in codes)}> Tj ET"
+
+
+def line_of(face, glyphs):
+    """As many of the glyphs as a line holds, and where each begins behind its start, in points."""
+    held, places, x = [], [], 0.0
+    for glyph in glyphs:
+        advance = face.advance(glyph) * LINE / face.units
+        if x + advance > PAGE[0] - 60:
+            break
+        held.append(glyph)
+        places.append(x)
+        x += advance
+    return held, places
+
+
+# What each reader is called with, where it draws DPI pixels an inch.
+READERS = {
+    "MuPDF": ["mutool", "draw", "-r", "DPI", "-c", "gray", "-F", "pgm", "-o", "mupdf-%d.pgm", "page.pdf"],
+    "Poppler": ["pdftoppm", "-r", "DPI", "-gray", "page.pdf", "poppler"],
+    "Ghostscript": ["gs", "-q", "-dSAFER", "-dBATCH", "-dNOPAUSE", "-sDEVICE=pgmraw", "-rDPI", "-dTextAlphaBits=4",
+                    "-dGraphicsAlphaBits=4", "-sOutputFile=ghostscript-%d.pgm", "page.pdf"],
+}
+
+
+def drawn(reader, folder, dpi=96):
+    """A reader's pictures of the two pages, each as (width, height, bytes), and the lines that it says."""
+    words = [word.replace("DPI", str(dpi)) for word in READERS[reader]]
+    said = subprocess.run(words, cwd=folder, capture_output=True, text=True, errors="replace")
+    lines = {line for line in (said.stdout + said.stderr).splitlines() if line and not line.startswith("page page.pdf")}
+    if said.returncode:
+        lines.add(f"status {said.returncode}")
+    found = []
+    for page in (1, 2):
+        name = os.path.join(folder, f"{reader.lower()}-{page}.pgm")
+        if not os.path.exists(name):
+            return None, lines
+        with open(name, "rb") as file:
+            data = file.read()
+        head = re.match(rb"P5\s+(?:#[^\n]*\n\s*)*(\d+)\s+(\d+)\s+255\s", data)
+        found.append((int(head[1]), int(head[2]), data[head.end():]))
+    return found, lines
+
+
+def places_by_trace(folder):
+    """Where MuPDF puts each glyph of the second page, in points."""
+    said = subprocess.run(["mutool", "draw", "-F", "trace", "page.pdf", "2"], cwd=folder, capture_output=True, text=True,
+                          errors="replace").stdout
+    return [float(x) for x in re.findall(r'<g [^>]*\bx="([-0-9.e]+)"', said)]

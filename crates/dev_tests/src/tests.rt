@@ -1,0 +1,6 @@
+//! A module for memory, and one for each part of the product.
+
+mod blend;
+mod memory;
+mod pdf;
+mod subset;

@@ -1,0 +1,9 @@
+//! Parts of a PDF's font against values from outside. What `pdf_font` answers as a whole is in rows, which the bindings run.
+
+mod boxes;
+mod cff;
+mod columns;
+mod names;
+mod sheet;
+mod square;
+mod vertical;

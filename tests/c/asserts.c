@@ -1,0 +1,120 @@
+/* What the header promises to programs that were compiled earlier, and to other languages: the value of each constant, the place and the
+ * type of each field, the size of each struct, and the type of each call. It is only compiled. */
+#include "subsetter.h"
+
+#define IS(IT, ...) _Generic((IT), __VA_ARGS__: 1, default: 0)
+#define NUMBER(NAME, VALUE) _Static_assert((uint32_t)(NAME) == (VALUE), #NAME);
+#define FIELD(STRUCT, NAME, PLACE, ...) \
+    _Static_assert(offsetof(STRUCT, NAME) == (PLACE) && IS(&((STRUCT *)0)->NAME, __VA_ARGS__), #STRUCT ": " #NAME);
+#define SIZE(STRUCT, BYTES) _Static_assert(sizeof(STRUCT) == (BYTES), #STRUCT);
+#define CALL(NAME, RESULT, ...) _Static_assert(IS(NAME, RESULT (*)(__VA_ARGS__)), #NAME);
+
+/* ---- constants */
+
+NUMBER(SUBSETTER_DONE, 0) NUMBER(SUBSETTER_UNKNOWN_KIND, 1) NUMBER(SUBSETTER_MALFORMED_FONT, 2) NUMBER(SUBSETTER_UNIMPLEMENTED, 3)
+NUMBER(SUBSETTER_SUBSET_ERROR, 4) NUMBER(SUBSETTER_OVERFLOW_ERROR, 5) NUMBER(SUBSETTER_CFF_ERROR, 6) NUMBER(SUBSETTER_OUT_OF_MEMORY, 7)
+NUMBER(SUBSETTER_BUFFER_TOO_SMALL, 8) NUMBER(SUBSETTER_NO_DEPTH, 9) NUMBER(SUBSETTER_UNKNOWN_OPTION, 10) NUMBER(SUBSETTER_NOT_PERMITTED, 11)
+NUMBER(SUBSETTER_INVALID_TEXT, 12)
+NUMBER(SUBSETTER_DROP_HINTING, 1) NUMBER(SUBSETTER_DROP_NAMES, 2) NUMBER(SUBSETTER_DROP_GLYPH_NAMES, 4)
+NUMBER(SUBSETTER_PROGRAM_SMALLEST, 0) NUMBER(SUBSETTER_PROGRAM_OPENTYPE, 1)
+NUMBER(SUBSETTER_CODES_CONSECUTIVE, 0) NUMBER(SUBSETTER_CODES_SOURCE, 1) NUMBER(SUBSETTER_CODES_EACH_TEXT, 2)
+NUMBER(SUBSETTER_HORIZONTAL, 0) NUMBER(SUBSETTER_VERTICAL, 1) NUMBER(SUBSETTER_BOUNDS_FONT, 0) NUMBER(SUBSETTER_BOUNDS_KEPT, 1)
+NUMBER(SUBSETTER_RIGHTS_AS_SAID, 0) NUMBER(SUBSETTER_RIGHTS_HELD, 1)
+NUMBER(SUBSETTER_KIND_TRUETYPE, 0) NUMBER(SUBSETTER_KIND_BARE_CFF, 1) NUMBER(SUBSETTER_KIND_OPENTYPE, 2)
+NUMBER(SUBSETTER_USAGE_UNSAID, 0) NUMBER(SUBSETTER_USAGE_INSTALLABLE, 1) NUMBER(SUBSETTER_USAGE_EDITABLE, 2)
+NUMBER(SUBSETTER_USAGE_PREVIEW_AND_PRINT, 3) NUMBER(SUBSETTER_USAGE_RESTRICTED, 4)
+NUMBER(SUBSETTER_LAYOUT_LINE, 0) NUMBER(SUBSETTER_LAYOUT_GRID, 1)
+
+/* The preprocessor knows the version; numbers of characters have each at its place, with its eight bits alone, in any expression. */
+#if SUBSETTER_VERSION >> 24 != SUBSETTER_VERSION_MAJOR || (SUBSETTER_VERSION >> 16 & 255) != SUBSETTER_VERSION_MINOR \
+    || (SUBSETTER_VERSION >> 8 & 255) != SUBSETTER_VERSION_PATCH || (SUBSETTER_VERSION & 255) != SUBSETTER_VERSION_N
+#error "the version in #if"
+#endif
+_Static_assert(IS(SUBSETTER_VERSION, uint32_t) && SUBSETTER_VERSION / 2 * 2 + SUBSETTER_VERSION % 2 == SUBSETTER_VERSION, "the version");
+_Static_assert(IS(SUBSETTER_TAG('w', 'g', 'h', 't'), uint32_t) && 2 * SUBSETTER_TAG(1, 2, 3, 1 ? 4 : 0) == 0x02040608, "a tag");
+_Static_assert(SUBSETTER_TAG('\377', 0, '\200', 1) == 0xff008001 && SUBSETTER_TAG(1, '\200', 0, '\377') == 0x018000ff, "high bytes of a tag");
+_Static_assert(IS(SUBSETTER_LETTERS('A', 'B', 'C'), uint32_t) && 2 * SUBSETTER_LETTERS(1, 2, 1 ? 3 : 0) == 0x020406, "letters");
+_Static_assert(SUBSETTER_LETTERS('\377', 0, '\200') == 0xff0080 && SUBSETTER_LETTERS(1, '\200', '\377') == 0x0180ff, "high bytes of letters");
+
+/* ---- structs */
+
+enum { WORD = sizeof(size_t) };
+_Static_assert(sizeof(void *) == WORD, "pointers are as long as sizes");
+
+#define OPTIONS(STRUCT)                                                                                           \
+    FIELD(STRUCT, size, 0, uint32_t *) FIELD(STRUCT, tokens, 4, uint32_t *) FIELD(STRUCT, depth, 8, uint32_t *)     \
+    FIELD(STRUCT, drop, 12, uint32_t *) FIELD(STRUCT, bytes, 16, uint32_t *)
+OPTIONS(subsetter_options) SIZE(subsetter_options, 20)
+OPTIONS(subsetter_pdf_options) SIZE(subsetter_pdf_options, 52)
+#define PDF_OPTION(NAME, AT) FIELD(subsetter_pdf_options, NAME, 4 * (AT), uint32_t *)
+PDF_OPTION(program, 5) PDF_OPTION(codes, 6) PDF_OPTION(direction, 7) PDF_OPTION(bounds, 8) PDF_OPTION(cid_set, 9) PDF_OPTION(rights, 10)
+FIELD(subsetter_pdf_options, tag, 44, uint32_t (*)[2])
+
+FIELD(subsetter_coordinate, tag, 0, uint32_t *) FIELD(subsetter_coordinate, value, 4, int32_t *) SIZE(subsetter_coordinate, 8)
+FIELD(subsetter_column, advance, 0, int32_t *) FIELD(subsetter_column, x, 4, int32_t *) FIELD(subsetter_column, y, 8, int32_t *)
+SIZE(subsetter_column, 12)
+FIELD(subsetter_sizes, font, 0, size_t *) FIELD(subsetter_sizes, cids, WORD, size_t *) FIELD(subsetter_sizes, widths, 2 * WORD, size_t *)
+SIZE(subsetter_sizes, 3 * WORD)
+
+/* A list: a pointer to its items, and their count behind it. */
+#define LIST(STRUCT, AT, NAME, ITEM, COUNT) FIELD(STRUCT, NAME, 2 * (AT) * WORD, const ITEM **) FIELD(STRUCT, COUNT, (2 * (AT) + 1) * WORD, size_t *)
+LIST(subsetter_made, 0, font, uint8_t, font_size) LIST(subsetter_made, 1, cids, uint16_t, cid_count)
+LIST(subsetter_made, 2, widths, uint32_t, width_count) SIZE(subsetter_made, 6 * WORD)
+LIST(subsetter_pdf_objects, 0, bytes, uint8_t, size) LIST(subsetter_pdf_objects, 1, offsets, size_t, offset_count)
+SIZE(subsetter_pdf_objects, 4 * WORD)
+#define PDF_LIST(...) LIST(subsetter_pdf_font, __VA_ARGS__)
+PDF_LIST(0, program, uint8_t, program_size) PDF_LIST(1, cids, uint16_t, cid_count) PDF_LIST(2, codes, uint16_t, code_count)
+PDF_LIST(3, is_said, uint8_t, said_count) PDF_LIST(4, widths, uint32_t, width_count) PDF_LIST(5, columns, subsetter_column, column_count)
+PDF_LIST(6, font_name, uint8_t, font_name_size) PDF_LIST(7, to_unicode, uint8_t, to_unicode_size) PDF_LIST(8, encoding, uint8_t, encoding_size)
+PDF_LIST(9, encoding_name, uint8_t, encoding_name_size) PDF_LIST(10, cid_set, uint8_t, cid_set_size)
+#define PDF_NUMBER(AT, NAME, ...) FIELD(subsetter_pdf_font, NAME, 22 * WORD + 4 * (AT), __VA_ARGS__)
+PDF_NUMBER(0, kind, uint32_t *) PDF_NUMBER(1, is_vertical, uint32_t *) PDF_NUMBER(2, default_width, uint32_t *)
+PDF_NUMBER(3, default_column, int32_t (*)[2]) PDF_NUMBER(5, flags, uint32_t *) PDF_NUMBER(6, bounds, int32_t (*)[4])
+PDF_NUMBER(10, italic_angle, int32_t *) PDF_NUMBER(11, ascent, int32_t *) PDF_NUMBER(12, descent, int32_t *) PDF_NUMBER(13, cap_height, int32_t *)
+PDF_NUMBER(14, has_x_height, uint32_t *) PDF_NUMBER(15, x_height, int32_t *) PDF_NUMBER(16, stem_v, uint32_t *)
+PDF_NUMBER(17, font_weight, uint32_t *) PDF_NUMBER(18, usage, uint32_t *) PDF_NUMBER(19, may_subset, uint32_t *)
+PDF_NUMBER(20, may_embed_outlines, uint32_t *)
+/* (behind 21 numbers there may be room) */
+SIZE(subsetter_pdf_font, (22 * WORD + 4 * 21 + WORD - 1) / WORD * WORD)
+
+/* ---- calls */
+
+#define FONT const uint8_t *, size_t, uint32_t
+#define AT const subsetter_coordinate *, size_t
+#define GLYPHS const uint16_t *, size_t
+#define WORDS const uint32_t *, size_t
+#define CHOSEN const subsetter_options *
+#define OUT uint8_t *, size_t, size_t *
+#define ALL_OUT uint8_t *, size_t, uint16_t *, size_t, uint32_t *, size_t, subsetter_sizes *
+#define SHOWN GLYPHS, const uint32_t *, size_t, const size_t *, size_t
+
+CALL(subsetter_version, uint32_t, void)
+CALL(subsetter_error_text, uint32_t, uint32_t, OUT)
+CALL(subsetter_status_text, const char *, uint32_t)
+CALL(subsetter_subset, uint32_t, FONT, GLYPHS, OUT)
+CALL(subsetter_subset_with_limits, uint32_t, FONT, GLYPHS, uint32_t, uint8_t, OUT)
+CALL(subsetter_subset_by_words, uint32_t, FONT, GLYPHS, WORDS, OUT)
+CALL(subsetter_subset_with_options, uint32_t, FONT, GLYPHS, CHOSEN, OUT)
+CALL(subsetter_subset_at_by_words, uint32_t, FONT, AT, GLYPHS, WORDS, OUT)
+CALL(subsetter_subset_at, uint32_t, FONT, AT, GLYPHS, CHOSEN, OUT)
+CALL(subsetter_embed, uint32_t, FONT, GLYPHS, ALL_OUT)
+CALL(subsetter_embed_by_words, uint32_t, FONT, GLYPHS, WORDS, ALL_OUT)
+CALL(subsetter_embed_with_options, uint32_t, FONT, GLYPHS, CHOSEN, ALL_OUT)
+CALL(subsetter_embed_at_by_words, uint32_t, FONT, AT, GLYPHS, WORDS, ALL_OUT)
+CALL(subsetter_embed_at, uint32_t, FONT, AT, GLYPHS, CHOSEN, ALL_OUT)
+CALL(subsetter_make_subset_by_words, uint32_t, FONT, GLYPHS, WORDS, subsetter_made *)
+CALL(subsetter_make_subset, uint32_t, FONT, GLYPHS, CHOSEN, subsetter_made *)
+CALL(subsetter_make_subset_at_by_words, uint32_t, FONT, AT, GLYPHS, WORDS, subsetter_made *)
+CALL(subsetter_make_subset_at, uint32_t, FONT, AT, GLYPHS, CHOSEN, subsetter_made *)
+CALL(subsetter_make_embedded_by_words, uint32_t, FONT, GLYPHS, WORDS, subsetter_made *)
+CALL(subsetter_make_embedded, uint32_t, FONT, GLYPHS, CHOSEN, subsetter_made *)
+CALL(subsetter_make_embedded_at_by_words, uint32_t, FONT, AT, GLYPHS, WORDS, subsetter_made *)
+CALL(subsetter_make_embedded_at, uint32_t, FONT, AT, GLYPHS, CHOSEN, subsetter_made *)
+CALL(subsetter_free, void, subsetter_made *)
+CALL(subsetter_glyphs_of, uint32_t, FONT, const uint32_t *, size_t, uint16_t *, size_t, size_t *)
+CALL(subsetter_make_pdf_font_by_words, uint32_t, FONT, AT, SHOWN, WORDS, subsetter_pdf_font *)
+CALL(subsetter_make_pdf_font, uint32_t, FONT, AT, SHOWN, const subsetter_pdf_options *, subsetter_pdf_font *)
+CALL(subsetter_free_pdf_font, void, subsetter_pdf_font *)
+CALL(subsetter_make_pdf_objects, uint32_t, const subsetter_pdf_font *, uint32_t, subsetter_pdf_objects *)
+CALL(subsetter_make_pdf_sheet, uint32_t, const subsetter_pdf_font *, SHOWN, uint32_t, subsetter_pdf_objects *)
+CALL(subsetter_free_pdf_objects, void, subsetter_pdf_objects *)

@@ -1,0 +1,1042 @@
+/* Each row of pdf_rows.txt by the calls for PDF, field by field, with its objects: pdf_test [--brief] [--undamaged] FOLDER
+ *
+ * Then the sheet; options and texts that are refused; each request for memory refused in turn; and damaged fonts, fewer of them with
+ * --brief, and none with --undamaged. FOLDER has pdf_rows.txt and its fonts. SUBSETTER_BY_CARGO is for the library of
+ * bindings/capi, whose empty lists are null. */
+#include "subsetter.h"
+
+#include "counted.h"
+
+#include <stdarg.h>
+
+/* ---- rows */
+
+enum { FIELDS = 64, ENTRIES = 512, CHARACTERS = 1024, COORDINATES = 4, TEXT = 1 << 16, FILLED = 0xA5 };
+
+struct field {
+    const char *name, *value;
+};
+
+struct row {
+    struct field fields[FIELDS];
+    size_t count;
+    const char *name;
+    uint8_t *font;
+    size_t font_size, glyph_count, text_count, coordinate_count;
+    uint16_t glyphs[ENTRIES];
+    uint32_t text[CHARACTERS];
+    size_t ends[ENTRIES];
+    subsetter_coordinate coordinates[COORDINATES];
+    subsetter_pdf_options options;
+};
+
+static const char *folder;
+
+/* A file of the folder. */
+static uint8_t *file_of(const char *name, size_t *size)
+{
+    char path[4096];
+    snprintf(path, sizeof path, "%s/%s", folder, name);
+    return content(path, size);
+}
+
+static const char *value(const struct row *row, const char *name)
+{
+    for (size_t i = 0; i < row->count; i++)
+        if (strcmp(row->fields[i].name, name) == 0)
+            return row->fields[i].value;
+    return NULL;
+}
+
+/* Glyphs with their text, as `1:0041 5:0066,0069 7:`. */
+static void read_shown(struct row *row, const char *words)
+{
+    while (*words != 0) {
+        char *end;
+        row->glyphs[row->glyph_count] = (uint16_t)strtoul(words, &end, 10);
+        for (end++; *end != 0 && *end != ' '; end += *end == ',')
+            row->text[row->text_count++] = (uint32_t)strtoul(end, &end, 16);
+        row->ends[row->glyph_count++] = row->text_count;
+        words = end + (*end == ' ');
+    }
+}
+
+static void read_coordinates(struct row *row, const char *words)
+{
+    while (*words != 0 && *words != '-') {
+        char *end;
+        subsetter_coordinate *at = &row->coordinates[row->coordinate_count++];
+        at->tag = SUBSETTER_TAG(words[0], words[1], words[2], words[3]);
+        at->value = (int32_t)(strtod(words + 5, &end) * 65536);
+        words = end + (*end == ',');
+    }
+}
+
+static subsetter_pdf_options defaults(void)
+{
+    const subsetter_pdf_options all = SUBSETTER_DEFAULT_PDF_OPTIONS;
+    return all;
+}
+
+static void read_options(struct row *row, const char *words)
+{
+    subsetter_pdf_options *it = &row->options;
+    const struct {
+        const char *word;
+        uint32_t *field, number;
+    } known[] = {
+        {"direction=Vertical", &it->direction, SUBSETTER_VERTICAL}, {"codes=Source", &it->codes, SUBSETTER_CODES_SOURCE},
+        {"codes=EachText", &it->codes, SUBSETTER_CODES_EACH_TEXT}, {"bounds=Kept", &it->bounds, SUBSETTER_BOUNDS_KEPT},
+        {"program=OpenType", &it->program, SUBSETTER_PROGRAM_OPENTYPE}, {"rights=Held", &it->rights, SUBSETTER_RIGHTS_HELD},
+        {"cid_set", &it->cid_set, 1},
+    };
+    *it = defaults();
+    it->drop = SUBSETTER_DROP_HINTING;
+    for (size_t i = 0; i < sizeof known / sizeof *known; i++)
+        if (strstr(words, known[i].word) != NULL)
+            *known[i].field = known[i].number;
+}
+
+/* Takes a row of a text, and answers what is behind it; null behind the last one. */
+static char *read_row(struct row *row, char *text)
+{
+    memset(row, 0, sizeof *row);
+    while (*text == '#' || *text == '\n')
+        text = strchr(text, '\n') + 1;
+    if (*text == 0)
+        return NULL;
+    while (*text != 0 && *text != '\n') {
+        char *end = strchr(text, '\n'), *blank = memchr(text, ' ', (size_t)(end - text));
+        struct field *field = &row->fields[row->count++];
+        field->name = text;
+        field->value = blank == NULL ? "" : blank + 1;
+        *(blank == NULL ? end : blank) = 0;
+        *end = 0;
+        if (strcmp(field->value, "<<") == 0) {
+            field->value = end + 1;
+            end = strstr(end + 1, "\n>>\n") + 3;
+            end[-3] = 0;
+        }
+        text = end + 1;
+    }
+    row->name = value(row, "row");
+    row->font = file_of(value(row, "font"), &row->font_size);
+    read_shown(row, value(row, "shown"));
+    read_coordinates(row, value(row, "coordinates"));
+    read_options(row, value(row, "options"));
+    return text;
+}
+
+/* ---- answers as text */
+
+static char said[TEXT];
+static size_t said_size;
+
+static void say(const char *format, ...)
+{
+    va_list words;
+    va_start(words, format);
+    said_size += (size_t)vsnprintf(said + said_size, TEXT - said_size, format, words);
+    va_end(words);
+}
+
+/* Compares what was said with a field; what neither has is right. */
+static void compare(const struct row *row, const char *name)
+{
+    const char *wanted = value(row, name);
+    if (wanted != NULL && said_size > 0 && (said[said_size - 1] == ' ' || said[said_size - 1] == '\n'))
+        said[said_size - 1] = 0;
+    check(strcmp(said, wanted == NULL ? "" : wanted) == 0, name, row->name);
+    said_size = 0;
+    said[0] = 0;
+}
+
+static void compare_bytes(const struct row *row, const char *name, const uint8_t *bytes, size_t size)
+{
+    for (size_t i = 0; i < size; i++)
+        say("%02x", bytes[i]);
+    if (size == 0)
+        say("-");
+    compare(row, name);
+}
+
+static void compare_text(const struct row *row, const char *name, const uint8_t *bytes, size_t size)
+{
+    check(size == 0 || memchr(bytes, 0, size) == NULL, "a zero in a text", row->name);
+    say("%.*s", (int)size, (const char *)bytes);
+    compare(row, name);
+}
+
+static void compare_lists(const struct row *row, const subsetter_pdf_font *font)
+{
+#define NUMBERS(NAME, LIST, COUNT)                      \
+    for (size_t i = 0; i < font->COUNT; i++)            \
+        say("%u ", (unsigned)font->LIST[i]);            \
+    compare(row, NAME)
+    NUMBERS("cids", cids, cid_count);
+    NUMBERS("codes", codes, code_count);
+    NUMBERS("is_said", is_said, said_count);
+    NUMBERS("widths", widths, width_count);
+    for (size_t i = 0; font->is_vertical && i < font->width_count; i++)
+        if (i < font->column_count)
+            say("%d,%d,%d ", font->columns[i].advance, font->columns[i].x, font->columns[i].y);
+        else
+            say("- ");
+    compare(row, "columns");
+    check(font->is_vertical || font->column_count == 0, "columns of horizontal writing", row->name);
+    compare_bytes(row, "program", font->program, font->program_size);
+    compare_bytes(row, "cid_set", font->cid_set, font->cid_set_size);
+    compare_text(row, "name", font->font_name, font->font_name_size);
+    compare_text(row, "to_unicode", font->to_unicode, font->to_unicode_size);
+    compare_text(row, "encoding", font->encoding, font->encoding_size);
+    say("/CMapName /%.*s def", (int)font->encoding_name_size, (const char *)font->encoding_name);
+    check((font->encoding_size == 0 && font->encoding_name_size == 0) || strstr(value(row, "encoding"), said) != NULL, "the name of the CMap", row->name);
+    said_size = 0;
+}
+
+static void compare_numbers(const struct row *row, const subsetter_pdf_font *font)
+{
+    static const char *const kinds[] = {"TrueType", "CIDFontType0C", "OpenType"};
+    static const char *const usages[] = {"unsaid", "installable", "editable", "preview_and_print", "restricted"};
+    const struct {
+        const char *name;
+        long number;
+    } numbers[] = {
+        {"glyph_count", (long)font->width_count}, {"default_width", font->default_width}, {"flags", font->flags}, {"ascent", font->ascent},
+        {"descent", font->descent}, {"cap_height", font->cap_height}, {"stem_v", font->stem_v}, {"font_weight", font->font_weight},
+    };
+    for (size_t i = 0; i < sizeof numbers / sizeof *numbers; i++) {
+        say("%ld", numbers[i].number);
+        compare(row, numbers[i].name);
+    }
+    say("%s", kinds[font->kind]);
+    compare(row, "kind");
+    if (font->is_vertical)
+        say("%d %d", font->default_column[0], font->default_column[1]);
+    compare(row, "dw2");
+    say("%d %d %d %d", font->bounds[0], font->bounds[1], font->bounds[2], font->bounds[3]);
+    compare(row, "bounds");
+    say("%g", font->italic_angle / 1000.0);
+    compare(row, "angle");
+    say(font->has_x_height ? "%d" : "-", font->x_height);
+    compare(row, "x_height");
+    say("%s subsetting %u outlines %u", usages[font->usage], font->may_subset, font->may_embed_outlines);
+    compare(row, "permission");
+}
+
+/* ---- objects */
+
+static uint8_t wanted[TEXT * 4];
+static size_t wanted_size;
+
+static void want(const void *bytes, size_t size)
+{
+    memcpy(wanted + wanted_size, bytes, size);
+    wanted_size += size;
+}
+
+static int is_same(const void *a, size_t a_size, const void *b, size_t b_size)
+{
+    return a_size == b_size && (a_size == 0 || memcmp(a, b, a_size) == 0);
+}
+
+/* Whether a list has no items, and the pointer that its library gives such a list. */
+static int is_empty(const void *items, size_t count)
+{
+#ifdef SUBSETTER_BY_CARGO
+    return count == 0 && items == NULL;
+#else
+    return count == 0 && items != NULL;
+#endif
+}
+
+static int are_no_objects(const subsetter_pdf_objects *made)
+{
+    return is_empty(made->bytes, made->size) && is_empty(made->offsets, made->offset_count);
+}
+
+/* Objects of a row from number 4 on, with the streams of the font. */
+static void compare_objects(const struct row *row, const subsetter_pdf_font *font)
+{
+    struct {
+        const uint8_t *bytes;
+        size_t size;
+    } streams[4] = {{font->program, font->program_size}, {font->to_unicode, font->to_unicode_size}};
+    size_t stream = 2, count = 0, offsets[8];
+    if (font->cid_set_size > 0) {
+        streams[stream].bytes = font->cid_set;
+        streams[stream++].size = font->cid_set_size;
+    }
+    streams[stream].bytes = font->encoding;
+    streams[stream].size = font->encoding_size;
+    wanted_size = 0;
+    for (size_t i = 0; i < row->count; i++) {
+        if (strcmp(row->fields[i].name, "object") != 0)
+            continue;
+        const char *dictionary = strchr(row->fields[i].value, ' ') + 1;
+        char front[32];
+        offsets[count] = wanted_size;
+        want(front, (size_t)snprintf(front, sizeof front, "%d 0 obj\n", (int)count + 4));
+        want(dictionary, strlen(dictionary));
+        if (count >= 3) {
+            want("\nstream\n", 8);
+            want(streams[count - 3].bytes, streams[count - 3].size);
+            want("\nendstream", 10);
+        }
+        want("\nendobj\n", 8);
+        count++;
+    }
+    subsetter_pdf_objects made;
+    check(subsetter_make_pdf_objects(font, 4, &made) == 0, "objects", row->name);
+    check(is_same(made.bytes, made.size, wanted, wanted_size), "the objects", row->name);
+    check(is_same(made.offsets, made.offset_count * sizeof *offsets, offsets, count * sizeof *offsets), "the offsets", row->name);
+    for (int turn = 0; turn < 2; turn++) {
+        subsetter_free_pdf_objects(&made);
+        check(made.bytes == NULL && made.size == 0 && made.offsets == NULL && made.offset_count == 0, "what is left of objects", row->name);
+    }
+}
+
+static int contains(const subsetter_pdf_objects *file, const void *part, size_t size)
+{
+    for (size_t i = 0; i + size <= file->size; i++)
+        if (memcmp(file->bytes + i, part, size) == 0)
+            return 1;
+    return 0;
+}
+
+static uint32_t sheet(const struct row *row, const subsetter_pdf_font *font, uint32_t layout, subsetter_pdf_objects *made)
+{
+    return subsetter_make_pdf_sheet(font, row->glyphs, row->glyph_count, row->text, row->text_count, row->ends, row->glyph_count, layout, made);
+}
+
+static void compare_sheets(const struct row *row, const subsetter_pdf_font *font)
+{
+    const char *name = row->name;
+    subsetter_pdf_objects line, grid, own;
+    check(sheet(row, font, SUBSETTER_LAYOUT_LINE, &line) == 0 && sheet(row, font, SUBSETTER_LAYOUT_GRID, &grid) == 0, "a sheet", name);
+    check(subsetter_make_pdf_objects(font, 5, &own) == 0, "objects of a sheet", name);
+    check(is_empty(line.offsets, line.offset_count) && is_empty(grid.offsets, grid.offset_count), "offsets of a sheet", name);
+    check(memcmp(line.bytes, "%PDF-1.7\n", 9) == 0 && memcmp(line.bytes + line.size - 6, "%%EOF\n", 6) == 0, "a whole file", name);
+    check(contains(&line, own.bytes, own.size), "the objects in the sheet", name);
+    size_t points = 0, silent = 0;
+    for (size_t i = 0; i < font->cid_count; i++)
+        points += font->is_vertical ? (size_t)-font->columns[font->cids[i]].advance : font->widths[font->cids[i]];
+    char page[64];
+    snprintf(page, sizeof page, font->is_vertical ? "[0 0 144 %zu]" : "[0 0 %zu 144]", 72 + (36 * points + 999) / 1000);
+    check(contains(&line, page, strlen(page)), "the length of a line", name);
+    check(!contains(&line, "[0 0 595 842]", 13) && contains(&grid, "[0 0 595 842]", 13), "the pages", name);
+    for (size_t i = 0; i < font->said_count; i++)
+        silent += !font->is_said[i];
+    check(contains(&line, "/ActualText", 11) == (silent > 0), "texts that codes don't say", name);
+    subsetter_free_pdf_objects(&line);
+    subsetter_free_pdf_objects(&grid);
+    subsetter_free_pdf_objects(&own);
+}
+
+/* ---- calls */
+
+static uint32_t make(const struct row *row, const subsetter_pdf_options *options, subsetter_pdf_font *font)
+{
+    memset(font, FILLED, sizeof *font);
+    return subsetter_make_pdf_font(row->font, row->font_size, 0, row->coordinates, row->coordinate_count, row->glyphs,
+        row->glyph_count, row->text, row->text_count, row->ends, row->glyph_count, options, font);
+}
+
+/* (there may be room behind the last number) */
+enum { NUMBERS_END = offsetof(subsetter_pdf_font, may_embed_outlines) + 4 };
+
+/* Whether a font was given back: all of it is 0. */
+static int is_given_back(const subsetter_pdf_font *font)
+{
+    static const subsetter_pdf_font nothing;
+    return memcmp(font, &nothing, NUMBERS_END) == 0;
+}
+
+/* Whether all sizes, counts and numbers of a font are 0. The pointer to an empty list says nothing. */
+static int is_nothing(const subsetter_pdf_font *font)
+{
+    subsetter_pdf_font sizes = *font;
+    sizes.program = sizes.font_name = sizes.to_unicode = sizes.encoding = sizes.encoding_name = sizes.cid_set = sizes.is_said = NULL;
+    sizes.cids = sizes.codes = NULL;
+    sizes.widths = NULL;
+    sizes.columns = NULL;
+    return is_given_back(&sizes);
+}
+
+/* The status of a font, which is nothing where it is refused, and is given back. */
+static uint32_t status_of(const struct row *row, const subsetter_pdf_options *options)
+{
+    subsetter_pdf_font font;
+    uint32_t status = make(row, options, &font);
+    check(status == 0 || is_nothing(&font), "what is left of no font", "a status");
+    subsetter_free_pdf_font(&font);
+    return status;
+}
+
+static void answer(const struct row *row)
+{
+    const char *error = value(row, "error");
+    subsetter_pdf_font font;
+    if (error != NULL) {
+        check(status_of(row, &row->options) == (strcmp(error, "NotPermitted") == 0 ? SUBSETTER_NOT_PERMITTED : SUBSETTER_INVALID_TEXT), error, row->name);
+        return;
+    }
+    uint32_t status = make(row, &row->options, &font);
+    check(status == 0, "the status", row->name);
+    if (status != 0)
+        return;
+    compare_lists(row, &font);
+    compare_numbers(row, &font);
+    compare_objects(row, &font);
+    compare_sheets(row, &font);
+    for (int turn = 0; turn < 2; turn++) {
+        subsetter_free_pdf_font(&font);
+        check(is_given_back(&font), "what is left of a font", row->name);
+    }
+}
+
+/* Whether two fonts have the same lists and numbers. */
+static int are_same(const subsetter_pdf_font *a, const subsetter_pdf_font *b)
+{
+#define SAME(LIST, COUNT) is_same(a->LIST, a->COUNT * sizeof *a->LIST, b->LIST, b->COUNT * sizeof *b->LIST)
+    return SAME(program, program_size) && SAME(cids, cid_count) && SAME(codes, code_count) && SAME(is_said, said_count)
+        && SAME(widths, width_count) && SAME(columns, column_count) && SAME(font_name, font_name_size) && SAME(to_unicode, to_unicode_size)
+        && SAME(encoding, encoding_size) && SAME(encoding_name, encoding_name_size) && SAME(cid_set, cid_set_size)
+        && memcmp(&a->kind, &b->kind, NUMBERS_END - offsetof(subsetter_pdf_font, kind)) == 0;
+}
+
+static int are_same_objects(const subsetter_pdf_objects *a, const subsetter_pdf_objects *b)
+{
+    return SAME(bytes, size) && SAME(offsets, offset_count);
+#undef SAME
+}
+
+/* What the calls of a row make, as far as they succeed. */
+struct all {
+    subsetter_pdf_font font;
+    subsetter_pdf_objects objects, page;
+    uint32_t statuses[3];
+};
+
+static void make_all(const struct row *row, struct all *it)
+{
+    memset(it, FILLED, sizeof *it);
+    it->statuses[1] = it->statuses[2] = 0;
+    it->statuses[0] = make(row, &row->options, &it->font);
+    if (it->statuses[0] == 0)
+        it->statuses[1] = subsetter_make_pdf_objects(&it->font, 4, &it->objects);
+    if (it->statuses[0] == 0 && it->statuses[1] == 0)
+        it->statuses[2] = sheet(row, &it->font, 0, &it->page);
+}
+
+static void free_all(struct all *it)
+{
+    subsetter_free_pdf_font(&it->font);
+    if (it->statuses[0] == 0)
+        subsetter_free_pdf_objects(&it->objects);
+    if (it->statuses[0] == 0 && it->statuses[1] == 0)
+        subsetter_free_pdf_objects(&it->page);
+}
+
+/* Each request for memory is refused in turn: what is answered is whole, or nothing with status 7. Where a smaller block is requested the
+ * call may go on. */
+static void refuse(const struct row *row)
+{
+    struct all whole, it;
+    size_t goes_on = 0;
+    make_all(row, &whole);
+    check(whole.statuses[1] == 0 && whole.statuses[2] == 0, "all that is made", row->name);
+    for (unsigned long request = 1;; request++) {
+        long before = held;
+        requests = 0;
+        refused = request;
+        make_all(row, &it);
+        int was_refused = requests >= request;
+        refused = 0;
+        const uint32_t *found = it.statuses;
+        check(found[0] == whole.statuses[0] || (was_refused && found[0] == 7), "a refused request", row->name);
+        check((found[1] == 0 || found[1] == 7) && (found[2] == 0 || found[2] == 7), "a refused request of objects or of a sheet", row->name);
+        check(found[0] == 0 ? are_same(&it.font, &whole.font) : is_nothing(&it.font), "a font that isn't whole", row->name);
+        if (found[0] == 0)
+            check(found[1] == 0 ? are_same_objects(&it.objects, &whole.objects) : are_no_objects(&it.objects), "objects that aren't whole", row->name);
+        if (found[0] == 0 && found[1] == 0)
+            check(found[2] == 0 ? are_same_objects(&it.page, &whole.page) : are_no_objects(&it.page), "a sheet that isn't whole", row->name);
+        goes_on += was_refused && found[0] == 0 && found[1] == 0 && found[2] == 0;
+        check(request > 20 || was_refused || found[0] != 0, "requests of the calls", row->name);
+        free_all(&it);
+        check(held == before, "memory that isn't given back", row->name);
+        if (!was_refused)
+            break;
+    }
+#ifdef SUBSETTER_BY_CARGO
+    check(goes_on <= 2, "how many requests may be refused", row->name);
+#endif
+    free_all(&whole);
+}
+
+/* ---- damaged fonts */
+
+static uint32_t state = 1;
+
+static uint32_t random_number(void)
+{
+    state ^= state << 13;
+    state ^= state >> 17;
+    return state ^= state << 5;
+}
+
+/* Fonts with some other bytes, or an end that is cut off: a call answers a known status, and all memory comes back. */
+static void damage(const struct row *row, int times)
+{
+    static struct row other;
+    static const char name[] = "a damaged font";
+    for (int i = 0; i < times; i++) {
+        subsetter_pdf_font font;
+        subsetter_pdf_objects objects;
+        uint16_t glyphs[CHARACTERS];
+        size_t length;
+        long before = held;
+        other = *row;
+        /* (a block of the damaged font's own size, so that a byte past its end is found) */
+        other.font_size = random_number() % 4 == 0 ? random_number() % (row->font_size + 1) : row->font_size;
+        other.font = malloc(other.font_size + (other.font_size == 0));
+        memcpy(other.font, row->font, other.font_size);
+        for (uint32_t bytes = random_number() % 8; bytes > 0 && other.font_size > 0; bytes--)
+            other.font[random_number() % other.font_size] = (uint8_t)random_number();
+        uint32_t found = subsetter_glyphs_of(other.font, other.font_size, 0, row->text, row->text_count, glyphs, CHARACTERS, &length);
+        check(found < 8 && (found == 0 ? length == row->text_count : length == 0), "its glyphs", name);
+        uint32_t status = make(&other, &other.options, &font);
+        check(status < 8 || status == 11 || status == 12, "its status", name);
+        check(status == 0 || is_nothing(&font), "what is left", name);
+        if (status == 0) {
+            check(subsetter_make_pdf_objects(&font, 4, &objects) == 0 && objects.offset_count >= 5, "its objects", name);
+            subsetter_free_pdf_objects(&objects);
+            check(sheet(&other, &font, SUBSETTER_LAYOUT_LINE, &objects) == 0 && objects.size > 500, "its sheet", name);
+            subsetter_free_pdf_objects(&objects);
+        }
+        subsetter_free_pdf_font(&font);
+        free(other.font);
+        check(held == before, "memory that isn't given back", name);
+    }
+}
+
+/* ---- what rows don't say: options */
+
+enum { TOKENS = 1, DEPTH, DROP, BYTES, WORDS = 11, ALL_WORDS = 13 };
+/* The greatest number of each word that isn't a tag; of the tokens and of the bytes each is known. */
+static const uint32_t MOST[WORDS] = {52, UINT32_MAX, 255, 7, UINT32_MAX, 1, 2, 1, 1, 1, 1};
+
+static uint32_t status_with(const struct row *row, size_t word, uint32_t number)
+{
+    subsetter_pdf_options options = defaults();
+    (&options.size)[word] = number;
+    return status_of(row, &options);
+}
+
+static void try_words(const struct row *row)
+{
+    static const char name[] = "an option";
+    for (size_t word = TOKENS; word < WORDS; word++) {
+        check(status_with(row, word, MOST[word]) == 0, "the greatest", name);
+        if (word == TOKENS || word == BYTES)
+            continue;
+        for (uint32_t number = MOST[word] + 1; number < MOST[word] + 300; number++)
+            check(status_with(row, word, number) == 10, "greater than known", name);
+        for (int i = 0; i < HIGHS; i++)
+            check(status_with(row, word, HIGH[i] + MOST[word]) == 10 && status_with(row, word, HIGH[i] + 1) == 10, "a high bit", name);
+        check(status_with(row, word, UINT32_MAX) == 10, "the greatest number", name);
+    }
+    check(status_with(row, TOKENS, 9) == 0, "few tokens", name);
+    for (int i = 1; i < HIGHS; i++)
+        check(status_with(row, BYTES, HIGH[i] + 1) == 0, "a large bound", name);
+    /* The first word is the size of all. */
+    for (uint32_t count = 1; count < 80; count++)
+        for (int i = -1; i < HIGHS; i++) {
+            uint32_t many[80] = {4 * count + (i < 0 ? 0 : HIGH[i])};
+            subsetter_pdf_font font;
+            check(subsetter_make_pdf_font_by_words(row->font, row->font_size, 0, NULL, 0, row->glyphs, row->glyph_count, row->text, row->text_count,
+                      row->ends, row->glyph_count, many, count, &font) == (i < 0 && count <= ALL_WORDS ? 0 : 10), "a list of words", name);
+            subsetter_free_pdf_font(&font);
+        }
+}
+
+static void try_options(const struct row *row)
+{
+    static const char name[] = "options";
+    subsetter_pdf_font font;
+    subsetter_pdf_options options = defaults();
+    for (size_t word = 1; word < ALL_WORDS; word++)
+        check((&options.size)[word] == 0, "a default", name);
+    check(status_of(row, NULL) == 0, "none", name);
+    /* Of a shorter struct the rest is 0, and a size that isn't known is refused. */
+    options.cid_set = 1;
+    for (uint32_t size = 0; size <= 52; size++) {
+        options.size = size;
+        uint32_t status = make(row, &options, &font);
+        check(status == (size % 4 == 0 && size >= 4 ? 0 : 10), "a size", name);
+        check(status != 0 || (font.cid_set_size > 0) == (size >= 40), "fields past the size", name);
+        subsetter_free_pdf_font(&font);
+    }
+    options = defaults();
+    options.tag[0] = SUBSETTER_LETTERS('Z', 'Y', 'X');
+    options.tag[1] = SUBSETTER_LETTERS('W', 'V', 'U');
+    check(make(row, &options, &font) == 0 && memcmp(font.font_name, "ZYXWVU+Made-Regular", 19) == 0, "a tag", name);
+    options.bytes = (uint32_t)font.program_size;
+    subsetter_free_pdf_font(&font);
+    check(status_of(row, &options) == 0, "a bound that is just met", name);
+    options.bytes--;
+    check(status_of(row, &options) == 5, "a bound that is passed", name);
+}
+
+/* A tag: each of its letters is a capital, and what is in front of three is 0. */
+static void try_tags(const struct row *row)
+{
+    static const uint8_t letters[] = {'A', 'M', 'Z', '@', '[', 'a', 'z', 1, 255, 0};
+    for (int place = 0; place < 8; place++)
+        for (size_t i = 0; i < sizeof letters; i++) {
+            subsetter_pdf_options options = defaults();
+            subsetter_pdf_font font;
+            options.tag[0] = SUBSETTER_LETTERS('B', 'C', 'D');
+            options.tag[1] = SUBSETTER_LETTERS('E', 'F', 'G');
+            int shift = 24 - 8 * (place % 4), in_name = place % 4 - 1 + 3 * (place / 4);
+            options.tag[place / 4] = (options.tag[place / 4] & ~(255u << shift)) | (uint32_t)letters[i] << shift;
+            int is_known = place % 4 == 0 ? letters[i] == 0 : i < 3;
+            uint32_t status = make(row, &options, &font);
+            check(status == (is_known ? 0 : 10), "status", "a letter of a tag");
+            check(status != 0 || place % 4 == 0 || font.font_name[in_name] == letters[i], "its place in the name", "a letter of a tag");
+            subsetter_free_pdf_font(&font);
+        }
+    for (size_t half = 0; half < 2; half++)
+        check(status_with(row, WORDS + half, SUBSETTER_LETTERS('B', 'C', 'D')) == 10, "status", "half a tag");
+}
+
+/* Each number of tokens is refused, or taken, as by the call that embeds. */
+static void try_limits(void)
+{
+    static struct row row;
+    size_t accepted = 0, numbers = 0;
+    row.font = file_of("made_version_1.otf", &row.font_size);
+    read_shown(&row, "1:0041 2:0042 8:00C1");
+    for (uint32_t tokens = 1; tokens < 150; tokens++, numbers++) {
+        const subsetter_options alone = {sizeof alone, tokens, 0, SUBSETTER_DROP_NAMES | SUBSETTER_DROP_GLYPH_NAMES, 0};
+        subsetter_made made;
+        uint32_t status = subsetter_make_embedded(row.font, row.font_size, 0, row.glyphs, row.glyph_count, &alone, &made);
+        check(status_with(&row, TOKENS, tokens) == status && (status == 0 || status == 6), "status", "tokens");
+        accepted += status == 0;
+        subsetter_free(&made);
+    }
+    check(accepted > 0 && accepted < numbers, "that suffice, and that don't", "tokens");
+    for (int i = 0; i < HIGHS; i++)
+        check(status_with(&row, TOKENS, HIGH[i] + 1) == 0, "many", "tokens");
+    __real_free(row.font);
+}
+
+/* The font program of a TrueType font is the subset without names, with its hints or without them, at any coordinates. */
+static void try_programs(void)
+{
+    static struct row row;
+    const subsetter_coordinate heavy = {SUBSETTER_TAG('w', 'g', 'h', 't'), 650 << 16}, light = {SUBSETTER_TAG('w', 'g', 'h', 't'), 150 << 16},
+                               slanted = {SUBSETTER_TAG('s', 'l', 'n', 't'), -15 * 32768}, other = {SUBSETTER_TAG('W', 'G', 'H', 'T'), 650 << 16},
+                               last = {SUBSETTER_TAG('w', 'g', 'h', 't'), 0x40000001}, first = {SUBSETTER_TAG('w', 'g', 'h', 't'), 0x40000000};
+    const subsetter_coordinate lists[][3] = {{heavy}, {heavy}, {light, heavy}, {heavy, slanted}, {slanted, heavy, light}, {other, slanted, heavy}, {last}, {first}};
+    const size_t counts[] = {0, 1, 2, 2, 3, 3, 1, 1};
+    row.font = file_of("made_variable.ttf", &row.font_size);
+    read_shown(&row, "1:0041 5:0066,0069 8:00C1");
+    uint8_t *kept = room(1 << 16), *axes = NULL;
+    size_t kept_size = 0, differing = 0;
+    for (uint8_t *record = row.font + 12; record < row.font + 12 + 16 * row.font[5]; record += 16) {
+        uint8_t *table = row.font + (record[10] << 8) + record[11];
+        /* (`maxp` bounds instructions, so that it is another without them) */
+        if (memcmp(record, "maxp", 4) == 0)
+            table[27] = 9;
+        if (memcmp(record, "fvar", 4) == 0)
+            axes = table;
+    }
+    for (size_t place = 0; place < 8; place++) {
+        row.coordinate_count = counts[place];
+        memcpy(row.coordinates, lists[place], sizeof lists[0]);
+        /* (the first axis now goes from 16384 on for one 65536th alone: no bit of a coordinate is lost) */
+        if (place == 6)
+            memcpy(axes + (axes[4] << 8) + axes[5] + 4, (const uint8_t[]){64, 0, 0, 0, 64, 0, 0, 0, 64, 0, 0, 1}, 12);
+        for (uint32_t drop = 0; drop < 8; drop++) {
+            const subsetter_options alone = {sizeof alone, 0, 0, drop | SUBSETTER_DROP_NAMES | SUBSETTER_DROP_GLYPH_NAMES, 0};
+            subsetter_pdf_options options = defaults();
+            subsetter_pdf_font font;
+            subsetter_made made;
+            options.drop = drop;
+            check(subsetter_make_subset_at(row.font, row.font_size, 0, row.coordinates, row.coordinate_count, row.glyphs, row.glyph_count,
+                      &alone, &made) == 0 && make(&row, &options, &font) == 0, "status", "a program");
+            check(is_same(made.font, made.font_size, font.program, font.program_size), "another than the subset", "a program");
+            if (!is_same(made.font, made.font_size, kept, kept_size)) {
+                memcpy(kept, made.font, kept_size = made.font_size);
+                differing++;
+            }
+            subsetter_free(&made);
+            subsetter_free_pdf_font(&font);
+        }
+    }
+    /* (with hints and without them in turn at each default; of several values for an axis the last counts, and another axis moves nothing) */
+    check(differing == 8 + 3 + 1 + 8, "that differ", "programs");
+    __real_free(kept);
+    __real_free(row.font);
+}
+
+/* ---- texts */
+
+static uint32_t status_of_text(const struct row *row, const uint32_t *text, size_t text_count, const size_t *ends, size_t end_count)
+{
+    subsetter_pdf_font font;
+    uint32_t status = subsetter_make_pdf_font(row->font, row->font_size, 0, NULL, 0, row->glyphs, 2, text, text_count, ends, end_count, NULL, &font);
+    check(status == 0 || is_nothing(&font), "what is left", "a text");
+    subsetter_free_pdf_font(&font);
+    return status;
+}
+
+/* The ends of a text, and of a sheet's, for two glyphs and the characters ABC. */
+static const struct {
+    size_t ends[3], count;
+    uint32_t status;
+} ENDS[] = {{{1, 2}, 2, 0}, {{0, 3}, 2, 0}, {{2, 1}, 2, 12}, {{1, 4}, 2, 12}, {{4, 4}, 2, 12}, {{1}, 1, 12}, {{1, 2, 3}, 3, 12}};
+
+static void try_texts(const struct row *row)
+{
+    static const char name[] = "a text";
+    uint32_t text[600] = {'A', 'B', 'C'};
+    const size_t ends[] = {1, 2}, longest[] = {256, 512}, longer[] = {257, 512};
+    for (size_t i = 0; i < sizeof ENDS / sizeof *ENDS; i++)
+        check(status_of_text(row, text, 3, ENDS[i].ends, ENDS[i].count) == ENDS[i].status, "ends", name);
+    for (unsigned bit = 2; bit < 8 * sizeof(size_t); bit++)
+        for (int both = 0; both < 2; both++) {
+            const size_t far[] = {1 + (both ? (size_t)1 << bit : 0), 2 + ((size_t)1 << bit)};
+            check(status_of_text(row, text, 2, far, 2) == 12, "a far end", name);
+        }
+    const uint32_t wrong[] = {0xd800, 0xdfff, 0x110000, 0xffffffff}, right[] = {0, 0xd7ff, 0xe000, 0x10ffff};
+    for (int i = 0; i < 4; i++) {
+        text[1] = right[i];
+        check(status_of_text(row, text, 2, ends, 2) == 0, "a character", name);
+        text[1] = wrong[i];
+        check(status_of_text(row, text, 2, ends, 2) == 12, "no character", name);
+    }
+    /* What comes first: options, texts, opening, permission. */
+    subsetter_pdf_font font;
+    const subsetter_pdf_options unknown = {52, 0, 0, 0, 0, 9, 0, 0, 0, 0, 0, {0, 0}};
+    const uint8_t *no_font = (const uint8_t *)"no";
+    check(subsetter_make_pdf_font(no_font, 2, 0, NULL, 0, row->glyphs, 2, text, 2, ends, 2, &unknown, &font) == 10, "options come first", name);
+    check(subsetter_make_pdf_font(no_font, 2, 0, NULL, 0, row->glyphs, 2, text, 2, ends, 2, NULL, &font) == 12, "texts before opening", name);
+    check(subsetter_make_pdf_font(no_font, 2, 0, NULL, 0, row->glyphs, 2, text, 1, ends, 0, NULL, &font) == 12, "ends before opening", name);
+    check(subsetter_make_pdf_font(no_font, 2, 0, NULL, 0, NULL, 0, NULL, 0, NULL, 0, NULL, &font) == 1, "opening", name);
+    for (int i = 0; i < 600; i++)
+        text[i] = 'a';
+    check(status_of_text(row, text, 600, longest, 2) == 0 && status_of_text(row, text, 600, longer, 2) == 12, "256 units", name);
+}
+
+/* ---- sheets and objects */
+
+static void try_sheets(const struct row *row)
+{
+    static const char name[] = "a sheet";
+    subsetter_pdf_font font;
+    subsetter_pdf_objects made;
+    const uint32_t letters[] = {'A', 'B', 'C'}, wrong[] = {0xd800};
+    check(make(row, NULL, &font) == 0, "a font", name);
+#define REFUSED(STATUS, ...)                                                                                         \
+    do {                                                                                                             \
+        memset(&made, FILLED, sizeof made);                                                                          \
+        check(subsetter_make_pdf_sheet(&font, row->glyphs, __VA_ARGS__, &made) == (STATUS) && are_no_objects(&made), #STATUS, name); \
+    } while (0)
+    for (uint32_t layout = 2; layout < 300; layout++)
+        REFUSED(10, 2, letters, 3, ENDS[0].ends, 2, layout);
+    for (int i = 0; i < 2 * HIGHS; i++)
+        REFUSED(10, 2, letters, 3, ENDS[0].ends, 2, HIGH[i / 2] + (uint32_t)i % 2);
+    REFUSED(12, 1, wrong, 1, ENDS[0].ends, 1, 0);
+    for (size_t i = 0; i < sizeof ENDS / sizeof *ENDS; i++)
+        if (ENDS[i].status != 0)
+            REFUSED(12, 2, letters, 3, ENDS[i].ends, ENDS[i].count, 0);
+    for (unsigned bit = 2; bit < 8 * sizeof(size_t); bit++)
+        REFUSED(12, 2, letters, 2, ((const size_t[]){1, 2 + ((size_t)1 << bit)}), 2, 0);
+    for (int i = -1; i < HIGHS; i++) {
+        uint32_t first = i < 0 ? 1 : HIGH[i] + 1;
+        check(subsetter_make_pdf_objects(&font, first, &made) == 0 && made.offset_count > 4 && made.offsets[0] == 0, "a first number", name);
+        for (uint32_t object = 0; object < 5; object += 4) {
+            char front[32];
+            size_t length = (size_t)snprintf(front, sizeof front, "%u 0 obj\n", (unsigned)(first + object));
+            check(made.offset_count > 4 && memcmp(made.bytes + made.offsets[object], front, length) == 0, "the number of an object", name);
+        }
+        subsetter_free_pdf_objects(&made);
+    }
+    check(subsetter_make_pdf_objects(&font, UINT32_MAX - 7, &made) == 0, "the last number", name);
+    subsetter_free_pdf_objects(&made);
+    memset(&made, FILLED, sizeof made);
+    check(subsetter_make_pdf_objects(&font, UINT32_MAX - 6, &made) == 5 && are_no_objects(&made), "no number", name);
+    subsetter_free_pdf_font(&font);
+}
+
+/* ---- memory that is given back */
+
+struct list {
+    const void *items;
+    size_t count;
+};
+
+/* Each list alone is given back, by its own count; those of no items aren't, wherever they are. (A DLL may have another malloc than its
+ * program.) */
+static void try_lists_alone(void)
+{
+#if !defined SUBSETTER_SHARED || !defined _WIN32
+    enum { LISTS = 11 };
+    static const uint64_t nothing[2];
+    static const struct {
+        size_t lists, size;
+    } structs[] = {{LISTS, NUMBERS_END}, {3, sizeof(subsetter_made)}, {2, sizeof(subsetter_pdf_objects)}};
+    _Static_assert(LISTS * sizeof(struct list) == offsetof(subsetter_pdf_font, kind), "these are the lists of a font");
+    for (int kind = 0; kind < 3; kind++)
+        for (size_t alone = 0; alone <= structs[kind].lists; alone++) {
+            /* (behind the lists are numbers) */
+            union {
+                struct list lists[LISTS];
+                subsetter_pdf_font font;
+                subsetter_made made;
+                subsetter_pdf_objects objects;
+            } it;
+            static const subsetter_pdf_font zero;
+            long before = held;
+            memset(&it, 0, sizeof it);
+            for (size_t i = 0; i < structs[kind].lists; i++)
+                it.lists[i] = (struct list){nothing, 0};
+            if (alone < structs[kind].lists)
+                it.lists[alone] = (struct list){malloc(sizeof nothing), 1};
+            if (kind == 0)
+                subsetter_free_pdf_font(&it.font);
+            else if (kind == 1)
+                subsetter_free(&it.made);
+            else
+                subsetter_free_pdf_objects(&it.objects);
+            check(held == before && memcmp(&it, &zero, structs[kind].size) == 0, "is given back", "a list alone");
+        }
+#endif
+    subsetter_free(NULL);
+    subsetter_free_pdf_font(NULL);
+    subsetter_free_pdf_objects(NULL);
+}
+
+/* Any pointer to no items, and null, are the same to each call. */
+static void try_empty(void)
+{
+    static const uint64_t nothing[2];
+    subsetter_pdf_font fonts[2];
+    subsetter_pdf_objects made[2], sheets[2];
+    memset(fonts, 0, sizeof fonts);
+    for (int i = 0; i < 11; i++)
+        ((struct list *)&fonts[1])[i].items = nothing;
+    for (int i = 0; i < 2; i++) {
+        check(subsetter_make_pdf_objects(&fonts[i], 1, &made[i]) == 0 && made[i].offset_count == 5, "objects", "empty lists");
+        check(subsetter_make_pdf_sheet(&fonts[i], NULL, 0, NULL, 0, NULL, 0, SUBSETTER_LAYOUT_GRID, &sheets[i]) == 0, "a sheet", "empty lists");
+    }
+    check(are_same_objects(&made[0], &made[1]) && are_same_objects(&sheets[0], &sheets[1]), "other objects", "empty lists");
+    for (int i = 0; i < 2; i++) {
+        subsetter_free_pdf_objects(&made[i]);
+        subsetter_free_pdf_objects(&sheets[i]);
+    }
+}
+
+/* Each list in turn is none, by null and by a pointer behind all that there is. */
+static void try_nulls(const struct row *row)
+{
+    static const char name[] = "no items";
+    const uint16_t glyphs[] = {1};
+    const uint32_t text[] = {'A'}, words[] = {4};
+    const size_t one[] = {1}, none[] = {0};
+    const subsetter_coordinate at = {SUBSETTER_TAG('w', 'g', 'h', 't'), 650 << 16};
+    for (int is_null = 0; is_null < 2; is_null++) {
+        subsetter_pdf_font font;
+        subsetter_pdf_objects made;
+        uint16_t glyph[] = {7};
+        size_t length;
+        const subsetter_coordinate *no_place = is_null ? NULL : &at + 1;
+        const uint16_t *no_glyphs = is_null ? NULL : glyphs + 1;
+        const uint32_t *no_text = is_null ? NULL : text + 1, *no_words = is_null ? NULL : words + 1;
+        const size_t *no_ends = is_null ? NULL : one + 1;
+        const uint8_t *no_font = is_null ? NULL : row->font + row->font_size;
+#define MADE(STATUS, COUNT, ...)                                                                                       \
+    check(subsetter_make_pdf_font_by_words(__VA_ARGS__, &font) == (STATUS) && font.cid_count == (COUNT), #__VA_ARGS__, name); \
+    check((STATUS) == 0 || is_nothing(&font), #__VA_ARGS__, name);                                                   \
+    subsetter_free_pdf_font(&font)
+        MADE(1, 0, no_font, 0, 0, &at, 1, glyphs, 1, text, 1, one, 1, words, 1);
+        MADE(0, 1, row->font, row->font_size, 0, no_place, 0, glyphs, 1, text, 1, one, 1, no_words, 0);
+        MADE(12, 0, row->font, row->font_size, 0, &at, 1, no_glyphs, 0, text, 1, one, 1, words, 1);
+        MADE(12, 0, row->font, row->font_size, 0, &at, 1, glyphs, 1, no_text, 0, one, 1, words, 1);
+        MADE(12, 0, row->font, row->font_size, 0, &at, 1, glyphs, 1, text, 1, no_ends, 0, words, 1);
+        MADE(0, 1, row->font, row->font_size, 0, &at, 1, glyphs, 1, no_text, 0, none, 1, words, 1);
+        MADE(0, 0, row->font, row->font_size, 0, no_place, 0, no_glyphs, 0, no_text, 0, no_ends, 0, no_words, 0);
+        check(subsetter_make_pdf_font(row->font, row->font_size, 0, NULL, 0, NULL, 0, NULL, 0, NULL, 0, NULL, &font) == 0, "a font", name);
+        check(subsetter_make_pdf_sheet(&font, no_glyphs, 0, no_text, 0, no_ends, 0, 0, &made) == 0 && made.size > 500, "a sheet", name);
+        subsetter_free_pdf_objects(&made);
+        subsetter_free_pdf_font(&font);
+        check(subsetter_glyphs_of(no_font, 0, 0, text, 1, glyph, 1, &length) == 1 && length == 0, "glyphs of no font", name);
+        check(subsetter_glyphs_of(row->font, row->font_size, 0, no_text, 0, is_null ? NULL : glyph + 1, 0, &length) == 0 && length == 0, "no text", name);
+        check(subsetter_glyphs_of(row->font, row->font_size, 0, text, 1, is_null ? NULL : glyph + 1, 0, &length) == 8 && length == 1, "no room", name);
+        check(glyph[0] == 7, "nothing is written", name);
+    }
+}
+
+/* ---- glyphs of a text, faces and permissions */
+
+static void try_glyphs(const struct row *row)
+{
+    static const uint32_t text[] = {'A', 'H', 0x1f600, 'z'}, wrong[] = {'A', 0xdfff};
+    static const uint8_t no[] = {'n', 'o'};
+    const struct {
+        const uint8_t *font;
+        size_t font_size;
+        const uint32_t *text;
+        size_t text_count, room;
+        uint32_t status;
+        size_t length;
+        unsigned long refused;
+    } calls[] = {
+        {row->font, row->font_size, text, 4, 5, 0, 4, 0}, {row->font, row->font_size, text, 4, 3, 8, 4, 0}, {row->font, row->font_size, wrong, 2, 5, 12, 0, 0},
+        {row->font, 40, text, 4, 5, 2, 0, 0}, {no, 2, text, 4, 5, 1, 0, 0}, {no, 2, wrong, 2, 5, 12, 0, 0}, {no, 2, text, 4, 0, 1, 0, 0},
+        {row->font, row->font_size, text, 4, 5, 7, 0, 1}, {no, 2, text, 4, 5, 1, 0, 1},
+    };
+    for (size_t i = 0; i < sizeof calls / sizeof *calls; i++) {
+        uint16_t glyphs[5] = {7, 7, 7, 7, 7};
+        size_t length = 9;
+        if (calls[i].refused != 0 && !CAN_REFUSE)
+            continue;
+        requests = 0;
+        refused = calls[i].refused;
+        uint32_t status = subsetter_glyphs_of(calls[i].font, calls[i].font_size, 0, calls[i].text, calls[i].text_count, glyphs, calls[i].room, &length);
+        refused = 0;
+        check(status == calls[i].status && length == calls[i].length, "status", "glyphs of a text");
+        check(glyphs[4] == 7 && (status == 0 ? glyphs[0] == 1 && glyphs[1] == 9 && glyphs[2] == 6 && glyphs[3] == 0 : glyphs[0] == 7),
+            "numbers", "glyphs of a text");
+    }
+}
+
+static void put_number(uint8_t *at, uint32_t number, int bytes)
+{
+    while (bytes-- > 0) {
+        at[bytes] = (uint8_t)number;
+        number >>= 8;
+    }
+}
+
+static uint32_t long_at(const uint8_t *at)
+{
+    return (uint32_t)at[0] << 24 | (uint32_t)at[1] << 16 | (uint32_t)at[2] << 8 | at[3];
+}
+
+/* What a font's maker permits, by `fsType`. */
+static void try_permissions(const struct row *row)
+{
+    static const struct {
+        uint32_t fs_type, usage, may_subset, may_embed_outlines;
+    } permissions[] = {
+        {0, SUBSETTER_USAGE_INSTALLABLE, 1, 1}, {2, SUBSETTER_USAGE_RESTRICTED, 1, 1}, {4, SUBSETTER_USAGE_PREVIEW_AND_PRINT, 1, 1},
+        {8, SUBSETTER_USAGE_EDITABLE, 1, 1}, {0x100, SUBSETTER_USAGE_INSTALLABLE, 0, 1}, {0x200, SUBSETTER_USAGE_INSTALLABLE, 1, 0},
+        {0x104, SUBSETTER_USAGE_PREVIEW_AND_PRINT, 0, 1}, {0x302, SUBSETTER_USAGE_RESTRICTED, 0, 0},
+    };
+    struct row other = *row;
+    other.font = memcpy(room(row->font_size), row->font, row->font_size);
+    uint8_t *record = other.font + 12;
+    while (memcmp(record, "OS/2", 4) != 0)
+        record += 16;
+    uint8_t *table = other.font + long_at(record + 8);
+    put_number(table, 4, 2);
+    for (size_t i = 0; i < sizeof permissions / sizeof *permissions; i++) {
+        subsetter_pdf_options options = defaults();
+        subsetter_pdf_font font;
+        uint32_t usage = permissions[i].usage, subset = permissions[i].may_subset, outlines = permissions[i].may_embed_outlines;
+        put_number(table + 8, permissions[i].fs_type, 2);
+        check(status_of(&other, &options) == (usage != SUBSETTER_USAGE_RESTRICTED && subset && outlines ? 0 : 11), "status", "what is permitted");
+        options.rights = SUBSETTER_RIGHTS_HELD;
+        check(make(&other, &options, &font) == 0 && font.usage == usage && font.may_subset == subset && font.may_embed_outlines == outlines,
+            "numbers", "what is permitted");
+        subsetter_free_pdf_font(&font);
+    }
+    __real_free(other.font);
+}
+
+/* A collection of a font and of the same without `cmap` and `OS/2`: each call takes the face that it is given. */
+static void try_faces(const struct row *row)
+{
+    size_t front = 12 + 16 * (size_t)row->font[5], shift = 20 + 2 * front, size = shift + row->font_size, length;
+    uint8_t *bytes = memset(room(size), 0, size);
+    put_number(bytes, 0x74746366, 4);
+    put_number(bytes + 4, 0x10000, 4);
+    put_number(bytes + 8, 2, 4);
+    memcpy(bytes + shift, row->font, row->font_size);
+    for (size_t face = 0; face < 2; face++) {
+        uint8_t *directory = bytes + 20 + face * front;
+        put_number(bytes + 12 + 4 * face, (uint32_t)(20 + face * front), 4);
+        memcpy(directory, row->font, front);
+        for (uint8_t *record = directory + 12; record < directory + front; record += 16) {
+            put_number(record + 8, (uint32_t)shift + long_at(record + 8), 4);
+            if (face == 1 && (memcmp(record, "cmap", 4) == 0 || memcmp(record, "OS/2", 4) == 0))
+                record[3]++;
+        }
+    }
+    const uint32_t text[] = {'A'};
+    const size_t ends[] = {1};
+    subsetter_pdf_font font;
+    for (int i = -2; i < HIGHS; i++) {
+        uint32_t face = i < 0 ? (uint32_t)(i + 2) : HIGH[i];
+        uint16_t glyph[] = {7};
+        uint32_t found = subsetter_glyphs_of(bytes, size, face, text, 1, glyph, 1, &length);
+        check(face == 0 ? found == 0 && glyph[0] == 1 : found == 2 && length == 0 && glyph[0] == 7, "glyphs", "a face");
+        const uint16_t shown[] = {1};
+        found = subsetter_make_pdf_font(bytes, size, face, NULL, 0, shown, 1, text, 1, ends, 1, NULL, &font);
+        check(found == (face < 2 ? 0 : 2) && (face < 2 || is_nothing(&font)), "status", "a face");
+        check(face > 1 || (font.usage == SUBSETTER_USAGE_UNSAID) == (face == 1), "what it permits", "a face");
+        subsetter_free_pdf_font(&font);
+    }
+    /* A face that can't be opened is refused as such, whatever memory there is. */
+    const subsetter_coordinate place = {SUBSETTER_TAG('w', 'g', 'h', 't'), 650 << 16};
+    for (unsigned long request = 1; CAN_REFUSE && request < 8; request++)
+        for (uint32_t face = 1; face < 3; face++) {
+            requests = 0;
+            refused = request;
+            uint32_t status = subsetter_make_pdf_font(bytes, size, face, &place, 1, row->glyphs, 1, text, 1, ends, 1, NULL, &font);
+            refused = 0;
+            check(face == 2 ? status == 2 : status == 7 || (status == 0 && request > 1), "without memory", "a face");
+            subsetter_free_pdf_font(&font);
+        }
+    __real_free(bytes);
+}
+
+int main(int count, char **words)
+{
+    static struct row row;
+    static void (*const tries[])(const struct row *) = {
+        try_words, try_options, try_tags, try_texts, try_nulls, try_sheets, try_glyphs, try_permissions, try_faces};
+    size_t size, rows = 0;
+    int damaged = 1000;
+    for (int i = 1; i < count; i++) {
+        if (strcmp(words[i], "--brief") == 0)
+            damaged = damaged < 100 ? damaged : 100;
+        else if (strcmp(words[i], "--undamaged") == 0)
+            damaged = 0;
+        else
+            folder = words[i];
+    }
+    if (folder == NULL)
+        return 2;
+    char *whole = (char *)file_of("pdf_rows.txt", &size), *text = whole;
+    while ((text = read_row(&row, text)) != NULL) {
+        answer(&row);
+        if (CAN_REFUSE)
+            refuse(&row);
+        damage(&row, damaged);
+        for (size_t i = 0; rows == 0 && i < sizeof tries / sizeof *tries; i++)
+            tries[i](&row);
+        __real_free(row.font);
+        rows++;
+    }
+    __real_free(whole);
+    try_limits();
+    try_programs();
+    try_lists_alone();
+    try_empty();
+    printf("C: %zu rows for PDF, %zu checks, %zu failed\n", rows, checks, failures);
+    return failures != 0 || rows < 17;
+}

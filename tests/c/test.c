@@ -1,0 +1,770 @@
+/* Each row of a table by the calls that subset and embed: test [--brief] ROWS..
+ *
+ * In buffers that are exact, larger, too small and null, and in memory of the library; options of all sizes and as words; numbers
+ * of which no bit may be lost; each request for memory refused in turn; and two threads. --brief is for Valgrind and qemu: fonts
+ * that take long are subset once. SUBSETTER_BY_CARGO is for the library of bindings/capi, which asks for memory in another way. */
+#include "subsetter.h"
+
+#include "counted.h"
+
+#include <pthread.h>
+
+static int is_brief;
+
+/* ---- rows */
+
+enum { MOST = 1024, WORDS = 14, BEHIND = 8, FILLED = 0xA5 };
+
+struct row {
+    char *words[WORDS];
+    const char *name;
+    const uint8_t *font, *bytes;
+    const uint16_t *glyphs, *cids;
+    const uint32_t *widths;
+    const subsetter_coordinate *coordinates;
+    size_t font_size, size, glyph_count, cid_count, width_count, coordinate_count;
+    uint32_t index, status;
+    subsetter_options options;
+    int embeds, limits, has_words, varies;
+};
+
+struct named_font {
+    char *name;
+    uint8_t *bytes;
+    size_t size;
+};
+
+static struct row rows[MOST];
+static struct named_font fonts[MOST];
+static size_t row_count, font_count;
+
+/* The bytes of hexadecimal digits; null for `-`. */
+static uint8_t *hex(const char *digits, size_t *size)
+{
+    *size = strcmp(digits, "-") == 0 ? 0 : strlen(digits) / 2;
+    uint8_t *bytes = *size == 0 ? NULL : room(*size);
+    for (size_t i = 0; i < *size; i++) {
+        char two[3] = {digits[2 * i], digits[2 * i + 1], 0};
+        bytes[i] = (uint8_t)strtoul(two, NULL, 16);
+    }
+    return bytes;
+}
+
+/* The numbers of a list as `3,10..12`; null for `-`. */
+static uint32_t *numbers(char *list, size_t *count)
+{
+    *count = 0;
+    if (strcmp(list, "-") == 0)
+        return NULL;
+    uint32_t *found = room(65537 * sizeof *found);
+    for (char *at = list; at != NULL; at = *at == ',' ? at + 1 : NULL) {
+        unsigned long first = strtoul(at, &at, 10), last = at[0] == '.' ? strtoul(at + 2, &at, 10) : first;
+        for (unsigned long number = first; number <= last; number++)
+            found[(*count)++] = (uint32_t)number;
+    }
+    return found;
+}
+
+static uint16_t *short_numbers(char *list, size_t *count)
+{
+    uint32_t *wide = numbers(list, count);
+    uint16_t *narrow = wide == NULL ? NULL : room(*count * sizeof *narrow);
+    for (size_t i = 0; i < *count; i++)
+        narrow[i] = (uint16_t)wide[i];
+    __real_free(wide);
+    return narrow;
+}
+
+/* The coordinates of a list as `wght=42598400`; null for `-`. */
+static subsetter_coordinate *coordinates_of(char *list, size_t *count)
+{
+    *count = 0;
+    if (strcmp(list, "-") == 0)
+        return NULL;
+    subsetter_coordinate *found = room((strlen(list) / 6 + 1) * sizeof *found);
+    for (char *at = list; at != NULL; at = *at == ',' ? at + 1 : NULL) {
+        subsetter_coordinate *one = &found[(*count)++];
+        one->tag = SUBSETTER_TAG(at[0], at[1], at[2], at[3]);
+        one->value = (int32_t)strtol(at + 5, &at, 10);
+    }
+    return found;
+}
+
+static uint32_t number(const char *word)
+{
+    return (uint32_t)strtoul(word, NULL, 10);
+}
+
+static void add_row(char **words)
+{
+    struct row *row = &rows[row_count++];
+    const subsetter_options defaults = SUBSETTER_DEFAULT_OPTIONS;
+    memcpy(row->words, words, sizeof row->words);
+    row->name = words[1];
+    for (size_t i = 0; i < font_count; i++)
+        if (strcmp(fonts[i].name, words[2]) == 0) {
+            row->font = fonts[i].bytes;
+            row->font_size = fonts[i].size;
+        }
+    check(row->font != NULL || row->font_size == 0, "its font is there", row->name);
+    row->embeds = strncmp(words[0], "embed", 5) == 0;
+    row->limits = strcmp(words[0], "limits") == 0;
+    row->varies = strstr(words[0], "_at") != NULL;
+    row->has_words = strstr(words[0], "options") != NULL || row->varies;
+    row->index = number(words[3]);
+    row->glyphs = short_numbers(words[4], &row->glyph_count);
+    row->options = defaults;
+    int next = 5;
+    if (row->varies)
+        row->coordinates = coordinates_of(words[next++], &row->coordinate_count);
+    if (row->limits || row->has_words) {
+        row->options.tokens = number(words[next++]);
+        row->options.depth = number(words[next++]);
+    }
+    if (row->has_words)
+        row->options.drop = number(words[next++]);
+    if (strstr(words[0], "bounded") != NULL || row->varies)
+        row->options.bytes = number(words[next++]);
+    row->status = number(words[next++]);
+    row->bytes = hex(words[next++], &row->size);
+    if (row->embeds) {
+        row->cids = short_numbers(words[next++], &row->cid_count);
+        row->widths = numbers(words[next++], &row->width_count);
+    }
+}
+
+/* The text of a status, by the header and by the library. */
+static void check_text(uint32_t status, const char *digits)
+{
+    uint8_t text[64] = {FILLED};
+    size_t size, length = 99;
+    uint8_t *wanted = hex(digits, &size);
+    const char *of_header = subsetter_status_text(status);
+    check(strlen(of_header) == size && memcmp(of_header, wanted, size) == 0, "the text of the header", digits);
+    check(subsetter_error_text(status, text, size - 1, &length) == 8 && length == size && text[0] == FILLED, "a text too long", digits);
+    check(subsetter_error_text(status, NULL, 0, &length) == 8 && length == size, "no room for a text", digits);
+    text[size] = FILLED;
+    check(subsetter_error_text(status, text, sizeof text, &length) == 0 && length == size, "a text", digits);
+    check(memcmp(text, wanted, size) == 0 && text[size] == FILLED, "its bytes", digits);
+    __real_free(wanted);
+}
+
+static void read_line(char *line)
+{
+    static const char kinds[] = " subset limits options bounded_options embed embed_options embed_bounded_options subset_at embed_at ";
+    char *words[WORDS] = {0}, kind[64];
+    int count = 0;
+    for (char *word = strtok(line, " \n"); word != NULL && count < WORDS; word = strtok(NULL, " \n"))
+        words[count++] = word;
+    if (count == 0 || words[0][0] == '#')
+        return;
+    snprintf(kind, sizeof kind, " %s ", words[0]);
+    if (strcmp(words[0], "font") == 0 && font_count < MOST) {
+        struct named_font *font = &fonts[font_count++];
+        font->name = words[1];
+        font->bytes = hex(words[2], &font->size);
+    } else if (strcmp(words[0], "text") == 0) {
+        check_text(number(words[1]), words[2]);
+    } else if (strstr(kinds, kind) != NULL && row_count < MOST) {
+        add_row(words);
+    } else {
+        check(0, "no kind of row that is known, or too many rows", words[0]);
+    }
+}
+
+static void read_rows(const char *name)
+{
+    size_t size;
+    char *line = (char *)content(name, &size), *next;
+    for (; line != NULL; line = next) {
+        next = strchr(line, '\n');
+        if (next != NULL)
+            *next++ = 0;
+        read_line(line);
+    }
+}
+
+/* ---- calls */
+
+/* Buffers, and what a call left in them. */
+struct answer {
+    uint8_t *font;
+    uint16_t *cids;
+    uint32_t *widths;
+    size_t room, cid_room, width_room;
+    subsetter_sizes sizes;
+    uint32_t status;
+};
+
+static void *filled(size_t size)
+{
+    return memset(room(size), FILLED, size);
+}
+
+static struct answer prepared(size_t size, size_t cids, size_t widths)
+{
+    return (struct answer){filled(size + BEHIND), filled(2 * (cids + BEHIND)), filled(4 * (widths + BEHIND)), size, cids, widths, {77, 77, 77}, 0};
+}
+
+static struct answer exact(const struct row *row)
+{
+    return prepared(row->size, row->cid_count, row->width_count);
+}
+
+static void give_up(struct answer *a)
+{
+    __real_free(a->font);
+    __real_free(a->cids);
+    __real_free(a->widths);
+}
+
+#define FONT row->font, row->font_size, row->index
+#define PLACE row->coordinates, row->coordinate_count
+#define GLYPHS row->glyphs, row->glyph_count
+#define ALONE a->font, a->room, &a->sizes.font
+#define WHOLE a->font, a->room, a->cids, a->cid_room, a->widths, a->width_room, &a->sizes
+
+/* By the call that takes these options. */
+static void call_with(const struct row *row, const subsetter_options *options, struct answer *a)
+{
+    if (!row->embeds)
+        a->sizes.cids = a->sizes.widths = 0;
+    if (row->embeds && row->varies)
+        a->status = subsetter_embed_at(FONT, PLACE, GLYPHS, options, WHOLE);
+    else if (row->embeds)
+        a->status = subsetter_embed_with_options(FONT, GLYPHS, options, WHOLE);
+    else if (row->varies)
+        a->status = subsetter_subset_at(FONT, PLACE, GLYPHS, options, ALONE);
+    else
+        a->status = subsetter_subset_with_options(FONT, GLYPHS, options, ALONE);
+}
+
+/* By the row's own call. */
+static void call(const struct row *row, struct answer *a)
+{
+    if (row->has_words) {
+        call_with(row, &row->options, a);
+        return;
+    }
+    if (!row->embeds)
+        a->sizes.cids = a->sizes.widths = 0;
+    if (row->embeds)
+        a->status = subsetter_embed(FONT, GLYPHS, WHOLE);
+    else if (row->limits)
+        a->status = subsetter_subset_with_limits(FONT, GLYPHS, row->options.tokens, (uint8_t)row->options.depth, ALONE);
+    else
+        a->status = subsetter_subset(FONT, GLYPHS, ALONE);
+}
+
+/* In memory of the library. */
+static uint32_t make(const struct row *row, const subsetter_options *options, subsetter_made *made)
+{
+    memset(made, FILLED, sizeof *made);
+    if (row->embeds && row->varies)
+        return subsetter_make_embedded_at(FONT, PLACE, GLYPHS, options, made);
+    if (row->embeds)
+        return subsetter_make_embedded(FONT, GLYPHS, options, made);
+    if (row->varies)
+        return subsetter_make_subset_at(FONT, PLACE, GLYPHS, options, made);
+    return subsetter_make_subset(FONT, GLYPHS, options, made);
+}
+
+static int all_are_filled(const void *block, size_t from, size_t to)
+{
+    for (size_t i = from; i < to; i++)
+        if (((const uint8_t *)block)[i] != FILLED)
+            return 0;
+    return 1;
+}
+
+/* Nothing is written behind so many items. */
+static int untouched(const struct answer *a, size_t size, size_t cids, size_t widths)
+{
+    return all_are_filled(a->font, size, a->room + BEHIND) && all_are_filled(a->cids, 2 * cids, 2 * (a->cid_room + BEHIND))
+        && all_are_filled(a->widths, 4 * widths, 4 * (a->width_room + BEHIND));
+}
+
+static int has_sizes(const struct answer *a, size_t size, size_t cids, size_t widths)
+{
+    return a->sizes.font == size && a->sizes.cids == cids && a->sizes.widths == widths;
+}
+
+static int is_same(const void *a, const void *b, size_t size)
+{
+    return size == 0 || memcmp(a, b, size) == 0;
+}
+
+/* The answer is the row's. */
+static int is_right(const struct row *row, const struct answer *a)
+{
+    return a->status == row->status && has_sizes(a, row->size, row->cid_count, row->width_count) && is_same(a->font, row->bytes, row->size)
+        && is_same(a->cids, row->cids, 2 * row->cid_count) && is_same(a->widths, row->widths, 4 * row->width_count)
+        && untouched(a, row->size, row->cid_count, row->width_count);
+}
+
+/* The answer is this status, and nothing else. */
+static int is_refusal(const struct answer *a, uint32_t status)
+{
+    return a->status == status && has_sizes(a, 0, 0, 0) && untouched(a, 0, 0, 0);
+}
+
+static int is_nothing(const subsetter_made *made)
+{
+    return made->font_size == 0 && made->cid_count == 0 && made->width_count == 0;
+}
+
+static int is_made(const struct row *row, const subsetter_made *made)
+{
+    return made->font_size == row->size && made->cid_count == row->cid_count && made->width_count == row->width_count
+        && is_same(made->font, row->bytes, row->size) && is_same(made->cids, row->cids, 2 * row->cid_count)
+        && is_same(made->widths, row->widths, 4 * row->width_count);
+}
+
+/* ---- a row's own call */
+
+/* With so much more room than it needs. */
+static void check_whole(const struct row *row, size_t more)
+{
+    struct answer a = prepared(row->size + more, row->cid_count + more, row->width_count + more);
+    long before = held;
+    call(row, &a);
+    check(held == before, "all memory is given back", row->name);
+    check(a.status == row->status, "status", row->name);
+    check(is_right(row, &a), "answer", row->name);
+    give_up(&a);
+}
+
+/* One of the buffers is too small: nothing is written but the sizes. */
+static void check_short(const struct row *row, struct answer a)
+{
+    call(row, &a);
+    check(a.status == 8 && has_sizes(&a, row->size, row->cid_count, row->width_count), "a buffer too small", row->name);
+    check(a.font == NULL || untouched(&a, 0, 0, 0), "nothing is written", row->name);
+    give_up(&a);
+}
+
+static void check_buffers(const struct row *row)
+{
+    size_t size = row->size, cids = row->cid_count, widths = row->width_count;
+    check_whole(row, 0);
+    check_whole(row, 3);
+    if (row->status != 0)
+        return;
+    check_short(row, prepared(size - 1, cids, widths));
+    check_short(row, prepared(0, cids, widths));
+    if (cids > 0)
+        check_short(row, prepared(size, cids - 1, widths));
+    if (widths > 0)
+        check_short(row, prepared(size, cids, widths - 1));
+    check_short(row, (struct answer){.sizes = {77, 77, 77}});
+}
+
+/* Whether options can say what the row says: in them 0 is the default. */
+static int has_options(const struct row *row)
+{
+    return !row->limits || (row->options.tokens != 0 && row->options.depth != 0);
+}
+
+/* As many requests as with an exact buffer; what is held is what is given back. */
+static void check_made(const struct row *row)
+{
+    struct answer a = exact(row);
+    subsetter_made made;
+    requests = 0;
+    call(row, &a);
+    unsigned long once = requests;
+    give_up(&a);
+    long before = held;
+    requests = 0;
+    uint32_t status = make(row, &row->options, &made);
+    check(requests == once, "one subset is made", row->name);
+    check(status == row->status && is_made(row, &made), "made", row->name);
+    check(!CAN_REFUSE || held == before + (made.font_size > 0) + (made.cid_count > 0) + (made.width_count > 0), "what is held", row->name);
+    for (int turn = 0; turn < 2; turn++) {
+        subsetter_free(&made);
+        check(held == before && is_nothing(&made) && made.font == NULL && made.cids == NULL && made.widths == NULL, "given back once", row->name);
+    }
+}
+
+/* Each request for memory is refused in turn: there is no answer, and status 7. A font that is none is refused as such. Where the
+ * request wants a smaller block the call goes on, and at coordinates it may go on. (Rust's lists ask for a smaller block by a copy:
+ * at most two requests may be refused without an error.) */
+static void check_memory(const struct row *row)
+{
+    int met = 1, goes_on = 0;
+    for (refused = 1; met; refused++) {
+        struct answer a = exact(row);
+        subsetter_made made;
+        long before = held;
+        requests = 0;
+        gave_back = 0;
+        call(row, &a);
+        met = requests >= refused;
+        int is_whole = is_right(row, &a), is_clean = is_refusal(&a, 7);
+        check(held == before, "all memory is given back", row->name);
+        check(is_whole || (met && is_clean && row->status != 1), "a refused request", row->name);
+        goes_on += met && is_whole && row->status == 0;
+#ifdef SUBSETTER_BY_CARGO
+        check(goes_on <= 2, "how many requests may be refused", row->name);
+#else
+        check(!met || row->status != 0 || is_clean != gave_back || (row->varies && !gave_back), "which requests may be refused", row->name);
+#endif
+        give_up(&a);
+        if (!has_options(row))
+            continue;
+        requests = 0;
+        uint32_t status = make(row, &row->options, &made);
+        int is_met = requests >= refused;
+        met |= is_met;
+        check((status == row->status && is_made(row, &made)) || (is_met && status == 7 && is_nothing(&made) && held == before && row->status != 1),
+            "a refused request of what is made", row->name);
+        subsetter_free(&made);
+        check(held == before, "all that was made is given back", row->name);
+    }
+    refused = 0;
+}
+
+/* ---- other calls and options that say the same */
+
+static int has_bytes(const struct row *row, const char *tag)
+{
+    for (size_t i = 0; i + 4 <= row->font_size; i++)
+        if (memcmp(row->font + i, tag, 4) == 0)
+            return 1;
+    return 0;
+}
+
+/* A row of defaults by the other calls that can say it, so that each call has each face. */
+static void check_other_calls(const struct row *row)
+{
+    struct row other = *row;
+    if (row->limits || row->varies || row->options.tokens != 0 || row->options.depth != 0 || row->options.drop != 0 || row->options.bytes != 0)
+        return;
+    if (!row->embeds) {
+        other.limits = 1;
+        other.has_words = 0;
+        other.options.tokens = 1000000;
+        other.options.depth = 64;
+        check_whole(&other, 0);
+    }
+    if (has_bytes(row, "fvar") || has_bytes(row, "CFF2"))
+        return;
+    other = *row;
+    other.varies = other.has_words = 1;
+    check_whole(&other, 0);
+}
+
+/* Options of so many bytes, behind which there is rubbish: they are answered, or the size is unknown. */
+static void check_size(const struct row *row, uint32_t size, int is_known)
+{
+    struct answer a = exact(row);
+    struct {
+        subsetter_options known;
+        uint32_t further;
+    } options = {row->options, 0};
+    uint32_t *words = &options.known.size;
+    for (uint32_t i = 1; i < 5; i++)
+        if (4 * (i + 1) > size)
+            words[i] = 4294967295u;
+    words[0] = size;
+    call_with(row, &options.known, &a);
+    check(is_known ? is_right(row, &a) : is_refusal(&a, 10), "a size of options", row->name);
+    give_up(&a);
+}
+
+/* Options without the fields that have their defaults answer the same, down to none at all; a bound that is just met, and one byte less. */
+static void check_options(const struct row *row)
+{
+    static const uint32_t unknown[] = {0, 1, 2, 3, 5, 7, 9, 13, 15, 17, 18, 19, 21, 24, 4294967295u};
+    const uint32_t *words = &row->options.size;
+    struct answer a;
+    for (size_t i = 0; i < sizeof unknown / sizeof *unknown; i++)
+        check_size(row, unknown[i], 0);
+    uint32_t fields = 5;
+    check_size(row, 20, 1);
+    while (fields > 1 && words[fields - 1] == 0)
+        check_size(row, 4 * --fields, 1);
+    if (fields == 1) {
+        subsetter_made made;
+        a = exact(row);
+        call_with(row, NULL, &a);
+        check(is_right(row, &a), "no options", row->name);
+        give_up(&a);
+        check(make(row, NULL, &made) == row->status && is_made(row, &made), "made without options", row->name);
+        subsetter_free(&made);
+    }
+    for (uint32_t less = 0; less < 2 && row->status == 0; less++) {
+        subsetter_options options = row->options;
+        options.bytes = (uint32_t)row->size - less;
+        a = exact(row);
+        call_with(row, &options, &a);
+        check(less == 0 ? is_right(row, &a) : is_refusal(&a, 5), "a bound of bytes", row->name);
+        give_up(&a);
+    }
+}
+
+/* ---- numbers of 32 bits, of which no bit is lost */
+
+/* By each call that takes options: the row's font, or a status. */
+static void check_each_call(const struct row *row, const subsetter_options *options, uint32_t status, const char *what)
+{
+    size_t size = status == 0 ? row->size : 0;
+    for (int kind = 0; kind < 4; kind++) {
+        struct row other = *row;
+        struct answer a = exact(row);
+        subsetter_made made;
+        other.embeds = kind / 2;
+        other.varies = kind % 2;
+        call_with(&other, options, &a);
+        check(status != 0 ? is_refusal(&a, status) : a.status == 0 && a.sizes.font == size && is_same(a.font, row->bytes, size), what, row->name);
+        check(make(&other, options, &made) == status && made.font_size == size && is_same(made.font, row->bytes, size), what, row->name);
+        check(status == 0 || is_nothing(&made), what, row->name);
+        subsetter_free(&made);
+        give_up(&a);
+    }
+}
+
+/* The row needs more than one token and a depth of its own, and its font has more than 255 bytes. */
+static void check_wide_options(const struct row *row)
+{
+    enum { TOKENS = 1, DEPTH, DROP, BYTES };
+#define WITH(FIELD, NUMBER, STATUS)                                            \
+    do {                                                                       \
+        subsetter_options options = row->options;                              \
+        (&options.size)[FIELD] = NUMBER;                                       \
+        check_each_call(row, &options, STATUS, "a number of " #FIELD);         \
+    } while (0)
+    for (int bit = 3; bit < 32; bit++)
+        WITH(DROP, 1u << bit, 10);
+    for (uint32_t depth = 256; depth < 600; depth++)
+        WITH(DEPTH, depth, 10);
+    WITH(TOKENS, 1, 6);
+    for (int i = 0; i < HIGHS; i++) {
+        WITH(TOKENS, HIGH[i] + 1, 0);
+        WITH(BYTES, HIGH[i] + 1, row->size <= HIGH[i] + 1 ? 0 : 5);
+        WITH(DEPTH, row->options.depth + HIGH[i], 10);
+        struct row other = *row;
+        other.limits = 1;
+        other.embeds = other.has_words = 0;
+        other.options.tokens = HIGH[i] + 1;
+        other.cid_count = other.width_count = 0;
+        check_whole(&other, 0);
+    }
+}
+
+/* One of the first requests for memory is refused: a face that isn't there is refused as such by each call, and of the others it is
+ * memory that lacks. */
+static void check_opening(const struct row *row, uint32_t face, int kind, unsigned long request)
+{
+    struct row other = *row;
+    struct answer a = exact(row);
+    subsetter_made made;
+    other.index = face;
+    other.varies = kind % 2;
+    other.embeds = kind / 2;
+    for (int call = 0; call < 2; call++) {
+        refused = request;
+        requests = 0;
+        uint32_t status = call == 0 ? (call_with(&other, &row->options, &a), a.status) : make(&other, &row->options, &made);
+        refused = 0;
+        check(face > 1 ? status == 2 : status == 7 || (status == row->status && request > 1), "a face without memory", row->name);
+    }
+    subsetter_free(&made);
+    give_up(&a);
+}
+
+/* The row's font has two faces: a face that isn't there, though it is the row's but for one bit, by each call. */
+static void check_faces(const struct row *row)
+{
+    static const uint32_t faces[] = {1, 2, 65537};
+    if (row->status != 0)
+        return;
+    for (unsigned long request = 1; CAN_REFUSE && row->varies && request < 5; request++)
+        for (int i = 0; i < 12; i++)
+            check_opening(row, faces[i % 3], i / 3, request);
+    for (int i = 0; !row->varies && i < HIGHS; i++)
+        for (int kind = 0; kind < 7; kind++) {
+            struct row other = *row;
+            other.index += HIGH[i];
+            other.status = 2;
+            other.bytes = NULL;
+            other.size = other.cid_count = other.width_count = 0;
+            other.embeds = kind > 3;
+            other.limits = kind == 3;
+            other.varies = kind % 3 == 2;
+            other.has_words = kind % 3 != 0;
+            other.options.depth = (uint32_t)other.limits;
+            check_whole(&other, 0);
+            if (!other.limits)
+                check_made(&other);
+        }
+}
+
+static uint32_t big_endian(const uint8_t *at, int size)
+{
+    uint32_t value = 0;
+    for (int i = 0; i < size; i++)
+        value = value << 8 | at[i];
+    return value;
+}
+
+/* A row at the end of an axis, from an axis that goes from 16384 on for one 65536th alone: no bit of a coordinate is lost. */
+static void check_last_bit(const struct row *row)
+{
+    static const uint8_t ends[] = {64, 0, 0, 0, 64, 0, 0, 0, 64, 0, 0, 1};
+    struct row precise = *row;
+    subsetter_coordinate at = {row->coordinates[0].tag, 0x40000001};
+    uint8_t *font = room(row->font_size), *record = font + 12;
+    memcpy(font, row->font, row->font_size);
+    while (memcmp(record, "fvar", 4) != 0)
+        record += 16;
+    uint8_t *axes = font + big_endian(record + 8, 4), *axis = axes + big_endian(axes + 4, 2);
+    while (big_endian(axis, 4) != at.tag)
+        axis += big_endian(axes + 10, 2);
+    memcpy(axis + 4, ends, sizeof ends);
+    precise.font = font;
+    precise.coordinates = &at;
+    check_whole(&precise, 0);
+    __real_free(font);
+}
+
+/* ---- lists of words, as another binding hands them over */
+
+/* The row's font has no metrics, so that it can't be embedded; unknown words are refused first. */
+static void check_word_list(const struct row *row, const uint32_t *words, size_t count, uint32_t status)
+{
+    size_t size = status == 0 ? row->size : 0;
+    for (int embeds = 0; embeds < 2; embeds++) {
+        struct answer all = exact(row), *a = &all;
+        subsetter_made made;
+        memset(&made, FILLED, sizeof made);
+        if (embeds) {
+            status = status == 0 ? 2 : status;
+            a->status = subsetter_embed_by_words(FONT, GLYPHS, words, count, WHOLE);
+            check(subsetter_make_embedded_by_words(FONT, GLYPHS, words, count, &made) == status && is_nothing(&made), "made by words", row->name);
+        } else {
+            a->sizes.cids = a->sizes.widths = 0;
+            a->status = subsetter_subset_by_words(FONT, GLYPHS, words, count, ALONE);
+            check(subsetter_make_subset_by_words(FONT, GLYPHS, words, count, &made) == status && made.font_size == size
+                && is_same(made.font, row->bytes, size) && made.cid_count == 0 && made.width_count == 0, "made by words", row->name);
+        }
+        check(status == 0 ? is_right(row, a) : is_refusal(a, status), "words", row->name);
+        subsetter_free(&made);
+        give_up(a);
+    }
+}
+
+/* The row has one charstring of one token, and its subset 164 bytes. The first word is the size of all in bytes. */
+static void check_words(const struct row *row)
+{
+    static const struct {
+        uint32_t words[70];
+        size_t count;
+        uint32_t status;
+    } lists[] = {
+        {{0}, 0, 0}, {{4}, 1, 0}, {{8, 0}, 2, 0}, {{16, 1, 1, 7}, 4, 0}, {{20, 0, 0, 0, 164}, 5, 0},
+        {{20, 0, 0, 0, 163}, 5, 5}, {{16, 0, 256, 0}, 4, 10}, {{16, 0, 257, 0}, 4, 10}, {{16, 0, 65537, 0}, 4, 10},
+        {{16, 0, 0, 8}, 4, 10}, {{24, 0, 0, 0, 0, 0}, 6, 10}, {{28}, 7, 10}, {{32}, 8, 10}, {{52}, 13, 10}, {{276}, 69, 10},
+        {{4, 0}, 2, 10}, {{20}, 1, 10}, {{276}, 5, 10}, {{65556}, 5, 10}, {{16777236}, 5, 10}, {{2147483668u}, 5, 10}, {{5}, 1, 10},
+    };
+    for (size_t i = 0; i < sizeof lists / sizeof *lists; i++)
+        check_word_list(row, lists[i].words, lists[i].count, lists[i].status);
+}
+
+/* ---- all */
+
+static int is_short(const struct row *row)
+{
+    return row->glyph_count < 1000 && row->font_size < 100000;
+}
+
+/* Whether the row is subset once alone. */
+static int is_once(const struct row *row)
+{
+    return is_brief && strncmp(row->words[2], "doubled", 7) == 0;
+}
+
+static void *many_calls(void *wrong)
+{
+    for (int turn = 0; turn < (is_brief ? 1 : 5); turn++)
+        for (const struct row *row = rows; row < rows + row_count; row++) {
+            if (!is_short(row) || is_once(row))
+                continue;
+            struct answer a = exact(row);
+            subsetter_made made;
+            call(row, &a);
+            *(size_t *)wrong += !is_right(row, &a);
+            give_up(&a);
+            if (!has_options(row))
+                continue;
+            *(size_t *)wrong += make(row, &row->options, &made) != row->status || !is_made(row, &made);
+            subsetter_free(&made);
+        }
+    return NULL;
+}
+
+static void check_threads(void)
+{
+    pthread_t threads[2];
+    size_t wrong[2] = {0, 0};
+    is_counted = 0;
+    for (int i = 0; i < 2; i++)
+        if (pthread_create(&threads[i], NULL, many_calls, &wrong[i]) != 0)
+            exit(3);
+    for (int i = 0; i < 2; i++)
+        pthread_join(threads[i], NULL);
+    check(wrong[0] == 0 && wrong[1] == 0, "answer alike", "two threads");
+}
+
+static void check_row(const struct row *row)
+{
+    if (is_once(row)) {
+        check_whole(row, 0);
+        return;
+    }
+    check_buffers(row);
+    if (has_options(row))
+        check_made(row);
+    if (!is_short(row))
+        return;
+    check_memory(row);
+    if (!has_options(row))
+        return;
+    check_other_calls(row);
+    check_options(row);
+}
+
+/* Checks of certain rows, by their names or those of their fonts; there has to be one. */
+static void check_named(int word, const char *name, void (*checked)(const struct row *))
+{
+    int met = 0;
+    for (size_t i = 0; i < row_count; i++)
+        if (strcmp(rows[i].words[word], name) == 0) {
+            checked(&rows[i]);
+            met = 1;
+        }
+    check(met, "there is such a row", name);
+}
+
+int main(int argc, char **argv)
+{
+    size_t end_count = 0;
+    is_brief = argc > 1 && strcmp(argv[1], "--brief") == 0;
+    for (int i = 1 + is_brief; i < argc; i++)
+        read_rows(argv[i]);
+    for (const struct row *row = rows; row < rows + row_count; row++) {
+        check_row(row);
+        if (row->coordinate_count == 1 && row->coordinates[0].value == INT32_MAX && row->status == 0) {
+            check_last_bit(row);
+            end_count++;
+        }
+    }
+    check_named(1, "sid_keyed", check_words);
+    check_named(1, "embedded_within", check_wide_options);
+    check_named(2, "two_faces", check_faces);
+    check(end_count > 0, "a row at the end of an axis", "the last bit");
+    check(subsetter_version() == SUBSETTER_VERSION, "the version of the header", "version");
+    check_threads();
+    printf("C: %zu rows, %zu checks, %zu failed\n", row_count, checks, failures);
+    return failures != 0 || row_count < 447;
+}

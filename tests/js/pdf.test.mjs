@@ -1,0 +1,118 @@
+/** What the calls for PDF take and refuse, and what an answer is besides what the rows have of it. */
+import assert from "node:assert/strict";
+import { test } from "node:test";
+import { fonts, latin1, library, made, subsetter, throws } from "./support.mjs";
+
+const { CFFError, InvalidText, MalformedFont, NotPermitted, OverflowError, UnknownKind } = library;
+const TTF = made("made.ttf"), SHOWN = [{ glyph: 1, text: "A" }, { glyph: 5, text: "fi" }, { glyph: 1, text: "a" }];
+
+test("texts", () => {
+    const opened = subsetter.open(TTF), text = "AH\ufb01\u{1f600}\xc1zA", glyphs = [1, 9, 5, 6, 8, 0, 1];
+    for (const found of [subsetter.glyphsOf(TTF, text), opened.glyphsOf(text), subsetter.glyphsOf(TTF, text, { index: 0 })]) {
+        assert.deepEqual(found, Array.from(text, (it, i) => ({ glyph: glyphs[i], text: it })));
+        assert.deepEqual(subsetter.pdfFont(TTF, found).codes, [1, 2, 3, 4, 5, 0, 1]);
+    }
+    assert.deepEqual([subsetter.glyphsOf(TTF, ""), subsetter.pdfFont(TTF, []).codes], [[], []]);
+    for (const wrong of ["\ud800", "A\udfff", "\ud83dA"]) {
+        for (const call of [() => subsetter.glyphsOf(TTF, wrong), () => opened.glyphsOf(wrong), () => subsetter.pdfFont(TTF, [{ glyph: 1, text: wrong }])]) throws(call, InvalidText, "a surrogate");
+    }
+    throws(() => subsetter.glyphsOf(TTF.slice(0, 40), "A"), MalformedFont, "a cut font");
+    throws(() => subsetter.glyphsOf(new Uint8Array(2), "A"), UnknownKind, "no font");
+    subsetter.pdfFont(TTF, [{ glyph: 1, text: "a".repeat(256) }]);
+    throws(() => subsetter.pdfFont(TTF, [{ glyph: 1, text: "a".repeat(257) }]), InvalidText, "a longer text");
+    for (const wrong of [5, null, undefined, ["A"]]) for (const call of [() => subsetter.glyphsOf(TTF, wrong), () => opened.glyphsOf(wrong)]) throws(call, TypeError, `${wrong}`);
+    opened.close();
+    for (const call of [() => opened.glyphsOf("A"), () => opened.pdfFont([])]) throws(call, TypeError, "a closed font");
+});
+
+test("choices", () => {
+    const plain = subsetter.pdfFont(TTF, SHOWN), opened = subsetter.open(TTF);
+    assert.equal(subsetter.pdfFont(TTF, SHOWN, { tag: "ZYXWVU" }).descriptor.fontName, "ZYXWVU+Made-Regular");
+    assert.deepEqual(subsetter.pdfFont(TTF, new Set(SHOWN), { codes: "eachText" }).codes, [1, 2, 3]);
+    assert.deepEqual(plain.isSaid, [true, true, false]);
+    assert.deepEqual(plain.program, subsetter.embed(TTF, [1, 5], { names: false, glyphNames: false }).font);
+    throws(() => subsetter.pdfFont(TTF, SHOWN, { limits: { bytes: 100 } }), OverflowError, "a bound");
+    throws(() => subsetter.pdfFont(made("made_version_1.otf"), SHOWN, { limits: { tokens: 1 } }), CFFError, "a limit");
+    for (const [limits, error] of [[{ depth: 2, tokens: 3 }], [{ depth: 1 }, CFFError], [{ tokens: 2 }, CFFError], [{ bytes: 10 }, OverflowError]]) {
+        const deep = subsetter.open(fonts.one_call_with_metrics);
+        for (const call of [() => deep.pdfFont([], { limits }), () => subsetter.pdfFont(fonts.one_call_with_metrics, [], { limits })]) error ? throws(call, error, "limits") : call();
+    }
+    const lengths = [{}, { hinting: true }, { hinting: false }].map((options) => subsetter.pdfFont(fonts.full, [], options).program.length);
+    assert.ok(lengths[0] === lengths[1] && lengths[1] > lengths[2]);
+    const wrong = [{ tag: "ABCDE" }, { tag: "ABCDEf" }, { tag: "ABCDEF\n" }, { tag: "" }].map((it) => [RangeError, it]);
+    for (const [name, value] of [["program", "opentype"], ["codes", "source"], ["bounds", "kept"], ["rights", "held"]]) {
+        for (const text of ["", value.toUpperCase(), `${value} `, `${value}\n`]) wrong.push([RangeError, { [name]: text }]);
+        for (const it of [null, 0, 1, true, [value]]) wrong.push([TypeError, { [name]: it }]);
+    }
+    for (const it of [null, 0, 1, "yes"]) wrong.push([TypeError, { vertical: it }], [TypeError, { cidSet: it }]);
+    wrong.push([TypeError, { tag: 5 }], [TypeError, { tag: null }], [TypeError, { names: false }], [TypeError, 5], [TypeError, null]);
+    for (const [kind, options] of wrong) {
+        throws(() => subsetter.pdfFont(TTF, SHOWN, options), kind, JSON.stringify(options));
+        throws(() => opened.pdfFont(SHOWN, options), kind, JSON.stringify(options));
+    }
+});
+
+test("entries, numbers and layouts", () => {
+    const entries = [[TypeError, 5], [TypeError, "A"], [TypeError, null], [TypeError, [5]], [TypeError, [null]], [TypeError, [{ glyph: 1 }]], [TypeError, [{ text: "A" }]],
+        [RangeError, [{ glyph: 65536, text: "" }]], [RangeError, [{ glyph: 0.5, text: "" }]], [TypeError, [{ glyph: 1, text: 65 }]], [TypeError, [{ glyph: null, text: "" }]]];
+    for (const [kind, list] of entries) throws(() => subsetter.pdfFont(TTF, list), kind, JSON.stringify(list));
+    const font = subsetter.pdfFont(TTF, SHOWN);
+    assert.ok(latin1(font.objects(2 ** 32 - 8).bytes).startsWith("4294967288 0 obj"));
+    throws(() => font.objects(2 ** 32 - 7), OverflowError, "no number left");
+    for (const [kind, first] of [[RangeError, 0], [RangeError, 2 ** 32], [RangeError, 1.5], [TypeError, "4"], [TypeError, null], [TypeError, undefined]]) throws(() => font.objects(first), kind, first);
+    for (const [kind, layout] of [[RangeError, "page"], [RangeError, ""], [TypeError, 1], [TypeError, null]]) throws(() => font.sheet(layout), kind, layout);
+    assert.deepEqual(font.sheet(), font.sheet("line"));
+});
+
+/** A collection of a font and of the same without `cmap` and `OS/2`. */
+function collection(font) {
+    const front = 12 + 16 * font[5], shift = 20 + front, bytes = new Uint8Array(shift + font.length), view = new DataView(bytes.buffer);
+    [0x74746366, 0x10000, 2, 20, 20 + front].forEach((word, i) => view.setUint32(4 * i, word));
+    bytes.set(font, shift);
+    for (const face of [0, 1]) {
+        const start = 20 + face * front;
+        bytes.set(font.subarray(0, front), start);
+        for (let at = start + 12; at < start + front; at += 16) {
+            if (face === 1 && ["cmap", "OS/2"].includes(latin1(bytes.subarray(at, at + 4)))) bytes[at + 3]++;
+            view.setUint32(at + 8, view.getUint32(at + 8) + shift);
+        }
+    }
+    return bytes;
+}
+
+test("faces", () => {
+    const two = collection(TTF), opened = [0, 1].map((index) => subsetter.open(two, { index }));
+    for (const found of [subsetter.glyphsOf(two, "A"), opened[0].glyphsOf("A")]) assert.equal(found[0].glyph, 1);
+    for (const call of [() => subsetter.glyphsOf(two, "A", { index: 1 }), () => opened[1].glyphsOf("A")]) throws(call, MalformedFont, "the second face");
+    for (const found of [[0, 1].map((index) => subsetter.pdfFont(two, SHOWN, { index })), opened.map((it) => it.pdfFont(SHOWN))]) {
+        assert.deepEqual(found.map((it) => it.permission.usage), ["editable", "unsaid"]);
+    }
+});
+
+test("permissions, by fsType of OS/2", () => {
+    const wanted = {
+        0x000: ["installable", true, true], 0x002: ["restricted", true, true], 0x004: ["previewAndPrint", true, true], 0x008: ["editable", true, true],
+        0x100: ["installable", false, true], 0x200: ["installable", true, false], 0x302: ["restricted", false, false],
+    };
+    const view = new DataView(TTF.buffer, TTF.byteOffset), at = view.getUint32(latin1(TTF).indexOf("OS/2") + 8) + 8;
+    for (const [number, [usage, subsetting, outlines]] of Object.entries(wanted)) {
+        const font = TTF.slice();
+        new DataView(font.buffer).setUint16(at, Number(number));
+        assert.deepEqual(subsetter.pdfFont(font, SHOWN, { rights: "held" }).permission, { usage, subsetting, outlines });
+        if (usage === "restricted" || !subsetting || !outlines) throws(() => subsetter.pdfFont(font, SHOWN), NotPermitted, number);
+        else subsetter.pdfFont(font, SHOWN, { rights: "asSaid" });
+    }
+});
+
+test("what is changed in an answer is written nowhere", () => {
+    const shown = SHOWN.map((it) => ({ ...it })), font = subsetter.pdfFont(TTF, shown, { codes: "eachText", cidSet: true, vertical: true });
+    const wanted = [font.objects(4), font.sheet(), font.sheet("grid")];
+    shown.push({ glyph: 9, text: "H" });
+    for (const name of ["program", "toUnicode", "encoding", "cidSet", "codes", "cids", "widths", "isSaid"]) font[name].fill(0);
+    font.descriptor.flags = 7;
+    font.objects(4).bytes.fill(0);
+    for (let i = 0; i < 20; i++) subsetter.embed(TTF, [1, 2, 3, i % 9]);
+    assert.deepEqual([font.objects(4), font.sheet(), font.sheet("grid")], wanted);
+    const plain = subsetter.pdfFont(TTF, SHOWN);
+    assert.ok(!["columns", "defaultColumn", "encoding", "encodingName", "cidSet"].some((name) => name in plain));
+});

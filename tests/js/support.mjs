@@ -1,0 +1,116 @@
+/** What the tests in Node share: files, fonts that are made here, and modules with less memory or with other exports. */
+import assert from "node:assert/strict";
+import { readFileSync } from "node:fs";
+import { fileURLToPath } from "node:url";
+import * as library from "../../bindings/js/subsetter.mjs";
+import { readRows } from "./rows.mjs";
+
+export const path = (name) => fileURLToPath(new URL(`../../${name}`, import.meta.url));
+export const read = (name) => readFileSync(path(name));
+export const table = read("crates/dev_rows/data/subset.txt").toString();
+/** The rows for PDF, and their fonts. */
+export const PDF_DATA = "bindings/rust/tests/data";
+export const pdfTable = read(`${PDF_DATA}/pdf_rows.txt`).toString();
+export const made = (name) => new Uint8Array(read(`${PDF_DATA}/${name}`));
+export const wasm = new Uint8Array(read("bindings/js/out/subsetter.wasm"));
+export const subsetter = await library.load(wasm);
+export const { fonts, texts } = readRows(table);
+export const latin1 = (bytes) => Buffer.from(bytes).toString("latin1");
+export { library };
+
+/** That a call throws an error of exactly this class: the error. */
+export function throws(call, kind, what) {
+    try {
+        call();
+    } catch (error) {
+        assert.equal(error.constructor, kind, `${what}: ${error}`);
+        return error;
+    }
+    assert.fail(`${what}: nothing is thrown`);
+}
+
+/** An sfnt of tables by tag. */
+function sfnt(tables) {
+    const tags = Object.keys(tables).sort(), front = 12 + 16 * tags.length;
+    const bytes = new Uint8Array(tags.reduce((at, tag) => at + Math.ceil(tables[tag].length / 4) * 4, front)), view = new DataView(bytes.buffer);
+    view.setUint32(0, 0x00010000);
+    view.setUint16(4, tags.length);
+    let at = front;
+    tags.forEach((tag, i) => {
+        [...tag].forEach((letter, k) => view.setUint8(12 + 16 * i + k, letter.charCodeAt(0)));
+        view.setUint32(20 + 16 * i, at);
+        view.setUint32(24 + 16 * i, tables[tag].length);
+        bytes.set(tables[tag], at);
+        at += Math.ceil(tables[tag].length / 4) * 4;
+    });
+    return bytes;
+}
+
+/** A font of `count` glyphs of `size` bytes each (a multiple of 4), whose widths are 500, 501, and so on. */
+export function plainFont(count, size) {
+    const glyf = new Uint8Array(count * size), loca = new DataView(new ArrayBuffer(4 * count + 4));
+    const hmtx = new DataView(new ArrayBuffer(4 * count)), head = new DataView(new ArrayBuffer(54));
+    const hhea = new DataView(new ArrayBuffer(36)), maxp = new DataView(new ArrayBuffer(32));
+    for (let glyph = 0; glyph < count; glyph++) {
+        for (let i = 0; i < size; i++) glyf[glyph * size + i] = i === 0 ? 0 : i === 1 ? 1 : (glyph * 7 + i * 13) & 255;
+        loca.setUint32(4 * glyph + 4, (glyph + 1) * size);
+        hmtx.setUint16(4 * glyph, 500 + glyph % 1000);
+    }
+    head.setUint16(18, 1000);
+    head.setUint16(50, 1);
+    hhea.setUint16(34, count);
+    maxp.setUint32(0, 0x00010000);
+    maxp.setUint16(4, count);
+    const bytes = (view) => new Uint8Array(view.buffer);
+    return sfnt({ glyf, head: bytes(head), hhea: bytes(hhea), hmtx: bytes(hmtx), loca: bytes(loca), maxp: bytes(maxp) });
+}
+
+/** A number as WebAssembly writes it (LEB128), and reads it: with where it ends. */
+function leb(value) {
+    const bytes = [];
+    for (; value >= 128; value = Math.floor(value / 128)) bytes.push((value % 128) | 128);
+    return [...bytes, value];
+}
+function lebAt(bytes, at) {
+    let value = 0;
+    for (let scale = 1; ; scale *= 128) {
+        value += (bytes[at] & 127) * scale;
+        if (bytes[at++] < 128) return [value, at];
+    }
+}
+
+/** The pages of memory that a module begins with, those that it may have, and a copy of it that gets at most so many. */
+export function memoryOf(wasm) {
+    for (let at = 8; at < wasm.length; ) {
+        const id = wasm[at], [size, start] = lebAt(wasm, at + 1);
+        if (id === 5) {
+            const [least, next] = lebAt(wasm, start + 2), [most] = lebAt(wasm, next);
+            const capped = (pages) => {
+                const content = [1, 1, ...leb(least), ...leb(pages)];
+                return Uint8Array.from([...wasm.subarray(0, at), 5, ...leb(content.length), ...content, ...wasm.subarray(start + size)]);
+            };
+            return { least, most, capped };
+        }
+        at = start + size;
+    }
+    throw new Error("the module has no memory");
+}
+
+/** Runs `run` with the exports of each instance that is made meanwhile; `change` may put others in their place. */
+export async function watched(run, change = (exports) => exports) {
+    const { Instance, instantiate } = WebAssembly, made = [];
+    const kept = (instance) => {
+        const exports = change({ ...instance.exports });
+        made.push(exports);
+        return { exports };
+    };
+    WebAssembly.Instance = function (module, imports) {
+        return kept(new Instance(module, imports));
+    };
+    WebAssembly.instantiate = async (module, imports) => kept(await instantiate(module, imports));
+    try {
+        await run(made);
+    } finally {
+        Object.assign(WebAssembly, { Instance, instantiate });
+    }
+}

@@ -1,0 +1,38 @@
+"""What the programs of test_memory.py and test_library.py begin with: fonts, and one answer of each kind of call."""
+
+import os
+
+import subsetter
+
+
+def made(name):
+    with open(os.path.join(os.environ["DATA"], name), "rb") as file:
+        return file.read()
+
+
+def parts(font):
+    return font.program, font.codes, font.widths, font.to_unicode, font.encoding, font.cid_set, font.objects(4), font.sheet("grid")
+
+
+def pdf(module, name, **choices):
+    return lambda: parts(module.pdf_font(made(name), [(1, "A"), (5, "fi"), (1, "a")], **choices))
+
+
+def calls(module):
+    return {
+        "a subset": lambda: module.subset(made("made.ttf"), [1, 5]),
+        "a subset of CFF": lambda: module.subset(made("made.otf"), [1, 5]),
+        "an embedded font": lambda: module.embed(made("made.ttf"), [1, 5], names=False),
+        "an embedded font at coordinates": lambda: module.embed(made("made_variable.ttf"), [1, 5], coordinates={"wght": 650}),
+        "a subset of CFF2": lambda: module.subset(made("made_cff2.otf"), [1, 2], coordinates={}),
+        "glyphs of a text": lambda: module.glyphs_of(made("made.ttf"), "AH\ufb01"),
+        "a font for a PDF": pdf(module, "made.ttf", cid_set=True, codes="each_text"),
+        "a vertical font for a PDF": pdf(module, "made.otf", vertical=True, rights="held"),
+    }
+
+
+def answers(module):
+    return [call() for call in calls(module).values()]
+
+
+wanted = answers(subsetter)

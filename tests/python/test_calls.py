@@ -1,0 +1,285 @@
+"""What the calls take: fonts, glyph numbers, limits, coordinates and choices of each kind, and what they raise for others."""
+
+import array
+import builtins
+import collections
+import ctypes
+import decimal
+import fractions
+import itertools
+import math
+import mmap
+import pickle
+import types
+
+import pytest
+import subsetter
+from common import ROOT, made, raised, read_rows
+from hypothesis import example, given, strategies as st
+
+ROWS, FONTS, TEXTS = read_rows()
+FONT, WANTED = next((row.font, row.wanted) for row in ROWS if row.name == "simple")
+TTF, SHOWN = made("made.ttf"), [(1, "A"), (5, "fi"), (1, "a")]
+# Each call on a font.
+CALLS = {
+    "subset": lambda font, **more: subsetter.subset(font, [1, 5], **more),
+    "embed": lambda font, **more: subsetter.embed(font, [1, 5], **more),
+    "glyphs_of": lambda font, **more: subsetter.glyphs_of(font, "A", **more),
+    "pdf_font": lambda font, **more: subsetter.pdf_font(font, SHOWN, **more),
+}
+LIMITED = [CALLS[name] for name in ("subset", "embed", "pdf_font")]
+RANGES = {"index": (0, 0xFFFFFFFF), "tokens": (1, 0xFFFFFFFF), "depth": (1, 255), "most_bytes": (1, 0xFFFFFFFF)}
+
+
+def number(**methods):
+    """An object with these methods; an answer that is an exception is raised."""
+    def method(answer):
+        def call(self, *_):
+            if isinstance(answer, Exception):
+                raise answer
+            return answer
+        return call
+    return type("Number", (), {f"__{name}__": method(answer) for name, answer in methods.items()})()
+
+
+def alone(error):
+    """Whether the caller sees this exception alone, without the one it was made of."""
+    return error.__cause__ is None and (error.__context__ is None or error.__suppress_context__)
+
+
+# ---- fonts
+
+def test_buffers(tmp_path):
+    path = tmp_path / "font"
+    path.write_bytes(b"ten bytes." + FONT)
+    with open(path, "r+b") as file, mmap.mmap(file.fileno(), 0) as mapped, mmap.mmap(file.fileno(), 0, access=mmap.ACCESS_READ) as read_only:
+        buffers = [
+            FONT, bytearray(FONT), memoryview(FONT), array.array("B", FONT), array.array("b", FONT),
+            (ctypes.c_uint8 * len(FONT)).from_buffer_copy(FONT), (ctypes.c_char * len(FONT)).from_buffer_copy(FONT),
+            memoryview(b"123" + FONT + b"45")[3:-2], memoryview(bytearray(b"1" + FONT))[1:], memoryview(FONT).cast("c"),
+            memoryview(mapped)[10:], memoryview(read_only)[10:],
+        ]
+        for buffer in buffers:
+            assert subsetter.subset(buffer, [2]) == WANTED
+            assert type(raised(subsetter.embed, buffer, [2])) is subsetter.MalformedFont
+        del buffer
+        for view in buffers:
+            if isinstance(view, memoryview):
+                view.release()
+        assert type(raised(subsetter.subset, mapped, [2])) is subsetter.UnknownKind
+
+
+@pytest.mark.parametrize("name", CALLS)
+def test_no_buffers(name):
+    released = memoryview(TTF)
+    released.release()
+    assert type(raised(CALLS[name], released)) is ValueError
+    wrong = [5, "text", None, 1.5, [0, 1], {}, object(), open, array.array("H", [1, 2]), array.array("d", [1]), ctypes.c_uint8(5),
+             (ctypes.c_uint16 * 4)(), memoryview(TTF)[::2], memoryview(TTF)[::-1], memoryview(bytes(16)).cast("B", (4, 4)),
+             memoryview(bytes(16)).cast("I"), memoryview(bytes(4)).cast("?")]
+    for data in wrong:
+        error = raised(CALLS[name], data)
+        assert type(error) is TypeError and alone(error), data
+
+
+def test_a_buffer_is_held_during_a_call_and_released_after_it(monkeypatch):
+    held, refused = bytearray(FONT), []
+    library = subsetter._library()
+    real = library.subsetter_make_subset_by_words
+
+    def call(*arguments):
+        refused.append(type(raised(held.append, 0)))
+        return real(*arguments)
+
+    monkeypatch.setattr(library, "subsetter_make_subset_by_words", call)
+    assert subsetter.subset(held, [2]) == WANTED and refused == [BufferError]
+    held.append(0)
+    assert raised(subsetter.subset, held, [9]) is not None
+    held.append(0)
+
+
+def test_arguments_and_answers_are_copies():
+    data, glyphs, place = bytearray(TTF), [1, 5], {"wght": 1}
+    one = subsetter.embed(data, glyphs, coordinates=place)
+    assert (bytes(data), glyphs, place) == (TTF, [1, 5], {"wght": 1})
+    data[:] = bytes(len(data))
+    assert one == subsetter.embed(TTF, [1, 5])
+
+
+# ---- glyph numbers
+
+@given(st.lists(st.integers() | st.integers(-2, 70000)))
+@example([65535, 0])
+@example([65536])
+@example([-1])
+@example([2, 1 << 16 | 2])
+@example([1 << 80])
+def test_glyph_numbers(glyphs):
+    for call in (subsetter.subset, subsetter.embed):
+        error = raised(call, TTF, glyphs)
+        if any(not 0 <= glyph <= 65535 for glyph in glyphs):
+            assert type(error) is ValueError and alone(error) and "0 to 65535" in str(error)
+        elif any(glyph > 11 for glyph in glyphs):
+            assert type(error) is subsetter.MalformedFont
+        else:
+            assert error is None
+
+
+def test_iterables_of_glyphs():
+    lists = [(2,), {2}, {2: 0}, range(2, 3), iter([2]), array.array("H", [2]), array.array("q", [2]), frozenset([2]), (it for it in (2, 2)),
+             [number(index=2)]]
+    for glyphs in lists:
+        assert subsetter.subset(FONT, glyphs) == WANTED
+    # (bytes and texts are iterables, but hardly what the caller means)
+    for glyphs in (b"", bytes([36, 3]), bytearray([36, 3]), memoryview(bytes([36, 3])), "", "36", 5, None, 1.5, object(), [1.0], ["1"], [None], [[1]]):
+        assert type(raised(subsetter.subset, FONT, glyphs)) is type(raised(subsetter.embed, FONT, glyphs)) is TypeError
+
+    def endless():
+        yield 2
+        raise KeyError("mine")
+
+    assert type(raised(subsetter.subset, FONT, endless())) is KeyError
+
+
+def test_long_lists():
+    font, many = FONTS["three_advances"], [2, 1] * 40000
+    short = subsetter.embed(font, [2, 1])
+    assert short == (subsetter.subset(font, [2, 1]), [1, 2], [500, 250, 600])
+    assert subsetter.embed(font, many) == (short.font, [1, 2] * 40000, short.widths)
+    assert subsetter.glyphs_of(TTF, "AH" * 40000) == [(1, "A"), (9, "H")] * 40000
+    assert subsetter.pdf_font(TTF, [(1, "A"), (9, "H")] * 40000).codes == [1, 2] * 40000
+
+
+# ---- numbers and choices
+
+@pytest.mark.parametrize("name", RANGES)
+@given(value=st.integers() | st.integers(-3, 300) | st.sampled_from([2**32 - 1, 2**32, 2**32 + 1, 2**64]))
+def test_limits(name, value):
+    least, most = RANGES[name]
+    for call in LIMITED if name != "index" else CALLS.values():
+        error = raised(call, TTF, **{name: value})
+        if least <= value <= most:
+            assert error is None or isinstance(error, subsetter.Error)
+        else:
+            assert type(error) is ValueError and str(error).startswith(f"{name} is ") and len(str(error)) < 120
+            assert str(error).endswith(f", and none from {least} to {most}")
+
+
+@pytest.mark.parametrize("name", RANGES)
+def test_no_numbers(name):
+    for call in LIMITED:
+        # (Python writes no number of so many digits)
+        for value in (10**5000, -(10**5000)):
+            error = raised(call, TTF, **{name: value})
+            assert type(error) is ValueError and alone(error) and str(error).startswith(f"{name} is ")
+        for value in ("1", 1.0, b"1", [1], 1j, *([None] if name == "index" else [])):
+            assert type(raised(call, TTF, **{name: value})) is TypeError
+    assert type(raised(CALLS["subset"], TTF, **{name: number(index=5)})) in (type(None), subsetter.OverflowError)
+
+
+def test_choices_that_are_true_or_false():
+    names = {"hinting": LIMITED, "names": LIMITED[:2], "glyph_names": LIMITED[:2], "vertical": LIMITED[2:], "cid_set": LIMITED[2:]}
+    for name, calls in names.items():
+        for call, value in itertools.product(calls, (0, 1, None, "no", "", 1.0, [])):
+            assert type(raised(call, TTF, **{name: value})) is TypeError
+
+
+def test_choices_are_given_by_name_alone():
+    for call in (subsetter.subset, subsetter.embed, subsetter.pdf_font):
+        assert type(raised(call, TTF, [], 0, 5)) is TypeError
+        assert type(raised(call, TTF, [], hint=False)) is TypeError
+
+
+def test_limits_of_charstrings():
+    most, more = FONTS["most_tokens"], FONTS["one_token_more"]
+    for call in (subsetter.subset, subsetter.embed):
+        assert raised(call, most, []) is None and type(raised(call, more, [])) is subsetter.CFFError
+        assert raised(call, more, [], tokens=1000001) is None and raised(call, most, [], tokens=0xFFFFFFFF, depth=255) is None
+        assert type(raised(call, most, [], tokens=999999)) is subsetter.CFFError
+
+
+# ---- coordinates
+
+def nearest(value):
+    """A value in 65536ths, to the nearest, a half up, within 32 bits."""
+    return max(-0x80000000, min(math.floor(fractions.Fraction(value) * 65536 + fractions.Fraction(1, 2)), 0x7FFFFFFF))
+
+
+REAL = st.floats() | st.floats(-4, 4) | st.integers() | st.fractions() | st.decimals() | st.sampled_from([10**400, -(10**400), decimal.Decimal("1E+1000000")])
+
+
+@given(REAL)
+@example(0.49999999999999994 / 65536)
+@example(-0.5000000000000001 / 65536)
+@example(5e-324)
+@example(1.7e308)
+def test_coordinates(value):
+    calls = [subsetter.subset, subsetter.embed, subsetter.pdf_font]
+    try:
+        is_number = isinstance(value, int) or math.isfinite(float(value))
+    except (ValueError, builtins.OverflowError):
+        # (a NaN that signals)
+        is_number = isinstance(value, fractions.Fraction)
+    if is_number:
+        [found] = subsetter._coordinates({"wght": value})
+        try:
+            assert found.value == nearest(value if isinstance(value, int) else float(value))
+        except builtins.OverflowError:
+            assert found.value in (-0x80000000, 0x7FFFFFFF)
+        assert all(raised(call, TTF, [], coordinates={"wght": value}) is None for call in calls)
+    else:
+        for call in calls:
+            error = raised(call, TTF, [], coordinates={"wght": value})
+            assert type(error) is ValueError and alone(error) and str(error).startswith("the value of the axis wght is ") and len(str(error)) < 100
+
+
+def test_values_of_any_kind():
+    assert [it.value for it in subsetter._coordinates({"wght": number(float=2.5), "wdth": True, "AZ~ ": number(index=3)})] == [163840, 65536, 196608]
+    assert [it.tag for it in subsetter._coordinates({"wght": 2, "AZ~ ": -1})] == [0x77676874, 0x415A7E20]
+    for mapping in (types.MappingProxyType({"wght": 1}), collections.ChainMap({"wght": 1}), collections.UserDict(wght=1)):
+        assert subsetter.subset(FONT, [2], coordinates=mapping) == WANTED
+    wide = [number(float=error, str="9" * 5000) for error in (OverflowError("x"), ValueError("x"), ZeroDivisionError("x"), decimal.Overflow("x"))]
+    for value in (decimal.Decimal("sNaN"), decimal.Decimal("9" * 6000), *wide):
+        error = raised(subsetter.subset, FONT, [2], coordinates={"wght": value})
+        assert type(error) is ValueError and alone(error) and len(str(error)) < 100
+    for value, wanted in ((True, 0x7FFFFFFF), (False, -0x80000000)):
+        assert subsetter._fixed("wght", number(float=OverflowError("x"), gt=value)) == wanted
+
+
+def test_no_coordinates():
+    for call in LIMITED:
+        for tag in ("", "w", "wgh", "wghtt", "wgh\xe9", "w\u0119ht", "\U0001F600", "wght\n"):
+            assert type(raised(call, TTF, coordinates={"wdth": 1, tag: 1})) is ValueError, tag
+        for tag in (b"wght", 0x77676874, None, ("w", "g", "h", "t")):
+            assert type(raised(call, TTF, coordinates={tag: 1})) is TypeError
+        for value in (None, "650", b"650", [650], (650,), 650j, {}):
+            assert type(raised(call, TTF, coordinates={"wght": value})) is TypeError
+        for coordinates in (5, "wght", [("wght", 650)], (("wght", 650),), {"wght"}, iter([]), [], True):
+            assert type(raised(call, TTF, coordinates=coordinates)) is TypeError
+
+
+# ---- errors and names
+
+def test_errors():
+    bases = {"OverflowError": builtins.OverflowError, "OutOfMemory": MemoryError, "InvalidText": ValueError}
+    library, numbers = subsetter._library(), {1: "UnknownKind", 2: "MalformedFont", 3: "Unimplemented", 4: "SubsetError", 5: "OverflowError",
+                                              6: "CFFError", 7: "OutOfMemory", 11: "NotPermitted", 12: "InvalidText"}
+    assert raised(subsetter._check, library, 0) is None
+    for status in [*range(1, 20), 255, 256, 2**32 - 1]:
+        error = raised(subsetter._check, library, status)
+        if status in numbers:
+            kind = getattr(subsetter, numbers[status])
+            assert type(error) is kind and str(error) == TEXTS[status]
+            assert kind.__bases__ == (subsetter.Error, *[it for name, it in bases.items() if name == kind.__name__])
+            again = pickle.loads(pickle.dumps(error))
+            assert type(again) is kind and again.args == error.args
+        else:
+            assert type(error) is RuntimeError and f"status {status}" in str(error)
+    assert subsetter.Error.__bases__ == (Exception,)
+
+
+def test_names():
+    names = {}
+    exec("from subsetter import *", names)
+    assert "OverflowError" not in names and set(names) - {"__builtins__"} == set(subsetter.__all__)
+    assert subsetter.__version__ == (ROOT / "VERSION").read_text().strip()

@@ -1,0 +1,115 @@
+"""Memory: what is given back, what isn't copied, and what comes of a refused request."""
+
+import subsetter
+from common import HERE, child, made, raised, read_rows, shared_library
+
+FONTS, TTF = read_rows()[1], made("made.ttf")
+
+
+def growth(call):
+    """By how many bytes the process grows in many calls."""
+    def resident():
+        with open("/proc/self/statm") as file:
+            return int(file.read().split()[1]) * 4096
+
+    for _ in range(100):
+        call()
+    before = resident()
+    for _ in range(5000):
+        call()
+    return resident() - before
+
+
+def test_answers_are_given_back():
+    long, many, glyphs = FONTS["long_glyph"], FONTS["many_glyphs"], list(range(1, 300))
+    font = subsetter.pdf_font(TTF, [(1, "A")] * 100)
+    calls = [
+        lambda: subsetter.subset(long, [1]), lambda: subsetter.subset(long, [1], coordinates={"wght": 1}), lambda: subsetter.embed(many, glyphs),
+        lambda: raised(subsetter.embed, many, [300]), lambda: subsetter.pdf_font(TTF, [(1, "A")]), lambda: font.objects(4), font.sheet,
+        lambda: raised(font.objects, 2**32 - 1), lambda: raised(subsetter.pdf_font, TTF, [(60000, "A")]), lambda: subsetter.glyphs_of(TTF, "A" * 300),
+    ]
+    assert [growth(call) < 2_000_000 for call in calls] == [True] * len(calls)
+
+
+def test_lists_are_there_until_the_end_of_a_call():
+    """Here memory that is given back is written over."""
+    assert child("""
+        from programs import *
+        font, text = bytes.fromhex(%r), made("made.ttf")
+        for count in (1, 10, 5000, 80000):
+            for coordinates in (None, {"wght": 1, "wdth": 2}):
+                found = subsetter.embed(font, [2, 1] * count, coordinates=coordinates)
+                print(found.cids == [1, 2] * count and found.widths == [500, 250, 600], end=" ")
+                subset = subsetter.subset(font, [2, 1] * count, hinting=False, coordinates=coordinates)
+                print(subset == subsetter.subset(font, [2, 1], hinting=False), end=" ")
+            print(subsetter.glyphs_of(text, "AH" * count) == [(1, "A"), (9, "H")] * count, end=" ")
+            entries = ((glyph, letter) for _ in range(count) for glyph, letter in ((1, "A"), (9, "H")))
+            print(subsetter.pdf_font(text, entries, coordinates={"wght": 1}).codes == [1, 2] * count, end=" ")
+        font = subsetter.pdf_font(text, [(1, "A"), (9, "H")])
+        print(font.sheet() == font.sheet("line") != font.sheet("grid"))
+    """ % FONTS["three_advances"].hex(), PYTHONMALLOC="malloc", MALLOC_PERTURB_="165") == "True " * 24 + "True\n"
+
+
+LIMITED = """
+    import resource, subsetter
+    font = bytearray(bytes.fromhex(%r))
+    font.extend(bytes(%d - len(font)))
+    subsetter._library()
+    size = int(open("/proc/self/statm").read().split()[0]) * 4096
+    resource.setrlimit(resource.RLIMIT_AS, (size + %d,) * 2)
+    for call in (subsetter.subset, subsetter.embed):
+        for buffer in (font, memoryview(font), memoryview(font).toreadonly()):
+            try:
+                call(buffer, [1])
+            except subsetter.Error as error:
+                print(type(error).__name__, isinstance(error, MemoryError), end=" ")
+"""
+
+
+def test_no_font_is_copied():
+    """A font of 40 MB, where the process has 20 MB left."""
+    assert child(LIMITED % ("00", 40_000_000, 20_000_000)) == 6 * "UnknownKind False "
+
+
+def test_no_memory():
+    assert child(LIMITED % (FONTS["front_of_a_large_one"].hex(), 100_000_128, 50_000_000)) == 6 * "OutOfMemory True "
+
+
+REFUSED = """
+    import ctypes
+    from programs import *
+    shim = ctypes.CDLL(None)
+    shim.watch.argtypes, shim.refuse.argtypes = [ctypes.c_size_t] * 2, [ctypes.c_ulong]
+    shim.met.restype, shim.held.restype = ctypes.c_ulong, ctypes.c_long
+    path = os.path.realpath(subsetter._library()._name)
+    with open("/proc/self/maps") as file:
+        ends = [line.split()[0].split("-") for line in file if os.path.realpath(line.split()[-1]) == path]
+    shim.watch(min(int(it, 16) for it, _ in ends), max(int(it, 16) for _, it in ends))
+    for (name, call), answer in zip(calls(subsetter).items(), wanted):
+        refused, number, held = 0, 0, shim.held()
+        while True:
+            number += 1
+            shim.refuse(number)
+            try:
+                found = call()
+            except MemoryError as error:
+                found = None
+                refused += type(error) is subsetter.OutOfMemory and str(error) == "out of memory"
+            is_met = shim.met() >= number
+            shim.refuse(0)
+            if found not in (None, answer) or shim.held() != held:
+                print(f"{name}: request {number} gives {str(found)[:40]}, and {shim.held() - held} blocks are held")
+            if not is_met:
+                break
+        print(f"{name}: {refused > 0} {number > 1} {found == answer == call()}")
+    print(answers(subsetter) == wanted)
+"""
+
+
+def test_each_request_that_is_refused(tmp_path):
+    """`OutOfMemory`, or the whole answer; nothing is held afterwards, and the next call is as good as any."""
+    shim = tmp_path / "refuse.so"
+    shared_library(HERE / "refuse.c", shim)
+    *lines, last = child(REFUSED, LD_PRELOAD=shim).splitlines()
+    assert [line.partition(": ")[2] for line in lines] == ["True True True"] * 8, lines
+    assert last == "True"

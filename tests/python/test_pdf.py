@@ -1,0 +1,208 @@
+"""What the calls for PDF take and refuse, and what an answer is besides what the rows have of it."""
+
+import ctypes
+import gc
+import re
+
+import pytest
+import subsetter
+from common import ROOT, made, raised, read_rows
+from hypothesis import given, strategies as st
+
+FONTS = read_rows()[1]
+TTF, SHOWN = made("made.ttf"), [(1, "A"), (5, "fi"), (1, "a")]
+NAMES = {"program": ["smallest", "opentype"], "codes": ["consecutive", "source", "each_text"], "bounds": ["font", "kept"], "rights": ["as_said", "held"]}
+
+
+def test_glyphs_of_a_text():
+    text = "AH\ufb01\U0001f600\xc1zA"
+    assert subsetter.glyphs_of(TTF, text) == list(zip([1, 9, 5, 6, 8, 0, 1], text))
+    assert subsetter.glyphs_of(memoryview(TTF), "") == []
+    assert subsetter.pdf_font(TTF, iter(subsetter.glyphs_of(TTF, text))).codes == [1, 2, 3, 4, 5, 0, 1]
+    assert type(raised(subsetter.glyphs_of, TTF.replace(b"cmap", b"none"), "A")) is subsetter.MalformedFont
+    assert type(raised(subsetter.glyphs_of, b"no", "A")) is subsetter.UnknownKind
+
+
+@given(st.text(st.characters(), max_size=300))
+def test_texts(text):
+    is_surrogate = any(0xD800 <= ord(it) < 0xE000 for it in text)
+    error = raised(subsetter.glyphs_of, TTF, text)
+    assert type(error) is (subsetter.InvalidText if is_surrogate else type(None))
+    units = sum(1 + (ord(it) > 0xFFFF) for it in text)
+    error = raised(subsetter.pdf_font, TTF, [(1, text)])
+    assert type(error) is (subsetter.InvalidText if is_surrogate or units > 256 else type(None))
+
+
+@given(st.text("\ud800\udbff\udc00\udfffA", min_size=1, max_size=3))
+def test_surrogates(text):
+    assert (type(raised(subsetter.glyphs_of, TTF, text)) is subsetter.InvalidText) == (text.strip("A") != "")
+
+
+def test_the_longest_text():
+    assert raised(subsetter.pdf_font, TTF, [(1, "a" * 256)]) is None
+    assert type(raised(subsetter.pdf_font, TTF, [(1, "a" * 257)])) is subsetter.InvalidText
+
+
+def test_no_texts_and_no_entries():
+    for text in (b"A", 5, None, ["A"], [65]):
+        assert type(raised(subsetter.glyphs_of, TTF, text)) is TypeError
+        assert type(raised(subsetter.pdf_font, TTF, [(1, text)])) is TypeError
+    for kind, entries in [(TypeError, 5), (TypeError, [1]), (TypeError, [("1", "A")]), (ValueError, [(1, "A", 2)]), (ValueError, [(65536, "A")]),
+                          (ValueError, [(-1, "A")]), (ValueError, [(1 << 64, "A")])]:
+        assert type(raised(subsetter.pdf_font, TTF, entries)) is kind, entries
+    nothing = subsetter.pdf_font(TTF, [])
+    assert nothing.codes == [] and nothing.objects(1).offsets[0] == 0 and b"/Count 1" in nothing.sheet()
+
+
+def collection(font):
+    """A collection of a font and of the same without `cmap` and `OS/2`."""
+    front = 12 + 16 * font[5]
+    shift, directories = 20 + 2 * front, []
+    for face in range(2):
+        directory = bytearray(font[:front])
+        for at in range(12, front, 16):
+            if face == 1 and directory[at:at + 4] in (b"cmap", b"OS/2"):
+                directory[at + 3] += 1
+            directory[at + 8:at + 12] = (int.from_bytes(directory[at + 8:at + 12], "big") + shift).to_bytes(4, "big")
+        directories.append(bytes(directory))
+    head = b"ttcf" + b"".join(it.to_bytes(4, "big") for it in (0x10000, 2, 20, 20 + front))
+    return head + b"".join(directories) + font
+
+
+def test_faces():
+    two = collection(TTF)
+    assert subsetter.glyphs_of(two, "A") == subsetter.glyphs_of(two, "A", 0) == [(1, "A")]
+    assert type(raised(subsetter.glyphs_of, two, "A", 1)) is subsetter.MalformedFont
+    usages = [subsetter.pdf_font(two, SHOWN, **more).permission.usage for more in ({}, {"index": 0}, {"index": 1})]
+    assert usages == ["editable", "editable", "unsaid"]
+
+
+def with_fs_type(number):
+    at = int.from_bytes(TTF[TTF.index(b"OS/2") + 8:TTF.index(b"OS/2") + 12], "big") + 8
+    return TTF[:at] + number.to_bytes(2, "big") + TTF[at + 2:]
+
+
+@pytest.mark.parametrize("number, wanted", [
+    (0x000, ("installable", True, True)), (0x002, ("restricted", True, True)), (0x004, ("preview_and_print", True, True)),
+    (0x008, ("editable", True, True)), (0x100, ("installable", False, True)), (0x200, ("installable", True, False)), (0x302, ("restricted", False, False)),
+])
+def test_permissions(number, wanted):
+    """fsType of `OS/2`, and what it permits."""
+    font = with_fs_type(number)
+    assert subsetter.pdf_font(font, SHOWN, rights="held").permission == wanted
+    is_refused = wanted[0] == "restricted" or False in wanted
+    assert type(raised(subsetter.pdf_font, font, SHOWN)) is (subsetter.NotPermitted if is_refused else type(None))
+
+
+def test_the_program_is_that_of_embed():
+    full, deep = FONTS["full"], FONTS["one_call_with_metrics"]
+    for more in ({}, {"hinting": False}):
+        wanted = subsetter.embed(full, [2, 1], names=False, glyph_names=False, **more)
+        found = subsetter.pdf_font(full, [(2, "A"), (1, "B")], **more)
+        assert (found.program, found.cids, found.widths[:3]) == tuple(wanted) and len(found.widths) == found.glyph_count == 4
+    assert len(subsetter.pdf_font(full, []).program) > len(subsetter.pdf_font(full, [], hinting=False).program)
+    for more, error in (({"depth": 2, "tokens": 3}, type(None)), ({"depth": 1}, subsetter.CFFError), ({"tokens": 2}, subsetter.CFFError),
+                        ({"most_bytes": 10}, subsetter.OverflowError)):
+        assert type(raised(subsetter.pdf_font, deep, [], **more)) is error
+    moved = subsetter.pdf_font(made("made_variable.ttf"), SHOWN, coordinates={"wght": 650})
+    assert moved.program != subsetter.pdf_font(made("made_variable.ttf"), SHOWN).program
+
+
+def test_choices():
+    plain = subsetter.pdf_font(TTF, SHOWN)
+    assert plain.is_said == [True, True, False] and plain.codes == [1, 2, 1]
+    assert subsetter.pdf_font(TTF, SHOWN, codes="each_text").codes == [1, 2, 3]
+    for name, known in NAMES.items():
+        for value in ("", " ", known[0].upper(), known[0] + " ", known[1] + "\n", ", ".join(known), "eachText", "asSaid"):
+            assert type(raised(subsetter.pdf_font, TTF, SHOWN, **{name: value})) is ValueError
+        for value in (None, 0, 1, True, known[0].encode(), [known[0]]):
+            assert type(raised(subsetter.pdf_font, TTF, SHOWN, **{name: value})) is TypeError
+
+
+@given(st.text("AZaz@[5\xc4", max_size=8) | st.from_regex("[A-Z]{5,7}", fullmatch=True))
+def test_tags(tag):
+    if re.fullmatch("[A-Z]{6}", tag):
+        font = subsetter.pdf_font(TTF, SHOWN, tag=tag)
+        assert font.descriptor.font_name == f"{tag}+Made-Regular" and repr(font) == f"<PdfFont {tag}+Made-Regular, TrueType, 3 glyphs>"
+    else:
+        assert type(raised(subsetter.pdf_font, TTF, SHOWN, tag=tag)) is ValueError
+
+
+def test_no_tags():
+    for tag in (b"ABCDEF", 5, 0, False, list("ABCDEF")):
+        assert type(raised(subsetter.pdf_font, TTF, SHOWN, tag=tag)) is TypeError
+    assert type(raised(subsetter.pdf_font, TTF, SHOWN, tag="ABCDEF\n")) is ValueError
+
+
+def test_numbers_of_objects_and_layouts():
+    font = subsetter.pdf_font(TTF, SHOWN)
+    assert font.objects(2**32 - 8).bytes.startswith(b"4294967288 0 obj")
+    assert type(raised(font.objects, 2**32 - 7)) is subsetter.OverflowError
+    for kind, first in [(ValueError, 0), (ValueError, -1), (ValueError, 2**32), (ValueError, 2**32 + 4), (TypeError, "4"), (TypeError, 1.0)]:
+        assert type(raised(font.objects, first)) is kind
+    for kind, layout in [(ValueError, "page"), (ValueError, ""), (TypeError, 1), (TypeError, None)]:
+        assert type(raised(font.sheet, layout)) is kind
+
+
+def test_what_is_changed_in_an_answer_is_written_nowhere():
+    shown = [(1, "A"), (5, "fi")]
+    font = subsetter.pdf_font(TTF, shown, codes="each_text", cid_set=True, vertical=True)
+    wanted = font.objects(4), font.sheet(), font.sheet("grid")
+    shown.append((9, "H"))
+    for it in (font.cids, font.codes, font.widths, font.is_said, font.columns, font.objects(4).offsets):
+        it.clear()
+    font.program, font.to_unicode, font.encoding, font.cid_set, font.kind, font.glyph_count = b"", b"", None, None, "CFF", 0
+    assert (font.objects(4), font.sheet(), font.sheet("grid")) == wanted
+
+
+def raising(error):
+    def call(*_):
+        raise error
+    return call
+
+
+def test_what_the_library_hands_over_is_given_back_once(monkeypatch):
+    library, counts = subsetter._library(), {}
+    for name in ("make_subset_by_words", "free", "make_pdf_font_by_words", "free_pdf_font", "make_pdf_objects", "make_pdf_sheet", "free_pdf_objects"):
+        counts[name] = 0
+
+        def call(*arguments, name=name, real=getattr(library, f"subsetter_{name}")):
+            counts[name] += 1
+            return real(*arguments)
+
+        monkeypatch.setattr(library, f"subsetter_{name}", call)
+    subsetter.subset(TTF, [1])
+    font = subsetter.pdf_font(TTF, SHOWN)
+    objects, program = font.objects(4), font.program
+    assert raised(font.objects, 2**32 - 1) and font.sheet() and raised(subsetter.pdf_font, TTF[:40], SHOWN)
+    assert list(counts.values()) == [1, 1, 2, 0, 2, 1, 3]
+    del font
+    assert list(counts.values()) == [1, 1, 2, 1, 2, 1, 3]
+    assert len(program) > 100 and objects.bytes.startswith(b"4 0 obj")
+    # So it is where there is no memory for a copy of an answer.
+    font = subsetter.pdf_font(TTF, SHOWN)
+    with monkeypatch.context() as patch:
+        patch.setattr(ctypes, "string_at", raising(MemoryError("mine")))
+        for call in (lambda: subsetter.subset(TTF, [1]), lambda: subsetter.pdf_font(TTF, SHOWN), lambda: font.objects(4)):
+            assert str(raised(call)) == "mine"
+    gc.collect()
+    assert list(counts.values()) == [2, 2, 4, 2, 3, 1, 4]
+
+
+TYPES = {"uint8_t": ctypes.c_uint8, "uint16_t": ctypes.c_uint16, "uint32_t": ctypes.c_uint32, "int32_t": ctypes.c_int32,
+         "size_t": ctypes.c_size_t, "subsetter_column": subsetter._Column}
+
+
+@pytest.mark.parametrize("name, own", [
+    ("coordinate", subsetter._Coordinate), ("made", subsetter._Made), ("column", subsetter._Column), ("pdf_font", subsetter._PdfFont),
+    ("pdf_objects", subsetter._Objects),
+])
+def test_structs_are_those_of_the_header(name, own):
+    """A sign, a width or an order that differs would read other numbers. (What is read as bytes may be any pointer.)"""
+    header = re.sub(r"/\*.*?\*/", "", (ROOT / "bindings/c/subsetter.h").read_text(), flags=re.S)
+    body = re.search(rf"typedef struct subsetter_{name} {{(.*?)\n}}", header, re.S)[1]
+    fields = re.findall(r"^\s*(?:const )?(\w+) (\*?)(\w+)(?:\[(\d+)\])?;", body, re.M)
+    assert len(fields) > 1 and [it[2] for it in fields] == [field for field, _ in own._fields_]
+    for (kind, star, field, count), (_, found) in zip(fields, own._fields_):
+        wanted = TYPES[kind] * int(count) if count else TYPES[kind]
+        assert found is (ctypes.POINTER(wanted) if star else wanted) or (found is ctypes.c_void_p and star and kind == "uint8_t"), field
