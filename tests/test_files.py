@@ -100,7 +100,7 @@ def test_links(room):
     os.link(room / "one", room / "other")
     assert run(["in", "one", "0", "2"], room)[0] == 0 and read(room / "other") == WANTED and os.path.samefile(room / "one", room / "other")
     os.mkfifo(room / "pipe")
-    with subprocess.Popen(["timeout", "60", "cat", "pipe"], cwd=room, stdout=subprocess.PIPE) as reader:
+    with subprocess.Popen(["timeout", "600", "cat", "pipe"], cwd=room, stdout=subprocess.PIPE) as reader:
         assert run(["in", "pipe", "0", "2"], room) == (0, LINES, b"") and reader.communicate()[0] == WANTED
     assert run(["in", "/dev/null", "0", "2"], room) == (0, LINES, b"")
     assert names_in(room) == ["hanging", "in", "link", "nowhere", "one", "other", "pipe", "real"]
@@ -187,7 +187,7 @@ def test_owner_stays(other, room, owner, group, front):
 
 def to(stream, words, room, **given):
     """How a run ends whose standard output is a stream, and its messages."""
-    got = subprocess.run([*COMMAND, *words], cwd=room, check=False, timeout=60, **{"stdin": subprocess.DEVNULL, "stdout": stream, "stderr": subprocess.PIPE, **given})
+    got = subprocess.run([*COMMAND, *words], cwd=room, check=False, timeout=600, **{"stdin": subprocess.DEVNULL, "stdout": stream, "stderr": subprocess.PIPE, **given})
     return got.returncode, got.stderr
 
 
