@@ -59,7 +59,7 @@ async function differences(browser, wordsOf) {
     await new Promise((resolve) => server.listen(0, "127.0.0.1", resolve));
     const child = spawn(browser, wordsOf(profile, `http://127.0.0.1:${server.address().port}/`), { env: { ...process.env, HOME: profile }, stdio: "ignore", detached: true });
     child.on("error", done.reject).on("exit", (status) => done.reject(new Error(`${browser} ends with ${status}`)));
-    const timer = setTimeout(() => done.reject(new Error(`${browser} doesn't answer`)), 240_000);
+    const timer = setTimeout(() => done.reject(new Error(`${browser} doesn't answer`)), 1_800_000);
     try {
         return await told;
     } finally {

@@ -26,12 +26,26 @@ test("the PDF of a text, and its subset", () => {
     throws(() => make(subsetter, new Uint8Array(10), text), library.UnknownKind, "no font");
 });
 
+/** Drops a font on the page, once it is ready. */
+const DROP = `<script type="module">
+    const data = new DataTransfer(), said = document.getElementById("said");
+    data.items.add(new File([Uint8Array.from(atob("${Buffer.from(made("made.ttf")).toString("base64")}"), (it) => it.charCodeAt(0))], "made.ttf"));
+    const timer = setInterval(() => {
+        if (!said.textContent.startsWith("Drop a font here")) return;
+        clearInterval(timer);
+        document.dispatchEvent(new DragEvent("drop", { dataTransfer: data }));
+    }, 50);
+</script>`;
+
 test("the page in one file, in Chromium", () => {
-    const profile = mkdtempSync(join(tmpdir(), "chromium-")), words = ["--headless", "--no-sandbox", "--disable-gpu", `--user-data-dir=${profile}`];
+    const folder = mkdtempSync(join(tmpdir(), "chromium-")), words = ["--headless", "--no-sandbox", "--disable-gpu", `--user-data-dir=${folder}/profile`];
     try {
-        const found = execFileSync("chromium", [...words, "--virtual-time-budget=20000", "--dump-dom", `file://${path("bindings/js/out/page.html")}`], { stdio: ["ignore", "pipe", "ignore"] });
-        assert.match(found.toString(), /<p id="said" role="status">Drop a font here\. \(subsetter [\d.+]+\)<\/p>/);
+        writeFileSync(join(folder, "page.html"), readFileSync(path("bindings/js/out/page.html"), "utf8") + DROP);
+        const found = execFileSync("chromium", [...words, "--virtual-time-budget=20000", "--dump-dom", `file://${folder}/page.html`], { stdio: ["ignore", "pipe", "ignore"] }).toString();
+        assert.match(found, /<p id="said" role="status">made\.ttf has \d+ bytes, the PDF \d+, the subset \d+\. The font has no e l/);
+        assert.equal(found.match(/<a id="(pdf|subset)" href="blob:[^"]+" download="made(\.pdf|-subset\.ttf)">/g).length, 2);
+        assert.match(found, /<iframe id="shown" title="The PDF" src="blob:/);
     } finally {
-        rmSync(profile, { recursive: true, maxRetries: 5, retryDelay: 200 });
+        rmSync(folder, { recursive: true, maxRetries: 5, retryDelay: 200 });
     }
 });

@@ -117,7 +117,7 @@ def run(*words, folder=None, **env):
     known = {name: value for name, value in os.environ.items() if name not in taken}
     env = {**known, "PYTHONDONTWRITEBYTECODE": "1", "PIP_DISABLE_PIP_VERSION_CHECK": "1", **env}
     return subprocess.run([str(it) for it in words], cwd=folder, env={name: str(value) for name, value in env.items()},
-                          stdin=subprocess.DEVNULL, stdout=subprocess.PIPE, stderr=subprocess.STDOUT, text=True, timeout=900)
+                          stdin=subprocess.DEVNULL, stdout=subprocess.PIPE, stderr=subprocess.STDOUT, text=True, timeout=3600)
 
 
 def child(program, path=MODULE, folder="/", **env):

@@ -131,7 +131,7 @@ def test_other_threads_go_on_while_a_call_runs():
 
     thread = threading.Thread(target=stamp)
     thread.start()
-    interval, goes_on, end = sys.getswitchinterval(), False, time.monotonic() + 20
+    interval, goes_on, end = sys.getswitchinterval(), False, time.monotonic() + 60
     sys.setswitchinterval(1000)
     while not goes_on and time.monotonic() < end:
         start = time.monotonic()
