@@ -26,10 +26,10 @@ import tempfile
 
 sys.path.insert(0, os.path.join(os.path.dirname(os.path.realpath(__file__)), "lib"))
 
-import build  # noqa: E402
-import fonts  # noqa: E402
-import kinds  # noqa: E402
-import report as reports  # noqa: E402
+import build
+import fonts
+import kinds
+import report as reports
 
 # How many of the machine's faces have their requests refused, and of how large a file at most.
 REFUSED_FACES, REFUSED_SIZE = 60, 400_000

@@ -28,17 +28,17 @@ import time
 
 sys.path.insert(0, os.path.join(os.path.dirname(os.path.realpath(__file__)), "lib"))
 
-import build  # noqa: E402
-import copies  # noqa: E402
-import font_at  # noqa: E402
-import fonts  # noqa: E402
-import reading  # noqa: E402
-import reading_font  # noqa: E402
-import report as reports  # noqa: E402
-from made import u16s as unsigned  # noqa: E402
-from others import Floats, advance_by, extremes_of, freetype_points, metrics_of  # noqa: E402
-from reading import UNIT  # noqa: E402
-from report import Report  # noqa: E402
+import build
+import copies
+import font_at
+import fonts
+import reading
+import reading_font
+import report as reports
+from made import u16s as unsigned
+from others import Floats, advance_by, extremes_of, freetype_points, metrics_of
+from reading import UNIT
+from report import Report
 
 STEPS, PIECE = 1000000, 50
 DAMAGED = ["fvar", "avar", "gvar", "HVAR", "MVAR", "glyf"]

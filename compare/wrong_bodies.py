@@ -40,8 +40,8 @@ import time
 
 sys.path.insert(0, os.path.join(os.path.dirname(os.path.realpath(__file__)), "lib"))
 
-import wrong_body  # noqa: E402
-import wrong_by_check  # noqa: E402
+import wrong_body
+import wrong_by_check
 
 HERE = os.path.dirname(os.path.realpath(__file__))
 ROOT = os.path.dirname(HERE)

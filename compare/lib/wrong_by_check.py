@@ -9,8 +9,8 @@ import tempfile
 
 sys.path.insert(0, os.path.join(os.path.dirname(os.path.realpath(__file__)), "..", "..", ".ci"))
 
-import planted  # noqa: E402
-import wrong_body  # noqa: E402
+import planted
+import wrong_body
 
 CARGO = "cargo {} -q --offline --locked --manifest-path bindings/rust/Cargo.toml --target-dir out/cargo"
 # Of each check what has to pass over an edit too, as a body that isn't built is none, and the command that has to fail.
