@@ -11,9 +11,13 @@
     damage   N damaged copies of fonts of all kinds and of those under 900 KB, each by one call, and of a variable one by one at
              coordinates
 
-The library is bindings/c/out/libsubsetter.so, which `make -C bindings/c` proves and builds, or the file LIBRARY. The status is 1 where an
+    wasm     80 glyphs of each of the faces by the WebAssembly module bindings/js/out/subsetter.wasm (`make -C bindings/js`), or WASM;
+             not in the short form
+
+Other processors have the rows and numbers of tests/platforms. The library is bindings/c/out/libsubsetter.so, which `make -C bindings/c` proves and builds, or the file LIBRARY. The status is 1 where an
 answer differs, or nothing was compared.
 """
+import hashlib
 import json
 import os
 import subprocess
@@ -22,10 +26,10 @@ import tempfile
 
 sys.path.insert(0, os.path.join(os.path.dirname(os.path.realpath(__file__)), "lib"))
 
-import build  # noqa: E402
-import fonts  # noqa: E402
-import kinds  # noqa: E402
-import report as reports  # noqa: E402
+import build
+import fonts
+import kinds
+import report as reports
 
 # How many of the machine's faces have their requests refused, and of how large a file at most.
 REFUSED_FACES, REFUSED_SIZE = 60, 400_000
@@ -66,6 +70,32 @@ def run(program, jobs, report, *words):
     report.counts.update({words[0]: counts["calls"], "refused": counts["refused"], "fonts": counts["answers"].get("a font", 0)})
 
 
+def by_wasm(faces, library, report, room):
+    """Compares the WebAssembly module's answers with the library's, which ctypes calls."""
+    module = os.environ.get("WASM", os.path.join(build.ROOT, "bindings", "js", "out", "subsetter.wasm"))
+    calls, lists = build.Library(library), []
+    for path, index in faces:
+        try:
+            count = fonts.glyph_count(path, index)
+        except LookupError:
+            continue
+        lists.append((path, index, sorted({count * k // 80 for k in range(80)})))
+    name = os.path.join(room, "wasm")
+    with open(name, "w", encoding="utf-8") as file:
+        file.writelines(f"{path}\t{index}\t{','.join(map(str, glyphs))}\n" for path, index, glyphs in lists)
+    ran = subprocess.run(["node", os.path.join(build.DRIVERS, "wasm.mjs"), module, name], stdout=subprocess.PIPE, text=True)
+    said = ran.stdout.splitlines()
+    if ran.returncode or len(said) != len(lists):
+        report.say("wasm", f"ended with {ran.returncode}, {len(said)} answers of {len(lists)}")
+    for (path, index, glyphs), answer in zip(lists, said):
+        with open(path, "rb") as file:
+            font = calls.subset(file.read(), glyphs, index=index)
+        wanted = font if isinstance(font, str) else f"{len(font)} {hashlib.sha256(font).hexdigest()}"
+        report.counts["wasm"] += 1
+        if answer != wanted:
+            report.say("wasm", f"{path} {index}: {answer}; {wanted}")
+
+
 def main():
     words = reports.words(__doc__, faces=(1000, 60), copies=(100000, 6000))
     if "LIBRARY" not in os.environ:
@@ -82,11 +112,13 @@ def main():
             # (half of the copies are of the one, half of the others)
             path = listed(known * max(1, len(there) // len(known)) + there, os.path.join(room, "all"))
             run(program, words.jobs, report, "damage", path, 0, words.copies, library)
+        if not words.short:
+            by_wasm(spread(there, words.faces), library, report, room)
     counts = report.counts
     if words.copies and not counts["refused"]:
         report.say("memory", "no request was refused")
-    reports.end([report], counts["faces"] + counts["memory"] + counts["damage"],
-                f"{counts['faces']} calls of faces, {counts['damage']} of damaged copies, {counts['fonts']} fonts; {counts['refused']} requests for memory refused")
+    reports.end([report], counts["faces"] + counts["memory"] + counts["damage"] + counts["wasm"],
+                f"{counts['faces']} calls of faces, {counts['damage']} of damaged copies, {counts['fonts']} fonts; {counts['refused']} requests for memory refused, {counts['wasm']} faces by WebAssembly")
 
 
 if __name__ == "__main__":

@@ -39,13 +39,13 @@ import tempfile
 
 sys.path.insert(0, os.path.join(os.path.dirname(os.path.realpath(__file__)), "lib"))
 
-import build  # noqa: E402
-import cff2_damaged  # noqa: E402
-import cff2_fonts  # noqa: E402
-import cff2_whole  # noqa: E402
-import font_at  # noqa: E402
-import fonts  # noqa: E402
-import report as reports  # noqa: E402
+import build
+import cff2_damaged
+import cff2_fonts
+import cff2_whole
+import font_at
+import fonts
+import report as reports
 
 # Larger fonts aren't damaged.
 DAMAGED_AT_MOST = 2 ** 20

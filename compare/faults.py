@@ -32,10 +32,10 @@ import tempfile
 
 sys.path.insert(0, os.path.join(os.path.dirname(os.path.realpath(__file__)), "lib"))
 
-import build  # noqa: E402
-import fault_rules as rules  # noqa: E402
-from fault_ways import BY_NAME, WAYS  # noqa: E402
-from injected import Room, Trouble, needs  # noqa: E402
+import build
+import fault_rules as rules
+from fault_ways import BY_NAME, WAYS
+from injected import Room, Trouble, needs
 
 
 class Table:

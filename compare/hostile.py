@@ -17,9 +17,9 @@ import tempfile
 
 sys.path.insert(0, os.path.join(os.path.dirname(os.path.realpath(__file__)), "lib"))
 
-import build, made, made2  # noqa: E402, E401
-import report as reports  # noqa: E402
-from made import number, u16s, u32s  # noqa: E402
+import build, made, made2
+import report as reports
+from made import number, u16s, u32s
 
 # By how much a byte may cost more at twice the size than at half, where a run takes or holds so much at least.
 GROWTH, LEAST_SECONDS, LEAST_HELD = 2.5, 0.03, 2 ** 26

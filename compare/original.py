@@ -16,13 +16,13 @@ import tempfile
 
 sys.path.insert(0, os.path.join(os.path.dirname(os.path.realpath(__file__)), "lib"))
 
-import build  # noqa: E402
-import explain  # noqa: E402
-import fonts  # noqa: E402
-import kinds  # noqa: E402
-import original_crate  # noqa: E402
-import report as reports  # noqa: E402
-from damaged import ROOM, answers_of, by_kinds, judged, kind_of, names_of  # noqa: E402
+import build
+import explain
+import fonts
+import kinds
+import original_crate
+import report as reports
+from damaged import ROOM, answers_of, by_kinds, judged, kind_of, names_of
 
 SIZES, PIECE = (0, 3, 40, 400), 100
 

@@ -32,14 +32,14 @@ from concurrent.futures import ThreadPoolExecutor
 
 sys.path.insert(0, os.path.join(os.path.dirname(os.path.realpath(__file__)), "lib"))
 
-import build  # noqa: E402
-import fonts  # noqa: E402
-import pdf_harness  # noqa: E402
-import pdf_readers as readers  # noqa: E402
-import pdf_rules as rules  # noqa: E402
-import report as reports  # noqa: E402
-from pdf_cases import LOOSE, Case, damaged  # noqa: E402
-from pdf_faults import Font, archival_page, faults_of_calls, faults_of_file, faults_of_ink, faults_of_text, faults_of_values, outcome  # noqa: E402
+import build
+import fonts
+import pdf_harness
+import pdf_readers as readers
+import pdf_rules as rules
+import report as reports
+from pdf_cases import LOOSE, Case, damaged
+from pdf_faults import Font, archival_page, faults_of_calls, faults_of_file, faults_of_ink, faults_of_text, faults_of_values, outcome
 
 FONTS = [it[0] for it in fonts.TRUETYPE_FONTS + fonts.CFF_FONTS] + ["fonts-inter-variable"]
 OF_THE_CRATE = [os.path.join(build.ROOT, "bindings", "rust", "tests", "data", it) for it in ("made.ttf", "made.otf", "made_variable.ttf")]

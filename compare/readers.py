@@ -32,17 +32,17 @@ import tempfile
 
 sys.path.insert(0, os.path.join(os.path.dirname(os.path.realpath(__file__)), "lib"))
 
-import cff2_fonts  # noqa: E402
-import drawn_by  # noqa: E402
-import drawn_cff2  # noqa: E402
-import drawn_variable  # noqa: E402
-import font_at  # noqa: E402
-import fonts  # noqa: E402
-import report as reports  # noqa: E402
-from cff import cids  # noqa: E402
-from drawn_by import LINE, PAGE, READERS, UNREADABLE, Refused, drawn, grid, line_by_widths, line_of, places_by_trace, subset  # noqa: E402
-from pdf_file import Face, Pdf, embedded, pages  # noqa: E402
-from report import Report  # noqa: E402
+import cff2_fonts
+import drawn_by
+import drawn_cff2
+import drawn_variable
+import font_at
+import fonts
+import report as reports
+from cff import cids
+from drawn_by import LINE, PAGE, READERS, UNREADABLE, Refused, drawn, grid, line_by_widths, line_of, places_by_trace, subset
+from pdf_file import Face, Pdf, embedded, pages
+from report import Report
 
 GLYPHS_A_FACE = 40
 # The tables by which a reader finds letters in a font.

@@ -22,11 +22,11 @@ import tempfile
 
 sys.path.insert(0, os.path.join(os.path.dirname(os.path.realpath(__file__)), "lib"))
 
-import build  # noqa: E402
-import fonts  # noqa: E402
-import made  # noqa: E402
-import report as reports  # noqa: E402
-from refused import demand, each_refusal, gives_back, put, run, take  # noqa: E402
+import build
+import fonts
+import made
+import report as reports
+from refused import demand, each_refusal, gives_back, put, run, take
 
 NO_MEMORY = b"error 7\n"
 

@@ -17,12 +17,12 @@ import tempfile
 
 sys.path.insert(0, os.path.join(os.path.dirname(os.path.realpath(__file__)), "lib"))
 
-import build  # noqa: E402
-import cff2_fonts  # noqa: E402
-import font_at  # noqa: E402
-import fonts  # noqa: E402
-import original_crate  # noqa: E402
-import report as reports  # noqa: E402
+import build
+import cff2_fonts
+import font_at
+import fonts
+import original_crate
+import report as reports
 
 # The parts of another program's time that the crate may take: of HarfBuzz's, and of the Rust crate's by the kind of outlines.
 HARFBUZZ, ORIGINAL = 0.60, {"glyf": 0.35, "CFF ": 0.25}

@@ -28,16 +28,17 @@ import time
 
 sys.path.insert(0, os.path.join(os.path.dirname(os.path.realpath(__file__)), "lib"))
 
-import build  # noqa: E402
-import font_at  # noqa: E402
-import fonts  # noqa: E402
-import reading  # noqa: E402
-import reading_font  # noqa: E402
-import report as reports  # noqa: E402
-from made import u16s as unsigned  # noqa: E402
-from others import Floats, advance_by, extremes_of, freetype_points, metrics_of  # noqa: E402
-from reading import UNIT  # noqa: E402
-from report import Report  # noqa: E402
+import build
+import copies
+import font_at
+import fonts
+import reading
+import reading_font
+import report as reports
+from made import u16s as unsigned
+from others import Floats, advance_by, extremes_of, freetype_points, metrics_of
+from reading import UNIT
+from report import Report
 
 STEPS, PIECE = 1000000, 50
 DAMAGED = ["fvar", "avar", "gvar", "HVAR", "MVAR", "glyf"]
@@ -223,25 +224,14 @@ def compare_font(words, path):
 
 # ---- damaged copies
 
-def damaged(rng, data, source):
-    """A copy with one to three numbers changed in one of the tables, and the glyphs to ask for: those that the change may
-    reach come first where it is in gvar or glyf."""
+def damaged(rng, data):
+    """A copy that is damaged in one of the tables, and which one."""
     tables = fonts.directory(data)
     tag = rng.choice([it for it in DAMAGED if it in tables])
     at, size = tables[tag]
-    copy = bytearray(data)
-    size = min(size, 4096) if rng.random() < 0.5 else size
-    for _ in range(rng.randint(1, 3)):
-        where = at + rng.randrange(size)
-        kind = rng.random()
-        if kind < 0.4:
-            copy[where] = rng.randrange(256)
-        elif kind < 0.7:
-            copy[where] ^= 1 << rng.randrange(8)
-        elif kind < 0.9 and where + 1 < len(copy):
-            copy[where:where + 2] = rng.choice([0, 1, 0x7FFF, 0x8000, 0xFFFF, rng.randrange(65536)]).to_bytes(2, "big")
-        else:
-            copy[where] = (copy[where] + rng.choice([1, 255])) % 256
+    copy, size = bytearray(data), min(size, 4096) if rng.random() < 0.5 else size
+    for _ in range(rng.choice((1, 1, 2))):
+        rng.choice(copies.KINDS)(rng, copy, at, at + size)
     return tag, bytes(copy)
 
 
@@ -263,7 +253,7 @@ def damage_piece(words, path, number):
     with open(path, "rb") as file:
         data = file.read()
     for k in range(PIECE):
-        tag, copy = damaged(rng, data, source)
+        tag, copy = damaged(rng, data)
         place = font_at.random_place(source.axes, rng)
         glyphs = rng.sample(range(1, len(source.names)), min(12, len(source.names) - 1))
         start = time.perf_counter()

@@ -13,9 +13,9 @@ import tempfile
 sys.path.insert(0, os.path.join(os.path.dirname(os.path.dirname(os.path.realpath(__file__))), "compare", "lib"))
 sys.dont_write_bytecode = True
 
-from drawn_by import READERS, drawn, subset  # noqa: E402
-from drawn_variable import subset_at  # noqa: E402
-from pdf_file import Face, Pdf, embedded, pages  # noqa: E402
+from drawn_by import READERS, drawn, subset
+from drawn_variable import subset_at
+from pdf_file import Face, Pdf, embedded, pages
 
 NOTO = "/usr/share/fonts/truetype/noto"
 CJK = "/usr/share/fonts/opentype/noto"

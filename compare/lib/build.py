@@ -22,11 +22,13 @@ class Canary:
         self.is_due = CANARY
 
     def changed(self, data):
-        """The bytes, or under CANARY the first ones with a bit in the middle changed."""
-        if not self.is_due or not data:
+        """The bytes of a font, or under CANARY the first ones with a bit of the outlines changed."""
+        record = max(data.find(b"glyf"), data.find(b"CFF ")) if self.is_due else -1
+        if record < 0:
             return data
+        at, size = (int.from_bytes(data[record + k:record + k + 4], "big") for k in (8, 12))
         self.is_due, data = False, bytearray(data)
-        data[len(data) // 2] ^= 1
+        data[at + size // 2] ^= 1
         return bytes(data)
 
 

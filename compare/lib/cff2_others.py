@@ -1,4 +1,5 @@
 """What FreeType and fontTools' mutator have of a CFF2 font at coordinates: what cff2_whole.py compares new fonts with."""
+import importlib
 import io
 import math
 
@@ -95,7 +96,8 @@ def flat(face):
     """The bytes of a face without subroutines, as fontTools' mutator takes it; made once."""
     from fontTools.ttLib import TTFont
 
-    import fontTools.subset.cff  # noqa: F401 (it adds desubroutinize)
+    # (it gives a font `desubroutinize`)
+    importlib.import_module("fontTools.subset.cff")
 
     if face.flat is None:
         font, out = TTFont(io.BytesIO(face.it.alone), recalcBBoxes=False, recalcTimestamp=False), io.BytesIO()

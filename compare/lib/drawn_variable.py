@@ -26,7 +26,7 @@ from report import Report
 
 GLYPHS_A_PLACE = 24
 PAGE, BASE = (480, 180), 80
-# Pixels an inch: four a point, so that the grid's places are whole pixels. (At eight Poppler 22.12 leaves out wide glyphs whose first flag is OVERLAP_SIMPLE.)
+# Pixels an inch: four a point, so that the grid's places are whole pixels. (At eight FreeType 2.12 fails for wide glyphs whose first flag is OVERLAP_SIMPLE and that lean by as little as these; upright they are drawn.)
 DPI = 288
 SCALE = DPI // 72
 LEAN = 0.0001

@@ -10,8 +10,6 @@ PACKAGES = ["fonts-inter-variable", "python3-freetype", "python3-fonttools"]
 INTER = f"{fonts.TRUETYPE}/inter-vf"
 HARFBUZZ_BOUND = 0.01
 FREETYPE_BOUND = 1
-# The four points behind an outline that carry its metrics.
-PHANTOMS = 4
 
 
 # ---- fontTools
@@ -31,70 +29,8 @@ class Source:
         # The tuples of fontTools are by tag, so of axes of one tag it knows the last alone.
         self.has_twins = len(set(self.tags)) < len(self.tags)
 
-    def simple_glyphs(self):
-        return [g for g, name in enumerate(self.names) if self.glyf[name].numberOfContours > 0]
-
-    def shift(self, g):
-        """The left phantom point of the default."""
-        name = self.names[g]
-        return self.glyf[name].xMin - self.font["hmtx"][name][1]
-
-    def is_half(self, tag, value):
-        """Whether a user coordinate is below the default and lies halfway between two 16.16 numbers."""
-        low, default = [[round(end * 65536) for end in ends[:2]] for name, *ends in self.axes if name == tag][0]
-        return low <= value < default and 2 * (default - value) * 65536 % (2 * (default - low)) == default - low
-
-    def steps(self, tag):
-        """How many steps of F2Dot14 a step before `avar` may be behind it."""
-        pairs = sorted(self.font["avar"].segments[tag].items()) if "avar" in self.font else []
-        slopes = [abs(t2 - t1) / (f2 - f1) for (f1, t1), (f2, t2) in zip(pairs, pairs[1:]) if f2 > f1]
-        return math.ceil(max(slopes + [1]))
-
-    def normalized(self, place):
-        """F2Dot14 coordinates of a place, in fontTools' order of rounding."""
-        from fontTools.varLib.models import normalizeLocation, piecewiseLinearMap
-        from fontTools.misc.fixedTools import floatToFixed
-
-        user = {tag: value / 65536 for tag, value in place}
-        location = normalizeLocation(user, {tag: ends for tag, *ends in self.axes})
-        if "avar" in self.font:
-            maps = self.font["avar"].segments
-            location = {tag: piecewiseLinearMap(value, maps[tag]) for tag, value in location.items()}
-        return [floatToFixed(location[tag], 14) for tag in self.tags]
-
-    def varied(self, g, at):
-        """The scalar of each tuple, and the points with the phantoms, in floats."""
-        from fontTools.varLib.iup import iup_delta
-        from fontTools.varLib.models import supportScalar
-
-        name = self.names[g]
-        coordinates, ends, _ = self.glyf[name].getCoordinates(self.glyf)
-        points = list(coordinates) + [(0, 0)] * PHANTOMS
-        moved = [[float(x), float(y)] for x, y in points]
-        location = {tag: value / 16384 for tag, value in zip(self.tags, at)}
-        scalars = []
-        for tuple_ in self.gvar.get(name, []):
-            scalar = supportScalar(location, tuple_.axes)
-            scalars.append(scalar)
-            deltas = tuple_.coordinates
-            if scalar and None in deltas:
-                deltas = iup_delta(deltas, points, list(ends))
-            if scalar:
-                for point, delta in zip(moved, deltas):
-                    point[0] += scalar * delta[0]
-                    point[1] += scalar * delta[1]
-        return scalars, moved
-
-    def ends_and_flags(self, g):
-        _, ends, flags = self.glyf[self.names[g]].getCoordinates(self.glyf)
-        return list(ends), [flag & 1 for flag in flags]
-
 
 # ---- HarfBuzz
-
-class Variation(ctypes.Structure):
-    _fields_ = [("tag", ctypes.c_uint32), ("value", ctypes.c_float)]
-
 
 class HarfBuzz:
     """A font of HarfBuzz's library, drawn without rounding."""
@@ -102,14 +38,12 @@ class HarfBuzz:
     def __init__(self, path, index=0):
         lib = self.lib = ctypes.CDLL("libharfbuzz.so.0")
         pointer, number = ctypes.c_void_p, ctypes.c_uint
-        for name in ["blob_create_from_file", "face_create", "font_create", "draw_funcs_create", "font_get_var_coords_normalized"]:
+        for name in ["blob_create_from_file", "face_create", "font_create", "draw_funcs_create"]:
             getattr(lib, "hb_" + name).restype = pointer
         lib.hb_version_string.restype = ctypes.c_char_p
         lib.hb_face_create.argtypes = [pointer, number]
         lib.hb_font_create.argtypes = [pointer]
-        lib.hb_font_set_variations.argtypes = [pointer, ctypes.POINTER(Variation), number]
         lib.hb_font_set_var_coords_normalized.argtypes = [pointer, ctypes.POINTER(ctypes.c_int), number]
-        lib.hb_font_get_var_coords_normalized.argtypes = [pointer, ctypes.POINTER(number)]
         # The older name; since 7.0 it is hb_font_draw_glyph.
         lib.hb_font_get_glyph_shape.argtypes = [pointer, ctypes.c_uint32, pointer, pointer]
         blob = lib.hb_blob_create_from_file(path.encode())
@@ -132,13 +66,6 @@ class HarfBuzz:
         setter.argtypes = [ctypes.c_void_p, kind, ctypes.c_void_p, ctypes.c_void_p]
         setter(self.functions, made, None, None)
         return made
-
-    def normalized(self, place):
-        settings = (Variation * len(place))(*[(int.from_bytes(tag.encode("latin-1"), "big"), value / 65536) for tag, value in place])
-        self.lib.hb_font_set_variations(self.font, settings, len(place))
-        count = ctypes.c_uint()
-        coordinates = self.lib.hb_font_get_var_coords_normalized(self.font, ctypes.byref(count))
-        return list((ctypes.c_int * count.value).from_address(coordinates)) if count.value else []
 
     def place(self, at):
         self.lib.hb_font_set_var_coords_normalized(self.font, (ctypes.c_int * len(at))(*at), len(at))

@@ -5,8 +5,6 @@ import struct
 import subprocess
 import sys
 
-from build import BUILD
-
 TRUETYPE = "/usr/share/fonts/truetype"
 OPENTYPE = "/usr/share/fonts/opentype"
 TEXMF = "/usr/share/texmf/fonts/opentype/public"
@@ -36,27 +34,6 @@ CFF_FONTS = [
     ("fonts-noto-cjk", f"{OPENTYPE}/noto/NotoSansCJK-Regular.ttc", 0),
     ("fonts-noto-cjk", f"{OPENTYPE}/noto/NotoSerifCJK-Regular.ttc", 0),
 ]
-# The fonts whose copies are damaged; those with CFF outlines are SID-keyed.
-DAMAGED = [
-    ("fonts-noto-mono", f"{TRUETYPE}/noto/NotoSansMono-Regular.ttf"),
-    ("fonts-noto-core", f"{TRUETYPE}/noto/NotoSansOgham-Regular.ttf"),
-    ("fonts-noto-core", f"{TRUETYPE}/noto/NotoSansHebrew-Regular.ttf"),
-    ("fonts-noto-core", f"{TRUETYPE}/noto/NotoSansRunic-Regular.ttf"),
-    ("fonts-noto-core", f"{TRUETYPE}/noto/NotoSerifGrantha-Regular.ttf"),
-    ("fonts-liberation", f"{TRUETYPE}/liberation/LiberationMono-Regular.ttf"),
-]
-DAMAGED_CFF = [
-    ("fonts-texgyre", f"{TEXMF}/tex-gyre/texgyretermes-regular.otf"),
-    ("fonts-cantarell", f"{OPENTYPE}/cantarell/Cantarell-Regular.otf"),
-    ("fonts-urw-base35", f"{OPENTYPE}/urw-base35/C059-Roman.otf"),
-]
-# CID-keyed fonts that are cut down to some glyphs before their copies are damaged: the package, the file, and how many.
-KEYED = [
-    ("fonts-noto-cjk", f"{OPENTYPE}/noto/NotoSansCJK-Regular.ttc", 200),
-    ("fonts-noto-cjk", f"{OPENTYPE}/noto/NotoSerifCJK-Regular.ttc", 200),
-]
-TOOLS = ["time", "librust-rustc-hash-dev", "libharfbuzz-dev", "python3-fonttools"]
-
 # The mapper holds so many glyphs.
 GLYPHS_AT_MOST = 65535
 
@@ -67,24 +44,6 @@ def install(packages):
     if missing:
         print(f"installing {' '.join(missing)}", file=sys.stderr, flush=True)
         subprocess.run(["apt-get", "install", "-y", "-qq", *missing], check=True, stdout=subprocess.DEVNULL)
-
-
-def keyed_font(_, path, count):
-    """A CID-keyed font of some glyphs of a collection's first one, with its subroutines and font dicts, by fontTools."""
-    from fontTools import subset
-
-    made = os.path.join(BUILD, os.path.basename(path).rsplit(".", 1)[0] + f"-{count}.otf")
-    if not os.path.exists(made):
-        os.makedirs(BUILD, exist_ok=True)
-        dropped = "GSUB GPOS GDEF BASE VORG vhea vmtx DSIG cmap OS/2".split()
-        options = subset.Options(layout_features=[], notdef_outline=True, glyph_names=False, font_number=0, drop_tables=dropped)
-        font = subset.load_font(path, options)
-        total = font["maxp"].numGlyphs
-        subsetter = subset.Subsetter(options)
-        subsetter.populate(gids=[total * k // count for k in range(count)])
-        subsetter.subset(font)
-        subset.save_font(font, made, options)
-    return made
 
 
 def u16(data, at):

@@ -150,7 +150,7 @@ def all_fonts(folders=()):
     for name, font in LEAST.items():
         found.append(("made", stored(f"{name}.font", lambda: font)))
     for folder in folders:
-        for path in sorted(glob.glob(os.path.join(folder, "*.[ot]tf"))):
+        for path in sorted(it for it in glob.glob(os.path.join(folder, "*")) if it.endswith((".otf", ".ttf"))):
             size = os.path.getsize(path)
             found.append(("variable", single(path, 0, min(100, GLYPHS // size) if size > LARGE else 0)))
     return found

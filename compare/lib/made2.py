@@ -2,7 +2,7 @@
 import struct
 
 import made
-from made import CHARSTRINGS, FDARRAY, PRIVATE, SUBRS, entry, offset, u16s, u32s
+from made import CHARSTRINGS, FDARRAY, PRIVATE, SUBRS, entry, u16s, u32s
 
 # Operators of charstrings and dicts of CFF2 (OpenType, "CFF2" and "CFF2 CharString Format").
 VSINDEX, BLEND = b"\x0f", b"\x10"

@@ -1,6 +1,5 @@
 #!/usr/bin/env python3
 """Compares the public contracts of two checkouts, each a folder or a commit: contracts.py OLD NEW [--names FILE] [--quiet]
-With --twins [TREE] it lists instead what stands twice: definitions of specs, and functions with equal bodies (lib/twins.py).
 
 What is compared, in the crates that crates.txt lists: of each public function and method its signature and its clauses by
 their names; public types with their fields, ghost fields and derives; traits; instances with their ghost members (models) and
@@ -24,16 +23,11 @@ import subprocess
 import sys
 import tempfile
 
-sys.dont_write_bytecode = True
+import rattle_tree
+from rattle_text import Trouble
+from rattle_view import View
 
-sys.path.insert(0, os.path.join(os.path.dirname(os.path.realpath(__file__)), "lib"))
-
-import rattle_tree  # noqa: E402
-import twins  # noqa: E402
-from rattle_text import Trouble  # noqa: E402
-from rattle_view import View  # noqa: E402
-
-ROOT = os.path.dirname(os.path.dirname(os.path.realpath(__file__)))
+ROOT = os.path.dirname(os.path.dirname(os.path.dirname(os.path.realpath(__file__))))
 LINE = re.compile(r"(?:(crate|module) )?(\S+) (->|=>|==) (\S+)(?: by (\S+))?$|([-+]) (\S.*)$")
 
 
@@ -355,12 +349,8 @@ def main():
     given.add_argument("trees", nargs="*", metavar="OLD NEW", help="folders or commits")
     given.add_argument("--names", metavar="FILE", help="the changes of names")
     given.add_argument("--quiet", action="store_true", help="only the counts")
-    given.add_argument("--twins", action="store_true", help="what stands twice in one checkout")
     asked = given.parse_args()
     try:
-        if asked.twins:
-            with tempfile.TemporaryDirectory(prefix="contracts-") as room:
-                return twins.printed(rattle_tree.Tree(checkout((asked.trees or [ROOT])[0], room)))
         if len(asked.trees) != 2:
             given.error("give two checkouts")
         return compare(*asked.trees, asked.names, asked.quiet)
