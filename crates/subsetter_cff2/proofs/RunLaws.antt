@@ -1,13 +1,13 @@
 -- What the runs of region indexes say of item variation data.
-use Rattle.std.proofs.Common.{◌≡◌, ℕ, zero, suc, ◌+◌, ◌-◌, ◌*◌, ◌/◌, ◌<◌, ◌≤◌, Bool, true, false, cond, ◌&&◌, List, length, take, drop, map, refl, ap, sym, ◌∙◌, arith, inl, inr, ◌⊎◌}
+use Rattle.std.proofs.Common.{◌≡◌, ℕ, zero, suc, ◌+◌, ◌-◌, ◌*◌, ◌/◌, ◌<◌, ◌≤◌, Bool, true, false, cond, ◌&&◌, List, length, take, drop, map, [], ◌∷◌, ◌++◌, refl, ap, sym, ◌∙◌, arith, inl, inr}
 use Rattle.std.specs.Prelude.{nat_lt, nat_le}
 use Rattle.std.specs.List.{range_with_len}
 use Rattle.std.proofs.lemmas.Bool.{lt-ltb, le-ltb, le-leb, lt-leb, cases_lt}
-use Rattle.std.proofs.lemmas.List.{length-drop, length-take, drop-drop, drop-take, take-take}
+use Rattle.std.proofs.lemmas.List.{length-drop, length-take, length-append, get_or_append_left, get_or_push, drop-drop, drop-take, take-take}
 use Rattle.subsetter_base.specs.Bytes.{be}
 use Rattle.subsetter_variation.specs.Items.ItemVariations.{region_index, region_indexes}
 use Rattle.subsetter_cff2.specs.Variation.{are_regions_below}
-use Rattle.subsetter_cff2.specs.RegionRuns.{index_at, one_more, run}
+use Rattle.subsetter_cff2.specs.RegionRuns.{index_at, one_more, run, AreRuns}
 
 -- so many indexes from a place on are below the bound
 abbrev all_below : ℕ → List ℕ → ℕ → ℕ → Bool
@@ -70,5 +70,20 @@ by_run bound bytes start c inside few =
     let place : length bytes - (length bytes - start) ≡ start + 0 * 2 = omega arith in
     in_run bound bytes c (length bytes - start) (omega arith) (omega arith) few
     ∙ ap (all_below bound bytes c) place
-    ∙ sym (listed bound bytes part start c 0 (λ j l. one_inside bytes start c j l))
+    ∙ sym (listed bound bytes part start c 0 (λ j l. one_inside bytes start c j (omega (arith, l))))
     ∙ ap (λ (n : ℕ). are_regions_below bound (map (region_index part) (range_with_len 0 n))) (sym size)
+
+-- ---- the list of runs
+pub none_yet : (bound : ℕ) (bytes : List ℕ) → AreRuns bound bytes [] 0
+none_yet bound bytes = record { len = refl; each = λ left lt. absurd (omega arith) }
+
+pub one_more_run : (bound : ℕ) (bytes runs : List ℕ) (n r : ℕ) → AreRuns bound bytes runs n → r ≡ run bound bytes n → AreRuns bound bytes (runs ++ r ∷ []) (n + 1)
+one_more_run bound bytes runs n r all is = record {
+  len = omega (arith, all.len, length-append runs (r ∷ []));
+  each = λ left lt. elim (cases_lt left n) [
+    | inl before ↦ get_or_append_left runs (r ∷ []) 0 left (omega (arith, before, all.len)) ∙ all.each left before
+    | inr last ↦ (
+        let here : left ≡ n = omega (arith, lt, last) in
+        get_or_push runs r 0 left (omega (arith, all.len, here)) ∙ is ∙ ap (run bound bytes) (sym here))
+  ];
+}

@@ -1,11 +1,11 @@
 -- A store, its bytes and the number of its item variation data.
-use Rattle.std.proofs.Common.{◌≡◌, ℕ, ◌+◌, ◌*◌, ◌≤◌, Bool, true, false, cond, ltb, eqb, List, Option, Some, None, refl, ap, sym, ◌∙◌, arith}
+use Rattle.std.proofs.Common.{◌≡◌, ℕ, ◌+◌, ◌*◌, ◌<◌, ◌≤◌, length, take, drop, Bool, true, false, cond, ltb, eqb, List, Option, Some, None, refl, ap, sym, ◌∙◌, arith}
 use Rattle.std.specs.Prelude.{unwrap_or}
-use Rattle.std.proofs.lemmas.Bool.{le-ltb}
+use Rattle.std.proofs.lemmas.Bool.{le-ltb, le-leb, lt-leb}
 use Rattle.std.proofs.lemmas.Option.{none-some, same_Some}
 use Rattle.subsetter_base.specs.Options.{◌>>=◌}
 use Rattle.subsetter_base.specs.Bytes.{number, range}
-use Rattle.subsetter_variation.specs.Items.ItemVariations.{Store, item_store, data_regions, nullable_offset}
+use Rattle.subsetter_variation.specs.Items.ItemVariations.{Store, item_store, data_offset, data_regions, nullable_offset}
 
 -- ---- a store keeps the bytes that it begins
 record Keeps (bytes : List ℕ) (o : Option Store) : Type 0 where
@@ -39,3 +39,35 @@ pub no_data : (s : Store) (outer : ℕ) → unwrap_or (number s.bytes 6 2) 0 ≤
 unfolding data_regions
 no_data s outer le =
     ap (λ (o : Option ℕ). o >>= λ at. number s.bytes (at + 4) 2 >>= λ count. range s.bytes (at + 6) (count * 2)) (no_more (number s.bytes 6 2) (nullable_offset s.bytes (8 + outer * 4)) outer le)
+
+-- ---- where the region indexes are
+in_range : (bytes : List ℕ) (at size : ℕ) → at + size ≤ length bytes → range bytes at size ≡ Some (take size (drop at bytes))
+in_range bytes at size le = rw (le-leb (at + size) (length bytes) le) refl
+
+past_range : (bytes : List ℕ) (at size : ℕ) → length bytes < at + size → range bytes at size ≡ None
+past_range bytes at size lt = rw (lt-leb (at + size) (length bytes) lt) refl
+
+abbrev by_offset : Store → Option ℕ → Option (List ℕ)
+by_offset s offset = offset >>= λ at. number s.bytes (at + 4) 2 >>= λ count. range s.bytes (at + 6) (count * 2)
+
+abbrev by_count : Store → ℕ → Option ℕ → Option (List ℕ)
+by_count s at counted = counted >>= λ count. range s.bytes (at + 6) (count * 2)
+
+pub no_offset : (s : Store) (outer : ℕ) → None ≡ data_offset s outer → None ≡ data_regions s outer
+unfolding data_regions
+no_offset s outer e = ap (by_offset s) e
+
+pub no_count : (s : Store) (outer at : ℕ) → Some at ≡ data_offset s outer → None ≡ number s.bytes (at + 4) 2 → None ≡ data_regions s outer
+unfolding data_regions
+no_count s outer at e n = ap (by_count s at) n ∙ ap (by_offset s) e
+
+pub cut_off : (s : Store) (outer at count : ℕ) → Some at ≡ data_offset s outer → Some count ≡ number s.bytes (at + 4) 2 → length s.bytes < at + 6 + count * 2 → None ≡ data_regions s outer
+unfolding data_regions
+cut_off s outer at count e n lt = sym (past_range s.bytes (at + 6) (count * 2) lt) ∙ ap (by_count s at) n ∙ ap (by_offset s) e
+
+pub they_are : (s : Store) (outer at count start : ℕ) → Some at ≡ data_offset s outer → Some count ≡ number s.bytes (at + 4) 2 → start ≡ at + 6 → start + count * 2 ≤ length s.bytes
+    → Some (take (count * 2) (drop start s.bytes)) ≡ data_regions s outer
+unfolding data_regions
+they_are s outer at count start e n same le =
+    ap (λ (i : ℕ). Some (take (count * 2) (drop i s.bytes))) same
+    ∙ sym (in_range s.bytes (at + 6) (count * 2) (omega (arith, same, le))) ∙ ap (by_count s at) n ∙ ap (by_offset s) e

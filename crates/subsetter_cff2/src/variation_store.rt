@@ -2,6 +2,7 @@
 
 ghost use Rattle.std.specs.Prelude.{◌≡◌, ◌+◌, ◌*◌, ◌<◌, ◌≤◌, take, drop, length, IfSome, ℕ, None};
 ghost use Rattle.std.specs.Option.{option_copied, option_map};
+ghost use Rattle.subsetter_base.specs.Bytes.{number};
 ghost use Rattle.subsetter_variation.specs.Items.ItemVariations.{data_offset, data_regions, item_store, region_items};
 
 use std::marker::Model;
@@ -51,6 +52,14 @@ pub fn variation_store(bytes: &[u8]) -> Option<VariationStore<'_>>
     Some(VariationStore { items, bytes })
 }
 
+/// How many regions item variation data at an offset have.
+fn region_index_count(bytes: &[u8], at: u32) -> Option<u16>
+    ensures value { result ≡ number bytes.now (at + 4) 2 }
+    ensures small { IfSome result (λ n. n < 65536) }
+{
+    Reader::new_at(bytes, (at as usize).saturating_add(REGION_INDEX_COUNT)).read::<u16>()
+}
+
 impl<'a> VariationStore<'a> {
     /// How many axes a region has.
     pub fn axis_count(&self) -> u16
@@ -95,6 +104,7 @@ impl<'a> VariationStore<'a> {
     fn data_offset(&self, outer: u32) -> Option<u32>
         ensures value { result ≡ data_offset self.now outer }
         ensures few { IfSome result (λ _. outer < 65536) }
+        ensures small { IfSome result (λ offset. offset < 4294967296) }
     {
         let data_count = Reader::new_at(self.bytes, DATA_COUNT).read::<u16>()?;
         if outer >= u32::from(data_count) {
@@ -105,17 +115,14 @@ impl<'a> VariationStore<'a> {
     }
 
     /// Where the region indexes of item variation data are; None where there are no such data, or they are cut.
-    #[tactic(auto, unfolding(Rattle::subsetter_variation::specs::Items::ItemVariations::data_regions))]
     pub fn place(&self, outer: u32) -> Option<RegionPlace>
         ensures value { option_map (λ p. take (p.count * 2) (drop p.start self.now.bytes)) result ≡ data_regions self.now outer }
         ensures inside { IfSome result (λ p. p.start + p.count * 2 ≤ length self.now.bytes) }
         ensures data_count { IfSome result (λ _. outer < 65536) }
     {
-        let at = self.data_offset(outer)? as usize;
-        let count = Reader::new_at(self.bytes, at.saturating_add(REGION_INDEX_COUNT)).read::<
-            u16,
-        >()?;
-        let start = at.saturating_add(REGION_INDEXES);
+        let at = self.data_offset(outer)?;
+        let count = region_index_count(self.bytes, at)?;
+        let start = (at as usize).saturating_add(REGION_INDEXES);
         let end = start.saturating_add(usize::from(count) * 2);
         if end > self.bytes.len() {
             return None;

@@ -35,6 +35,11 @@ pub fn variation_store(bytes: &[u8]) -> Option<VariationStore<'_>> {
     Some(VariationStore { items, bytes })
 }
 
+/// How many regions item variation data at an offset have.
+fn region_index_count(bytes: &[u8], at: u32) -> Option<u16> {
+    Reader::new_at(bytes, (at as usize).saturating_add(REGION_INDEX_COUNT)).read::<u16>()
+}
+
 impl<'a> VariationStore<'a> {
     /// How many axes a region has.
     pub fn axis_count(&self) -> u16 {
@@ -79,10 +84,9 @@ impl<'a> VariationStore<'a> {
 
     /// Where the region indexes of item variation data are; None where there are no such data, or they are cut.
     pub fn place(&self, outer: u32) -> Option<RegionPlace> {
-        let at = self.data_offset(outer)? as usize;
-        let count =
-            Reader::new_at(self.bytes, at.saturating_add(REGION_INDEX_COUNT)).read::<u16>()?;
-        let start = at.saturating_add(REGION_INDEXES);
+        let at = self.data_offset(outer)?;
+        let count = region_index_count(self.bytes, at)?;
+        let start = (at as usize).saturating_add(REGION_INDEXES);
         let end = start.saturating_add(usize::from(count) * 2);
         if end > self.bytes.len() {
             return None;

@@ -1,15 +1,15 @@
 -- What is read of bytes that are cut: the same as of all bytes where it ends before the cut, else nothing.
-use Rattle.std.proofs.Common.{◌≡◌, ℕ, zero, suc, ◌+◌, ◌-◌, ◌*◌, ◌/◌, ◌%◌, ◌<◌, ◌≤◌, Bool, true, false, cond, eqb, ltb, List, [], ◌∷◌, ◌++◌, length, take, drop, min, Option, Some, None, refl, ap, arith, ◌∙◌, sym, inl, inr, ◌⊎◌}
-use Rattle.std.specs.Prelude.{ℤ, pos, neg_ℤ, nat_le, nat_lt, ◌-ℤ◌}
+use Rattle.std.proofs.Common.{◌≡◌, ℕ, zero, suc, ◌+◌, ◌-◌, ◌*◌, ◌/◌, ◌%◌, ◌<◌, ◌≤◌, Bool, true, false, cond, eqb, ltb, List, [], ◌∷◌, ◌++◌, length, take, drop, Option, Some, None, refl, ap, arith, ◌∙◌, sym, inl, inr}
+use Rattle.std.specs.Prelude.{ℤ, pos, neg_ℤ, nat_le, ◌-ℤ◌}
 use Rattle.std.specs.Int.{w16, w32, cast_signed}
 use Rattle.std.proofs.lemmas.Bool.{lt-ltb, le-ltb, le-leb, lt-leb, cases_lt}
-use Rattle.std.proofs.lemmas.List.{length-drop, length-take, drop-drop, drop-take, take-take}
+use Rattle.std.proofs.lemmas.List.{length-drop, length-take, drop-take, take-take}
 use Rattle.std.proofs.lemmas.Option.{none-some, same_Some}
 use Rattle.subsetter_base.specs.Options.{◌>>=◌}
 use Rattle.subsetter_base.specs.Bytes.{byte, be}
 use Rattle.subsetter_cffdata.specs.Bytes.{part, card}
 use Rattle.subsetter_cffdata.specs.Reals.Decimals.{characters, with_text, text_at, text_limit, real_of, real_at}
-use Rattle.subsetter_cffdata.specs.Numerals.Numbers.{Number, Integer, Real, short_integer, signed16, signed32, integer_from, dict_number_from}
+use Rattle.subsetter_cffdata.specs.Numerals.Numbers.{Integer, Real, short_integer, signed16, signed32, integer_from, dict_number_from}
 use Rattle.subsetter_cffdata.specs.Dicts.Dict.{Token, Operand, Operator, token_at, Entry, is_operator, operator_from, entry_at}
 use Rattle.subsetter_cffdata.specs.Dicts.Tokens.{with_operands}
 use Rattle.subsetter_cffdata.proofs.DictsLaws.Shorter.{at_no_token, at_operator, at_operand, token_shorter}

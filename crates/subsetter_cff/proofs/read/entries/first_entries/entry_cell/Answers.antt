@@ -1,13 +1,7 @@
-use Rattle.std.proofs.Common.{◌≡◌, ◌∙◌, ◌+◌, ◌-◌, ◌<◌, ◌≤◌, suc, List, [], ◌∷◌, ℕ, length, take, drop, get_or, Some, None, Option, true, false, refl, sym, ap, subst, arith}
-use Rattle.std.specs.Option.{option_copied, option_map}
+use Rattle.std.proofs.Common.{◌∙◌, get_or, None, sym, ap, arith}
 use Rattle.std.proofs.lemmas.Option.{slice_get-get_or}
-use Rattle.subsetter_cffdata.specs.Dicts.Dict.{Token, Operand, Operator, token_at, entry_at, entries}
-use Rattle.subsetter_cffdata.specs.Dicts.TokenView.{token_read}
-use Rattle.subsetter_cffdata.specs.Numerals.Numbers.{Number as SpecNumber}
-use Rattle.subsetter_cffdata.specs.Views.{number_of, operator_of}
+use Rattle.subsetter_cffdata.specs.Views.{operator_of}
 use Rattle.subsetter_cff.specs.declared.read.entries.first_entries.Cell.{Cell}
-use Rattle.subsetter_cff.specs.declared.read.entries.first_entries.Found.{Found}
-use Rattle.subsetter_cff.specs.Read.Entries.FirstEntries.{Saying, only, last, said_within, IsEntryHere, IsCell, AreCells}
 use Rattle.subsetter_cff.proofs.ReadLaws.EntriesLaws.FirstCells as cells
 use Rattle.subsetter_cff.proofs.read.entries.first_entries.entry_cell.Goals as goal
 

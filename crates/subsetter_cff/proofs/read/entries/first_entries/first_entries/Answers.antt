@@ -1,4 +1,4 @@
-use Rattle.std.proofs.Common.{◌≡◌, ◌∙◌, ◌+◌, ◌∷◌, [], ◌++◌, List, subst, sym, ap, None}
+use Rattle.std.proofs.Common.{◌∙◌, ◌+◌, ◌∷◌, [], ◌++◌, List, subst, sym, ap, None}
 use Rattle.subsetter_cff.specs.declared.read.entries.first_entries.Cell.{Cell}
 use Rattle.subsetter_cff.specs.Read.Entries.FirstEntries.{AreCells}
 use Rattle.subsetter_cff.proofs.ReadLaws.EntriesLaws.FirstCells.{first_cell, one_more}

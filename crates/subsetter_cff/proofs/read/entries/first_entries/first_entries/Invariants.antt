@@ -1,4 +1,3 @@
-use Rattle.std.proofs.Common.{◌≡◌}
 use Rattle.subsetter_cff.specs.Read.Entries.FirstEntries.{AreCells}
 use Rattle.subsetter_cff.proofs.read.entries.first_entries.first_entries.Given as goal
 

@@ -1,4 +1,4 @@
-use Rattle.std.proofs.Common.{◌≡◌, ◌∙◌, ◌-◌, ◌<◌, suc, List, ℕ, length, take, drop, ap, sym, subst, arith, inl, inr}
+use Rattle.std.proofs.Common.{◌∙◌, ◌-◌, ◌<◌, suc, List, ℕ, length, take, drop, ap, sym, subst, arith, inl, inr}
 use Rattle.std.proofs.lemmas.Bool.{cases_lt}
 use Rattle.subsetter_cffdata.specs.Dicts.Dict.{entries}
 use Rattle.subsetter_cff.specs.declared.read.entries.first_entries.Cell.{Cell}
