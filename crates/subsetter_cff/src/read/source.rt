@@ -16,7 +16,7 @@ ghost use Rattle.subsetter_cff.specs.Read.Views.{select_view};
 
 use crate::read::entries::top_dict::{TopDictData, no_values, read_top_dict};
 use crate::read::fd_array::fd_select::{FDSelect, parse_fd_select};
-use crate::read::fd_array::font_dict::FontDict;
+pub use crate::read::fd_array::font_dict::FontDict;
 use crate::read::fd_array::font_dict_list::parse_font_dicts;
 use crate::read::fd_array::private::{PrivateDict, index_at, parse_one_private};
 use crate::read::front::{Front, parse_front};

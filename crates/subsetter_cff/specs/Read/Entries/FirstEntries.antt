@@ -1,5 +1,5 @@
 -- The first entry of a DICT that says what is looked for (Technical Note 5176, section 4 "DICT Data").
-use Rattle.std.specs.Prelude.{◌≡◌, ℕ, ◌+◌, ◌-◌, ◌<◌, ◌≤◌, Bool, true, false, nat_le, if◌then◌else◌, List, [], ◌∷◌, length, take, drop, slice_get, Option, Some, None, MatchOption}
+use Rattle.std.specs.Prelude.{◌≡◌, ℕ, suc, ◌+◌, ◌-◌, ◌<◌, ◌≤◌, Bool, true, false, nat_le, if◌then◌else◌, List, [], ◌∷◌, length, take, drop, slice_get, Option, Some, None, MatchOption}
 use Rattle.std.specs.Option.{option_or}
 use Rattle.subsetter_cffdata.specs.Numerals.Numbers.{Number}
 use Rattle.subsetter_cffdata.specs.Dicts.Dict.{Entry, entry_at, entries}
@@ -55,3 +55,7 @@ pub record IsCell (said : Saying) (bytes : List ℕ) (at : ℕ) (c : Cell) : Typ
 pub record AreCells (said : Saying) (bytes : List ℕ) (cells : List Cell) (n : ℕ) : Type 0 where
   pub len : length cells ≡ n
   pub each : (at : ℕ) (c : Cell) → slice_get cells at ≡ Some c → IsCell said bytes at c
+
+-- those of all bytes, if there are any
+abbrev pub AreCellsIfAny : Saying → List ℕ → List Cell → Type 0
+AreCellsIfAny said bytes cells = 0 < length cells → AreCells said bytes cells (suc (length bytes))

@@ -2,7 +2,7 @@
 //! table's end (Technical Note 5176, section 4 "DICT Data"). Dicts that overlap are so read once.
 //!
 //! ```text
-//! let cells = first_entries(alloc, table, &search)?;
+//! let cells = cells_for_dicts(alloc, table, &search, total)?;
 //! let said = find_first(&cells, start, end);      // of the dict table[start..end]
 //! ```
 
@@ -12,7 +12,7 @@ ghost use Rattle.subsetter_base.specs.declared.error.Error.TheVariants.{OutOfMem
 ghost use Rattle.subsetter_cffdata.specs.Numerals.Numbers.{Number as SpecNumber};
 ghost use Rattle.subsetter_cffdata.specs.Dicts.Dict.{entries, entry_at};
 ghost use Rattle.subsetter_cffdata.specs.Views.{number_of, operator_of};
-ghost use Rattle.subsetter_cff.specs.Read.Entries.FirstEntries.{Saying, only, is_bare, first_said, last, IsCell, AreCells};
+ghost use Rattle.subsetter_cff.specs.Read.Entries.FirstEntries.{Saying, only, is_bare, first_said, last, IsCell, AreCells, AreCellsIfAny};
 
 use std::alloc::Global;
 use subsetter_base::error::Error;
@@ -129,7 +129,7 @@ fn next_cell<S: Search>(
 }
 
 /// The cells of all places of a table, from its end.
-pub fn first_entries<S: Search>(alloc: Global, bytes: &[u8], search: &S) -> Result<Vec<Cell>, Error>
+fn first_entries<S: Search>(alloc: Global, bytes: &[u8], search: &S) -> Result<Vec<Cell>, Error>
     requires { length bytes.now < 2 ^ 32 }
     ensures ok { IfOk result (λ v. AreCells (S.saying search.now) bytes.now v.items (suc (length bytes.now))) }
     ensures err { IfErr result (λ e. e ≡ OutOfMemory) }
@@ -143,6 +143,22 @@ pub fn first_entries<S: Search>(alloc: Global, bytes: &[u8], search: &S) -> Resu
         cells.push(cell)?;
     }
     Ok(cells)
+}
+
+/// The cells of a table whose dicts have together so many bytes; none where the dicts are soon read, each from its start.
+pub fn cells_for_dicts<S: Search>(
+    alloc: Global,
+    bytes: &[u8],
+    search: &S,
+    total: usize,
+) -> Result<Vec<Cell>, Error>
+    ensures ok { IfOk result (λ v. AreCellsIfAny (S.saying search.now) bytes.now v.items) }
+    ensures err { IfErr result (λ e. e ≡ OutOfMemory) }
+{
+    if total <= bytes.len() || bytes.len() > u32::MAX as usize {
+        return Ok(Vec::new(alloc));
+    }
+    first_entries(alloc, bytes, search)
 }
 
 /// What the first entry says of the dict between two places of the table.

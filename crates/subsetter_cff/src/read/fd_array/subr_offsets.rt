@@ -13,7 +13,7 @@ ghost use Rattle.subsetter_cff.specs.Read.Entries.Operators.{subroutines_operato
 ghost use Rattle.subsetter_cff.specs.Read.Entries.TopDicts.{first_offset};
 ghost use Rattle.subsetter_cff.specs.Read.FdArray.SubrSayings.{joined};
 
-use crate::read::entries::first_entries::{Cell, Search, find_first, first_entries};
+use crate::read::entries::first_entries::{Cell, Search, cells_for_dicts, find_first};
 use crate::read::entries::operators::same_operator;
 use std::alloc::Global;
 use std::marker::Model;
@@ -80,15 +80,15 @@ pub struct SubrOffsets<'a> {
 }
 
 impl<'a> Model for SubrOffsets<'a> {
-    ghost use Rattle.std.specs.Prelude.{ℕ, List, suc, ◌<◌, length};
-    ghost use Rattle.subsetter_cff.specs.Read.Entries.FirstEntries.{AreCells};
+    ghost use Rattle.std.specs.Prelude.{ℕ, List};
+    ghost use Rattle.subsetter_cff.specs.Read.Entries.FirstEntries.{AreCellsIfAny};
     ghost use Rattle.subsetter_cff.specs.Read.FdArray.SubrSayings.{subr_saying};
 
     ghost Value = { List ℕ };
 
     ghost view = { λ s. s.table.now };
 
-    ghost invariant = { λ s. 0 < length s.cells.items → AreCells subr_saying s.table.now s.cells.items (suc (length s.table.now)) };
+    ghost invariant = { λ s. AreCellsIfAny subr_saying s.table.now s.cells.items };
 }
 
 impl<'a> SubrOffsets<'a> {
@@ -107,10 +107,7 @@ impl<'a> SubrOffsets<'a> {
         ensures ok { IfOk result (λ s. s ≡ table.now) }
         ensures err { IfErr result (λ e. e ≡ OutOfMemory) }
     {
-        if bytes <= table.len() || table.len() > u32::MAX as usize {
-            return Ok(Self::new(alloc, table));
-        }
-        let cells = first_entries(alloc, table, &SubrSearch)?;
+        let cells = cells_for_dicts(alloc, table, &SubrSearch, bytes)?;
         Ok(SubrOffsets { table, cells })
     }
 

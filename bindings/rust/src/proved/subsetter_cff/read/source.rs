@@ -8,7 +8,7 @@ use crate::proved::subsetter_cff::read::entries::top_dict::{
     no_values, read_top_dict, TopDictData,
 };
 use crate::proved::subsetter_cff::read::fd_array::fd_select::{parse_fd_select, FDSelect};
-use crate::proved::subsetter_cff::read::fd_array::font_dict::FontDict;
+pub use crate::proved::subsetter_cff::read::fd_array::font_dict::FontDict;
 use crate::proved::subsetter_cff::read::fd_array::font_dict_list::parse_font_dicts;
 use crate::proved::subsetter_cff::read::fd_array::private::{
     index_at, parse_one_private, PrivateDict,

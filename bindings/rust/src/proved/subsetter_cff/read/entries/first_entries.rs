@@ -3,7 +3,7 @@
 //! table's end (Technical Note 5176, section 4 "DICT Data"). Dicts that overlap are so read once.
 //!
 //! ```text
-//! let cells = first_entries(alloc, table, &search)?;
+//! let cells = cells_for_dicts(alloc, table, &search, total)?;
 //! let said = find_first(&cells, start, end);      // of the dict table[start..end]
 //! ```
 
@@ -115,11 +115,7 @@ fn next_cell<S: Search>(
 }
 
 /// The cells of all places of a table, from its end.
-pub fn first_entries<S: Search>(
-    alloc: Global,
-    bytes: &[u8],
-    search: &S,
-) -> Result<Vec<Cell>, Error> {
+fn first_entries<S: Search>(alloc: Global, bytes: &[u8], search: &S) -> Result<Vec<Cell>, Error> {
     let count = bytes.len() + 1;
     let mut cells = Vec::with_capacity(alloc, count)?;
     cells.push(NOTHING)?;
@@ -129,6 +125,19 @@ pub fn first_entries<S: Search>(
         cells.push(cell)?;
     }
     Ok(cells)
+}
+
+/// The cells of a table whose dicts have together so many bytes; none where the dicts are soon read, each from its start.
+pub fn cells_for_dicts<S: Search>(
+    alloc: Global,
+    bytes: &[u8],
+    search: &S,
+    total: usize,
+) -> Result<Vec<Cell>, Error> {
+    if total <= bytes.len() || bytes.len() > u32::MAX as usize {
+        return Ok(Vec::new(alloc));
+    }
+    first_entries(alloc, bytes, search)
 }
 
 /// What the first entry says of the dict between two places of the table.

@@ -8,7 +8,7 @@ use crate::rattle::prelude::Vec;
 
 use crate::proved::subsetter_base::error::Error;
 use crate::proved::subsetter_cff::read::entries::first_entries::{
-    find_first, first_entries, Cell, Search,
+    cells_for_dicts, find_first, Cell, Search,
 };
 use crate::proved::subsetter_cff::read::entries::operators::same_operator;
 use crate::proved::subsetter_cffdata::dicts::dict::operators::SUBRS;
@@ -73,10 +73,7 @@ impl<'a> SubrOffsets<'a> {
 
     /// Of a table whose dicts have together so many bytes.
     pub fn for_dicts(alloc: Global, table: &'a [u8], bytes: usize) -> Result<Self, Error> {
-        if bytes <= table.len() || table.len() > u32::MAX as usize {
-            return Ok(Self::new(alloc, table));
-        }
-        let cells = first_entries(alloc, table, &SubrSearch)?;
+        let cells = cells_for_dicts(alloc, table, &SubrSearch, bytes)?;
         Ok(SubrOffsets { table, cells })
     }
 
