@@ -1,2 +1,3 @@
 mod FirstStems
 mod StemSteps
+mod DictStemLaws

@@ -1,3 +1,4 @@
 pub mod Values
 pub mod Stems
+pub mod DictStems
 pub mod View

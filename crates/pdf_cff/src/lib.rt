@@ -5,6 +5,7 @@
 //! ```
 #![tactic(auto)]
 
+mod dict_stems;
 mod stems;
 mod values;
 

@@ -1,6 +1,6 @@
 //! Vertical stems of private dicts (Technical Note 5176, section 15).
 
-ghost use Rattle.std.specs.Prelude.{◌≡◌, ◌<◌, map};
+ghost use Rattle.std.specs.Prelude.{◌≡◌, ◌<◌, [], ◌∷◌, map};
 ghost use Rattle.std.specs.Str.{bytes_eq};
 ghost use Rattle.subsetter_cffdata.specs.Dicts.Dict.{entries};
 ghost use Rattle.subsetter_cffdata.specs.Views.{number_of, operator_of};
@@ -14,20 +14,17 @@ use subsetter_cffdata::numerals::number::Number;
 const STD_VW: u8 = 11;
 
 /// Whether an operator is StdVW.
-fn is_stem(operator: &Operator) -> bool
+pub(crate) fn is_stem(operator: &Operator) -> bool
     ensures { result ≡ bytes_eq (operator_of operator.now) stem_operator }
 {
     operator.as_slice() == [STD_VW].as_slice()
 }
 
-/// One number in thousandths, where it isn't below 0 and has at most three decimals.
-fn in_thousandths(operands: &[Number]) -> Option<u32>
-    ensures { result ≡ in_thousandths (map number_of operands.now) }
+/// A number in thousandths, where it isn't below 0 and has at most three decimals.
+fn in_thousandths(width: &Number) -> Option<u32>
+    ensures { result ≡ in_thousandths (number_of width.now ∷ []) }
 {
-    match operands {
-        [width] => width.times_thousand()?.as_u32(),
-        _ => None,
-    }
+    width.times_thousand()?.as_u32()
 }
 
 /// So many thousandths of a unit in thousandths of the em, to the nearest, halves up.
@@ -40,16 +37,27 @@ fn of_em(units: u16, n: u32) -> u32
     ((2 * u64::from(n) + em) / (2 * em)) as u32
 }
 
-/// The stem that operands say, in thousandths of the em, if it is above 0.
-fn stem_by(units: u16, operands: &[Number]) -> Option<u32>
+/// The stem that a width says, in thousandths of the em, if it is above 0.
+pub(crate) fn stem_by_width(units: u16, width: &Number) -> Option<u32>
     requires { 0 < units }
-    ensures { result ≡ stem_by units (map number_of operands.now) }
+    ensures { result ≡ stem_by units (number_of width.now ∷ []) }
 {
-    let stem = of_em(units, in_thousandths(operands)?);
+    let stem = of_em(units, in_thousandths(width)?);
     if stem == 0 {
         return None;
     }
     Some(stem)
+}
+
+/// That of just one operand.
+fn stem_by(units: u16, operands: &[Number]) -> Option<u32>
+    requires { 0 < units }
+    ensures { result ≡ stem_by units (map number_of operands.now) }
+{
+    match operands {
+        [width] => stem_by_width(units, width),
+        _ => None,
+    }
 }
 
 /// That of an entry that is StdVW.

@@ -1,6 +1,6 @@
 //! What a PDF takes of a `CFF ` table.
 
-ghost use Rattle.std.specs.Prelude.{◌≡◌, ◌≢◌, ◌<◌, IfErr, Ok, OnOk, map};
+ghost use Rattle.std.specs.Prelude.{◌≡◌, ◌≢◌, ◌<◌, IfOk, IfErr, Ok, OnOk};
 ghost use Rattle.std.specs.Option.{option_and_then, option_copied, option_map};
 ghost use Rattle.subsetter_base.specs.Gives.{Gives};
 ghost use Rattle.subsetter_base.specs.declared.error.Error.TheVariants.{OutOfMemory};
@@ -11,11 +11,12 @@ ghost use Rattle.subsetter_cff.specs.Read.Source.{IsSource, cff_of};
 ghost use Rattle.pdf_cff.specs.Values.{first_stem, privates, cff_values_in, cff_values_of};
 ghost use Rattle.pdf_cff.specs.View.{cff_values_view};
 
+use crate::dict_stems::first_stem_in;
 use crate::stems::stem_in;
 use std::alloc::Global;
 use subsetter_base::Error;
 use subsetter_base::read::Reader;
-use subsetter_cff::read::source::{CIDMetadata, Table};
+use subsetter_cff::read::source::Table;
 use subsetter_cffdata::indexes::index::parse_index;
 
 /// What a PDF takes of a table.
@@ -35,28 +36,16 @@ fn first_name(names: &[u8]) -> Option<&[u8]>
     index.get(0)
 }
 
-/// The first stem of font dicts.
-fn keyed_stem(units: u16, keyed: &CIDMetadata<'_>) -> Option<u32>
-    requires { 0 < units }
-    ensures { result ≡ first_stem units (map (λ f. private_view f.private) keyed.now.font_dicts.items) }
-{
-    for dict in &keyed.font_dicts {
-        if let Some(stem) = stem_in(units, dict.private.dict) {
-            return Some(stem);
-        }
-    }
-    None
-}
-
 /// The first stem of the private dicts of a table.
-fn first_stem(units: u16, table: &Table<'_>) -> Option<u32>
+fn first_stem(alloc: Global, units: u16, table: &Table<'_>) -> Result<Option<u32>, Error>
     requires units { 0 < units }
     requires source { IsSource table.now }
-    ensures { result ≡ first_stem units (privates (cff_of table.now)) }
+    ensures ok { IfOk result (λ stem. stem ≡ first_stem units (privates (cff_of table.now))) }
+    ensures err { IfErr result (λ e. e ≡ OutOfMemory) }
 {
     match &table.cid {
-        Some(keyed) => keyed_stem(units, keyed),
-        None => stem_in(units, table.private.dict),
+        Some(keyed) => first_stem_in(alloc, units, table.front.bytes, &keyed.font_dicts),
+        None => Ok(stem_in(units, table.private.dict)),
     }
 }
 
@@ -81,10 +70,13 @@ pub fn cff_values_in<'a>(alloc: Global, bytes: &'a [u8], units: u16) -> Result<C
     ensures { Gives cff_values_view result (Ok (cff_values_in units bytes.now)) }
 {
     match Table::parse(alloc, bytes) {
-        Ok(table) => Ok(CffValues {
-            name: first_name(table.front.names),
-            stem: first_stem(units, &table),
-        }),
+        Ok(table) => {
+            let stem = first_stem(alloc, units, &table)?;
+            Ok(CffValues {
+                name: first_name(table.front.names),
+                stem,
+            })
+        }
         Err(error) => {
             unless_memory(error)?;
             Ok(CffValues {

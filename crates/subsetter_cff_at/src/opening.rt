@@ -19,7 +19,7 @@ use subsetter_base::error::Error;
 use subsetter_cff::write::new_dicts::matrix::Matrix;
 use subsetter_cff2::table::{Table2, open};
 use subsetter_cff2::variation::{FontVariation, optional_store_at};
-use subsetter_variation::items::item_variations::Store;
+use subsetter_cff2::variation_store::VariationStore;
 
 /// A table, its FontMatrix, and what varies in it.
 #[derive(Drop)]
@@ -33,7 +33,7 @@ pub struct OpenTable<'a> {
 }
 
 /// The item variation store of a table. It is found anew, as what varies takes it.
-fn find_store(bytes: &[u8], axes: usize) -> Option<Option<Store<'_>>>
+fn find_store(bytes: &[u8], axes: usize) -> Option<Option<VariationStore<'_>>>
     ensures { result ≡ option_map (λ cff. cff.store) (cff2_parts bytes.now axes) }
 {
     let table = open(bytes, axes)?;

@@ -6,3 +6,4 @@ pub mod OwnPrivates
 pub mod RangeLookups
 pub mod RangeSteps
 pub mod SoundDicts
+pub mod SubrSaid

@@ -6,3 +6,4 @@ pub mod Keying
 pub mod Private
 pub mod PrivateView
 pub mod Ranges
+pub mod SubrSayings

@@ -16,9 +16,9 @@ ghost use Rattle.subsetter_cff.specs.Read.Views.{select_view};
 
 use crate::read::entries::top_dict::{TopDictData, no_values, read_top_dict};
 use crate::read::fd_array::fd_select::{FDSelect, parse_fd_select};
-use crate::read::fd_array::font_dict::FontDict;
+pub use crate::read::fd_array::font_dict::FontDict;
 use crate::read::fd_array::font_dict_list::parse_font_dicts;
-use crate::read::fd_array::private::{PrivateDict, index_at, parse_private};
+use crate::read::fd_array::private::{PrivateDict, index_at, parse_one_private};
 use crate::read::front::{Front, parse_front};
 use std::alloc::Global;
 use subsetter_base::error::Error;
@@ -78,14 +78,14 @@ fn empty_private<'a>() -> PrivateDict<'a>
 }
 
 /// The private dict that the top dict names; an empty one where it names none that can be read.
-fn parse_sid_metadata<'a>(front: &Front<'a>, top: &TopDictData) -> SIDMetadata<'a>
+fn parse_sid_metadata<'a>(alloc: Global, front: &Front<'a>, top: &TopDictData) -> SIDMetadata<'a>
     requires { IsTopDict (front_of front.now).top top.now }
     ensures { private_view result ≡ unwrap_or (private_at (front_of front.now).bytes (front_of front.now).top) no_private }
 {
     let Some(place) = &top.private else {
         return empty_private();
     };
-    match parse_private(front.bytes, place.start..place.end) {
+    match parse_one_private(alloc, front.bytes, place.start..place.end) {
         Some(private) => private,
         None => empty_private(),
     }
@@ -148,7 +148,7 @@ fn open_top<'a>(alloc: Global, front: Front<'a>) -> Result<Table<'a>, Error>
         return Err(Error::MalformedFont);
     }
     let cid = open_keyed(alloc, &front, &top, &char_strings)?;
-    let private = parse_sid_metadata(&front, &top);
+    let private = parse_sid_metadata(alloc, &front, &top);
     Ok(Table {
         front,
         top,

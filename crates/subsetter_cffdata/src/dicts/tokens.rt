@@ -5,7 +5,7 @@ ghost use Rattle.std.specs.Option.{option_map};
 ghost use Rattle.subsetter_cffdata.specs.Dicts.Operands.{operands_at};
 ghost use Rattle.subsetter_cffdata.specs.Dicts.Dict.{is_operator, operator_from, token_at, entry_at};
 ghost use Rattle.subsetter_cffdata.specs.Reading.{rest, Takes};
-ghost use Rattle.subsetter_cffdata.specs.Dicts.TokenView.{token_of};
+ghost use Rattle.subsetter_cffdata.specs.Dicts.TokenView.{token_of, token_read};
 ghost use Rattle.subsetter_cffdata.specs.Views.{number_of, operator_of};
 ghost use Rattle.subsetter_cffdata.specs.Dicts.Tokens.{operator_part};
 
@@ -62,6 +62,30 @@ fn next_token(r: &mut Reader<'_>, operand: &mut Number) -> Option<Token>
     }
     operand.read_dict_number(b, r)?;
     Some(Token::Operand)
+}
+
+/// A token that was read.
+#[derive(Clone, Copy, Debug)]
+pub struct TokenRead {
+    /// The operator; None where the token is an operand, which was put into a variable of its own.
+    pub operator: Option<Operator>,
+    /// Where the next token begins.
+    pub end: usize,
+}
+
+/// The token at the offset; None where none can be read.
+pub fn read_token(bytes: &[u8], offset: usize, operand: &mut Number) -> Option<TokenRead>
+    ensures { token_at (drop offset bytes.now) ≡ option_map (λ t. (token_read operand.new t.operator, drop t.end bytes.now)) result }
+{
+    let mut r = Reader::new_at(bytes, offset);
+    let operator = match next_token(&mut r, operand)? {
+        Token::Operator(operator) => Some(operator),
+        Token::Operand => None,
+    };
+    Some(TokenRead {
+        operator,
+        end: r.offset(),
+    })
 }
 
 /// An operator that was read, and where the next entry begins.

@@ -5,6 +5,7 @@
 //! let values = cff_values_in(alloc, cff, units)?;     // values.name: "Made-Bold", values.stem: 83
 //! ```
 
+mod dict_stems;
 mod stems;
 mod values;
 

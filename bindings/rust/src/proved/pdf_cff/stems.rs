@@ -9,16 +9,13 @@ use crate::proved::subsetter_cffdata::numerals::number::Number;
 const STD_VW: u8 = 11;
 
 /// Whether an operator is StdVW.
-fn is_stem(operator: &Operator) -> bool {
+pub(crate) fn is_stem(operator: &Operator) -> bool {
     operator.as_slice() == [STD_VW].as_slice()
 }
 
-/// One number in thousandths, where it isn't below 0 and has at most three decimals.
-fn in_thousandths(operands: &[Number]) -> Option<u32> {
-    match operands {
-        [width] => width.times_thousand()?.as_u32(),
-        _ => None,
-    }
+/// A number in thousandths, where it isn't below 0 and has at most three decimals.
+fn in_thousandths(width: &Number) -> Option<u32> {
+    width.times_thousand()?.as_u32()
 }
 
 /// So many thousandths of a unit in thousandths of the em, to the nearest, halves up.
@@ -27,13 +24,21 @@ fn of_em(units: u16, n: u32) -> u32 {
     ((2 * u64::from(n) + em) / (2 * em)) as u32
 }
 
-/// The stem that operands say, in thousandths of the em, if it is above 0.
-fn stem_by(units: u16, operands: &[Number]) -> Option<u32> {
-    let stem = of_em(units, in_thousandths(operands)?);
+/// The stem that a width says, in thousandths of the em, if it is above 0.
+pub(crate) fn stem_by_width(units: u16, width: &Number) -> Option<u32> {
+    let stem = of_em(units, in_thousandths(width)?);
     if stem == 0 {
         return None;
     }
     Some(stem)
+}
+
+/// That of just one operand.
+fn stem_by(units: u16, operands: &[Number]) -> Option<u32> {
+    match operands {
+        [width] => stem_by_width(units, width),
+        _ => None,
+    }
 }
 
 /// That of an entry that is StdVW.

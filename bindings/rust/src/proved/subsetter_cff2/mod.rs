@@ -23,6 +23,8 @@ pub mod front2;
 pub mod made;
 pub mod offsets;
 pub mod private_dicts;
+mod region_runs;
 pub mod selection;
 pub mod table;
 pub mod variation;
+pub mod variation_store;

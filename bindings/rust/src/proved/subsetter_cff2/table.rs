@@ -3,11 +3,11 @@
 
 use crate::proved::subsetter_cff2::front2::parse_front;
 use crate::proved::subsetter_cff2::offsets::{named_index, optional_offset, wide_index};
+use crate::proved::subsetter_cff2::variation_store::{variation_store, VariationStore};
 use crate::proved::subsetter_cffdata::dicts::dict::operators::{CHAR_STRINGS, FD_ARRAY, FD_SELECT};
 use crate::proved::subsetter_cffdata::dicts::operator::Operator;
 use crate::proved::subsetter_cffdata::dicts::operator::OperatorType::OneByteOperator;
 use crate::proved::subsetter_cffdata::indexes::index::Index;
-use crate::proved::subsetter_variation::items::item_variations::{item_store, Store};
 
 /// VariationStore: the offset of the item variation store.
 const VARIATION_STORE: Operator = Operator(OneByteOperator([24]));
@@ -23,7 +23,7 @@ pub struct Table2<'a> {
     /// The charstrings.
     pub char_strings: Index<'a>,
     /// The item variation store.
-    pub store: Option<Store<'a>>,
+    pub store: Option<VariationStore<'a>>,
     /// The font dicts.
     pub font_dicts: Index<'a>,
     /// The offset of FDSelect.
@@ -31,10 +31,10 @@ pub struct Table2<'a> {
 }
 
 /// The item variation store behind two bytes at an offset, if it is one of so many axes.
-fn store_at(bytes: &[u8], axes: usize, offset: usize) -> Option<Store<'_>> {
+fn store_at(bytes: &[u8], axes: usize, offset: usize) -> Option<VariationStore<'_>> {
     let place = offset.checked_add(2)?;
     let start = bytes.get(place..)?;
-    let store = item_store(start)?;
+    let store = variation_store(start)?;
     if usize::from(store.axis_count()) == axes {
         Some(store)
     } else {
@@ -43,7 +43,7 @@ fn store_at(bytes: &[u8], axes: usize, offset: usize) -> Option<Store<'_>> {
 }
 
 /// The same, where there is an offset.
-fn store_by(bytes: &[u8], axes: usize, offset: Option<u32>) -> Option<Option<Store<'_>>> {
+fn store_by(bytes: &[u8], axes: usize, offset: Option<u32>) -> Option<Option<VariationStore<'_>>> {
     match offset {
         None => Some(None),
         Some(offset) => {

@@ -6,32 +6,37 @@ use crate::rattle::prelude::Vec;
 use crate::proved::subsetter_base::error::Error;
 use crate::proved::subsetter_base::read::u16_at;
 use crate::proved::subsetter_blend::runs::regions::Regions;
-use crate::proved::subsetter_variation::items::item_variations::{
-    data_regions, region_items, region_scalar, Store,
-};
+use crate::proved::subsetter_cff2::region_runs::region_runs;
+use crate::proved::subsetter_cff2::variation_store::{RegionPlace, VariationStore};
+use crate::proved::subsetter_variation::items::item_variations::region_scalar;
 use crate::rattle::alloc::Global;
 
 /// A store, and the scalars of its regions at a location.
 struct Located<'a> {
-    store: Store<'a>,
+    store: VariationStore<'a>,
     scalars: Vec<i64>,
 }
 
-/// A store, and the scalars of its regions at a location. Those of the first item variation data, which most charstrings take, are kept.
+/// A store, and the scalars of its regions at a location. Kept are how many regions each item variation data have, and the
+/// scalars of the first ones, which most charstrings take.
 pub struct Variation<'a> {
     all: Located<'a>,
-    first_count: Option<usize>,
+    counts: Vec<Option<u16>>,
     first: Vec<i64>,
 }
 
 /// The scalar of a region.
-fn scalar_at(store: &Store<'_>, at: &[i32], region: u16) -> Option<i64> {
-    let items = region_items(store, region)?;
+fn scalar_at(store: &VariationStore<'_>, at: &[i32], region: u16) -> Option<i64> {
+    let items = store.region(region)?;
     Some(region_scalar(items, at))
 }
 
 /// The scalars of all regions. One that can't be read is `MalformedFont`.
-fn region_scalars(alloc: Global, store: &Store<'_>, at: &[i32]) -> Result<Vec<i64>, Error> {
+fn region_scalars(
+    alloc: Global,
+    store: &VariationStore<'_>,
+    at: &[i32],
+) -> Result<Vec<i64>, Error> {
     let count = store.region_count();
     let mut scalars = Vec::with_capacity(alloc, usize::from(count))?;
     for region in 0..count {
@@ -47,7 +52,7 @@ fn region_scalars(alloc: Global, store: &Store<'_>, at: &[i32]) -> Result<Vec<i6
 }
 
 /// What a store varies by at a location. A region that can't be read is `MalformedFont`.
-fn locate<'a>(alloc: Global, store: Store<'a>, at: &[i32]) -> Result<Located<'a>, Error> {
+fn locate<'a>(alloc: Global, store: VariationStore<'a>, at: &[i32]) -> Result<Located<'a>, Error> {
     let scalars = region_scalars(alloc, &store, at)?;
     Ok(Located { store, scalars })
 }
@@ -67,21 +72,21 @@ fn first_scalars(
 }
 
 /// What a store varies by at a location, with what is kept. A region that can't be read is `MalformedFont`.
-pub fn store_at<'a>(alloc: Global, store: Store<'a>, at: &[i32]) -> Result<Variation<'a>, Error> {
+pub fn store_at<'a>(
+    alloc: Global,
+    store: VariationStore<'a>,
+    at: &[i32],
+) -> Result<Variation<'a>, Error> {
     let all = locate(alloc, store, at)?;
-    let first_count = all.count(0);
-    let first = first_scalars(alloc, &all, first_count)?;
-    Ok(Variation {
-        all,
-        first_count,
-        first,
-    })
+    let counts = all.counts(alloc)?;
+    let first = first_scalars(alloc, &all, known(&counts, 0))?;
+    Ok(Variation { all, counts, first })
 }
 
 /// The same, where there is a store.
 pub fn optional_store_at<'a>(
     alloc: Global,
-    store: Option<Store<'a>>,
+    store: Option<VariationStore<'a>>,
     at: &[i32],
 ) -> Result<Option<Variation<'a>>, Error> {
     match store {
@@ -103,15 +108,69 @@ fn are_regions_below(bytes: &[u8], bound: usize) -> bool {
     true
 }
 
+/// How many regions item variation data have, by the counts of all.
+#[inline(always)]
+fn known(counts: &[Option<u16>], outer: u32) -> Option<usize> {
+    if outer as usize >= counts.len() {
+        return None;
+    }
+    match counts[outer as usize] {
+        None => None,
+        Some(count) => Some(usize::from(count)),
+    }
+}
+
 impl<'a> Located<'a> {
+    /// All regions of item variation data are there: by the runs, or one by one where there are no runs.
+    fn are_there(&self, place: RegionPlace, runs: &[u16]) -> bool {
+        let bytes = self.store.bytes();
+        if runs.len() == 0 {
+            let indexes = &bytes[place.start..place.start + usize::from(place.count) * 2];
+            return are_regions_below(indexes, self.scalars.len());
+        }
+        place.count <= runs[bytes.len() - place.start]
+    }
+
     /// How many regions item variation data have, if there are such data.
-    fn count(&self, outer: u32) -> Option<usize> {
-        let bytes = data_regions(&self.store, outer)?;
-        if are_regions_below(bytes, self.scalars.len()) {
-            Some(bytes.len() / 2)
+    fn count(&self, runs: &[u16], outer: u32) -> Option<u16> {
+        let place = self.store.place(outer)?;
+        if self.are_there(place, runs) {
+            Some(place.count)
         } else {
             None
         }
+    }
+
+    /// All item variation data together have more region indexes than the store has room for, so that some of them overlap.
+    /// Either answer serves: the runs are worth their memory and their pass where it is so.
+    fn overlap(&self) -> bool {
+        let mut indexes: usize = 0;
+        for outer in 0..self.store.data_count() {
+            if let Some(place) = self.store.place(u32::from(outer)) {
+                indexes = indexes.saturating_add(usize::from(place.count));
+            }
+        }
+        indexes > self.store.bytes().len() / 2
+    }
+
+    /// The runs of the store, or none where its item variation data are soon looked through one by one.
+    fn runs(&self, alloc: Global) -> Result<Vec<u16>, Error> {
+        if self.overlap() {
+            region_runs(alloc, self.store.bytes(), self.scalars.len())
+        } else {
+            Ok(Vec::new(alloc))
+        }
+    }
+
+    /// How many regions each item variation data have.
+    fn counts(&self, alloc: Global) -> Result<Vec<Option<u16>>, Error> {
+        let runs = self.runs(alloc)?;
+        let data_count = self.store.data_count();
+        let mut counts = Vec::with_capacity(alloc, usize::from(data_count))?;
+        for outer in 0..data_count {
+            counts.push(self.count(&runs, u32::from(outer)))?;
+        }
+        Ok(counts)
     }
 
     /// The scalar of a region, or 0.
@@ -125,7 +184,7 @@ impl<'a> Located<'a> {
 
     /// The scalar of one of the regions of item variation data.
     fn scalar(&self, outer: u32, region: usize) -> i64 {
-        let bytes = match data_regions(&self.store, outer) {
+        let bytes = match self.store.regions(outer) {
             Some(bytes) => bytes,
             _ => {
                 return 0;
@@ -143,10 +202,7 @@ impl<'a> Variation<'a> {
     /// How many regions item variation data have, if there are such data.
     #[inline(always)]
     pub fn count(&self, outer: u32) -> Option<usize> {
-        if outer == 0 {
-            return self.first_count;
-        }
-        self.all.count(outer)
+        known(&self.counts, outer)
     }
 
     /// The scalar of one of the regions of item variation data.

@@ -5,9 +5,9 @@ use crate::proved::subsetter_base::error::Error;
 use crate::proved::subsetter_cff::write::new_dicts::matrix::Matrix;
 use crate::proved::subsetter_cff2::table::{open, Table2};
 use crate::proved::subsetter_cff2::variation::{optional_store_at, FontVariation};
+use crate::proved::subsetter_cff2::variation_store::VariationStore;
 use crate::proved::subsetter_cff_at::request::TableRequest;
 use crate::proved::subsetter_cff_at::units::top_matrix;
-use crate::proved::subsetter_variation::items::item_variations::Store;
 use crate::rattle::alloc::Global;
 
 /// A table, its FontMatrix, and what varies in it.
@@ -21,7 +21,7 @@ pub struct OpenTable<'a> {
 }
 
 /// The item variation store of a table. It is found anew, as what varies takes it.
-fn find_store(bytes: &[u8], axes: usize) -> Option<Option<Store<'_>>> {
+fn find_store(bytes: &[u8], axes: usize) -> Option<Option<VariationStore<'_>>> {
     let table = open(bytes, axes)?;
     Some(table.store)
 }

@@ -5,4 +5,4 @@ pub mod dict;
 pub mod operands;
 pub mod operator;
 pub mod plain;
-pub(crate) mod tokens;
+pub mod tokens;

@@ -15,6 +15,7 @@ use crate::read::entries::demands::show_last;
 use crate::read::entries::operators::same_operator;
 use crate::read::fd_array::font_dict_entries::{FontDictData, parse_font_dict_data};
 use crate::read::fd_array::private::{PrivateDict, parse_private};
+use crate::read::fd_array::subr_offsets::SubrOffsets;
 use subsetter_cffdata::dicts::dict::DictionaryParser;
 use subsetter_cffdata::dicts::dict::operators::PRIVATE;
 use subsetter_cffdata::dicts::operands::range_of;
@@ -33,8 +34,8 @@ pub struct FontDict<'a> {
 
 /// The private dict that a top dict or a font dict names: an empty one where it names none; None where it leads nowhere.
 #[tactic(auto, unfolding(crate::specs::Read::FdArray::Private::private_at))]
-pub fn parse_private_at<'a>(table: &'a [u8], dict: &[u8]) -> Option<PrivateDict<'a>>
-    ensures { option_map private_view result ≡ private_at table.now (entries dict.now) }
+pub fn parse_private_at<'a>(offsets: &SubrOffsets<'a>, dict: &[u8]) -> Option<PrivateDict<'a>>
+    ensures { option_map private_view result ≡ private_at offsets.now (entries dict.now) }
 {
     let mut buffer = [Number::zero(); 48];
     let mut parser = DictionaryParser::new(dict, &mut buffer);
@@ -44,12 +45,38 @@ pub fn parse_private_at<'a>(table: &'a [u8], dict: &[u8]) -> Option<PrivateDict<
             subroutines: Index::default(),
         });
     }
-    parse_private(table, range_of(parser.operands())?)
+    parse_private(offsets, range_of(parser.operands())?)
+}
+
+/// How many bytes the private dict of an entry has, where it is a Private entry.
+fn private_len(operator: &Operator, operands: &[Number]) -> usize {
+    if !same_operator(operator, &PRIVATE) {
+        return 0;
+    }
+    match range_of(operands) {
+        None => 0,
+        Some(place) => place.end - place.start,
+    }
+}
+
+/// How many bytes the private dicts have together that the Private entries of a dict lead to. No answer depends on it.
+pub fn private_bytes(dict: &[u8]) -> usize {
+    let mut bytes: usize = 0;
+    let mut buffer = [Number::zero(); 3];
+    let mut parser = DictionaryParser::new(dict, &mut buffer);
+    while let Some(operator) = parser.parse_entry() {
+        bytes = bytes.saturating_add(private_len(&operator, parser.operands()));
+    }
+    bytes
 }
 
 /// Whether the entry that the parser stands at leads to a private dict, where it is a Private entry.
-fn leads_here(table: &[u8], operator: &Operator, parser: &mut DictionaryParser<'_>) -> bool
-    ensures value { result ≡ leads_if_there table.now (operator_of operator.now) (operands_at (length parser.old.operands.now) (entry_of parser.old)) }
+fn leads_here(
+    offsets: &SubrOffsets<'_>,
+    operator: &Operator,
+    parser: &mut DictionaryParser<'_>,
+) -> bool
+    ensures value { result ≡ leads_if_there offsets.now (operator_of operator.now) (operands_at (length parser.old.operands.now) (entry_of parser.old)) }
     ensures left { left parser.new ≡ left parser.old }
     ensures room { length parser.new.operands.now ≡ length parser.old.operands.now }
 {
@@ -61,18 +88,18 @@ fn leads_here(table: &[u8], operator: &Operator, parser: &mut DictionaryParser<'
     }
     match range_of(parser.operands()) {
         None => false,
-        Some(place) => parse_private(table, place).is_some(),
+        Some(place) => parse_private(offsets, place).is_some(),
     }
 }
 
 /// Whether all Private entries of a dict lead to private dicts.
-fn all_lead(table: &[u8], dict: &[u8]) -> bool
-    ensures { result ≡ all_lead table.now (entries dict.now) }
+fn all_lead(offsets: &SubrOffsets<'_>, dict: &[u8]) -> bool
+    ensures { result ≡ all_lead offsets.now (entries dict.now) }
 {
     let mut buffer = [Number::zero(); 48];
     let mut parser = DictionaryParser::new(dict, &mut buffer);
     while let Some(operator) = parser.parse_next() {
-        if !leads_here(table, &operator, &mut parser) {
+        if !leads_here(offsets, &operator, &mut parser) {
             return false;
         }
     }
@@ -80,15 +107,15 @@ fn all_lead(table: &[u8], dict: &[u8]) -> bool
 }
 
 /// Reads a font dict; None where an entry has wrong operands, or a Private entry leads nowhere.
-pub fn parse_font_dict<'a>(table: &'a [u8], dict: &[u8]) -> Option<FontDict<'a>>
-    ensures value { IfSome result (λ f. IsFontDictIn table.now (entries dict.now) f) }
-    ensures sound { IfSome result (λ _. HasFontDictFault table.now (entries dict.now) → ⊥) }
-    ensures fault { IfNone result (HasFontDictFault table.now (entries dict.now)) }
+pub fn parse_font_dict<'a>(offsets: &SubrOffsets<'a>, dict: &[u8]) -> Option<FontDict<'a>>
+    ensures value { IfSome result (λ f. IsFontDictIn offsets.now (entries dict.now) f) }
+    ensures sound { IfSome result (λ _. HasFontDictFault offsets.now (entries dict.now) → ⊥) }
+    ensures fault { IfNone result (HasFontDictFault offsets.now (entries dict.now)) }
 {
     let entries = parse_font_dict_data(dict)?;
-    if !all_lead(table, dict) {
+    if !all_lead(offsets, dict) {
         return None;
     }
-    let private = parse_private_at(table, dict)?;
+    let private = parse_private_at(offsets, dict)?;
     Some(FontDict { entries, private })
 }

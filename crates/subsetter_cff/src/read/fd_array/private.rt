@@ -12,13 +12,11 @@ ghost use Rattle.subsetter_cff.specs.Read.FdArray.Private.{private_in, local_sub
 ghost use Rattle.subsetter_cff.specs.Read.FdArray.PrivateView.{private_view};
 ghost use Rattle.subsetter_cff.specs.Read.Entries.TopDicts.{first_offset};
 
-use crate::read::entries::operators::same_operator;
+use crate::read::fd_array::subr_offsets::SubrOffsets;
+use std::alloc::Global;
 use std::ops::Range;
 use subsetter_base::read::Reader;
-use subsetter_cffdata::dicts::dict::DictionaryParser;
-use subsetter_cffdata::dicts::dict::operators::SUBRS;
 use subsetter_cffdata::indexes::index::{Index, parse_index};
-use subsetter_cffdata::numerals::number::Number;
 
 /// A private dict and its local subroutines.
 #[derive(Clone, Copy, Debug)]
@@ -29,21 +27,6 @@ pub struct PrivateDict<'a> {
     pub subroutines: Index<'a>,
 }
 
-/// The offset of the local subroutines, from the private dict's start; with wrong operands it means none. Two operands
-/// are enough to know whether there is just one.
-pub fn parse_subr_offset(dict: &[u8]) -> Option<usize>
-    ensures { result ≡ first_offset subroutines_operator (entries dict.now) }
-{
-    let mut buffer = [Number::zero(); 2];
-    let mut parser = DictionaryParser::new(dict, &mut buffer);
-    while let Some(operator) = parser.parse_next() {
-        if same_operator(&operator, &SUBRS) {
-            return parser.parse_offset();
-        }
-    }
-    None
-}
-
 /// The INDEX at an offset; None where it is outside or unreadable.
 pub fn index_at(bytes: &[u8], offset: usize) -> Option<Index<'_>>
     ensures { option_map (λ x. (items x)) result ≡ option_map (λ x. x.0) (index_at (drop offset bytes.now)) }
@@ -51,25 +34,40 @@ pub fn index_at(bytes: &[u8], offset: usize) -> Option<Index<'_>>
     parse_index::<u16>(&mut Reader::new_at(bytes, offset))
 }
 
-/// The local subroutines of a private dict that stands at the front of the bytes.
+/// The INDEX at an offset, if there is one; no subroutines where there is none.
 #[tactic(auto, unfolding(crate::specs::Read::FdArray::Private::local_subroutines))]
-fn find_subroutines<'a>(bytes: &'a [u8], dict: &[u8]) -> Option<Index<'a>>
-    ensures { option_map items result ≡ local_subroutines bytes.now (entries dict.now) }
+fn subroutines_by(bytes: &[u8], offset: Option<usize>) -> Option<Index<'_>>
+    ensures { option_map items result ≡ subroutines_by bytes.now offset }
 {
-    match parse_subr_offset(dict) {
+    match offset {
         None => Some(Index::default()),
         Some(offset) => index_at(bytes, offset),
     }
 }
 
 /// The private dict of a range of the table; None where the range leaves the table, or the subroutines are outside or unreadable.
-#[tactic(auto, unfolding(crate::specs::Read::FdArray::Private::private_in))]
-pub fn parse_private(table: &[u8], place: Range<usize>) -> Option<PrivateDict<'_>>
+#[tactic(auto, unfolding(crate::specs::Read::FdArray::Private::private_in, crate::specs::Read::FdArray::Private::local_subroutines))]
+pub fn parse_private<'a>(offsets: &SubrOffsets<'a>, place: Range<usize>) -> Option<PrivateDict<'a>>
+    requires { place.start ≤ place.end }
+    ensures { option_map private_view result ≡ private_in offsets.now (place.start, place.end) }
+{
+    let table = offsets.table();
+    let start = place.start;
+    let dict = table.get(start..place.end)?;
+    let offset = offsets.offset_in(start, place.end);
+    let subroutines = subroutines_by(&table[start..], offset)?;
+    Some(PrivateDict { dict, subroutines })
+}
+
+/// The private dict of one range of the table.
+pub fn parse_one_private(
+    alloc: Global,
+    table: &[u8],
+    place: Range<usize>,
+) -> Option<PrivateDict<'_>>
     requires { place.start ≤ place.end }
     ensures { option_map private_view result ≡ private_in table.now (place.start, place.end) }
 {
-    let start = place.start;
-    let dict = table.get(start..place.end)?;
-    let subroutines = find_subroutines(&table[start..], dict)?;
-    Some(PrivateDict { dict, subroutines })
+    let offsets = SubrOffsets::new(alloc, table);
+    parse_private(&offsets, place)
 }

@@ -3,5 +3,6 @@
 
 pub mod demands;
 pub(crate) mod fields;
+pub mod first_entries;
 pub(crate) mod operators;
 pub(crate) mod top_dict;

@@ -7,3 +7,4 @@ pub(crate) mod font_dict_entries;
 pub(crate) mod font_dict_list;
 pub(crate) mod private;
 pub(crate) mod ranges;
+pub(crate) mod subr_offsets;

@@ -8,9 +8,11 @@ use crate::proved::subsetter_cff::read::entries::top_dict::{
     no_values, read_top_dict, TopDictData,
 };
 use crate::proved::subsetter_cff::read::fd_array::fd_select::{parse_fd_select, FDSelect};
-use crate::proved::subsetter_cff::read::fd_array::font_dict::FontDict;
+pub use crate::proved::subsetter_cff::read::fd_array::font_dict::FontDict;
 use crate::proved::subsetter_cff::read::fd_array::font_dict_list::parse_font_dicts;
-use crate::proved::subsetter_cff::read::fd_array::private::{index_at, parse_private, PrivateDict};
+use crate::proved::subsetter_cff::read::fd_array::private::{
+    index_at, parse_one_private, PrivateDict,
+};
 use crate::proved::subsetter_cff::read::front::{parse_front, Front};
 use crate::proved::subsetter_cffdata::indexes::index::Index;
 use crate::rattle::alloc::Global;
@@ -60,14 +62,14 @@ fn empty_private<'a>() -> PrivateDict<'a> {
 }
 
 /// The private dict that the top dict names; an empty one where it names none that can be read.
-fn parse_sid_metadata<'a>(front: &Front<'a>, top: &TopDictData) -> SIDMetadata<'a> {
+fn parse_sid_metadata<'a>(alloc: Global, front: &Front<'a>, top: &TopDictData) -> SIDMetadata<'a> {
     let place = match &top.private {
         Some(place) => place,
         _ => {
             return empty_private();
         }
     };
-    match parse_private(front.bytes, place.start..place.end) {
+    match parse_one_private(alloc, front.bytes, place.start..place.end) {
         Some(private) => private,
         None => empty_private(),
     }
@@ -126,7 +128,7 @@ fn open_top<'a>(alloc: Global, front: Front<'a>) -> Result<Table<'a>, Error> {
         return Err(Error::MalformedFont);
     }
     let cid = open_keyed(alloc, &front, &top, &char_strings)?;
-    let private = parse_sid_metadata(&front, &top);
+    let private = parse_sid_metadata(alloc, &front, &top);
     Ok(Table {
         front,
         top,

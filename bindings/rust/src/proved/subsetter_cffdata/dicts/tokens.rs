@@ -47,6 +47,28 @@ fn next_token(r: &mut Reader<'_>, operand: &mut Number) -> Option<Token> {
     Some(Token::Operand)
 }
 
+/// A token that was read.
+#[derive(Clone, Copy, Debug)]
+pub struct TokenRead {
+    /// The operator; None where the token is an operand, which was put into a variable of its own.
+    pub operator: Option<Operator>,
+    /// Where the next token begins.
+    pub end: usize,
+}
+
+/// The token at the offset; None where none can be read.
+pub fn read_token(bytes: &[u8], offset: usize, operand: &mut Number) -> Option<TokenRead> {
+    let mut r = Reader::new_at(bytes, offset);
+    let operator = match next_token(&mut r, operand)? {
+        Token::Operator(operator) => Some(operator),
+        Token::Operand => None,
+    };
+    Some(TokenRead {
+        operator,
+        end: r.offset(),
+    })
+}
+
 /// An operator that was read, and where the next entry begins.
 #[derive(Clone, Copy, Debug)]
 pub struct OperatorRead {

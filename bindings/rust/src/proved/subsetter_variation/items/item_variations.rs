@@ -189,26 +189,6 @@ fn item_row<'a>(s: &Store<'a>, outer: u32, inner: u32) -> Option<Row<'a>> {
     row_in(s.bytes, at as usize, inner)
 }
 
-/// The offset of item variation data in the store.
-fn data_offset(s: &Store<'_>, outer: u32) -> Option<u32> {
-    let data_count = Reader::new_at(s.bytes, ITEM_VARIATION_DATA_COUNT).read::<u16>()?;
-    if outer >= u32::from(data_count) {
-        return None;
-    }
-    nullable_offset(
-        s.bytes,
-        ITEM_VARIATION_DATA_OFFSETS + outer as usize * OFFSET32_SIZE,
-    )
-}
-
-/// The bytes that spell the indexes of the regions of item variation data, two for each.
-pub fn data_regions<'a>(s: &Store<'a>, outer: u32) -> Option<&'a [u8]> {
-    let at = data_offset(s, outer)? as usize;
-    let count = Reader::new_at(s.bytes, at.saturating_add(REGION_INDEX_COUNT)).read::<u16>()?;
-    let indexes = at.saturating_add(REGION_INDEXES);
-    Reader::new_at(s.bytes, indexes).read_bytes(count as usize * REGION_INDEX_SIZE)
-}
-
 /// A delta that is a word.
 fn word_delta(r: &Row<'_>, k: u16) -> Option<i32> {
     if r.long {

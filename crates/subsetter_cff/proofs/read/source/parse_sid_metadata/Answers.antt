@@ -9,13 +9,13 @@ returns-in_default c =
     let front = c.args.front.now in
     c.empty_private.ensures ∙ own_without front.bytes.now (entries front.top.now) (rw c.in_default.is at c.requires.private)
 
-pub parse_private-requires : goal.parse_private-requires
-parse_private-requires c = range_ordered (entries c.args.front.now.top.now) c.in-Some.place.start c.in-Some.place.end (rw c.in-Some.is at c.requires.private)
+pub parse_one_private-requires : goal.parse_one_private-requires
+parse_one_private-requires c = range_ordered (entries c.args.front.now.top.now) c.in-Some.place.start c.in-Some.place.end (rw c.in-Some.is at c.requires.private)
 
-pub returns-in-Some-parse_private : goal.returns-in-Some-parse_private
-returns-in-Some-parse_private c =
+pub returns-in-Some-parse_one_private : goal.returns-in-Some-parse_one_private
+returns-in-Some-parse_one_private c =
     let front = c.args.front.now in
-    own_with front.bytes.now (entries front.top.now) c.in-Some.place.start c.in-Some.place.end (Some (private_view c.in-Some-parse_private.private)) (rw c.in-Some.is at c.requires.private) c.in-Some-parse_private.ensures
+    own_with front.bytes.now (entries front.top.now) c.in-Some.place.start c.in-Some.place.end (Some (private_view c.in-Some-parse_one_private.private)) (rw c.in-Some.is at c.requires.private) c.in-Some-parse_one_private.ensures
 
 pub returns-in-None : goal.returns-in-None
 returns-in-None c =

@@ -7,6 +7,7 @@ use crate::proved::subsetter_cff::read::fd_array::font_dict_entries::{
     parse_font_dict_data, FontDictData,
 };
 use crate::proved::subsetter_cff::read::fd_array::private::{parse_private, PrivateDict};
+use crate::proved::subsetter_cff::read::fd_array::subr_offsets::SubrOffsets;
 use crate::proved::subsetter_cffdata::dicts::dict::operators::PRIVATE;
 use crate::proved::subsetter_cffdata::dicts::dict::DictionaryParser;
 use crate::proved::subsetter_cffdata::dicts::operands::range_of;
@@ -23,7 +24,7 @@ pub struct FontDict<'a> {
 }
 
 /// The private dict that a top dict or a font dict names: an empty one where it names none; None where it leads nowhere.
-pub fn parse_private_at<'a>(table: &'a [u8], dict: &[u8]) -> Option<PrivateDict<'a>> {
+pub fn parse_private_at<'a>(offsets: &SubrOffsets<'a>, dict: &[u8]) -> Option<PrivateDict<'a>> {
     let mut buffer = [Number::zero(); 48];
     let mut parser = DictionaryParser::new(dict, &mut buffer);
     if !show_last(&mut parser, &PRIVATE) {
@@ -32,11 +33,37 @@ pub fn parse_private_at<'a>(table: &'a [u8], dict: &[u8]) -> Option<PrivateDict<
             subroutines: Index::default(),
         });
     }
-    parse_private(table, range_of(parser.operands())?)
+    parse_private(offsets, range_of(parser.operands())?)
+}
+
+/// How many bytes the private dict of an entry has, where it is a Private entry.
+fn private_len(operator: &Operator, operands: &[Number]) -> usize {
+    if !same_operator(operator, &PRIVATE) {
+        return 0;
+    }
+    match range_of(operands) {
+        None => 0,
+        Some(place) => place.end - place.start,
+    }
+}
+
+/// How many bytes the private dicts have together that the Private entries of a dict lead to. No answer depends on it.
+pub fn private_bytes(dict: &[u8]) -> usize {
+    let mut bytes: usize = 0;
+    let mut buffer = [Number::zero(); 3];
+    let mut parser = DictionaryParser::new(dict, &mut buffer);
+    while let Some(operator) = parser.parse_entry() {
+        bytes = bytes.saturating_add(private_len(&operator, parser.operands()));
+    }
+    bytes
 }
 
 /// Whether the entry that the parser stands at leads to a private dict, where it is a Private entry.
-fn leads_here(table: &[u8], operator: &Operator, parser: &mut DictionaryParser<'_>) -> bool {
+fn leads_here(
+    offsets: &SubrOffsets<'_>,
+    operator: &Operator,
+    parser: &mut DictionaryParser<'_>,
+) -> bool {
     if parser.parse_operands().is_none() {
         return true;
     }
@@ -45,16 +72,16 @@ fn leads_here(table: &[u8], operator: &Operator, parser: &mut DictionaryParser<'
     }
     match range_of(parser.operands()) {
         None => false,
-        Some(place) => parse_private(table, place).is_some(),
+        Some(place) => parse_private(offsets, place).is_some(),
     }
 }
 
 /// Whether all Private entries of a dict lead to private dicts.
-fn all_lead(table: &[u8], dict: &[u8]) -> bool {
+fn all_lead(offsets: &SubrOffsets<'_>, dict: &[u8]) -> bool {
     let mut buffer = [Number::zero(); 48];
     let mut parser = DictionaryParser::new(dict, &mut buffer);
     while let Some(operator) = parser.parse_next() {
-        if !leads_here(table, &operator, &mut parser) {
+        if !leads_here(offsets, &operator, &mut parser) {
             return false;
         }
     }
@@ -62,11 +89,11 @@ fn all_lead(table: &[u8], dict: &[u8]) -> bool {
 }
 
 /// Reads a font dict; None where an entry has wrong operands, or a Private entry leads nowhere.
-pub fn parse_font_dict<'a>(table: &'a [u8], dict: &[u8]) -> Option<FontDict<'a>> {
+pub fn parse_font_dict<'a>(offsets: &SubrOffsets<'a>, dict: &[u8]) -> Option<FontDict<'a>> {
     let entries = parse_font_dict_data(dict)?;
-    if !all_lead(table, dict) {
+    if !all_lead(offsets, dict) {
         return None;
     }
-    let private = parse_private_at(table, dict)?;
+    let private = parse_private_at(offsets, dict)?;
     Some(FontDict { entries, private })
 }

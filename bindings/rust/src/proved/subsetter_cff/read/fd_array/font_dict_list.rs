@@ -4,9 +4,21 @@
 use crate::rattle::prelude::Vec;
 
 use crate::proved::subsetter_base::error::Error;
-use crate::proved::subsetter_cff::read::fd_array::font_dict::{parse_font_dict, FontDict};
+use crate::proved::subsetter_cff::read::fd_array::font_dict::{
+    parse_font_dict, private_bytes, FontDict,
+};
+use crate::proved::subsetter_cff::read::fd_array::subr_offsets::SubrOffsets;
 use crate::proved::subsetter_cffdata::indexes::index::Index;
 use crate::rattle::alloc::Global;
+
+/// How many bytes the private dicts of all font dicts have together. No answer depends on it.
+fn all_private_bytes(index: Index<'_>) -> usize {
+    let mut bytes: usize = 0;
+    for dict in index {
+        bytes = bytes.saturating_add(private_bytes(dict));
+    }
+    bytes
+}
 
 /// Reads the font dicts before the first unreadable one. One with a fault is `MalformedFont`.
 pub fn parse_font_dicts<'a>(
@@ -14,9 +26,10 @@ pub fn parse_font_dicts<'a>(
     table: &'a [u8],
     index: Index<'a>,
 ) -> Result<Vec<FontDict<'a>>, Error> {
-    let mut font_dicts = Vec::new(alloc);
+    let offsets = SubrOffsets::for_dicts(alloc, table, all_private_bytes(index))?;
+    let mut font_dicts = Vec::with_capacity(alloc, index.len() as usize)?;
     for dict in index {
-        let font_dict = match parse_font_dict(table, dict) {
+        let font_dict = match parse_font_dict(&offsets, dict) {
             Some(font_dict) => font_dict,
             _ => {
                 return Err(Error::MalformedFont);

@@ -2,11 +2,9 @@
 //! Private dicts with their local subroutines (Technical Note 5176, sections 15 and 16).
 
 use crate::proved::subsetter_base::read::Reader;
-use crate::proved::subsetter_cff::read::entries::operators::same_operator;
-use crate::proved::subsetter_cffdata::dicts::dict::operators::SUBRS;
-use crate::proved::subsetter_cffdata::dicts::dict::DictionaryParser;
+use crate::proved::subsetter_cff::read::fd_array::subr_offsets::SubrOffsets;
 use crate::proved::subsetter_cffdata::indexes::index::{parse_index, Index};
-use crate::proved::subsetter_cffdata::numerals::number::Number;
+use crate::rattle::alloc::Global;
 use crate::rattle::ops::Range;
 
 /// A private dict and its local subroutines.
@@ -18,36 +16,38 @@ pub struct PrivateDict<'a> {
     pub subroutines: Index<'a>,
 }
 
-/// The offset of the local subroutines, from the private dict's start; with wrong operands it means none. Two operands
-/// are enough to know whether there is just one.
-pub fn parse_subr_offset(dict: &[u8]) -> Option<usize> {
-    let mut buffer = [Number::zero(); 2];
-    let mut parser = DictionaryParser::new(dict, &mut buffer);
-    while let Some(operator) = parser.parse_next() {
-        if same_operator(&operator, &SUBRS) {
-            return parser.parse_offset();
-        }
-    }
-    None
-}
-
 /// The INDEX at an offset; None where it is outside or unreadable.
 pub fn index_at(bytes: &[u8], offset: usize) -> Option<Index<'_>> {
     parse_index::<u16>(&mut Reader::new_at(bytes, offset))
 }
 
-/// The local subroutines of a private dict that stands at the front of the bytes.
-fn find_subroutines<'a>(bytes: &'a [u8], dict: &[u8]) -> Option<Index<'a>> {
-    match parse_subr_offset(dict) {
+/// The INDEX at an offset, if there is one; no subroutines where there is none.
+fn subroutines_by(bytes: &[u8], offset: Option<usize>) -> Option<Index<'_>> {
+    match offset {
         None => Some(Index::default()),
         Some(offset) => index_at(bytes, offset),
     }
 }
 
 /// The private dict of a range of the table; None where the range leaves the table, or the subroutines are outside or unreadable.
-pub fn parse_private(table: &[u8], place: Range<usize>) -> Option<PrivateDict<'_>> {
+pub fn parse_private<'a>(
+    offsets: &SubrOffsets<'a>,
+    place: Range<usize>,
+) -> Option<PrivateDict<'a>> {
+    let table = offsets.table();
     let start = place.start;
     let dict = table.get(start..place.end)?;
-    let subroutines = find_subroutines(&table[start..], dict)?;
+    let offset = offsets.offset_in(start, place.end);
+    let subroutines = subroutines_by(&table[start..], offset)?;
     Some(PrivateDict { dict, subroutines })
+}
+
+/// The private dict of one range of the table.
+pub fn parse_one_private(
+    alloc: Global,
+    table: &[u8],
+    place: Range<usize>,
+) -> Option<PrivateDict<'_>> {
+    let offsets = SubrOffsets::new(alloc, table);
+    parse_private(&offsets, place)
 }

@@ -10,7 +10,7 @@ use Rattle.subsetter_cff.proofs.read.fd_array.font_dict.all_lead.Goals as goal
 
 pub returns-then-not-leads_here : goal.returns-then-not-leads_here
 returns-then-not-leads_here c =
-    fails_all _ _ _ (lead_next c.args.table.now _ _ (operator_of c.in-Some.operator) (left c.parse_next.new.self) _ c.in-Some.ensures.value (c.in-Some.ensures.room ∙ c.loop-operator.invariant.room) c.in-Some.ensures.entry ∙ c.loop-operator.invariant.lead) (sym c.leads_here.ensures.value ∙ c.if-not-leads_here.true)
+    fails_all _ _ _ (lead_next c.args.offsets.now _ _ (operator_of c.in-Some.operator) (left c.parse_next.new.self) _ c.in-Some.ensures.value (c.in-Some.ensures.room ∙ c.loop-operator.invariant.room) c.in-Some.ensures.entry ∙ c.loop-operator.invariant.lead) (sym c.leads_here.ensures.value ∙ c.if-not-leads_here.true)
 
 pub loop-operator-smaller : goal.loop-operator-smaller
 loop-operator-smaller c =
@@ -21,10 +21,10 @@ loop-operator-smaller c =
 pub loop-operator-preserved : goal.loop-operator-preserved
 loop-operator-preserved c = record {
   lead =
-      ap (λ (l : List ℕ). all_lead c.args.table.now (entries l)) c.leads_here.ensures.left
-      ∙ passes _ _ _ (lead_next c.args.table.now _ _ (operator_of c.in-Some.operator) (left c.parse_next.new.self) _ c.in-Some.ensures.value (c.in-Some.ensures.room ∙ c.loop-operator.invariant.room) c.in-Some.ensures.entry ∙ c.loop-operator.invariant.lead) (sym c.leads_here.ensures.value ∙ c.if-not-leads_here.false);
+      ap (λ (l : List ℕ). all_lead c.args.offsets.now (entries l)) c.leads_here.ensures.left
+      ∙ passes _ _ _ (lead_next c.args.offsets.now _ _ (operator_of c.in-Some.operator) (left c.parse_next.new.self) _ c.in-Some.ensures.value (c.in-Some.ensures.room ∙ c.loop-operator.invariant.room) c.in-Some.ensures.entry ∙ c.loop-operator.invariant.lead) (sym c.leads_here.ensures.value ∙ c.if-not-leads_here.false);
   room = c.leads_here.ensures.room ∙ (c.in-Some.ensures.room ∙ c.loop-operator.invariant.room);
 }
 
 pub returns : goal.returns
-returns c = sym (lead_end c.args.table.now (left c.loop-operator.parser) c.in_default.ensures.value) ∙ c.loop-operator.invariant.lead
+returns c = sym (lead_end c.args.offsets.now (left c.loop-operator.parser) c.in_default.ensures.value) ∙ c.loop-operator.invariant.lead

@@ -6,7 +6,7 @@ use Rattle.subsetter_cff.proofs.read.fd_array.font_dict.all_lead.Given as goal
 
 abbrev pub invariant-loop-operator : goal.invariant-loop-operator
 invariant-loop-operator l = record {
-  lead : all_lead l.table (entries (left l.parser)) ≡ all_lead l.table (entries l.dict);
+  lead : all_lead l.offsets (entries (left l.parser)) ≡ all_lead l.offsets (entries l.dict);
   room : length l.parser.operands.now ≡ operand_limit;
 }
 

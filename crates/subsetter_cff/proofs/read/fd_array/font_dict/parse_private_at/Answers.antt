@@ -7,5 +7,5 @@ use Rattle.subsetter_cff.proofs.read.fd_array.font_dict.parse_private_at.Goals a
 
 pub returns-then-not-show_last : goal.returns-then-not-show_last
 returns-then-not-show_last c =
-    none_named c.args.table.now (entries c.args.dict.now) _ _
+    none_named c.args.offsets.now (entries c.args.dict.now) _ _
     (not_shown _ _ _ c.if-not-show_last.true (c.show_last.ensures ∙ ap (λ (l : List ℕ). last_of private_operator (entries l)) c.new-parser.ensures.left)) no_entries c.default.ensures

@@ -3,7 +3,7 @@ use Rattle.subsetter_cffdata.specs.Dicts.Dict.{entries}
 use Rattle.subsetter_cffdata.specs.Dicts.ParserView.{left}
 use Rattle.subsetter_cff.specs.Read.Entries.Operators.{subroutines_operator}
 use Rattle.subsetter_cff.specs.Read.Entries.TopDicts.{first_offset}
-use Rattle.subsetter_cff.proofs.read.fd_array.private.parse_subr_offset.Given as goal
+use Rattle.subsetter_cff.proofs.read.fd_array.subr_offsets.parse_subr_offset.Given as goal
 
 abbrev pub invariant-loop-operator : goal.invariant-loop-operator
 invariant-loop-operator l = record {

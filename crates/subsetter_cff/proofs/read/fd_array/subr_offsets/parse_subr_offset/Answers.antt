@@ -4,7 +4,7 @@ use Rattle.subsetter_cffdata.specs.Views.{operator_of}
 use Rattle.subsetter_cff.specs.Read.Entries.Operators.{subroutines_operator}
 use Rattle.subsetter_cff.proofs.ReadLaws.EntriesLaws.LastEntries.{first_here, first_next, first_end}
 use Rattle.subsetter_cff.proofs.WriteLaws.NewDictsLaws.Rewriting.{shorter}
-use Rattle.subsetter_cff.proofs.read.fd_array.private.parse_subr_offset.Goals as goal
+use Rattle.subsetter_cff.proofs.read.fd_array.subr_offsets.parse_subr_offset.Goals as goal
 
 pub returns-then-same_operator : goal.returns-then-same_operator
 returns-then-same_operator c =
