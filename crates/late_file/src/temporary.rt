@@ -5,10 +5,10 @@
 //! the old file the second name `NAME.part1`, and writes it. Until that is done one of the two names is there, so that who makes
 //! `NAME.part0` meanwhile sees the other, and isn't the owner. All others rename a file of their own.
 
-ghost use Rattle.std.specs.Prelude.{◌≡◌, ◌≢◌, None, true, IfErr, IsTrue};
+ghost use Rattle.std.specs.Prelude.{◌≡◌, ◌≢◌, None, true, false, IfErr, IsTrue};
 ghost use Rattle.std.specs.Fs.{file_type, IsFile};
 ghost use Rattle.late_file.specs.Temporary.{lacks_room};
-ghost use Rattle.late_file.specs.declared.temporary.Way.TheVariants.{InPlace};
+ghost use Rattle.late_file.specs.declared.temporary.Way.TheVariants.{InPlace, PutBack};
 
 use std::alloc::Global;
 use std::fs::{Metadata, OpenFile, OpenOptions};
@@ -137,7 +137,8 @@ pub fn way_of<R: Files>(
     old: &Option<Metadata>,
     is_alone: bool,
 ) -> Way
-    ensures { old.now ≡ None → result ≢ InPlace }
+    ensures new { old.now ≡ None → result ≢ InPlace }
+    ensures lock { is_alone ≡ false → result ≢ PutBack }
 {
     if !fits(rt, alloc, name, file, old) {
         return Way::InPlace;

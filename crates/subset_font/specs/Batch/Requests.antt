@@ -39,6 +39,10 @@ is_written_if before (Some name) = is_written before name
 abbrev pub is_named_before : List Request → Job → Bool
 is_named_before before job = is_written_if before (output_name job) || is_written_if before (pdf_name job)
 
+-- the keys of a map are the names of all files that requests write
+abbrev pub AreNames : List Request → HashMap (String Global) (Unit {0}) → Type 0
+AreNames requests names = (name : List ℕ) → is_some (get bytes_eq names name) ≡ is_written requests name
+
 -- ---- how far requests are before anything is made
 
 -- a request is to be done, unless one before writes its file, too
