@@ -38,11 +38,11 @@ impl fmt::Display for Shown<'_> {
     }
 }
 
-/// The name of a file as a line has it: whole, with U+FFFD for the characters that a line doesn't have.
+/// A name as a line has it: whole, with U+FFFD for the characters that a line doesn't have.
 #[derive(Clone, Copy)]
-pub struct FileName<'a>(pub &'a str);
+pub struct Plain<'a>(pub &'a str);
 
-impl fmt::Display for FileName<'_> {
+impl fmt::Display for Plain<'_> {
     fn fmt(&self, f: &mut fmt::Formatter<'_>) -> fmt::Result {
         for character in self.0.chars() {
             write!(f, "{}", plain(character))?;

@@ -3,7 +3,7 @@
 
 use crate::rattle::prelude::{AllocGlobal, Input, Print, String, Vec};
 
-use crate::proved::subset_args::{FileName, Job};
+use crate::proved::subset_args::{Job, Plain};
 use crate::proved::subset_font::batch::answers::{failed, Answer};
 use crate::proved::subset_font::making::carried::read_whole;
 use crate::proved::subset_font::making::outcome::{make_planned, Outcome};
@@ -166,7 +166,7 @@ pub fn answer_apart<R: Files + Print + Input + AllocGlobal>(
 ) -> Answer {
     match answers_file(rt, job) {
         Some(name) => {
-            let text = format!(in rt.alloc(); "the answers go to {}", FileName(name));
+            let text = format!(in rt.alloc(); "the answers go to {}", Plain(name));
             failed(AMONG_ANSWERS, text)
         }
         None => answer_of(rt, source, job),

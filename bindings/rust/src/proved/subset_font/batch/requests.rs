@@ -3,7 +3,7 @@
 
 use crate::rattle::prelude::{String, Vec};
 
-use crate::proved::subset_args::{FileName, Job};
+use crate::proved::subset_args::{Job, Plain};
 use crate::proved::subset_batch::{lines_of, Line};
 use crate::proved::subset_font::batch::answers::{failed, Answer};
 use crate::proved::subset_font::batch::orders::order_of;
@@ -77,7 +77,7 @@ pub fn first_state(
 ) -> State {
     match named_before(before, names, job) {
         Some(name) => {
-            let text = format!(in alloc; "a line before names {}, too", FileName(name));
+            let text = format!(in alloc; "a line before names {}, too", Plain(name));
             State::Answered(failed(NAMED_TWICE, text))
         }
         None => State::Due,
