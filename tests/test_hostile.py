@@ -243,16 +243,16 @@ def cff_font(glyphs, tokens):
 
 
 def test_info_takes_no_longer_than_its_limits(room):
-    (room / "in").write_bytes(cff_font(20000, 500_000))
+    (room / "in").write_bytes(cff_font(20000, 100_000))
     got = run("--info", "in", cwd=room, preexec_fn=seconds_of_processor(3))
     assert b"\nsubset refuses: not all tried\n" in got.stdout
     assert json.loads(run("--info", "--json", "in", cwd=room).stdout)["refusal"] == "not all tried"
-    (room / "in").write_bytes(cff_font(20, 500_000))
+    (room / "in").write_bytes(cff_font(20, 100_000))
     assert b"\nsubset accepts every glyph\n" in run("--info", "in", cwd=room).stdout
 
 
 def test_the_reason_for_a_refusal_is_looked_for_within_twice_the_limits(room):
-    (room / "in").write_bytes(cff_font(20000, 500_000))
+    (room / "in").write_bytes(cff_font(20000, 100_000))
     got = run("--limits", "100,64", "--gids", "*", "in", "out", "0", cwd=room, status=1, preexec_fn=seconds_of_processor(3))
     assert got.stderr == b"processing CFF table failed\ntwice the given --limits is too little, too, or the font is wrong\n"
     (room / "in").write_bytes(cff_font(20, 100))
