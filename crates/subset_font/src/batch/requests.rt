@@ -1,9 +1,8 @@
 //! The requests of a batch, and the answers to them.
 
 ghost use Rattle.std.specs.Prelude.{◌≡◌, ◌||◌, ℕ, List, OnOk, IfOk, is_some, slice_get, slice_set};
-ghost use Rattle.std.specs.HashMap.{get};
+ghost use Rattle.std.specs.HashMap.{get_by_text};
 ghost use Rattle.std.specs.Option.{option_copied};
-ghost use Rattle.std.specs.Str.{bytes_eq};
 ghost use Rattle.subset_batch.specs.Lines.{request_lines};
 ghost use Rattle.subset_batch.specs.View.{line_view};
 ghost use Rattle.subset_font.specs.Batch.Requests.{is_of_name, writes, writes_if, is_written, is_written_if, is_named_before, AreNames, IsFirst, IsBegun, AddsLine, AreBegun, due, of_source, answer_in};
@@ -129,7 +128,7 @@ fn add_name(
     names: &mut HashMap<String, ()>,
     name: Option<&str>,
 ) -> Result<(), AllocError>
-    ensures { OnOk result ((q : List ℕ) → is_some (get bytes_eq names.new q) ≡ (is_of_name q (option_copied name.entry) || is_some (get bytes_eq names.old q))) }
+    ensures { OnOk result ((q : List ℕ) → is_some (get_by_text names.new q) ≡ (is_of_name q (option_copied name.entry) || is_some (get_by_text names.old q))) }
 {
     if let Some(name) = name {
         let name = String::from_str(alloc, name)?;
@@ -144,7 +143,7 @@ pub fn add_names(
     names: &mut HashMap<String, ()>,
     job: &Job,
 ) -> Result<(), AllocError>
-    ensures { OnOk result ((q : List ℕ) → is_some (get bytes_eq names.new q) ≡ (writes job.now q || is_some (get bytes_eq names.old q))) }
+    ensures { OnOk result ((q : List ℕ) → is_some (get_by_text names.new q) ≡ (writes job.now q || is_some (get_by_text names.old q))) }
 {
     add_name(alloc, names, given(&job.output))?;
     add_name(alloc, names, pdf_file(job))
@@ -156,7 +155,7 @@ fn add_names_if(
     names: &mut HashMap<String, ()>,
     job: &Option<Job>,
 ) -> Result<(), AllocError>
-    ensures { OnOk result ((q : List ℕ) → is_some (get bytes_eq names.new q) ≡ (writes_if job.now q || is_some (get bytes_eq names.old q))) }
+    ensures { OnOk result ((q : List ℕ) → is_some (get_by_text names.new q) ≡ (writes_if job.now q || is_some (get_by_text names.old q))) }
 {
     match job {
         Some(job) => add_names(alloc, names, job),
@@ -165,7 +164,7 @@ fn add_names_if(
 }
 
 /// Adds the request of a line, and the names of the files that it writes.
-#[tactic(auto, using(crate::proofs::BatchLaws::adds_line))]
+#[tactic(auto, using(crate::proofs::BatchLaws::adds_line, crate::proofs::BatchLaws::named_last))]
 fn push_line(
     alloc: Global,
     batch: &mut Batch,
