@@ -10,13 +10,13 @@ use crate::host::rt::{AllocGlobal, Eprint, HostRuntime};
 use crate::host::turns;
 use crate::proved::subset_args::Shown;
 use crate::proved::subset_font::{
-    answer_of, batch_or_status, due, due_of, hold_streams, is_shown, read_arguments, read_lines,
-    read_source, run_by, set_answer, status_of_batch, AnswerLines, Batch, Ended, Failure, Report,
-    Request, State,
+    answer_apart, batch_or_status, due, due_of, hold_streams, is_shown, next_of_source,
+    read_arguments, read_lines, read_source, refuse_memory, run_by, set_answer, status_of_batch,
+    AnswerLines, Batch, Ended, Failure, Report, Request, State,
 };
-use crate::proved::subsetter::Error;
 use crate::rattle::io::{self, BufWriter, Write};
 use crate::rattle::prelude::String;
+use std::iter;
 use std::sync::atomic::{AtomicUsize, Ordering};
 use std::sync::mpsc;
 use std::thread::{self, Builder};
@@ -109,25 +109,27 @@ fn run_requests(rt: &HostRuntime, batch: Batch, count: usize) -> u8 {
     let is_shown = is_shown(rt);
     let lines = match BufWriter::new(rt.alloc(), io::writer(rt)) {
         Ok(lines) => lines,
-        Err(_) => {
-            let ended = Err(Failure::Error(Error::OutOfMemory));
-            return status_of_batch(rt, &ended, false, false);
-        }
+        Err(_) => return refuse_memory(rt),
     };
     let Batch {
         requests,
         mut states,
     } = batch;
+    let next = match next_of_source(rt.alloc(), &requests) {
+        Ok(next) => next,
+        Err(_) => return refuse_memory(rt),
+    };
     turns::set(count);
     let mut answers = AnswerLines::new(lines, is_shown);
-    let ended = answer_all(rt, &requests, &mut states, count, &mut answers);
+    let ended = answer_all(rt, &requests, &next, &mut states, count, &mut answers);
     status_of_batch(rt, &ended, answers.has_failed(), is_shown)
 }
 
-/// Does all requests, source by source, and writes the answers.
+/// Does all requests, source by source, by the index of each one's next, and writes the answers.
 fn answer_all<W: Write>(
     rt: &HostRuntime,
     requests: &[Request],
+    next: &[usize],
     states: &mut [State],
     count: usize,
     answers: &mut AnswerLines<W>,
@@ -137,7 +139,8 @@ fn answer_all<W: Write>(
         if let Some(job) = due(requests, states, first) {
             let input = job.input.as_str();
             let of_source = |index: &usize| due_of(requests, states, *index, input).is_some();
-            let indexes: Vec<usize> = (first..requests.len()).filter(of_source).collect();
+            let chain = iter::successors(Some(first), |index| next.get(*index).copied());
+            let indexes: Vec<usize> = chain.filter(of_source).collect();
             answer_source(rt, requests, states, input, &indexes, count, answers)?;
         }
     }
@@ -162,7 +165,7 @@ fn answer_source<W: Write>(
     let work = |send: mpsc::Sender<_>| {
         while let Some(&index) = indexes.get(next.fetch_add(1, Ordering::Relaxed)) {
             if let Some(job) = &requests[index].job {
-                let answer = turns::in_turn(|| answer_of(rt, &source, job));
+                let answer = turns::in_turn(|| answer_apart(rt, &source, job));
                 if send.send((index, answer)).is_err() {
                     return;
                 }

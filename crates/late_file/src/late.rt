@@ -1,14 +1,13 @@
 //! A file that is made by its first write.
 
-ghost use Rattle.std.specs.Prelude.{◌≡◌, OnOk, None, IsTrue};
-ghost use Rattle.std.specs.Fs.{file_type, IsFile};
+ghost use Rattle.std.specs.Prelude.{◌≡◌, OnOk, None};
 ghost use Rattle.late_file.specs.Late.{lacks_call};
+ghost use Rattle.late_file.specs.declared.temporary.Way.TheVariants.{PutBack};
 
-use crate::temporary::{Beside, make_beside, replace};
+use crate::temporary::{Beside, TRIES, Way, finish, make_beside, way_of};
 use std::alloc::Global;
 use std::fs::{Metadata, OpenFile, OpenOptions};
 use std::io::{ErrorKind, Write};
-use std::os::unix::fs::MetadataExt;
 use std::rt::Files;
 use std::{fs, io};
 
@@ -22,23 +21,28 @@ fn lacks_call(error: &io::Error) -> bool
     )
 }
 
-/// Whether a file can be replaced by another: it is a regular one that has no second name.
-fn is_replaceable(about: &Metadata) -> bool
-    ensures { IsTrue result → IsFile (file_type about.now) }
-{
-    about.is_file() && about.nlink() == 1
+/// What is known of the file of a name now, or was seen before, where the system doesn't tell; none where there is no such file.
+fn look_again<R: Files>(rt: &R, name: &str, seen: Option<Metadata>) -> Option<Metadata> {
+    match fs::symlink_metadata(rt, name) {
+        Ok(now) => Some(now),
+        Err(error) if error.kind() == ErrorKind::NotFound => None,
+        Err(_) => seen,
+    }
 }
 
 /// A file that is made by its first write, so that nothing is touched before. It is written beside the file of its name,
 /// where a file can be made there, and is given the name by `flush`. A file that isn't flushed is gone with its value. Where
-/// nothing can be known of the file of its name, or there is no room for another, the write fails and touches nothing.
+/// nothing can be known of the file of its name, or there is no room for another, the write fails and touches nothing. Of
+/// several that are written under one name at a time, the last one to be flushed has it.
 pub struct LateFile<'a, R: Files> {
     rt: &'a R,
     alloc: Global,
     name: &'a str,
     file: Option<R::File>,
-    // What the file is called until it is flushed, if it has another name.
+    // What the file beside it is called until it is flushed, if there is one.
     beside: Option<String>,
+    // What is done with that file then.
+    way: Way,
 }
 
 impl<'a, R: Files> LateFile<'a, R> {
@@ -47,6 +51,7 @@ impl<'a, R: Files> LateFile<'a, R> {
         ensures name { result.name.now ≡ name.now }
         ensures unmade { result.file ≡ None }
         ensures unnamed { result.beside ≡ None }
+        ensures way { result.way ≡ PutBack }
     {
         LateFile {
             rt,
@@ -54,6 +59,7 @@ impl<'a, R: Files> LateFile<'a, R> {
             name,
             file: None,
             beside: None,
+            way: Way::PutBack,
         }
     }
 
@@ -62,9 +68,9 @@ impl<'a, R: Files> LateFile<'a, R> {
         // A write that a signal interrupted is made again.
         self.remove_beside()?;
         match fs::symlink_metadata(self.rt, self.name) {
-            Ok(about) if is_replaceable(&about) => {
+            Ok(about) if about.is_file() => {
                 OpenOptions::new().write(true).open(self.rt, self.name)?;
-                self.make_for(Some(&about))
+                self.make_for(Some(about))
             }
             Err(error) if error.kind() == ErrorKind::NotFound => self.make_for(None),
             Err(error) if !lacks_call(&error) => Err(error),
@@ -72,17 +78,39 @@ impl<'a, R: Files> LateFile<'a, R> {
         }
     }
 
-    /// Makes the file beside the one of its name, which is there or isn't, or where none can be beside it, in its place.
-    fn make_for(&mut self, old: Option<&Metadata>) -> io::Result<R::File> {
-        if let Some(made) = make_beside(self.rt, self.alloc, self.name, old)? {
-            let Beside { file, name, is_fit } = made;
-            self.beside = Some(name);
-            if is_fit {
-                return Ok(file);
-            }
-            self.remove_beside()?;
+    /// Makes the file beside the one of its name, of which this was seen, or where none can be beside it, in its place.
+    fn make_for(&mut self, seen: Option<Metadata>) -> io::Result<R::File> {
+        let Some(made) = make_beside(self.rt, self.alloc, self.name)? else {
+            return fs::create(self.rt, self.name);
+        };
+        let Beside {
+            file,
+            name: other,
+            is_alone,
+        } = made;
+        self.beside = Some(other);
+        let old = look_again(self.rt, self.name, seen);
+        self.way = way_of(self.rt, self.alloc, self.name, &file, &old, is_alone);
+        match self.way {
+            Way::InPlace => self.make_in_place(),
+            Way::PutBack | Way::Rename => Ok(file),
         }
-        fs::create(self.rt, self.name)
+    }
+
+    /// Makes the file in its place. The file beside it is made again, as the only one, and is there until all is written. So it is
+    /// known before that it can be removed. `ResourceBusy` where others have files there.
+    fn make_in_place(&mut self) -> io::Result<R::File> {
+        for _ in 0..TRIES {
+            self.remove_beside()?;
+            let Some(made) = make_beside(self.rt, self.alloc, self.name)? else {
+                return fs::create(self.rt, self.name);
+            };
+            self.beside = Some(made.name);
+            if made.is_alone {
+                return fs::create(self.rt, self.name);
+            }
+        }
+        Err(io::Error::from(ErrorKind::ResourceBusy))
     }
 
     /// Removes the file beside the one of its name, if it is made.
@@ -107,13 +135,13 @@ impl<'a, R: Files> LateFile<'a, R> {
         }
     }
 
-    /// Gives the file its name.
+    /// Gives the file its name, if it has another.
     fn take_name(&mut self) -> io::Result<()>
         ensures file { self.new.file ≡ self.old.file }
         ensures named { OnOk result (self.new.beside ≡ None) }
     {
         match &self.beside {
-            Some(other) => replace(self.rt, self.alloc, other.as_str(), self.name)?,
+            Some(other) => finish(self.rt, self.alloc, other.as_str(), self.name, self.way)?,
             None => return Ok(()),
         }
         self.beside = None;
@@ -155,6 +183,7 @@ impl<R: Files> Drop for LateFile<'_, R> {
             name: _,
             file: _,
             beside,
+            way: _,
         } = self;
         if let Some(other) = beside {
             let _ = fs::remove_file(rt, other.as_str());

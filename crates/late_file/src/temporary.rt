@@ -1,8 +1,14 @@
 //! A file beside another, which replaces it when it is whole. What the other one has besides its bytes is kept, as far as
 //! that can be: its rights by the new file, and the rest as the old file gets the new bytes, and then its name again.
+//!
+//! Several may be written under one name at a time. `NAME.part0`, which one alone can make, is their lock: only its owner gives
+//! the old file the second name `NAME.part1`, and writes it. Until that is done one of the two names is there, so that who makes
+//! `NAME.part0` meanwhile sees the other, and isn't the owner. All others rename a file of their own.
 
-ghost use Rattle.std.specs.Prelude.{◌≡◌, None, true, IfErr, IfOk, IfSome};
+ghost use Rattle.std.specs.Prelude.{◌≡◌, ◌≢◌, None, true, false, IfErr, IsTrue};
+ghost use Rattle.std.specs.Fs.{file_type, IsFile};
 ghost use Rattle.late_file.specs.Temporary.{lacks_room};
+ghost use Rattle.late_file.specs.declared.temporary.Way.TheVariants.{InPlace, PutBack};
 
 use std::alloc::Global;
 use std::fs::{Metadata, OpenFile, OpenOptions};
@@ -11,8 +17,8 @@ use std::os::unix::fs::MetadataExt;
 use std::rt::Files;
 use std::{fs, io};
 
-/// How many names are tried.
-const TRIES: u8 = 100;
+/// How many names are tried, and how often one alone.
+pub const TRIES: u8 = 100;
 
 /// A new file beside the one of a name.
 #[derive(Drop)]
@@ -21,8 +27,19 @@ pub struct Beside<F: Drop> {
     pub file: F,
     /// What it is called.
     pub name: String,
-    /// Whether it can replace the other, whose rights it has then.
-    pub is_fit: bool,
+    /// Whether no other can give the file of the name a second name, or write it, while this one is there.
+    pub is_alone: bool,
+}
+
+/// What is done with a file beside another, once all is written.
+#[derive(Clone, Copy)]
+pub enum Way {
+    /// It gets the name, and the file that had it gets its bytes and then the name again.
+    PutBack,
+    /// It gets the name.
+    Rename,
+    /// It is removed: the file of the name was written in its place.
+    InPlace,
 }
 
 /// A file that isn't there yet, and may only be written.
@@ -56,14 +73,80 @@ fn take_rights<F: OpenFile>(file: &F, old: &Metadata) -> bool {
     }
 }
 
-/// Whether a new file can replace another, if there is one, whose rights it gets.
-fn fits<F: OpenFile>(file: &F, old: Option<&Metadata>) -> bool
-    ensures { old.entry ≡ None → result ≡ true }
+/// The second name of the file of a name, while it gets other bytes.
+fn second_name(alloc: Global, name: &str) -> Option<String> {
+    format!(in alloc; "{name}.part1").ok()
+}
+
+/// Whether the file of a name has no second name by which it gets other bytes.
+fn is_free<R: Files>(rt: &R, alloc: Global, name: &str) -> bool {
+    let Some(second) = second_name(alloc, name) else {
+        return false;
+    };
+    match fs::symlink_metadata(rt, second.as_str()) {
+        Ok(_) => false,
+        Err(error) => error.kind() == ErrorKind::NotFound,
+    }
+}
+
+/// Whether a file has the second name by which that of a name gets other bytes.
+fn is_second<R: Files>(rt: &R, alloc: Global, name: &str, about: &Metadata) -> bool {
+    let Some(second) = second_name(alloc, name) else {
+        return false;
+    };
+    match fs::symlink_metadata(rt, second.as_str()) {
+        Ok(other) => other.dev() == about.dev() && other.ino() == about.ino(),
+        Err(_) => false,
+    }
+}
+
+/// Whether the file of a name has another one, but for the one by which it gets other bytes, which may just have gone.
+fn has_other_name<R: Files>(rt: &R, alloc: Global, name: &str, about: &Metadata) -> bool {
+    if about.nlink() == 1 || is_second(rt, alloc, name, about) {
+        return false;
+    }
+    match fs::symlink_metadata(rt, name) {
+        Ok(now) => now.nlink() != 1,
+        Err(_) => true,
+    }
+}
+
+/// Whether the file of a name can be replaced by another: it is a regular one that has no other name.
+fn is_replaceable<R: Files>(rt: &R, alloc: Global, name: &str, about: &Metadata) -> bool
+    ensures { IsTrue result → IsFile (file_type about.now) }
+{
+    about.is_file() && !has_other_name(rt, alloc, name, about)
+}
+
+/// Whether a new file can replace that of a name, if there is one, whose rights it gets.
+fn fits<R: Files>(rt: &R, alloc: Global, name: &str, file: &R::File, old: &Option<Metadata>) -> bool
+    ensures { old.now ≡ None → result ≡ true }
 {
     match old {
-        Some(old) => take_rights(file, old),
+        Some(old) => is_replaceable(rt, alloc, name, old) && take_rights(file, old),
         None => true,
     }
+}
+
+/// What is done with a file beside that of a name, of which this is known.
+pub fn way_of<R: Files>(
+    rt: &R,
+    alloc: Global,
+    name: &str,
+    file: &R::File,
+    old: &Option<Metadata>,
+    is_alone: bool,
+) -> Way
+    ensures new { old.now ≡ None → result ≢ InPlace }
+    ensures lock { is_alone ≡ false → result ≢ PutBack }
+{
+    if !fits(rt, alloc, name, file, old) {
+        return Way::InPlace;
+    }
+    if is_alone {
+        return Way::PutBack;
+    }
+    Way::Rename
 }
 
 /// A new file beside the one of a name, which is a regular file or isn't there. None where none can be made. Where that is for
@@ -72,10 +155,8 @@ pub fn make_beside<R: Files>(
     rt: &R,
     alloc: Global,
     name: &str,
-    old: Option<&Metadata>,
 ) -> io::Result<Option<Beside<R::File>>>
-    ensures fit { IfOk result (λ found. IfSome found (λ made. old.entry ≡ None → made.is_fit ≡ true)) }
-    ensures err { IfErr result (λ e. lacks_room e ≡ true) }
+    ensures { IfErr result (λ e. lacks_room e ≡ true) }
 {
     for number in 0..TRIES {
         let Ok(other) = format!(in alloc; "{name}.part{number}") else {
@@ -83,11 +164,11 @@ pub fn make_beside<R: Files>(
         };
         match open_new(rt, other.as_str()) {
             Ok(file) => {
-                let is_fit = fits(&file, old);
+                let is_alone = number == 0 && is_free(rt, alloc, name);
                 return Ok(Some(Beside {
                     file,
                     name: other,
-                    is_fit,
+                    is_alone,
                 }));
             }
             Err(error) if lacks_room(&error) => return Err(error),
@@ -97,16 +178,12 @@ pub fn make_beside<R: Files>(
     Ok(None)
 }
 
-/// Another name for the file of a name, beside it. None where it can't have one.
-fn link_beside<R: Files>(rt: &R, alloc: Global, name: &str) -> Option<String> {
+/// Gives the file of a name its second name, and answers that. None where it can't have it.
+fn link_second<R: Files>(rt: &R, alloc: Global, name: &str) -> Option<String> {
+    let second = second_name(alloc, name)?;
     fs::symlink_metadata(rt, name).ok()?;
-    for number in 0..TRIES {
-        let other = format!(in alloc; "{name}.part{number}").ok()?;
-        if fs::hard_link(rt, name, other.as_str()).is_ok() {
-            return Some(other);
-        }
-    }
-    None
+    fs::hard_link(rt, name, second.as_str()).ok()?;
+    Some(second)
 }
 
 /// Gives the file of a name the bytes of another, on its disk, and then the other's name.
@@ -120,8 +197,8 @@ fn put_back<R: Files>(rt: &R, old: &str, name: &str) -> io::Result<()> {
 /// Gives a whole file a name. The file that had the name gets its bytes, and then the name again, so that its access list and
 /// its other attributes stay. At each moment the file of the name is what it was, or whole. Where the old file can't be
 /// written the new one keeps the name.
-pub fn replace<R: Files>(rt: &R, alloc: Global, made: &str, name: &str) -> io::Result<()> {
-    let old = link_beside(rt, alloc, name);
+fn replace<R: Files>(rt: &R, alloc: Global, made: &str, name: &str) -> io::Result<()> {
+    let old = link_second(rt, alloc, name);
     let renamed = fs::rename(rt, made, name);
     if let Some(old) = old {
         if renamed.is_err() || put_back(rt, old.as_str(), name).is_err() {
@@ -129,4 +206,13 @@ pub fn replace<R: Files>(rt: &R, alloc: Global, made: &str, name: &str) -> io::R
         }
     }
     renamed
+}
+
+/// Does with the file beside that of a name what is to be done with it.
+pub fn finish<R: Files>(rt: &R, alloc: Global, made: &str, name: &str, way: Way) -> io::Result<()> {
+    match way {
+        Way::PutBack => replace(rt, alloc, made, name),
+        Way::Rename => fs::rename(rt, made, name),
+        Way::InPlace => fs::remove_file(rt, made),
+    }
 }

@@ -1,5 +1,6 @@
 -- What an argument or a file lists: characters and glyphs.
 pub mod Characters
+pub mod Few
 pub mod Files
 pub mod ListView
 pub mod Lists

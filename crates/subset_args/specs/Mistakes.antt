@@ -9,7 +9,7 @@ use Rattle.subset_args.specs.Coordinates.{coordinate_in}
 use Rattle.subset_args.specs.Options.{kind_of, looks_like_option, coding_in, holds_rights}
 use Rattle.subset_args.specs.declared.options.names.Kind.TheVariants.{Place}
 use Rattle.subset_args.specs.declared.mistakes.mistake.Wrong.{Wrong}
-use Rattle.subset_args.specs.declared.mistakes.mistake.Wrong.TheVariants.{NoInput, NoOutput, NoIndex, NoGlyphs, Further, BehindShown, Late, ShownLate, NoBatchFile, BehindBatch, BatchLate, Unknown, Twice, NoValue, GlyphsTwice, BesideOption, InputTwice, Index, FaceIndex, Glyph, Limits, Coordinate, Part, Descends, Codes, CodesDescend, BesideInput, NoOutputOption, NoSource, Coding, Rights, NoPdf, OutputTwice}
+use Rattle.subset_args.specs.declared.mistakes.mistake.Wrong.TheVariants.{NoInput, NoOutput, NoIndex, NoGlyphs, Further, BehindShown, Late, ShownLate, NoBatchFile, BehindBatch, BatchLate, Unknown, Twice, NoValue, GlyphsTwice, BesideOption, InputTwice, Index, FaceIndex, Glyph, Limits, Coordinate, Part, Descends, Codes, CodesDescend, TooMany, BesideInput, NoOutputOption, NoSource, Coding, Rights, NoPdf, OutputTwice}
 
 -- what is said of an argument, or of a value that it lists, is so as far as its own bytes show
 abbrev pub IsWrong : Wrong → List ℕ → Type 0
@@ -39,6 +39,7 @@ IsWrong Part word = ¬ (IsUtf8 word) ⊎ (ends_in word ≡ None)
 IsWrong Descends word = descends word ≡ true
 IsWrong Codes word = ¬ (IsUtf8 word) ⊎ (codes_in word ≡ None)
 IsWrong CodesDescend word = codes_descend word ≡ true
+IsWrong TooMany word = Unit {0}
 IsWrong BesideInput word = Unit {0}
 IsWrong NoOutputOption word = Unit {0}
 IsWrong NoSource word = Unit {0}

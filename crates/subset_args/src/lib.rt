@@ -32,4 +32,6 @@ pub use mistakes::free::find_mistake;
 pub use mistakes::mistake::{Mistake, Wrong};
 pub use options::chosen::{PdfChoice, Switches};
 pub use options::names::{Coding, OPTIONS};
-pub use texts::{Advice, CODES_EXPECTED, ORDER_EXPECTED, PARTS_EXPECTED, Shown};
+pub use texts::{
+    Advice, CODES_EXPECTED, FEW_EXPECTED, ORDER_EXPECTED, PARTS_EXPECTED, Plain, Shown,
+};

@@ -6,6 +6,7 @@ ghost use Rattle.subset_batch.specs.View.{fault_view};
 
 use std::alloc::{AllocError, AllocFailed};
 use std::fmt;
+use subset_args::Plain;
 
 /// What is expected in a line.
 #[derive(Clone, Copy, Debug, PartialEq, Eq)]
@@ -99,9 +100,10 @@ impl fmt::Display for Fault {
             Fault::Expected(wanted, at) => write!(f, "expected after {at} bytes: {wanted}"),
             Fault::Unknown(name, at) => write!(
                 f,
-                "no member has the name after {at} bytes: {name}"
+                "no member has the name after {at} bytes: {}",
+                Plain(name)
             ),
-            Fault::Twice(name) => write!(f, "two members have the name {name}"),
+            Fault::Twice(name) => write!(f, "two members have the name {}", Plain(name)),
         }
     }
 }

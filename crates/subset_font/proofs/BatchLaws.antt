@@ -1,7 +1,7 @@
 -- The answers of a batch, and the requests of the lines so far.
-use Rattle.std.proofs.Common.{◌≡◌, ◌⊎◌, inl, inr, ℕ, ◌-◌, ◌≤◌, List, [], ◌∷◌, ◌++◌, Option, Some, None, Result, Ok, Err, refl, sym, ap, subst, ◌∙◌, append_assoc, append-nil, length, get_or, take, drop, arith}
+use Rattle.std.proofs.Common.{◌≡◌, ◌⊎◌, inl, inr, Bool, true, false, ◌||◌, ℕ, ◌-◌, ◌≤◌, List, [], ◌∷◌, ◌++◌, Option, Some, None, Result, Ok, Err, refl, sym, ap, subst, ◌∙◌, append_assoc, append-nil, length, get_or, take, drop, arith}
 use Rattle.std.proofs.lemmas.List.{take_rest}
-use Rattle.std.specs.Prelude.{IfOk, IfErr, Vec, String, map, string_bytes}
+use Rattle.std.specs.Prelude.{IfOk, IfErr, Vec, String, is_some, map, string_bytes}
 use Rattle.std.specs.Global.{Global}
 use Rattle.std.specs.Option.{option_map, option_and_then}
 use Rattle.subset_args.specs.Request.{Request as Requested, lists_in_stream, PdfRequest}
@@ -18,7 +18,8 @@ use Rattle.subsetter_base.specs.declared.error.Error.TheVariants.{OutOfMemory}
 use Rattle.subset_font.specs.Batch.Answers.{IsFailedWith}
 use Rattle.subset_font.specs.Batch.Making.{IsDone, IsUndone, named_text, message_of, IsAnswer, IsAnswerTo}
 use Rattle.subset_font.specs.Batch.Orders.{is_given_stream, order_by, order_of, words_in, IsNoOrder}
-use Rattle.subset_font.specs.Batch.Requests.{IsBegun, AddsLine, AreBegun, none, one_more}
+use Rattle.std.specs.HashMap.{HashMap, get_by_text}
+use Rattle.subset_font.specs.Batch.Requests.{writes_if, is_written, AreNames, IsBegun, AddsLine, AreBegun, none, one_more}
 use Rattle.subset_font.specs.Chosen.{IsPlanOf}
 use Rattle.subset_font.specs.Files.{list_name, name_by}
 use Rattle.subset_font.specs.Making.Carried.{IsBeforeWriting, IsFailureOf, WritesAll}
@@ -117,6 +118,21 @@ pub failed_answer_to : (source : Result (Vec ℕ Global) Failure) (font : Vec �
 failed_answer_to source font bytes job failure answer is value why h = subst (λ (source : Result (Vec ℕ Global) Failure). IsAnswerTo source job answer) (sym is) (failed_answer font.items job failure answer (subst (λ (bytes : List ℕ). IsUndone bytes job failure) value why) h)
 
 -- ---- requests
+
+either_first : (a b c : Bool) → (b || (a || c)) ≡ (a || (b || c))
+either_first true true c = refl
+either_first true false c = refl
+either_first false true c = refl
+either_first false false c = refl
+
+-- whether the last of them writes a file, or one before
+written_last : (requests : List Request) (r : Request) (name : List ℕ) → is_written (requests ++ r ∷ []) name ≡ (writes_if r.job name || is_written requests name)
+written_last [] r name = refl
+written_last (first ∷ requests) r name = ap (λ (b : Bool). writes_if first.job name || b) (written_last requests r name) ∙ either_first (writes_if r.job name) (writes_if first.job name) (is_written requests name)
+
+-- the names of all are those of the last one and those before
+pub named_last : {S : Type 0} (requests : List Request) (r : Request) (old new : HashMap (String Global) (Unit {0}) S) → AreNames requests old → ((name : List ℕ) → is_some (get_by_text new name) ≡ (writes_if r.job name || is_some (get_by_text old name))) → AreNames (requests ++ r ∷ []) new
+named_last requests r old new before added = λ (name : List ℕ). added name ∙ (ap (λ (b : Bool). writes_if r.job name || b) (before name) ∙ sym (written_last requests r name))
 
 pub adds_line : (line : ℕ × List ℕ) (old new : Batch) (job : Option Job) (state : State) → IsBegun old.requests.items line.1 job state → new.requests.items ≡ old.requests.items ++ (record { line = line.0; job = job }) ∷ [] → new.states.items ≡ old.states.items ++ state ∷ [] → AddsLine line old new
 adds_line line old new job state begun requests states = record { job = job; state = state; is_begun = begun; requests = requests; states = states }

@@ -10,13 +10,13 @@ use Rattle.subset_font.specs.declared.streams.Target.TheVariants.{File as ToFile
 
 -- standard input by the one name that means it, else a file
 abbrev pub IsSource : {F S : Type 0} → List ℕ → Source F S → Type 0
-IsSource name (FromFile file) = is_stream name ≡ false
-IsSource name (FromStream stream) = is_stream name ≡ true
+IsSource name (FromFile file left) = is_stream name ≡ false
+IsSource name (FromStream stream left) = is_stream name ≡ true
 
 -- the bytes that it has left, where those of the file or of the stream are known
 abbrev pub source_left : {F S : Type 0} → (F → Option (List ℕ)) → (S → Option (List ℕ)) → Source F S → Option (List ℕ)
-source_left in_file in_stream (FromFile file) = in_file file
-source_left in_file in_stream (FromStream stream) = in_stream stream
+source_left in_file in_stream (FromFile file left) = in_file file
+source_left in_file in_stream (FromStream stream left) = in_stream stream
 
 -- nothing without a name, standard output by the one name that means it, else a file of the name that isn't made yet
 abbrev pub IsTarget : {R F D : Type 0} → Bor R → Option (List ℕ) → Target R F D → Type 0

@@ -19,10 +19,14 @@ mod run;
 mod streams;
 mod task;
 
-pub use batch::making::{answer_of, carry_answer, read_source};
+pub use batch::making::{answer_apart, answer_of, carry_answer, read_source};
 pub use batch::orders::order_of;
-pub use batch::requests::{Batch, Request, State, due, due_of, first_state, set_answer};
-pub use batch::running::{AnswerLines, batch_or_status, read_lines, status_of_batch};
+pub use batch::requests::{
+    Batch, Request, State, add_names, due, due_of, first_state, next_of_source, set_answer,
+};
+pub use batch::running::{
+    AnswerLines, batch_or_status, read_lines, refuse_memory, status_of_batch,
+};
 pub use faces::accepted::InfoParts;
 pub use faces::axes::{axes_there, carry_axes};
 pub use faces::info::carry_info;

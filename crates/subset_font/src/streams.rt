@@ -1,6 +1,8 @@
 //! The files and the standard streams that a run reads and writes.
 
 ghost use Rattle.std.specs.Prelude.{◌≡◌, true, false, IfOk, IfSome, OnErr, None};
+ghost use Rattle.std.specs.Io.{ReadsAtMost};
+ghost use Rattle.std.specs.Io.KnownBytes.{ReadConsumes};
 ghost use Rattle.std.specs.Option.{option_copied};
 ghost use Rattle.subset_args.specs.Request.{is_stream};
 ghost use Rattle.subset_font.specs.Streams.{IsSource, IsTarget};
@@ -12,13 +14,29 @@ use std::rt::Files;
 use std::{fs, io};
 use subset_args::is_stream;
 
-/// What the font or a list of glyphs is read from.
+/// The most bytes that are read of a file or a stream.
+pub const MOST_INPUT: u64 = 1 << 30;
+
+/// What the font or a list of glyphs is read from, and how many bytes may still be.
 #[derive(Drop)]
 pub enum Source<F: Read + Drop, S: Read + Drop> {
     /// A file.
-    File(F),
+    File(F, u64),
     /// Standard input.
-    Standard(S),
+    Standard(S, u64),
+}
+
+/// Reads where bytes are left that may be read, and counts them. `FileTooLarge` where none are.
+fn read_counted<R: Read>(reader: &mut R, left: &mut u64, buf: &mut [u8]) -> io::Result<usize>
+    ensures bound { ReadsAtMost result buf.new }
+    ensures bytes { ReadConsumes (R.remaining reader.old) (R.remaining reader.new) result buf.new }
+{
+    if *left == 0 {
+        return Err(io::Error::from(ErrorKind::FileTooLarge));
+    }
+    let count = reader.read(buf)?;
+    *left = left.saturating_sub(count as u64);
+    Ok(count)
 }
 
 impl<F: Read + Drop, S: Read + Drop> Read for Source<F, S> {
@@ -28,21 +46,21 @@ impl<F: Read + Drop, S: Read + Drop> Read for Source<F, S> {
 
     fn read(&mut self, buf: &mut [u8]) -> io::Result<usize> {
         match self {
-            Source::File(file) => file.read(buf),
-            Source::Standard(stream) => stream.read(buf),
+            Source::File(file, left) => read_counted(file, left, buf),
+            Source::Standard(stream, left) => read_counted(stream, left, buf),
         }
     }
 }
 
-/// Opens what is read.
+/// Opens what is read, of which a byte more than may be is read, to see the end.
 pub fn open_source<R: Files + Input>(rt: &R, name: &str) -> io::Result<Source<R::File, R::Reader>>
     ensures ok { IfOk result (IsSource name.now) }
     ensures err { OnErr result (is_stream name.now ≡ false) }
 {
     if is_stream(name) {
-        return Ok(Source::Standard(rt.reader()));
+        return Ok(Source::Standard(rt.reader(), MOST_INPUT + 1));
     }
-    Ok(Source::File(fs::open(rt, name)?))
+    Ok(Source::File(fs::open(rt, name)?, MOST_INPUT + 1))
 }
 
 /// Opens three descriptors, of a folder: by these nothing can be read or written. Where a standard stream is closed at the

@@ -1,14 +1,12 @@
 //! The requests of a file, read in threads. What a line requests, and whether a line before it names its file, is found by the
-//! calls that find it without threads, so that the requests are the same for each N. The latter compares a file with those of
-//! all lines before; here it gets the one line that a map has for the file.
+//! calls that find it without threads, so that the requests are the same for each N.
 
 use crate::proved::subset_batch::{lines_of, Line};
-use crate::proved::subset_font::{first_state, order_of, Batch, Request, State};
+use crate::proved::subset_font::{add_names, first_state, order_of, Batch, Request, State};
 use crate::rattle::alloc::{AllocError, Global};
+use crate::rattle::collections::HashMap;
 use crate::rattle::prelude;
-use std::collections::BTreeMap;
 use std::panic;
-use std::slice;
 use std::sync::atomic::{AtomicUsize, Ordering};
 use std::thread::{self, Builder};
 use std::vec::Vec;
@@ -31,25 +29,24 @@ pub fn requests_in(alloc: Global, file: &[u8], count: usize) -> Result<Batch, Al
         requests.push(Request { line, job })?;
         states.push(state)?;
     }
-    find_named_twice(alloc, &requests, &mut states);
+    find_named_twice(alloc, &requests, &mut states)?;
     Ok(Batch { requests, states })
 }
 
 /// Sets how far each request is that isn't wrong: it is to be done, unless one before writes its OUT or PDF, too.
-fn find_named_twice(alloc: Global, requests: &[Request], states: &mut [State]) {
-    let mut writers = BTreeMap::new();
-    for (request, state) in requests.iter().zip(states) {
+fn find_named_twice(
+    alloc: Global,
+    requests: &[Request],
+    states: &mut [State],
+) -> Result<(), AllocError> {
+    let mut names = HashMap::new(alloc);
+    for (index, (request, state)) in requests.iter().zip(states).enumerate() {
         if let Some(job) = &request.job {
-            let pdf = job.pdf.as_ref().map(|pdf| &pdf.file);
-            let files = || job.output.iter().chain(pdf).map(|file| file.as_str());
-            // (of those before it one that writes the first of its files that is named says all)
-            let writer = files().find_map(|file| writers.get(file).copied());
-            *state = first_state(alloc, writer.map_or(&[][..], slice::from_ref), job);
-            for file in files() {
-                writers.insert(file, request);
-            }
+            *state = first_state(alloc, &requests[..index], &names, job);
+            add_names(alloc, &mut names, job)?;
         }
     }
+    Ok(())
 }
 
 /// What a call makes of each item, in the order of the items. So many threads, of which this is one, take some

@@ -5,7 +5,7 @@ use Rattle.std.specs.List.{slice_split, before_first, after_first, position_or_l
 use Rattle.std.specs.Char.{digit_value}
 use Rattle.std.specs.Str.{bytes_eq}
 use Rattle.std.specs.Str.Parse.{digits_value}
-use Rattle.subset_args.specs.Listing.Lists.{Ends, is_dash, in_order, is_less, between, parts, FileList, characters, text_of}
+use Rattle.subset_args.specs.Listing.Lists.{Ends, is_dash, in_order, is_less, between, few, parts, FileList, characters, text_of}
 use Rattle.subsetter_base.specs.Texts.{is_scalar}
 
 -- ---- a code of Unicode, in hexadecimal digits
@@ -65,11 +65,11 @@ parts_characters (part ∷ parts) = option_and_then (λ found. option_map (λ mo
 
 -- the characters that an argument lists, with a comma (44) between each two parts
 abbrev pub argument_characters : List ℕ → Option FileList
-argument_characters text = option_map characters (parts_characters (slice_split (λ b. b == 44) text))
+argument_characters text = option_map characters (few codes_in parts_characters (slice_split (λ b. b == 44) text))
 
 -- the characters that the text of a file lists: commas, blanks and line ends are between the parts
 abbrev pub file_characters : List ℕ → Option FileList
-file_characters text = option_map characters (parts_characters (parts text))
+file_characters text = option_map characters (few codes_in parts_characters (parts text))
 
 -- ---- a text
 

@@ -1,5 +1,5 @@
 -- The glyphs that a file lists.
-use Rattle.std.specs.Prelude.{ℕ, zero, suc, ◌+◌, ◌-◌, ◌==◌, ◌||◌, not, nat_le, nat_lt, Bool, false, if◌then◌else◌, List, [], ◌∷◌, ◌++◌, map, filter, length, Option, Some, None, codes}
+use Rattle.std.specs.Prelude.{ℕ, zero, suc, ◌+◌, ◌-◌, ◌==◌, ◌&&◌, ◌||◌, not, nat_le, nat_lt, Bool, true, false, if◌then◌else◌, List, [], ◌∷◌, ◌++◌, map, filter, length, Option, Some, None, codes}
 use Rattle.std.specs.Option.{option_map, option_and_then}
 use Rattle.std.specs.List.{slice_split, before_first, after_first, position_or_len}
 use Rattle.std.specs.Str.{bytes_eq}
@@ -62,6 +62,20 @@ abbrev pub parts_glyphs : List (List ℕ) → Option (List ℕ)
 parts_glyphs [] = Some []
 parts_glyphs (part ∷ parts) = option_and_then (λ glyphs. option_map (λ more. glyphs ++ more) (parts_glyphs parts)) (part_glyphs part)
 
+-- how many numbers are between two ends, with these
+abbrev pub size : Option Ends → ℕ
+size None = 0
+size (Some ends) = ends.last + 1 - ends.first
+
+-- whether the ends of parts have at most so many numbers between them
+abbrev pub fits : (List ℕ → Option Ends) → ℕ → List (List ℕ) → Bool
+fits ends most [] = true
+fits ends most (part ∷ parts) = nat_le (size (ends part)) most && fits ends (most - size (ends part)) parts
+
+-- what parts list, if that is 2,000,000 numbers at most
+abbrev pub few : (List ℕ → Option Ends) → (List (List ℕ) → Option (List ℕ)) → List (List ℕ) → Option (List ℕ)
+few ends listed parts = if fits ends 2000000 parts then listed parts else None
+
 -- the parts of a text between commas, blanks and line ends
 abbrev pub parts : List ℕ → List (List ℕ)
 parts text = slice_split (λ b. b == 44) (map as_comma text)
@@ -79,8 +93,8 @@ pub data FileList : Type 0 where
 
 -- the glyphs that an argument lists: numbers and ranges with commas, or `*`
 abbrev pub argument_list : List ℕ → Option FileList
-argument_list text = if bytes_eq text (codes "*") then Some every else option_map these (parts_glyphs (slice_split (λ b. b == 44) text))
+argument_list text = if bytes_eq text (codes "*") then Some every else option_map these (few ends_in parts_glyphs (slice_split (λ b. b == 44) text))
 
 -- the glyphs that the text of a file lists: numbers and ranges, or `*`
 abbrev pub glyphs_in_file : List ℕ → Option FileList
-glyphs_in_file text = if is_star text then Some every else option_map these (parts_glyphs (parts text))
+glyphs_in_file text = if is_star text then Some every else option_map these (few ends_in parts_glyphs (parts text))

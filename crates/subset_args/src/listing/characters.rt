@@ -4,22 +4,23 @@ ghost use Rattle.std.specs.Prelude.{◌≡◌, ◌⊎◌, ◌≤◌, ◌++◌, �
 ghost use Rattle.std.specs.Option.{option_map};
 ghost use Rattle.std.specs.List.{slice_split};
 ghost use Rattle.std.specs.Str.{IsUtf8};
-ghost use Rattle.subset_args.specs.Listing.Lists.{counting, as_comma, in_order, is_less, parts};
+ghost use Rattle.subset_args.specs.Listing.Lists.{counting, as_comma, in_order, is_less, few, parts};
 ghost use Rattle.subset_args.specs.Listing.Characters.{hex_in_32, hex_in, is_mark, marked, code_in, codes_in, codes_descend, characters_between, part_characters, parts_characters, argument_characters, file_characters, is_line_end, without_line_ends};
 ghost use Rattle.subsetter_base.specs.Texts.{is_scalar};
 ghost use Rattle.subset_args.specs.Listing.ListView.{codes_view, list_view};
 ghost use Rattle.subset_args.specs.declared.jobs.command.ArgsError.TheVariants.{Usage, OutOfMemory};
 
 use crate::jobs::command::ArgsError;
-use crate::listing::lists::{GlyphList, is_blank, is_less, with_commas};
+use crate::listing::few::are_few;
+use crate::listing::lists::{FileKind, GlyphList, is_blank, is_less, with_commas};
 use std::alloc::{AllocError, Global};
 use subsetter_words::parts_of;
 
 /// The ends of a range of codes.
 #[derive(Clone, Copy)]
 pub struct Codes {
-    first: u32,
-    last: u32,
+    pub first: u32,
+    pub last: u32,
 }
 
 /// Whether a plus is first, which `from_str_radix` accepts.
@@ -82,7 +83,7 @@ fn codes_in_order(first: u32, last: u32) -> Option<Codes>
 }
 
 /// The ends of a range or of one code.
-fn codes_in(part: &str) -> Option<Codes>
+pub fn codes_in(part: &str) -> Option<Codes>
     ensures { option_map codes_view result ≡ codes_in part.now }
 {
     match part.split_once('-') {
@@ -155,16 +156,27 @@ fn characters_in(alloc: Global, parts: &[&str]) -> Result<Vec<char>, ArgsError>
     Ok(characters)
 }
 
+/// The characters that parts list, if their numbers are few enough.
+fn few_characters(alloc: Global, parts: &[&str]) -> Result<Vec<char>, ArgsError>
+    ensures ok { IfOk result (λ v. few codes_in parts_characters (map (λ part. part.now) parts.now) ≡ Some v.items) }
+    ensures err { IfErr result (λ e. (e ≡ OutOfMemory) ⊎ ((e ≡ Usage) × (few codes_in parts_characters (map (λ part. part.now) parts.now) ≡ None))) }
+{
+    if !are_few(FileKind::Characters, parts) {
+        return Err(ArgsError::Usage);
+    }
+    characters_in(alloc, parts)
+}
+
 /// The characters that an argument lists: codes of Unicode and ranges, with commas, as `U+0041-005A,20AC`. Surrogates are no
 /// characters, and are passed over.
 ///
-/// `Usage` where it lists no characters so.
+/// `Usage` where it lists no characters so, or more than 2,000,000 numbers.
 pub fn read_characters(alloc: Global, text: &str) -> Result<GlyphList, ArgsError>
     ensures ok { IfOk result (λ list. argument_characters text.now ≡ Some (list_view list)) }
     ensures err { IfErr result (λ e. (e ≡ OutOfMemory) ⊎ ((e ≡ Usage) × (argument_characters text.now ≡ None))) }
 {
     let parts = parts_of(alloc, text)?;
-    Ok(GlyphList::Characters(characters_in(alloc, &parts)?))
+    Ok(GlyphList::Characters(few_characters(alloc, &parts)?))
 }
 
 /// The characters that the text of a file lists.
@@ -177,7 +189,7 @@ pub fn characters_in_file(alloc: Global, text: &[u8]) -> Result<GlyphList, ArgsE
         return Err(ArgsError::Usage);
     };
     let parts = parts_of(alloc, divided)?;
-    Ok(GlyphList::Characters(characters_in(alloc, &parts)?))
+    Ok(GlyphList::Characters(few_characters(alloc, &parts)?))
 }
 
 /// Whether a part of a list is no code of Unicode and no range.

@@ -4,11 +4,12 @@ ghost use Rattle.std.specs.Prelude.{◌≡◌, ◌⊎◌, ◌≤◌, ◌++◌, �
 ghost use Rattle.std.specs.Option.{option_map};
 ghost use Rattle.std.specs.List.{slice_split};
 ghost use Rattle.std.specs.Str.{IsUtf8};
-ghost use Rattle.subset_args.specs.Listing.Lists.{counting, is_blank, as_comma, is_star, in_order, ends_of_range, ends_in, is_less, descends, between, part_glyphs, parts_glyphs, parts, argument_list, glyphs_in_file};
+ghost use Rattle.subset_args.specs.Listing.Lists.{counting, is_blank, as_comma, is_star, in_order, ends_of_range, ends_in, is_less, descends, between, part_glyphs, parts_glyphs, parts, argument_list, glyphs_in_file, few};
 ghost use Rattle.subset_args.specs.Listing.ListView.{ends_view, list_view};
 ghost use Rattle.subset_args.specs.declared.jobs.command.ArgsError.TheVariants.{Usage, OutOfMemory};
 
 use crate::jobs::command::ArgsError;
+use crate::listing::few::are_few;
 use std::alloc::{AllocError, Global};
 use subsetter_words::{parts_of, u16_of};
 
@@ -39,8 +40,8 @@ pub enum FileKind {
 /// The ends of a range of glyphs.
 #[derive(Clone, Copy)]
 pub struct Ends {
-    first: u16,
-    last: u16,
+    pub first: u16,
+    pub last: u16,
 }
 
 /// Whether a byte is a blank, a tab or a line end.
@@ -93,7 +94,7 @@ fn in_order(first: u16, last: u16) -> Option<Ends>
 }
 
 /// The ends of a range or of one number.
-fn ends_in(part: &str) -> Option<Ends>
+pub fn ends_in(part: &str) -> Option<Ends>
     ensures { option_map ends_view result ≡ ends_in part.now }
 {
     match part.split_once('-') {
@@ -179,31 +180,42 @@ fn glyphs_in(alloc: Global, parts: &[&str]) -> Result<Vec<u16>, ArgsError>
     Ok(glyphs)
 }
 
+/// The glyphs that parts list, if they are few enough.
+fn few_glyphs(alloc: Global, parts: &[&str]) -> Result<Vec<u16>, ArgsError>
+    ensures ok { IfOk result (λ v. few ends_in parts_glyphs (map (λ part. part.now) parts.now) ≡ Some v.items) }
+    ensures err { IfErr result (λ e. (e ≡ OutOfMemory) ⊎ ((e ≡ Usage) × (few ends_in parts_glyphs (map (λ part. part.now) parts.now) ≡ None))) }
+{
+    if !are_few(FileKind::Glyphs, parts) {
+        return Err(ArgsError::Usage);
+    }
+    glyphs_in(alloc, parts)
+}
+
 /// The glyphs that numbers and ranges list.
 fn read_numbers(alloc: Global, text: &[u8]) -> Result<Vec<u16>, ArgsError>
-    ensures ok { IfOk result (λ v. parts_glyphs (parts text.now) ≡ Some v.items) }
-    ensures err { IfErr result (λ e. (e ≡ OutOfMemory) ⊎ ((e ≡ Usage) × (¬ (IsUtf8 (map as_comma text.now)) ⊎ (parts_glyphs (parts text.now) ≡ None)))) }
+    ensures ok { IfOk result (λ v. few ends_in parts_glyphs (parts text.now) ≡ Some v.items) }
+    ensures err { IfErr result (λ e. (e ≡ OutOfMemory) ⊎ ((e ≡ Usage) × (¬ (IsUtf8 (map as_comma text.now)) ⊎ (few ends_in parts_glyphs (parts text.now) ≡ None)))) }
 {
     let divided = with_commas(alloc, text)?;
     let Ok(divided) = str::from_utf8(divided.as_slice()) else {
         return Err(ArgsError::Usage);
     };
     let parts = parts_of(alloc, divided)?;
-    glyphs_in(alloc, &parts)
+    few_glyphs(alloc, &parts)
 }
 
 /// The glyphs that numbers and ranges with commas list.
 fn read_parts(alloc: Global, text: &str) -> Result<Vec<u16>, ArgsError>
-    ensures ok { IfOk result (λ v. parts_glyphs (slice_split (λ b. b == 44) text.now) ≡ Some v.items) }
-    ensures err { IfErr result (λ e. (e ≡ OutOfMemory) ⊎ ((e ≡ Usage) × (parts_glyphs (slice_split (λ b. b == 44) text.now) ≡ None))) }
+    ensures ok { IfOk result (λ v. few ends_in parts_glyphs (slice_split (λ b. b == 44) text.now) ≡ Some v.items) }
+    ensures err { IfErr result (λ e. (e ≡ OutOfMemory) ⊎ ((e ≡ Usage) × (few ends_in parts_glyphs (slice_split (λ b. b == 44) text.now) ≡ None))) }
 {
     let parts = parts_of(alloc, text)?;
-    glyphs_in(alloc, &parts)
+    few_glyphs(alloc, &parts)
 }
 
 /// The glyphs that an argument lists: numbers and ranges as `3,5,10-20`, or `*` for every glyph of the face.
 ///
-/// `Usage` where it lists no glyphs so.
+/// `Usage` where it lists no glyphs so, or more than 2,000,000.
 pub fn read_argument(alloc: Global, text: &str) -> Result<GlyphList, ArgsError>
     ensures ok { IfOk result (λ list. argument_list text.now ≡ Some (list_view list)) }
     ensures err { IfErr result (λ e. (e ≡ OutOfMemory) ⊎ ((e ≡ Usage) × (argument_list text.now ≡ None))) }
@@ -239,7 +251,7 @@ pub fn find_wrong_part(text: &[u8]) -> Option<&[u8]>
 /// The glyphs that the text of a file lists: numbers and ranges as `36-38`, divided by commas, blanks or line ends, or `*`
 /// for every glyph of the face.
 ///
-/// `Usage` where it lists no glyphs so.
+/// `Usage` where it lists no glyphs so, or more than 2,000,000.
 pub fn glyphs_in_file(alloc: Global, text: &[u8]) -> Result<GlyphList, ArgsError>
     ensures ok { IfOk result (λ list. glyphs_in_file text.now ≡ Some (list_view list)) }
     ensures err { IfErr result (λ e. (e ≡ OutOfMemory) ⊎ ((e ≡ Usage) × (¬ (IsUtf8 (map as_comma text.now)) ⊎ (glyphs_in_file text.now ≡ None)))) }

@@ -58,6 +58,8 @@ pub enum Wrong {
     Codes,
     /// It is a range of characters whose ends aren't in order.
     CodesDescend,
+    /// It is an option whose list has too many numbers.
+    TooMany,
     /// It is a second argument beside IN, where an option says OUT or INDEX.
     BesideInput,
     /// No option says OUT.

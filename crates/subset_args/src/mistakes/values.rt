@@ -6,6 +6,7 @@ ghost use Rattle.subset_args.specs.Mistakes.{IsWrong};
 use crate::coordinates::is_coordinate;
 use crate::jobs::parts::{is_name, is_same, is_stream};
 use crate::listing::characters::{codes_descend, is_wrong_codes};
+use crate::listing::few::is_few;
 use crate::listing::lists::{FileKind, descends, is_wrong_part};
 use crate::mistakes::mistake::{Mistake, Wrong, mistake_at};
 use crate::options::chosen::Chosen;
@@ -57,7 +58,7 @@ fn wrong_coordinate(list: &str) -> Option<Mistake<'_>>
     None
 }
 
-/// The first part of a list that is no number and no range.
+/// The first part of a list that is no number and no range, or that the list has too many.
 fn wrong_part(list: &str) -> Option<Mistake<'_>>
     ensures { IfSome result (λ m. IsWrong m.wrong m.word.now) }
 {
@@ -72,10 +73,13 @@ fn wrong_part(list: &str) -> Option<Mistake<'_>>
             return mistake_at(Wrong::Part, part);
         }
     }
-    None
+    if is_few(FileKind::Glyphs, list) {
+        return None;
+    }
+    mistake_at(Wrong::TooMany, "--gids")
 }
 
-/// The first part of a list that is no number and no range of characters.
+/// The first part of a list that is no number and no range of characters, or that the list has too many.
 fn wrong_codes(list: &str) -> Option<Mistake<'_>>
     ensures { IfSome result (λ m. IsWrong m.wrong m.word.now) }
 {
@@ -87,7 +91,10 @@ fn wrong_codes(list: &str) -> Option<Mistake<'_>>
             return mistake_at(Wrong::Codes, part);
         }
     }
-    None
+    if is_few(FileKind::Characters, list) {
+        return None;
+    }
+    mistake_at(Wrong::TooMany, "--unicodes")
 }
 
 /// What is wrong with a position on the axes.

@@ -1,6 +1,8 @@
 -- What a request of a batch makes of its source, and its answer.
-use Rattle.std.specs.Prelude.{◌≡◌, ◌⊎◌, ℕ, List, ◌++◌, Option, Some, None, Result, Ok, Err, Vec, codes, string_bytes}
+use Rattle.std.specs.Prelude.{◌≡◌, ◌⊎◌, ℕ, List, ◌++◌, Option, Some, None, Result, Ok, Err, Vec, codes, map, string_bytes}
 use Rattle.std.specs.Global.{Global}
+use Rattle.std.specs.Str.{chars, encode_utf8_all}
+use Rattle.subsetter_words.specs.Plain.{plain}
 use Rattle.subset_args.specs.declared.jobs.command.Job.{Job}
 use Rattle.subset_args.specs.declared.listing.lists.GlyphList.{GlyphList}
 use Rattle.subset_font.specs.Chosen.{IsUnlisted, IsPlanOf}
@@ -42,10 +44,10 @@ IsUndone bytes job failure = IsUnlisted failure ⊎ (IsRefusedJob bytes job fail
 
 -- ---- the answer
 
--- with the name of the file that failed, if one did
+-- with the name of the file that failed, if one did, as a line has it
 abbrev pub named_text : List ℕ → Option (List ℕ) → List ℕ
 named_text text None = text
-named_text text (Some name) = text ++ (codes " " ++ name)
+named_text text (Some name) = text ++ (codes " " ++ encode_utf8_all (map plain (chars name)))
 
 -- the first line of the message of a run that failed so; of one whose file of glyphs is no list, what is wrong with it
 abbrev pub message_of : Failure → Job → List ℕ

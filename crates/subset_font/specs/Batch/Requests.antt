@@ -1,5 +1,7 @@
 -- The requests of a batch, and how far each is.
-use Rattle.std.specs.Prelude.{◌≡◌, ℕ, Bool, true, false, ◌||◌, if◌then◌else◌, List, [], ◌∷◌, ◌++◌, Option, Some, None, slice_get, string_bytes}
+use Rattle.std.specs.Prelude.{◌≡◌, ℕ, Bool, true, false, ◌||◌, if◌then◌else◌, List, [], ◌∷◌, ◌++◌, Option, Some, None, String, is_some, slice_get, string_bytes}
+use Rattle.std.specs.Global.{Global}
+use Rattle.std.specs.HashMap.{HashMap, get_by_text}
 use Rattle.std.specs.Str.{bytes_eq}
 use Rattle.subset_args.specs.View.{job_view}
 use Rattle.subset_args.specs.declared.jobs.command.Job.{Job}
@@ -38,6 +40,10 @@ is_written_if before (Some name) = is_written before name
 -- whether a request writes a file that one before writes, too
 abbrev pub is_named_before : List Request → Job → Bool
 is_named_before before job = is_written_if before (output_name job) || is_written_if before (pdf_name job)
+
+-- the keys of a map are the names of all files that requests write
+abbrev pub AreNames : {S : Type 0} → List Request → HashMap (String Global) (Unit {0}) S → Type 0
+AreNames requests names = (name : List ℕ) → is_some (get_by_text names name) ≡ is_written requests name
 
 -- ---- how far requests are before anything is made
 

@@ -1,5 +1,5 @@
 -- Whether a subset of all glyphs of a face is made, and why not.
-use Rattle.std.specs.Prelude.{◌≡◌, ◌==◌, ℕ, Bool, true, false, if◌then◌else◌, List, length, Option, Some, None}
+use Rattle.std.specs.Prelude.{◌≡◌, ◌⊎◌, ◌==◌, ◌≤◌, ℕ, Bool, true, false, if◌then◌else◌, List, length, Option, Some, None, codes}
 use Rattle.std.specs.Borrow.{Bor}
 use Rattle.std.specs.Option.{option_map, unwrap_or}
 use Rattle.subsetter_base.specs.declared.error.Error.{Error as Refusal}
@@ -7,6 +7,7 @@ use Rattle.subsetter_base.specs.declared.error.Error.TheVariants.{UnknownKind, M
 use Rattle.subsetter_sfnt.specs.Extras.{all_extras}
 use Rattle.subsetter_sfnt.specs.Read.{Font}
 use Rattle.subset_args.specs.Listing.Lists.{counting}
+use Rattle.subsetter_type2.specs.declared.limits.Limits.{Limits}
 use Rattle.subset_font.specs.Chosen.{LimitsAreChosen}
 use Rattle.subset_font.specs.Making.Made.{IsMade, IsUnmade}
 use Rattle.subset_font.specs.Making.Requested.{face_glyphs}
@@ -19,21 +20,24 @@ use Rattle.subset_font.specs.declared.making.subset.Made.{Made}
 use Rattle.subset_font.specs.declared.refusals.failure.Failure.{Failure}
 use Rattle.subset_font.specs.declared.refusals.failure.Failure.TheVariants.{Error, NoMapping, NoInstance, NotPermitted, Usage, List as WrongList, Read, ReadList, Write, WritePdf, Output}
 
--- its task: the font as it is given, with all extras, within the default limits, and without widths
-abbrev pub IsPlain : ℕ → RequestedGlyphs → Task → Type 0
-IsPlain index requested task = (task.requested ≡ requested) × ((task.index ≡ index) × (LimitsAreChosen None task.options.limits × ((task.options.extras ≡ all_extras) × ((task.widths ≡ false) × (task.at ≡ None)))))
+-- its task: the font as it is given, with all extras, within limits, and without widths
+abbrev pub IsPlain : ℕ → Limits → RequestedGlyphs → Task → Type 0
+IsPlain index limits requested task = (task.requested ≡ requested) × ((task.index ≡ index) × ((task.options.limits ≡ limits) × ((task.options.extras ≡ all_extras) × ((task.widths ≡ false) × (task.at ≡ None)))))
 
--- a subset of all glyphs is made
+-- a subset of all glyphs is made, within no more tokens than the default
 pub record IsAccepted (font : Font) : Type 0 where
+  pub limits : Limits
+  pub few : limits.tokens ≤ 1000000
   pub task : Task
-  pub is_plain : IsPlain font.index Every task
+  pub is_plain : IsPlain font.index limits Every task
   pub made : Made
   pub is_made : IsMade task font.bytes made
 
 -- or none is made
 pub record IsRefusedWhole (font : Font) (failure : Failure) : Type 0 where
+  pub limits : Limits
   pub task : Task
-  pub is_plain : IsPlain font.index Every task
+  pub is_plain : IsPlain font.index limits Every task
   pub is_unmade : IsUnmade task font.bytes failure
 
 -- ---- what is known of the cause
@@ -45,8 +49,10 @@ listed_or_every given = if length given.now == 0 then Every else These given
 pub record IsCause (font : Font) (failure : Failure) (reason : Option (List ℕ)) : Type 0 where
   pub glyphs : Bor (List ℕ)
   pub are_all : glyphs.now ≡ counting 0 (unwrap_or (face_glyphs font) 0)
+  pub limits : Limits
+  pub are_default : LimitsAreChosen None limits
   pub task : Task
-  pub is_plain : IsPlain font.index (listed_or_every glyphs) task
+  pub is_plain : IsPlain font.index limits (listed_or_every glyphs) task
   pub is_text : reason ≡ option_map hint_text (hint_of failure task font.bytes)
 
 -- ---- the answer
@@ -82,7 +88,7 @@ pub record IsRefusedAs (font : Font) (refusal : List ℕ) (reason : Option (List
   pub is_text : refusal ≡ failure_text failure
   pub is_cause : IsCause font failure reason
 
--- what `subset` answers for all glyphs, by these texts
+-- what `subset` answers for all glyphs, by these texts, or that they take more than the limits
 abbrev pub IsAnswer : Font → Option (List ℕ) → Option (List ℕ) → Type 0
 IsAnswer font None reason = IsAccepted font × (reason ≡ None)
-IsAnswer font (Some refusal) reason = IsRefusedAs font refusal reason
+IsAnswer font (Some refusal) reason = IsRefusedAs font refusal reason ⊎ ((refusal ≡ codes "not all tried") × (reason ≡ None))

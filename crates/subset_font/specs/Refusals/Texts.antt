@@ -5,7 +5,7 @@ use Rattle.subsetter_base.specs.declared.tag.Tag.{Tag}
 use Rattle.subset_font.specs.declared.refusals.failure.Failure.{Failure}
 use Rattle.subset_font.specs.declared.refusals.failure.Failure.TheVariants.{Error, NoMapping, NoInstance, NotPermitted, Usage, List as WrongList, Read, ReadList, Write, WritePdf, Output}
 use Rattle.subset_font.specs.declared.refusals.hint.text.Hint.{Hint}
-use Rattle.subset_font.specs.declared.refusals.hint.text.Hint.TheVariants.{Woff, Woff2, NotFont, Empty, NoFace, NoHeader, CutDirectory, Cut, NoOutlines, NoGlyph, NoTable, NoEntries, Descends, Outside, Cff2, NoUnicode, WrongAxes, NoAxes, NoMetrics, FewMetrics, MoreBytes, LittleLimits, Forbidden}
+use Rattle.subset_font.specs.declared.refusals.hint.text.Hint.TheVariants.{Woff, Woff2, NotFont, Empty, NoFace, NoHeader, CutDirectory, Cut, NoOutlines, NoGlyph, NoTable, NoEntries, Descends, Outside, Cff2, NoUnicode, WrongAxes, NoAxes, NoMetrics, FewMetrics, MoreBytes, LittleLimits, GivenLimits, Forbidden}
 
 abbrev pub failure_text : Failure → List ℕ
 failure_text (Error e) = error_text e
@@ -64,4 +64,5 @@ hint_text NoMetrics = codes "hhea: numberOfHMetrics is 0"
 hint_text (FewMetrics count) = between (codes "hhea: numberOfHMetrics is ") count (codes ", and hmtx is shorter")
 hint_text (MoreBytes most) = between (codes "the new font has more than the ") most (codes " bytes of --limits")
 hint_text (LittleLimits tokens depth) = limits_text tokens depth
+hint_text GivenLimits = codes "twice the given --limits is too little, too, or the font is wrong"
 hint_text (Forbidden bit) = forbidden_text bit

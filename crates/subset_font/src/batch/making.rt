@@ -7,25 +7,29 @@ ghost use Rattle.subset_font.specs.Making.Sheet.{page_of};
 ghost use Rattle.subset_font.specs.Making.Carried.{IsBeforeWriting, IsFailureOf, WritesAll};
 ghost use Rattle.subset_font.specs.Refusals.Failure.{status_of};
 ghost use Rattle.subset_font.specs.Report.{report_of};
-ghost use Rattle.subset_font.specs.Batch.Answers.{IsFailedWith};
+ghost use Rattle.subset_font.specs.Batch.Answers.{IsFailedBy, IsFailedWith};
 ghost use Rattle.subset_font.specs.Batch.Making.{IsDone, IsUndone, named_text, message_of, IsAnswerTo};
 ghost use Rattle.subset_font.specs.declared.refusals.failure.Failure.TheVariants.{Error as Refused, Read as CannotRead, Write as CannotWrite, WritePdf as CannotWritePdf};
 ghost use Rattle.subsetter_base.specs.declared.error.Error.TheVariants.{OutOfMemory};
 
-use crate::batch::answers::Answer;
+use crate::batch::answers::{Answer, failed};
 use crate::making::carried::read_whole;
 use crate::making::outcome::{Outcome, make_planned};
 use crate::output::{write_font, write_numbers, write_page};
 use crate::refusals::failure::{Failure, file_by, given, list_file, pdf_file};
 use crate::run::job::{open_font, room_of};
 use crate::run::request::{list_of, plan_of};
-use crate::streams::Target;
+use crate::streams::{Target, is_to_standard_output};
 use crate::task::{Form, Plan};
 use std::alloc::{AllocError, Global};
 use std::io::Write;
 use std::rt::Files;
-use subset_args::Job;
+use subset_args::{Job, Plain};
 use subsetter::Error;
+use subsetter_words::plain_text;
+
+/// The status of a request that would write among the answers, as of wrong arguments.
+const AMONG_ANSWERS: u8 = 2;
 
 /// The bytes of a source.
 pub fn read_source<R: Files + Input + AllocGlobal>(rt: &R, name: &str) -> Result<Vec<u8>, Failure>
@@ -133,12 +137,15 @@ fn perform<R: Files + Print + Input + AllocGlobal>(
     carry_answer(rt.alloc(), font, &plan, &mut page, &mut output)
 }
 
-/// A text with the name of a file, if there is one.
+/// A text with the name of a file as a line has it, if there is one.
 fn named_text(alloc: Global, text: &str, name: Option<&str>) -> Result<String, AllocError>
     ensures { IfOk result (λ t. string_bytes t ≡ named_text text.now (option_copied name.entry)) }
 {
     match name {
-        Some(name) => format!(in alloc; "{text} {name}"),
+        Some(name) => {
+            let name = plain_text(alloc, name)?;
+            format!(in alloc; "{text} {name}")
+        }
         None => String::from_str(alloc, text),
     }
 }
@@ -183,5 +190,35 @@ pub fn answer_of<R: Files + Print + Input + AllocGlobal>(
     match perform(rt, font, job) {
         Ok(object) => Answer::Done(object),
         Err(failure) => answer_failed(rt.alloc(), &failure, job),
+    }
+}
+
+/// The file of a request that is the one to which the answers go, if it writes that.
+fn answers_file<'a, R: Files>(rt: &R, job: &'a Job) -> Option<&'a str> {
+    let output = given(&job.output);
+    if is_to_standard_output(rt, output) {
+        return output;
+    }
+    let page = pdf_file(job);
+    if is_to_standard_output(rt, page) {
+        return page;
+    }
+    None
+}
+
+/// Does a request as `answer_of` does, but for one that would write among the answers.
+pub fn answer_apart<R: Files + Print + Input + AllocGlobal>(
+    rt: &R,
+    source: &Result<Vec<u8>, Failure>,
+    job: &Job,
+) -> Answer
+    ensures { IsFailedBy 2 result ⊎ IsAnswerTo source.now job.now result }
+{
+    match answers_file(rt, job) {
+        Some(name) => {
+            let text = format!(in rt.alloc(); "the answers go to {}", Plain(name));
+            failed(AMONG_ANSWERS, text)
+        }
+        None => answer_of(rt, source, job),
     }
 }

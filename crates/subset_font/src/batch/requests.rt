@@ -1,16 +1,18 @@
 //! The requests of a batch, and the answers to them.
 
-ghost use Rattle.std.specs.Prelude.{◌≡◌, OnOk, IfOk, is_some, slice_get, slice_set};
+ghost use Rattle.std.specs.Prelude.{◌≡◌, ◌||◌, ℕ, List, OnOk, IfOk, is_some, slice_get, slice_set};
+ghost use Rattle.std.specs.HashMap.{get_by_text};
 ghost use Rattle.std.specs.Option.{option_copied};
 ghost use Rattle.subset_batch.specs.Lines.{request_lines};
 ghost use Rattle.subset_batch.specs.View.{line_view};
-ghost use Rattle.subset_font.specs.Batch.Requests.{is_of_name, writes, writes_if, is_written, is_written_if, is_named_before, IsFirst, IsBegun, AddsLine, AreBegun, due, of_source, answer_in};
+ghost use Rattle.subset_font.specs.Batch.Requests.{is_of_name, writes, writes_if, is_written, is_written_if, is_named_before, AreNames, IsFirst, IsBegun, AddsLine, AreBegun, due, of_source, answer_in};
 
 use crate::batch::answers::{Answer, failed};
 use crate::batch::orders::order_of;
 use crate::refusals::failure::{given, pdf_file};
 use std::alloc::{AllocError, Global};
-use subset_args::Job;
+use std::collections::HashMap;
+use subset_args::{Job, Plain};
 use subset_batch::{Line, lines_of};
 
 /// The status of a request whose OUT a line before has named, as of wrong arguments.
@@ -43,75 +45,58 @@ pub struct Batch {
     pub states: Vec<State>,
 }
 
-/// Whether a file that may be given has this name.
-fn is_of_name(name: &str, file: Option<&str>) -> bool
-    ensures { result ≡ is_of_name name.now (option_copied file.entry) }
+/// Whether one of the requests writes a file of this name, by the names of all that they write.
+fn is_written(before: &[Request], names: &HashMap<String, ()>, name: &str) -> bool
+    requires { AreNames before.now names.now }
+    ensures { result ≡ is_written before.now name.now }
 {
-    match file {
-        Some(file) => file == name,
-        None => false,
-    }
-}
-
-/// Whether a request writes a file of this name.
-fn writes(job: &Job, name: &str) -> bool
-    ensures { result ≡ writes job.now name.now }
-{
-    is_of_name(name, given(&job.output)) || is_of_name(name, pdf_file(job))
-}
-
-/// Whether a request that may be wrong writes a file of this name.
-fn writes_if(job: &Option<Job>, name: &str) -> bool
-    ensures { result ≡ writes_if job.now name.now }
-{
-    match job {
-        Some(job) => writes(job, name),
-        None => false,
-    }
-}
-
-/// Whether one of the requests writes a file of this name.
-fn is_written(requests: &[Request], name: &str) -> bool
-    ensures { result ≡ is_written requests.now name.now }
-{
-    let mut rest = requests;
-    while let [request, behind @ ..] = rest {
-        if writes_if(&request.job, name) {
-            return true;
-        }
-        rest = behind;
-    }
-    false
+    names.get(name).is_some()
 }
 
 /// This name, if one of the requests writes a file of it.
-fn if_written<'a>(before: &[Request], name: Option<&'a str>) -> Option<&'a str>
+fn if_written<'a>(
+    before: &[Request],
+    names: &HashMap<String, ()>,
+    name: Option<&'a str>,
+) -> Option<&'a str>
+    requires { AreNames before.now names.now }
     ensures { is_some result ≡ is_written_if before.now (option_copied name.entry) }
 {
     match name {
-        Some(name) if is_written(before, name) => Some(name),
+        Some(name) if is_written(before, names, name) => Some(name),
         Some(_) => None,
         None => None,
     }
 }
 
 /// A file that a request writes, and one before does, too.
-fn named_before<'a>(before: &[Request], job: &'a Job) -> Option<&'a str>
+fn named_before<'a>(
+    before: &[Request],
+    names: &HashMap<String, ()>,
+    job: &'a Job,
+) -> Option<&'a str>
+    requires { AreNames before.now names.now }
     ensures { is_some result ≡ is_named_before before.now job.now }
 {
-    match if_written(before, given(&job.output)) {
+    match if_written(before, names, given(&job.output)) {
         Some(name) => Some(name),
-        None => if_written(before, pdf_file(job)),
+        None => if_written(before, names, pdf_file(job)),
     }
 }
 
 /// How far a request is before anything is made: that it fails is known where it writes a file which one before writes, too.
-pub fn first_state(alloc: Global, before: &[Request], job: &Job) -> State
+pub fn first_state(
+    alloc: Global,
+    before: &[Request],
+    names: &HashMap<String, ()>,
+    job: &Job,
+) -> State
+    requires { AreNames before.now names.now }
     ensures { IsFirst (is_named_before before.now job.now) result }
 {
-    match named_before(before, job) {
+    match named_before(before, names, job) {
         Some(name) => {
-            let text = format!(in alloc; "a line before names {name}, too");
+            let text = format!(in alloc; "a line before names {}, too", Plain(name));
             State::Answered(failed(NAMED_TWICE, text))
         }
         None => State::Due,
@@ -119,24 +104,79 @@ pub fn first_state(alloc: Global, before: &[Request], job: &Job) -> State
 }
 
 /// The request of a line behind others, and how far it is.
-fn begin(alloc: Global, before: &[Request], line: &[u8]) -> (Option<Job>, State)
+fn begin(
+    alloc: Global,
+    before: &[Request],
+    names: &HashMap<String, ()>,
+    line: &[u8],
+) -> (Option<Job>, State)
+    requires { AreNames before.now names.now }
     ensures { IsBegun before.now line.now result.0 result.1 }
 {
     match order_of(alloc, line) {
         Ok(job) => {
-            let state = first_state(alloc, before, &job);
+            let state = first_state(alloc, before, names, &job);
             (Some(job), state)
         }
         Err(answer) => (None, State::Answered(answer)),
     }
 }
 
-/// Adds the request of a line.
-#[tactic(auto, using(crate::proofs::BatchLaws::adds_line))]
-fn push_line(alloc: Global, batch: &mut Batch, line: Line<'_>) -> Result<(), AllocError>
-    ensures { OnOk result (AddsLine (line_view line.entry) batch.old batch.new) }
+/// Adds the name of a file that a request writes, if it is given.
+fn add_name(
+    alloc: Global,
+    names: &mut HashMap<String, ()>,
+    name: Option<&str>,
+) -> Result<(), AllocError>
+    ensures { OnOk result ((q : List ℕ) → is_some (get_by_text names.new q) ≡ (is_of_name q (option_copied name.entry) || is_some (get_by_text names.old q))) }
 {
-    let (job, state) = begin(alloc, &batch.requests, line.bytes);
+    if let Some(name) = name {
+        let name = String::from_str(alloc, name)?;
+        names.insert(name, ())?;
+    }
+    Ok(())
+}
+
+/// Adds the names of the files that a request writes.
+pub fn add_names(
+    alloc: Global,
+    names: &mut HashMap<String, ()>,
+    job: &Job,
+) -> Result<(), AllocError>
+    ensures { OnOk result ((q : List ℕ) → is_some (get_by_text names.new q) ≡ (writes job.now q || is_some (get_by_text names.old q))) }
+{
+    add_name(alloc, names, given(&job.output))?;
+    add_name(alloc, names, pdf_file(job))
+}
+
+/// The same of a request that may be wrong.
+fn add_names_if(
+    alloc: Global,
+    names: &mut HashMap<String, ()>,
+    job: &Option<Job>,
+) -> Result<(), AllocError>
+    ensures { OnOk result ((q : List ℕ) → is_some (get_by_text names.new q) ≡ (writes_if job.now q || is_some (get_by_text names.old q))) }
+{
+    match job {
+        Some(job) => add_names(alloc, names, job),
+        None => Ok(()),
+    }
+}
+
+/// Adds the request of a line, and the names of the files that it writes.
+#[tactic(auto, using(crate::proofs::BatchLaws::adds_line, crate::proofs::BatchLaws::named_last))]
+fn push_line(
+    alloc: Global,
+    batch: &mut Batch,
+    names: &mut HashMap<String, ()>,
+    line: Line<'_>,
+) -> Result<(), AllocError>
+    requires { AreNames batch.old.requests.items names.old }
+    ensures line { OnOk result (AddsLine (line_view line.entry) batch.old batch.new) }
+    ensures names { OnOk result (AreNames batch.new.requests.items names.new) }
+{
+    let (job, state) = begin(alloc, &batch.requests, names, line.bytes);
+    add_names_if(alloc, names, &job)?;
     let line = line.number;
     batch.requests.push(Request { line, job })?;
     batch.states.push(state)?;
@@ -153,10 +193,11 @@ pub fn requests_of(alloc: Global, file: &[u8]) -> Result<Batch, AllocError>
         requests: Vec::new(alloc),
         states: Vec::new(alloc),
     };
+    let mut names = HashMap::new(alloc);
     let lines = lines_of(alloc, file)?;
     let mut rest = lines.as_slice();
     while let [line, behind @ ..] = rest {
-        push_line(alloc, &mut batch, *line)?;
+        push_line(alloc, &mut batch, &mut names, *line)?;
         rest = behind;
     }
     Ok(batch)
@@ -191,6 +232,31 @@ pub fn due_of<'a>(
         Some(job) if job.input.as_str() == input => Some(job),
         Some(_) => None,
         None => None,
+    }
+}
+
+/// For each request the index of the next one of its source; that of none, which is their number, where there is none.
+pub fn next_of_source(alloc: Global, requests: &[Request]) -> Result<Vec<usize>, AllocError> {
+    let mut next = Vec::with_capacity(alloc, requests.len())?;
+    let mut last: HashMap<String, usize> = HashMap::new(alloc);
+    for index in 0..requests.len() {
+        next.push(requests.len())?;
+        if let Some(job) = &requests[index].job {
+            let before = last.insert(job.input.clone()?, index)?;
+            if let Some(before) = before {
+                set_next(&mut next, before, index);
+            }
+        }
+    }
+    Ok(next)
+}
+
+/// Sets the next one of an index.
+fn set_next(next: &mut [usize], index: usize, other: usize)
+    ensures { next.new ≡ slice_set next.old index other }
+{
+    if index < next.len() {
+        next[index] = other;
     }
 }
 

@@ -6,9 +6,10 @@ ghost use Rattle.subset_font.specs.Batch.Running.{status_of_batch};
 ghost use Rattle.subset_font.specs.declared.refusals.failure.Failure.TheVariants.{Output};
 
 use crate::batch::answers::{has_failed, write_answer};
-use crate::batch::making::{answer_of, read_source};
+use crate::batch::making::{answer_apart, read_source};
 use crate::batch::requests::{
-    Batch, Request, State, answer_at, due, due_of, requests_of, set_answer, set_written,
+    Batch, Request, State, answer_at, due, due_of, next_of_source, requests_of, set_answer,
+    set_written,
 };
 use crate::making::carried::read_whole;
 use crate::refusals::failure::Failure;
@@ -165,10 +166,11 @@ impl<W: Write + Drop> AnswerLines<W> {
     }
 }
 
-/// Does the requests of the source of one, from its index on.
+/// Does the requests of the source of one, from its index on, by the index of each one's next.
 fn answer_source<R: Files + Print + Eprint + Input + AllocGlobal, W: Write + Drop>(
     rt: &R,
     requests: &[Request],
+    next: &[usize],
     states: &mut [State],
     first: usize,
     answers: &mut AnswerLines<W>,
@@ -179,11 +181,16 @@ fn answer_source<R: Files + Print + Eprint + Input + AllocGlobal, W: Write + Dro
         return Ok(());
     };
     let source = read_source(rt, job.input.as_str());
-    for index in first..requests.len() {
+    let mut index = first;
+    for _ in first..requests.len() {
         if let Some(other) = due_of(requests, states, index, job.input.as_str()) {
-            set_answer(states, index, answer_of(rt, &source, other));
+            set_answer(states, index, answer_apart(rt, &source, other));
             answers.write_ready(rt, requests, states)?;
         }
+        index = match next.get(index) {
+            Some(other) => *other,
+            None => break,
+        };
     }
     Ok(())
 }
@@ -192,6 +199,7 @@ fn answer_source<R: Files + Print + Eprint + Input + AllocGlobal, W: Write + Dro
 fn answer_all<R: Files + Print + Eprint + Input + AllocGlobal, W: Write + Drop>(
     rt: &R,
     requests: &[Request],
+    next: &[usize],
     states: &mut [State],
     answers: &mut AnswerLines<W>,
 ) -> Result<(), Failure>
@@ -199,7 +207,7 @@ fn answer_all<R: Files + Print + Eprint + Input + AllocGlobal, W: Write + Drop>(
 {
     answers.write_ready(rt, requests, states)?;
     for first in 0..requests.len() {
-        answer_source(rt, requests, states, first, answers)?;
+        answer_source(rt, requests, next, states, first, answers)?;
     }
     Ok(())
 }
@@ -223,20 +231,30 @@ pub fn status_of_batch<R: Eprint>(
     }
 }
 
+/// Reports that memory ran out before the first request, and answers the status.
+pub fn refuse_memory<R: Eprint>(rt: &R) -> u8
+    ensures { result ≤ 3 }
+{
+    status_of_batch(rt, &Err(Failure::Error(Error::OutOfMemory)), false, false)
+}
+
 /// Does the requests of a batch, and answers the status.
 fn run_requests<R: Files + Print + Eprint + Input + AllocGlobal>(rt: &R, batch: Batch) -> u8
     ensures { result ≤ 3 }
 {
     let is_shown = is_shown(rt);
     let Ok(lines) = BufWriter::new(rt.alloc(), io::writer(rt)) else {
-        return status_of_batch(rt, &Err(Failure::Error(Error::OutOfMemory)), false, false);
+        return refuse_memory(rt);
     };
     let Batch {
         requests,
         mut states,
     } = batch;
+    let Ok(next) = next_of_source(rt.alloc(), &requests) else {
+        return refuse_memory(rt);
+    };
     let mut answers = AnswerLines::new(lines, is_shown);
-    let ended = answer_all(rt, &requests, &mut states, &mut answers);
+    let ended = answer_all(rt, &requests, &next, &mut states, &mut answers);
     status_of_batch(rt, &ended, answers.has_failed(), is_shown)
 }
 

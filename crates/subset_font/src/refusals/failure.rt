@@ -7,7 +7,7 @@ ghost use Rattle.subset_font.specs.Files.{pdf_name, list_name, name_by, failed_n
 ghost use Rattle.subset_font.specs.declared.refusals.failure.Failure.TheVariants.{Error as Refused};
 
 use std::fmt;
-use subset_args::{Glyphs, Job};
+use subset_args::{Glyphs, Job, Plain};
 use subset_pdf::Permission;
 use subsetter::Error;
 
@@ -152,7 +152,7 @@ impl fmt::Display for Report<'_> {
     fn fmt<W: fmt::Write>(&self, f: &mut fmt::Formatter<W>) -> fmt::Result {
         let failure = self.failure;
         match self.file {
-            Some(name) => write!(f, "{failure} {name}"),
+            Some(name) => write!(f, "{failure} {}", Plain(name)),
             None => write!(f, "{failure}"),
         }
     }

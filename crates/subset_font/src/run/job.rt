@@ -8,12 +8,14 @@ use crate::refusals::failure::{Failure, given, pdf_file};
 use crate::refusals::reason::{Noted, reason_of};
 use crate::run::reports::{report_made, report_unlisted};
 use crate::run::request::{list_of, plan_of};
-use crate::streams::{Source, Target, is_to_standard_output, lines_beside, open_source};
+use crate::streams::{
+    MOST_INPUT, Source, Target, is_to_standard_output, lines_beside, open_source,
+};
 use crate::task::Plan;
 use std::alloc::Global;
 use std::fs::OpenFile;
 use std::io;
-use std::io::{BufWriter, Read, Write};
+use std::io::{BufWriter, ErrorKind, Read, Write};
 use std::rt::Files;
 use subset_args::Job;
 use subsetter::Error;
@@ -36,17 +38,21 @@ pub fn open_font<R: Files + Input>(
 }
 
 /// Room for the bytes of a file and for one more, so that its end is seen without a growth. None is taken for a stream. Why
-/// the size can't be had is kept.
+/// the size can't be had, or is too large, is kept.
 pub fn room_of<F: OpenFile + Read + Drop, S: Read + Drop>(
     source: &Source<F, S>,
     reason: &mut Option<io::Error>,
 ) -> Result<usize, Failure>
     ensures { IfErr result (λ e. e ≡ CannotRead) }
 {
-    let Source::File(file) = source else {
+    let Source::File(file, _) = source else {
         return Ok(0);
     };
     match file.metadata() {
+        Ok(about) if about.len() > MOST_INPUT => {
+            *reason = Some(io::Error::from(ErrorKind::FileTooLarge));
+            Err(Failure::Read)
+        }
         Ok(about) => Ok(usize::try_from(about.len()).unwrap_or(0).saturating_add(1)),
         Err(error) => {
             *reason = Some(error);

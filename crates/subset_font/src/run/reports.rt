@@ -14,8 +14,8 @@ use crate::refusals::limit_hint::find_limit_hint;
 use crate::task::{Form, Plan, Task};
 use std::io;
 use subset_args::{
-    CODES_EXPECTED, FileKind, Glyphs, Job, ORDER_EXPECTED, PARTS_EXPECTED, Shown, Topic,
-    codes_descend, descends, find_wrong,
+    CODES_EXPECTED, FEW_EXPECTED, FileKind, Glyphs, Job, ORDER_EXPECTED, PARTS_EXPECTED, Shown,
+    Topic, codes_descend, descends, find_wrong,
 };
 use subset_lines::note_lines;
 use subsetter::{Error, Tag};
@@ -83,11 +83,23 @@ fn report_part<R: Eprint>(rt: &R, kind: FileKind, part: &[u8]) {
     };
 }
 
+/// Reports that a file's list has too many numbers.
+fn report_many<R: Eprint>(rt: &R, kind: FileKind) {
+    let option = match kind {
+        FileKind::Glyphs => "--gids-file",
+        FileKind::Characters => "--unicodes-file",
+        FileKind::Text => "--text-file",
+    };
+    let _ = eprintln!(rt; "{option}: more than 2000000 numbers");
+    let _ = rt.eprintln(FEW_EXPECTED);
+}
+
 /// Reports what is wrong in a file that lists glyphs, if that is why a run failed.
 fn report_list<R: Eprint>(rt: &R, ended: &Result<(), Failure>, glyphs: &Glyphs, text: &[u8]) {
     if let (Err(Failure::List), Glyphs::InFile(kind, _)) = (ended, glyphs) {
-        if let Some(part) = find_wrong(*kind, text) {
-            report_part(rt, *kind, part);
+        match find_wrong(*kind, text) {
+            Some(part) => report_part(rt, *kind, part),
+            None => report_many(rt, *kind),
         }
     }
 }

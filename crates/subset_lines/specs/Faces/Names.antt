@@ -6,6 +6,7 @@ use Rattle.subsetter_base.specs.Bytes.{be, range, number}
 use Rattle.subset_lines.specs.declared.faces.names.Kind.{Kind}
 use Rattle.subset_lines.specs.declared.faces.names.Kind.TheVariants.{English, Windows, Unicode}
 use Rattle.subsetter_base.specs.Options.{first_of}
+use Rattle.subsetter_words.specs.Plain.{is_plain}
 
 -- ---- which record
 
@@ -49,9 +50,9 @@ string_for table id = option_and_then (λ count. option_and_then (λ storage. op
 abbrev pub name_of : List ℕ → Option ℕ → Option (List ℕ)
 name_of table id = option_and_then (string_for table) id
 
--- a code unit is a character, but for half of a pair and a control character
+-- a code unit is a character that a line may have, but for half of a pair
 abbrev pub is_text : ℕ → Bool
-is_text unit = (nat_le 32 unit && nat_lt unit 127) || ((nat_le 160 unit && nat_lt unit 0xD800) || nat_le 0xE000 unit)
+is_text unit = is_plain unit && (nat_lt unit 0xD800 || nat_le 0xE000 unit)
 
 -- for these U+FFFD stands, so that a line stays one
 abbrev pub character_of : ℕ → ℕ

@@ -14,6 +14,7 @@ use subsetter_base::read::Reader;
 use subsetter_sfnt::fields::name::{
     COUNT, HEADER_SIZE, NAME_RECORD_SIZE, NameRecord, STORAGE_OFFSET,
 };
+use subsetter_words::is_plain;
 
 /// Which records serve.
 #[derive(Clone, Copy)]
@@ -119,10 +120,10 @@ pub fn string_for(table: &[u8], id: u16) -> Option<&[u8]>
 fn is_text(unit: u16) -> bool
     ensures { result ≡ is_text unit }
 {
-    (unit >= 32 && unit < 127) || ((unit >= 160 && unit < 0xD800) || unit >= 0xE000)
+    is_plain(u32::from(unit)) && (unit < 0xD800 || unit >= 0xE000)
 }
 
-/// The character of a code unit, U+FFFD for half of a pair and for a control character.
+/// The character of a code unit, U+FFFD for half of a pair and for one that a line doesn't have.
 fn character_of(unit: u16) -> char
     ensures { result ≡ character_of unit }
 {

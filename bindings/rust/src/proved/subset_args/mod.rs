@@ -30,4 +30,6 @@ pub use listing::lists::{descends, is_blank, FileKind, GlyphList};
 pub use mistakes::free::find_mistake;
 pub use options::chosen::{PdfChoice, Switches};
 pub use options::names::Coding;
-pub use texts::{Advice, Shown, CODES_EXPECTED, ORDER_EXPECTED, PARTS_EXPECTED};
+pub use texts::{
+    Advice, Plain, Shown, CODES_EXPECTED, FEW_EXPECTED, ORDER_EXPECTED, PARTS_EXPECTED,
+};

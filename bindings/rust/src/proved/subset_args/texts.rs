@@ -3,6 +3,7 @@
 
 use crate::proved::subset_args::mistakes::mistake::{Mistake, Wrong};
 use crate::proved::subset_args::nearest::{remedy_of, Remedy};
+use crate::proved::subsetter_words::plain;
 use crate::rattle::fmt;
 
 /// What a list of glyphs may have.
@@ -18,25 +19,33 @@ pub const ORDER_EXPECTED: &str = "expected: the lesser number first, as 10-20";
 /// How many characters of an argument a line has.
 const MOST: usize = 40;
 
-/// An argument as a line has it: at most 40 characters, and U+FFFD for each control character.
+/// What is expected in place of a list of too many numbers.
+pub const FEW_EXPECTED: &str = "expected: at most 2000000 numbers in a list";
+
+/// An argument as a line has it: at most 40 characters, with U+FFFD for those that a line doesn't have.
 #[derive(Clone, Copy)]
 pub struct Shown<'a>(pub &'a str);
-
-/// A character as a line has it.
-fn printable(character: char) -> char {
-    match character {
-        '\0'..='\x1F' | '\x7F'..='\u{9F}' => '\u{FFFD}',
-        _ => character,
-    }
-}
 
 impl fmt::Display for Shown<'_> {
     fn fmt(&self, f: &mut fmt::Formatter<'_>) -> fmt::Result {
         for character in self.0.chars().take(MOST) {
-            write!(f, "{}", printable(character))?;
+            write!(f, "{}", plain(character))?;
         }
         if self.0.chars().nth(MOST).is_some() {
             return write!(f, "..");
+        }
+        Ok(())
+    }
+}
+
+/// A name as a line has it: whole, with U+FFFD for the characters that a line doesn't have.
+#[derive(Clone, Copy)]
+pub struct Plain<'a>(pub &'a str);
+
+impl fmt::Display for Plain<'_> {
+    fn fmt(&self, f: &mut fmt::Formatter<'_>) -> fmt::Result {
+        for character in self.0.chars() {
+            write!(f, "{}", plain(character))?;
         }
         Ok(())
     }
@@ -73,6 +82,7 @@ impl fmt::Display for Mistake<'_> {
             Wrong::Coordinate => write!(f, "--at: \"{word}\" is not TAG=VALUE"),
             Wrong::Codes => write!(f, "--unicodes: \"{word}\" is not a character number"),
             Wrong::CodesDescend => write!(f, "--unicodes: the range \"{word}\" descends"),
+            Wrong::TooMany => write!(f, "{word}: more than 2000000 numbers"),
             Wrong::Descends => write!(f, "--gids: the range \"{word}\" descends"),
             Wrong::Part => write!(f, "--gids: \"{word}\" is not a glyph number"),
             Wrong::BesideInput => write!(f, "\"{word}\" is one argument too many"),
@@ -138,6 +148,7 @@ fn expected(wrong: Wrong) -> &'static str {
         Wrong::Part => PARTS_EXPECTED,
         Wrong::Codes => CODES_EXPECTED,
         Wrong::Descends | Wrong::CodesDescend => ORDER_EXPECTED,
+        Wrong::TooMany => FEW_EXPECTED,
         Wrong::BesideInput => {
             "expected: with -o or --face-index, IN and options alone; glyphs by --gids"
         }

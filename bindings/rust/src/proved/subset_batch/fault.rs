@@ -3,6 +3,7 @@
 
 use crate::rattle::prelude::String;
 
+use crate::proved::subset_args::Plain;
 use crate::rattle::alloc::{AllocError, AllocFailed};
 use crate::rattle::fmt;
 
@@ -94,10 +95,12 @@ impl fmt::Display for Fault {
     fn fmt(&self, f: &mut fmt::Formatter<'_>) -> fmt::Result {
         match self {
             Fault::Expected(wanted, at) => write!(f, "expected after {at} bytes: {wanted}"),
-            Fault::Unknown(name, at) => {
-                write!(f, "no member has the name after {at} bytes: {name}")
-            }
-            Fault::Twice(name) => write!(f, "two members have the name {name}"),
+            Fault::Unknown(name, at) => write!(
+                f,
+                "no member has the name after {at} bytes: {}",
+                Plain(name)
+            ),
+            Fault::Twice(name) => write!(f, "two members have the name {}", Plain(name)),
         }
     }
 }

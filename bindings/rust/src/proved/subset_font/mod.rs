@@ -16,10 +16,14 @@ mod run;
 mod streams;
 mod task;
 
-pub use batch::making::{answer_of, read_source};
+pub use batch::making::{answer_apart, read_source};
 pub use batch::orders::order_of;
-pub use batch::requests::{due, due_of, first_state, set_answer, Batch, Request, State};
-pub use batch::running::{batch_or_status, read_lines, status_of_batch, AnswerLines};
+pub use batch::requests::{
+    add_names, due, due_of, first_state, next_of_source, set_answer, Batch, Request, State,
+};
+pub use batch::running::{
+    batch_or_status, read_lines, refuse_memory, status_of_batch, AnswerLines,
+};
 pub use refusals::failure::{Failure, Report};
 pub use run::program::{run_by, Ended};
 pub use run::request::read_arguments;

@@ -10,29 +10,42 @@ use crate::rattle::os::unix::fs::MetadataExt;
 use crate::rattle::rt::Files;
 use crate::rattle::{fs, io};
 
-/// What the font or a list of glyphs is read from.
+/// The most bytes that are read of a file or a stream.
+pub const MOST_INPUT: u64 = 1 << 30;
+
+/// What the font or a list of glyphs is read from, and how many bytes may still be.
 pub enum Source<F: Read, S: Read> {
     /// A file.
-    File(F),
+    File(F, u64),
     /// Standard input.
-    Standard(S),
+    Standard(S, u64),
+}
+
+/// Reads where bytes are left that may be read, and counts them. `FileTooLarge` where none are.
+fn read_counted<R: Read>(reader: &mut R, left: &mut u64, buf: &mut [u8]) -> io::Result<usize> {
+    if *left == 0 {
+        return Err(io::Error::from(ErrorKind::FileTooLarge));
+    }
+    let count = reader.read(buf)?;
+    *left = left.saturating_sub(count as u64);
+    Ok(count)
 }
 
 impl<F: Read, S: Read> Read for Source<F, S> {
     fn read(&mut self, buf: &mut [u8]) -> io::Result<usize> {
         match self {
-            Source::File(file) => file.read(buf),
-            Source::Standard(stream) => stream.read(buf),
+            Source::File(file, left) => read_counted(file, left, buf),
+            Source::Standard(stream, left) => read_counted(stream, left, buf),
         }
     }
 }
 
-/// Opens what is read.
+/// Opens what is read, of which a byte more than may be is read, to see the end.
 pub fn open_source<R: Files + Input>(rt: &R, name: &str) -> io::Result<Source<R::File, R::Reader>> {
     if is_stream(name) {
-        return Ok(Source::Standard(rt.reader()));
+        return Ok(Source::Standard(rt.reader(), MOST_INPUT + 1));
     }
-    Ok(Source::File(fs::open(rt, name)?))
+    Ok(Source::File(fs::open(rt, name)?, MOST_INPUT + 1))
 }
 
 /// Opens three descriptors, of a folder: by these nothing can be read or written. Where a standard stream is closed at the

@@ -50,6 +50,8 @@ pub enum Hint {
     MoreBytes(u32),
     /// A glyph needs more than so many tokens and such a depth.
     LittleLimits(u32, u8),
+    /// Limits are given, of which twice as much doesn't serve.
+    GivenLimits,
     /// This bit of `fsType` forbids to embed a subset.
     Forbidden(u8),
 }
@@ -249,6 +251,9 @@ impl fmt::Display for Hint {
                 write!(f, "{text}")
             }
             Hint::LittleLimits(tokens, depth) => write!(f, "{}", LimitsText(tokens, depth)),
+            Hint::GivenLimits => {
+                f.write_str("twice the given --limits is too little, too, or the font is wrong")
+            }
             Hint::Forbidden(bit) => write!(f, "{}", ForbiddenText(bit)),
         }
     }

@@ -4,15 +4,18 @@
 use crate::rattle::prelude::{IteratorExt, String, Vec};
 
 use crate::proved::subset_args::jobs::command::ArgsError;
-use crate::proved::subset_args::listing::lists::{is_blank, is_less, with_commas, GlyphList};
+use crate::proved::subset_args::listing::few::are_few;
+use crate::proved::subset_args::listing::lists::{
+    is_blank, is_less, with_commas, FileKind, GlyphList,
+};
 use crate::proved::subsetter_words::parts_of;
 use crate::rattle::alloc::{AllocError, Global};
 
 /// The ends of a range of codes.
 #[derive(Clone, Copy)]
 pub struct Codes {
-    first: u32,
-    last: u32,
+    pub first: u32,
+    pub last: u32,
 }
 
 /// Whether a plus is first, which `from_str_radix` accepts.
@@ -69,7 +72,7 @@ fn codes_in_order(first: u32, last: u32) -> Option<Codes> {
 }
 
 /// The ends of a range or of one code.
-fn codes_in(part: &str) -> Option<Codes> {
+pub fn codes_in(part: &str) -> Option<Codes> {
     match part.split_once('-') {
         Some((first, last)) => {
             let first = code_of(first)?;
@@ -128,13 +131,21 @@ fn characters_in(alloc: Global, parts: &[&str]) -> Result<Vec<char>, ArgsError> 
     Ok(characters)
 }
 
+/// The characters that parts list, if their numbers are few enough.
+fn few_characters(alloc: Global, parts: &[&str]) -> Result<Vec<char>, ArgsError> {
+    if !are_few(FileKind::Characters, parts) {
+        return Err(ArgsError::Usage);
+    }
+    characters_in(alloc, parts)
+}
+
 /// The characters that an argument lists: codes of Unicode and ranges, with commas, as `U+0041-005A,20AC`. Surrogates are no
 /// characters, and are passed over.
 ///
-/// `Usage` where it lists no characters so.
+/// `Usage` where it lists no characters so, or more than 2,000,000 numbers.
 pub fn read_characters(alloc: Global, text: &str) -> Result<GlyphList, ArgsError> {
     let parts = parts_of(alloc, text)?;
-    Ok(GlyphList::Characters(characters_in(alloc, &parts)?))
+    Ok(GlyphList::Characters(few_characters(alloc, &parts)?))
 }
 
 /// The characters that the text of a file lists.
@@ -147,7 +158,7 @@ pub fn characters_in_file(alloc: Global, text: &[u8]) -> Result<GlyphList, ArgsE
         }
     };
     let parts = parts_of(alloc, divided)?;
-    Ok(GlyphList::Characters(characters_in(alloc, &parts)?))
+    Ok(GlyphList::Characters(few_characters(alloc, &parts)?))
 }
 
 /// Whether a part of a list is no code of Unicode and no range.

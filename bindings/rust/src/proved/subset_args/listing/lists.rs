@@ -4,6 +4,7 @@
 use crate::rattle::prelude::{IteratorExt, String, Vec};
 
 use crate::proved::subset_args::jobs::command::ArgsError;
+use crate::proved::subset_args::listing::few::are_few;
 use crate::proved::subsetter_words::{parts_of, u16_of};
 use crate::rattle::alloc::{AllocError, Global};
 
@@ -34,8 +35,8 @@ pub enum FileKind {
 /// The ends of a range of glyphs.
 #[derive(Clone, Copy)]
 pub struct Ends {
-    first: u16,
-    last: u16,
+    pub first: u16,
+    pub last: u16,
 }
 
 /// Whether a byte is a blank, a tab or a line end.
@@ -80,7 +81,7 @@ fn in_order(first: u16, last: u16) -> Option<Ends> {
 }
 
 /// The ends of a range or of one number.
-fn ends_in(part: &str) -> Option<Ends> {
+pub fn ends_in(part: &str) -> Option<Ends> {
     match part.split_once('-') {
         Some((first, last)) => {
             let first = u16_of(first)?;
@@ -148,6 +149,14 @@ fn glyphs_in(alloc: Global, parts: &[&str]) -> Result<Vec<u16>, ArgsError> {
     Ok(glyphs)
 }
 
+/// The glyphs that parts list, if they are few enough.
+fn few_glyphs(alloc: Global, parts: &[&str]) -> Result<Vec<u16>, ArgsError> {
+    if !are_few(FileKind::Glyphs, parts) {
+        return Err(ArgsError::Usage);
+    }
+    glyphs_in(alloc, parts)
+}
+
 /// The glyphs that numbers and ranges list.
 fn read_numbers(alloc: Global, text: &[u8]) -> Result<Vec<u16>, ArgsError> {
     let divided = with_commas(alloc, text)?;
@@ -158,18 +167,18 @@ fn read_numbers(alloc: Global, text: &[u8]) -> Result<Vec<u16>, ArgsError> {
         }
     };
     let parts = parts_of(alloc, divided)?;
-    glyphs_in(alloc, &parts)
+    few_glyphs(alloc, &parts)
 }
 
 /// The glyphs that numbers and ranges with commas list.
 fn read_parts(alloc: Global, text: &str) -> Result<Vec<u16>, ArgsError> {
     let parts = parts_of(alloc, text)?;
-    glyphs_in(alloc, &parts)
+    few_glyphs(alloc, &parts)
 }
 
 /// The glyphs that an argument lists: numbers and ranges as `3,5,10-20`, or `*` for every glyph of the face.
 ///
-/// `Usage` where it lists no glyphs so.
+/// `Usage` where it lists no glyphs so, or more than 2,000,000.
 pub fn read_argument(alloc: Global, text: &str) -> Result<GlyphList, ArgsError> {
     if text == "*" {
         return Ok(GlyphList::Every);
@@ -198,7 +207,7 @@ pub fn find_wrong_part(text: &[u8]) -> Option<&[u8]> {
 /// The glyphs that the text of a file lists: numbers and ranges as `36-38`, divided by commas, blanks or line ends, or `*`
 /// for every glyph of the face.
 ///
-/// `Usage` where it lists no glyphs so.
+/// `Usage` where it lists no glyphs so, or more than 2,000,000.
 pub fn glyphs_in_file(alloc: Global, text: &[u8]) -> Result<GlyphList, ArgsError> {
     if is_star(alloc, text)? {
         return Ok(GlyphList::Every);

@@ -4,6 +4,7 @@
 use crate::proved::subset_args::coordinates::is_coordinate;
 use crate::proved::subset_args::jobs::parts::{is_name, is_same, is_stream};
 use crate::proved::subset_args::listing::characters::{codes_descend, is_wrong_codes};
+use crate::proved::subset_args::listing::few::is_few;
 use crate::proved::subset_args::listing::lists::{descends, is_wrong_part, FileKind};
 use crate::proved::subset_args::mistakes::mistake::{mistake_at, Mistake, Wrong};
 use crate::proved::subset_args::options::chosen::Chosen;
@@ -47,7 +48,7 @@ fn wrong_coordinate(list: &str) -> Option<Mistake<'_>> {
     None
 }
 
-/// The first part of a list that is no number and no range.
+/// The first part of a list that is no number and no range, or that the list has too many.
 fn wrong_part(list: &str) -> Option<Mistake<'_>> {
     if list == "*" {
         return None;
@@ -60,10 +61,13 @@ fn wrong_part(list: &str) -> Option<Mistake<'_>> {
             return mistake_at(Wrong::Part, part);
         }
     }
-    None
+    if is_few(FileKind::Glyphs, list) {
+        return None;
+    }
+    mistake_at(Wrong::TooMany, "--gids")
 }
 
-/// The first part of a list that is no number and no range of characters.
+/// The first part of a list that is no number and no range of characters, or that the list has too many.
 fn wrong_codes(list: &str) -> Option<Mistake<'_>> {
     for part in list.split(',') {
         if codes_descend(part) {
@@ -73,7 +77,10 @@ fn wrong_codes(list: &str) -> Option<Mistake<'_>> {
             return mistake_at(Wrong::Codes, part);
         }
     }
-    None
+    if is_few(FileKind::Characters, list) {
+        return None;
+    }
+    mistake_at(Wrong::TooMany, "--unicodes")
 }
 
 /// What is wrong with a position on the axes.

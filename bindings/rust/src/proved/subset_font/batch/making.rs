@@ -3,20 +3,24 @@
 
 use crate::rattle::prelude::{AllocGlobal, Input, Print, String, Vec};
 
-use crate::proved::subset_args::Job;
-use crate::proved::subset_font::batch::answers::Answer;
+use crate::proved::subset_args::{Job, Plain};
+use crate::proved::subset_font::batch::answers::{failed, Answer};
 use crate::proved::subset_font::making::carried::read_whole;
 use crate::proved::subset_font::making::outcome::{make_planned, Outcome};
 use crate::proved::subset_font::output::{write_font, write_numbers, write_page};
 use crate::proved::subset_font::refusals::failure::{file_by, given, list_file, pdf_file, Failure};
 use crate::proved::subset_font::run::job::{open_font, room_of};
 use crate::proved::subset_font::run::request::{list_of, plan_of};
-use crate::proved::subset_font::streams::Target;
+use crate::proved::subset_font::streams::{is_to_standard_output, Target};
 use crate::proved::subset_font::task::{Form, Plan};
 use crate::proved::subsetter::Error;
+use crate::proved::subsetter_words::plain_text;
 use crate::rattle::alloc::{AllocError, Global};
 use crate::rattle::io::Write;
 use crate::rattle::rt::Files;
+
+/// The status of a request that would write among the answers, as of wrong arguments.
+const AMONG_ANSWERS: u8 = 2;
 
 /// The bytes of a source.
 pub fn read_source<R: Files + Input + AllocGlobal>(rt: &R, name: &str) -> Result<Vec<u8>, Failure> {
@@ -94,10 +98,13 @@ fn perform<R: Files + Print + Input + AllocGlobal>(
     carry_answer(rt.alloc(), font, &plan, &mut page, &mut output)
 }
 
-/// A text with the name of a file, if there is one.
+/// A text with the name of a file as a line has it, if there is one.
 fn named_text(alloc: Global, text: &str, name: Option<&str>) -> Result<String, AllocError> {
     match name {
-        Some(name) => format!(in alloc; "{text} {name}"),
+        Some(name) => {
+            let name = plain_text(alloc, name)?;
+            format!(in alloc; "{text} {name}")
+        }
         None => String::from_str(alloc, text),
     }
 }
@@ -135,5 +142,33 @@ pub fn answer_of<R: Files + Print + Input + AllocGlobal>(
     match perform(rt, font, job) {
         Ok(object) => Answer::Done(object),
         Err(failure) => answer_failed(rt.alloc(), &failure, job),
+    }
+}
+
+/// The file of a request that is the one to which the answers go, if it writes that.
+fn answers_file<'a, R: Files>(rt: &R, job: &'a Job) -> Option<&'a str> {
+    let output = given(&job.output);
+    if is_to_standard_output(rt, output) {
+        return output;
+    }
+    let page = pdf_file(job);
+    if is_to_standard_output(rt, page) {
+        return page;
+    }
+    None
+}
+
+/// Does a request as `answer_of` does, but for one that would write among the answers.
+pub fn answer_apart<R: Files + Print + Input + AllocGlobal>(
+    rt: &R,
+    source: &Result<Vec<u8>, Failure>,
+    job: &Job,
+) -> Answer {
+    match answers_file(rt, job) {
+        Some(name) => {
+            let text = format!(in rt.alloc(); "the answers go to {}", Plain(name));
+            failed(AMONG_ANSWERS, text)
+        }
+        None => answer_of(rt, source, job),
     }
 }

@@ -4,9 +4,10 @@
 use crate::rattle::prelude::{AllocGlobal, Eprint, Input, Print, Vec};
 
 use crate::proved::subset_font::batch::answers::{has_failed, write_answer};
-use crate::proved::subset_font::batch::making::{answer_of, read_source};
+use crate::proved::subset_font::batch::making::{answer_apart, read_source};
 use crate::proved::subset_font::batch::requests::{
-    answer_at, due, due_of, requests_of, set_answer, set_written, Batch, Request, State,
+    answer_at, due, due_of, next_of_source, requests_of, set_answer, set_written, Batch, Request,
+    State,
 };
 use crate::proved::subset_font::making::carried::read_whole;
 use crate::proved::subset_font::refusals::failure::Failure;
@@ -146,10 +147,11 @@ impl<W: Write> AnswerLines<W> {
     }
 }
 
-/// Does the requests of the source of one, from its index on.
+/// Does the requests of the source of one, from its index on, by the index of each one's next.
 fn answer_source<R: Files + Print + Eprint + Input + AllocGlobal, W: Write>(
     rt: &R,
     requests: &[Request],
+    next: &[usize],
     states: &mut [State],
     first: usize,
     answers: &mut AnswerLines<W>,
@@ -161,11 +163,16 @@ fn answer_source<R: Files + Print + Eprint + Input + AllocGlobal, W: Write>(
         }
     };
     let source = read_source(rt, job.input.as_str());
-    for index in first..requests.len() {
+    let mut index = first;
+    for _ in first..requests.len() {
         if let Some(other) = due_of(requests, states, index, job.input.as_str()) {
-            set_answer(states, index, answer_of(rt, &source, other));
+            set_answer(states, index, answer_apart(rt, &source, other));
             answers.write_ready(rt, requests, states)?;
         }
+        index = match next.get(index) {
+            Some(other) => *other,
+            None => break,
+        };
     }
     Ok(())
 }
@@ -174,12 +181,13 @@ fn answer_source<R: Files + Print + Eprint + Input + AllocGlobal, W: Write>(
 fn answer_all<R: Files + Print + Eprint + Input + AllocGlobal, W: Write>(
     rt: &R,
     requests: &[Request],
+    next: &[usize],
     states: &mut [State],
     answers: &mut AnswerLines<W>,
 ) -> Result<(), Failure> {
     answers.write_ready(rt, requests, states)?;
     for first in 0..requests.len() {
-        answer_source(rt, requests, states, first, answers)?;
+        answer_source(rt, requests, next, states, first, answers)?;
     }
     Ok(())
 }
@@ -200,21 +208,32 @@ pub fn status_of_batch<R: Eprint>(
     }
 }
 
+/// Reports that memory ran out before the first request, and answers the status.
+pub fn refuse_memory<R: Eprint>(rt: &R) -> u8 {
+    status_of_batch(rt, &Err(Failure::Error(Error::OutOfMemory)), false, false)
+}
+
 /// Does the requests of a batch, and answers the status.
 fn run_requests<R: Files + Print + Eprint + Input + AllocGlobal>(rt: &R, batch: Batch) -> u8 {
     let is_shown = is_shown(rt);
     let lines = match BufWriter::new(rt.alloc(), io::writer(rt)) {
         Ok(lines) => lines,
         _ => {
-            return status_of_batch(rt, &Err(Failure::Error(Error::OutOfMemory)), false, false);
+            return refuse_memory(rt);
         }
     };
     let Batch {
         requests,
         mut states,
     } = batch;
+    let next = match next_of_source(rt.alloc(), &requests) {
+        Ok(next) => next,
+        _ => {
+            return refuse_memory(rt);
+        }
+    };
     let mut answers = AnswerLines::new(lines, is_shown);
-    let ended = answer_all(rt, &requests, &mut states, &mut answers);
+    let ended = answer_all(rt, &requests, &next, &mut states, &mut answers);
     status_of_batch(rt, &ended, answers.has_failed(), is_shown)
 }
 

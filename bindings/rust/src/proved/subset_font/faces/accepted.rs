@@ -10,16 +10,55 @@ use crate::proved::subset_font::refusals::failure::Failure;
 use crate::proved::subset_font::refusals::hint::found::find_hint;
 use crate::proved::subset_font::refusals::hint::text::Hint;
 use crate::proved::subset_font::task::{Form, RequestedGlyphs, Task};
-use crate::proved::subsetter::{Error, Extras, Limits, Options};
+use crate::proved::subsetter::{Error, Extras, Limits, Options, Tag};
+use crate::proved::subsetter_sfnt::directory::table;
 use crate::rattle::alloc::{AllocError, Global};
 
-/// The task of a subset of all glyphs, or of these.
-fn task_for<'a>(index: u32, requested: RequestedGlyphs<'a>) -> Task<'a> {
+/// The most tokens that all glyphs together may take, and the most bytes of the new font: about a second.
+const MOST_TOKENS: u32 = 200_000_000;
+
+const MOST_BYTES: u32 = 64 << 20;
+
+/// The tokens that each of so many glyphs may take: no more than by default.
+fn tokens_for(glyphs: u16) -> u32 {
+    (MOST_TOKENS / u32::from(glyphs.max(1))).min(Limits::default().tokens())
+}
+
+/// The limits within which all glyphs of a face are tried.
+fn limits_for(font: &[u8], index: u32) -> Limits {
+    let tokens = tokens_for(count_glyphs(font, index).unwrap_or(u16::MAX));
+    Limits::new(tokens, Limits::default().depth())
+        .unwrap_or(Limits::default())
+        .with_bytes(MOST_BYTES)
+}
+
+/// Whether the outlines of a face, each of which is at most the whole table, can pass the bytes that the new font may have.
+fn is_long(font: &[u8], index: u32) -> bool {
+    let glyphs = count_glyphs(font, index).unwrap_or(u16::MAX);
+    match table(font, index, Tag::new(b"glyf")) {
+        Some(glyf) => glyf.len() as u64 > u64::from(MOST_BYTES / 2) / u64::from(glyphs.max(1)),
+        None => font.len() as u64 > u64::from(MOST_BYTES / 2),
+    }
+}
+
+/// Whether a failure can come from the limits within which all glyphs are tried.
+fn is_of_limits(font: &[u8], index: u32, failure: &Failure) -> bool {
+    match failure {
+        Failure::Error(Error::CFFError) => {
+            limits_for(font, index).tokens() < Limits::default().tokens()
+        }
+        Failure::Error(Error::OverflowError) => is_long(font, index),
+        _ => false,
+    }
+}
+
+/// The task of a subset of all glyphs, or of these, within limits.
+fn task_for<'a>(index: u32, limits: Limits, requested: RequestedGlyphs<'a>) -> Task<'a> {
     Task {
         requested,
         index,
         options: Options {
-            limits: Limits::default(),
+            limits,
             extras: Extras::ALL,
         },
         widths: false,
@@ -61,7 +100,7 @@ fn reason_of(
 ) -> Result<Option<String>, AllocError> {
     let count = count_glyphs(font, index).unwrap_or(0);
     let glyphs = first_glyphs(alloc, count)?;
-    let task = task_for(index, listed_or_every(&glyphs));
+    let task = task_for(index, Limits::default(), listed_or_every(&glyphs));
     text_of(alloc, find_hint(failure, font, &task))
 }
 
@@ -71,6 +110,14 @@ fn is_of_memory(failure: &Failure) -> bool {
         Failure::Error(error) => *error == Error::OutOfMemory,
         _ => false,
     }
+}
+
+/// What is shown where not all glyphs are tried.
+fn parts_untried(alloc: Global) -> Result<InfoParts, AllocError> {
+    Ok(InfoParts {
+        refusal: Some(String::from_str(alloc, "not all tried")?),
+        reason: None,
+    })
 }
 
 /// What is shown of a refusal of all glyphs, if memory didn't run out.
@@ -83,6 +130,9 @@ fn parts_of(
     if is_of_memory(failure) {
         return Err(AllocError);
     }
+    if is_of_limits(font, index, failure) {
+        return parts_untried(alloc);
+    }
     let refusal = format!(in alloc; "{failure}")?;
     let reason = reason_of(alloc, font, index, failure)?;
     Ok(InfoParts {
@@ -91,9 +141,10 @@ fn parts_of(
     })
 }
 
-/// Makes a subset of all glyphs, and drops it.
+/// Makes a subset of all glyphs within limits that a second is enough for, and drops it.
 fn make_all(alloc: Global, font: &[u8], index: u32) -> Result<(), Failure> {
-    let task = task_for(index, RequestedGlyphs::Every);
+    let limits = limits_for(font, index);
+    let task = task_for(index, limits, RequestedGlyphs::Every);
     match make_of(alloc, font, &task) {
         Ok(_made) => Ok(()),
         Err(failure) => Err(failure),

@@ -3,7 +3,7 @@
 
 use crate::rattle::prelude::String;
 
-use crate::proved::subset_args::{Glyphs, Job};
+use crate::proved::subset_args::{Glyphs, Job, Plain};
 use crate::proved::subset_pdf::Permission;
 use crate::proved::subsetter::Error;
 use crate::rattle::fmt;
@@ -128,7 +128,7 @@ impl fmt::Display for Report<'_> {
     fn fmt(&self, f: &mut fmt::Formatter<'_>) -> fmt::Result {
         let failure = self.failure;
         match self.file {
-            Some(name) => write!(f, "{failure} {name}"),
+            Some(name) => write!(f, "{failure} {}", Plain(name)),
             None => write!(f, "{failure}"),
         }
     }

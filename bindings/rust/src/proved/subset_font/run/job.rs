@@ -10,14 +10,14 @@ use crate::proved::subset_font::refusals::reason::{reason_of, Noted};
 use crate::proved::subset_font::run::reports::{report_made, report_unlisted};
 use crate::proved::subset_font::run::request::{list_of, plan_of};
 use crate::proved::subset_font::streams::{
-    is_to_standard_output, lines_beside, open_source, Source, Target,
+    is_to_standard_output, lines_beside, open_source, Source, Target, MOST_INPUT,
 };
 use crate::proved::subset_font::task::Plan;
 use crate::proved::subsetter::Error;
 use crate::rattle::alloc::Global;
 use crate::rattle::fs::OpenFile;
 use crate::rattle::io;
-use crate::rattle::io::{BufWriter, Read, Write};
+use crate::rattle::io::{BufWriter, ErrorKind, Read, Write};
 use crate::rattle::rt::Files;
 
 /// Opens the font's file or stream. Why it can't be opened is kept.
@@ -36,18 +36,22 @@ pub fn open_font<R: Files + Input>(
 }
 
 /// Room for the bytes of a file and for one more, so that its end is seen without a growth. None is taken for a stream. Why
-/// the size can't be had is kept.
+/// the size can't be had, or is too large, is kept.
 pub fn room_of<F: OpenFile + Read, S: Read>(
     source: &Source<F, S>,
     reason: &mut Option<io::Error>,
 ) -> Result<usize, Failure> {
     let file = match source {
-        Source::File(file) => file,
+        Source::File(file, _) => file,
         _ => {
             return Ok(0);
         }
     };
     match file.metadata() {
+        Ok(about) if about.len() > MOST_INPUT => {
+            *reason = Some(io::Error::from(ErrorKind::FileTooLarge));
+            Err(Failure::Read)
+        }
         Ok(about) => Ok(usize::try_from(about.len()).unwrap_or(0).saturating_add(1)),
         Err(error) => {
             *reason = Some(error);

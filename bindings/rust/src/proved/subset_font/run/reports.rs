@@ -5,7 +5,7 @@ use crate::rattle::prelude::{AllocGlobal, Eprint};
 
 use crate::proved::subset_args::{
     codes_descend, descends, find_wrong, FileKind, Glyphs, Job, Shown, Topic, CODES_EXPECTED,
-    ORDER_EXPECTED, PARTS_EXPECTED,
+    FEW_EXPECTED, ORDER_EXPECTED, PARTS_EXPECTED,
 };
 use crate::proved::subset_font::faces::missing::missing_in;
 use crate::proved::subset_font::faces::named::instance_names;
@@ -80,11 +80,23 @@ fn report_part<R: Eprint>(rt: &R, kind: FileKind, part: &[u8]) {
     };
 }
 
+/// Reports that a file's list has too many numbers.
+fn report_many<R: Eprint>(rt: &R, kind: FileKind) {
+    let option = match kind {
+        FileKind::Glyphs => "--gids-file",
+        FileKind::Characters => "--unicodes-file",
+        FileKind::Text => "--text-file",
+    };
+    let _ = eprintln!(rt; "{option}: more than 2000000 numbers");
+    let _ = rt.eprintln(FEW_EXPECTED);
+}
+
 /// Reports what is wrong in a file that lists glyphs, if that is why a run failed.
 fn report_list<R: Eprint>(rt: &R, ended: &Result<(), Failure>, glyphs: &Glyphs, text: &[u8]) {
     if let (Err(Failure::List), Glyphs::InFile(kind, _)) = (ended, glyphs) {
-        if let Some(part) = find_wrong(*kind, text) {
-            report_part(rt, *kind, part);
+        match find_wrong(*kind, text) {
+            Some(part) => report_part(rt, *kind, part),
+            None => report_many(rt, *kind),
         }
     }
 }

@@ -7,6 +7,7 @@ use crate::proved::subsetter_base::read::Reader;
 use crate::proved::subsetter_sfnt::fields::name::{
     NameRecord, COUNT, HEADER_SIZE, NAME_RECORD_SIZE, STORAGE_OFFSET,
 };
+use crate::proved::subsetter_words::is_plain;
 use crate::rattle::io::Write;
 
 /// Which records serve.
@@ -87,10 +88,10 @@ pub fn string_for(table: &[u8], id: u16) -> Option<&[u8]> {
 
 /// Whether a code unit is a character that a line may have.
 fn is_text(unit: u16) -> bool {
-    (unit >= 32 && unit < 127) || ((unit >= 160 && unit < 0xD800) || unit >= 0xE000)
+    is_plain(u32::from(unit)) && (unit < 0xD800 || unit >= 0xE000)
 }
 
-/// The character of a code unit, U+FFFD for half of a pair and for a control character.
+/// The character of a code unit, U+FFFD for half of a pair and for one that a line doesn't have.
 fn character_of(unit: u16) -> char {
     if !is_text(unit) {
         return '\u{FFFD}';
