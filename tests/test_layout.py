@@ -1,5 +1,4 @@
 """How the repository is laid out: layers, contracts, edits that must fail, links, slips in scripts, spelling, copies and the version."""
-import glob
 import os
 import re
 import subprocess

@@ -38,7 +38,7 @@ ALLOWED = {
     ("subset_font", "batch_or_status"): (1, "its argument is an allocator's refusal"),
     ("subset_font", "printed"): (1, "`write_numbers` writes into a vector, which has no other error"),
     ("subset_font", "answer_failed"): (3, "compares with it; the texts of `text_of` take memory, and have no other error"),
-    ("subset_font", "run_requests"): (1, "`BufWriter::new` takes memory and has no other error"),
+    ("subset_font", "refuse_memory"): (1, "reports what `BufWriter::new` and the other requests before a batch refused"),
     ("subset_args", "read_either"): (2, "passes on that of `read_by_options`"),
     ("subset_font", "run_words"): (2, "passes on that of `read_words`"),
     ("subset_font", "unread"): (1, "a failure to read of which the reader kept no error is one of memory"),
