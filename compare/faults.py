@@ -93,7 +93,7 @@ class Base:
         early = rules.early_name(room, self.got.steps)
         table.demand(early is None, way.name, f"{early} gets its name before its bytes are on the disk")
         is_beside = self.roles.beside < len(self.got.steps)
-        table.demand(not (is_beside and (way.links or way.second_names)), way.name, "a file is made beside it")
+        table.demand(not (is_beside and way.links), way.name, "a file is made beside it")
         table.demand(len(self.roles.looks) == len(way.written), way.name, f"what is looked at before it is written: {self.roles.looks}")
         for names in WANTED.get(way.name, []):
             table.demand(any(it.call in names for it in self.got.steps), way.name, f"there is no call of {' or '.join(names)}")

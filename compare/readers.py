@@ -207,7 +207,7 @@ def compare_face(bare, path, index):
 
 def main():
     words = reports.words(__doc__, faces=(200, 15), bare=(60, 6), fonts=(1000, 3), places=(20, 1))
-    fonts.install([*drawn_by.PACKAGES, *font_at.PACKAGES])
+    fonts.install([*drawn_by.PACKAGES, *font_at.PACKAGES, "fontconfig", *(it[0] for it in fonts.TRUETYPE_FONTS + fonts.CFF_FONTS)])
     drawn_by.program()
     faces = [(bare, path, index) for bare, count in ((False, words.faces), (True, words.bare)) for _, path, index in chosen(count) if words.only in path]
     found = reports.beside(words.jobs, compare_face, *zip(*faces)) if faces else []

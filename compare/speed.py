@@ -53,11 +53,14 @@ def rows(words):
 def measured(programs, row, words, room):
     """The times of each program by turns, and the crate's other figures."""
     path, index, _, glyphs, at = row
+    listed = os.path.join(room, "glyphs")
+    with open(listed, "w", encoding="utf-8") as file:
+        file.write(glyphs)
     times = {name: [] for name in programs}
     for _ in range(words.runs):
         for name, program in programs.items():
             if name == "crate":
-                said = subprocess.run([program, "times", path, str(index), glyphs, at, str(words.milliseconds)], stdout=subprocess.PIPE, text=True, check=True)
+                said = subprocess.run([program, "times", path, str(index), f"@{listed}", at, str(words.milliseconds)], stdout=subprocess.PIPE, text=True, check=True)
                 least, _, length, room_of, held = map(int, said.stdout.split())
                 times[name].append(least * (9 if build.CANARY else 1))
             elif at == "-":

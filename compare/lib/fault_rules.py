@@ -39,6 +39,8 @@ USUAL = {
     **dict.fromkeys(MEMORY, (errno.ENOMEM,)),
 }
 OTHERS = (errno.EINTR, errno.EIO, errno.ENOMEM)
+# What is said of a file that another run seems to write.
+BUSY = "resource busy\n"
 # How a run ends in which a file beside OUT can't be removed, behind what it ends with.
 FILE_LEFT = ", and a file beside it is left"
 # AT_SYMLINK_NOFOLLOW, by the argument of the call that has it.
@@ -98,7 +100,7 @@ class Roles:
         # by these it is known what OUT, or the PDF, is
         self.looks = {}
         for at, it in enumerate(steps):
-            if looks_at_name(it) and self.names[at] and self.role(at)[0] == "write":
+            if looks_at_name(it) and self.names[at] and self.role(at)[0] == "write" and not BESIDE.fullmatch(self.names[at][-1]):
                 self.looks.setdefault(self.names[at][-1], at)
         # from this on a file that is written in place may be a part
         self.cut = next((at for at, it in enumerate(steps) if cuts(it) and self.role(at)[0] == "write"), len(steps))
@@ -178,7 +180,7 @@ def ended_by_file(way, before, base, got, number, others):
     """The same where the message names a file, with the system's reason."""
     line, _, reason = got.err.decode(errors="replace").partition("\n")
     memory = "out of memory\n"
-    if number and reason not in (reason_of(number) + "\n", memory if number == errno.ENOMEM else None):
+    if number and reason not in (reason_of(number) + "\n", memory if number == errno.ENOMEM else None, BUSY):
         return ""
     if line.startswith("cannot read "):
         is_well = others and as_before(got.files, before, way.written) and got.out == b""

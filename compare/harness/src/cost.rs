@@ -25,8 +25,11 @@ fn spent() -> i64 {
     time[0] * 1_000_000_000 + time[1]
 }
 
-/// The glyphs of a list of numbers and ranges, as `3,10-12`.
+/// The glyphs of a list of numbers and ranges, as `3,10-12`; `@FILE` has a long one.
 fn glyphs_in(list: &str) -> Vec<u16> {
+    if let Some(path) = list.strip_prefix('@') {
+        return glyphs_in(&fs::read_to_string(path).unwrap());
+    }
     let number = |it: &str| it.parse::<u16>().unwrap();
     let parts = list
         .split(',')
