@@ -129,10 +129,10 @@ def test_other_threads_go_on_while_a_call_runs():
             stamps.append(time.monotonic())
             time.sleep(0.001)
 
-    thread = threading.Thread(target=stamp)
-    thread.start()
-    interval, goes_on, end = sys.getswitchinterval(), False, time.monotonic() + 60
+    thread, interval = threading.Thread(target=stamp), sys.getswitchinterval()
     sys.setswitchinterval(1000)
+    thread.start()
+    goes_on, end = False, time.monotonic() + 60
     while not goes_on and time.monotonic() < end:
         start = time.monotonic()
         subsetter.subset(FONTS["most_tokens"], [])
