@@ -1,5 +1,5 @@
 -- The answers of a batch, and the requests of the lines so far.
-use Rattle.std.proofs.Common.{◌≡◌, ◌⊎◌, inl, inr, Bool, true, false, ◌||◌, ℕ, ◌-◌, ◌≤◌, List, [], ◌∷◌, ◌++◌, Option, Some, None, Result, Ok, Err, refl, sym, ap, subst, ◌∙◌, append_assoc, append-nil, length, get_or, take, drop, arith}
+use Rattle.std.proofs.Common.{◌≡◌, ◌⊎◌, inl, inr, Bool, true, false, ◌||◌, cond, ℕ, ◌-◌, ◌≤◌, List, [], ◌∷◌, ◌++◌, Option, Some, None, Result, Ok, Err, refl, sym, ap, subst, ◌∙◌, append_assoc, append-nil, length, get_or, take, drop, arith}
 use Rattle.std.proofs.lemmas.List.{take_rest}
 use Rattle.std.specs.Prelude.{IfOk, IfErr, Vec, String, is_some, map, string_bytes}
 use Rattle.std.specs.Global.{Global}
@@ -19,6 +19,8 @@ use Rattle.subset_font.specs.Batch.Answers.{IsFailedWith}
 use Rattle.subset_font.specs.Batch.Making.{IsDone, IsUndone, named_text, message_of, IsAnswer, IsAnswerTo}
 use Rattle.subset_font.specs.Batch.Orders.{is_given_stream, order_by, order_of, words_in, IsNoOrder}
 use Rattle.std.specs.HashMap.{HashMap, get_by_text}
+use Rattle.std.specs.Map.{update}
+use Rattle.std.specs.Str.{bytes_eq}
 use Rattle.subset_font.specs.Batch.Requests.{writes_if, is_written, AreNames, IsBegun, AddsLine, AreBegun, none, one_more}
 use Rattle.subset_font.specs.Chosen.{IsPlanOf}
 use Rattle.subset_font.specs.Files.{list_name, name_by}
@@ -129,6 +131,14 @@ either_first false false c = refl
 written_last : (requests : List Request) (r : Request) (name : List ℕ) → is_written (requests ++ r ∷ []) name ≡ (writes_if r.job name || is_written requests name)
 written_last [] r name = refl
 written_last (first ∷ requests) r name = ap (λ (b : Bool). writes_if first.job name || b) (written_last requests r name) ∙ either_first (writes_if r.job name) (writes_if first.job name) (is_written requests name)
+
+some_or : (b : Bool) (o : Option (Unit {0})) → is_some (cond b (Some tt) o) ≡ (b || is_some o)
+some_or true o = refl
+some_or false o = refl
+
+-- a map to which a name was added
+pub one_more_name : {S : Type 0} (old new : HashMap (String Global) (Unit {0}) S) (key name : List ℕ) → key ≡ name → ((q : List ℕ) → get_by_text new q ≡ update bytes_eq (get_by_text old) key (Some tt) q) → (q : List ℕ) → is_some (get_by_text new q) ≡ (bytes_eq name q || is_some (get_by_text old q))
+one_more_name old new key name same sets q = ap is_some (sets q) ∙ (some_or (bytes_eq key q) (get_by_text old q) ∙ ap (λ (k : List ℕ). bytes_eq k q || is_some (get_by_text old q)) same)
 
 -- the names of all are those of the last one and those before
 pub named_last : {S : Type 0} (requests : List Request) (r : Request) (old new : HashMap (String Global) (Unit {0}) S) → AreNames requests old → ((name : List ℕ) → is_some (get_by_text new name) ≡ (writes_if r.job name || is_some (get_by_text old name))) → AreNames (requests ++ r ∷ []) new

@@ -8,6 +8,8 @@ use Rattle.subset_lines.specs.declared.faces.info.face.Info.{Info}
 use Rattle.subsetter_base.specs.declared.error.Error.TheVariants.{OutOfMemory}
 use Rattle.subsetter_sfnt.specs.Read.{Font, header_offset}
 use Rattle.subsetter_sfnt.specs.Extras.{all_extras}
+use Rattle.subsetter_type2.specs.declared.limits.Limits.{Limits}
+use Rattle.subset_font.specs.Chosen.{LimitsAreChosen}
 use Rattle.subset_font.specs.Making.Requested.{face_glyphs}
 use Rattle.subset_font.specs.Refusals.Hint.{hint_of}
 use Rattle.subset_font.specs.Faces.Accepted.{IsPlain, listed_or_every, IsCause, IsAnswer}
@@ -24,15 +26,17 @@ pub answered : (font : Font) (refusal reason shown behind : Option (List ℕ)) �
 answered font refusal reason shown behind h p q = subst (λ (text : Option (List ℕ)). IsAnswer font text behind) (sym p) (subst (λ (text : Option (List ℕ)). IsAnswer font refusal text) (sym q) h)
 
 -- the text of what is known is that of a cause
-pub cause_of : {X E : Type 0} (view : X → Option (List ℕ)) (font : Font) (failure : Failure) (glyphs : Bor (List ℕ)) (requested : RequestedGlyphs) (task : Task) (hint : Option Hint) (maxp : Option ℕ) (count : ℕ) (items : List ℕ) (r : Result X E) → glyphs.now ≡ items → items ≡ counting 0 count → count ≡ unwrap_or maxp 0 → maxp ≡ face_glyphs font → requested ≡ listed_or_every glyphs → IsPlain font.index requested task → hint ≡ hint_of failure task font.bytes → IfOk r (λ x. view x ≡ option_map hint_text hint) → IfOk r (λ x. IsCause font failure (view x))
-cause_of view font failure glyphs requested task hint maxp count items (Ok x) are counted or_none has is plain known text = record {
+pub cause_of : {X E : Type 0} (view : X → Option (List ℕ)) (font : Font) (failure : Failure) (glyphs : Bor (List ℕ)) (requested : RequestedGlyphs) (limits : Limits) (task : Task) (hint : Option Hint) (maxp : Option ℕ) (count : ℕ) (items : List ℕ) (r : Result X E) → glyphs.now ≡ items → items ≡ counting 0 count → count ≡ unwrap_or maxp 0 → maxp ≡ face_glyphs font → requested ≡ listed_or_every glyphs → LimitsAreChosen None limits → IsPlain font.index limits requested task → hint ≡ hint_of failure task font.bytes → IfOk r (λ x. view x ≡ option_map hint_text hint) → IfOk r (λ x. IsCause font failure (view x))
+cause_of view font failure glyphs requested limits task hint maxp count items (Ok x) are counted or_none has is default plain known text = record {
   glyphs = glyphs;
   are_all = are ∙ (counted ∙ (ap (counting 0) or_none ∙ ap (λ (n : Option ℕ). counting 0 (unwrap_or n 0)) has));
+  limits = limits;
+  are_default = default;
   task = task;
-  is_plain = subst (λ (a : RequestedGlyphs). IsPlain font.index a task) is plain;
+  is_plain = subst (λ (a : RequestedGlyphs). IsPlain font.index limits a task) is plain;
   is_text = text ∙ ap (option_map hint_text) known;
 }
-cause_of view font failure glyphs requested task hint maxp count items (Err e) are counted or_none has is plain known text = tt
+cause_of view font failure glyphs requested limits task hint maxp count items (Err e) are counted or_none has is default plain known text = tt
 
 -- what is written of a font with a header is what is shown of it
 pub shows_of : (json : Bool) (font : Font) (old new : Option (List ℕ)) (info : Info) (r : Result (Unit {0}) Failure) → header_offset font ≢ None → IsInfo font info → OnOk r (Appends old new (info_text json info)) → OnOk r (ShowsInfo json font old new)

@@ -1,4 +1,4 @@
-use Rattle.std.proofs.Common.{◌×◌, length}
+use Rattle.std.proofs.Common.{length}
 use Rattle.subset_batch.specs.Lines.{request_lines}
 use Rattle.subset_batch.specs.View.{lines_view}
 use Rattle.subset_font.specs.Batch.Requests.{AreNames}
