@@ -1,8 +1,8 @@
 -- Groups that are passed, and the one that is found.
-use Rattle.std.proofs.Common.{◌≡◌, ℕ, zero, suc, ◌+◌, ◌-◌, ◌*◌, ◌<◌, ◌≤◌, Bool, true, false, List, take, drop, length, Option, Some, None, refl, ap, sym, ◌∙◌, arith, add-one}
+use Rattle.std.proofs.Common.{◌≡◌, ℕ, zero, suc, ◌+◌, ◌-◌, ◌*◌, ◌<◌, ◌≤◌, Bool, true, false, List, take, drop, length, Option, Some, None, refl, ap, ◌∙◌, arith}
 use Rattle.std.specs.Prelude.{nat_le, nat_lt, ◌&&◌, if◌then◌else◌}
 use Rattle.subsetter_base.specs.Bytes.{range}
-use Rattle.cmap.specs.Groups.{Group, group_of, group_at, has, in_range, by_groups}
+use Rattle.cmap.specs.Groups.{Group, group_at, has, in_range, by_groups}
 use Rattle.cmap.specs.Halves.{AreThere, AreAscending}
 use Rattle.cmap.proofs.Steps.{groups_none, groups_here, groups_on, groups_end}
 

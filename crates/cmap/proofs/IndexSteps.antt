@@ -1,11 +1,10 @@
 -- An index of segments as it grows.
-use Rattle.std.proofs.Common.{◌≡◌, ℕ, suc, ◌+◌, ◌-◌, ◌<◌, ◌≤◌, List, [], ◌∷◌, ◌++◌, length, get_or, max, Option, Some, None, refl, ap, sym, ◌∙◌, arith, below_more, length-append}
+use Rattle.std.proofs.Common.{◌≡◌, ℕ, ◌+◌, ◌-◌, ◌<◌, ◌≤◌, List, [], ◌∷◌, ◌++◌, length, get_or, max, Some, None, refl, ap, sym, ◌∙◌, arith, below_more, length-append}
 use Rattle.std.proofs.lemmas.List.{get_or_append_left}
 use Rattle.std.proofs.Math.Seq.{get_or-append_seam}
-use Rattle.std.proofs.lemmas.Grind.{common_steps}
 use Rattle.cmap.specs.Segments.{end_code, in_segment, by_segments}
 use Rattle.cmap.specs.Index.{IsIndex}
-use Rattle.cmap.proofs.Steps.{segments_none, segments_here, segments_on, segments_end}
+use Rattle.cmap.proofs.Steps.{segments_here, segments_on}
 
 -- the greatest of the first end codes, of which the last is `top`
 pub record IsRunning (table : List ℕ) (n i : ℕ) (tops : List ℕ) (top : ℕ) : Type 0 where

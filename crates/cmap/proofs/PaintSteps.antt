@@ -1,6 +1,6 @@
 -- Characters that groups give glyphs to.
-use Rattle.std.proofs.Common.{◌≡◌, ◌≢◌, ℕ, ◌+◌, ◌-◌, ◌*◌, ◌<◌, ◌≤◌, ◌⊎◌, inl, inr, Bool, true, false, List, length, get_or, Option, Some, None, refl, ap, sym, ◌∙◌, subst, arith, set, length-set, get_or-set_other, get_or-set_same, replicate}
-use Rattle.std.specs.Prelude.{nat_eq, nat_le, nat_lt, min}
+use Rattle.std.proofs.Common.{◌≡◌, ◌≢◌, ℕ, ◌+◌, ◌-◌, ◌*◌, ◌<◌, ◌≤◌, Bool, true, false, List, length, get_or, Some, None, refl, ap, sym, ◌∙◌, subst, arith, set, length-set, get_or-set_other, get_or-set_same}
+use Rattle.std.specs.Prelude.{nat_eq, nat_lt}
 use Rattle.std.specs.Option.{unwrap_or}
 use Rattle.subsetter_base.specs.Bytes.{range}
 use Rattle.cmap.specs.Groups.{Group, group_of, has, in_range, by_groups}

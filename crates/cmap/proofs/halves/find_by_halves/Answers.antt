@@ -1,5 +1,5 @@
-use Rattle.std.proofs.Common.{ℕ, ◌<◌, ◌≤◌, ◌-◌, ◌+◌, ◌∙◌, ap, sym, arith, subst}
-use Rattle.cmap.specs.Groups.{Group, by_groups, group_at, in_range}
+use Rattle.std.proofs.Common.{◌<◌, ◌≤◌, ◌-◌, ◌+◌, ◌∙◌, ap, sym, arith, subst}
+use Rattle.cmap.specs.Groups.{Group, in_range}
 use Rattle.cmap.proofs.GroupSteps.{all_below, first_found, none_between}
 use Rattle.cmap.proofs.halves.find_by_halves.Goals as goal
 

@@ -1,7 +1,7 @@
-use Rattle.std.proofs.Common.{◌≡◌, ℕ, ◌-◌, None, sym, ap, ◌∙◌, arith, subst, List, ◌++◌, ◌∷◌, []}
-use Rattle.cmap.specs.Segments.{by_segments, end_code}
+use Rattle.std.proofs.Common.{◌≡◌, None, sym, ◌∙◌}
+use Rattle.cmap.specs.Segments.{end_code}
 use Rattle.cmap.proofs.Steps.{segments_none, segments_end}
-use Rattle.cmap.proofs.IndexSteps.{IsRunning, running_start, running_more, running_ends}
+use Rattle.cmap.proofs.IndexSteps.{running_start, running_more, running_ends}
 use Rattle.cmap.proofs.index.greatest_ends.Goals as goal
 
 pub loop-segment-init : goal.loop-segment-init

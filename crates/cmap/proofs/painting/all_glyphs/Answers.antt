@@ -1,7 +1,7 @@
-use Rattle.std.proofs.Common.{◌≡◌, ◌+◌, ◌*◌, ◌-◌, ℕ, None, Some, ap, sym, ◌∙◌, arith, subst, List}
+use Rattle.std.proofs.Common.{◌≡◌, ◌+◌, ◌*◌, None, ap, sym, ◌∙◌}
 use Rattle.subsetter_base.specs.Bytes.{range}
 use Rattle.subsetter_base.specs.Read.{Source}
-use Rattle.cmap.proofs.PaintSteps.{painted_end, painted_start}
+use Rattle.cmap.proofs.PaintSteps.{painted_end}
 use Rattle.cmap.proofs.Steps.{groups_end, groups_none}
 use Rattle.cmap.proofs.painting.all_glyphs.Goals as goal
 
