@@ -37,7 +37,7 @@ pub use options::{Bounds, Codes, Direction, FontOptions, ProgramChoice, Rights, 
 pub use shown::Shown;
 pub use values::{Cmap, Column, Columns, Descriptor, Permission, ProgramKind, Usage};
 
-use crate::proved::cmap::find_subtable;
+use crate::proved::cmap;
 use crate::proved::pdf_font as proved;
 use crate::proved::subsetter as subsetting;
 use crate::proved::subsetter_sfnt::parse::parse;
@@ -54,14 +54,21 @@ pub(crate) fn with_room<T>(count: usize) -> Result<Vec<T>, Error> {
     Ok(list)
 }
 
-/// What gives a character its glyph, by the font's table `cmap`.
-pub(crate) fn glyph_lookup(data: &[u8], index: u32) -> Result<impl Fn(char) -> u16 + '_, Error> {
+/// The glyph of each of these characters, by the font's table `cmap`.
+pub(crate) fn glyphs_by_cmap(
+    data: &[u8],
+    index: u32,
+    characters: impl Iterator<Item = char> + Clone,
+) -> Result<impl Iterator<Item = u16>, Error> {
     let all = subsetting::Extras::ALL;
     check_opening_at(data, index, all).map_err(library::refused)?;
     let face = parse(data, index, all).map_err(library::refused)?;
-    let cmap = face.stored(subsetting::Tag::new(b"cmap"));
-    let table = cmap.and_then(find_subtable).ok_or(Error::MalformedFont)?;
-    Ok(move |character| table.glyph_of(character))
+    let bytes = face.stored(subsetting::Tag::new(b"cmap"));
+    let table = bytes.and_then(cmap::find_subtable).ok_or(Error::MalformedFont)?;
+    let mut list = with_room(characters.clone().count())?;
+    list.extend(characters);
+    let glyphs = cmap::glyphs_of(Global, &table, &list).map_err(|_| Error::OutOfMemory)?;
+    Ok(glyphs.into_inner().into_iter())
 }
 
 /// The glyph of each character of a text, by the font's table `cmap`, with the character as its text.
@@ -75,14 +82,16 @@ pub(crate) fn glyph_lookup(data: &[u8], index: u32) -> Result<impl Fn(char) -> u
 /// Those of [`subset`](crate::subset) that come of opening the font, where outlines in `CFF2` are taken too;
 /// [`Error::MalformedFont`] where it has no such table.
 pub fn glyphs_of<'a>(data: &[u8], index: u32, text: &'a str) -> Result<Vec<Shown<'a>>, Error> {
-    let glyph_of = glyph_lookup(data, index)?;
+    let glyphs = glyphs_by_cmap(data, index, text.chars())?;
     let mut shown = with_room(text.chars().count())?;
-    for (at, character) in text.char_indices() {
-        shown.push(Shown {
-            glyph: glyph_of(character),
-            text: &text[at..at + character.len_utf8()],
-        });
-    }
+    shown.extend(
+        text.char_indices()
+            .zip(glyphs)
+            .map(|((at, character), glyph)| Shown {
+                glyph,
+                text: &text[at..at + character.len_utf8()],
+            }),
+    );
     Ok(shown)
 }
 

@@ -12,6 +12,10 @@ pub record Group : Type 0 where
 abbrev pub group_of : List ℕ → Group
 group_of bytes = record { start = be (take 4 bytes); end = be (take 4 (drop 4 bytes)); glyph = be (take 4 (drop 8 bytes)) }
 
+-- the group at a place, whose bytes are there
+unfoldable pub group_at : List ℕ → ℕ → Group
+group_at table k = group_of (take 12 (drop (16 + 12 * k) table))
+
 -- whether a character lies in a group
 abbrev pub has : Group → ℕ → Bool
 has g c = nat_le g.start c && nat_le c g.end

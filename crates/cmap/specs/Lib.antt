@@ -1,5 +1,9 @@
 pub mod Faces
 pub mod Groups
+pub mod Halves
+pub mod Index
+pub mod Painting
+pub mod Passed
 pub mod Segments
 pub mod Subtable
 pub mod View

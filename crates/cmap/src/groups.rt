@@ -6,22 +6,22 @@ ghost use Rattle.cmap.specs.Groups.{group_of, has, in_range, by_groups, glyph_by
 use subsetter_base::read::{Reader, u32_at};
 
 /// numGroups, four bytes.
-const NUM_GROUPS: usize = 12;
+pub(crate) const NUM_GROUPS: usize = 12;
 /// groups.
-const GROUPS: usize = 16;
+pub(crate) const GROUPS: usize = 16;
 /// How many bytes a group has.
-const SEQUENTIAL_MAP_GROUP_SIZE: usize = 12;
+pub(crate) const SEQUENTIAL_MAP_GROUP_SIZE: usize = 12;
 
 /// A range of characters, and the glyph of its first.
 #[derive(Clone, Copy)]
-struct Group {
-    start: u32,
-    end: u32,
-    glyph: u32,
+pub(crate) struct Group {
+    pub(crate) start: u32,
+    pub(crate) end: u32,
+    pub(crate) glyph: u32,
 }
 
 /// The group that twelve bytes spell.
-fn group_of(bytes: &[u8]) -> Group
+pub(crate) fn group_of(bytes: &[u8]) -> Group
     requires { length bytes.now ≡ 12 }
     ensures { record { start = result.start; end = result.end; glyph = result.glyph } ≡ group_of bytes.now }
 {
@@ -34,14 +34,14 @@ fn group_of(bytes: &[u8]) -> Group
 
 impl Group {
     /// Whether a character lies in the group.
-    fn has(&self, character: u32) -> bool
+    pub(crate) fn has(&self, character: u32) -> bool
         ensures { result ≡ has (record { start = self.now.start; end = self.now.end; glyph = self.now.glyph }) character }
     {
         self.start <= character && character <= self.end
     }
 
     /// The glyph of a character of the group.
-    fn glyph_of(&self, character: u32) -> Option<u16>
+    pub(crate) fn glyph_of(&self, character: u32) -> Option<u16>
         requires { self.now.start ≤ character }
         ensures { result ≡ in_range (self.now.glyph + (character - self.now.start)) }
     {

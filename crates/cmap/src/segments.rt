@@ -6,9 +6,9 @@ ghost use Rattle.cmap.specs.Segments.{segment_count, end_code, start_code, id_de
 use subsetter_base::read::number_at;
 
 /// segCountX2, two bytes.
-const SEG_COUNT_X2: usize = 6;
+pub(crate) const SEG_COUNT_X2: usize = 6;
 /// endCode of each segment, two bytes.
-const END_CODES: usize = 14;
+pub(crate) const END_CODES: usize = 14;
 /// startCode of each segment, behind the end codes and reservedPad, where there are no segments; then idDelta and
 /// idRangeOffset of each, two bytes each.
 const START_CODES: usize = 16;
@@ -59,7 +59,7 @@ fn glyph_at(
 }
 
 /// The glyph of a character in a segment, whose end isn't below it.
-fn in_segment(table: &[u8], count: usize, segment: usize, character: u16) -> Option<u16>
+pub(crate) fn in_segment(table: &[u8], count: usize, segment: usize, character: u16) -> Option<u16>
     requires few { count < 2 ^ 16 }
     requires inside { segment < count }
     ensures { result ≡ in_segment table.now count segment character }

@@ -2,4 +2,5 @@
 pub mod Components
 pub mod Drawn
 pub mod Cache
+pub mod Known
 pub mod Unfolded

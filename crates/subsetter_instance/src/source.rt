@@ -5,9 +5,10 @@ ghost use Rattle.std.specs.Option.{ok_or, option_copied};
 ghost use Rattle.subsetter_base.specs.Gives.{Gives};
 ghost use Rattle.subsetter_base.specs.declared.error.Error.TheVariants.{MalformedFont};
 ghost use Rattle.subsetter_sfnt.specs.Read.{table_in};
+ghost use Rattle.subsetter_variation.specs.Glyphs.SharedScalars.{AreSharedScalars};
 ghost use Rattle.subsetter_instance.specs.Source.{HasAxes, normalized_coordinates, variations_in, source_in, source_or_fault, offset, description, metric};
 
-use std::alloc::Global;
+use std::alloc::{AllocError, Global};
 use std::marker::Model;
 use subsetter_base::read::{Reader, between_offsets};
 use subsetter_base::{Error, Tag};
@@ -129,6 +130,45 @@ impl<'a> Source<'a> {
         ensures { option_copied result ≡ self.now.gvar }
     {
         self.gvar.as_ref()
+    }
+
+    /// The scalars of the first shared tuples at a location; none without variations of outlines.
+    pub fn shared_scalars(&self, alloc: Global, at: &[i32]) -> Result<Vec<i64>, AllocError>
+        requires { HasAxes self.now.gvar (length at.now) }
+        ensures { IfOk result (λ v. IfSome self.now.gvar (λ t. AreSharedScalars t at.now v.items)) }
+    {
+        match &self.gvar {
+            Some(table) => table.shared_scalars(alloc, at),
+            None => Ok(Vec::new(alloc)),
+        }
+    }
+
+    /// The variations of outlines, at a location where scalars of the first shared tuples are known.
+    fn located_gvar<'b>(&'b self, at: &'b [i32], scalars: &'b [i64]) -> Option<Gvar<'b>>
+        requires { IfSome self.now.gvar (λ t. AreSharedScalars t at.now scalars.now) }
+        ensures { result ≡ self.now.gvar }
+    {
+        match &self.gvar {
+            Some(table) => Some(table.located(at, scalars)),
+            None => None,
+        }
+    }
+
+    /// The same tables, at a location where scalars of the first shared tuples are known.
+    pub fn located<'b>(&'b self, at: &'b [i32], scalars: &'b [i64]) -> Source<'b>
+        requires { IfSome self.now.gvar (λ t. AreSharedScalars t at.now scalars.now) }
+        ensures { result ≡ self.now }
+    {
+        Source {
+            glyf: self.glyf,
+            loca: self.loca,
+            long: self.long,
+            count: self.count,
+            number_of_h_metrics: self.number_of_h_metrics,
+            hmtx: self.hmtx,
+            gvar: self.located_gvar(at, scalars),
+            hvar: self.hvar,
+        }
     }
 
     /// The variations of advances, if there are some.

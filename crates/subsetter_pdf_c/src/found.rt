@@ -7,21 +7,9 @@ ghost use Rattle.cmap.specs.View.{mapping_view};
 ghost use Rattle.subsetter_pdf_c.specs.Entries.{are_scalars};
 
 use crate::entries::characters_of;
-use cmap::Subtable;
+use cmap::{Subtable, glyphs_of};
 use std::alloc::Global;
 use subsetter_base::Error;
-
-/// The glyph of each character: 0 where the table doesn't have it.
-fn each_glyph(alloc: Global, table: Subtable<'_>, characters: &[char]) -> Result<Vec<u16>, Error>
-    ensures ok { IfOk result (λ glyphs. glyphs.items ≡ map (glyph_of (mapping_view table.entry)) characters.now) }
-    ensures err { IfErr result (λ e. e ≡ OutOfMemory) }
-{
-    let mut glyphs = Vec::with_capacity(alloc, characters.len())?;
-    for character in characters {
-        glyphs.push(table.glyph_of(*character))?;
-    }
-    Ok(glyphs)
-}
 
 /// The glyph of each character of a text: 0 where the table doesn't have it.
 ///
@@ -34,5 +22,5 @@ pub fn glyphs_by(alloc: Global, table: Subtable<'_>, text: &[u32]) -> Result<Vec
     ensures err { IfErr result (λ e. e ≡ OutOfMemory) }
 {
     let characters = characters_of(alloc, text)?;
-    each_glyph(alloc, table, &characters)
+    Ok(glyphs_of(alloc, &table, &characters)?)
 }

@@ -11,3 +11,4 @@ pub mod Sums
 pub mod Turning
 pub mod Walk
 pub mod Walks
+pub mod SharedTuples

@@ -3,3 +3,4 @@ pub mod Advances
 pub mod FontMetrics
 pub mod ItemLaws
 pub mod ItemVariations
+pub mod Known

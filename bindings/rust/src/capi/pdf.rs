@@ -2,7 +2,7 @@
 
 use super::{settings, Coordinate};
 use crate::library::refused;
-use crate::pdf::{glyph_lookup, with_room, FontError};
+use crate::pdf::{glyphs_by_cmap, with_room, FontError};
 use crate::proved::pdf_font::{
     self as proved, Bounds, Codes, DefaultColumn, Direction, Edges, Heights, NamedCmap, Permission,
     ProgramChoice, ProgramKind, Rights, Usage, Values,
@@ -491,9 +491,8 @@ pub fn glyphs_of(data: &[u8], index: u32, characters: &[u32]) -> Result<Vec<u16>
     if characters.iter().any(|it| char::from_u32(*it).is_none()) {
         return Err(Refusal::Text);
     }
-    let glyph_of = glyph_lookup(data, index)?;
-    let mut glyphs = with_room(characters.len())?;
     let known = characters.iter().filter_map(|it| char::from_u32(*it));
-    glyphs.extend(known.map(glyph_of));
+    let mut glyphs = with_room(characters.len())?;
+    glyphs.extend(glyphs_by_cmap(data, index, known)?);
     Ok(glyphs)
 }

@@ -1,11 +1,14 @@
 //! What a glyph is at a location.
 
-ghost use Rattle.std.specs.Prelude.{◌≡◌, ◌≤◌, ◌^◌, ◌-ℤ◌, All, IfOk, length, unsigned_abs};
+ghost use Rattle.std.specs.Prelude.{◌≡◌, ◌<◌, ◌≤◌, ◌^◌, ◌-ℤ◌, All, IfOk, IfSome, length, slice_index_or, unsigned_abs};
 ghost use Rattle.std.specs.Option.{option_copied};
 ghost use Rattle.subsetter_base.specs.Bytes.{has_flag};
 ghost use Rattle.subsetter_base.specs.Gives.{Gives};
+ghost use Rattle.subsetter_variation.specs.Items.Advances.{advance_delta};
+ghost use Rattle.subsetter_variation.specs.Items.ItemVariations.{whole_or_fault};
 ghost use Rattle.subsetter_instance.specs.Glyphs.Cache.{AreKept};
 ghost use Rattle.subsetter_instance.specs.Source.{HasAxes};
+ghost use Rattle.subsetter_instance.specs.Glyphs.Known.{AreKnown, IsKnown};
 ghost use Rattle.subsetter_instance.specs.Glyphs.Drawn.{whole, word_or_fault, point_or_fault, points_or_fault, advance_or_fault, advance, drawn_if_fit, rounded, drawn};
 ghost use Rattle.subsetter_instance.specs.Plain.{drawn_if, drawn_all};
 ghost use Rattle.subsetter_instance.specs.Glyphs.Unfolded.{IsInReach, on_curve};
@@ -14,12 +17,12 @@ use crate::glyphs::cache::GlyphCache;
 use crate::glyphs::spare::Spare;
 use crate::glyphs::unfolding::{Unfolded, unfold};
 use crate::source::Source;
-use std::alloc::Global;
+use std::alloc::{AllocError, Global};
 use std::marker::Model;
 use subsetter_base::{Error, GlyphRemapper};
 use subsetter_points::{Bounds, Outline, Point, bounds_of, fits};
 use subsetter_sfnt::fields::hmtx::LongHorMetric;
-use subsetter_variation::items::advances::advance_delta;
+use subsetter_variation::items::advances::{advance_delta, advance_deltas};
 
 /// The unit of unfolded coordinates.
 const UNIT: u64 = 1 << 30;
@@ -152,6 +155,44 @@ fn advance_or_fault(width: i128) -> Result<u16, Error>
     }
 }
 
+/// What the advance of a glyph varies by, which may be known.
+fn varied_by(
+    hvar: &[u8],
+    at: &[i32],
+    glyph: u16,
+    known: Option<Result<i64, Error>>,
+) -> Result<i64, Error>
+    requires { IfSome known (λ d. d ≡ whole_or_fault (advance_delta hvar.now at.now glyph)) }
+    ensures { result ≡ whole_or_fault (advance_delta hvar.now at.now glyph) }
+{
+    match known {
+        Some(delta) => delta,
+        None => advance_delta(hvar, at, glyph),
+    }
+}
+
+/// The advance by `HVAR`, of which the delta may be known, or by the width between the phantom points where there is none.
+fn advance_by(
+    hvar: Option<&[u8]>,
+    at: &[i32],
+    glyph: u16,
+    known: Option<Result<i64, Error>>,
+    before: u16,
+    width: i64,
+) -> Result<u16, Error>
+    requires width { unsigned_abs width ≤ 2 ^ 59 }
+    requires known { IsKnown (option_copied hvar) at.now glyph known }
+    ensures { result ≡ advance (option_copied hvar.entry) at.now glyph before width }
+{
+    match hvar {
+        None => advance_or_fault(i128::from(whole(width))),
+        Some(hvar) => {
+            let delta = varied_by(hvar, at, glyph, known)?;
+            advance_or_fault(i128::from(before) + i128::from(delta))
+        }
+    }
+}
+
 /// The advance by `HVAR`, or by the width between the phantom points where there is none.
 pub fn advance(
     hvar: Option<&[u8]>,
@@ -163,12 +204,7 @@ pub fn advance(
     requires { unsigned_abs width ≤ 2 ^ 59 }
     ensures { result ≡ advance (option_copied hvar.entry) at.now glyph before width }
 {
-    match hvar {
-        None => advance_or_fault(i128::from(whole(width))),
-        Some(hvar) => {
-            advance_or_fault(i128::from(before) + i128::from(advance_delta(hvar, at, glyph)?))
-        }
-    }
+    advance_by(hvar, at, glyph, None, before, width)
 }
 
 /// What is drawn, unless the outline can't be written, which is `OverflowError`.
@@ -195,14 +231,17 @@ fn rounded(
     source: &Source<'_>,
     at: &[i32],
     glyph: u16,
+    known: Option<Result<i64, Error>>,
     metric: LongHorMetric,
     unfolded: Unfolded,
 ) -> Result<Drawn, Error>
-    requires { IsInReach unfolded }
+    requires reach { IsInReach unfolded }
+    requires known { IsKnown source.now.hvar at.now glyph known }
     ensures { Gives (λ d. d) result (rounded source.now at.now glyph metric unfolded) }
 {
     let width = distance(unfolded.left, unfolded.right);
-    let advance = advance(source.hvar(), at, glyph, metric.advance_width, width)?;
+    let hvar = source.hvar();
+    let advance = advance_by(hvar, at, glyph, known, metric.advance_width, width)?;
     let points = points_or_fault(
         alloc,
         unfolded.left,
@@ -231,16 +270,18 @@ pub fn draw(
     at: &[i32],
     steps: u32,
     glyph: u16,
+    known: Option<Result<i64, Error>>,
     kept: GlyphCache,
 ) -> Result<(Drawn, GlyphCache), Error>
     requires axes { HasAxes source.now.gvar (length at.now) }
+    requires known { IsKnown source.now.hvar at.now glyph known }
     requires kept { AreKept source.now at.now kept }
     ensures value { Gives (λ r. r.0) result (drawn source.now at.now steps glyph) }
     ensures kept { IfOk result (λ r. AreKept source.now at.now r.1) }
 {
     let metric = source.metric(glyph).ok_or(Error::MalformedFont)?;
     let (unfolded, _, kept) = unfold(alloc, spare, source, at, steps, glyph, kept)?;
-    let drawn = rounded(alloc, spare, source, at, glyph, metric, unfolded)?;
+    let drawn = rounded(alloc, spare, source, at, glyph, known, metric, unfolded)?;
     Ok((drawn, kept))
 }
 
@@ -252,22 +293,84 @@ fn drawn_if(
     at: &[i32],
     steps: u32,
     glyph: u16,
+    known: Option<Result<i64, Error>>,
     kept: GlyphCache,
 ) -> Result<(Drawn, GlyphCache), Error>
     requires axes { HasAxes source.now.gvar (length at.now) }
+    requires known { IsKnown source.now.hvar at.now glyph known }
     requires kept { AreKept source.now at.now kept }
     ensures value { Gives (λ r. r.0) result (drawn_if source.now at.now steps glyph) }
     ensures kept { IfOk result (λ r. AreKept source.now at.now r.1) }
 {
     if glyph < source.count() {
-        draw(alloc, spare, source, at, steps, glyph, kept)
+        draw(alloc, spare, source, at, steps, glyph, known, kept)
     } else {
         Err(Error::MalformedFont)
     }
 }
 
-/// What is drawn of the glyphs that are requested, each in as many steps as each other.
-#[tactic(auto, using(crate::proofs::GlyphsLaws::Glyphs::glyphs_start, crate::proofs::GlyphsLaws::Glyphs::glyphs_step, crate::proofs::GlyphsLaws::Glyphs::glyphs_end))]
+/// What the advances of glyphs vary by; none without `HVAR`.
+fn known_deltas(
+    alloc: Global,
+    hvar: Option<&[u8]>,
+    at: &[i32],
+    glyphs: &[u16],
+) -> Result<Vec<Result<i64, Error>>, AllocError>
+    ensures { IfOk result (λ v. AreKnown (option_copied hvar.entry) at.now glyphs.now v.items) }
+{
+    match hvar {
+        Some(hvar) => advance_deltas(alloc, hvar, at, glyphs),
+        None => Ok(Vec::new(alloc)),
+    }
+}
+
+/// What the advance of a glyph of the list varies by, if that is known.
+fn known_at(known: &[Result<i64, Error>], place: usize) -> Option<Result<i64, Error>>
+    ensures { IfSome result (λ d. (place < length known.now) × (slice_index_or known.now place d ≡ d)) }
+{
+    if place < known.len() {
+        Some(known[place])
+    } else {
+        None
+    }
+}
+
+/// What is drawn of these glyphs, each in as many steps as each other, by what their advances vary by.
+#[tactic(auto, using(crate::proofs::GlyphsLaws::Glyphs::glyphs_start, crate::proofs::GlyphsLaws::Glyphs::glyphs_end))]
+fn draw_each(
+    alloc: Global,
+    source: &Source<'_>,
+    at: &[i32],
+    steps: u32,
+    glyphs: &[u16],
+    known: &[Result<i64, Error>],
+) -> Result<Vec<Drawn>, Error>
+    requires axes { HasAxes source.now.gvar (length at.now) }
+    requires known { AreKnown source.now.hvar at.now glyphs.now known.now }
+    ensures { Gives (λ v. v.items) result (drawn_all source.now at.now steps glyphs.now) }
+{
+    let mut all = Vec::with_capacity(alloc, glyphs.len())?;
+    let mut kept = GlyphCache::new(alloc);
+    let mut spare = Spare::new(alloc);
+    for place in 0..glyphs.len() {
+        let (drawn, others) = drawn_if(
+            alloc,
+            &mut spare,
+            source,
+            at,
+            steps,
+            glyphs[place],
+            known_at(known, place),
+            kept,
+        )?;
+        all.push(drawn)?;
+        kept = others;
+    }
+    Ok(all)
+}
+
+/// What is drawn of the glyphs that are requested, each in as many steps as each other. What tuples and items have in common is
+/// reckoned once.
 pub fn draw_all(
     alloc: Global,
     source: &Source<'_>,
@@ -278,13 +381,9 @@ pub fn draw_all(
     requires { HasAxes source.now.gvar (length at.now) }
     ensures { Gives (λ v. v.items) result (drawn_all source.now at.now steps mapper.now) }
 {
-    let mut all = Vec::with_capacity(alloc, usize::from(mapper.num_gids()))?;
-    let mut kept = GlyphCache::new(alloc);
-    let mut spare = Spare::new(alloc);
-    for glyph in mapper.remapped_gids() {
-        let (drawn, others) = drawn_if(alloc, &mut spare, source, at, steps, glyph, kept)?;
-        all.push(drawn)?;
-        kept = others;
-    }
-    Ok(all)
+    let glyphs: Vec<u16> = mapper.remapped_gids().collect(alloc)?;
+    let known = known_deltas(alloc, source.hvar(), at, &glyphs)?;
+    let scalars = source.shared_scalars(alloc, at)?;
+    let located = source.located(at, &scalars);
+    draw_each(alloc, &located, at, steps, &glyphs, &known)
 }

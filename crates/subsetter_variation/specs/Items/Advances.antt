@@ -1,10 +1,11 @@
 -- The advances of `HVAR`, the vertical origins of `VVAR`, and the maps that lead from a glyph to its item (OpenType, "HVAR", "VVAR" and
 -- "Associating Target Items to Variation Data").
-use Rattle.std.specs.Prelude.{ℕ, ◌+◌, ◌-◌, ◌*◌, ◌/◌, ◌%◌, ◌^◌, ◌==◌, List, length, map, Option, Some, None, nat_lt, if◌then◌else◌, ℤ}
+use Rattle.std.specs.Prelude.{ℕ, ◌+◌, ◌-◌, ◌*◌, ◌/◌, ◌%◌, ◌^◌, ◌==◌, List, length, map, Option, Some, None, nat_lt, if◌then◌else◌, ℤ, Result}
 use Rattle.std.specs.Option.{option_map}
 use Rattle.subsetter_base.specs.Bytes.{number, from_offset}
+use Rattle.subsetter_base.specs.declared.error.Error.{Error}
 use Rattle.subsetter_base.specs.Options.{◌>>=◌}
-use Rattle.subsetter_variation.specs.Items.ItemVariations.{Store, item_delta, item_store, nullable_offset}
+use Rattle.subsetter_variation.specs.Items.ItemVariations.{Store, item_delta, item_store, nullable_offset, whole_or_fault}
 
 -- how many entries a map of indexes has, by its format, and where they stand
 abbrev pub map_head : List ℕ → Option (ℕ × ℕ)
@@ -48,6 +49,10 @@ advance_delta hvar at g = do
   s ← store_of hvar (length at)
   index ← advance_index hvar g
   item_delta s at index.0 index.1
+
+-- the same in whole units, or the name of what is wrong
+abbrev pub advance_or_fault : List ℕ → List ℤ → ℕ → Result ℤ Error
+advance_or_fault hvar at g = whole_or_fault (advance_delta hvar at g)
 
 -- the outer and the inner index of a glyph's vertical origin, by vOrgMapping of `VVAR`; without the map there are none
 unfoldable pub origin_index : List ℕ → ℕ → Option (ℕ × ℕ)

@@ -11,13 +11,14 @@ ghost use Rattle.std.specs.Option.{ok_or, option_map};
 ghost use Rattle.subsetter_base.specs.Gives.{Gives};
 ghost use Rattle.subsetter_base.specs.declared.error.Error.TheVariants.{MalformedFont};
 ghost use Rattle.subsetter_variation.specs.Glyphs.Movement.{AreWithin, IsOutline, IsWithin, spent, moved_by, counted_walk, next_walk, walk_all, start, moved_in_bytes, moved_points};
+ghost use Rattle.subsetter_variation.specs.Glyphs.SharedScalars.{AreSharedScalars};
 ghost use Rattle.subsetter_variation.specs.Glyphs.Tuples.{both_deltas, count_of};
 
 use crate::glyphs::inference::Point;
 use crate::glyphs::spare::{SpareLists, keep_numbers};
 use crate::glyphs::tuples::{
-    Gvar, TupleHeader, TupleHeaders, both_deltas, count_of, next_header, shared_numbers,
-    tuple_headers,
+    Gvar, TupleHeader, TupleHeaders, both_deltas, count_of, listed_scalar, next_header, scalar_by,
+    shared_numbers, tuple_headers,
 };
 use crate::glyphs::varied::{added, added_to_each, in_units};
 use crate::packing::packed::point_numbers;
@@ -230,10 +231,12 @@ fn next_walk<'a>(
     o: &Outline<'_>,
     shared: &Option<Vec<u32>>,
     at: &[i32],
+    scalars: &[i64],
     w: Walk<'a>,
 ) -> Result<Walk<'a>, Error>
     requires outline { IsOutline o.now }
     requires axes { length at.now ≡ t.now.axis_count }
+    requires scalars { AreSharedScalars t.now at.now scalars.now }
     requires room { IsWithin (2 ^ 62) o.now w }
     ensures value { Gives (λ v. v) result (next_walk t.now o.now (option_map (λ x. x.items) shared.now) at.now w.entry) }
     ensures bound { (b : ℕ) → IsWithin b o.now w.entry → IfOk result (λ v. IsWithin (b + 2 ^ 45) o.now v) }
@@ -245,6 +248,7 @@ fn next_walk<'a>(
         headers,
     } = w;
     let steps = spent(1, steps)?;
+    let listed = listed_scalar(t, at, scalars, &headers);
     let (header, headers) = next_header(t, headers).ok_or(Error::MalformedFont)?;
     let w = Walk {
         xs,
@@ -252,7 +256,7 @@ fn next_walk<'a>(
         steps,
         headers,
     };
-    let s = header.scalar(at);
+    let s = scalar_by(listed, &header, at);
     if s == 0 {
         Ok(w)
     } else {
@@ -269,10 +273,12 @@ fn walk_all<'a>(
     o: &Outline<'_>,
     shared: &Option<Vec<u32>>,
     at: &[i32],
+    scalars: &[i64],
     w: Walk<'a>,
 ) -> Result<Walk<'a>, Error>
     requires outline { IsOutline o.now }
     requires axes { length at.now ≡ t.now.axis_count }
+    requires scalars { AreSharedScalars t.now at.now scalars.now }
     requires start { IsWithin (2 ^ 45) o.now w }
     requires few { w.headers.left < 4096 }
     ensures value { Gives (λ v. v) result (walk_all t.now o.now (option_map (λ x. x.items) shared.now) at.now w.entry.headers.left w.entry) }
@@ -281,7 +287,7 @@ fn walk_all<'a>(
     let count = w.left();
     let mut w = w;
     for i in 0..count {
-        w = next_walk(alloc, lists, t, o, shared, at, w)?;
+        w = next_walk(alloc, lists, t, o, shared, at, scalars, w)?;
     }
     Ok(w)
 }
@@ -328,7 +334,8 @@ fn moved_in_bytes<'a>(
     let (is_shared, headers) = tuple_headers(bytes).ok_or(Error::MalformedFont)?;
     let (shared, headers) = shared_numbers(alloc, &mut lists.shared, n, is_shared, headers)?;
     let w = start(alloc, lists, o, steps, headers)?;
-    let Walk { xs, ys, steps, .. } = walk_all(alloc, lists, t, o, &shared, at, w)?;
+    let scalars = t.scalars_at(at);
+    let Walk { xs, ys, steps, .. } = walk_all(alloc, lists, t, o, &shared, at, scalars, w)?;
     keep_numbers(&mut lists.shared, shared);
     Ok((xs, ys, steps))
 }

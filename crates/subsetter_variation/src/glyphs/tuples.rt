@@ -4,16 +4,18 @@
 //! is that of one glyph's points. Bytes left over after a tuple's deltas are passed over, and so are the deltas of a
 //! tuple whose scalar is 0: no library reads them, so a fault in them is none. The version of `gvar` isn't looked at.
 
-ghost use Rattle.std.specs.Prelude.{◌<◌, ◌≡◌, ◌≤◌, ◌^◌, ◌≤ℤ◌, pos, Some, None, MatchOption, IfSome, IfOk, length};
+ghost use Rattle.std.specs.Prelude.{◌<◌, ◌≡◌, ◌≤◌, ◌^◌, ◌≤ℤ◌, pos, Some, None, MatchOption, IfSome, IfOk, length, slice_index_or, unsigned_abs};
 ghost use Rattle.std.specs.Option.{ok_or, option_copied, option_map};
 ghost use Rattle.subsetter_base.specs.Gives.{Gives};
 ghost use Rattle.subsetter_base.specs.declared.error.Error.TheVariants.{MalformedFont};
 ghost use Rattle.subsetter_variation.specs.Region.{scalar};
+ghost use Rattle.subsetter_variation.specs.Glyphs.SharedScalars.{AreSharedScalars, IsSharedScalar};
+ghost use Rattle.subsetter_variation.specs.Glyphs.Tuples.{TupleHeader as SpecHeader, TupleHeaders as SpecHeaders};
 ghost use Rattle.subsetter_variation.specs.Glyphs.Tuples.{split, parts, gvar_table, offset, variations_of, tuple_headers, peaks_in, ends_in, region_in, next_header, both_deltas, numbers_and_deltas, tuple_size, count_of, shared_numbers};
 
 use crate::glyphs::tuple_region::{TupleRegion, tuple_region};
 use crate::packing::packed::{deltas, point_numbers, word_in};
-use std::alloc::Global;
+use std::alloc::{AllocError, Global};
 use std::marker::Model;
 use subsetter_base::Error;
 use subsetter_base::read::{Reader, between_offsets, from_offset};
@@ -64,14 +66,22 @@ pub struct Gvar<'a> {
     shared: &'a [u8],
     offsets: &'a [u8],
     variations: &'a [u8],
+    /// The location at which scalars of shared tuples are known.
+    location: &'a [i32],
+    /// Those of the first shared tuples there.
+    scalars: &'a [i64],
 }
 
 impl<'a> Model for Gvar<'a> {
     ghost use Rattle.subsetter_variation.specs.Glyphs.Tuples.{Gvar};
+    ghost use Rattle.subsetter_variation.specs.Glyphs.SharedScalars.{AreSharedScalars};
 
     ghost Value = { Gvar };
 
     ghost view = { λ t. record { axis_count = t.axis_count; glyph_count = t.glyph_count; long = t.long; shared = t.shared.now; offsets = t.offsets.now; variations = t.variations.now } };
+
+    // Each scalar that is known is right.
+    ghost invariant = { λ t. AreSharedScalars (record { axis_count = t.axis_count; glyph_count = t.glyph_count; long = t.long; shared = t.shared.now; offsets = t.offsets.now; variations = t.variations.now }) t.location.now t.scalars.now };
 }
 
 /// The tuples that are left of a glyph.
@@ -123,6 +133,8 @@ fn parts(gvar: &[u8], axis_count: u16, glyph_count: u16, long: bool) -> Option<G
         shared,
         offsets,
         variations,
+        location: &[],
+        scalars: &[],
     })
 }
 
@@ -143,6 +155,60 @@ impl<'a> Gvar<'a> {
         ensures { result ≡ self.now.axis_count }
     {
         self.axis_count
+    }
+
+    /// The same table, at a location where scalars of its first shared tuples are known.
+    pub fn located<'b>(&'b self, location: &'b [i32], scalars: &'b [i64]) -> Gvar<'b>
+        requires { AreSharedScalars self.now location.now scalars.now }
+        ensures { result ≡ self.now }
+    {
+        Gvar {
+            axis_count: self.axis_count,
+            glyph_count: self.glyph_count,
+            long: self.long,
+            shared: self.shared,
+            offsets: self.offsets,
+            variations: self.variations,
+            location,
+            scalars,
+        }
+    }
+
+    /// The scalars of the first shared tuples at a location, as far as they are known.
+    pub fn scalars_at(&self, at: &[i32]) -> &'a [i64]
+        ensures { AreSharedScalars self.now at.now result.now }
+    {
+        if self.location == at {
+            self.scalars
+        } else {
+            &[]
+        }
+    }
+
+    /// The scalar of a shared tuple at a location, if it can be read.
+    fn shared_scalar(&self, at: &[i32], index: u16) -> Option<i64>
+        requires { length at.now ≡ self.now.axis_count }
+        ensures { IfSome result (IsSharedScalar self.now at.now index) }
+    {
+        let size = self.axis_count as usize * 2;
+        let peaks = Reader::new_at(self.shared, usize::from(index) * size).read_bytes(size)?;
+        let region = tuple_region(false, self.axis_count, peaks, peaks, peaks);
+        Some(region.scalar(at))
+    }
+
+    /// The scalars of the first shared tuples at a location, of all that tuples can name.
+    pub fn shared_scalars(&self, alloc: Global, at: &[i32]) -> Result<Vec<i64>, AllocError>
+        requires { length at.now ≡ self.now.axis_count }
+        ensures { IfOk result (λ v. AreSharedScalars self.now at.now v.items) }
+    {
+        let mut scalars = Vec::new(alloc);
+        for index in 0..TUPLE_INDEXES {
+            let Some(scalar) = self.shared_scalar(at, index) else {
+                return Ok(scalars);
+            };
+            scalars.push(scalar)?;
+        }
+        Ok(scalars)
     }
 
     /// An offset.
@@ -328,6 +394,50 @@ pub fn next_header<'a>(
             serialized,
         },
     ))
+}
+
+/// A scalar, if there are as many.
+fn scalar_at(scalars: &[i64], index: usize) -> Option<i64>
+    ensures { IfSome result (λ x. (index < length scalars.now) × (x ≡ slice_index_or scalars.now index (pos 0))) }
+{
+    if index < scalars.len() {
+        Some(scalars[index])
+    } else {
+        None
+    }
+}
+
+/// The scalar of the next tuple, where that is a shared one without ends of its own whose scalar is known.
+pub(crate) fn listed_scalar(
+    t: &Gvar<'_>,
+    at: &[i32],
+    scalars: &[i64],
+    r: &TupleHeaders<'_>,
+) -> Option<i64>
+    requires { AreSharedScalars t.now at.now scalars.now }
+    ensures value { (next : SpecHeader × SpecHeaders) → next_header t.now r.now ≡ Some next → IfSome result (λ x. x ≡ scalar next.0.region at.now) }
+    ensures small { IfSome result (λ x. unsigned_abs x ≤ 2 ^ 30) }
+{
+    let (_size, rest) = word_in(r.headers)?;
+    let (flags, _rest) = word_in(rest)?;
+    if flags >= INTERMEDIATE_REGION {
+        return None;
+    }
+    scalar_at(scalars, usize::from(flags % TUPLE_INDEXES))
+}
+
+/// The scalar of a tuple, which may be known.
+pub(crate) fn scalar_by(listed: Option<i64>, header: &TupleHeader<'_>, at: &[i32]) -> i64
+    requires axes { length header.now.region ≡ length at.now }
+    requires listed { IfSome listed (λ x. x ≡ scalar header.now.region at.now) }
+    requires small { IfSome listed (λ x. unsigned_abs x ≤ 2 ^ 30) }
+    ensures value { result ≡ scalar header.now.region at.now }
+    ensures small { unsigned_abs result ≤ 2 ^ 30 }
+{
+    match listed {
+        Some(scalar) => scalar,
+        None => header.scalar(at),
+    }
 }
 
 /// The deltas of x and those of y, one for each of so many points, in the memory of lists that are spare.

@@ -4,15 +4,17 @@
 //! A map of indexes without entries has no reading (FreeType and HarfBuzz take 0 there). The version of `HVAR` and `VVAR`
 //! isn't looked at. Both tables have the store and the map of advances at the same offsets.
 
-ghost use Rattle.std.specs.Prelude.{[], ◌≡◌, ◌+◌, ◌*◌, ◌<◌, ◌≤◌, ◌^◌, Some, IfSome};
+ghost use Rattle.std.specs.Prelude.{[], ◌≡◌, ◌+◌, ◌*◌, ◌<◌, ◌≤◌, ◌^◌, Some, IfOk, IfSome, map};
 ghost use Rattle.std.specs.Option.{ok_or};
 ghost use Rattle.subsetter_base.specs.declared.error.Error.TheVariants.{MalformedFont};
 ghost use Rattle.subsetter_variation.specs.Items.ItemVariations.{nullable_offset, item_store, item_delta, in_whole_units, whole_or_fault};
-ghost use Rattle.subsetter_variation.specs.Items.Advances.{map_head, split_index, mapped_index, advance_index, store_of, advance_delta, entry_index, origin_index, origin_delta};
+ghost use Rattle.subsetter_variation.specs.Items.Advances.{advance_or_fault, map_head, split_index, mapped_index, advance_index, store_of, advance_delta, entry_index, origin_index, origin_delta};
 
 use crate::items::item_variations::{
     Store, in_whole_units, item_delta, item_store, nullable_offset,
 };
+use crate::items::known::each_delta;
+use std::alloc::{AllocError, Global};
 use subsetter_base::Error;
 use subsetter_base::numbers::number_of;
 use subsetter_base::read::{Reader, from_offset};
@@ -127,6 +129,54 @@ pub fn advance_delta(hvar: &[u8], at: &[i32], glyph: u16) -> Result<i64, Error>
     ensures { result ≡ whole_or_fault (advance_delta hvar.now at.now glyph) }
 {
     in_whole_units(varied_advance(hvar, at, glyph).ok_or(Error::MalformedFont)?)
+}
+
+/// The item of the advance of each of these glyphs.
+fn advance_items(
+    alloc: Global,
+    hvar: &[u8],
+    glyphs: &[u16],
+) -> Result<Vec<Option<(u32, u32)>>, AllocError>
+    ensures { IfOk result (λ v. v.items ≡ map (advance_index hvar.now) glyphs.now) }
+{
+    let mut items = Vec::with_capacity(alloc, glyphs.len())?;
+    for glyph in glyphs {
+        items.push(advance_index(hvar, *glyph))?;
+    }
+    Ok(items)
+}
+
+/// What the advance of each of these glyphs varies by, one after the other.
+fn advances_one_by_one(
+    alloc: Global,
+    hvar: &[u8],
+    at: &[i32],
+    glyphs: &[u16],
+) -> Result<Vec<Result<i64, Error>>, AllocError>
+    ensures { IfOk result (λ v. v.items ≡ map (advance_or_fault hvar.now at.now) glyphs.now) }
+{
+    let mut deltas = Vec::with_capacity(alloc, glyphs.len())?;
+    for glyph in glyphs {
+        deltas.push(advance_delta(hvar, at, *glyph))?;
+    }
+    Ok(deltas)
+}
+
+/// What the advance of each of these glyphs varies by at a location, each as `advance_delta` says. The scalar of a region is
+/// reckoned once, and so is the sum of an item.
+pub fn advance_deltas(
+    alloc: Global,
+    hvar: &[u8],
+    at: &[i32],
+    glyphs: &[u16],
+) -> Result<Vec<Result<i64, Error>>, AllocError>
+    ensures { IfOk result (λ v. v.items ≡ map (advance_or_fault hvar.now at.now) glyphs.now) }
+{
+    let Some(s) = store_of(hvar, at.len()) else {
+        return advances_one_by_one(alloc, hvar, at, glyphs);
+    };
+    let items = advance_items(alloc, hvar, glyphs)?;
+    each_delta(alloc, &s, at, &items)
 }
 
 /// The indexes of a glyph's vertical origin: without a map there are none.

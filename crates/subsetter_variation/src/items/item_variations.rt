@@ -9,8 +9,10 @@ ghost use Rattle.std.specs.Prelude.{[], ◌∷◌, MatchOption, ◌≡◌, ◌+�
 ghost use Rattle.std.specs.Option.{option_copied};
 ghost use Rattle.subsetter_base.specs.Bytes.{signed_at};
 ghost use Rattle.subsetter_variation.specs.Region.{scalar};
+ghost use Rattle.subsetter_variation.specs.Items.Known.{AreScalars};
 ghost use Rattle.subsetter_variation.specs.Items.ItemVariations.{nullable_offset, item_store, region_axis_in, region_items, region_of, data_offset, data_regions, row_size, row_at, row_in, item_row, word_delta, byte_delta, delta, term, terms, item_delta, in_whole_units};
 
+use crate::items::known::{KnownScalar, known_scalar, none_known};
 use crate::items::layout::{
     DELTA16_SIZE, DELTA32_SIZE, ITEM_VARIATION_DATA_COUNT, ITEM_VARIATION_DATA_OFFSETS, LONG_WORDS,
     NO_VARIATION_INDEX, OFFSET32_SIZE, REGION_AXIS_COORDINATES_SIZE, REGION_COUNT,
@@ -310,16 +312,25 @@ fn delta(r: &Row<'_>, k: u16) -> Option<i32>
     }
 }
 
-/// The scalar of one of a row's regions, times its delta.
+/// The scalar of one of a row's regions, which is known then, times its delta.
 #[tactic(auto, unfolding(crate::specs::Items::ItemVariations::term))]
-fn term(s: &Store<'_>, at: &[i32], r: &Row<'_>, k: u16) -> Option<i64>
+fn term(
+    s: &Store<'_>,
+    at: &[i32],
+    known: &mut [Option<KnownScalar>],
+    r: &Row<'_>,
+    k: u16,
+) -> Option<i64>
+    requires places { 0 < length known.old }
+    requires known { AreScalars s.now at.now known.old }
     ensures value { result ≡ term s.now at.now r.now k }
     ensures bound { IfSome result (λ x. unsigned_abs x ≤ 2 ^ 62) }
+    ensures known { AreScalars s.now at.now known.new }
 {
     let index = Reader::new_at(r.indexes, k as usize * REGION_INDEX_SIZE).read::<u16>()?;
-    let region = region_items(s, index)?;
+    let scalar = known_scalar(s, at, known, index)?;
     let d = delta(r, k)?;
-    Some(scaled(region_scalar(region, at), i64::from(d)))
+    Some(scaled(scalar, i64::from(d)))
 }
 
 impl<'a> Row<'a> {
@@ -333,27 +344,47 @@ impl<'a> Row<'a> {
 
 /// The sum of a row's terms.
 #[tactic(auto, using(crate::proofs::ItemsLaws::Terms::terms_step, crate::proofs::ItemsLaws::Terms::terms_cut, crate::proofs::ItemsLaws::Terms::terms_end))]
-fn terms(s: &Store<'_>, at: &[i32], r: &Row<'_>) -> Option<i128>
-    ensures { result ≡ terms s.now at.now r.now r.now.count 0 }
+fn terms(s: &Store<'_>, at: &[i32], known: &mut [Option<KnownScalar>], r: &Row<'_>) -> Option<i128>
+    requires places { 0 < length known.old }
+    requires known { AreScalars s.now at.now known.old }
+    ensures value { result ≡ terms s.now at.now r.now r.now.count 0 }
+    ensures known { AreScalars s.now at.now known.new }
 {
     let mut sum: i128 = 0;
     let count = r.count();
     for k in 0..count {
-        let more = term(s, at, r, k)?;
+        let more = term(s, at, known, r, k)?;
         sum = wide_plus(sum, more);
     }
     Some(sum)
 }
 
-/// What an item varies by at a location, in parts of 2^30.
+/// What an item varies by at a location, in parts of 2^30, by the scalars that are known. Those of its regions are known then.
 #[tactic(auto, unfolding(crate::specs::Items::ItemVariations::item_delta))]
-pub fn item_delta(s: &Store<'_>, at: &[i32], outer: u32, inner: u32) -> Option<i128>
-    ensures { result ≡ item_delta s.now at.now outer inner }
+pub(crate) fn item_delta_by(
+    s: &Store<'_>,
+    at: &[i32],
+    known: &mut [Option<KnownScalar>],
+    outer: u32,
+    inner: u32,
+) -> Option<i128>
+    requires places { 0 < length known.old }
+    requires known { AreScalars s.now at.now known.old }
+    ensures value { result ≡ item_delta s.now at.now outer inner }
+    ensures known { AreScalars s.now at.now known.new }
 {
     if outer == NO_VARIATION_INDEX && inner == NO_VARIATION_INDEX {
         return Some(0);
     }
-    terms(s, at, &item_row(s, outer, inner)?)
+    terms(s, at, known, &item_row(s, outer, inner)?)
+}
+
+/// The same where no scalar is known yet.
+pub fn item_delta(s: &Store<'_>, at: &[i32], outer: u32, inner: u32) -> Option<i128>
+    ensures { result ≡ item_delta s.now at.now outer inner }
+{
+    let mut known = none_known();
+    item_delta_by(s, at, &mut known, outer, inner)
 }
 
 /// Parts of 2^30 as whole units, unless there are too many.

@@ -4,22 +4,22 @@
 use crate::proved::subsetter_base::read::{u32_at, Reader};
 
 /// numGroups, four bytes.
-const NUM_GROUPS: usize = 12;
+pub(crate) const NUM_GROUPS: usize = 12;
 /// groups.
-const GROUPS: usize = 16;
+pub(crate) const GROUPS: usize = 16;
 /// How many bytes a group has.
-const SEQUENTIAL_MAP_GROUP_SIZE: usize = 12;
+pub(crate) const SEQUENTIAL_MAP_GROUP_SIZE: usize = 12;
 
 /// A range of characters, and the glyph of its first.
 #[derive(Clone, Copy)]
-struct Group {
-    start: u32,
-    end: u32,
-    glyph: u32,
+pub(crate) struct Group {
+    pub(crate) start: u32,
+    pub(crate) end: u32,
+    pub(crate) glyph: u32,
 }
 
 /// The group that twelve bytes spell.
-fn group_of(bytes: &[u8]) -> Group {
+pub(crate) fn group_of(bytes: &[u8]) -> Group {
     Group {
         start: u32_at(bytes, 0),
         end: u32_at(bytes, 4),
@@ -29,12 +29,12 @@ fn group_of(bytes: &[u8]) -> Group {
 
 impl Group {
     /// Whether a character lies in the group.
-    fn has(&self, character: u32) -> bool {
+    pub(crate) fn has(&self, character: u32) -> bool {
         self.start <= character && character <= self.end
     }
 
     /// The glyph of a character of the group.
-    fn glyph_of(&self, character: u32) -> Option<u16> {
+    pub(crate) fn glyph_of(&self, character: u32) -> Option<u16> {
         let glyph = u64::from(self.glyph) + u64::from(character - self.start);
         u16::try_from(glyph).ok()
     }

@@ -4,9 +4,9 @@
 use crate::proved::subsetter_base::read::number_at;
 
 /// segCountX2, two bytes.
-const SEG_COUNT_X2: usize = 6;
+pub(crate) const SEG_COUNT_X2: usize = 6;
 /// endCode of each segment, two bytes.
-const END_CODES: usize = 14;
+pub(crate) const END_CODES: usize = 14;
 /// startCode of each segment, behind the end codes and reservedPad, where there are no segments; then idDelta and
 /// idRangeOffset of each, two bytes each.
 const START_CODES: usize = 16;
@@ -46,7 +46,12 @@ fn glyph_at(
 }
 
 /// The glyph of a character in a segment, whose end isn't below it.
-fn in_segment(table: &[u8], count: usize, segment: usize, character: u16) -> Option<u16> {
+pub(crate) fn in_segment(
+    table: &[u8],
+    count: usize,
+    segment: usize,
+    character: u16,
+) -> Option<u16> {
     let start = number_at(table, START_CODES + 2 * count + 2 * segment)?;
     let delta = number_at(table, START_CODES + 4 * count + 2 * segment)?;
     let place = START_CODES + 6 * count + 2 * segment;

@@ -13,7 +13,7 @@ use crate::proved::subsetter_sfnt::fields::loca::loca_offset;
 use crate::proved::subsetter_sfnt::fields::maxp::num_glyphs;
 use crate::proved::subsetter_variation::glyphs::tuples::{gvar_table, Gvar};
 use crate::proved::subsetter_variation::locations::coordinates::{coordinates, is_other_version};
-use crate::rattle::alloc::Global;
+use crate::rattle::alloc::{AllocError, Global};
 
 /// The tables of outlines and metrics, and what varies.
 pub struct Source<'a> {
@@ -101,6 +101,36 @@ impl<'a> Source<'a> {
     /// The variations of outlines, if there are some.
     pub fn gvar(&self) -> Option<&Gvar<'a>> {
         self.gvar.as_ref()
+    }
+
+    /// The scalars of the first shared tuples at a location; none without variations of outlines.
+    pub fn shared_scalars(&self, alloc: Global, at: &[i32]) -> Result<Vec<i64>, AllocError> {
+        match &self.gvar {
+            Some(table) => table.shared_scalars(alloc, at),
+            None => Ok(Vec::new(alloc)),
+        }
+    }
+
+    /// The variations of outlines, at a location where scalars of the first shared tuples are known.
+    fn located_gvar<'b>(&'b self, at: &'b [i32], scalars: &'b [i64]) -> Option<Gvar<'b>> {
+        match &self.gvar {
+            Some(table) => Some(table.located(at, scalars)),
+            None => None,
+        }
+    }
+
+    /// The same tables, at a location where scalars of the first shared tuples are known.
+    pub fn located<'b>(&'b self, at: &'b [i32], scalars: &'b [i64]) -> Source<'b> {
+        Source {
+            glyf: self.glyf,
+            loca: self.loca,
+            long: self.long,
+            count: self.count,
+            number_of_h_metrics: self.number_of_h_metrics,
+            hmtx: self.hmtx,
+            gvar: self.located_gvar(at, scalars),
+            hvar: self.hvar,
+        }
     }
 
     /// The variations of advances, if there are some.

@@ -4,4 +4,5 @@
 pub mod advances;
 pub mod font_metrics;
 pub mod item_variations;
+pub mod known;
 pub(crate) mod layout;

@@ -11,8 +11,8 @@ use crate::proved::subsetter_base::Error;
 use crate::proved::subsetter_variation::glyphs::inference::Point;
 use crate::proved::subsetter_variation::glyphs::spare::{keep_numbers, SpareLists};
 use crate::proved::subsetter_variation::glyphs::tuples::{
-    both_deltas, count_of, next_header, shared_numbers, tuple_headers, Gvar, TupleHeader,
-    TupleHeaders,
+    both_deltas, count_of, listed_scalar, next_header, scalar_by, shared_numbers, tuple_headers,
+    Gvar, TupleHeader, TupleHeaders,
 };
 use crate::proved::subsetter_variation::glyphs::varied::{added, added_to_each, in_units};
 use crate::proved::subsetter_variation::packing::packed::point_numbers;
@@ -164,6 +164,7 @@ fn next_walk<'a>(
     o: &Outline<'_>,
     shared: &Option<Vec<u32>>,
     at: &[i32],
+    scalars: &[i64],
     w: Walk<'a>,
 ) -> Result<Walk<'a>, Error> {
     let Walk {
@@ -173,6 +174,7 @@ fn next_walk<'a>(
         headers,
     } = w;
     let steps = spent(1, steps)?;
+    let listed = listed_scalar(t, at, scalars, &headers);
     let (header, headers) = next_header(t, headers).ok_or(Error::MalformedFont)?;
     let w = Walk {
         xs,
@@ -180,7 +182,7 @@ fn next_walk<'a>(
         steps,
         headers,
     };
-    let s = header.scalar(at);
+    let s = scalar_by(listed, &header, at);
     if s == 0 {
         Ok(w)
     } else {
@@ -196,12 +198,13 @@ fn walk_all<'a>(
     o: &Outline<'_>,
     shared: &Option<Vec<u32>>,
     at: &[i32],
+    scalars: &[i64],
     w: Walk<'a>,
 ) -> Result<Walk<'a>, Error> {
     let count = w.left();
     let mut w = w;
     for _ in 0..count {
-        w = next_walk(alloc, lists, t, o, shared, at, w)?;
+        w = next_walk(alloc, lists, t, o, shared, at, scalars, w)?;
     }
     Ok(w)
 }
@@ -238,7 +241,8 @@ fn moved_in_bytes<'a>(
     let (is_shared, headers) = tuple_headers(bytes).ok_or(Error::MalformedFont)?;
     let (shared, headers) = shared_numbers(alloc, &mut lists.shared, n, is_shared, headers)?;
     let w = start(alloc, lists, o, steps, headers)?;
-    let Walk { xs, ys, steps, .. } = walk_all(alloc, lists, t, o, &shared, at, w)?;
+    let scalars = t.scalars_at(at);
+    let Walk { xs, ys, steps, .. } = walk_all(alloc, lists, t, o, &shared, at, scalars, w)?;
     keep_numbers(&mut lists.shared, shared);
     Ok((xs, ys, steps))
 }

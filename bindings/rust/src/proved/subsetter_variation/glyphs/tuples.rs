@@ -11,7 +11,7 @@ use crate::proved::subsetter_base::read::{between_offsets, from_offset, Reader};
 use crate::proved::subsetter_base::Error;
 use crate::proved::subsetter_variation::glyphs::tuple_region::{tuple_region, TupleRegion};
 use crate::proved::subsetter_variation::packing::packed::{deltas, point_numbers, word_in};
-use crate::rattle::alloc::Global;
+use crate::rattle::alloc::{AllocError, Global};
 
 /// axisCount, two bytes.
 const AXIS_COUNT: usize = 4;
@@ -58,6 +58,10 @@ pub struct Gvar<'a> {
     shared: &'a [u8],
     offsets: &'a [u8],
     variations: &'a [u8],
+    /// The location at which scalars of shared tuples are known.
+    location: &'a [i32],
+    /// Those of the first shared tuples there.
+    scalars: &'a [i64],
 }
 
 /// The tuples that are left of a glyph.
@@ -94,6 +98,8 @@ fn parts(gvar: &[u8], axis_count: u16, glyph_count: u16, long: bool) -> Option<G
         shared,
         offsets,
         variations,
+        location: &[],
+        scalars: &[],
     })
 }
 
@@ -109,6 +115,52 @@ impl<'a> Gvar<'a> {
     /// How many axes there are.
     pub fn axis_count(&self) -> u16 {
         self.axis_count
+    }
+
+    /// The same table, at a location where scalars of its first shared tuples are known.
+    pub fn located<'b>(&'b self, location: &'b [i32], scalars: &'b [i64]) -> Gvar<'b> {
+        Gvar {
+            axis_count: self.axis_count,
+            glyph_count: self.glyph_count,
+            long: self.long,
+            shared: self.shared,
+            offsets: self.offsets,
+            variations: self.variations,
+            location,
+            scalars,
+        }
+    }
+
+    /// The scalars of the first shared tuples at a location, as far as they are known.
+    pub fn scalars_at(&self, at: &[i32]) -> &'a [i64] {
+        if self.location == at {
+            self.scalars
+        } else {
+            &[]
+        }
+    }
+
+    /// The scalar of a shared tuple at a location, if it can be read.
+    fn shared_scalar(&self, at: &[i32], index: u16) -> Option<i64> {
+        let size = self.axis_count as usize * 2;
+        let peaks = Reader::new_at(self.shared, usize::from(index) * size).read_bytes(size)?;
+        let region = tuple_region(false, self.axis_count, peaks, peaks, peaks);
+        Some(region.scalar(at))
+    }
+
+    /// The scalars of the first shared tuples at a location, of all that tuples can name.
+    pub fn shared_scalars(&self, alloc: Global, at: &[i32]) -> Result<Vec<i64>, AllocError> {
+        let mut scalars = Vec::new(alloc);
+        for index in 0..TUPLE_INDEXES {
+            let scalar = match self.shared_scalar(at, index) {
+                Some(scalar) => scalar,
+                _ => {
+                    return Ok(scalars);
+                }
+            };
+            scalars.push(scalar)?;
+        }
+        Ok(scalars)
     }
 
     /// An offset.
@@ -245,6 +297,38 @@ pub fn next_header<'a>(
             serialized,
         },
     ))
+}
+
+/// A scalar, if there are as many.
+fn scalar_at(scalars: &[i64], index: usize) -> Option<i64> {
+    if index < scalars.len() {
+        Some(scalars[index])
+    } else {
+        None
+    }
+}
+
+/// The scalar of the next tuple, where that is a shared one without ends of its own whose scalar is known.
+pub(crate) fn listed_scalar(
+    _t: &Gvar<'_>,
+    _at: &[i32],
+    scalars: &[i64],
+    r: &TupleHeaders<'_>,
+) -> Option<i64> {
+    let (_size, rest) = word_in(r.headers)?;
+    let (flags, _rest) = word_in(rest)?;
+    if flags >= INTERMEDIATE_REGION {
+        return None;
+    }
+    scalar_at(scalars, usize::from(flags % TUPLE_INDEXES))
+}
+
+/// The scalar of a tuple, which may be known.
+pub(crate) fn scalar_by(listed: Option<i64>, header: &TupleHeader<'_>, at: &[i32]) -> i64 {
+    match listed {
+        Some(scalar) => scalar,
+        None => header.scalar(at),
+    }
 }
 
 /// The deltas of x and those of y, one for each of so many points, in the memory of lists that are spare.

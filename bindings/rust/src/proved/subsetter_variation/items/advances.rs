@@ -5,12 +5,16 @@
 //! A map of indexes without entries has no reading (FreeType and HarfBuzz take 0 there). The version of `HVAR` and `VVAR`
 //! isn't looked at. Both tables have the store and the map of advances at the same offsets.
 
+use crate::rattle::prelude::Vec;
+
 use crate::proved::subsetter_base::numbers::number_of;
 use crate::proved::subsetter_base::read::{from_offset, Reader};
 use crate::proved::subsetter_base::Error;
 use crate::proved::subsetter_variation::items::item_variations::{
     in_whole_units, item_delta, item_store, nullable_offset, Store,
 };
+use crate::proved::subsetter_variation::items::known::each_delta;
+use crate::rattle::alloc::{AllocError, Global};
 
 /// itemVariationStoreOffset of `HVAR`, four bytes.
 const ITEM_VARIATION_STORE_OFFSET: usize = 4;
@@ -98,6 +102,51 @@ fn varied_advance(hvar: &[u8], at: &[i32], glyph: u16) -> Option<i128> {
 /// `MalformedFont`, 2^32 units or more `OverflowError`.
 pub fn advance_delta(hvar: &[u8], at: &[i32], glyph: u16) -> Result<i64, Error> {
     in_whole_units(varied_advance(hvar, at, glyph).ok_or(Error::MalformedFont)?)
+}
+
+/// The item of the advance of each of these glyphs.
+fn advance_items(
+    alloc: Global,
+    hvar: &[u8],
+    glyphs: &[u16],
+) -> Result<Vec<Option<(u32, u32)>>, AllocError> {
+    let mut items = Vec::with_capacity(alloc, glyphs.len())?;
+    for glyph in glyphs {
+        items.push(advance_index(hvar, *glyph))?;
+    }
+    Ok(items)
+}
+
+/// What the advance of each of these glyphs varies by, one after the other.
+fn advances_one_by_one(
+    alloc: Global,
+    hvar: &[u8],
+    at: &[i32],
+    glyphs: &[u16],
+) -> Result<Vec<Result<i64, Error>>, AllocError> {
+    let mut deltas = Vec::with_capacity(alloc, glyphs.len())?;
+    for glyph in glyphs {
+        deltas.push(advance_delta(hvar, at, *glyph))?;
+    }
+    Ok(deltas)
+}
+
+/// What the advance of each of these glyphs varies by at a location, each as `advance_delta` says. The scalar of a region is
+/// reckoned once, and so is the sum of an item.
+pub fn advance_deltas(
+    alloc: Global,
+    hvar: &[u8],
+    at: &[i32],
+    glyphs: &[u16],
+) -> Result<Vec<Result<i64, Error>>, AllocError> {
+    let s = match store_of(hvar, at.len()) {
+        Some(s) => s,
+        _ => {
+            return advances_one_by_one(alloc, hvar, at, glyphs);
+        }
+    };
+    let items = advance_items(alloc, hvar, glyphs)?;
+    each_delta(alloc, &s, at, &items)
 }
 
 /// The indexes of a glyph's vertical origin: without a map there are none.

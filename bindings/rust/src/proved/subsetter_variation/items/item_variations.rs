@@ -10,6 +10,7 @@ use crate::rattle::prelude::Cast;
 
 use crate::proved::subsetter_base::read::{signed_at, LazyArray16, Readable, Reader};
 use crate::proved::subsetter_base::Error;
+use crate::proved::subsetter_variation::items::known::{known_scalar, none_known, KnownScalar};
 use crate::proved::subsetter_variation::items::layout::{
     DELTA16_SIZE, DELTA32_SIZE, ITEM_VARIATION_DATA_COUNT, ITEM_VARIATION_DATA_OFFSETS, LONG_WORDS,
     NO_VARIATION_INDEX, OFFSET32_SIZE, REGION_AXIS_COORDINATES_SIZE, REGION_COUNT, REGION_INDEXES,
@@ -221,12 +222,18 @@ fn delta(r: &Row<'_>, k: u16) -> Option<i32> {
     }
 }
 
-/// The scalar of one of a row's regions, times its delta.
-fn term(s: &Store<'_>, at: &[i32], r: &Row<'_>, k: u16) -> Option<i64> {
+/// The scalar of one of a row's regions, which is known then, times its delta.
+fn term(
+    s: &Store<'_>,
+    at: &[i32],
+    known: &mut [Option<KnownScalar>],
+    r: &Row<'_>,
+    k: u16,
+) -> Option<i64> {
     let index = Reader::new_at(r.indexes, k as usize * REGION_INDEX_SIZE).read::<u16>()?;
-    let region = region_items(s, index)?;
+    let scalar = known_scalar(s, at, known, index)?;
     let d = delta(r, k)?;
-    Some(scaled(region_scalar(region, at), i64::from(d)))
+    Some(scaled(scalar, i64::from(d)))
 }
 
 impl<'a> Row<'a> {
@@ -237,22 +244,39 @@ impl<'a> Row<'a> {
 }
 
 /// The sum of a row's terms.
-fn terms(s: &Store<'_>, at: &[i32], r: &Row<'_>) -> Option<i128> {
+fn terms(
+    s: &Store<'_>,
+    at: &[i32],
+    known: &mut [Option<KnownScalar>],
+    r: &Row<'_>,
+) -> Option<i128> {
     let mut sum: i128 = 0;
     let count = r.count();
     for k in 0..count {
-        let more = term(s, at, r, k)?;
+        let more = term(s, at, known, r, k)?;
         sum = wide_plus(sum, more);
     }
     Some(sum)
 }
 
-/// What an item varies by at a location, in parts of 2^30.
-pub fn item_delta(s: &Store<'_>, at: &[i32], outer: u32, inner: u32) -> Option<i128> {
+/// What an item varies by at a location, in parts of 2^30, by the scalars that are known. Those of its regions are known then.
+pub(crate) fn item_delta_by(
+    s: &Store<'_>,
+    at: &[i32],
+    known: &mut [Option<KnownScalar>],
+    outer: u32,
+    inner: u32,
+) -> Option<i128> {
     if outer == NO_VARIATION_INDEX && inner == NO_VARIATION_INDEX {
         return Some(0);
     }
-    terms(s, at, &item_row(s, outer, inner)?)
+    terms(s, at, known, &item_row(s, outer, inner)?)
+}
+
+/// The same where no scalar is known yet.
+pub fn item_delta(s: &Store<'_>, at: &[i32], outer: u32, inner: u32) -> Option<i128> {
+    let mut known = none_known();
+    item_delta_by(s, at, &mut known, outer, inner)
 }
 
 /// Parts of 2^30 as whole units, unless there are too many.

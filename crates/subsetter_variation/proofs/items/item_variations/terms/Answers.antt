@@ -18,4 +18,5 @@ loop-k-preserved c =
     record {
       sum = ap (λ z. on_top z (terms c.args.s.now c.args.at.now c.args.r.now (c.count-count.result - (c.loop-k.k + 1)) (c.loop-k.k + 1))) (e ∙ v) ∙ sym step ∙ c.loop-k.invariant.sum;
       bound = subst (λ z. unsigned_abs z ≤ 2 ^ 62 * (c.loop-k.k + 1)) (sym e) (omega (arith, b, m, i));
+      known = c.in_ok-more.ensures.known;
     }
