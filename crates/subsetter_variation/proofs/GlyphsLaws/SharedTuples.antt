@@ -1,5 +1,5 @@
 -- Tuples whose peaks are shared.
-use Rattle.std.proofs.Common.{◌≡◌, ℕ, ◌+◌, ◌-◌, ◌*◌, ◌%◌, ◌<◌, ◌≤◌, List, [], ◌∷◌, ◌++◌, length, get_or, take, drop, Option, Some, None, Bool, true, false, ℤ, pos, refl, ap, sym, subst, ◌∙◌, arith, below_more, length-append}
+use Rattle.std.proofs.Common.{◌≡◌, ℕ, ◌+◌, ◌-◌, ◌*◌, ◌%◌, ◌<◌, List, [], ◌∷◌, ◌++◌, length, get_or, Option, Some, None, false, ℤ, pos, refl, ap, sym, subst, ◌∙◌, arith, below_more, length-append}
 use Rattle.std.specs.Prelude.{IfSome, nat_le, if◌then◌else◌}
 use Rattle.std.specs.Option.{option_map}
 use Rattle.std.proofs.lemmas.List.{get_or_append_left}

@@ -1,4 +1,4 @@
-use Rattle.std.proofs.Common.{◌≡◌, ◌+◌, sym, subst, ap, ◌∙◌, rules, length, length-append, ◌∷◌, [], FitsSigned, w64, to_z, of_z}
+use Rattle.std.proofs.Common.{◌+◌, sym, subst, ap, ◌∙◌, rules, length, length-append, FitsSigned, w64, to_z, of_z}
 use Rattle.std.proofs.lemmas.Int.{to_z-of_z}
 use Rattle.subsetter_variation.specs.Glyphs.SharedScalars.{AreSharedScalars, IsSharedScalar}
 use Rattle.subsetter_variation.proofs.GlyphsLaws.SharedTuples.{scalars_more}
