@@ -17,7 +17,8 @@ MAIN = """fn main() {
     std::fs::write(&words[2], ANSWER).unwrap();
 }
 """
-VARIED = "subsetter::subset_with_variations(&data, 0, &[(subsetter::Tag::new(b\"wght\"), f32::NAN)], &subsetter::GlyphRemapper::new_from_glyphs(&[2])).unwrap()"
+# (with the default features errors are those of std)
+VARIED = "{ let _: &dyn std::error::Error = &subsetter::Error::OutOfMemory; subsetter::subset_with_variations(&data, 0, &[(subsetter::Tag::new(b\"wght\"), f32::NAN)], &subsetter::GlyphRemapper::new_from_glyphs(&[2])).unwrap() }"
 
 
 def write(path, text):
