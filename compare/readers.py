@@ -68,6 +68,8 @@ def without_instructions(data):
             del font[tag]
     for name in font.getGlyphOrder():
         font["glyf"][name].removeHinting()
+    # (by this FreeType knows that there are none)
+    font["maxp"].maxSizeOfInstructions = 0
     font.save(out)
     return out.getvalue()
 
