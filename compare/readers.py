@@ -3,7 +3,7 @@
 
     compare/readers.py [FOLDER ..] [--short] [--faces N] [--bare N] [--fonts N] [--places N] [--only WORD] [--jobs J]
 
-For N faces of the fonts that are installed (one after another TrueType, SID-keyed, CID-keyed) and some glyphs of each it writes two PDF files by
+For N faces of the fonts that are installed (one after another TrueType, SID-keyed, CID-keyed; with --short of lib/fonts.py) and some glyphs of each it writes two PDF files by
 hand. `source.pdf` embeds the whole font and shows the glyphs by their old numbers; `subset.pdf` embeds what `subset_font --widths` made of
 it and shows them by the numbers that this printed. TrueType outlines stand in them as CIDFontType2 with FontFile2; CFF ones twice, as
 CIDFontType0C (the bare table) and as OpenType (the whole file). --bare N faces are taken without hinting, names and glyph names.
@@ -23,7 +23,9 @@ MuPDF, Poppler and Ghostscript draw both. Of each reader
 Of variable fonts (Debian's Inter, those with CFF2 of lib/cff2_fonts.py, and those of each FOLDER) N are taken, at N places: lib/drawn_variable.py and lib/drawn_cff2.py say
 how. The program is as Cargo builds it, or SUBSET_FONT. The status is 1 where something differs, or nothing was compared.
 """
+import functools
 import io
+import mmap
 import os
 import random
 import subprocess
@@ -66,6 +68,8 @@ def without_instructions(data):
             del font[tag]
     for name in font.getGlyphOrder():
         font["glyf"][name].removeHinting()
+    # (by this FreeType knows that there are none)
+    font["maxp"].maxSizeOfInstructions = 0
     font.save(out)
     return out.getvalue()
 
@@ -146,6 +150,7 @@ def compare(font, index, glyphs, folder, bare):
     return ways, wrong, noted
 
 
+@functools.lru_cache(maxsize=None)
 def faces():
     """The faces that are installed, by kind of outlines."""
     listed = subprocess.run(["fc-list", "--format", "%{index} %{file}\n"], capture_output=True, text=True).stdout
@@ -154,22 +159,19 @@ def faces():
                               key=lambda it: (it[1], it[0])):
         if not path.endswith((".ttf", ".otf", ".ttc")):
             continue
-        try:
-            with open(path, "rb") as file:
-                tables = Face(file.read(), index).tables
-        except UNREADABLE:
-            continue
-        if "glyf" in tables:
-            kinds["TrueType"].append((path, index))
-        elif "CFF " in tables:
-            keyed = b"\x0c\x1e" in tables["CFF "][:400]
-            kinds["CID-keyed" if keyed else "SID-keyed"].append((path, index))
+        with open(path, "rb") as file, mmap.mmap(file.fileno(), 0, access=mmap.ACCESS_READ) as data:
+            tables = fonts.directory(data, index)
+            if "glyf" in tables:
+                kinds["TrueType"].append((path, index))
+            elif "CFF " in tables:
+                at = tables["CFF "][0]
+                kinds["CID-keyed" if b"\x0c\x1e" in data[at:at + 400] else "SID-keyed"].append((path, index))
     return kinds
 
 
 def chosen(count):
     """So many faces: of each kind in turn, spread over its list."""
-    kinds = faces()
+    kinds = {kind: list(listed) for kind, listed in faces().items()}
     for listed in kinds.values():
         random.Random(1).shuffle(listed)
     taken = []
@@ -209,7 +211,9 @@ def main():
     words = reports.words(__doc__, faces=(200, 15), bare=(60, 6), fonts=(1000, 3), places=(20, 1))
     fonts.install([*drawn_by.PACKAGES, *font_at.PACKAGES, "fontconfig", *(it[0] for it in fonts.TRUETYPE_FONTS + fonts.CFF_FONTS)])
     drawn_by.program()
-    faces = [(bare, path, index) for bare, count in ((False, words.faces), (True, words.bare)) for _, path, index in chosen(count) if words.only in path]
+    listed = [it[1:] for pair in zip(fonts.TRUETYPE_FONTS, fonts.CFF_FONTS) for it in pair]
+    faces = [(bare, path, index) for bare, count in ((False, words.faces), (True, words.bare))
+             for path, index in (listed[:count] if words.short else [it[1:] for it in chosen(count)]) if words.only in path]
     found = reports.beside(words.jobs, compare_face, *zip(*faces)) if faces else []
     variable = font_at.font_paths(words.folders, words.only)[:words.fonts]
     found += reports.beside(words.jobs, drawn_variable.compare_font, [words] * len(variable), variable)

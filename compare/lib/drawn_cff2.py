@@ -2,15 +2,15 @@
 
 Of each face its default and some places are taken, and up to 24 glyphs at each. `subset_font --at` makes their subset there: a CID-keyed `CFF ` font with hints. The other font is name-keyed and has none: fontTools
 writes what HarfBuzz draws of the source, each coordinate rounded once, with HarfBuzz's advances. Both are embedded twice, as
-CIDFontType0C (the bare table) and as OpenType (the whole file), in a PDF file of two pages: the glyphs on a grid, 128 pixels an em, and a
-line of them, 40 pixels an em, which `/W` alone moves on. MuPDF, Poppler and Ghostscript draw both, and
+CIDFontType0C (the bare table) and as OpenType (the whole file), in a PDF file of two pages: the glyphs on a grid, 256 pixels an em, and a
+line of them, 80 pixels an em, which `/W` alone moves on. MuPDF, Poppler and Ghostscript draw both, and
 
     each pixel must be as dark in both, or differ by one level of grey, that is of the reader's raster: 1 of 255, of Ghostscript's
     raster of 4 by 4 a sixteenth;
     no page may be blank;
     no warning may come for the subset that doesn't come for the other font.
 
-The glyphs lean by a ten thousandth, an eightieth of a pixel, as Ghostscript lets FreeType hint what stands upright. A place at which a kept
+The glyphs lean by a ten thousandth, a fortieth of a pixel, as Ghostscript lets FreeType hint what stands upright. A place at which a kept
 glyph has an advance past 32,767, for which a charstring has no number, has to be refused as `overflow occurred`.
 """
 import os
@@ -26,6 +26,8 @@ from cff2_whole import TOO_LARGE, Face, Report, is_too_wide
 from pdf_file import Face as File, Pdf, embedded, pages
 
 WAYS = ["CIDFontType0C", "OpenType"]
+# Pixels an inch: eight a point, so that the grid's places are whole pixels.
+DPI = 576
 # A level of grey, of 255.
 LEVEL = {"MuPDF": 1, "Poppler": 1, "Ghostscript": 16}
 MANY = drawn_variable.GLYPHS_A_PLACE
@@ -107,7 +109,7 @@ def differences(folder, way):
     """What the readers show otherwise for the subset than for the other font."""
     wrong = []
     for reader in drawn_by.READERS:
-        (ours, said), (theirs, usual) = (drawn_by.drawn(reader, os.path.join(folder, name), drawn_variable.DPI) for name in (f"subset-{way}", f"other-{way}"))
+        (ours, said), (theirs, usual) = (drawn_by.drawn(reader, os.path.join(folder, name), DPI) for name in (f"subset-{way}", f"other-{way}"))
         if ours is None or theirs is None:
             wrong.append(f"{way}, {reader} draws nothing")
             continue

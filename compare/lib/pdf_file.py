@@ -1,4 +1,5 @@
 """A PDF file, written by hand: objects, a page of glyphs, and a font that is embedded as a CID font (ISO 32000-1, 9.7)."""
+import struct
 import zlib
 
 from fonts import directory, u16, u32
@@ -62,7 +63,7 @@ class Face:
         place, rows, body = 12 + 16 * count, b"", b""
         for tag, table in records:
             padded = table + bytes(-len(table) % 4)
-            total = sum(int.from_bytes(padded[k:k + 4], "big") for k in range(0, len(padded), 4)) % 2 ** 32
+            total = sum(struct.unpack(f">{len(padded) // 4}I", padded)) % 2 ** 32
             rows += tag.encode("latin-1") + b"".join(n.to_bytes(4, "big") for n in (total, place + len(body), len(table)))
             body += padded
         return head + rows + body
