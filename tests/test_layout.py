@@ -108,3 +108,7 @@ def test_shell_scripts():
 
 def test_spelling():
     assert output("codespell", "--ignore-words-list=crate,crates,modul,nin,ths,ot,fiel", *tracked("*.md", "*.rt", "*.py", "*.mjs", "*.c", "*.h")) == ""
+
+
+def test_copies_and_version():
+    assert output("tools/copies") == ""

@@ -1,4 +1,4 @@
-//! What no clause says: that a line is read, and texts of answers. The faults of lines are rows of .ci/program/rows.
+//! What no clause says: that a line is read, and texts of answers. The faults of lines are rows of tests/data/program.
 
 use crate::{read_request, write_done, write_failed};
 use std::test::Fail;
