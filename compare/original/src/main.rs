@@ -1,7 +1,6 @@
 //! Measures how long a subset takes with the original crate: `original_bench FONT INDEX GLYPHS COUNT [OUT]`.
 //!
-//! The words, the lines that it prints and what is timed are those of `crates/dev_bench`: the font is read and the
-//! mapper made once, and the clock runs round each call of `subset` alone.
+//! The font is read and the mapper made once, and the clock runs round each call of `subset` alone.
 
 use std::process::ExitCode;
 use std::time::Instant;

@@ -1,2 +1,0 @@
-mod Instances
-mod Ranges

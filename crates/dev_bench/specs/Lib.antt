@@ -1,4 +1,0 @@
-pub mod Digest
-pub mod Lines
-pub mod Measured
-pub mod Words

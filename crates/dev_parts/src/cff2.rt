@@ -1,5 +1,0 @@
-//! Glyphs of a CFF2 font at coordinates.
-
-pub mod listing;
-pub mod printing;
-pub mod request;
