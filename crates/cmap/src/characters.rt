@@ -19,7 +19,7 @@ use std::alloc::{AllocError, Global};
 use subsetter_base::read::{Reader, number_at};
 
 /// So few characters are sought one by one: to open the table for them would take longer.
-const FEW: usize = 8;
+const FEW: usize = 64;
 
 /// The glyph of each character, each sought from the table's start on.
 fn one_by_one(

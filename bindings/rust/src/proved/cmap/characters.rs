@@ -13,7 +13,7 @@ use crate::proved::subsetter_base::read::{number_at, Reader};
 use crate::rattle::alloc::{AllocError, Global};
 
 /// So few characters are sought one by one: to open the table for them would take longer.
-const FEW: usize = 8;
+const FEW: usize = 64;
 
 /// The glyph of each character, each sought from the table's start on.
 fn one_by_one(
