@@ -258,3 +258,16 @@ def test_the_reason_for_a_refusal_is_looked_for_within_twice_the_limits(room):
     (room / "in").write_bytes(cff_font(20, 100))
     got = run("--limits", "80,64", "in", "out", "0", "1", cwd=room, status=1)
     assert got.stderr == b"processing CFF table failed\na glyph needs more than the 80,64 of --limits\n"
+
+
+# ---- names
+
+def test_a_message_lists_twenty_instances(room):
+    names = [{"location": {"wght": 400}, "stylename": f"Style {it}"} for it in range(25)]
+    (room / "in").write_bytes(font(axes=[("wght", 100, 400, 900, "Weight")], instances=names))
+    listed = "named instances: " + ", ".join(f"Style {it}" for it in range(20))
+    got = run("--at", "None", "in", "out", "0", "1", cwd=room, status=1)
+    assert got.stderr.decode() == f"no such instance in font\n{listed} and 5 more\n"
+    (room / "in").write_bytes(font(axes=[("wght", 100, 400, 900, "Weight")], instances=names[:20]))
+    assert run("--at", "None", "in", "out", "0", "1", cwd=room, status=1).stderr.decode().endswith(f"{listed}\n")
+    run("--at", "style 19", "in", "out", "0", "1", cwd=room)

@@ -1,5 +1,5 @@
 -- The coordinates of a named instance (OpenType, "fvar", "InstanceRecord").
-use Rattle.std.specs.Prelude.{ℕ, ℤ, pos, Bool, true, false, if◌then◌else◌, List, [], ◌∷◌, ◌++◌, map, drop, Option, Some, None, is_some, codes}
+use Rattle.std.specs.Prelude.{ℕ, ◌-◌, ◌==◌, ℤ, pos, Bool, true, false, if◌then◌else◌, List, [], ◌∷◌, ◌++◌, map, drop, take, length, decimal, Option, Some, None, is_some, codes}
 use Rattle.std.specs.Char.{to_ascii_lowercase}
 use Rattle.std.specs.Int.{w32, cast_signed}
 use Rattle.std.specs.Option.{option_map, option_and_then}
@@ -75,10 +75,17 @@ line_of_names (b ∷ text) = (b ∷ text) ++ codes "\n"
 abbrev pub records_of : List ℕ → Option (List (List ℕ))
 records_of fvar = option_and_then (λ a. instances fvar) (axes fvar)
 
--- `named instances: Regular, Semi Bold`
+-- how many more there are
+abbrev pub with_more : List ℕ → ℕ → List ℕ
+with_more text more = if more == 0 then text else text ++ (codes " and " ++ (decimal more ++ codes " more"))
+
+-- the names of the first twenty: `named instances: Regular, Semi Bold`
+abbrev pub few_names : List ℕ → List (List ℕ) → List ℕ
+few_names names records = line_of_names (with_more (names_behind (codes "named instances: ") names (take 20 records)) (length records - 20))
+
 abbrev pub names_line : List ℕ → Option (List (List ℕ)) → List ℕ
 names_line names None = line_of_names []
-names_line names (Some records) = line_of_names (names_behind (codes "named instances: ") names records)
+names_line names (Some records) = few_names names records
 
 abbrev pub face_names : Font → List ℕ
 face_names font = names_line (bytes_or_none (stored font (codes "name"))) (option_and_then records_of (stored font (codes "fvar")))

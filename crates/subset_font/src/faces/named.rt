@@ -1,12 +1,12 @@
 //! The coordinates of a named instance.
 
-ghost use Rattle.std.specs.Prelude.{◌≡◌, ◌⊎◌, ◌++◌, map, drop, IfOk, IfErr, OnOk, Some, None, codes, is_some};
+ghost use Rattle.std.specs.Prelude.{◌≡◌, ◌⊎◌, ◌++◌, map, drop, take, IfOk, IfErr, OnOk, Some, None, codes, is_some};
 ghost use Rattle.std.specs.Option.{option_copied, option_map};
 ghost use Rattle.subsetter_base.specs.Bytes.{number};
 ghost use Rattle.subsetter_base.specs.declared.error.Error.TheVariants.{OutOfMemory, UnknownKind, MalformedFont};
 ghost use Rattle.subsetter_sfnt.specs.Extras.{all_extras};
 ghost use Rattle.subsetter_sfnt.specs.Read.{header_offset, stored};
-ghost use Rattle.subset_font.specs.Faces.Named.{is_same_name, has_name, find_named, coordinate_in, settings_of, instance_settings, face_settings, name_behind, before_next, names_behind, line_of_names, records_of, names_line, face_names};
+ghost use Rattle.subset_font.specs.Faces.Named.{is_same_name, has_name, find_named, coordinate_in, settings_of, instance_settings, face_settings, name_behind, before_next, names_behind, line_of_names, records_of, with_more, few_names, names_line, face_names};
 ghost use Rattle.subset_lines.specs.Faces.Names.{name_of};
 ghost use Rattle.subset_font.specs.Faces.Tables.{bytes_or_none};
 ghost use Rattle.subset_font.specs.declared.refusals.failure.Failure.TheVariants.{Error as Refused, NoInstance};
@@ -185,22 +185,47 @@ fn line_of_names(mut text: Vec<u8>) -> Result<Vec<u8>, AllocError>
     Ok(text)
 }
 
+/// The first twenty records.
+fn few_records<'a, 'b>(records: &'b [&'a [u8]]) -> &'b [&'a [u8]]
+    ensures { result.now ≡ take 20 records.now }
+{
+    records.get(..MOST_NAMES).unwrap_or(records)
+}
+
+/// A text, and how many more there are.
+fn with_more(alloc: Global, mut text: Vec<u8>, more: usize) -> Result<Vec<u8>, AllocError>
+    ensures { IfOk result (λ made. made.items ≡ with_more text.items more) }
+{
+    if more == 0 {
+        return Ok(text);
+    }
+    let count = format!(in alloc; " and {more} more")?;
+    text.extend_from_slice(count.as_bytes())?;
+    Ok(text)
+}
+
+/// The line of the names of the first instances, and how many more there are.
+fn few_names(alloc: Global, names: &[u8], records: &[&[u8]]) -> Result<Vec<u8>, AllocError>
+    ensures { IfOk result (λ line. line.items ≡ few_names names.now (map (λ bytes. bytes.now) records.now)) }
+{
+    let text = names_behind(alloc, b"named instances: ", names, few_records(records))?;
+    let text = with_more(alloc, text, records.len().saturating_sub(MOST_NAMES))?;
+    line_of_names(text)
+}
+
 /// The line of the names of the instances in `fvar`.
 fn names_of_fvar(alloc: Global, fvar: &[u8], names: &[u8]) -> Result<Vec<u8>, AllocError>
     ensures { IfOk result (λ line. line.items ≡ names_line names.now (records_of fvar.now)) }
 {
     match read_axes(alloc, fvar, names) {
-        Ok(all) => {
-            let text = names_behind(alloc, b"named instances: ", names, &all.instances)?;
-            line_of_names(text)
-        }
+        Ok(all) => few_names(alloc, names, &all.instances),
         Err(Error::OutOfMemory) => Err(AllocError),
         Err(_) => line_of_names(Vec::new(alloc)),
     }
 }
 
-/// The line that lists the names of the named instances of a face, `named instances: Regular, Semi Bold`, or that there are
-/// none: it isn't variable, its `fvar` is cut, or none of them has a name.
+/// The line that lists the names of the first twenty named instances of a face, `named instances: Regular, Semi Bold`, and says
+/// how many more there are; or that there are none: it isn't variable, its `fvar` is cut, or none of them has a name.
 pub fn instance_names(alloc: Global, font: &[u8], index: u32) -> Result<Vec<u8>, AllocError>
     ensures { IfOk result (λ line. line.items ≡ face_names (record { bytes = font.now; index = index; extras = all_extras })) }
 {
@@ -209,6 +234,9 @@ pub fn instance_names(alloc: Global, font: &[u8], index: u32) -> Result<Vec<u8>,
         None => line_of_names(Vec::new(alloc)),
     }
 }
+
+/// The most instances that are listed.
+const MOST_NAMES: usize = 20;
 
 /// The line where there are no names.
 const NO_NAMES: &[u8] = b"the font has no named instances\n";

@@ -167,26 +167,48 @@ fn line_of_names(mut text: Vec<u8>) -> Result<Vec<u8>, AllocError> {
     Ok(text)
 }
 
+/// The first twenty records.
+fn few_records<'a, 'b>(records: &'b [&'a [u8]]) -> &'b [&'a [u8]] {
+    records.get(..MOST_NAMES).unwrap_or(records)
+}
+
+/// A text, and how many more there are.
+fn with_more(alloc: Global, mut text: Vec<u8>, more: usize) -> Result<Vec<u8>, AllocError> {
+    if more == 0 {
+        return Ok(text);
+    }
+    let count = format!(in alloc; " and {more} more")?;
+    text.extend_from_slice(count.as_bytes())?;
+    Ok(text)
+}
+
+/// The line of the names of the first instances, and how many more there are.
+fn few_names(alloc: Global, names: &[u8], records: &[&[u8]]) -> Result<Vec<u8>, AllocError> {
+    let text = names_behind(alloc, b"named instances: ", names, few_records(records))?;
+    let text = with_more(alloc, text, records.len().saturating_sub(MOST_NAMES))?;
+    line_of_names(text)
+}
+
 /// The line of the names of the instances in `fvar`.
 fn names_of_fvar(alloc: Global, fvar: &[u8], names: &[u8]) -> Result<Vec<u8>, AllocError> {
     match read_axes(alloc, fvar, names) {
-        Ok(all) => {
-            let text = names_behind(alloc, b"named instances: ", names, &all.instances)?;
-            line_of_names(text)
-        }
+        Ok(all) => few_names(alloc, names, &all.instances),
         Err(Error::OutOfMemory) => Err(AllocError),
         Err(_) => line_of_names(Vec::new(alloc)),
     }
 }
 
-/// The line that lists the names of the named instances of a face, `named instances: Regular, Semi Bold`, or that there are
-/// none: it isn't variable, its `fvar` is cut, or none of them has a name.
+/// The line that lists the names of the first twenty named instances of a face, `named instances: Regular, Semi Bold`, and says
+/// how many more there are; or that there are none: it isn't variable, its `fvar` is cut, or none of them has a name.
 pub fn instance_names(alloc: Global, font: &[u8], index: u32) -> Result<Vec<u8>, AllocError> {
     match table(font, index, Tag::new(b"fvar")) {
         Some(fvar) => names_of_fvar(alloc, fvar, names_of(font, index)),
         None => line_of_names(Vec::new(alloc)),
     }
 }
+
+/// The most instances that are listed.
+const MOST_NAMES: usize = 20;
 
 /// The line where there are no names.
 const NO_NAMES: &[u8] = b"the font has no named instances\n";
