@@ -36,7 +36,7 @@ pub few_named : (names : List ℕ) (records few : List (Bor (List ℕ))) (text :
 few_named names records few text more f t m =
     let listed : map (λ (b : Bor (List ℕ)). b.now) few ≡ take 20 (map (λ (b : Bor (List ℕ)). b.now) records) = ap (map (λ (b : Bor (List ℕ)). b.now)) f ∙ sym (take-map (λ (b : Bor (List ℕ)). b.now) 20 records) in
     let text_is : text ≡ names_behind (codes "named instances: ") names (take 20 (map (λ (b : Bor (List ℕ)). b.now) records)) = t ∙ ap (names_behind (codes "named instances: ") names) listed in
-    let more_is : more ≡ length (map (λ (b : Bor (List ℕ)). b.now) records) - 20 = m ∙ ap (λ (n : ℕ). n - 20) (sym (length-map records)) in
+    let more_is : more ≡ length (map (λ (b : Bor (List ℕ)). b.now) records) - 20 = m ∙ ap (λ (n : ℕ). n - 20) (sym (length-map records (λ (b : Bor (List ℕ)). b.now))) in
     ap (λ (n : ℕ). line_of_names (with_more text n)) more_is ∙ ap (λ (v : List ℕ). line_of_names (with_more v (length (map (λ (b : Bor (List ℕ)). b.now) records) - 20))) text_is
 
 -- the first axis of a tag, as both say it
