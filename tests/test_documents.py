@@ -51,13 +51,13 @@ def demand_pdf(room):
 
 @functools.lru_cache(maxsize=None)
 def library():
-    run(ROOT, "make", "-s", "-C", "bindings/capi", "all")
+    run(ROOT, "flock", "bindings/capi/Makefile", "make", "-s", "-C", "bindings/capi", "all")
     return os.path.join(ROOT, "bindings", "capi", "out")
 
 
 @functools.lru_cache(maxsize=None)
 def package():
-    run(ROOT, "make", "-s", "-C", "bindings/js", "package")
+    run(ROOT, "flock", "bindings/js/Makefile", "make", "-s", "-C", "bindings/js", "package")
     [name] = [it for it in os.listdir(os.path.join(ROOT, "bindings", "js", "out")) if it.endswith(".tgz")]
     return os.path.join(ROOT, "bindings", "js", "out", name)
 

@@ -18,5 +18,5 @@ hypothesis.settings.load_profile("same")
 def pytest_configure():
     if "SUBSETTER_LIBRARY" not in os.environ:
         folder = ROOT / "bindings/capi"
-        subprocess.run(["make", "-s", "-C", folder], check=True)
+        subprocess.run(["flock", folder / "Makefile", "make", "-s", "-C", folder], check=True)
         os.environ["SUBSETTER_LIBRARY"] = str(folder / "out/libsubsetter.so")

@@ -198,7 +198,7 @@ fn each_request_of_a_pdf_font_may_be_refused() {
         }
         let answer = pdf::glyphs(&font);
         let requests = refuse_each(|| pdf::glyphs(&font), &answer);
-        assert!(answer.is_ok() && requests == 1, "{name}: {requests}");
+        assert!(answer.is_ok() && requests == 3, "{name}: {requests}");
     }
     for choice in [Codes::Consecutive, Codes::Source, Codes::EachText] {
         let answer = pdf::codes(choice);
