@@ -66,7 +66,8 @@ def main(words):
         before = json.load(file)
     why = why_not(found, before)
     if why:
-        sys.exit(f"keep.py: {why}: the libraries are proved again")
+        print(f"keep.py: {why}: the libraries are proved again")
+        return
     for crate in found.values():
         with open(stamp_of(crate), "w", encoding="utf-8") as file:
             file.write(crate.stamp())
