@@ -492,7 +492,8 @@ pub fn glyphs_of(data: &[u8], index: u32, characters: &[u32]) -> Result<Vec<u16>
         return Err(Refusal::Text);
     }
     let known = characters.iter().filter_map(|it| char::from_u32(*it));
+    let found = glyphs_by_cmap(data, index, known)?;
     let mut glyphs = with_room(characters.len())?;
-    glyphs.extend(glyphs_by_cmap(data, index, known)?);
+    glyphs.extend(found);
     Ok(glyphs)
 }
