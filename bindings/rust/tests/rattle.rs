@@ -334,13 +334,13 @@ fn a_refused_request_leaves_a_map_as_it_was() {
 fn iterators_are_collected() {
     use rattle::prelude::IteratorExt;
     assert_eq!(
-        (0..5u8).collect_with(Global).unwrap().as_slice(),
+        (0..5u8).collect_with::<Vec<u8>>(Global).unwrap().as_slice(),
         [0, 1, 2, 3, 4]
     );
-    assert_eq!(each_refused(|| (0..500u16).collect_with(Global)), 1);
+    assert_eq!(each_refused(|| (0..500u16).collect_with::<Vec<u16>>(Global)), 1);
     let odd = || (0..500u16).filter(|n| n % 2 == 1);
-    assert_eq!(odd().collect_with(Global).unwrap().len(), 250);
-    assert!(each_refused(|| odd().collect_with(Global)) > 3);
+    assert_eq!(odd().collect_with::<Vec<u16>>(Global).unwrap().len(), 250);
+    assert!(each_refused(|| odd().collect_with::<Vec<u16>>(Global)) > 3);
 }
 
 #[test]
