@@ -413,7 +413,7 @@ def test_no_file_beside(tmp_path, error, end):
 def test_no_sync(tmp_path):
     """A file system that has no sync."""
     traced = Traced("OUT over a file", tmp_path)
-    assert traced.end(traced.run("fdatasync:error=ENOSYS:when=1"), "ENOSYS") == ("whole" if IS_CARGO else "unwritten")
+    assert traced.end(traced.run("fdatasync:error=ENOSYS:when=1"), "ENOSYS") == "whole"
 
 
 def test_unknown_out(tmp_path):
