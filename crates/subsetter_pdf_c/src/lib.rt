@@ -11,6 +11,7 @@ mod entries;
 mod found;
 mod made;
 mod sheet;
+mod texts;
 mod values;
 mod written;
 
@@ -18,4 +19,5 @@ pub use entries::{are_scalars, are_texts, characters_of, shown_of};
 pub use found::glyphs_by;
 pub use made::{PdfColumn, PdfMade, PdfNumbers};
 pub use sheet::sheet_of;
+pub use texts::{characters_in, ends_of};
 pub use written::write_objects;

@@ -1,10 +1,14 @@
 //! The fonts for a PDF, as C has them: lists and numbers, and what is written of them.
 
+mod texts;
+
+pub use texts::{codes_of, TextEntries};
+
 use super::{settings, Coordinate};
 use crate::library::refused;
 use crate::pdf::{glyphs_by_cmap, with_room, FontError};
 use crate::proved::pdf_font::{
-    self as proved, Bounds, Codes, DefaultColumn, Direction, Edges, Heights, NamedCmap, Permission,
+    self as proved, Bounds, DefaultColumn, Direction, Edges, Heights, NamedCmap, Permission,
     ProgramChoice, ProgramKind, Rights, Usage, Values,
 };
 use crate::proved::pdf_objects::{write_objects, write_sheet, Layout};
@@ -49,12 +53,7 @@ impl FontChoices {
             limits: limits.0.limits,
             hinting: limits.0.extras.hinting,
             program: first_or_second(program, ProgramChoice::Smallest, ProgramChoice::OpenType)?,
-            codes: match codes {
-                0 => Codes::Consecutive,
-                1 => Codes::Source,
-                2 => Codes::EachText,
-                _ => return None,
-            },
+            codes: texts::codes_chosen(codes)?,
             direction: first_or_second(direction, Direction::Horizontal, Direction::Vertical)?,
             bounds: first_or_second(bounds, Bounds::Font, Bounds::Kept)?,
             cid_set: first_or_second(cid_set, false, true)?,
