@@ -1,1 +1,3 @@
+mod Agreeing
+mod Columns
 mod Each

@@ -9,6 +9,8 @@
 mod call;
 mod heights;
 mod known;
+mod laws;
 mod widths;
 
 pub use call::{Advances, advances};
+pub use laws::{are_those_of_a_pdf, are_those_of_columns};
