@@ -191,7 +191,7 @@ uint32_t subsetter_glyphs_of(const uint8_t *font, size_t font_size, uint32_t ind
  * `glyphs`. A glyph without a height of its own has one of an em. Of the options `tokens` counts alone: how many steps a glyph may
  * take where its outline has to be moved for it.
  *   0: all three are written.
- *   1 to 7, 10: nothing is written.
+ *   1 to 8, 10: nothing is written.
  */
 uint32_t subsetter_advances_by_words(const uint8_t *font, size_t font_size, uint32_t index,
                                      const subsetter_coordinate *coordinates, size_t coordinate_count,

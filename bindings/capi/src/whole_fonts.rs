@@ -366,15 +366,15 @@ pub unsafe extern "C" fn subsetter_advances_by_words(
     let words = unsafe { list(options, option_count) };
     let answer = guarded(|| {
         let limits = choices(words).ok_or(UNKNOWN_OPTION)?;
-        if width_count < glyphs.len() || height_count < glyphs.len() {
-            return Err(TOO_SMALL);
-        }
         advances(font, index, at, glyphs, &limits).map_err(status_of)
     });
     let made = match answer {
         Ok(made) => made,
         Err(status) => return status,
     };
+    if width_count < glyphs.len() || height_count < glyphs.len() {
+        return TOO_SMALL;
+    }
     unsafe {
         hand_items(Ok(&made.widths), Buffer::new(widths, width_count));
         hand_items(Ok(&made.heights), Buffer::new(heights, height_count));

@@ -1,7 +1,9 @@
 //! The fonts for a PDF, as C has them: lists and numbers, and what is written of them.
 
+mod advances;
 mod texts;
 
+pub use advances::advances;
 pub use texts::{codes_of, TextEntries};
 
 use super::{settings, Coordinate};
@@ -96,6 +98,12 @@ pub struct FontLists {
     pub encoding_name: Vec<u8>,
     /// CIDSet, or nothing.
     pub cid_set: Vec<u8>,
+    /// unitsPerEm.
+    pub units_per_em: u16,
+    /// The width of each CID, in the font's units.
+    pub exact_widths: Vec<u16>,
+    /// The axes that the font doesn't have, with the first letter in the highest bits.
+    pub unknown_axes: Vec<u32>,
 }
 
 /// The numbers of a font, as `subsetter_pdf_font` ends with them.
@@ -274,6 +282,8 @@ fn parted(font: proved::PdfFont) -> Result<(FontLists, FontNumbers), Error> {
         x: it.x,
         y: it.y,
     }));
+    let mut unknown_axes = with_room(font.unknown_axes.len())?;
+    unknown_axes.extend(font.unknown_axes.iter().map(|it| u32::from_be_bytes(*it.get())));
     let (name, encoding) = match font.encoding {
         Some(cmap) => (cmap.name.into_inner(), cmap.text.into_inner()),
         None => (Vec::new(), Vec::new()),
@@ -290,6 +300,9 @@ fn parted(font: proved::PdfFont) -> Result<(FontLists, FontNumbers), Error> {
         encoding,
         encoding_name: name,
         cid_set: font.cid_set.map_or_else(Vec::new, |it| it.into_inner()),
+        units_per_em: font.units_per_em,
+        exact_widths: font.exact_widths.into_inner(),
+        unknown_axes,
     };
     Ok((lists, numbers))
 }
