@@ -56,9 +56,9 @@ void subsetter_free_font(subsetter_font *made)
     *made = nothing;
 }
 
-void subsetter_free_parts(subsetter_parts *made)
+void subsetter_free_pdf_parts(subsetter_pdf_parts *made)
 {
-    static const subsetter_parts nothing = {NULL, 0};
+    static const subsetter_pdf_parts nothing = {NULL, 0};
     if (made == NULL)
         return;
     for (size_t i = 0; i < made->part_count; i++) {

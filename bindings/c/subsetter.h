@@ -544,13 +544,13 @@ enum {
 };
 
 /* Bytes from `start` up to `end`, without that. */
-typedef struct subsetter_range {
+typedef struct subsetter_pdf_range {
     size_t start;
     size_t end;
-} subsetter_range;
+} subsetter_pdf_range;
 
 /* An object: a dictionary, or a stream with its dictionary. */
-typedef struct subsetter_part {
+typedef struct subsetter_pdf_part {
     /* One of SUBSETTER_ROLE_.. */
     uint32_t role;
     /* The number that the caller gave it. */
@@ -561,32 +561,32 @@ typedef struct subsetter_part {
     const uint8_t *entries;
     size_t entries_size;
     /* Where strings are in the entries, with their parentheses: a file that is encrypted has other ones in their place (7.6). */
-    const subsetter_range *strings;
+    const subsetter_pdf_range *strings;
     size_t string_count;
     /* 1: it is a stream, of these bytes, which are those of the font. */
     uint32_t is_stream;
     const uint8_t *stream;
     size_t stream_size;
-} subsetter_part;
+} subsetter_pdf_part;
 
-/* All parts of a font, which the caller only reads, as long as it keeps the font, and gives back by `subsetter_free_parts`. */
-typedef struct subsetter_parts {
-    const subsetter_part *parts;
+/* All parts of a font, which the caller only reads, as long as it keeps the font, and gives back by `subsetter_free_pdf_parts`. */
+typedef struct subsetter_pdf_parts {
+    const subsetter_pdf_part *parts;
     size_t part_count;
-} subsetter_parts;
+} subsetter_pdf_parts;
 
 /* How many parts a font has: 5, one more with a CIDSet, and one more with a CMap of the file's own. */
-uint32_t subsetter_part_count(const subsetter_font *font);
+uint32_t subsetter_pdf_part_count(const subsetter_font *font);
 
-/* The parts of a font, in the order of their roles. `numbers` are `subsetter_part_count` numbers of objects, of generation 0, distinct
+/* The parts of a font, in the order of their roles. `numbers` are `subsetter_pdf_part_count` numbers of objects, of generation 0, distinct
  * and above 0, the Type 0 font's first.
  *   0: `*made` are the parts.
  *   7, 10 (an unknown `font->size`), 16: the count of `*made` is 0, and nothing is to be freed.
  */
-uint32_t subsetter_make_parts(const subsetter_font *font, const uint32_t *numbers, size_t number_count, subsetter_parts *made);
+uint32_t subsetter_make_pdf_parts(const subsetter_font *font, const uint32_t *numbers, size_t number_count, subsetter_pdf_parts *made);
 
 /* Gives the parts back, and sets both fields to 0. The font stays. */
-void subsetter_free_parts(subsetter_parts *made);
+void subsetter_free_pdf_parts(subsetter_pdf_parts *made);
 
 /* ---- a font in the older struct */
 

@@ -87,12 +87,12 @@ FIELD(subsetter_font, size, 0, uint32_t *) FIELD(subsetter_font, units_per_em, 4
 FONT_LIST(0, exact_widths, uint16_t, exact_width_count) FONT_LIST(1, unknown_axes, uint32_t, unknown_axis_count)
 FONT_LIST(2, glyphs, uint16_t, glyph_count) FONT_LIST(3, text, uint32_t, text_count) FONT_LIST(4, ends, size_t, end_count)
 SIZE(subsetter_font, BEHIND + 10 * WORD) _Static_assert(WORD != 8 || sizeof(subsetter_font) == 352, "the size that the proved library knows");
-FIELD(subsetter_range, start, 0, size_t *) FIELD(subsetter_range, end, WORD, size_t *) SIZE(subsetter_range, 2 * WORD)
-FIELD(subsetter_part, role, 0, uint32_t *) FIELD(subsetter_part, number, 4, uint32_t *) FIELD(subsetter_part, entries, 8, const uint8_t **)
-FIELD(subsetter_part, entries_size, 8 + WORD, size_t *) FIELD(subsetter_part, strings, 8 + 2 * WORD, const subsetter_range **)
-FIELD(subsetter_part, string_count, 8 + 3 * WORD, size_t *) FIELD(subsetter_part, is_stream, 8 + 4 * WORD, uint32_t *)
-FIELD(subsetter_part, stream, 8 + 5 * WORD, const uint8_t **) FIELD(subsetter_part, stream_size, 8 + 6 * WORD, size_t *) SIZE(subsetter_part, 8 + 7 * WORD)
-LIST(subsetter_parts, 0, parts, subsetter_part, part_count) SIZE(subsetter_parts, 2 * WORD)
+FIELD(subsetter_pdf_range, start, 0, size_t *) FIELD(subsetter_pdf_range, end, WORD, size_t *) SIZE(subsetter_pdf_range, 2 * WORD)
+FIELD(subsetter_pdf_part, role, 0, uint32_t *) FIELD(subsetter_pdf_part, number, 4, uint32_t *) FIELD(subsetter_pdf_part, entries, 8, const uint8_t **)
+FIELD(subsetter_pdf_part, entries_size, 8 + WORD, size_t *) FIELD(subsetter_pdf_part, strings, 8 + 2 * WORD, const subsetter_pdf_range **)
+FIELD(subsetter_pdf_part, string_count, 8 + 3 * WORD, size_t *) FIELD(subsetter_pdf_part, is_stream, 8 + 4 * WORD, uint32_t *)
+FIELD(subsetter_pdf_part, stream, 8 + 5 * WORD, const uint8_t **) FIELD(subsetter_pdf_part, stream_size, 8 + 6 * WORD, size_t *) SIZE(subsetter_pdf_part, 8 + 7 * WORD)
+LIST(subsetter_pdf_parts, 0, parts, subsetter_pdf_part, part_count) SIZE(subsetter_pdf_parts, 2 * WORD)
 
 /* ---- calls */
 
@@ -141,9 +141,9 @@ CALL(subsetter_make_pdf_font_of_utf8_by_words, uint32_t, FONT, AT, const uint8_t
 CALL(subsetter_make_pdf_font_of_utf8, uint32_t, FONT, AT, const char *, size_t, const subsetter_pdf_options *, subsetter_font *)
 CALL(subsetter_make_sheet, uint32_t, const subsetter_font *, uint32_t, subsetter_pdf_objects *)
 CALL(subsetter_free_font, void, subsetter_font *)
-CALL(subsetter_part_count, uint32_t, const subsetter_font *)
-CALL(subsetter_make_parts, uint32_t, const subsetter_font *, WORDS, subsetter_parts *)
-CALL(subsetter_free_parts, void, subsetter_parts *)
+CALL(subsetter_pdf_part_count, uint32_t, const subsetter_font *)
+CALL(subsetter_make_pdf_parts, uint32_t, const subsetter_font *, WORDS, subsetter_pdf_parts *)
+CALL(subsetter_free_pdf_parts, void, subsetter_pdf_parts *)
 CALL(subsetter_codes_of, uint32_t, SHOWN, uint32_t, uint16_t *, size_t, size_t *)
 CALL(subsetter_advances_by_words, uint32_t, FONT, AT, GLYPHS, WORDS, uint16_t *, size_t, uint16_t *, size_t, uint32_t *)
 CALL(subsetter_advances, uint32_t, FONT, AT, GLYPHS, CHOSEN, uint16_t *, uint16_t *, uint32_t *)

@@ -406,10 +406,10 @@ static int is_no_whole(const subsetter_font *font)
         && is_empty(font->text, font->text_count) && is_empty(font->ends, font->end_count);
 }
 
-static uint32_t make_parts(const subsetter_font *font, const uint32_t *numbers, uint32_t count, subsetter_parts *parts)
+static uint32_t make_parts(const subsetter_font *font, const uint32_t *numbers, uint32_t count, subsetter_pdf_parts *parts)
 {
     memset(parts, FILLED, sizeof *parts);
-    uint32_t status = subsetter_make_parts(font, numbers, count, parts);
+    uint32_t status = subsetter_make_pdf_parts(font, numbers, count, parts);
     check(status == 0 || is_empty(parts->parts, parts->part_count), "what is left of no parts", "parts");
     return status;
 }
@@ -417,14 +417,14 @@ static uint32_t make_parts(const subsetter_font *font, const uint32_t *numbers, 
 /* The parts of a font, written as objects, are its objects; other numbers are refused. */
 static void compare_parts(const struct row *row, const subsetter_font *font)
 {
-    uint32_t numbers[8] = {7, 8, 9, 10, 11, 12, 13, 14}, count = subsetter_part_count(font);
+    uint32_t numbers[8] = {7, 8, 9, 10, 11, 12, 13, 14}, count = subsetter_pdf_part_count(font);
     subsetter_pdf_objects objects;
-    subsetter_parts parts;
+    subsetter_pdf_parts parts;
     check(make_parts(font, numbers, count, &parts) == 0 && parts.part_count == count, "parts", row->name);
     check(subsetter_make_pdf_objects(&font->pdf, 7, &objects) == 0 && objects.offset_count == count, "objects", row->name);
     wanted_size = 0;
     for (size_t i = 0; i < parts.part_count; i++) {
-        const subsetter_part *part = &parts.parts[i];
+        const subsetter_pdf_part *part = &parts.parts[i];
         char text[64];
         want(text, (size_t)snprintf(text, sizeof text, "%u 0 obj\n<< ", (unsigned)part->number));
         want(part->entries, part->entries_size);
@@ -441,7 +441,7 @@ static void compare_parts(const struct row *row, const subsetter_font *font)
     check(is_same(objects.bytes, objects.size, wanted, wanted_size), "the parts", row->name);
     subsetter_free_pdf_objects(&objects);
     for (int turn = 0; turn < 2; turn++) {
-        subsetter_free_parts(&parts);
+        subsetter_free_pdf_parts(&parts);
         check(parts.parts == NULL && parts.part_count == 0, "what is left of parts", row->name);
     }
     check(make_parts(font, numbers, count - 1, &parts) == 16 && make_parts(font, numbers, count + 1, &parts) == 16, "their count", row->name);
@@ -450,7 +450,7 @@ static void compare_parts(const struct row *row, const subsetter_font *font)
             uint32_t kept = numbers[place], is_known = number == kept || number > 6 + count;
             numbers[place] = number;
             check(make_parts(font, numbers, count, &parts) == (is_known ? 0 : 16), "a number", row->name);
-            subsetter_free_parts(&parts);
+            subsetter_free_pdf_parts(&parts);
             numbers[place] = kept;
         }
 }
@@ -480,11 +480,12 @@ static void compare_whole(const struct row *row, const subsetter_pdf_font *font)
     for (int turn = 0; turn < 2; turn++) {
         static const subsetter_font zero;
         subsetter_free_font(&whole);
-        check(whole.size == sizeof whole && memcmp(&whole.units_per_em, &zero.units_per_em, sizeof zero - 4) == 0, "what is left", row->name);
+        check(whole.size == sizeof whole && whole.units_per_em == 0 && is_given_back(&whole.pdf)
+                  && memcmp(&whole.exact_widths, &zero.exact_widths, sizeof zero - offsetof(subsetter_font, exact_widths)) == 0, "what is left", row->name);
     }
     whole.size--;
     check(subsetter_make_font_by_words(row->font, row->font_size, 0, NULL, 0, NULL, 0, NULL, 0, NULL, 0, NULL, 0, &whole) == 10 && whole.size == sizeof whole - 1
-              && make_parts(&whole, NULL, 0, &(subsetter_parts){NULL, 0}) == 10, "another size", row->name);
+              && make_parts(&whole, NULL, 0, &(subsetter_pdf_parts){NULL, 0}) == 10, "another size", row->name);
 }
 
 /* A text in UTF-8: the same font as of its glyphs; an axis that the font doesn't have; and kinds of codes. */
@@ -548,7 +549,7 @@ static void answer(const struct row *row)
 struct all {
     subsetter_font font;
     subsetter_pdf_objects objects, page;
-    subsetter_parts parts;
+    subsetter_pdf_parts parts;
     uint32_t statuses[4];
 };
 
@@ -561,14 +562,14 @@ static void make_all(const struct row *row, struct all *it)
     if (it->statuses[0] == 0) {
         it->statuses[1] = subsetter_make_pdf_objects(&it->font.pdf, 4, &it->objects);
         it->statuses[2] = subsetter_make_sheet(&it->font, 0, &it->page);
-        it->statuses[3] = make_parts(&it->font, numbers, subsetter_part_count(&it->font), &it->parts);
+        it->statuses[3] = make_parts(&it->font, numbers, subsetter_pdf_part_count(&it->font), &it->parts);
     }
 }
 
 static void free_all(struct all *it)
 {
     if (it->statuses[0] == 0) {
-        subsetter_free_parts(&it->parts);
+        subsetter_free_pdf_parts(&it->parts);
         subsetter_free_pdf_objects(&it->objects);
         subsetter_free_pdf_objects(&it->page);
     }
@@ -957,7 +958,7 @@ static void try_lists_alone(void)
     subsetter_free_pdf_font(NULL);
     subsetter_free_pdf_objects(NULL);
     subsetter_free_font(NULL);
-    subsetter_free_parts(NULL);
+    subsetter_free_pdf_parts(NULL);
 }
 
 /* Any pointer to no items, and null, are the same to each call. */

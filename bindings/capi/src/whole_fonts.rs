@@ -6,7 +6,7 @@ use crate::fonts_for_pdf::{entries_of, hand, status_of_refusal, PdfMade};
 use crate::making::List;
 use crate::options::{choices, font_choices};
 use crate::status::{status_of, DONE, INVALID_NUMBERS, TOO_SMALL, UNKNOWN_OPTION};
-use fonts::capi::pdf::{advances, codes_of, part_count, pdf_font, Entries, FontLists, FontNumbers, TextEntries};
+use fonts::capi::pdf::{advances, codes_of, pdf_font, Entries, FontLists, FontNumbers, TextEntries};
 use fonts::capi::Coordinate;
 use fonts::pdf::{Part, PartsError};
 use fonts::Error;
@@ -254,9 +254,8 @@ impl PartsMade {
 ///
 /// What the header requires of a caller.
 #[no_mangle]
-pub unsafe extern "C" fn subsetter_part_count(font: *const FontMade) -> u32 {
-    let parts = unsafe { (*font).pdf.parts() };
-    part_count(&parts)
+pub unsafe extern "C" fn subsetter_pdf_part_count(font: *const FontMade) -> u32 {
+    unsafe { (*font).pdf.parts() }.part_count()
 }
 
 /// See `subsetter.h`.
@@ -265,7 +264,7 @@ pub unsafe extern "C" fn subsetter_part_count(font: *const FontMade) -> u32 {
 ///
 /// What the header requires of a caller.
 #[no_mangle]
-pub unsafe extern "C" fn subsetter_make_parts(
+pub unsafe extern "C" fn subsetter_make_pdf_parts(
     font: *const FontMade,
     numbers: *const u32,
     number_count: usize,
@@ -292,7 +291,7 @@ pub unsafe extern "C" fn subsetter_make_parts(
 ///
 /// What the header requires of a caller.
 #[no_mangle]
-pub unsafe extern "C" fn subsetter_free_parts(made: *mut PartsMade) {
+pub unsafe extern "C" fn subsetter_free_pdf_parts(made: *mut PartsMade) {
     if made.is_null() {
         return;
     }

@@ -356,9 +356,9 @@ def _declare(library: ctypes.CDLL) -> ctypes.CDLL:
     new = {
         "subsetter_make_font_by_words": (make_at[:5] + [pointer, size] * 4 + [ctypes.POINTER(_Font)], ctypes.c_uint32),
         "subsetter_free_font": ([ctypes.POINTER(_Font)], None),
-        "subsetter_part_count": ([pointer], ctypes.c_uint32),
-        "subsetter_make_parts": ([pointer, pointer, size, ctypes.POINTER(_Parts)], ctypes.c_uint32),
-        "subsetter_free_parts": ([ctypes.POINTER(_Parts)], None),
+        "subsetter_pdf_part_count": ([pointer], ctypes.c_uint32),
+        "subsetter_make_pdf_parts": ([pointer, pointer, size, ctypes.POINTER(_Parts)], ctypes.c_uint32),
+        "subsetter_free_pdf_parts": ([ctypes.POINTER(_Parts)], None),
         "subsetter_codes_of": (
             [pointer, size] * 3 + [ctypes.c_uint32, pointer, size, ctypes.POINTER(size)], ctypes.c_uint32),
         "subsetter_advances_by_words": (
@@ -896,7 +896,7 @@ class PdfFont:
             self.exact_widths = array("H", ctypes.string_at(new.exact_widths, 2 * new.exact_width_count)).tolist()
             axes = array("I", ctypes.string_at(new.unknown_axes, 4 * new.unknown_axis_count))
             self.unknown_axes = [it.to_bytes(4, "big").decode("ascii") for it in axes]
-            self.part_count = _library().subsetter_part_count(ctypes.byref(new))
+            self.part_count = _library().subsetter_pdf_part_count(ctypes.byref(new))
 
     def __getattr__(self, name: str) -> NoReturn:
         if name in ("units_per_em", "exact_widths", "unknown_axes", "part_count"):
@@ -958,9 +958,9 @@ class PdfFont:
         given = array("I", [_number("a number of an object", it, 0, 0xFFFFFFFF) for it in numbers])
         if self._kept is None:
             raise ValueError("the font is closed")
-        library, made = _library_with("subsetter_make_parts"), _Parts()
+        library, made = _library_with("subsetter_make_pdf_parts"), _Parts()
         font = _Font(size=ctypes.sizeof(_Font), pdf=_with_lists(self._kept[0], self._kept[1]))
-        status = library.subsetter_make_parts(ctypes.byref(font), given.buffer_info()[0], len(given), ctypes.byref(made))
+        status = library.subsetter_make_pdf_parts(ctypes.byref(font), given.buffer_info()[0], len(given), ctypes.byref(made))
         try:
             _check(library, status)
             found = [
@@ -972,7 +972,7 @@ class PdfFont:
                 for it in made.parts[:made.part_count]
             ]
         finally:
-            library.subsetter_free_parts(ctypes.byref(made))
+            library.subsetter_free_pdf_parts(ctypes.byref(made))
         if pack is None:
             return found
         said = b"/Filter %s " % filter.encode("ascii")

@@ -37,6 +37,7 @@ pub use error::FontError;
 pub use font::PdfFont;
 pub use objects::{Dictionaries, Layout, Objects, References};
 pub use options::{Bounds, Codes, Direction, FontOptions, ProgramChoice, Rights, SubsetTag};
+pub(crate) use parts::parts_of;
 pub use parts::{Part, PartsError, Role};
 pub use shown::Shown;
 pub use values::{Cmap, Column, Columns, Descriptor, Permission, ProgramKind, Usage};

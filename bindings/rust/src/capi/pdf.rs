@@ -8,11 +8,11 @@ pub use texts::{codes_of, TextEntries};
 
 use super::{settings, Coordinate};
 use crate::library::refused;
-use crate::pdf::{glyphs_by_cmap, with_room, FontError};
+use crate::pdf::{glyphs_by_cmap, parts_of, with_room, FontError, Part, PartsError};
 use crate::proved::pdf_font::{
     self as proved, Bounds, Direction, ProgramChoice, ProgramKind, Rights, Usage,
 };
-use crate::proved::pdf_objects::{write_objects, write_sheet, FontView, Layout};
+use crate::proved::pdf_objects::{part_count, write_objects, write_sheet, FontView, Layout};
 use crate::proved::pdf_text::{DefaultColumn, Descriptor, FontColumns, FontValues, OwnCmap};
 use crate::proved::subsetter as subsetting;
 use crate::proved::subsetter_variable::check_opening_at;
@@ -420,6 +420,20 @@ impl<'a> FontParts<'a> {
     pub fn objects(&self, first: u32) -> Result<(Vec<u8>, Vec<usize>), Error> {
         let made = write_objects(Global, self.view().values, first).map_err(refused)?;
         Ok((made.text.into_inner(), made.offsets.into_inner()))
+    }
+
+    /// How many objects it has.
+    pub fn part_count(&self) -> u32 {
+        part_count(self.view().values) as u32
+    }
+
+    /// The objects of the font as data, with these numbers.
+    ///
+    /// # Errors
+    ///
+    /// Those of [`PdfFont::parts`](crate::pdf::PdfFont::parts).
+    pub fn parts(&self, numbers: &[u32]) -> Result<Vec<Part<'a>>, PartsError> {
+        parts_of(self.view().values, numbers)
     }
 
     /// A whole PDF of these entries, in a grid or in a line.
