@@ -3,3 +3,4 @@ pub mod PdfFonts
 pub mod PdfGlyphs
 pub mod PdfLaws
 pub mod PdfObjects
+pub mod Whole
