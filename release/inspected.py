@@ -1,6 +1,6 @@
 """What stands in the release files, by their bytes: `look(folder, skip, version)` gives what is wrong, and how many packed files it saw.
 
-It asks nothing of what made them. What users notice when they install a package, dist/test notices.
+It asks nothing of what made them. What users notice when they install a package, release/test notices.
 """
 import base64
 import csv
