@@ -162,7 +162,7 @@ class Looker:
                 heads = [(it.name, it.mtime, it.mode, it.linkname if it.issym() else tar.extractfile(it).read()) for it in members]
             self.demand(owners == {(0, 0, "", "")} or name.endswith(".tgz"), f"{name}: its owners are {owners}")
         for path, date, mode, content in heads:
-            is_program = re.search(r"(^|/)bin/|\.so[.\d]*$|\.dll$", path)
+            is_program = re.search(r"^[^/]+/bin/|\.so[.\d]*$|\.dll$", path)
             wanted = (ZIP_DATE if is_zip else NPM_DATE if name.endswith(".tgz") else DATE, 0o777 if isinstance(content, str) else 0o755 if is_program else 0o644)
             self.demand((date, mode) == wanted, f"{name}: {path} has date {date}, mode {mode:o}")
             found[path] = content
