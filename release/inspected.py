@@ -58,6 +58,10 @@ def said(data, *words):
         return subprocess.run([*words, file.name], capture_output=True, text=True, errors="replace", check=False).stdout
 
 
+def git(*words):
+    return subprocess.run(["git", "-C", ROOT, *words], capture_output=True, text=True, check=True).stdout.strip()
+
+
 def calls():
     """The calls of the header."""
     text = re.sub(r"static inline[^{;]*|/\*.*?\*/", "", own("bindings", "c", "subsetter.h").decode(), flags=re.S)
@@ -71,7 +75,8 @@ def shown(data, *words):
 
 def glibc(data):
     """The oldest glibc that a library or a program runs on, as [2, 17]; [0, 0] where no symbol has a version."""
-    return max(([int(it) for it in found.split(".")[:2]] for found in re.findall(r"@GLIBC_([\d.]+)", said(data, "readelf", "-W", "--dyn-syms"))), default=[0, 0])
+    found = re.findall(r"@GLIBC_(\d+)\.(\d+)", said(data, "readelf", "-W", "--dyn-syms"))
+    return max(([int(it) for it in one] for one in found), default=[0, 0])
 
 
 class Looker:
@@ -97,7 +102,8 @@ class Looker:
         """The names of all files; a wheel's tags are looked at below."""
         wanted = {f"subsetter-{self.version}.crate", f"subsetter-native-{self.version}.crate"}
         wanted |= {f"subsetter-{self.version}-linux-{it}.tar.gz" for it in [*self.targets, "s390x"] if it not in self.skip}
-        wanted |= set() if "windows" in self.skip else {f"subsetter-{self.version}-windows-x86_64.zip", f"subsetter-{self.wheel_version}-py3-none-win_amd64.whl"}
+        of_windows = {f"subsetter-{self.version}-windows-x86_64.zip", f"subsetter-{self.wheel_version}-py3-none-win_amd64.whl"}
+        wanted |= set() if "windows" in self.skip else of_windows
         wanted |= set() if "js" in self.skip else {f"subsetter-proved-{self.npm_version}.tgz"}
         there = sorted(os.listdir(self.folder))
         for target in self.targets:
@@ -114,8 +120,8 @@ class Looker:
         """PROVED: the version, the commit, the kit of the file KIT, and a line for each crate and each target."""
         text = self.read("PROVED").decode()
         lines = text.split("\n")
-        git = [subprocess.run(["git", "-C", ROOT, *it], capture_output=True, text=True, check=True).stdout.strip() for it in (["rev-parse", "HEAD"], ["status", "--porcelain", "-uno"])]
-        head = [f"subsetter {self.version}", f"commit {git[0]}" + " and changes that no commit holds" * bool(git[1])]
+        commit, changed = git("rev-parse", "HEAD"), git("status", "--porcelain", "-uno")
+        head = [f"subsetter {self.version}", f"commit {commit}" + " and changes that no commit holds" * bool(changed)]
         self.demand(lines[:2] == head, f"PROVED begins with {lines[:2]}, and not {head}")
         logic = re.search(r"rattle-kit-\S+ (logic \w+)", own("KIT").decode())[1]
         self.demand(re.fullmatch(rf"rattle-kit-\S+ {logic}", lines[2]), f"PROVED has the kit {lines[2]}, and KIT {logic}")
@@ -163,8 +169,9 @@ class Looker:
             self.demand(owners == {(0, 0, "", "")} or name.endswith(".tgz"), f"{name}: its owners are {owners}")
         for path, date, mode, content in heads:
             is_program = re.search(r"^[^/]+/bin/|\.so[.\d]*$|\.dll$", path)
-            wanted = (ZIP_DATE if is_zip else NPM_DATE if name.endswith(".tgz") else DATE, 0o777 if isinstance(content, str) else 0o755 if is_program else 0o644)
-            self.demand((date, mode) == wanted, f"{name}: {path} has date {date}, mode {mode:o}")
+            right_date = ZIP_DATE if is_zip else NPM_DATE if name.endswith(".tgz") else DATE
+            right_mode = 0o777 if isinstance(content, str) else 0o755 if is_program else 0o644
+            self.demand((date, mode) == (right_date, right_mode), f"{name}: {path} has date {date}, mode {mode:o}")
             found[path] = content
         self.demand(len(found) == len(heads), f"{name}: a name twice")
         self.packed += [(name, path, it) for path, it in found.items() if isinstance(it, bytes)]
@@ -179,7 +186,8 @@ class Looker:
         for path, texts in words.items():
             text = found.get(path, b"").decode()
             self.demand(all(it in text for it in texts) and not re.search(r"@\w+@", text), f"{name}: {path} lacks one of {texts}, or has a word left")
-            for it in {*re.findall(r"\b(?:bin|include|lib|share)/[\w./-]*\w", text)} if path == "README.md" and sources.keys() & {"include/subsetter.h"} else ():
+            named = re.findall(r"\b(?:bin|include|lib|share)/[\w./-]*\w", text) if path == "README.md" and "include/subsetter.h" in found else []
+            for it in sorted({*named}):
                 self.demand(any(there == it or there.startswith(f"{it}/") for there in found), f"{name}: README.md names {it}, which isn't there")
         return found
 
@@ -254,7 +262,8 @@ class Looker:
     def crate(self, package, folder, own_files, more, words):
         """A crate: its manifest and sources as they are in a folder of the bindings."""
         at = os.path.join(ROOT, "bindings", folder)
-        paths = [*own_files, "Cargo.toml", *(os.path.relpath(os.path.join(here, it), at) for here, _, names in os.walk(os.path.join(at, "src")) for it in names)]
+        code = [os.path.join(here, it) for here, _, names in os.walk(os.path.join(at, "src")) for it in names]
+        paths = [*own_files, "Cargo.toml", *(os.path.relpath(it, at) for it in code)]
         sources = {"LICENSE": "LICENSE", "NOTICE": "NOTICE", **{it: f"bindings/{folder}/{it}" for it in paths}}
         manifest = [f'\nname = "{package}"\nversion = "{self.version}"\n', f'\nlicense = "{LICENCE}"\n']
         return self.package(f"{package}-{self.version}.crate", f"{package}-{self.version}/", sources, more, {"Cargo.toml": manifest, "README.md": words})
