@@ -85,7 +85,7 @@ def recorded(path, data):
 def wheel(tree, info, metadata, tags, licences):
     """A wheel of a tree for any Python 3 on the platforms of `tags`; `info` is the name of its folder with METADATA, in which
     the tree `licences` stands too."""
-    said = "Wheel-Version: 1.0\nGenerator: dist/make\nRoot-Is-Purelib: false\n"
+    said = "Wheel-Version: 1.0\nGenerator: release/make\nRoot-Is-Purelib: false\n"
     said += "".join(f"Tag: py3-none-{it}\n" for it in tags)
     whole = {path: tree[path] for path in sorted(tree)}
     whole.update({f"{info}/{path}": licences[path] for path in sorted(licences)})

@@ -64,7 +64,7 @@ def bill(name, data, package, version, licence, parts):
     said = {
         "spdxVersion": "SPDX-2.3", "dataLicense": "CC0-1.0", "SPDXID": "SPDXRef-DOCUMENT", "name": name,
         "documentNamespace": f"https://spdx.org/spdxdocs/{name}-{sha256(data)}",
-        "creationInfo": {"created": DATE_TEXT, "creators": ["Tool: dist/make"]},
+        "creationInfo": {"created": DATE_TEXT, "creators": ["Tool: release/make"]},
         "packages": [own, *(part_entry(it, number) for it, number in parts.items())], "files": listed,
         "relationships": [{"spdxElementId": one, "relationshipType": kind, "relatedSpdxElement": other} for one, kind, other in related],
     }

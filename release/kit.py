@@ -92,4 +92,4 @@ class Kit:
 
 
 def say(text):
-    print(f"dist: {text}", file=sys.stderr, flush=True)
+    print(f"release: {text}", file=sys.stderr, flush=True)
