@@ -26,6 +26,7 @@ mod error;
 mod font;
 mod objects;
 mod options;
+mod parts;
 mod shown;
 mod values;
 mod written;
@@ -34,6 +35,7 @@ pub use error::FontError;
 pub use font::PdfFont;
 pub use objects::{Dictionaries, Layout, Objects, References};
 pub use options::{Bounds, Codes, Direction, FontOptions, ProgramChoice, Rights, SubsetTag};
+pub use parts::{Part, PartsError, Role};
 pub use shown::Shown;
 pub use values::{Cmap, Column, Columns, Descriptor, Permission, ProgramKind, Usage};
 

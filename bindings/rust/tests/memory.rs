@@ -111,8 +111,8 @@ fn each_request_of_an_instance_may_be_refused() {
 mod pdf {
     use std::hash::{Hash, Hasher};
     use subsetter::pdf::{
-        codes_of, glyphs_of, pdf_font, Codes, Direction, FontError, FontOptions, Layout, PdfFont,
-        References, Shown,
+        codes_of, glyphs_of, pdf_font, Codes, Direction, FontError, FontOptions, Layout, Part,
+        PartsError, PdfFont, References, Shown,
     };
     use subsetter::{Error, Tag};
 
@@ -152,7 +152,16 @@ mod pdf {
             font.sheet(&shown, Layout::Grid)?,
         );
         let objects = (font.objects(4)?, font.dictionaries(&references)?);
-        Ok(number(&(sheets, objects, font.w()?, font.w2()?)))
+        let numbers: Vec<u32> = (1..).take(font.part_count()).collect();
+        let parts = font.parts(&numbers).map_err(|error| match error {
+            PartsError::Subset(error) => error,
+            other => panic!("{other}"),
+        })?;
+        let values = parts
+            .iter()
+            .map(Part::value)
+            .collect::<Result<Vec<_>, _>>()?;
+        Ok(number(&(sheets, objects, values, font.w()?, font.w2()?)))
     }
 
     pub fn of(font: &[u8], options: &FontOptions) -> PdfFont {

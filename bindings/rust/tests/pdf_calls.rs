@@ -7,7 +7,8 @@ mod table;
 use std::fs;
 use subsetter::pdf::{
     codes_of, glyphs_of, pdf_font, Bounds, Codes, Direction, FontError, FontOptions, Layout,
-    PdfFont, Permission, ProgramChoice, ProgramKind, References, Rights, Shown, SubsetTag, Usage,
+    PartsError, PdfFont, Permission, ProgramChoice, ProgramKind, References, Rights, Shown,
+    SubsetTag, Usage,
 };
 use subsetter::{embed_with_variations_and_options, Error, Limits, Options, Tag};
 use table::data;
@@ -278,12 +279,71 @@ fn dictionaries_have_the_numbers_of_the_writer() {
 }
 
 #[test]
+fn parts_have_the_numbers_of_the_writer() {
+    let font = plain(&FontOptions::new().cid_set(true).codes(Codes::Source));
+    assert_eq!(font.part_count(), 7);
+    let numbers = [9, u32::MAX, 4, 1, 70, 2, 3];
+    let parts = font.parts(&numbers).unwrap();
+    let roles: Vec<String> = parts.iter().map(|it| format!("{:?}", it.role)).collect();
+    assert_eq!(
+        roles.join(" "),
+        "Font CidFont Descriptor Program ToUnicode CidSet Encoding"
+    );
+    let found: Vec<u32> = parts.iter().map(|it| it.number).collect();
+    assert_eq!(found, numbers);
+    let has = |at: usize, part: &str| {
+        let text = String::from_utf8_lossy(&parts[at].entries);
+        assert!(text.contains(part), "{text} has no {part}");
+    };
+    has(
+        0,
+        " /Encoding 3 0 R /DescendantFonts [4294967295 0 R] /ToUnicode 70 0 R ",
+    );
+    has(1, " /FontDescriptor 4 0 R ");
+    has(2, " /FontFile2 1 0 R /CIDSet 2 0 R ");
+    let strings: Vec<Vec<&[u8]>> = parts
+        .iter()
+        .map(|it| {
+            let texts = it.strings.iter().map(|place| &it.entries[place.clone()]);
+            texts.collect()
+        })
+        .collect();
+    let own: Vec<&[u8]> = vec![b"(Adobe)", b"(Identity)"];
+    let none = Vec::new;
+    assert_eq!(
+        strings,
+        [none(), own.clone(), none(), none(), none(), none(), own]
+    );
+}
+
+#[test]
+fn numbers_of_parts_are_distinct_and_above_0() {
+    let font = plain(&FontOptions::new());
+    assert_eq!(font.part_count(), 5);
+    let refused: [&[u32]; 7] = [
+        &[],
+        &[1, 2, 3, 4],
+        &[1, 2, 3, 4, 5, 6],
+        &[0, 2, 3, 4, 5],
+        &[1, 2, 3, 4, 0],
+        &[1, 2, 3, 4, 1],
+        &[1, 2, 2, 4, 5],
+    ];
+    for numbers in refused {
+        let refused = font.parts(numbers).unwrap_err();
+        assert_eq!(refused, PartsError::InvalidNumbers, "{numbers:?}");
+    }
+    assert!(font.parts(&[5, 4, 3, 2, 1]).is_ok());
+}
+
+#[test]
 fn a_sheet_has_the_objects_of_its_font() {
     let font = plain(&FontOptions::new());
     let [line, grid] = [Layout::Line, Layout::Grid].map(|it| font.sheet(&SHOWN, it).unwrap());
     let own = font.objects(5).unwrap().bytes;
     for file in [&line, &grid] {
         assert!(file.starts_with(b"%PDF-1.7\n") && position(file, &own).is_some());
+        assert!(position(file, b" /Resources << /Font << /F0 5 0 R >> >> ").is_some());
         // The second "a" has the code of "A", so that its text stands beside it.
         assert!(position(file, b"/Span << /ActualText <FEFF0061> >> BDC\n").is_some());
     }

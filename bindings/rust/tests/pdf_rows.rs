@@ -5,7 +5,7 @@
 mod table;
 
 use subsetter::pdf::{pdf_font, FontError, PdfFont, Permission, ProgramKind, Shown, Usage};
-use subsetter::pdf::{Objects, References};
+use subsetter::pdf::{Objects, Part, References};
 use table::{pdf_rows, PdfRow};
 
 fn shown(row: &PdfRow) -> Vec<Shown<'_>> {
@@ -173,6 +173,58 @@ fn has_objects_of(font: &PdfFont, row: &PdfRow) -> bool {
             .eq(wanted.iter().map(|it| it.as_bytes()))
 }
 
+/// Whether the parts with the numbers from 4 on are the objects, whole and packed, and those with other numbers have the
+/// dictionaries with these.
+fn has_parts(font: &PdfFont) -> bool {
+    let count = font.part_count();
+    let whole = |numbers: &[u32]| -> Vec<u8> {
+        let parts = font.parts(numbers).unwrap();
+        let text = |it: &Part| {
+            [
+                format!("{} 0 obj\n", it.number).as_bytes(),
+                &it.value().unwrap(),
+                b"\nendobj\n",
+            ]
+            .concat()
+        };
+        parts.iter().flat_map(text).collect()
+    };
+    let rising: Vec<u32> = (4..).take(count).collect();
+    let falling: Vec<u32> = rising.iter().rev().copied().collect();
+    let numbers = References {
+        cid_font: falling[1],
+        descriptor: falling[2],
+        program: falling[3],
+        to_unicode: falling[4],
+        cid_set: falling.get(5).copied().unwrap_or(0),
+        encoding: falling[count - 1],
+    };
+    let made = font.dictionaries(&numbers).unwrap();
+    let own = [
+        made.font,
+        made.cid_font,
+        made.descriptor,
+        made.program,
+        made.to_unicode,
+    ];
+    let further = [made.cid_set, made.encoding].into_iter().flatten();
+    let dictionaries = own.into_iter().chain(further);
+    let others = font.parts(&falling).unwrap();
+    let plain = others
+        .iter()
+        .map(|it| [b"<< ", &it.entries[..], b">>"].concat());
+    let streams_are_whole = streams(font).into_iter().all(|(at, stream)| {
+        let mut part = others[at].clone();
+        part.pack("/Own", |bytes| [bytes, b"."].concat()).unwrap();
+        part.stream.as_deref() == Some(&[stream, b"."].concat()[..])
+            && part.entries == [&others[at].entries[..], b"/Filter /Own "].concat()
+    });
+    whole(&rising) == font.objects(4).unwrap().bytes
+        && dictionaries.eq(plain)
+        && others[..3].iter().all(|it| it.stream.is_none())
+        && streams_are_whole
+}
+
 /// The numbers that the rows have.
 fn references(font: &PdfFont) -> References {
     References {
@@ -201,6 +253,9 @@ fn each_row_is_answered() {
             let made = font.objects(4).unwrap().bytes;
             let made = String::from_utf8_lossy(&made);
             wrong.push(format!("{}: other objects: {made}", row.name));
+        }
+        if !has_parts(&font) {
+            wrong.push(format!("{}: other parts", row.name));
         }
         let fields = said(&font);
         let is_answered = |name: &str| name == "object" || fields.iter().any(|it| it.0 == name);

@@ -5,15 +5,13 @@ use Rattle.std.proofs.lemmas.List.{map-append, take_more}
 use Rattle.subsetter_base.specs.declared.error.Error.{Error}
 use Rattle.subsetter_base.specs.declared.error.Error.TheVariants.{OutOfMemory, OverflowError}
 use Rattle.pdf_codes.specs.declared.shown.Shown.{Shown}
-use Rattle.pdf_font.specs.declared.font.PdfFont.{PdfFont}
-use Rattle.pdf_text.specs.declared.values.FontValues.{FontValues}
+use Rattle.pdf_codes.specs.Shown.{texts_of}
 use Rattle.pdf_sheet.specs.File.{AreInTable, body_of, file_of}
 use Rattle.pdf_sheet.specs.Pages.{IsTooLarge, sheet_values}
 use Rattle.pdf_sheet.specs.declared.frame.Layout.{Layout}
 use Rattle.pdf_sheet.specs.declared.glyphs.SheetGlyph.{SheetGlyph}
 use Rattle.pdf_objects.specs.Glyphs.{AreGlyphsOf, IsSheetOf, IsTooLargeFor}
-use Rattle.pdf_codes.specs.Shown.{texts_of}
-use Rattle.pdf_objects.specs.Values.{AreValuesOf, HasManyColumns}
+use Rattle.pdf_objects.specs.declared.view.FontView.{FontView}
 
 pub one_more : {X Y : Type 0} (f : X → Y) (gs gs1 : List X) (g : X) (ys : List Y) (i : ℕ) (d : Y) → i < length ys → gs1 ≡ gs ++ g ∷ [] → f g ≡ get_or ys i d → map f gs ≡ take i ys → map f gs1 ≡ take (i + 1) ys
 one_more {X} {Y} f gs gs1 g ys i d l e p h =
@@ -29,23 +27,24 @@ text_at [] i d l = absurd (omega arith)
 text_at (s ∷ shown) zero d l = refl
 text_at (s ∷ shown) (suc i) d l = text_at shown i d (omega arith)
 
-pub length-texts : (shown : List Shown) → length (texts_of shown) ≡ length shown
-length-texts [] = refl
-length-texts (s ∷ shown) = ap suc (length-texts shown)
+pub length_texts : (shown : List Shown) → length (texts_of shown) ≡ length shown
+length_texts [] = refl
+length_texts (s ∷ shown) = ap suc (length_texts shown)
 
 -- ---- a sheet
 
-pub same_glyphs : (f : PdfFont) (shown : List Shown) (gs hs : List SheetGlyph) → hs ≡ gs → AreGlyphsOf f shown gs → AreGlyphsOf f shown hs
-same_glyphs f shown gs hs e h = subst (λ (l : List SheetGlyph). AreGlyphsOf f shown l) (sym e) h
+module _ (w : FontView) (ts : List (List ℕ)) (layout : Layout) (gs hs : List SheetGlyph) (same : hs ≡ gs) (given : AreGlyphsOf w ts gs) where
+  there : AreGlyphsOf w ts hs
+  there = subst (λ (l : List SheetGlyph). AreGlyphsOf w ts l) (sym same) given
 
-pub sheet_made : (f : PdfFont) (shown : List Shown) (layout : Layout) (v : FontValues) (gs : List SheetGlyph) (answer : Result (Vec ℕ Global) Error) → AreValuesOf f v → AreGlyphsOf f shown gs → IfOk answer (λ file. file.items ≡ file_of (sheet_values layout v gs)) → IfOk answer (λ file. AreInTable file.items (length (body_of (sheet_values layout v gs))) (sheet_values layout v gs)) → IfOk answer (λ file. IsSheetOf f shown layout file.items)
-sheet_made f shown layout v gs (Ok file) are shown_are whole at = record { values = v; glyphs = gs; are = are; shown_are = shown_are; whole = whole; at = at }
-sheet_made f shown layout v gs (Err _) are shown_are whole at = tt
+  pub sheet_made : (answer : Result (Vec ℕ Global) Error) → IfOk answer (λ file. file.items ≡ file_of (sheet_values layout w.values hs)) → IfOk answer (λ file. AreInTable file.items (length (body_of (sheet_values layout w.values hs))) (sheet_values layout w.values hs)) → IfOk answer (λ file. IsSheetOf w ts layout file.items)
+  sheet_made (Ok file) whole at = record { glyphs = hs; are = there; whole = whole; at = at }
+  sheet_made (Err _) whole at = tt
 
-refused_by : (f : PdfFont) (shown : List Shown) (layout : Layout) (v : FontValues) (gs : List SheetGlyph) (e : Error) → AreValuesOf f v → AreGlyphsOf f shown gs → (e ≡ OutOfMemory) ⊎ ((e ≡ OverflowError) × IsTooLarge layout v gs) → (e ≡ OutOfMemory) ⊎ ((e ≡ OverflowError) × (IsTooLargeFor f shown layout ⊎ HasManyColumns f.columns))
-refused_by f shown layout v gs e are shown_are (inl p) = inl p
-refused_by f shown layout v gs e are shown_are (inr p) = inr (p.0, inl (record { values = v; glyphs = gs; are = are; shown_are = shown_are; large = p.1 }))
+  refused_by : (e : Error) → (e ≡ OutOfMemory) ⊎ ((e ≡ OverflowError) × IsTooLarge layout w.values hs) → (e ≡ OutOfMemory) ⊎ ((e ≡ OverflowError) × IsTooLargeFor w ts layout)
+  refused_by e (inl p) = inl p
+  refused_by e (inr p) = inr (p.0, record { glyphs = hs; are = there; large = p.1 })
 
-pub sheet_refused : (f : PdfFont) (shown : List Shown) (layout : Layout) (v : FontValues) (gs : List SheetGlyph) (answer : Result (Vec ℕ Global) Error) → AreValuesOf f v → AreGlyphsOf f shown gs → IfErr answer (λ e. (e ≡ OutOfMemory) ⊎ ((e ≡ OverflowError) × IsTooLarge layout v gs)) → IfErr answer (λ e. (e ≡ OutOfMemory) ⊎ ((e ≡ OverflowError) × (IsTooLargeFor f shown layout ⊎ HasManyColumns f.columns)))
-sheet_refused f shown layout v gs (Ok _) are shown_are h = tt
-sheet_refused f shown layout v gs (Err e) are shown_are h = refused_by f shown layout v gs e are shown_are h
+  pub sheet_refused : (answer : Result (Vec ℕ Global) Error) → IfErr answer (λ e. (e ≡ OutOfMemory) ⊎ ((e ≡ OverflowError) × IsTooLarge layout w.values hs)) → IfErr answer (λ e. (e ≡ OutOfMemory) ⊎ ((e ≡ OverflowError) × IsTooLargeFor w ts layout))
+  sheet_refused (Ok _) h = tt
+  sheet_refused (Err e) h = refused_by e h

@@ -2,12 +2,12 @@
 
 ghost use Rattle.std.specs.Prelude.{◌≡◌, ◌⊎◌, IfOk, IfErr};
 ghost use Rattle.subsetter_base.specs.declared.error.Error.TheVariants.{OutOfMemory, OverflowError};
+ghost use Rattle.pdf_codes.specs.Shown.{texts_of};
 ghost use Rattle.pdf_objects.specs.Glyphs.{IsSheetOf, IsTooLargeFor};
-ghost use Rattle.pdf_objects.specs.Values.{HasManyColumns};
 
 use crate::glyphs::glyphs_of;
-use crate::values::{arrays_of, values_of};
-use pdf_font::{PdfFont, Shown};
+use crate::view::FontView;
+use pdf_font::Shown;
 use pdf_sheet::Layout;
 use std::alloc::Global;
 use subsetter_base::Error;
@@ -17,19 +17,18 @@ use subsetter_base::Error;
 ///
 /// # Errors
 ///
-/// - `OverflowError`: the objects have 10,000,000,000 bytes or more, their numbers don't fit 32 bits, or there are more than
-///   65,536 columns.
+/// - `OverflowError`: the objects have 10,000,000,000 bytes or more, their numbers don't fit 32 bits, or there are more columns
+///   than CIDs.
 /// - `OutOfMemory`: a request for memory was refused.
 pub fn write_sheet(
     alloc: Global,
-    font: &PdfFont,
+    view: FontView<'_>,
     shown: &[Shown<'_>],
     layout: Layout,
 ) -> Result<Vec<u8>, Error>
-    ensures ok { IfOk result (λ file. IsSheetOf font.now shown.now layout file.items) }
-    ensures err { IfErr result (λ e. (e ≡ OutOfMemory) ⊎ ((e ≡ OverflowError) × (IsTooLargeFor font.now shown.now layout ⊎ HasManyColumns font.now.columns))) }
+    ensures ok { IfOk result (λ file. IsSheetOf view.entry (texts_of shown.now) layout file.items) }
+    ensures err { IfErr result (λ e. (e ≡ OutOfMemory) ⊎ ((e ≡ OverflowError) × IsTooLargeFor view.entry (texts_of shown.now) layout)) }
 {
-    let arrays = arrays_of(alloc, font)?;
-    let glyphs = glyphs_of(alloc, font, shown)?;
-    pdf_sheet::write_sheet(alloc, values_of(font, &arrays), &glyphs, layout)
+    let glyphs = glyphs_of(alloc, view, shown)?;
+    pdf_sheet::write_sheet(alloc, view.values, &glyphs, layout)
 }

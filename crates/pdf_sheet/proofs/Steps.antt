@@ -1,6 +1,6 @@
 -- Texts and values that are made one behind the other.
 use Rattle.std.proofs.Common.{◌≡◌, ◌≤◌, ◌<◌, ℕ, zero, suc, ◌+◌, ◌-◌, ◌*◌, ◌/◌, Bool, true, false, List, [], ◌∷◌, ◌++◌, length, get_or, map, take, drop, decimal, refl, sym, ap, subst, ◌∙◌, append_assoc, ◌⊎◌, inl, inr, add-one, drop-cons, arith, length-append, length-drop, Vec, Global}
-use Rattle.std.specs.Prelude.{All, codes, min, if◌then◌else◌}
+use Rattle.std.specs.Prelude.{All, codes, is_some, min, if◌then◌else◌}
 use Rattle.std.specs.List.{concat}
 use Rattle.std.proofs.lemmas.List.{take_all, drop_all, map-append}
 use Rattle.std.proofs.lemmas.List.Elements.{All-nil, All-cons}
@@ -22,12 +22,12 @@ use Rattle.pdf_sheet.specs.declared.frame.Frame.{Frame}
 use Rattle.pdf_sheet.specs.declared.frame.Layout.{Layout}
 use Rattle.pdf_sheet.specs.declared.frame.Layout.TheVariants.{Line, Grid}
 
-pages_regrouped : (a b c d e f g h i : List ℕ) → ((a ++ (b ++ (c ++ d))) ++ (e ++ (f ++ (codes " " ++ g)))) ++ (h ++ (i ++ codes " >> >> >>")) ≡ a ++ (b ++ (c ++ (d ++ (e ++ (f ++ (codes " " ++ (g ++ (h ++ (i ++ codes " >> >> >>")))))))))
-pages_regrouped a b c d e f g h i = simp append_assoc
+pages_regrouped : (a b c d e : List ℕ) → (a ++ (b ++ (c ++ d))) ++ e ≡ a ++ (b ++ (c ++ (d ++ e)))
+pages_regrouped a b c d e = simp append_assoc
 
-pub pages_written : (frame : Frame) (count font : ℕ) (empty w1 w2 w3 : List ℕ) → empty ≡ [] → w1 ≡ empty ++ (codes "<< /Type /Pages /Count " ++ (decimal count ++ (codes " /Kids [" ++ kids 3 count))) → w2 ≡ w1 ++ (codes "] /MediaBox [0 0 " ++ (decimal frame.width ++ (codes " " ++ decimal frame.height))) → w3 ≡ w2 ++ (codes "] /Resources << /Font << /F0 " ++ (reference font ++ codes " >> >> >>")) → w3 ≡ pages_value frame count font
-pages_written frame count font empty w1 w2 w3 n f g h =
-    rw (h, g, f, n) (pages_regrouped (codes "<< /Type /Pages /Count ") (decimal count) (codes " /Kids [") (kids 3 count) (codes "] /MediaBox [0 0 ") (decimal frame.width) (decimal frame.height) (codes "] /Resources << /Font << /F0 ") (reference font))
+pub pages_written : (frame : Frame) (count : ℕ) (empty w1 w2 : List ℕ) → empty ≡ [] → w1 ≡ empty ++ (codes "<< /Type /Pages /Count " ++ (decimal count ++ (codes " /Kids [" ++ kids 3 count))) → w2 ≡ w1 ++ (codes "] /MediaBox [0 0 " ++ (decimal frame.width ++ (codes " " ++ (decimal frame.height ++ codes "] >>")))) → w2 ≡ pages_value frame count
+pages_written frame count empty w1 w2 n f g =
+    rw (g, f, n) (pages_regrouped (codes "<< /Type /Pages /Count ") (decimal count) (codes " /Kids [") (kids 3 count) (codes "] /MediaBox [0 0 " ++ (decimal frame.width ++ (codes " " ++ (decimal frame.height ++ codes "] >>")))))
 
 stream_regrouped : (n bytes : List ℕ) → ((codes "<< /Length " ++ (n ++ codes " >>\nstream\n")) ++ bytes) ++ codes "\nendstream" ≡ codes "<< " ++ ((codes "/" ++ (codes "Length" ++ (codes " " ++ (n ++ codes " ")))) ++ (codes ">>\nstream\n" ++ (bytes ++ codes "\nendstream")))
 stream_regrouped n bytes = simp append_assoc
@@ -75,15 +75,15 @@ front_pushed vs vs1 vs2 vs3 a b x y rest n e f p q g =
     g ∙ ap (λ (l : List (List ℕ)). l ++ rest) (two_pushed vs vs1 vs2 a b x y e f p q ∙ ap (λ (l : List (Vec ℕ Global)). texts_view l ++ (x ∷ y ∷ [])) n)
 
 -- one page more
-page_more : (frame : Frame) (vs vs1 : List (List ℕ)) (n n1 left left1 : ℕ) (rest now later : List SheetGlyph) (all : List (List ℕ)) → left ≡ suc left1 → n1 ≡ n + 2 → now ≡ take 192 rest → later ≡ drop 192 rest → vs1 ≡ vs ++ (page_value (n + 1) ∷ stream_value (content frame now) ∷ []) → vs ++ page_values frame n (pages_by left rest) ≡ all → vs1 ++ page_values frame n1 (pages_by left1 later) ≡ all
-page_more frame vs vs1 n n1 left left1 rest now later all e f p q g h =
-    let X = page_values frame (n + 2) (pages_by left1 (drop 192 rest)) in
-    ap (λ m. vs1 ++ page_values frame m (pages_by left1 later)) f
-    ∙ ap (λ (r : List SheetGlyph). vs1 ++ page_values frame (n + 2) (pages_by left1 r)) q
+page_more : (frame : Frame) (font : ℕ) (vs vs1 : List (List ℕ)) (n n1 left left1 : ℕ) (rest now later : List SheetGlyph) (all : List (List ℕ)) → left ≡ suc left1 → n1 ≡ n + 2 → now ≡ take 192 rest → later ≡ drop 192 rest → vs1 ≡ vs ++ (page_value font (n + 1) ∷ stream_value (content frame now) ∷ []) → vs ++ page_values frame font n (pages_by left rest) ≡ all → vs1 ++ page_values frame font n1 (pages_by left1 later) ≡ all
+page_more frame font vs vs1 n n1 left left1 rest now later all e f p q g h =
+    let X = page_values frame font (n + 2) (pages_by left1 (drop 192 rest)) in
+    ap (λ m. vs1 ++ page_values frame font m (pages_by left1 later)) f
+    ∙ ap (λ (r : List SheetGlyph). vs1 ++ page_values frame font (n + 2) (pages_by left1 r)) q
     ∙ ap (λ (l : List (List ℕ)). l ++ X) g
-    ∙ list_assoc vs (page_value (n + 1) ∷ stream_value (content frame now) ∷ []) X
-    ∙ ap (λ (gs : List SheetGlyph). vs ++ (page_value (n + 1) ∷ stream_value (content frame gs) ∷ X)) p
-    ∙ ap (λ m. vs ++ page_values frame n (pages_by m rest)) (sym e) ∙ h
+    ∙ list_assoc vs (page_value font (n + 1) ∷ stream_value (content frame now) ∷ []) X
+    ∙ ap (λ (gs : List SheetGlyph). vs ++ (page_value font (n + 1) ∷ stream_value (content frame gs) ∷ X)) p
+    ∙ ap (λ m. vs ++ page_values frame font n (pages_by m rest)) (sym e) ∙ h
 
 first_glyphs : (size : ℕ) (gs : List SheetGlyph) → size ≡ min (length gs) 192 → (length gs < 192) ⊎ (192 ≤ length gs) → take size gs ≡ take 192 gs
 first_glyphs size gs e (inl l) = take_all size gs (omega arith) ∙ sym (take_all 192 gs (omega arith))
@@ -98,9 +98,9 @@ to_the_end size gs =
     let left : length (drop size gs) ≡ length gs - size = length-drop size gs in
     take_all (length gs - size) (drop size gs) (omega arith)
 
-pub page_cut : (frame : Frame) (vs vs1 : List (List ℕ)) (n n1 left left1 size : ℕ) (rest : List SheetGlyph) (all : List (List ℕ)) → left ≡ suc left1 → n1 ≡ n + 2 → size ≡ min (length rest) 192 → vs1 ≡ vs ++ (page_value (n + 1) ∷ stream_value (content frame (take size rest)) ∷ []) → vs ++ page_values frame n (pages_by left rest) ≡ all → vs1 ++ page_values frame n1 (pages_by left1 (take (length rest - size) (drop size rest))) ≡ all
-page_cut frame vs vs1 n n1 left left1 size rest all e f s g h =
-    page_more frame vs vs1 n n1 left left1 rest (take size rest) (take (length rest - size) (drop size rest)) all e f
+pub page_cut : (frame : Frame) (font : ℕ) (vs vs1 : List (List ℕ)) (n n1 left left1 size : ℕ) (rest : List SheetGlyph) (all : List (List ℕ)) → left ≡ suc left1 → n1 ≡ n + 2 → size ≡ min (length rest) 192 → vs1 ≡ vs ++ (page_value font (n + 1) ∷ stream_value (content frame (take size rest)) ∷ []) → vs ++ page_values frame font n (pages_by left rest) ≡ all → vs1 ++ page_values frame font n1 (pages_by left1 (take (length rest - size) (drop size rest))) ≡ all
+page_cut frame font vs vs1 n n1 left left1 size rest all e f s g h =
+    page_more frame font vs vs1 n n1 left left1 rest (take size rest) (take (length rest - size) (drop size rest)) all e f
     (first_glyphs size rest s (below_or_not (length rest) 192)) (to_the_end size rest ∙ later_glyphs size rest s (below_or_not (length rest) 192)) g h
 
 -- ---- objects
@@ -165,13 +165,14 @@ length-pages : (layout : Layout) (gs : List SheetGlyph) → length (pages_of lay
 length-pages Line gs = refl
 length-pages Grid gs = length-pages_by (page_count Grid (length gs)) gs
 
-length-page_values : (frame : Frame) (n : ℕ) (ps : List (List SheetGlyph)) → length (page_values frame n ps) ≡ 2 * length ps
-length-page_values frame n [] = refl
-length-page_values frame n (p ∷ ps) = let rest : length (page_values frame (n + 2) ps) ≡ 2 * length ps = length-page_values frame (n + 2) ps in omega arith
+length-page_values : (frame : Frame) (font n : ℕ) (ps : List (List SheetGlyph)) → length (page_values frame font n ps) ≡ 2 * length ps
+length-page_values frame font n [] = refl
+length-page_values frame font n (p ∷ ps) = let rest : length (page_values frame font (n + 2) ps) ≡ 2 * length ps = length-page_values frame font (n + 2) ps in omega arith
 
 pub length-front : (layout : Layout) (frame : Frame) (gs : List SheetGlyph) → font_number (page_count layout (length gs)) ≡ 1 + length (front_values layout frame gs)
 length-front layout frame gs =
-    let values : length (page_values frame 3 (pages_of layout gs)) ≡ 2 * length (pages_of layout gs) = length-page_values frame 3 (pages_of layout gs) in
+    let font = font_number (page_count layout (length gs)) in
+    let values : length (page_values frame font 3 (pages_of layout gs)) ≡ 2 * length (pages_of layout gs) = length-page_values frame font 3 (pages_of layout gs) in
     let pages : length (pages_of layout gs) ≡ page_count layout (length gs) = length-pages layout gs in
     omega arith
 
@@ -187,7 +188,7 @@ font_within text offsets ts e f =
     let size : length text ≡ length (concat ts) = ap length e in
     subst (λ (os : List ℕ). All (λ o. o ≤ length text) os) (sym f) (offsets_within 0 ts (length text) (omega arith))
 
-pub sheet_text : (layout : Layout) (v : FontValues) (gs : List SheetGlyph) (frame : Frame) (front : List (List ℕ)) (first : ℕ) (old font new : List ℕ) → frame ≡ frame_of layout v.vertical gs → front ≡ front_values layout frame gs → first ≡ font_number (page_count layout (length gs)) → old ≡ body_of front → font ≡ concat (font_objects first v) → new ≡ old ++ font → new ≡ body_of (sheet_values layout v gs)
+pub sheet_text : (layout : Layout) (v : FontValues) (gs : List SheetGlyph) (frame : Frame) (front : List (List ℕ)) (first : ℕ) (old font new : List ℕ) → frame ≡ frame_of layout (is_some v.columns) gs → front ≡ front_values layout frame gs → first ≡ font_number (page_count layout (length gs)) → old ≡ body_of front → font ≡ concat (font_objects first v) → new ≡ old ++ font → new ≡ body_of (sheet_values layout v gs)
 sheet_text layout v gs frame front first old font new a b e f g h =
     let P : Frame → Type 0 = λ (fr : Frame). body_of (front_values layout fr gs ++ font_values first v) ≡ body_of (front_values layout fr gs) ++ concat (font_objects first v) in
     let own : P frame = body_joined (front_values layout frame gs) (font_values first v) first (e ∙ length-front layout frame gs) in
@@ -195,7 +196,7 @@ sheet_text layout v gs frame front first old font new a b e f g h =
     ∙ sym own ∙ ap (λ n. body_of (front_values layout frame gs ++ font_values n v)) e
     ∙ ap (λ (fr : Frame). body_of (front_values layout fr gs ++ font_values (font_number (page_count layout (length gs))) v)) a
 
-pub sheet_offsets : (layout : Layout) (v : FontValues) (gs : List SheetGlyph) (frame : Frame) (front : List (List ℕ)) (first : ℕ) (text old font new : List ℕ) → frame ≡ frame_of layout v.vertical gs → front ≡ front_values layout frame gs → first ≡ font_number (page_count layout (length gs)) → text ≡ body_of front → old ≡ offsets_of front → font ≡ offsets_from 0 (font_objects first v) → new ≡ old ++ map (λ o. length text + o) font → new ≡ offsets_of (sheet_values layout v gs)
+pub sheet_offsets : (layout : Layout) (v : FontValues) (gs : List SheetGlyph) (frame : Frame) (front : List (List ℕ)) (first : ℕ) (text old font new : List ℕ) → frame ≡ frame_of layout (is_some v.columns) gs → front ≡ front_values layout frame gs → first ≡ font_number (page_count layout (length gs)) → text ≡ body_of front → old ≡ offsets_of front → font ≡ offsets_from 0 (font_objects first v) → new ≡ old ++ map (λ o. length text + o) font → new ≡ offsets_of (sheet_values layout v gs)
 sheet_offsets layout v gs frame front first text old font new a b e t f g h =
     h ∙ ap (λ (l : List ℕ). l ++ map (λ o. length text + o) font) (f ∙ ap offsets_of b)
     ∙ ap (λ (l : List ℕ). offsets_of (front_values layout frame gs) ++ map (λ o. length l + o) font) (t ∙ ap body_of b)

@@ -1,7 +1,8 @@
 -- The objects of a sheet: catalog, pages and their contents (ISO 32000-1, 7.7), and those of its font.
-use Rattle.std.specs.Prelude.{◌≤◌, ◌⊎◌, ◌^◌, ℕ, zero, suc, ◌+◌, ◌-◌, ◌*◌, ◌/◌, List, [], ◌∷◌, ◌++◌, length, take, drop, codes, decimal}
+use Rattle.std.specs.Prelude.{◌≤◌, ◌⊎◌, ◌^◌, ℕ, zero, suc, ◌+◌, ◌-◌, ◌*◌, ◌/◌, List, [], ◌∷◌, ◌++◌, length, take, drop, is_some, codes, decimal}
 use Rattle.pdf_text.specs.declared.values.FontValues.{FontValues}
 use Rattle.pdf_text.specs.Dictionaries.Entries.{reference}
+use Rattle.pdf_text.specs.Dictionaries.Widths.{HasManyColumns}
 use Rattle.pdf_text.specs.Objects.{stream_end, references_from, objects_of, values_of}
 use Rattle.pdf_sheet.specs.declared.glyphs.SheetGlyph.{SheetGlyph}
 use Rattle.pdf_sheet.specs.declared.frame.Layout.{Layout}
@@ -36,23 +37,22 @@ abbrev pub kids : ℕ → ℕ → List ℕ
 kids n zero = []
 kids n (suc count) = (reference n ++ codes " ") ++ kids (n + 2) count
 
--- the root of the pages, which has their size and their font
-abbrev pub pages_value : Frame → ℕ → ℕ → List ℕ
-pages_value frame count font = codes "<< /Type /Pages /Count " ++ (decimal count ++ (codes " /Kids [" ++ (kids 3 count
-    ++ (codes "] /MediaBox [0 0 " ++ (decimal frame.width ++ (codes " " ++ (decimal frame.height
-    ++ (codes "] /Resources << /Font << /F0 " ++ (reference font ++ codes " >> >> >>")))))))))
+-- the root of the pages, which has their size
+abbrev pub pages_value : Frame → ℕ → List ℕ
+pages_value frame count = codes "<< /Type /Pages /Count " ++ (decimal count ++ (codes " /Kids [" ++ (kids 3 count
+    ++ (codes "] /MediaBox [0 0 " ++ (decimal frame.width ++ (codes " " ++ (decimal frame.height ++ codes "] >>")))))))
 
--- a page whose content has this number
-abbrev pub page_value : ℕ → List ℕ
-page_value n = codes "<< /Type /Page /Parent 2 0 R /Contents " ++ (reference n ++ codes " >>")
+-- a page that has the font with the first number, and the content with the second
+abbrev pub page_value : ℕ → ℕ → List ℕ
+page_value font n = codes "<< /Type /Page /Parent 2 0 R /Resources << /Font << /F0 " ++ (reference font ++ (codes " >> >> /Contents " ++ (reference n ++ codes " >>")))
 
 abbrev pub stream_value : List ℕ → List ℕ
 stream_value bytes = codes "<< " ++ stream_end bytes
 
--- pages and their contents, from a number on
-abbrev pub page_values : Frame → ℕ → List (List SheetGlyph) → List (List ℕ)
-page_values frame n [] = []
-page_values frame n (p ∷ ps) = page_value (n + 1) ∷ stream_value (content frame p) ∷ page_values frame (n + 2) ps
+-- pages with a font and their contents, from a number on
+abbrev pub page_values : Frame → ℕ → ℕ → List (List SheetGlyph) → List (List ℕ)
+page_values frame font n [] = []
+page_values frame font n (p ∷ ps) = page_value font (n + 1) ∷ stream_value (content frame p) ∷ page_values frame font (n + 2) ps
 
 -- ---- all objects
 
@@ -62,7 +62,7 @@ font_number count = 3 + 2 * count
 
 -- what stands before the font
 abbrev pub front_values : Layout → Frame → List SheetGlyph → List (List ℕ)
-front_values layout frame gs = catalog_value ∷ pages_value frame (page_count layout (length gs)) (font_number (page_count layout (length gs))) ∷ page_values frame 3 (pages_of layout gs)
+front_values layout frame gs = catalog_value ∷ pages_value frame (page_count layout (length gs)) ∷ page_values frame (font_number (page_count layout (length gs))) 3 (pages_of layout gs)
 
 -- the objects of the font, the first with this number
 abbrev pub font_values : ℕ → FontValues → List (List ℕ)
@@ -70,8 +70,8 @@ font_values first v = values_of v (references_from first v) (objects_of v)
 
 -- the values of a sheet's objects, from object 1 on
 abbrev pub sheet_values : Layout → FontValues → List SheetGlyph → List (List ℕ)
-sheet_values layout v gs = front_values layout (frame_of layout v.vertical gs) gs ++ font_values (font_number (page_count layout (length gs))) v
+sheet_values layout v gs = front_values layout (frame_of layout (is_some v.columns) gs) gs ++ font_values (font_number (page_count layout (length gs))) v
 
--- why there is none: numbers of objects have 32 bits, and offsets ten digits
+-- why there is none: numbers of objects have 32 bits, offsets ten digits, and CIDs 16 bits
 abbrev pub IsTooLarge : Layout → FontValues → List SheetGlyph → Type 0
-IsTooLarge layout v gs = (2 ^ 32 ≤ font_number (page_count layout (length gs)) + 7) ⊎ (10000000000 ≤ length (body_of (sheet_values layout v gs)))
+IsTooLarge layout v gs = (2 ^ 32 ≤ font_number (page_count layout (length gs)) + 7) ⊎ ((10000000000 ≤ length (body_of (sheet_values layout v gs))) ⊎ HasManyColumns v.columns)

@@ -65,52 +65,43 @@ fn write_page_tree(text: &mut Vec<u8>, count: usize) -> Result<(), Error>
     Ok(())
 }
 
-/// Writes the size of the pages.
-#[tactic(auto, using(pdf_text::proofs::Written::four_written))]
+/// Writes the size of the pages, and the end of their root.
 fn write_size(text: &mut Vec<u8>, frame: Frame) -> Result<(), Error>
-    ensures ok { OnOk result (text.new.items ≡ text.old.items ++ (codes "] /MediaBox [0 0 " ++ (decimal frame.width ++ (codes " " ++ decimal frame.height)))) }
+    ensures ok { OnOk result (text.new.items ≡ text.old.items ++ (codes "] /MediaBox [0 0 " ++ (decimal frame.width ++ (codes " " ++ (decimal frame.height ++ codes "] >>"))))) }
     ensures err { IfErr result (λ e. e ≡ OutOfMemory) }
 {
     text.extend_from_slice(b"] /MediaBox [0 0 ")?;
     write_count(text, frame.width)?;
     text.extend_from_slice(b" ")?;
     write_count(text, frame.height)?;
-    Ok(())
-}
-
-/// Writes the font of the pages.
-#[tactic(auto, using(pdf_text::proofs::Written::three_written))]
-fn write_resources(text: &mut Vec<u8>, font: usize) -> Result<(), Error>
-    ensures ok { OnOk result (text.new.items ≡ text.old.items ++ (codes "] /Resources << /Font << /F0 " ++ (reference font ++ codes " >> >> >>"))) }
-    ensures err { IfErr result (λ e. e ≡ OutOfMemory) }
-{
-    text.extend_from_slice(b"] /Resources << /Font << /F0 ")?;
-    write_reference(text, font)?;
-    text.extend_from_slice(b" >> >> >>")?;
+    text.extend_from_slice(b"] >>")?;
     Ok(())
 }
 
 /// The root of the pages.
-fn pages_value(alloc: Global, frame: Frame, count: usize, font: usize) -> Result<Vec<u8>, Error>
+fn pages_value(alloc: Global, frame: Frame, count: usize) -> Result<Vec<u8>, Error>
     requires { count < 2 ^ 60 }
-    ensures ok { IfOk result (λ text. text.items ≡ pages_value frame count font) }
+    ensures ok { IfOk result (λ text. text.items ≡ pages_value frame count) }
     ensures err { IfErr result (λ e. e ≡ OutOfMemory) }
 {
     let mut text = Vec::new(alloc);
     write_page_tree(&mut text, count)?;
     write_size(&mut text, frame)?;
-    write_resources(&mut text, font)?;
     Ok(text)
 }
 
-/// A page whose content has this number.
-#[tactic(auto, using(pdf_text::proofs::Written::three_behind_nothing))]
-fn page_value(alloc: Global, n: usize) -> Result<Vec<u8>, Error>
-    ensures ok { IfOk result (λ text. text.items ≡ page_value n) }
+/// A page that has the font with the first number, and the content with the second.
+#[tactic(auto, using(pdf_text::proofs::Written::four_written))]
+fn page_value(alloc: Global, font: usize, n: usize) -> Result<Vec<u8>, Error>
+    ensures ok { IfOk result (λ text. text.items ≡ page_value font n) }
     ensures err { IfErr result (λ e. e ≡ OutOfMemory) }
 {
-    let mut text = Vec::new(alloc);
-    text.extend_from_slice(b"<< /Type /Page /Parent 2 0 R /Contents ")?;
+    let mut text = Vec::from_slice(
+        alloc,
+        b"<< /Type /Page /Parent 2 0 R /Resources << /Font << /F0 ",
+    )?;
+    write_reference(&mut text, font)?;
+    text.extend_from_slice(b" >> >> /Contents ")?;
     write_reference(&mut text, n)?;
     text.extend_from_slice(b" >>")?;
     Ok(text)
@@ -157,14 +148,15 @@ fn push_page(
     alloc: Global,
     values: &mut Vec<Vec<u8>>,
     frame: Frame,
+    font: usize,
     number: usize,
     glyphs: &[SheetGlyph<'_>],
 ) -> Result<(), Error>
     requires { number + 1 < 2 ^ 64 }
-    ensures ok { OnOk result (texts_view values.new.items ≡ texts_view values.old.items ++ (page_value (number + 1) ∷ stream_value (content frame glyphs.now) ∷ [])) }
+    ensures ok { OnOk result (texts_view values.new.items ≡ texts_view values.old.items ++ (page_value font (number + 1) ∷ stream_value (content frame glyphs.now) ∷ [])) }
     ensures err { IfErr result (λ e. e ≡ OutOfMemory) }
 {
-    values.push(page_value(alloc, number + 1)?)?;
+    values.push(page_value(alloc, font, number + 1)?)?;
     values.push(content_value(alloc, frame, glyphs)?)?;
     Ok(())
 }
@@ -181,17 +173,18 @@ fn push_pages(
     alloc: Global,
     values: &mut Vec<Vec<u8>>,
     frame: Frame,
+    font: usize,
     count: usize,
     glyphs: &[SheetGlyph<'_>],
 ) -> Result<(), Error>
     requires { count < 2 ^ 60 }
-    ensures ok { OnOk result (texts_view values.new.items ≡ texts_view values.old.items ++ page_values frame 3 (pages_by count glyphs.now)) }
+    ensures ok { OnOk result (texts_view values.new.items ≡ texts_view values.old.items ++ page_values frame font 3 (pages_by count glyphs.now)) }
     ensures err { IfErr result (λ e. e ≡ OutOfMemory) }
 {
     let mut rest = glyphs;
     for page in 0..count {
         let size = page_size(rest.len());
-        push_page(alloc, values, frame, 3 + 2 * page, &rest[..size])?;
+        push_page(alloc, values, frame, font, 3 + 2 * page, &rest[..size])?;
         rest = &rest[size..];
     }
     Ok(())
@@ -202,19 +195,21 @@ fn push_all(
     alloc: Global,
     values: &mut Vec<Vec<u8>>,
     frame: Frame,
+    font: usize,
     layout: Layout,
     glyphs: &[SheetGlyph<'_>],
 ) -> Result<(), Error>
-    ensures ok { OnOk result (texts_view values.new.items ≡ texts_view values.old.items ++ page_values frame 3 (pages_of layout glyphs.now)) }
+    ensures ok { OnOk result (texts_view values.new.items ≡ texts_view values.old.items ++ page_values frame font 3 (pages_of layout glyphs.now)) }
     ensures err { IfErr result (λ e. e ≡ OutOfMemory) }
 {
     match layout {
-        Layout::Line => push_page(alloc, values, frame, 3, glyphs),
+        Layout::Line => push_page(alloc, values, frame, font, 3, glyphs),
         Layout::Grid => {
             push_pages(
                 alloc,
                 values,
                 frame,
+                font,
                 page_count(layout, glyphs.len()),
                 glyphs,
             )
@@ -249,7 +244,7 @@ pub fn front_values(
     let count = page_count(layout, glyphs.len());
     let mut values = Vec::new(alloc);
     values.push(Vec::from_slice(alloc, b"<< /Type /Catalog /Pages 2 0 R >>")?)?;
-    values.push(pages_value(alloc, frame, count, font)?)?;
-    push_all(alloc, &mut values, frame, layout, glyphs)?;
+    values.push(pages_value(alloc, frame, count)?)?;
+    push_all(alloc, &mut values, frame, font, layout, glyphs)?;
     Ok(values)
 }

@@ -1,8 +1,9 @@
 //! A sheet, and what is known of it.
 
-ghost use Rattle.std.specs.Prelude.{◌≡◌, ◌≤◌, ◌<◌, ◌+◌, ◌^◌, ◌++◌, ◌⊎◌, All, IfErr, IfOk, OnOk, length, map};
+ghost use Rattle.std.specs.Prelude.{◌≡◌, ◌≤◌, ◌<◌, ◌+◌, ◌^◌, ◌++◌, ◌⊎◌, All, IfErr, IfOk, OnOk, is_some, length, map};
 ghost use Rattle.std.specs.List.{concat};
 ghost use Rattle.subsetter_base.specs.declared.error.Error.TheVariants.{OutOfMemory, OverflowError};
+ghost use Rattle.pdf_text.specs.Dictionaries.Widths.{HasManyColumns};
 ghost use Rattle.pdf_text.specs.Objects.{font_objects, objects_of};
 ghost use Rattle.pdf_sheet.specs.Content.{frame_of};
 ghost use Rattle.pdf_sheet.specs.Pages.{page_count, font_number, front_values, sheet_values, IsTooLarge};
@@ -11,7 +12,7 @@ ghost use Rattle.pdf_sheet.specs.Read.{AreShown};
 ghost use Rattle.pdf_sheet.specs.View.{texts_view};
 
 use crate::file::{Body, body_of, checked, push_objects, write_table};
-use crate::frame::{Layout, frame_of};
+use crate::frame::{Frame, Layout, frame_of};
 use crate::glyphs::SheetGlyph;
 use crate::pages::{front_values, page_count};
 use pdf_text::{FontValues, write_objects};
@@ -30,6 +31,13 @@ fn font_number(layout: Layout, size: usize) -> Result<u32, Error>
     Ok(number as u32)
 }
 
+/// The page.
+fn frame_for(layout: Layout, values: FontValues<'_>, glyphs: &[SheetGlyph<'_>]) -> Frame
+    ensures { result ≡ frame_of layout (is_some values.entry.columns) glyphs.now }
+{
+    frame_of(layout, values.columns.is_some(), glyphs)
+}
+
 /// Header and objects of a sheet, of whose font this is the number.
 fn sheet_body(
     alloc: Global,
@@ -41,9 +49,9 @@ fn sheet_body(
     requires { first ≡ font_number (page_count layout (length glyphs.now)) }
     ensures text { IfOk result (λ body. body.text.items ≡ body_of (sheet_values layout values.entry glyphs.now)) }
     ensures offsets { IfOk result (λ body. body.offsets.items ≡ offsets_of (sheet_values layout values.entry glyphs.now)) }
-    ensures err { IfErr result (λ e. (e ≡ OutOfMemory) ⊎ ((e ≡ OverflowError) × (2 ^ 32 ≤ first + 7))) }
+    ensures err { IfErr result (λ e. (e ≡ OutOfMemory) ⊎ ((e ≡ OverflowError) × ((2 ^ 32 ≤ first + 7) ⊎ HasManyColumns values.entry.columns))) }
 {
-    let frame = frame_of(layout, values.vertical, glyphs);
+    let frame = frame_for(layout, values, glyphs);
     let front = front_values(alloc, layout, frame, first as usize, glyphs)?;
     let mut body = body_of(alloc, &front)?;
     let font = write_objects(alloc, values, first)?;
@@ -57,7 +65,8 @@ fn sheet_body(
 ///
 /// # Errors
 ///
-/// - `OverflowError`: the numbers of objects don't fit 32 bits, or the objects have 10,000,000,000 bytes or more.
+/// - `OverflowError`: the numbers of objects don't fit 32 bits, the objects have 10,000,000,000 bytes or more, or there are more
+///   columns than CIDs.
 /// - `OutOfMemory`: a request for memory was refused.
 pub fn write_sheet(
     alloc: Global,

@@ -3,3 +3,4 @@ pub mod Entries
 pub mod Fonts
 pub mod Descriptor
 pub mod Streams
+pub mod Widths

@@ -24,7 +24,7 @@ entries_of FontDescriptor v r = descriptor_entries v r
 entries_of FontFile v r = program_entries v.kind (length v.program.now)
 entries_of ToUnicode v r = []
 entries_of CidSet v r = []
-entries_of Cmap v r = cmap_entries v.encoding v.vertical
+entries_of Cmap v r = cmap_entries v.encoding (is_some v.columns)
 
 abbrev pub text_of_cmap : Option OwnCmap → Option (List ℕ)
 text_of_cmap (Some cmap) = Some cmap.text.now

@@ -5,6 +5,7 @@ ghost use Rattle.std.specs.List.{concat};
 ghost use Rattle.std.specs.Option.{option_copied};
 ghost use Rattle.subsetter_base.specs.declared.error.Error.TheVariants.{OutOfMemory, OverflowError};
 ghost use Rattle.pdf_text.specs.Dictionaries.Entries.{dictionary};
+ghost use Rattle.pdf_text.specs.Dictionaries.Widths.{HasManyColumns, IsRefused};
 ghost use Rattle.pdf_text.specs.Objects.{AreDictionaries, entries_of, bytes_of, text_of_cmap, stream_end, value_end, value_of, object_text, when, objects_of, references_from, objects_from, offsets_from, values_of, font_objects, AreFontObjectsAt, AreAt, AreReferredTo, IsDictionaryWhen};
 
 use crate::cmaps::lines::write_count;
@@ -39,22 +40,23 @@ pub struct FontObjects {
 // ---- one object
 
 /// Writes the entries of an object's dictionary, but for a stream's Length.
-fn write_entries(
+pub(crate) fn write_entries(
+    alloc: Global,
     text: &mut Vec<u8>,
     object: Object,
     values: FontValues<'_>,
     references: References,
 ) -> Result<(), Error>
     ensures ok { OnOk result (text.new.items ≡ text.old.items ++ entries_of object values.entry references) }
-    ensures err { IfErr result (λ e. e ≡ OutOfMemory) }
+    ensures err { IfErr result (IsRefused values.entry.columns) }
 {
     match object {
         Object::Font => write_font(text, values, references),
-        Object::CidFont => write_cid_font(text, values, references),
+        Object::CidFont => write_cid_font(alloc, text, values, references),
         Object::FontDescriptor => write_descriptor(text, values, references),
         Object::FontFile => write_program(text, values.kind, values.program.len()),
         Object::ToUnicode | Object::CidSet => Ok(()),
-        Object::Cmap => write_cmap(text, values.encoding, values.vertical),
+        Object::Cmap => write_cmap(text, values.encoding, values.columns.is_some()),
     }
 }
 
@@ -69,7 +71,7 @@ fn text_of_cmap(encoding: Option<OwnCmap<'_>>) -> Option<&[u8]>
 }
 
 /// The bytes of an object that is a stream.
-fn bytes_of(object: Object, values: FontValues<'_>) -> Option<&[u8]>
+pub(crate) fn bytes_of<'a>(object: Object, values: FontValues<'a>) -> Option<&'a [u8]>
     ensures { option_copied result ≡ bytes_of object values.entry }
 {
     match object {
@@ -95,7 +97,7 @@ fn write_stream(text: &mut Vec<u8>, bytes: &[u8]) -> Result<(), Error>
 }
 
 /// Writes the end of a dictionary, and a stream's bytes.
-fn write_value_end(text: &mut Vec<u8>, bytes: Option<&[u8]>) -> Result<(), Error>
+pub(crate) fn write_value_end(text: &mut Vec<u8>, bytes: Option<&[u8]>) -> Result<(), Error>
     ensures ok { OnOk result (text.new.items ≡ text.old.items ++ value_end (option_copied bytes.entry)) }
     ensures err { IfErr result (λ e. e ≡ OutOfMemory) }
 {
@@ -111,22 +113,24 @@ fn write_value_end(text: &mut Vec<u8>, bytes: Option<&[u8]>) -> Result<(), Error
 /// Writes the value of an object.
 #[tactic(auto, using(crate::proofs::Written::three_written))]
 fn write_value(
+    alloc: Global,
     text: &mut Vec<u8>,
     object: Object,
     values: FontValues<'_>,
     references: References,
 ) -> Result<(), Error>
     ensures ok { OnOk result (text.new.items ≡ text.old.items ++ value_of object values.entry references) }
-    ensures err { IfErr result (λ e. e ≡ OutOfMemory) }
+    ensures err { IfErr result (IsRefused values.entry.columns) }
 {
     text.extend_from_slice(b"<< ")?;
-    write_entries(text, object, values, references)?;
+    write_entries(alloc, text, object, values, references)?;
     write_value_end(text, bytes_of(object, values))
 }
 
 /// Writes an object with its number.
 #[tactic(auto, using(crate::proofs::Written::four_written))]
 fn write_object(
+    alloc: Global,
     text: &mut Vec<u8>,
     number: u32,
     object: Object,
@@ -134,11 +138,11 @@ fn write_object(
     references: References,
 ) -> Result<(), Error>
     ensures ok { OnOk result (text.new.items ≡ text.old.items ++ object_text number (value_of object values.entry references)) }
-    ensures err { IfErr result (λ e. e ≡ OutOfMemory) }
+    ensures err { IfErr result (IsRefused values.entry.columns) }
 {
     write_count(text, number as usize)?;
     text.extend_from_slice(b" 0 obj\n")?;
-    write_value(text, object, values, references)?;
+    write_value(alloc, text, object, values, references)?;
     text.extend_from_slice(b"\nendobj\n")?;
     Ok(())
 }
@@ -157,7 +161,7 @@ fn push_when(objects: &mut Vec<Object>, wanted: bool, object: Object) -> Result<
 }
 
 /// The objects of a font, in their order.
-fn objects_of(alloc: Global, values: FontValues<'_>) -> Result<Vec<Object>, Error>
+pub(crate) fn objects_of(alloc: Global, values: FontValues<'_>) -> Result<Vec<Object>, Error>
     ensures ok { IfOk result (λ objects. objects.items ≡ objects_of values.entry) }
     ensures err { IfErr result (λ e. e ≡ OutOfMemory) }
 {
@@ -210,14 +214,14 @@ fn write_all(
     requires { first + length objects.now < 2 ^ 32 }
     ensures text { IfOk result (λ o. o.text.items ≡ concat (objects_from first (values_of values.entry references objects.now))) }
     ensures offsets { IfOk result (λ o. o.offsets.items ≡ offsets_from 0 (objects_from first (values_of values.entry references objects.now))) }
-    ensures err { IfErr result (λ e. e ≡ OutOfMemory) }
+    ensures err { IfErr result (IsRefused values.entry.columns) }
 {
     let mut text = Vec::new(alloc);
     let mut offsets = Vec::new(alloc);
     let mut number = first;
     for object in objects {
         offsets.push(text.len())?;
-        write_object(&mut text, number, *object, values, references)?;
+        write_object(alloc, &mut text, number, *object, values, references)?;
         number += 1;
     }
     Ok(FontObjects { text, offsets })
@@ -240,7 +244,8 @@ fn checked(first: u32) -> Result<(), Error>
 ///
 /// # Errors
 ///
-/// `OverflowError` if seven numbers from `first` on don't fit 32 bits, else `OutOfMemory` alone.
+/// - `OverflowError`: seven numbers from `first` on don't fit 32 bits, or there are more columns than CIDs.
+/// - `OutOfMemory`: a request for memory was refused.
 pub fn write_objects(
     alloc: Global,
     values: FontValues<'_>,
@@ -249,7 +254,7 @@ pub fn write_objects(
     ensures text { IfOk result (λ o. o.text.items ≡ concat (font_objects first values.entry)) }
     ensures offsets { IfOk result (λ o. o.offsets.items ≡ offsets_from 0 (font_objects first values.entry)) }
     ensures at { IfOk result (λ o. AreFontObjectsAt first values.entry o.text.items o.offsets.items) }
-    ensures err { IfErr result (λ e. (e ≡ OutOfMemory) ⊎ ((e ≡ OverflowError) × (2 ^ 32 ≤ first + 7))) }
+    ensures err { IfErr result (λ e. (e ≡ OutOfMemory) ⊎ ((e ≡ OverflowError) × ((2 ^ 32 ≤ first + 7) ⊎ HasManyColumns values.entry.columns))) }
 {
     checked(first)?;
     let objects = objects_of(alloc, values)?;
@@ -295,11 +300,11 @@ fn dictionary_of(
     references: References,
 ) -> Result<Vec<u8>, Error>
     ensures ok { IfOk result (λ text. text.items ≡ dictionary (entries_of object values.entry references)) }
-    ensures err { IfErr result (λ e. e ≡ OutOfMemory) }
+    ensures err { IfErr result (IsRefused values.entry.columns) }
 {
     let mut text = Vec::new(alloc);
     text.extend_from_slice(b"<< ")?;
-    write_entries(&mut text, object, values, references)?;
+    write_entries(alloc, &mut text, object, values, references)?;
     text.extend_from_slice(b">>")?;
     Ok(text)
 }
@@ -313,7 +318,7 @@ fn dictionary_when(
     references: References,
 ) -> Result<Option<Vec<u8>>, Error>
     ensures ok { IfOk result (λ text. IsDictionaryWhen wanted (entries_of object values.entry references) text) }
-    ensures err { IfErr result (λ e. e ≡ OutOfMemory) }
+    ensures err { IfErr result (IsRefused values.entry.columns) }
 {
     if wanted {
         return Ok(Some(dictionary_of(alloc, object, values, references)?));
@@ -325,14 +330,15 @@ fn dictionary_when(
 ///
 /// # Errors
 ///
-/// `OutOfMemory` alone.
+/// - `OverflowError`: there are more columns than CIDs.
+/// - `OutOfMemory`: a request for memory was refused.
 pub fn write_dictionaries(
     alloc: Global,
     values: FontValues<'_>,
     references: References,
 ) -> Result<FontDictionaries, Error>
     ensures ok { IfOk result (AreDictionaries values.entry references) }
-    ensures err { IfErr result (λ e. e ≡ OutOfMemory) }
+    ensures err { IfErr result (IsRefused values.entry.columns) }
 {
     Ok(FontDictionaries {
         font: dictionary_of(alloc, Object::Font, values, references)?,

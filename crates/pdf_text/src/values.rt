@@ -1,5 +1,7 @@
 //! What the objects of a font say (ISO 32000-1, 9.7 to 9.9).
 
+use crate::metrics::columns::{Column, DefaultColumn};
+
 /// The kind of a font program.
 #[derive(Clone, Copy, PartialEq, Eq)]
 pub enum ProgramKind {
@@ -39,21 +41,26 @@ pub struct Descriptor<'a> {
     pub font_weight: u16,
 }
 
-/// What the objects of a font say.
+/// The columns of vertical writing.
+#[derive(Clone, Copy)]
+pub struct FontColumns<'a> {
+    /// Of each CID from 0 on that a string can show.
+    pub each: &'a [Column],
+    /// DW2.
+    pub default: DefaultColumn,
+}
+
+/// What the objects of a font say: a font that is borrowed.
 #[derive(Clone, Copy)]
 pub struct FontValues<'a> {
     pub kind: ProgramKind,
     pub descriptor: Descriptor<'a>,
-    /// Whether text runs from top to bottom.
-    pub vertical: bool,
+    /// Of each CID from 0 on, in thousandths of the em.
+    pub widths: &'a [u32],
     /// DW.
     pub default_width: u32,
-    /// The value of W, as `write_widths` gives it. `[]` is left out.
-    pub widths: &'a [u8],
-    /// DW2: the y of the origin, and the advance. None is PDF's own, 880 and -1000.
-    pub default_column: Option<[i32; 2]>,
-    /// The value of W2, as `write_columns` gives it. `[]` is left out.
-    pub columns: &'a [u8],
+    /// None: text doesn't run from top to bottom.
+    pub columns: Option<FontColumns<'a>>,
     /// The font program.
     pub program: &'a [u8],
     /// The ToUnicode CMap, as `write_to_unicode` gives it.

@@ -6,7 +6,7 @@ use Rattle.subsetter_base.specs.declared.error.Error.{Error}
 use Rattle.subsetter_base.specs.declared.error.Error.TheVariants.{OutOfMemory, OverflowError}
 use Rattle.subsetter_sfnt.specs.Read.{Font}
 use Rattle.pdf_codes.specs.Codes.{Used}
-use Rattle.pdf_codes.specs.Shown.{has_long_text, uses_of}
+use Rattle.pdf_codes.specs.Shown.{has_long_text, texts_of, uses_of}
 use Rattle.pdf_codes.specs.declared.shown.Shown.{Shown}
 use Rattle.pdf_values.specs.declared.permission.Permission.{Permission}
 use Rattle.pdf_source.specs.declared.choice.FontOptions.{FontOptions}
@@ -14,8 +14,9 @@ use Rattle.pdf_font.specs.PdfFont.{HasFontFault, IsPdfFont, font_of, in_embeddin
 use Rattle.pdf_font.specs.declared.error.FontError.{FontError}
 use Rattle.pdf_font.specs.declared.error.FontError.TheVariants.{Subset, NotPermitted as Forbidden, TextTooLong}
 use Rattle.pdf_font.specs.declared.font.PdfFont.{PdfFont}
-use Rattle.pdf_objects.specs.Glyphs.{IsSheetOf, IsTooLargeFor}
-use Rattle.pdf_objects.specs.Values.{HasManyColumns}
+use Rattle.pdf_objects.specs.Glyphs.{IsSheetOf, IsSheetOfFont, IsTooLargeFor}
+use Rattle.pdf_objects.specs.View.{IsViewOf}
+use Rattle.pdf_objects.specs.declared.view.FontView.{FontView}
 use Rattle.pdf_sheet.specs.declared.frame.Layout.{Layout}
 use Rattle.subset_pdf.specs.Options.{options_of}
 use Rattle.subset_pdf.specs.Shown.{entries_of, entry_of}
@@ -66,7 +67,7 @@ module _ (bytes : List ℕ) (request : PdfRequest) (shown : List Shown) where
 
   -- ---- its sheet
 
-  pub sheet_by : (font : PdfFont) (r : Result Sheet SheetError) → IsFontFor bytes request shown font → IfOk r (λ s. s.font ≡ font) → IfOk r (λ s. IsSheetOf s.font shown request.layout s.file.items) → IfOk r (IsSheetBy bytes request shown)
+  pub sheet_by : (font : PdfFont) (r : Result Sheet SheetError) → IsFontFor bytes request shown font → IfOk r (λ s. s.font ≡ font) → IfOk r (λ s. IsSheetOfFont s.font shown request.layout s.file.items) → IfOk r (IsSheetBy bytes request shown)
   sheet_by font (Ok s) is same sheet = record { font = subst (λ (f : PdfFont). IsFontFor bytes request shown f) (sym same) is; file = sheet }
   sheet_by font (Err e) is same sheet = tt
 
@@ -96,7 +97,10 @@ module _ (bytes : List ℕ) (request : PdfRequest) (shown : List Shown) where
   no_sheet_for characters glyphs (Ok s) are h = tt
   no_sheet_for characters glyphs (Err e) are h = fault_for characters glyphs e are h
 
--- the answer of `write_sheet` under its name
-pub too_large_as : (font : PdfFont) (shown : List Shown) (layout : Layout) (e : Error) → (e ≡ OutOfMemory) ⊎ ((e ≡ OverflowError) × (IsTooLargeFor font shown layout ⊎ HasManyColumns font.columns)) → (RefusedFont e ≡ RefusedFont OutOfMemory) ⊎ IsTooLargeAs font shown layout (RefusedFont e)
-too_large_as font shown layout e (inl memory) = inl (ap RefusedFont memory)
-too_large_as font shown layout e (inr large) = inr (ap RefusedFont large.0, large.1)
+-- the answers of `write_sheet` under their names
+pub sheet_of_font : (font : PdfFont) (view : FontView) (shown : List Shown) (layout : Layout) (file : List ℕ) → IsViewOf font view → IsSheetOf view (texts_of shown) layout file → IsSheetOfFont font shown layout file
+sheet_of_font font view shown layout file is h = record { view = view; is = is; sheet = h }
+
+pub too_large_as : (font : PdfFont) (view : FontView) (shown : List Shown) (layout : Layout) (e : Error) → IsViewOf font view → (e ≡ OutOfMemory) ⊎ ((e ≡ OverflowError) × IsTooLargeFor view (texts_of shown) layout) → (RefusedFont e ≡ RefusedFont OutOfMemory) ⊎ IsTooLargeAs font shown layout (RefusedFont e)
+too_large_as font view shown layout e is (inl memory) = inl (ap RefusedFont memory)
+too_large_as font view shown layout e is (inr large) = inr (ap RefusedFont large.0, record { view = view; is = is; large = large.1 })

@@ -7,8 +7,7 @@ use Rattle.pdf_font.specs.PdfFont.{HasFontFault, IsPdfFont, font_of}
 use Rattle.pdf_font.specs.declared.error.FontError.{FontError}
 use Rattle.pdf_font.specs.declared.error.FontError.TheVariants.{Subset, NotPermitted as Forbidden}
 use Rattle.pdf_font.specs.declared.font.PdfFont.{PdfFont}
-use Rattle.pdf_objects.specs.Glyphs.{IsSheetOf, IsTooLargeFor}
-use Rattle.pdf_objects.specs.Values.{HasManyColumns}
+use Rattle.pdf_objects.specs.Glyphs.{IsSheetOfFont, IsTooLargeForFont}
 use Rattle.pdf_sheet.specs.declared.frame.Layout.{Layout}
 use Rattle.subset_pdf.specs.Options.{options_of}
 use Rattle.subset_pdf.specs.Shown.{entries_of, entry_of}
@@ -26,7 +25,7 @@ IsFontFor bytes request shown font = IsPdfFont (font_of bytes request.index (opt
 -- its sheet
 pub record IsSheetBy (bytes : List ℕ) (request : PdfRequest) (shown : List Shown) (sheet : Sheet) : Type 0 where
   pub font : IsFontFor bytes request shown sheet.font
-  pub file : IsSheetOf sheet.font shown request.layout sheet.file.items
+  pub file : IsSheetOfFont sheet.font shown request.layout sheet.file.items
 
 -- the error of `pdf_font` by this name
 abbrev pub fault_of : SheetError → FontError
@@ -39,7 +38,7 @@ HasFaultFor bytes request shown why = (order : List ℕ) × HasFontFault (font_o
 
 -- the sheet of a font is too large
 abbrev pub IsTooLargeAs : PdfFont → List Shown → Layout → SheetError → Type 0
-IsTooLargeAs font shown layout why = (why ≡ Font OverflowError) × (IsTooLargeFor font shown layout ⊎ HasManyColumns font.columns)
+IsTooLargeAs font shown layout why = (why ≡ Font OverflowError) × IsTooLargeForFont font shown layout
 
 pub data HasSheetFaultBy (bytes : List ℕ) (request : PdfRequest) (shown : List Shown) (why : SheetError) : Type 0 where
   in_font : HasFaultFor bytes request shown why → HasSheetFaultBy bytes request shown why

@@ -2,7 +2,7 @@
 
 ghost use Rattle.std.specs.Prelude.{◌≡◌, ◌⊎◌, false, IfOk, IfErr};
 ghost use Rattle.pdf_codes.specs.Shown.{has_long_text, uses_of};
-ghost use Rattle.pdf_objects.specs.Glyphs.{IsSheetOf};
+ghost use Rattle.pdf_objects.specs.Glyphs.{IsSheetOfFont};
 ghost use Rattle.subset_pdf.specs.Sheet.{HasFaultFor, HasSheetFault, HasSheetFaultBy, IsFontFor, IsSheetBy, IsSheetFor, IsTooLargeAs};
 ghost use Rattle.subset_pdf.specs.declared.sheet.SheetError.TheVariants.{Font as RefusedFont};
 ghost use Rattle.subsetter_base.specs.declared.error.Error.TheVariants.{OutOfMemory};
@@ -10,7 +10,7 @@ ghost use Rattle.subsetter_base.specs.declared.error.Error.TheVariants.{OutOfMem
 use crate::options::{PdfRequest, options_of};
 use crate::shown::shown_of;
 use pdf_font::{FontError, PdfFont, Permission, Shown, pdf_font};
-use pdf_objects::write_sheet;
+use pdf_objects::{view_of, write_sheet};
 use std::alloc::Global;
 use subsetter_base::Error;
 
@@ -55,7 +55,7 @@ fn font_for(
 }
 
 /// The PDF of a font.
-#[tactic(auto, using(crate::proofs::Sheets::too_large_as))]
+#[tactic(auto, using(crate::proofs::Sheets::sheet_of_font, crate::proofs::Sheets::too_large_as))]
 fn drawn(
     alloc: Global,
     request: &PdfRequest<'_>,
@@ -63,10 +63,10 @@ fn drawn(
     shown: &[Shown<'_>],
 ) -> Result<Sheet, SheetError>
     ensures font { IfOk result (λ sheet. sheet.font ≡ font) }
-    ensures ok { IfOk result (λ sheet. IsSheetOf sheet.font shown.now request.now.layout sheet.file.items) }
+    ensures ok { IfOk result (λ sheet. IsSheetOfFont sheet.font shown.now request.now.layout sheet.file.items) }
     ensures err { IfErr result (λ e. (e ≡ RefusedFont OutOfMemory) ⊎ IsTooLargeAs font shown.now request.now.layout e) }
 {
-    match write_sheet(alloc, &font, shown, request.layout) {
+    match write_sheet(alloc, view_of(&font), shown, request.layout) {
         Ok(file) => Ok(Sheet { font, file }),
         Err(error) => Err(SheetError::Font(error)),
     }

@@ -1,65 +1,101 @@
--- What is written of a font that C holds: its objects, and a sheet.
-use Rattle.std.specs.Prelude.{◌≡◌, ◌<◌, ◌≤◌, ◌⊎◌, ◌+◌, ◌^◌, ℕ, ◌==◌, if◌then◌else◌, List, map, length, take, get_or, min, unsigned_abs}
+-- What is written of a font that C holds: its objects, also as data, and a sheet.
+use Rattle.std.specs.Prelude.{◌≡◌, ◌≤◌, ◌⊎◌, ◌+◌, ◌^◌, ℕ, List, [], map, Option, Some, None}
 use Rattle.std.specs.List.{concat}
-use Rattle.pdf_text.specs.Objects.{font_objects, offsets_from, AreFontObjectsAt}
-use Rattle.pdf_text.specs.declared.values.FontValues.{FontValues}
-use Rattle.pdf_sheet.specs.File.{AreInTable, body_of, file_of}
-use Rattle.pdf_sheet.specs.Pages.{sheet_values, IsTooLarge}
+use Rattle.pdf_objects.specs.Glyphs.{IsSheetOf as IsSheetOfView, IsTooLargeFor as IsTooLargeForView}
+use Rattle.pdf_objects.specs.declared.view.FontView.{FontView}
 use Rattle.pdf_sheet.specs.declared.frame.Layout.{Layout}
-use Rattle.pdf_sheet.specs.declared.glyphs.SheetGlyph.{SheetGlyph}
-use Rattle.subsetter_pdf_c.specs.Made.{AreValuesOf, no_column}
-use Rattle.subsetter_pdf_c.specs.declared.made.PdfColumn.{PdfColumn}
+use Rattle.pdf_text.specs.Dictionaries.Widths.{HasManyColumns}
+use Rattle.pdf_text.specs.Objects.{font_objects, offsets_from, AreFontObjectsAt}
+use Rattle.pdf_text.specs.Parts.{Part, part_count, parts_of as parts_of_values, HasNoParts}
+use Rattle.pdf_text.specs.declared.objects.Object.{Object}
+use Rattle.pdf_text.specs.declared.objects.Object.TheVariants.{Font, CidFont, FontDescriptor, FontFile, ToUnicode, CidSet, Cmap}
+use Rattle.pdf_text.specs.declared.parts.PartsError.{PartsError}
+use Rattle.pdf_text.specs.declared.parts.PartsError.TheVariants.{Subset}
+use Rattle.pdf_text.specs.declared.strings.StringRange.{StringRange}
+use Rattle.subsetter_base.specs.declared.error.Error.TheVariants.{OutOfMemory}
+use Rattle.subsetter_pdf_c.specs.Made.{IsViewOf}
 use Rattle.subsetter_pdf_c.specs.declared.made.PdfMade.{PdfMade}
+use Rattle.subsetter_pdf_c.specs.declared.parts.PdfPart.{PdfPart}
 
--- CIDs have 16 bits
-pub record HasManyColumns (made : PdfMade) : Type 0 where
-  pub vertical : 0 < made.numbers.is_vertical
-  pub many : 65536 < length made.columns.now
+-- ---- objects
 
 -- the objects of the font, with numbers from the first on, and where each begins
 pub record AreObjectsOf (made : PdfMade) (first : ℕ) (text offsets : List ℕ) : Type 0 where
-  pub values : FontValues
-  pub are : AreValuesOf made values
-  pub text_is : text ≡ concat (font_objects first values)
-  pub offsets_are : offsets ≡ offsets_from 0 (font_objects first values)
-  pub at : AreFontObjectsAt first values text offsets
+  pub view : FontView
+  pub is : IsViewOf made view
+  pub text_is : text ≡ concat (font_objects first view.values)
+  pub offsets_are : offsets ≡ offsets_from 0 (font_objects first view.values)
+  pub at : AreFontObjectsAt first view.values text offsets
 
--- seven numbers from the first on have more than 32 bits, or there are too many columns
-abbrev pub HaveNoNumbers : PdfMade → ℕ → Type 0
-HaveNoNumbers made first = (2 ^ 32 ≤ first + 7) ⊎ HasManyColumns made
+-- seven numbers from the first on have more than 32 bits, or there are more columns than CIDs
+pub record HaveNoNumbers (made : PdfMade) (first : ℕ) : Type 0 where
+  pub view : FontView
+  pub is : IsViewOf made view
+  pub why : (2 ^ 32 ≤ first + 7) ⊎ HasManyColumns view.values.columns
+
+-- ---- objects as data
+
+-- the number of a role
+abbrev pub role_number : Object → ℕ
+role_number Font = 0
+role_number CidFont = 1
+role_number FontDescriptor = 2
+role_number FontFile = 3
+role_number ToUnicode = 4
+role_number CidSet = 5
+role_number Cmap = 6
+
+-- whether there is a stream, and its bytes
+abbrev pub stream_number : Option (List ℕ) → ℕ
+stream_number None = 0
+stream_number (Some bytes) = 1
+
+abbrev pub stream_bytes : Option (List ℕ) → List ℕ
+stream_bytes None = []
+stream_bytes (Some bytes) = bytes
+
+-- a part in numbers and lists
+pub record Laid : Type 0 where
+  pub role : ℕ
+  pub number : ℕ
+  pub entries : List ℕ
+  pub strings : List StringRange
+  pub is_stream : ℕ
+  pub stream : List ℕ
+
+abbrev pub laid_out : Part → Laid
+laid_out p = record { role = role_number p.role; number = p.number; entries = p.entries; strings = p.strings; is_stream = stream_number p.stream; stream = stream_bytes p.stream }
+
+abbrev pub laid_view : PdfPart → Laid
+laid_view p = record { role = p.role; number = p.number; entries = p.entries.now; strings = p.strings.now; is_stream = p.is_stream; stream = p.stream.now }
+
+-- how many there are
+pub record IsPartCount (made : PdfMade) (count : ℕ) : Type 0 where
+  pub view : FontView
+  pub is : IsViewOf made view
+  pub count_is : count ≡ part_count view.values
+
+-- the objects of the font that have these numbers
+pub record ArePartsOf (made : PdfMade) (numbers : List ℕ) (ps : List PdfPart) : Type 0 where
+  pub view : FontView
+  pub is : IsViewOf made view
+  pub parts : map laid_view ps ≡ map laid_out (parts_of_values view.values numbers)
+
+-- why there are none
+pub record HasNoPartsOf (made : PdfMade) (numbers : List ℕ) (e : PartsError) : Type 0 where
+  pub view : FontView
+  pub is : IsViewOf made view
+  pub why : (e ≡ Subset OutOfMemory) ⊎ HasNoParts view.values numbers e
 
 -- ---- a sheet
 
--- how far a line goes on with a CID: its width, or in vertical writing its advance
-abbrev pub advance_by : ℕ → List PdfColumn → List ℕ → ℕ → ℕ
-advance_by vertical columns widths cid = if vertical == 0 then get_or widths cid 0 else unsigned_abs (get_or columns cid no_column).advance
-
-abbrev pub advance_of : PdfMade → ℕ → ℕ
-advance_of made cid = advance_by made.numbers.is_vertical made.columns.now made.widths.now cid
-
--- as many as have a code, a CID, a text, and whether it is said
-abbrev pub size_of : PdfMade → List (List ℕ) → ℕ
-size_of made texts = min (min (length made.codes.now) (length made.cids.now)) (min (length made.is_said.now) (length texts))
-
--- the entries of the font with these texts, as glyphs of a sheet
-pub record AreGlyphsOf (made : PdfMade) (texts : List (List ℕ)) (gs : List SheetGlyph) : Type 0 where
-  pub codes : map (λ (g : SheetGlyph). g.code) gs ≡ take (size_of made texts) made.codes.now
-  pub is_said : map (λ (g : SheetGlyph). g.is_said) gs ≡ take (size_of made texts) made.is_said.now
-  pub texts_are : map (λ (g : SheetGlyph). g.text.now) gs ≡ take (size_of made texts) texts
-  pub advances : map (λ (g : SheetGlyph). g.advance) gs ≡ map (advance_of made) (take (size_of made texts) made.cids.now)
-
 pub record IsSheetOf (made : PdfMade) (texts : List (List ℕ)) (layout : Layout) (file : List ℕ) : Type 0 where
-  pub values : FontValues
-  pub glyphs : List SheetGlyph
-  pub are : AreValuesOf made values
-  pub shown_are : AreGlyphsOf made texts glyphs
-  pub whole : file ≡ file_of (sheet_values layout values glyphs)
-  pub at : AreInTable file (length (body_of (sheet_values layout values glyphs))) (sheet_values layout values glyphs)
+  pub view : FontView
+  pub is : IsViewOf made view
+  pub sheet : IsSheetOfView view texts layout file
 
--- the sheet has too many objects, or too many bytes
+-- the sheet has too many objects, bytes or columns
 pub record IsTooLargeFor (made : PdfMade) (texts : List (List ℕ)) (layout : Layout) : Type 0 where
-  pub values : FontValues
-  pub glyphs : List SheetGlyph
-  pub are : AreValuesOf made values
-  pub shown_are : AreGlyphsOf made texts glyphs
-  pub large : IsTooLarge layout values glyphs
+  pub view : FontView
+  pub is : IsViewOf made view
+  pub large : IsTooLargeForView view texts layout

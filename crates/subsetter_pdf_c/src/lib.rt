@@ -4,18 +4,23 @@
 //! ```text
 //! let shown = shown_of(alloc, glyphs, &characters, ends)?;           // from C
 //! let objects = write_objects(alloc, &made, 4)?;                     // of a font that C holds
+//! let parts = parts_of(alloc, &made, &[4, 9, 6, 7, 8])?;             // the same as data, with these numbers
 //! ```
 #![tactic(auto)]
 
 mod entries;
 mod found;
+mod kept;
 mod made;
-mod sheet;
-mod values;
+mod parts;
+mod view;
 mod written;
 
 pub use entries::{are_scalars, are_texts, characters_of, shown_of};
 pub use found::glyphs_by;
-pub use made::{PdfColumn, PdfMade, PdfNumbers};
-pub use sheet::sheet_of;
-pub use written::write_objects;
+pub use kept::kept_bytes;
+pub use made::{PdfMade, PdfNumbers};
+pub use parts::{PdfPart, part_count, parts_of};
+pub use pdf_text::{PartsError, StringRange};
+pub use view::view_of;
+pub use written::{sheet_of, write_objects};

@@ -1,13 +1,6 @@
 //! A font for a PDF as C has it (`subsetter_pdf_font` in `bindings/c/subsetter.h`).
 
-/// A CID in vertical writing, in thousandths of the em.
-#[derive(Clone, Copy)]
-#[repr(C)]
-pub struct PdfColumn {
-    pub advance: i32,
-    pub x: i32,
-    pub y: i32,
-}
+use pdf_text::Column;
 
 /// The numbers of a font.
 #[derive(Clone, Copy)]
@@ -55,7 +48,7 @@ pub struct PdfMade {
     /// Of each CID the width.
     pub widths: &'static [u32],
     /// In vertical writing of each CID that a string can show.
-    pub columns: &'static [PdfColumn],
+    pub columns: &'static [Column],
     pub font_name: &'static [u8],
     /// The ToUnicode CMap.
     pub to_unicode: &'static [u8],

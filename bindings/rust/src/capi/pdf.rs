@@ -4,20 +4,20 @@ use super::{settings, Coordinate};
 use crate::library::refused;
 use crate::pdf::{glyphs_by_cmap, with_room, FontError};
 use crate::proved::pdf_font::{
-    self as proved, Bounds, Codes, DefaultColumn, Direction, Edges, Heights, NamedCmap, Permission,
-    ProgramChoice, ProgramKind, Rights, Usage, Values,
+    self as proved, Bounds, Codes, Direction, ProgramChoice, ProgramKind, Rights, Usage,
 };
-use crate::proved::pdf_objects::{write_objects, write_sheet, Layout};
-use crate::proved::subsetter as subsetting;
+use crate::proved::pdf_objects::{write_objects, write_sheet, FontView, Layout};
+use crate::proved::pdf_text::{DefaultColumn, Descriptor, FontColumns, FontValues, OwnCmap};
 use crate::proved::subsetter_variable::check_opening_at;
 use crate::rattle::alloc::Global;
-use crate::rattle::prelude::Vec as List;
 use crate::Error;
 use ::alloc::vec::Vec;
 
 /// All that a caller of C can choose of a font for a PDF.
 #[derive(Clone, Copy)]
 pub struct FontChoices(proved::FontOptions);
+
+pub use crate::proved::pdf_text::Column;
 
 /// 0 stands for the first, 1 for the second.
 fn first_or_second<T>(word: u32, first: T, second: T) -> Option<T> {
@@ -62,15 +62,6 @@ impl FontChoices {
             rights: first_or_second(rights, Rights::AsSaid, Rights::Held)?,
         }))
     }
-}
-
-/// A CID in vertical writing, as C has it.
-#[derive(Clone, Copy)]
-#[repr(C)]
-pub struct Column {
-    advance: i32,
-    x: i32,
-    y: i32,
 }
 
 /// The lists of a font.
@@ -266,15 +257,8 @@ impl From<EntryError> for Refusal {
 }
 
 /// The lists and numbers of a font that was made.
-fn parted(font: proved::PdfFont) -> Result<(FontLists, FontNumbers), Error> {
+fn parted(font: proved::PdfFont) -> (FontLists, FontNumbers) {
     let numbers = FontNumbers::of(&font);
-    let each = font.columns.as_ref().map_or(&[][..], |it| &it.each);
-    let mut columns = with_room(each.len())?;
-    columns.extend(each.iter().map(|it| Column {
-        advance: it.advance,
-        x: it.x,
-        y: it.y,
-    }));
     let (name, encoding) = match font.encoding {
         Some(cmap) => (cmap.name.into_inner(), cmap.text.into_inner()),
         None => (Vec::new(), Vec::new()),
@@ -285,14 +269,16 @@ fn parted(font: proved::PdfFont) -> Result<(FontLists, FontNumbers), Error> {
         codes: font.codes.into_inner(),
         is_said: font.is_said.into_inner(),
         widths: font.widths.into_inner(),
-        columns,
+        columns: font
+            .columns
+            .map_or_else(Vec::new, |it| it.each.into_inner()),
         font_name: font.descriptor.font_name.into_inner(),
         to_unicode: font.to_unicode.into_inner(),
         encoding,
         encoding_name: name,
         cid_set: font.cid_set.map_or_else(Vec::new, |it| it.into_inner()),
     };
-    Ok((lists, numbers))
+    (lists, numbers)
 }
 
 /// All that a PDF has of a font. For a font that can't be opened its fault is answered, whatever memory there is.
@@ -322,7 +308,7 @@ pub fn pdf_font(
     let at = settings(data, index, coordinates, &open)?;
     let made = proved::pdf_font(Global, data, index, &at, &shown, &choices.0);
     let made = made.map_err(|error| Refusal::Font(FontError::of(error)))?;
-    Ok(parted(made)?)
+    Ok(parted(made))
 }
 
 /// A font that was made, as a caller of C has it.
@@ -362,98 +348,54 @@ impl FontNumbers {
             _ => ProgramKind::OpenType,
         }
     }
-
-    /// The values of the font descriptor.
-    fn values(&self) -> Values {
-        let [x_min, y_min, x_max, y_max] = self.bounds;
-        Values {
-            flags: self.flags,
-            bounds: Edges {
-                x_min,
-                y_min,
-                x_max,
-                y_max,
-            },
-            italic_angle: self.italic_angle,
-            heights: Heights {
-                ascent: self.ascent,
-                descent: self.descent,
-                cap_height: self.cap_height,
-                x_height: Some(self.x_height).filter(|_| self.has_x_height != 0),
-            },
-            stem_v: self.stem_v,
-            font_weight: self.font_weight as u16,
-        }
-    }
 }
 
-/// What a font permits plays no part in what is written of it.
-const ANY_PERMISSION: Permission = Permission {
-    usage: Usage::Unsaid,
-    subsetting: true,
-    outlines: true,
-};
-
-/// A copy of a list.
-fn copied<T: Copy>(items: &[T]) -> Result<List<T>, subsetting::Error> {
-    Ok(List::from_slice(Global, items)?)
-}
-
-impl FontParts<'_> {
-    fn columns(&self) -> Result<Option<proved::Columns>, subsetting::Error> {
-        if self.numbers.is_vertical == 0 {
-            return Ok(None);
-        }
-        let mut each = List::with_capacity(Global, self.columns.len())?;
-        for it in self.columns {
-            each.push_reserved(proved::Column {
-                advance: it.advance,
-                x: it.x,
-                y: it.y,
-            });
-        }
+impl<'a> FontParts<'a> {
+    /// The columns, where text runs from top to bottom.
+    fn columns(&self) -> Option<FontColumns<'a>> {
         let [y, advance] = self.numbers.default_column;
-        let default = DefaultColumn { y, advance };
-        Ok(Some(proved::Columns { each, default }))
-    }
-
-    /// The CMap of the file's own: there is one where it has bytes.
-    fn encoding(&self) -> Result<Option<NamedCmap>, subsetting::Error> {
-        if self.encoding.is_empty() {
-            return Ok(None);
-        }
-        let (name, text) = (copied(self.encoding_name)?, copied(self.encoding)?);
-        Ok(Some(NamedCmap { name, text }))
-    }
-
-    fn cid_set(&self) -> Result<Option<List<u8>>, subsetting::Error> {
-        if self.cid_set.is_empty() {
-            return Ok(None);
-        }
-        copied(self.cid_set).map(Some)
-    }
-
-    /// The font as the proved calls take it, which is a copy: they take a font that has its lists.
-    fn font(&self) -> Result<proved::PdfFont, subsetting::Error> {
-        Ok(proved::PdfFont {
-            program: copied(self.program)?,
-            kind: self.numbers.kind(),
-            glyph_count: self.widths.len() as u16,
-            cids: copied(self.cids)?,
-            codes: copied(self.codes)?,
-            is_said: copied(self.is_said)?,
-            widths: copied(self.widths)?,
-            default_width: self.numbers.default_width,
-            columns: self.columns()?,
-            descriptor: proved::Descriptor {
-                font_name: copied(self.font_name)?,
-                values: self.numbers.values(),
-            },
-            permission: ANY_PERMISSION,
-            to_unicode: copied(self.to_unicode)?,
-            encoding: self.encoding()?,
-            cid_set: self.cid_set()?,
+        Some(FontColumns {
+            each: self.columns,
+            default: DefaultColumn { y, advance },
         })
+        .filter(|_| self.numbers.is_vertical != 0)
+    }
+
+    /// The font as the proved calls borrow it. There is a CMap, and a CIDSet, where it has bytes.
+    fn view(&self) -> FontView<'a> {
+        let numbers = self.numbers;
+        let values = FontValues {
+            kind: numbers.kind(),
+            descriptor: Descriptor {
+                font_name: self.font_name,
+                flags: numbers.flags,
+                bounds: numbers.bounds,
+                italic_angle: numbers.italic_angle,
+                ascent: numbers.ascent,
+                descent: numbers.descent,
+                cap_height: numbers.cap_height,
+                x_height: Some(numbers.x_height).filter(|_| numbers.has_x_height != 0),
+                stem_v: numbers.stem_v,
+                font_weight: numbers.font_weight as u16,
+            },
+            widths: self.widths,
+            default_width: numbers.default_width,
+            columns: self.columns(),
+            program: self.program,
+            to_unicode: self.to_unicode,
+            encoding: Some(OwnCmap {
+                name: self.encoding_name,
+                text: self.encoding,
+            })
+            .filter(|it| !it.text.is_empty()),
+            cid_set: Some(self.cid_set).filter(|it| !it.is_empty()),
+        };
+        FontView {
+            values,
+            cids: self.cids,
+            codes: self.codes,
+            is_said: self.is_said,
+        }
     }
 
     /// The objects of the font with numbers from one on, and where each begins.
@@ -462,8 +404,7 @@ impl FontParts<'_> {
     ///
     /// Those of [`PdfFont::objects`](crate::pdf::PdfFont::objects).
     pub fn objects(&self, first: u32) -> Result<(Vec<u8>, Vec<usize>), Error> {
-        let font = self.font().map_err(refused)?;
-        let made = write_objects(Global, &font, first).map_err(refused)?;
+        let made = write_objects(Global, self.view().values, first).map_err(refused)?;
         Ok((made.text.into_inner(), made.offsets.into_inner()))
     }
 
@@ -475,9 +416,8 @@ impl FontParts<'_> {
     pub fn sheet(&self, entries: Entries<'_>, is_grid: bool) -> Result<Vec<u8>, Refusal> {
         let characters = entries.characters()?;
         let shown = entries.shown(&characters)?;
-        let font = self.font().map_err(refused)?;
         let layout = if is_grid { Layout::Grid } else { Layout::Line };
-        let made = write_sheet(Global, &font, &shown, layout);
+        let made = write_sheet(Global, self.view(), &shown, layout);
         Ok(made.map_err(refused)?.into_inner())
     }
 }

@@ -14,7 +14,7 @@ impl PdfFont {
     ///
     /// [`Error::OutOfMemory`] alone.
     pub fn w(&self) -> Result<Vec<u8>, Error> {
-        let text = proved::write_w(Global, self.made());
+        let text = proved::write_w(Global, proved::view_of(self.made()).values);
         Ok(text.map_err(refused)?.into_inner())
     }
 
@@ -25,10 +25,11 @@ impl PdfFont {
     ///
     /// [`Error::OutOfMemory`] alone.
     pub fn w2(&self) -> Result<Option<Vec<u8>>, Error> {
-        if self.made().columns.is_none() {
+        let columns = proved::view_of(self.made()).values.columns;
+        if columns.is_none() {
             return Ok(None);
         }
-        let text = proved::write_w2(Global, self.made());
+        let text = proved::write_w2(Global, columns);
         Ok(Some(text.map_err(refused)?.into_inner()))
     }
 
@@ -46,7 +47,8 @@ impl PdfFont {
             cid_set: references.cid_set,
             encoding: references.encoding,
         };
-        let made = proved::write_dictionaries(Global, self.made(), numbers);
+        let values = proved::view_of(self.made()).values;
+        let made = proved::write_dictionaries(Global, values, numbers);
         let made = made.map_err(refused)?;
         Ok(Dictionaries {
             font: made.font.into_inner(),
@@ -82,7 +84,7 @@ impl PdfFont {
     ///
     /// [`Error::OverflowError`]: seven numbers from `first` on don't fit 32 bits; [`Error::OutOfMemory`].
     pub fn objects(&self, first: u32) -> Result<Objects, Error> {
-        let made = proved::write_objects(Global, self.made(), first);
+        let made = proved::write_objects(Global, proved::view_of(self.made()).values, first);
         let made = made.map_err(refused)?;
         Ok(Objects {
             bytes: made.text.into_inner(),
@@ -116,7 +118,7 @@ impl PdfFont {
             Layout::Line => proved::Layout::Line,
             Layout::Grid => proved::Layout::Grid,
         };
-        let made = proved::write_sheet(Global, self.made(), &shown, layout);
+        let made = proved::write_sheet(Global, proved::view_of(self.made()), &shown, layout);
         Ok(made.map_err(refused)?.into_inner())
     }
 }

@@ -1,11 +1,12 @@
 -- A composite font and its CIDFont (ISO 32000-1, 9.7.4 and 9.7.6), as texts.
-use Rattle.std.specs.Prelude.{ℕ, nat_lt, Bool, true, false, if◌then◌else◌, List, [], ◌++◌, length, Option, Some, None, codes, decimal, ℤ}
+use Rattle.std.specs.Prelude.{ℕ, Bool, true, false, List, [], ◌++◌, Option, Some, None, is_some, codes}
 use Rattle.pdf_text.specs.declared.values.ProgramKind.{ProgramKind}
 use Rattle.pdf_text.specs.declared.values.ProgramKind.TheVariants.{TrueType, BareCff, OpenType}
 use Rattle.pdf_text.specs.declared.values.OwnCmap.{OwnCmap}
 use Rattle.pdf_text.specs.declared.values.FontValues.{FontValues}
 use Rattle.pdf_text.specs.declared.values.References.{References}
-use Rattle.pdf_text.specs.Dictionaries.Entries.{reference, array, entry, system_info}
+use Rattle.pdf_text.specs.Dictionaries.Entries.{reference, entry, system_info}
+use Rattle.pdf_text.specs.Dictionaries.Widths.{metric_entries}
 
 -- ---- the font (Table 121)
 
@@ -25,7 +26,7 @@ name_end BareCff cmap = codes "-" ++ cmap
 name_end OpenType cmap = codes "-" ++ cmap
 
 abbrev pub base_font : FontValues → List ℕ
-base_font v = v.descriptor.font_name.now ++ name_end v.kind (cmap_name v.encoding v.vertical)
+base_font v = v.descriptor.font_name.now ++ name_end v.kind (cmap_name v.encoding (is_some v.columns))
 
 -- the CMap's stream, or the name of a predefined one
 abbrev pub encoding_value : Option OwnCmap → Bool → ℕ → List ℕ
@@ -34,7 +35,7 @@ encoding_value None vertical n = codes "/" ++ identity_name vertical
 
 abbrev pub font_entries : FontValues → References → List ℕ
 font_entries v r = entry (codes "Type") (codes "/Font") ++ (entry (codes "Subtype") (codes "/Type0")
-    ++ (entry (codes "BaseFont") (codes "/" ++ base_font v) ++ (entry (codes "Encoding") (encoding_value v.encoding v.vertical r.encoding)
+    ++ (entry (codes "BaseFont") (codes "/" ++ base_font v) ++ (entry (codes "Encoding") (encoding_value v.encoding (is_some v.columns) r.encoding)
     ++ (entry (codes "DescendantFonts") (codes "[" ++ (reference r.cid_font ++ codes "]")) ++ entry (codes "ToUnicode") (reference r.to_unicode)))))
 
 -- ---- the CIDFont (Table 117)
@@ -49,20 +50,6 @@ abbrev pub glyph_map : ProgramKind → List ℕ
 glyph_map TrueType = entry (codes "CIDToGIDMap") (codes "/Identity")
 glyph_map BareCff = []
 glyph_map OpenType = []
-
--- an array, if it has a member: then its text is longer than its brackets
-abbrev pub array_entry : List ℕ → List ℕ → List ℕ
-array_entry key value = if nat_lt 2 (length value) then entry key value else []
-
--- DW2, if it isn't PDF's own, 880 and -1000
-abbrev pub column_entry : Option (List ℤ) → List ℕ
-column_entry (Some zs) = entry (codes "DW2") (array zs)
-column_entry None = []
-
--- DW, W, DW2 and W2
-abbrev pub metric_entries : FontValues → List ℕ
-metric_entries v = entry (codes "DW") (decimal v.default_width) ++ (array_entry (codes "W") v.widths.now
-    ++ (column_entry v.default_column ++ array_entry (codes "W2") v.columns.now))
 
 abbrev pub cid_heading : ProgramKind → List ℕ → List ℕ
 cid_heading kind name = entry (codes "Type") (codes "/Font") ++ (entry (codes "Subtype") (cid_font_kind kind) ++ entry (codes "BaseFont") (codes "/" ++ name))

@@ -1,14 +1,15 @@
 //! A composite font and its CIDFont (ISO 32000-1, 9.7.4 and 9.7.6).
 
-ghost use Rattle.std.specs.Prelude.{◌≡◌, ◌++◌, IfErr, OnOk, codes};
+ghost use Rattle.std.specs.Prelude.{◌≡◌, ◌++◌, IfErr, OnOk, codes, is_some};
 ghost use Rattle.subsetter_base.specs.declared.error.Error.TheVariants.{OutOfMemory};
 ghost use Rattle.pdf_text.specs.Dictionaries.Entries.{reference, array, entry};
-ghost use Rattle.pdf_text.specs.Dictionaries.Fonts.{base_font, cmap_name, name_end, identity_name, encoding_value, font_entries, cid_font_kind, glyph_map, array_entry, column_entry, metric_entries, cid_font_entries, cid_heading};
+ghost use Rattle.pdf_text.specs.Dictionaries.Fonts.{base_font, cmap_name, name_end, identity_name, encoding_value, font_entries, cid_font_kind, glyph_map, cid_font_entries, cid_heading};
+ghost use Rattle.pdf_text.specs.Dictionaries.Widths.{IsRefused};
 
-use crate::dictionaries::entries::{
-    write_entry, write_name, write_number, write_numbers, write_reference, write_reference_to,
-};
+use crate::dictionaries::entries::{write_entry, write_name, write_reference, write_reference_to};
+use crate::dictionaries::widths::write_metrics;
 use crate::values::{FontValues, OwnCmap, ProgramKind, References};
+use std::alloc::Global;
 use subsetter_base::Error;
 
 // ---- the font
@@ -60,23 +61,18 @@ fn write_base_font(text: &mut Vec<u8>, values: FontValues<'_>) -> Result<(), Err
     write_name_end(
         text,
         values.kind,
-        cmap_name(values.encoding, values.vertical),
+        cmap_name(values.encoding, values.columns.is_some()),
     )
 }
 
 /// Writes Encoding.
-fn write_encoding(
-    text: &mut Vec<u8>,
-    encoding: Option<OwnCmap<'_>>,
-    vertical: bool,
-    n: u32,
-) -> Result<(), Error>
-    ensures ok { OnOk result (text.new.items ≡ text.old.items ++ entry (codes "Encoding") (encoding_value encoding.entry vertical n)) }
+fn write_encoding(text: &mut Vec<u8>, values: FontValues<'_>, n: u32) -> Result<(), Error>
+    ensures ok { OnOk result (text.new.items ≡ text.old.items ++ entry (codes "Encoding") (encoding_value values.entry.encoding (is_some values.entry.columns) n)) }
     ensures err { IfErr result (λ e. e ≡ OutOfMemory) }
 {
-    match encoding {
+    match values.encoding {
         Some(_) => write_reference(text, b"Encoding", n),
-        None => write_name(text, b"Encoding", identity_name(vertical)),
+        None => write_name(text, b"Encoding", identity_name(values.columns.is_some())),
     }
 }
 
@@ -115,7 +111,7 @@ pub fn write_font(
 {
     text.extend_from_slice(b"/Type /Font /Subtype /Type0 ")?;
     write_font_name(text, values)?;
-    write_encoding(text, values.encoding, values.vertical, references.encoding)?;
+    write_encoding(text, values, references.encoding)?;
     write_descendant(text, references.cid_font)?;
     write_reference(text, b"ToUnicode", references.to_unicode)
 }
@@ -143,41 +139,6 @@ fn write_glyph_map(text: &mut Vec<u8>, kind: ProgramKind) -> Result<(), Error>
     }
 }
 
-/// Writes an array, if it has a member.
-fn write_members(text: &mut Vec<u8>, key: &[u8], value: &[u8]) -> Result<(), Error>
-    ensures ok { OnOk result (text.new.items ≡ text.old.items ++ array_entry key.now value.now) }
-    ensures err { IfErr result (λ e. e ≡ OutOfMemory) }
-{
-    if value.len() > 2 {
-        write_entry(text, key, value)
-    } else {
-        Ok(())
-    }
-}
-
-/// Writes DW2, if it isn't PDF's own.
-fn write_column(text: &mut Vec<u8>, column: Option<[i32; 2]>) -> Result<(), Error>
-    ensures ok { OnOk result (text.new.items ≡ text.old.items ++ column_entry column) }
-    ensures err { IfErr result (λ e. e ≡ OutOfMemory) }
-{
-    match column {
-        Some(numbers) => write_numbers(text, b"DW2", &numbers),
-        None => Ok(()),
-    }
-}
-
-/// Writes DW, W, DW2 and W2.
-#[tactic(auto, using(crate::proofs::Written::four_written))]
-fn write_metrics(text: &mut Vec<u8>, values: FontValues<'_>) -> Result<(), Error>
-    ensures ok { OnOk result (text.new.items ≡ text.old.items ++ metric_entries values.entry) }
-    ensures err { IfErr result (λ e. e ≡ OutOfMemory) }
-{
-    write_number(text, b"DW", values.default_width)?;
-    write_members(text, b"W", values.widths)?;
-    write_column(text, values.default_column)?;
-    write_members(text, b"W2", values.columns)
-}
-
 /// Writes the kind and the name of a CIDFont.
 #[tactic(auto, using(crate::proofs::Written::three_written))]
 fn write_cid_heading(text: &mut Vec<u8>, kind: ProgramKind, name: &[u8]) -> Result<(), Error>
@@ -190,14 +151,20 @@ fn write_cid_heading(text: &mut Vec<u8>, kind: ProgramKind, name: &[u8]) -> Resu
 }
 
 /// Writes the entries of the CIDFont.
+///
+/// # Errors
+///
+/// - `OverflowError`: there are more columns than CIDs.
+/// - `OutOfMemory`: a request for memory was refused.
 #[tactic(auto, using(crate::proofs::Written::five_written))]
 pub fn write_cid_font(
+    alloc: Global,
     text: &mut Vec<u8>,
     values: FontValues<'_>,
     references: References,
 ) -> Result<(), Error>
     ensures ok { OnOk result (text.new.items ≡ text.old.items ++ cid_font_entries values.entry references) }
-    ensures err { IfErr result (λ e. e ≡ OutOfMemory) }
+    ensures err { IfErr result (IsRefused values.entry.columns) }
 {
     write_cid_heading(text, values.kind, values.descriptor.font_name)?;
     text.extend_from_slice(
@@ -205,5 +172,5 @@ pub fn write_cid_font(
     )?;
     write_reference(text, b"FontDescriptor", references.descriptor)?;
     write_glyph_map(text, values.kind)?;
-    write_metrics(text, values)
+    write_metrics(alloc, text, values)
 }

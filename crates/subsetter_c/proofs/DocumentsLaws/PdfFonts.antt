@@ -56,10 +56,6 @@ module _ (font : Font) (settings : List (Tag × ℤ)) (options : FontOptions) (u
   same_error : (e d : FontError) → failed_font e ≡ failed_font d → e ≡ d
   same_error e d h = cc
 
-  -- a font that is answered can be opened
-  pub without_memory : (f : PdfFont) → IsPdfFont font settings options us f → IsFontRefused font settings options us (Subset OutOfMemory)
-  without_memory f is = record { why = inl refl; unopened = λ fault h. absurd (unopened_final fault h f is); forbidden = λ opens denied. inl refl; long = λ opens held h. inl refl }
-
   module _ (given : List (Tag × ℤ)) (used : List Used) (g : given ≡ settings) (u : used ≡ us) where
     there : (P : List (Tag × ℤ) → List Used → Type 0) → P given used → P settings us
     there P p = subst (λ (l : List Used). P settings l) u (subst (λ (s : List (Tag × ℤ)). P s used) g p)
@@ -97,7 +93,6 @@ unopened_at {X} bytes index settings options us extras is e err before =
 
 -- ---- handing over
 
-pub font_handed : (Is : PdfFont → Type 0) (Why : FontError → Type 0) (answer : Result PdfFont FontError) (made : PdfMade) (status : ℕ) → IfOk answer Is → IfErr answer Why → ((f : PdfFont) → Is f → Why (Subset OutOfMemory)) → IsHandedBy (λ f. answer ≡ Ok f) (λ e. (answer ≡ Err e) ⊎ ((f : PdfFont) × (answer ≡ Ok f) × (e ≡ Subset OutOfMemory))) made status → IsHandedBy Is Why made status
-font_handed Is Why answer made status ok err memory (whole f is laid s) = whole f (subst (λ (r : Result PdfFont FontError). IfOk r Is) is ok) laid s
-font_handed Is Why answer made status ok err memory (refused e (inl w) empty s) = refused e (subst (λ (r : Result PdfFont FontError). IfErr r Why) w err) empty s
-font_handed Is Why answer made status ok err memory (refused e (inr w) empty s) = refused e (subst Why (sym w.2) (memory w.0 (subst (λ (r : Result PdfFont FontError). IfOk r Is) w.1 ok))) empty s
+pub font_handed : (Is : PdfFont → Type 0) (Why : FontError → Type 0) (answer : Result PdfFont FontError) (made : PdfMade) (status : ℕ) → IfOk answer Is → IfErr answer Why → IsHandedBy (λ f. answer ≡ Ok f) (λ e. answer ≡ Err e) made status → IsHandedBy Is Why made status
+font_handed Is Why answer made status ok err (whole f is laid s) = whole f (subst (λ (r : Result PdfFont FontError). IfOk r Is) is ok) laid s
+font_handed Is Why answer made status ok err (refused e w empty s) = refused e (subst (λ (r : Result PdfFont FontError). IfErr r Why) w err) empty s

@@ -1,6 +1,6 @@
--- What is said of a font that was laid out for C is what `pdf_objects` says of the font itself.
-use Rattle.std.proofs.Common.{◌≡◌, ◌<◌, ℕ, zero, suc, ◌+◌, Bool, true, false, List, [], ◌∷◌, ◌++◌, length, get_or, map, take, refl, ap, ◌∙◌, arith, ℤ, Option, Some, None, Vec, Global}
-use Rattle.std.specs.Prelude.{◌==◌, if◌then◌else◌, min, is_some, pos, unsigned_abs}
+-- What is borrowed of a font that was laid out for C is what `pdf_objects` borrows of the font itself.
+use Rattle.std.proofs.Common.{◌≡◌, ◌<◌, ℕ, ◌+◌, Bool, true, false, List, [], ◌∷◌, ◌++◌, length, get_or, map, refl, ap, ◌∙◌, arith, ℤ, Option, Some, None, Vec, Global}
+use Rattle.std.specs.Prelude.{◌==◌, if◌then◌else◌, min, pos}
 use Rattle.std.specs.Option.{option_map}
 use Rattle.std.proofs.lemmas.List.{length-append, length-map}
 use Rattle.subsetter_base.specs.declared.tag.Tag.{Tag}
@@ -9,39 +9,31 @@ use Rattle.subsetter_sfnt.specs.Read.{Font, as_font, stored}
 use Rattle.cid_embed.specs.Width.{width}
 use Rattle.pdf_codes.specs.Codes.{Used}
 use Rattle.pdf_codes.specs.Cmaps.Leading.{are_cids, own_cmap, pairs_of_codes, pairs_with, text_of}
-use Rattle.pdf_codes.specs.declared.shown.Shown.{Shown}
 use Rattle.pdf_font.specs.PdfFont.{IsCidSetIf, IsPdfFont}
 use Rattle.pdf_font.specs.declared.font.PdfFont.{PdfFont}
 use Rattle.pdf_glyphs.specs.declared.columns.Columns.{Columns}
 use Rattle.pdf_moved.specs.Values.{weight_at}
-use Rattle.pdf_objects.specs.Glyphs.{AreGlyphsOf as AreGlyphsOfFont, advance_by as font_advance_by, advance_of as font_advance_of, size_of as font_size_of}
-use Rattle.pdf_objects.specs.Values.{AreValuesOf as AreValuesOfFont, IsDescriptorOf as IsDescriptorOfFont, default_column as font_default, w2_text as font_w2}
-use Rattle.pdf_sheet.specs.declared.glyphs.SheetGlyph.{SheetGlyph}
+use Rattle.pdf_objects.specs.View.{IsDescriptorOf as IsDescriptorOfFont, IsViewOf as IsViewOfFont}
+use Rattle.pdf_objects.specs.declared.view.FontView.{FontView}
 use Rattle.pdf_source.specs.Chosen.{is_vertical}
 use Rattle.pdf_source.specs.Cff.{font_stem}
 use Rattle.pdf_source.specs.Moved.{Location, kept_in, location_in, movement_of, values_by}
 use Rattle.pdf_source.specs.Source.{tables_of}
 use Rattle.pdf_source.specs.declared.choice.FontOptions.{FontOptions}
-use Rattle.pdf_text.specs.Metrics.Arrays.{array_text, entries}
 use Rattle.pdf_text.specs.Cmaps.CmapName.{code_lines, name_back, name_front, name_of_codes}
-use Rattle.pdf_text.specs.Metrics.Columns.{columns_text, no_column as no_text_column, spans}
 use Rattle.pdf_text.specs.Cmaps.Encoding.{Pair}
 use Rattle.pdf_text.specs.declared.metrics.columns.Column.{Column}
+use Rattle.pdf_text.specs.declared.metrics.columns.DefaultColumn.{DefaultColumn}
 use Rattle.pdf_text.specs.declared.cmaps.named.NamedCmap.{NamedCmap}
 use Rattle.pdf_text.specs.declared.values.Descriptor.{Descriptor}
-use Rattle.pdf_text.specs.declared.values.FontValues.{FontValues}
 use Rattle.pdf_text.specs.declared.values.ProgramKind.{ProgramKind}
 use Rattle.pdf_text.specs.declared.values.ProgramKind.TheVariants.{TrueType, BareCff, OpenType}
 use Rattle.pdf_values.specs.Looks.Weight.{font_weight, weight_of as weight_said}
 use Rattle.pdf_values.specs.declared.looks.bounds.Bounds.{Bounds}
 use Rattle.pdf_values.specs.declared.looks.bounds.GlyphBox.{GlyphBox}
-use Rattle.pdf_codes.specs.Shown.{texts_of}
-use Rattle.subsetter_pdf_c.specs.Made.{AreValuesOf, IsDescriptorOf, column_of, columns_text_of, default_column as default_by, is_yes, kind_of, no_column, unless_empty, weight_of}
-use Rattle.subsetter_pdf_c.specs.Written.{AreGlyphsOf, advance_by, advance_of, size_of}
-use Rattle.subsetter_pdf_c.specs.declared.made.PdfColumn.{PdfColumn}
+use Rattle.subsetter_pdf_c.specs.Made.{IsDescriptorOf, IsViewOf, kind_of, unless_empty, unless_zero, weight_of}
 use Rattle.subsetter_pdf_c.specs.declared.made.PdfMade.{PdfMade}
-use Rattle.subsetter_pdf_c.proofs.Steps.{length_texts}
-use Rattle.subsetter_c.specs.Documents.PdfFonts.{IsLaidOut, bytes_of, c_column, cmap_name, cmap_text, columns_of, default_column as c_default, is_there, kind_number, or_zero, vertical_number}
+use Rattle.subsetter_c.specs.Documents.PdfFonts.{IsLaidOut, bytes_of, cmap_name, cmap_text, columns_of, default_column, is_there, kind_number, or_zero, vertical_number}
 
 -- ---- numbers
 
@@ -50,14 +42,7 @@ kind_back TrueType = refl
 kind_back BareCff = refl
 kind_back OpenType = refl
 
-vertical_back : (cs : Option Columns) → is_yes (vertical_number cs) ≡ is_some cs
-vertical_back None = refl
-vertical_back (Some c) = refl
-
-abbrev height_by : ℕ → ℤ → Option ℤ
-height_by there x = if there == 0 then None else Some x
-
-height_back : (h : Option ℤ) → height_by (is_there h) (or_zero h) ≡ h
+height_back : (h : Option ℤ) → unless_zero (is_there h) (or_zero h) ≡ h
 height_back None = refl
 height_back (Some x) = refl
 
@@ -71,23 +56,17 @@ weight_back (Some p) stem kept find choice settings = weight_fits (weight_at (mo
 
 -- ---- columns
 
-columns_back : (cs : List Column) → map column_of (map c_column cs) ≡ cs
-columns_back [] = refl
-columns_back (c ∷ cs) = ap (λ (l : List Column). c ∷ l) (columns_back cs)
+each_back : (cs : Option Columns) → unless_zero (vertical_number cs) (columns_of cs) ≡ option_map (λ (c : Columns). c.each.items) cs
+each_back None = refl
+each_back (Some c) = refl
 
-abbrev w2_by : ℕ → List ℤ → List PdfColumn → List ℕ
-w2_by vertical default columns = columns_text_of vertical (record { y = get_or default 0 (pos 0); advance = get_or default 1 (pos 0) }) columns
+-- y of DW2, and its advance
+abbrev default_in : List ℤ → DefaultColumn
+default_in default = record { y = get_or default 0 (pos 0); advance = get_or default 1 (pos 0) }
 
-w2_back : (cs : Option Columns) → w2_by (vertical_number cs) (c_default cs) (columns_of cs) ≡ font_w2 cs
-w2_back None = refl
-w2_back (Some c) = ap (λ (l : List Column). columns_text (spans c.default l)) (columns_back c.each.items)
-
-abbrev dw2_by : ℕ → List ℤ → Option (List ℤ)
-dw2_by vertical default = default_by vertical (get_or default 0 (pos 0)) (get_or default 1 (pos 0))
-
-dw2_back : (cs : Option Columns) → dw2_by (vertical_number cs) (c_default cs) ≡ font_default cs
-dw2_back None = refl
-dw2_back (Some c) = refl
+default_back : (cs : Option Columns) → unless_zero (vertical_number cs) (default_in (default_column cs)) ≡ option_map (λ (c : Columns). c.default) cs
+default_back None = refl
+default_back (Some c) = refl
 
 -- ---- lists that aren't empty
 
@@ -143,26 +122,20 @@ module _ (f : PdfFont) (made : PdfMade) (laid : IsLaidOut f made) where
     ascent = h.ascent ∙ laid.numbers.ascent;
     descent = h.descent ∙ laid.numbers.descent;
     cap_height = h.cap_height ∙ laid.numbers.cap_height;
-    x_height = h.x_height ∙ ap (λ (n : ℕ). height_by n made.numbers.x_height) laid.numbers.has_x_height ∙ ap (height_by (is_there f.descriptor.values.heights.x_height)) laid.numbers.x_height ∙ height_back f.descriptor.values.heights.x_height;
+    x_height = h.x_height ∙ ap (λ (n : ℕ). unless_zero n made.numbers.x_height) laid.numbers.has_x_height ∙ ap (unless_zero (is_there f.descriptor.values.heights.x_height)) laid.numbers.x_height ∙ height_back f.descriptor.values.heights.x_height;
     stem_v = h.stem_v ∙ laid.numbers.stem_v;
     font_weight = h.font_weight ∙ ap weight_of laid.numbers.font_weight ∙ fits;
   }
 
-  default_back : dw2_by made.numbers.is_vertical made.numbers.default_column ≡ font_default f.columns
-  default_back =
-      ap (λ (n : ℕ). dw2_by n made.numbers.default_column) laid.numbers.is_vertical
-      ∙ ap (dw2_by (vertical_number f.columns)) laid.numbers.default_column_is ∙ dw2_back f.columns
+  each_is : unless_zero made.numbers.is_vertical made.columns.now ≡ option_map (λ (c : Columns). c.each.items) f.columns
+  each_is =
+      ap (λ (n : ℕ). unless_zero n made.columns.now) laid.numbers.is_vertical
+      ∙ ap (λ (cs : List Column). unless_zero (vertical_number f.columns) cs) laid.columns ∙ each_back f.columns
 
-  w2_is : w2_by made.numbers.is_vertical made.numbers.default_column made.columns.now ≡ font_w2 f.columns
-  w2_is =
-      ap (λ (n : ℕ). w2_by n made.numbers.default_column made.columns.now) laid.numbers.is_vertical
-      ∙ ap (λ (d : List ℤ). w2_by (vertical_number f.columns) d made.columns.now) laid.numbers.default_column_is
-      ∙ ap (w2_by (vertical_number f.columns) (c_default f.columns)) laid.columns ∙ w2_back f.columns
-
-  w_is : array_text (entries made.widths.now made.numbers.default_width) ≡ array_text (entries f.widths.items f.default_width)
-  w_is =
-      ap (λ (ws : List ℕ). array_text (entries ws made.numbers.default_width)) laid.widths
-      ∙ ap (λ (n : ℕ). array_text (entries f.widths.items n)) laid.numbers.default_width
+  default_is : unless_zero made.numbers.is_vertical (default_in made.numbers.default_column) ≡ option_map (λ (c : Columns). c.default) f.columns
+  default_is =
+      ap (λ (n : ℕ). unless_zero n (default_in made.numbers.default_column)) laid.numbers.is_vertical
+      ∙ ap (λ (d : List ℤ). unless_zero (vertical_number f.columns) (default_in d)) laid.numbers.default_column_is ∙ default_back f.columns
 
   name_is : (vertical : Bool) (ps : List Pair) → text_of f.encoding ≡ own_cmap vertical ps → unless_empty made.encoding.now made.encoding_name.now ≡ option_map (λ (c : NamedCmap). c.name.items) f.encoding
   name_is vertical ps h =
@@ -189,66 +162,22 @@ some_cid font settings options us f p =
 weight_is : (font : Font) (settings : List (Tag × ℤ)) (options : FontOptions) (us : List Used) (f : PdfFont) → IsPdfFont font settings options us f → weight_of f.descriptor.values.font_weight ≡ f.descriptor.values.font_weight
 weight_is font settings options us f p = rw p.made.values (weight_back (location_in (stored font) settings) (font_stem (stored font) (stored (as_font p.made.new.font.items))) (kept_in (stored font) (stored (as_font p.made.new.font.items)) f.glyph_count) (stored font) options.bounds settings)
 
-pub values_are_of_the_font : (font : Font) (settings : List (Tag × ℤ)) (options : FontOptions) (us : List Used) (f : PdfFont) (made : PdfMade) → IsPdfFont font settings options us f → IsLaidOut f made → (v : FontValues) → AreValuesOf made v → AreValuesOfFont f v
-values_are_of_the_font font settings options us f made p laid v h =
+pub views_are_of_the_font : (font : Font) (settings : List (Tag × ℤ)) (options : FontOptions) (us : List Used) (f : PdfFont) (made : PdfMade) → IsPdfFont font settings options us f → IsLaidOut f made → (w : FontView) → IsViewOf made w → IsViewOfFont f w
+views_are_of_the_font font settings options us f made p laid w h =
     let ps = pairs_with f.codes.items f.cids.items in
     record {
       kind = h.kind ∙ ap kind_of laid.numbers.kind ∙ kind_back f.kind;
-      descriptor = descriptor_back f made laid v.descriptor (weight_is font settings options us f p) h.descriptor;
-      vertical = h.vertical ∙ ap is_yes laid.numbers.is_vertical ∙ vertical_back f.columns;
+      descriptor = descriptor_back f made laid w.values.descriptor (weight_is font settings options us f p) h.descriptor;
+      widths = h.widths ∙ laid.widths;
       default_width = h.default_width ∙ laid.numbers.default_width;
-      widths = h.widths ∙ w_is f made laid;
-      default_column = h.default_column ∙ default_back f made laid;
-      columns = h.columns ∙ w2_is f made laid;
+      columns = h.columns ∙ each_is f made laid;
+      default_column = h.default_column ∙ default_is f made laid;
       program = h.program ∙ laid.program;
       to_unicode = h.to_unicode ∙ laid.to_unicode;
       cmap_name = h.cmap_name ∙ name_is f made laid (is_vertical options.direction) ps p.made.filled.coded.encoding;
       cmap_text = h.cmap_text ∙ text_is f made laid (is_vertical options.direction) ps p.made.filled.coded.encoding;
       cid_set = h.cid_set ∙ set_is f made laid options.cid_set p.made.filled.cid_set (some_cid font settings options us f p);
+      cids = h.cids ∙ laid.cids;
+      codes = h.codes ∙ laid.codes;
+      is_said = h.is_said ∙ laid.is_said;
     }
-
--- ---- the glyphs
-
-map_same : {X Y : Type 0} (g h : X → Y) → ((x : X) → g x ≡ h x) → (xs : List X) → map g xs ≡ map h xs
-map_same g h same [] = refl
-map_same {X} {Y} g h same (x ∷ xs) = ap (λ (l : List Y). g x ∷ l) (map_same g h same xs) ∙ ap (λ (y : Y). y ∷ map h xs) (same x)
-
-column_found : (cs : List Column) (k : ℕ) → (get_or (map c_column cs) k no_column).advance ≡ (get_or cs k no_text_column).advance
-column_found [] k = refl
-column_found (c ∷ cs) zero = refl
-column_found (c ∷ cs) (suc k) = column_found cs k
-
-advance_found : (cs : Option Columns) (widths : List ℕ) (cid : ℕ) → advance_by (vertical_number cs) (columns_of cs) widths cid ≡ font_advance_by cs widths cid
-advance_found None widths cid = refl
-advance_found (Some c) widths cid = ap unsigned_abs (column_found c.each.items cid)
-
-abbrev least : ℕ → ℕ → ℕ → ℕ → ℕ
-least a b c d = min (min a b) (min c d)
-
-module _ (f : PdfFont) (made : PdfMade) (laid : IsLaidOut f made) where
-  advance_is : (cid : ℕ) → advance_of made cid ≡ font_advance_of f cid
-  advance_is cid =
-      ap (λ (n : ℕ). advance_by n made.columns.now made.widths.now cid) laid.numbers.is_vertical
-      ∙ ap (λ (cs : List PdfColumn). advance_by (vertical_number f.columns) cs made.widths.now cid) laid.columns
-      ∙ ap (λ (ws : List ℕ). advance_by (vertical_number f.columns) (columns_of f.columns) ws cid) laid.widths
-      ∙ advance_found f.columns f.widths.items cid
-
-  size_is : (shown : List Shown) → size_of made (texts_of shown) ≡ font_size_of f shown
-  size_is shown =
-      ap (λ (l : List ℕ). least (length l) (length made.cids.now) (length made.is_said.now) (length (texts_of shown))) laid.codes
-      ∙ ap (λ (l : List ℕ). least (length f.codes.items) (length l) (length made.is_said.now) (length (texts_of shown))) laid.cids
-      ∙ ap (λ (l : List Bool). least (length f.codes.items) (length f.cids.items) (length l) (length (texts_of shown))) laid.is_said
-      ∙ ap (least (length f.codes.items) (length f.cids.items) (length f.is_said.items)) (length_texts shown)
-
-  pub glyphs_are : (shown : List Shown) (gs : List SheetGlyph) → AreGlyphsOf made (texts_of shown) gs → AreGlyphsOfFont f shown gs
-  glyphs_are shown gs h =
-      let size = size_is shown in
-      record {
-        codes = h.codes ∙ ap (λ (n : ℕ). take n made.codes.now) size ∙ ap (take (font_size_of f shown)) laid.codes;
-        is_said = h.is_said ∙ ap (λ (n : ℕ). take n made.is_said.now) size ∙ ap (take (font_size_of f shown)) laid.is_said;
-        texts = h.texts_are ∙ ap (λ (n : ℕ). take n (texts_of shown)) size;
-        advances = h.advances ∙ ap (λ (n : ℕ). map (advance_of made) (take n made.cids.now)) size ∙ ap (λ (l : List ℕ). map (advance_of made) (take (font_size_of f shown) l)) laid.cids ∙ map_same (advance_of made) (font_advance_of f) advance_is (take (font_size_of f shown) f.cids.items);
-      }
-
-pub glyphs_are_of_the_font : (f : PdfFont) (made : PdfMade) → IsLaidOut f made → (shown : List Shown) (gs : List SheetGlyph) → AreGlyphsOf made (texts_of shown) gs → AreGlyphsOfFont f shown gs
-glyphs_are_of_the_font f made laid shown gs h = glyphs_are f made laid shown gs h

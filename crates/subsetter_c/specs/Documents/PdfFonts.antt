@@ -1,5 +1,5 @@
 -- How a font for a PDF is handed to C: by its lists, its numbers and a status.
-use Rattle.std.specs.Prelude.{◌≡◌, ◌⊎◌, ℕ, Bool, true, false, if◌then◌else◌, List, [], ◌∷◌, map, codes, Option, Some, None, ℤ, pos, Vec}
+use Rattle.std.specs.Prelude.{◌≡◌, ◌⊎◌, ℕ, Bool, true, false, if◌then◌else◌, List, [], ◌∷◌, codes, Option, Some, None, ℤ, pos, Vec}
 use Rattle.std.specs.Global.{Global}
 use Rattle.subsetter_base.specs.declared.error.Error.{Error}
 use Rattle.subsetter_base.specs.declared.error.Error.TheVariants.{OutOfMemory}
@@ -22,7 +22,6 @@ use Rattle.pdf_font.specs.PdfFont.{HasFontFault, HasNoPdfFont, IsPdfFont, font_o
 use Rattle.pdf_font.specs.declared.error.FontError.{FontError}
 use Rattle.pdf_font.specs.declared.error.FontError.TheVariants.{Subset, NotPermitted, TextTooLong}
 use Rattle.pdf_font.specs.declared.font.PdfFont.{PdfFont}
-use Rattle.subsetter_pdf_c.specs.declared.made.PdfColumn.{PdfColumn}
 use Rattle.subsetter_pdf_c.specs.declared.made.PdfMade.{PdfMade}
 use Rattle.subsetter_pdf_c.specs.declared.made.PdfNumbers.{PdfNumbers}
 use Rattle.subsetter_c.specs.Documents.PdfOptions.{AreFontOptionsChosen}
@@ -86,13 +85,9 @@ no_numbers = record { kind = 0; is_vertical = 0; default_width = 0; default_colu
 
 -- ---- lists
 
--- a column as C has it
-abbrev pub c_column : Column → PdfColumn
-c_column c = record { advance = c.advance; x = c.x; y = c.y }
-
-abbrev pub columns_of : Option Columns → List PdfColumn
+abbrev pub columns_of : Option Columns → List Column
 columns_of None = []
-columns_of (Some c) = map c_column c.each.items
+columns_of (Some c) = c.each.items
 
 abbrev pub cmap_text : Option NamedCmap → List ℕ
 cmap_text None = []

@@ -2,17 +2,8 @@
 
 ghost use Rattle.std.specs.Prelude.{◌≡◌};
 
-use subsetter_pdf_c::PdfColumn;
-
-/// Bytes.
-pub fn kept_bytes(bytes: Vec<u8>) -> &'static [u8]
-    ensures { result.now ≡ bytes.items }
-{
-    if bytes.is_empty() {
-        return &[];
-    }
-    bytes.leak()
-}
+use pdf_text::Column;
+pub use subsetter_pdf_c::kept_bytes;
 
 /// Numbers of 16 bits.
 pub fn kept_shorts(numbers: Vec<u16>) -> &'static [u16]
@@ -55,7 +46,7 @@ pub fn kept_flags(flags: Vec<bool>) -> &'static [bool]
 }
 
 /// Columns.
-pub fn kept_columns(columns: Vec<PdfColumn>) -> &'static [PdfColumn]
+pub fn kept_columns(columns: Vec<Column>) -> &'static [Column]
     ensures { result.now ≡ columns.items }
 {
     if columns.is_empty() {

@@ -68,7 +68,7 @@ fn make_font(
         return INVALID_TEXT;
     }
     let answer = font_for(alloc, font, index, coordinates, glyphs, text, ends, options);
-    hand_font(alloc, answer, made)
+    hand_font(answer, made)
 }
 
 /// All that a PDF has of a font for glyphs with their texts, in memory of the library; the words are those of

@@ -7,11 +7,9 @@ ghost use Rattle.subsetter_sfnt.specs.FontAt.{font_at};
 ghost use Rattle.subsetter_variable.specs.Subset.{HasOpeningFaultAt};
 ghost use Rattle.pdf_codes.specs.declared.shown.Shown.{Shown as SpecShown};
 ghost use Rattle.pdf_font.specs.PdfFont.{IsPdfFont, font_of};
-ghost use Rattle.pdf_font.specs.declared.error.FontError.TheVariants.{Subset};
-ghost use Rattle.pdf_font.specs.declared.font.PdfFont.{PdfFont as SpecPdfFont};
 ghost use Rattle.subsetter_pdf_c.specs.Entries.{AreTexts, are_ascending, are_scalars, texts_from, uses_in};
 ghost use Rattle.pdf_codes.specs.Shown.{texts_of};
-ghost use Rattle.subsetter_c.specs.Documents.PdfFonts.{AreNumbersOf, IsEmpty, IsFontRefused, IsHandedBy, IsLaidOut, bytes_of, c_column, cmap_name, cmap_text, columns_of, default_column, is_there, kind_number, no_numbers, number_of, or_zero, refusal_status, usage_number, vertical_number};
+ghost use Rattle.subsetter_c.specs.Documents.PdfFonts.{AreNumbersOf, IsEmpty, IsFontRefused, IsHandedBy, IsLaidOut, bytes_of, cmap_name, cmap_text, columns_of, default_column, is_there, kind_number, no_numbers, number_of, or_zero, refusal_status, usage_number, vertical_number};
 ghost use Rattle.subsetter_c.specs.Settings.{settings_of};
 
 use crate::answers::kept::{kept_bytes, kept_columns, kept_flags, kept_shorts, kept_words};
@@ -23,7 +21,7 @@ use pdf_font::{
 };
 use std::alloc::Global;
 use subsetter::{Error, Extras, Tag};
-use subsetter_pdf_c::{PdfColumn, PdfMade, PdfNumbers, characters_of, shown_of};
+use subsetter_pdf_c::{PdfMade, PdfNumbers, characters_of, shown_of};
 use subsetter_variable::check_opening_at;
 
 // ---- numbers
@@ -154,37 +152,13 @@ fn no_numbers() -> PdfNumbers
 
 // ---- lists
 
-/// A column as C has it.
-fn c_column(column: Column) -> PdfColumn
-    ensures { result ≡ c_column column }
-{
-    PdfColumn {
-        advance: column.advance,
-        x: column.x,
-        y: column.y,
-    }
-}
-
-/// Columns as C has them.
-fn c_columns(alloc: Global, columns: &[Column]) -> Result<Vec<PdfColumn>, Error>
-    ensures ok { IfOk result (λ v. v.items ≡ map c_column columns.now) }
-    ensures err { IfErr result (λ e. e ≡ OutOfMemory) }
-{
-    let mut list = Vec::with_capacity(alloc, columns.len())?;
-    for column in columns {
-        list.push(c_column(*column))?;
-    }
-    Ok(list)
-}
-
-/// The columns of a font, as C has them.
-fn columns_of(alloc: Global, columns: &Option<Columns>) -> Result<Vec<PdfColumn>, Error>
-    ensures ok { IfOk result (λ v. v.items ≡ columns_of columns.now) }
-    ensures err { IfErr result (λ e. e ≡ OutOfMemory) }
+/// The columns of a font, if there are any.
+fn kept_each(columns: Option<Columns>) -> &'static [Column]
+    ensures { result.now ≡ columns_of columns }
 {
     match columns {
-        None => Ok(Vec::new(alloc)),
-        Some(columns) => c_columns(alloc, &columns.each),
+        None => &[],
+        Some(columns) => kept_columns(columns.each),
     }
 }
 
@@ -232,9 +206,8 @@ pub fn no_font() -> PdfMade
     }
 }
 
-/// A font that stays until the caller gives it back; its columns are these.
-fn laid_out(font: PdfFont, columns: Vec<PdfColumn>) -> PdfMade
-    requires { columns.items ≡ columns_of font.columns }
+/// A font that stays until the caller gives it back.
+fn laid_out(font: PdfFont) -> PdfMade
     ensures { IsLaidOut font result }
 {
     let numbers = numbers_of(&font);
@@ -245,7 +218,7 @@ fn laid_out(font: PdfFont, columns: Vec<PdfColumn>) -> PdfMade
         codes: kept_shorts(font.codes),
         is_said: kept_flags(font.is_said),
         widths: kept_words(font.widths),
-        columns: kept_columns(columns),
+        columns: kept_each(font.columns),
         font_name: kept_bytes(font.descriptor.font_name),
         to_unicode: kept_bytes(font.to_unicode),
         encoding,
@@ -374,24 +347,17 @@ pub fn font_for(
 }
 
 /// Hands a font over, or the error: the status.
-pub fn hand_font(alloc: Global, answer: Result<PdfFont, FontError>, made: &mut PdfMade) -> u32
-    ensures { IsHandedBy (λ f. answer ≡ Ok f) (λ e. (answer ≡ Err e) ⊎ ((f : SpecPdfFont) × (answer ≡ Ok f) × (e ≡ Subset OutOfMemory))) made.new result }
+pub fn hand_font(answer: Result<PdfFont, FontError>, made: &mut PdfMade) -> u32
+    ensures { IsHandedBy (λ f. answer ≡ Ok f) (λ e. answer ≡ Err e) made.new result }
 {
-    let font = match answer {
-        Ok(font) => font,
-        Err(error) => {
-            *made = no_font();
-            return refusal_status(error);
-        }
-    };
-    match columns_of(alloc, &font.columns) {
-        Ok(columns) => {
-            *made = laid_out(font, columns);
+    match answer {
+        Ok(font) => {
+            *made = laid_out(font);
             DONE
         }
         Err(error) => {
             *made = no_font();
-            status_of(error)
+            refusal_status(error)
         }
     }
 }

@@ -15,8 +15,8 @@ mod font;
 pub use crate::proved::pdf_codes::{codes_of, Codes, Shown};
 pub use crate::proved::pdf_glyphs::Columns;
 pub use crate::proved::pdf_source::{Descriptor, Direction, FontOptions, ProgramChoice, SubsetTag};
-pub use crate::proved::pdf_text::{Column, DefaultColumn, NamedCmap, ProgramKind};
-pub use crate::proved::pdf_values::{Bounds, Edges, Heights, Permission, Rights, Usage, Values};
+pub use crate::proved::pdf_text::{NamedCmap, ProgramKind};
+pub use crate::proved::pdf_values::{Bounds, Permission, Rights, Usage};
 #[cfg(feature = "program")]
 pub use crate::proved::subsetter::Limits;
 pub use call::pdf_font;

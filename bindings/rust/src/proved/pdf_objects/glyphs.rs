@@ -3,54 +3,56 @@
 
 use crate::rattle::prelude::Vec;
 
-use crate::proved::pdf_font::{Columns, PdfFont, Shown};
+use crate::proved::pdf_font::Shown;
+use crate::proved::pdf_objects::view::FontView;
 use crate::proved::pdf_sheet::{width_of, SheetGlyph};
+use crate::proved::pdf_text::{Column, FontValues};
 use crate::proved::subsetter_base::Error;
 use crate::rattle::alloc::Global;
 
 /// The advance of a CID in vertical writing.
-fn column_advance(columns: &Columns, cid: u16) -> u32 {
+fn column_advance(columns: &[Column], cid: u16) -> u32 {
     let place = cid as usize;
-    if place < columns.each.len() {
-        return columns.each[place].advance.unsigned_abs();
+    if place < columns.len() {
+        return columns[place].advance.unsigned_abs();
     }
     0
 }
 
 /// How far a line goes on with a CID.
-fn advance_of(font: &PdfFont, cid: u16) -> u32 {
-    match &font.columns {
-        None => width_of(&font.widths, cid),
-        Some(columns) => column_advance(columns, cid),
+fn advance_of(values: FontValues<'_>, cid: u16) -> u32 {
+    match values.columns {
+        None => width_of(values.widths, cid),
+        Some(columns) => column_advance(columns.each, cid),
     }
 }
 
 /// How many entries have all that a sheet needs.
-fn size_of(font: &PdfFont, shown: &[Shown<'_>]) -> usize {
-    let coded = font.codes.len().min(font.cids.len());
-    coded.min(font.is_said.len().min(shown.len()))
+fn size_of(view: FontView<'_>, shown: &[Shown<'_>]) -> usize {
+    let coded = view.codes.len().min(view.cids.len());
+    coded.min(view.is_said.len().min(shown.len()))
 }
 
 /// An entry as a glyph of a sheet.
-fn glyph_at<'a>(font: &PdfFont, shown: &[Shown<'a>], place: usize) -> SheetGlyph<'a> {
+fn glyph_at<'a>(view: FontView<'_>, shown: &[Shown<'a>], place: usize) -> SheetGlyph<'a> {
     SheetGlyph {
-        code: font.codes[place],
-        is_said: font.is_said[place],
+        code: view.codes[place],
+        is_said: view.is_said[place],
         text: shown[place].text,
-        advance: advance_of(font, font.cids[place]),
+        advance: advance_of(view.values, view.cids[place]),
     }
 }
 
 /// The glyphs of a sheet.
 pub fn glyphs_of<'a>(
     alloc: Global,
-    font: &PdfFont,
+    view: FontView<'_>,
     shown: &[Shown<'a>],
 ) -> Result<Vec<SheetGlyph<'a>>, Error> {
-    let size = size_of(font, shown);
+    let size = size_of(view, shown);
     let mut glyphs = Vec::with_capacity(alloc, size)?;
     for place in 0..size {
-        glyphs.push(glyph_at(font, shown, place))?;
+        glyphs.push(glyph_at(view, shown, place))?;
     }
     Ok(glyphs)
 }

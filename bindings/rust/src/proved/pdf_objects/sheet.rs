@@ -3,9 +3,9 @@
 
 use crate::rattle::prelude::Vec;
 
-use crate::proved::pdf_font::{PdfFont, Shown};
+use crate::proved::pdf_font::Shown;
 use crate::proved::pdf_objects::glyphs::glyphs_of;
-use crate::proved::pdf_objects::values::{arrays_of, values_of};
+use crate::proved::pdf_objects::view::FontView;
 use crate::proved::pdf_sheet::Layout;
 use crate::proved::subsetter_base::Error;
 use crate::rattle::alloc::Global;
@@ -15,16 +15,15 @@ use crate::rattle::alloc::Global;
 ///
 /// # Errors
 ///
-/// - `OverflowError`: the objects have 10,000,000,000 bytes or more, their numbers don't fit 32 bits, or there are more than
-///   65,536 columns.
+/// - `OverflowError`: the objects have 10,000,000,000 bytes or more, their numbers don't fit 32 bits, or there are more columns
+///   than CIDs.
 /// - `OutOfMemory`: a request for memory was refused.
 pub fn write_sheet(
     alloc: Global,
-    font: &PdfFont,
+    view: FontView<'_>,
     shown: &[Shown<'_>],
     layout: Layout,
 ) -> Result<Vec<u8>, Error> {
-    let arrays = arrays_of(alloc, font)?;
-    let glyphs = glyphs_of(alloc, font, shown)?;
-    crate::proved::pdf_sheet::write_sheet(alloc, values_of(font, &arrays), &glyphs, layout)
+    let glyphs = glyphs_of(alloc, view, shown)?;
+    crate::proved::pdf_sheet::write_sheet(alloc, view.values, &glyphs, layout)
 }

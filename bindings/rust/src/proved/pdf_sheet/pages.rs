@@ -43,36 +43,32 @@ fn write_page_tree(text: &mut Vec<u8>, count: usize) -> Result<(), Error> {
     Ok(())
 }
 
-/// Writes the size of the pages.
+/// Writes the size of the pages, and the end of their root.
 fn write_size(text: &mut Vec<u8>, frame: Frame) -> Result<(), Error> {
     text.extend_from_slice(b"] /MediaBox [0 0 ")?;
     write_count(text, frame.width)?;
     text.extend_from_slice(b" ")?;
     write_count(text, frame.height)?;
-    Ok(())
-}
-
-/// Writes the font of the pages.
-fn write_resources(text: &mut Vec<u8>, font: usize) -> Result<(), Error> {
-    text.extend_from_slice(b"] /Resources << /Font << /F0 ")?;
-    write_reference(text, font)?;
-    text.extend_from_slice(b" >> >> >>")?;
+    text.extend_from_slice(b"] >>")?;
     Ok(())
 }
 
 /// The root of the pages.
-fn pages_value(alloc: Global, frame: Frame, count: usize, font: usize) -> Result<Vec<u8>, Error> {
+fn pages_value(alloc: Global, frame: Frame, count: usize) -> Result<Vec<u8>, Error> {
     let mut text = Vec::new(alloc);
     write_page_tree(&mut text, count)?;
     write_size(&mut text, frame)?;
-    write_resources(&mut text, font)?;
     Ok(text)
 }
 
-/// A page whose content has this number.
-fn page_value(alloc: Global, n: usize) -> Result<Vec<u8>, Error> {
-    let mut text = Vec::new(alloc);
-    text.extend_from_slice(b"<< /Type /Page /Parent 2 0 R /Contents ")?;
+/// A page that has the font with the first number, and the content with the second.
+fn page_value(alloc: Global, font: usize, n: usize) -> Result<Vec<u8>, Error> {
+    let mut text = Vec::from_slice(
+        alloc,
+        b"<< /Type /Page /Parent 2 0 R /Resources << /Font << /F0 ",
+    )?;
+    write_reference(&mut text, font)?;
+    text.extend_from_slice(b" >> >> /Contents ")?;
     write_reference(&mut text, n)?;
     text.extend_from_slice(b" >>")?;
     Ok(text)
@@ -108,10 +104,11 @@ fn push_page(
     alloc: Global,
     values: &mut Vec<Vec<u8>>,
     frame: Frame,
+    font: usize,
     number: usize,
     glyphs: &[SheetGlyph<'_>],
 ) -> Result<(), Error> {
-    values.push(page_value(alloc, number + 1)?)?;
+    values.push(page_value(alloc, font, number + 1)?)?;
     values.push(content_value(alloc, frame, glyphs)?)?;
     Ok(())
 }
@@ -126,13 +123,14 @@ fn push_pages(
     alloc: Global,
     values: &mut Vec<Vec<u8>>,
     frame: Frame,
+    font: usize,
     count: usize,
     glyphs: &[SheetGlyph<'_>],
 ) -> Result<(), Error> {
     let mut rest = glyphs;
     for page in 0..count {
         let size = page_size(rest.len());
-        push_page(alloc, values, frame, 3 + 2 * page, &rest[..size])?;
+        push_page(alloc, values, frame, font, 3 + 2 * page, &rest[..size])?;
         rest = &rest[size..];
     }
     Ok(())
@@ -143,15 +141,17 @@ fn push_all(
     alloc: Global,
     values: &mut Vec<Vec<u8>>,
     frame: Frame,
+    font: usize,
     layout: Layout,
     glyphs: &[SheetGlyph<'_>],
 ) -> Result<(), Error> {
     match layout {
-        Layout::Line => push_page(alloc, values, frame, 3, glyphs),
+        Layout::Line => push_page(alloc, values, frame, font, 3, glyphs),
         Layout::Grid => push_pages(
             alloc,
             values,
             frame,
+            font,
             page_count(layout, glyphs.len()),
             glyphs,
         ),
@@ -180,7 +180,7 @@ pub fn front_values(
         alloc,
         b"<< /Type /Catalog /Pages 2 0 R >>",
     )?)?;
-    values.push(pages_value(alloc, frame, count, font)?)?;
-    push_all(alloc, &mut values, frame, layout, glyphs)?;
+    values.push(pages_value(alloc, frame, count)?)?;
+    push_all(alloc, &mut values, frame, font, layout, glyphs)?;
     Ok(values)
 }

@@ -4,7 +4,7 @@
 use crate::rattle::prelude::Vec;
 
 use crate::proved::pdf_sheet::file::{body_of, checked, push_objects, write_table, Body};
-use crate::proved::pdf_sheet::frame::{frame_of, Layout};
+use crate::proved::pdf_sheet::frame::{frame_of, Frame, Layout};
 use crate::proved::pdf_sheet::glyphs::SheetGlyph;
 use crate::proved::pdf_sheet::pages::{front_values, page_count};
 use crate::proved::pdf_text::{write_objects, FontValues};
@@ -20,6 +20,11 @@ fn font_number(layout: Layout, size: usize) -> Result<u32, Error> {
     Ok(number as u32)
 }
 
+/// The page.
+fn frame_for(layout: Layout, values: FontValues<'_>, glyphs: &[SheetGlyph<'_>]) -> Frame {
+    frame_of(layout, values.columns.is_some(), glyphs)
+}
+
 /// Header and objects of a sheet, of whose font this is the number.
 fn sheet_body(
     alloc: Global,
@@ -28,7 +33,7 @@ fn sheet_body(
     layout: Layout,
     first: u32,
 ) -> Result<Body, Error> {
-    let frame = frame_of(layout, values.vertical, glyphs);
+    let frame = frame_for(layout, values, glyphs);
     let front = front_values(alloc, layout, frame, first as usize, glyphs)?;
     let mut body = body_of(alloc, &front)?;
     let font = write_objects(alloc, values, first)?;
@@ -42,7 +47,8 @@ fn sheet_body(
 ///
 /// # Errors
 ///
-/// - `OverflowError`: the numbers of objects don't fit 32 bits, or the objects have 10,000,000,000 bytes or more.
+/// - `OverflowError`: the numbers of objects don't fit 32 bits, the objects have 10,000,000,000 bytes or more, or there are more
+///   columns than CIDs.
 /// - `OutOfMemory`: a request for memory was refused.
 pub fn write_sheet(
     alloc: Global,

@@ -5,3 +5,4 @@ pub(crate) mod descriptor;
 pub(crate) mod entries;
 pub(crate) mod fonts;
 pub(crate) mod streams;
+pub(crate) mod widths;

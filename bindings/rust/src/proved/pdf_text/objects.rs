@@ -34,7 +34,8 @@ pub struct FontObjects {
 // ---- one object
 
 /// Writes the entries of an object's dictionary, but for a stream's Length.
-fn write_entries(
+pub(crate) fn write_entries(
+    alloc: Global,
     text: &mut Vec<u8>,
     object: Object,
     values: FontValues<'_>,
@@ -42,11 +43,11 @@ fn write_entries(
 ) -> Result<(), Error> {
     match object {
         Object::Font => write_font(text, values, references),
-        Object::CidFont => write_cid_font(text, values, references),
+        Object::CidFont => write_cid_font(alloc, text, values, references),
         Object::FontDescriptor => write_descriptor(text, values, references),
         Object::FontFile => write_program(text, values.kind, values.program.len()),
         Object::ToUnicode | Object::CidSet => Ok(()),
-        Object::Cmap => write_cmap(text, values.encoding, values.vertical),
+        Object::Cmap => write_cmap(text, values.encoding, values.columns.is_some()),
     }
 }
 
@@ -59,7 +60,7 @@ fn text_of_cmap(encoding: Option<OwnCmap<'_>>) -> Option<&[u8]> {
 }
 
 /// The bytes of an object that is a stream.
-fn bytes_of(object: Object, values: FontValues<'_>) -> Option<&[u8]> {
+pub(crate) fn bytes_of<'a>(object: Object, values: FontValues<'a>) -> Option<&'a [u8]> {
     match object {
         Object::Font | Object::CidFont | Object::FontDescriptor => None,
         Object::FontFile => Some(values.program),
@@ -79,7 +80,7 @@ fn write_stream(text: &mut Vec<u8>, bytes: &[u8]) -> Result<(), Error> {
 }
 
 /// Writes the end of a dictionary, and a stream's bytes.
-fn write_value_end(text: &mut Vec<u8>, bytes: Option<&[u8]>) -> Result<(), Error> {
+pub(crate) fn write_value_end(text: &mut Vec<u8>, bytes: Option<&[u8]>) -> Result<(), Error> {
     match bytes {
         Some(bytes) => write_stream(text, bytes),
         None => {
@@ -91,18 +92,20 @@ fn write_value_end(text: &mut Vec<u8>, bytes: Option<&[u8]>) -> Result<(), Error
 
 /// Writes the value of an object.
 fn write_value(
+    alloc: Global,
     text: &mut Vec<u8>,
     object: Object,
     values: FontValues<'_>,
     references: References,
 ) -> Result<(), Error> {
     text.extend_from_slice(b"<< ")?;
-    write_entries(text, object, values, references)?;
+    write_entries(alloc, text, object, values, references)?;
     write_value_end(text, bytes_of(object, values))
 }
 
 /// Writes an object with its number.
 fn write_object(
+    alloc: Global,
     text: &mut Vec<u8>,
     number: u32,
     object: Object,
@@ -111,7 +114,7 @@ fn write_object(
 ) -> Result<(), Error> {
     write_count(text, number as usize)?;
     text.extend_from_slice(b" 0 obj\n")?;
-    write_value(text, object, values, references)?;
+    write_value(alloc, text, object, values, references)?;
     text.extend_from_slice(b"\nendobj\n")?;
     Ok(())
 }
@@ -127,7 +130,7 @@ fn push_when(objects: &mut Vec<Object>, wanted: bool, object: Object) -> Result<
 }
 
 /// The objects of a font, in their order.
-fn objects_of(alloc: Global, values: FontValues<'_>) -> Result<Vec<Object>, Error> {
+pub(crate) fn objects_of(alloc: Global, values: FontValues<'_>) -> Result<Vec<Object>, Error> {
     let mut objects = Vec::from_slice(
         alloc,
         &[
@@ -177,7 +180,7 @@ fn write_all(
     let mut number = first;
     for object in objects {
         offsets.push(text.len())?;
-        write_object(&mut text, number, *object, values, references)?;
+        write_object(alloc, &mut text, number, *object, values, references)?;
         number += 1;
     }
     Ok(FontObjects { text, offsets })
@@ -197,7 +200,8 @@ fn checked(first: u32) -> Result<(), Error> {
 ///
 /// # Errors
 ///
-/// `OverflowError` if seven numbers from `first` on don't fit 32 bits, else `OutOfMemory` alone.
+/// - `OverflowError`: seven numbers from `first` on don't fit 32 bits, or there are more columns than CIDs.
+/// - `OutOfMemory`: a request for memory was refused.
 pub fn write_objects(
     alloc: Global,
     values: FontValues<'_>,
@@ -236,7 +240,7 @@ fn dictionary_of(
 ) -> Result<Vec<u8>, Error> {
     let mut text = Vec::new(alloc);
     text.extend_from_slice(b"<< ")?;
-    write_entries(&mut text, object, values, references)?;
+    write_entries(alloc, &mut text, object, values, references)?;
     text.extend_from_slice(b">>")?;
     Ok(text)
 }
@@ -259,7 +263,8 @@ fn dictionary_when(
 ///
 /// # Errors
 ///
-/// `OutOfMemory` alone.
+/// - `OverflowError`: there are more columns than CIDs.
+/// - `OutOfMemory`: a request for memory was refused.
 pub fn write_dictionaries(
     alloc: Global,
     values: FontValues<'_>,

@@ -20,7 +20,7 @@ mod rounding;
 mod units;
 
 pub use descriptor::{values_of, Known, Tables, Values};
-pub use looks::bounds::{bounds_of, Bounds, Edges, GlyphBox};
+pub use looks::bounds::{bounds_of, Bounds, GlyphBox};
 pub use looks::flags::flags_of;
 pub use looks::heights::Heights;
 pub use looks::lean::italic_angle;

@@ -4,7 +4,7 @@
 use crate::rattle::prelude::Vec;
 
 use crate::proved::pdf_font::{pdf_font, FontError, PdfFont, Permission, Shown};
-use crate::proved::pdf_objects::write_sheet;
+use crate::proved::pdf_objects::{view_of, write_sheet};
 use crate::proved::subset_pdf::options::{options_of, PdfRequest};
 use crate::proved::subset_pdf::shown::shown_of;
 use crate::proved::subsetter_base::Error;
@@ -51,7 +51,7 @@ fn drawn(
     font: PdfFont,
     shown: &[Shown<'_>],
 ) -> Result<Sheet, SheetError> {
-    match write_sheet(alloc, &font, shown, request.layout) {
+    match write_sheet(alloc, view_of(&font), shown, request.layout) {
         Ok(file) => Ok(Sheet { font, file }),
         Err(error) => Err(SheetError::Font(error)),
     }

@@ -41,23 +41,23 @@ fn files_are_whole(rt: HostRuntime) -> Result<(), Fail> {
 fn grids_have_further_pages(rt: HostRuntime) -> Result<(), Fail> {
     let glyphs = many(rt.alloc(), 193)?;
     let grid = write_sheet(rt.alloc(), values(false), &glyphs, Layout::Grid)?;
-    assert!(rt; grid.len() == 6993);
+    assert!(rt; grid.len() == 7032);
     assert!(rt; has_at(&grid, 5793, b"518 50 Tm\n<00BF> Tj\nE"));
     assert!(rt;
         has_at(
             &grid,
-            5896,
+            5935,
             b"6 0 obj\n<< /Length 43 >>\nstream\nBT\n/F0 36 Tf\n1 0 0 1 34 770 Tm\n<00C0> Tj\nET\nendstream\n"
         )
     );
-    assert!(rt; has_at(&grid, 6687, TABLE));
+    assert!(rt; has_at(&grid, 6726, TABLE));
     let few = many(rt.alloc(), 3)?;
     let line = write_sheet(rt.alloc(), values(true), &few, Layout::Line)?;
     assert!(rt;
         has_at(
             &line,
             64,
-            b"2 0 obj\n<< /Type /Pages /Count 1 /Kids [3 0 R ] /MediaBox [0 0 144 14400] /Resources << /Font << /F0 5 0"
+            b"2 0 obj\n<< /Type /Pages /Count 1 /Kids [3 0 R ] /MediaBox [0 0 144 14400] >>\nendobj\n3 0 obj\n<< /Type /Page /Parent 2 0 R /Resources << /Font << /F0 5 0"
         )
     );
     assert!(rt;

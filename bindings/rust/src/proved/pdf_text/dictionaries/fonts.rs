@@ -4,10 +4,12 @@
 use crate::rattle::prelude::Vec;
 
 use crate::proved::pdf_text::dictionaries::entries::{
-    write_entry, write_name, write_number, write_numbers, write_reference, write_reference_to,
+    write_entry, write_name, write_reference, write_reference_to,
 };
+use crate::proved::pdf_text::dictionaries::widths::write_metrics;
 use crate::proved::pdf_text::values::{FontValues, OwnCmap, ProgramKind, References};
 use crate::proved::subsetter_base::Error;
+use crate::rattle::alloc::Global;
 
 // ---- the font
 
@@ -46,20 +48,15 @@ fn write_base_font(text: &mut Vec<u8>, values: FontValues<'_>) -> Result<(), Err
     write_name_end(
         text,
         values.kind,
-        cmap_name(values.encoding, values.vertical),
+        cmap_name(values.encoding, values.columns.is_some()),
     )
 }
 
 /// Writes Encoding.
-fn write_encoding(
-    text: &mut Vec<u8>,
-    encoding: Option<OwnCmap<'_>>,
-    vertical: bool,
-    n: u32,
-) -> Result<(), Error> {
-    match encoding {
+fn write_encoding(text: &mut Vec<u8>, values: FontValues<'_>, n: u32) -> Result<(), Error> {
+    match values.encoding {
         Some(_) => write_reference(text, b"Encoding", n),
-        None => write_name(text, b"Encoding", identity_name(vertical)),
+        None => write_name(text, b"Encoding", identity_name(values.columns.is_some())),
     }
 }
 
@@ -87,7 +84,7 @@ pub fn write_font(
 ) -> Result<(), Error> {
     text.extend_from_slice(b"/Type /Font /Subtype /Type0 ")?;
     write_font_name(text, values)?;
-    write_encoding(text, values.encoding, values.vertical, references.encoding)?;
+    write_encoding(text, values, references.encoding)?;
     write_descendant(text, references.cid_font)?;
     write_reference(text, b"ToUnicode", references.to_unicode)
 }
@@ -110,31 +107,6 @@ fn write_glyph_map(text: &mut Vec<u8>, kind: ProgramKind) -> Result<(), Error> {
     }
 }
 
-/// Writes an array, if it has a member.
-fn write_members(text: &mut Vec<u8>, key: &[u8], value: &[u8]) -> Result<(), Error> {
-    if value.len() > 2 {
-        write_entry(text, key, value)
-    } else {
-        Ok(())
-    }
-}
-
-/// Writes DW2, if it isn't PDF's own.
-fn write_column(text: &mut Vec<u8>, column: Option<[i32; 2]>) -> Result<(), Error> {
-    match column {
-        Some(numbers) => write_numbers(text, b"DW2", &numbers),
-        None => Ok(()),
-    }
-}
-
-/// Writes DW, W, DW2 and W2.
-fn write_metrics(text: &mut Vec<u8>, values: FontValues<'_>) -> Result<(), Error> {
-    write_number(text, b"DW", values.default_width)?;
-    write_members(text, b"W", values.widths)?;
-    write_column(text, values.default_column)?;
-    write_members(text, b"W2", values.columns)
-}
-
 /// Writes the kind and the name of a CIDFont.
 fn write_cid_heading(text: &mut Vec<u8>, kind: ProgramKind, name: &[u8]) -> Result<(), Error> {
     text.extend_from_slice(b"/Type /Font ")?;
@@ -143,7 +115,13 @@ fn write_cid_heading(text: &mut Vec<u8>, kind: ProgramKind, name: &[u8]) -> Resu
 }
 
 /// Writes the entries of the CIDFont.
+///
+/// # Errors
+///
+/// - `OverflowError`: there are more columns than CIDs.
+/// - `OutOfMemory`: a request for memory was refused.
 pub fn write_cid_font(
+    alloc: Global,
     text: &mut Vec<u8>,
     values: FontValues<'_>,
     references: References,
@@ -154,5 +132,5 @@ pub fn write_cid_font(
     )?;
     write_reference(text, b"FontDescriptor", references.descriptor)?;
     write_glyph_map(text, values.kind)?;
-    write_metrics(text, values)
+    write_metrics(alloc, text, values)
 }

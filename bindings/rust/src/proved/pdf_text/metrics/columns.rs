@@ -8,13 +8,15 @@ use crate::proved::pdf_text::numbers::write_integer;
 use crate::proved::subsetter_base::Error;
 use crate::rattle::alloc::Global;
 
-/// A CID in vertical writing, in thousandths of the em.
+/// A CID in vertical writing, in thousandths of the em. C has it as it is.
 #[derive(Clone, Copy)]
+#[repr(C)]
 pub struct Column {
     /// The vertical displacement to the next glyph, mostly below 0.
     pub advance: i32,
-    /// The origin of vertical writing, from that of horizontal writing.
+    /// The origin of vertical writing, to the right of that of horizontal writing.
     pub x: i32,
+    /// And above it.
     pub y: i32,
 }
 

@@ -5,7 +5,7 @@ use Rattle.subsetter_pdf_c.specs.Entries.{are_texts, uses_in}
 use Rattle.subsetter_pdf_c.proofs.Steps.{texts_fit}
 use Rattle.subsetter_c.specs.Documents.PdfFonts.{IsFontRefused}
 use Rattle.subsetter_c.specs.Settings.{settings_of}
-use Rattle.subsetter_c.proofs.DocumentsLaws.PdfFonts.{font_handed, without_memory}
+use Rattle.subsetter_c.proofs.DocumentsLaws.PdfFonts.{font_handed}
 use Rattle.subsetter_c.proofs.documents.pdf_calls.make_font.Goals as goal
 
 pub font_for-answer-requires : goal.font_for-answer-requires
@@ -19,4 +19,4 @@ returns-clause-made c = λ h.
     let settings = settings_of c.args.coordinates.now in
     let us = uses_in c.args.glyphs.now c.args.text.now c.args.ends.now in
     font_handed (IsPdfFont font settings c.args.options.now us) (IsFontRefused font settings c.args.options.now us) c.font_for-answer.result c.hand_font.new.made c.hand_font.result
-    c.font_for-answer.ensures.ok c.font_for-answer.ensures.err (λ f is. without_memory font settings c.args.options.now us f is) c.hand_font.ensures
+    c.font_for-answer.ensures.ok c.font_for-answer.ensures.err c.hand_font.ensures
