@@ -65,7 +65,7 @@ def package():
 def rust(room, program):
     write(room / "src" / "main.rs", program)
     write(room / "Cargo.toml", '[package]\nname = "user"\nversion = "1.0.0"\nedition = "2021"\n\n[dependencies]\n'
-          f'subsetter = {{ path = "{ROOT}/bindings/rust", features = ["variable-fonts"] }}\n')
+          f'subsetter = {{ path = "{ROOT}/bindings/rust", features = ["pdf"] }}\n')
     run(room, "cargo", "run", "--quiet", "--offline", "--release", CARGO_TARGET_DIR=os.path.join(ROOT, "out", "examples"))
 
 

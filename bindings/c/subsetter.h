@@ -105,7 +105,9 @@ enum {
     /* The table `name`. */
     SUBSETTER_DROP_NAMES = 2,
     /* The names of glyphs: `post` has version 3.0, with its first 32 bytes alone. */
-    SUBSETTER_DROP_GLYPH_NAMES = 4
+    SUBSETTER_DROP_GLYPH_NAMES = 4,
+    /* All of these: the smallest font. */
+    SUBSETTER_SMALL = 7
 };
 
 /* All choices of a call. Later versions put further fields behind these; in each of them 0 is the default. A field past
@@ -446,6 +448,8 @@ enum {
 /* Whose permission counts (`rights`). */
 enum {
     /* That of the font's maker, as `fsType` of the table `OS/2` says it. */
+    SUBSETTER_RIGHTS_FROM_FONT = 0,
+    /* (its older name) */
     SUBSETTER_RIGHTS_AS_SAID = 0,
     /* The caller's, who may embed the font, whatever `fsType` says. */
     SUBSETTER_RIGHTS_HELD = 1

@@ -1,3 +1,13 @@
+/**
+ * Fonts cut down to some of their glyphs, for embedding in PDF. All that a PDF has of a font:
+ *
+ *     const subsetter = await load();
+ *     const font = subsetter.pdfFont(bytes, subsetter.glyphsOf(bytes, "Hello"));
+ *     font.objects(5), font.sheet();   // the objects for a PDF of your own, which names object 5; a whole PDF of one line
+ *
+ * The font alone is `subsetter.subset(bytes, [36, 68])`.
+ */
+
 /** Why a font can't be subset; its message says it in words, and its `name` is that of its class. */
 export class SubsetterError extends Error {}
 /** No OpenType font, or one without outlines. */
@@ -33,12 +43,16 @@ export interface Limits {
     /** At most so deep, from 1 to 255; the glyph's own charstring is at depth 1. Without it 64. */
     readonly depth?: number;
     /** The most bytes that the new font may have, of any kind, from 1 to 4294967295. Without it there is no bound. */
+    readonly mostBytes?: number;
+    /** @deprecated The older name of `mostBytes`. */
     readonly bytes?: number;
 }
 
 /** What is kept of a font besides its outlines and metrics: all, where nothing is said. */
 export interface Choices {
     readonly limits?: Limits;
+    /** True: the smallest font, without hinting, names and names of glyphs. */
+    readonly small?: boolean;
     /**
      * False: TrueType outlines lose their instructions, and the font its `cvt `, `fpgm` and `prep`. Some fonts draw by
      * instructions, and come to wrong shapes without them. The hints of CFF outlines stay.
@@ -96,6 +110,8 @@ export interface Shown {
 export interface PdfChoices {
     readonly limits?: Limits;
     /** As of `Choices`. */
+    readonly small?: boolean;
+    /** As of `Choices`. */
     readonly hinting?: boolean;
     /** Of a font with outlines in `CFF ` the bytes of `CFF ` alone, the smallest, or the whole file (PDF 1.6). */
     readonly program?: "smallest" | "opentype";
@@ -103,7 +119,7 @@ export interface PdfChoices {
      * How glyphs get codes: consecutive, the CIDs, from 1 on; source, the glyph's number in the font; or one for each pair of a
      * glyph and a text, so that one glyph can say "B" and "b". Without it consecutive.
      */
-    readonly codes?: "consecutive" | "source" | "eachText";
+    readonly codes?: "consecutive" | "source" | "each_text" | /** @deprecated */ "eachText";
     /** True: text runs from top to bottom. */
     readonly vertical?: boolean;
     /** Whether FontBBox holds all glyphs of the font, or those kept. Without it those of the font. */
@@ -113,7 +129,7 @@ export interface PdfChoices {
     /** The six capitals in front of the font's name. Without them they are computed of the font program. */
     readonly tag?: string;
     /** Whether `fsType` of the table `OS/2` counts, or the caller holds the rights to embed the font. Without it `fsType`. */
-    readonly rights?: "asSaid" | "held";
+    readonly rights?: "from_font" | "held" | /** @deprecated */ "asSaid";
 }
 
 /** A CID in vertical writing (ISO 32000-1, 9.7.4.3), in thousandths of the em. */
@@ -177,7 +193,9 @@ export interface PdfFont {
     /** The code of each entry, which strings hold in two bytes, the higher first. */
     codes: number[];
     /** Of each entry whether readers find its text by its code; where they don't, ActualText says it (14.9.4). */
-    isSaid: boolean[];
+    textIsMapped: boolean[];
+    /** @deprecated The older name of `textIsMapped`. */
+    readonly isSaid: boolean[];
     /** The width of each CID, in thousandths of the em. */
     widths: number[];
     /** DW. */
@@ -208,6 +226,8 @@ export interface PdfFont {
      * long, or in a grid, 12 by 16 a page. Without a layout a line.
      */
     sheet(layout?: "line" | "grid"): Uint8Array;
+    /** Gives back what `objects` and `sheet` are written of: they throw a TypeError afterwards. All else stays. */
+    close(): void;
 }
 
 /**
@@ -220,6 +240,17 @@ export interface PdfFont {
 export interface Subsetter {
     /** The library's version, as "0.2.6+1". */
     readonly version: string;
+    /**
+     * All that a PDF has of a font for glyphs in order of use, with repeats if need be. Besides, NotPermitted and InvalidText are
+     * thrown. No value of the font descriptor is a reason: where a table is missing or cut, another source of the value is taken.
+     */
+    pdfFont(data: FontData, shown: Iterable<Shown>, options?: Face & PdfChoices & Place): PdfFont;
+    /**
+     * The glyph of each character of a text, by the font's table `cmap`, with the character: what `pdfFont` takes. The text
+     * isn't shaped: there are no ligatures, no kerning and no reordering, which Arabic or Devanagari need. A character that the
+     * font doesn't have gets glyph 0. MalformedFont is thrown where the font has no Unicode table of the formats 4 and 12.
+     */
+    glyphsOf(data: FontData, text: string, options?: Face): Shown[];
     /** The subset of a font for glyph 0 and the given glyphs. */
     subset(data: FontData, glyphs: Iterable<number>, options?: Face & Choices & Place): Uint8Array;
     /**
@@ -227,31 +258,20 @@ export interface Subsetter {
      * has no `hmtx` or no `head`, or 0 units per em. With coordinates a width is the advance that its glyph has there.
      */
     embed(data: FontData, glyphs: Iterable<number>, options?: Face & Choices & Place): Embedded;
-    /**
-     * The glyph of each character of a text, by the font's table `cmap`, with the character: what `pdfFont` takes. The text
-     * isn't shaped: there are no ligatures, no kerning and no reordering, which Arabic or Devanagari need. A character that the
-     * font doesn't have gets glyph 0. MalformedFont is thrown where the font has no Unicode table of the formats 4 and 12.
-     */
-    glyphsOf(data: FontData, text: string, options?: Face): Shown[];
-    /**
-     * All that a PDF has of a font for glyphs in order of use, with repeats if need be. Besides, NotPermitted and InvalidText are
-     * thrown. No value of the font descriptor is a reason: where a table is missing or cut, another source of the value is taken.
-     */
-    pdfFont(data: FontData, shown: Iterable<Shown>, options?: Face & PdfChoices & Place): PdfFont;
     /** Copies a font into the module, for any number of calls. What is wrong with it is told by the first of them. */
     open(data: FontData, options?: Face): Font;
 }
 
 /** A font in the module's memory. */
 export interface Font {
+    /** As `Subsetter.pdfFont`. */
+    pdfFont(shown: Iterable<Shown>, options?: PdfChoices & Place): PdfFont;
+    /** As `Subsetter.glyphsOf`. */
+    glyphsOf(text: string): Shown[];
     /** As `Subsetter.subset`. */
     subset(glyphs: Iterable<number>, options?: Choices & Place): Uint8Array;
     /** As `Subsetter.embed`. */
     embed(glyphs: Iterable<number>, options?: Choices & Place): Embedded;
-    /** As `Subsetter.glyphsOf`. */
-    glyphsOf(text: string): Shown[];
-    /** As `Subsetter.pdfFont`. */
-    pdfFont(shown: Iterable<Shown>, options?: PdfChoices & Place): PdfFont;
     /** Gives the font's memory back to later calls. Its other calls throw a TypeError afterwards. */
     close(): void;
 }

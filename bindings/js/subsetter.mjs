@@ -3,7 +3,8 @@
  *
  *     import { load } from "subsetter-proved";
  *     const subsetter = await load();
- *     const font = subsetter.subset(bytes, [36, 68]);
+ *     const font = subsetter.pdfFont(bytes, subsetter.glyphsOf(bytes, "Hello"));   // .objects(5), .sheet(), .codes, .widths ..
+ *     const alone = subsetter.subset(bytes, [36, 68]);
  *
  * `subsetter.d.mts` says what each call takes and answers, and README.md what is proved of it and what is tested.
  */
@@ -194,32 +195,35 @@ function coordinatesOf(coordinates) {
 }
 
 /** The choices of each call. */
-const CHOICES = ["limits", "hinting", "names", "glyphNames", "coordinates"];
+const CHOICES = ["limits", "small", "hinting", "names", "glyphNames", "coordinates"];
 
 /** The limits, what is dropped and the coordinates of the options. */
-function choicesOf({ limits, hinting, names, glyphNames, coordinates }) {
-    const { tokens = TOKENS, depth = DEPTH, bytes } = named(limits, ["tokens", "depth", "bytes"], "limits");
+function choicesOf({ limits, small = false, hinting, names, glyphNames, coordinates }) {
+    // (`bytes` is the older name of `mostBytes`)
+    const { tokens = TOKENS, depth = DEPTH, bytes, mostBytes = bytes } = named(limits, ["tokens", "depth", "mostBytes", "bytes"], "limits");
+    const dropped = (kept(hinting, "hinting") ? 0 : 1) | (kept(names, "names") ? 0 : 2) | (kept(glyphNames, "glyphNames") ? 0 : 4);
     return {
         tokens: whole(tokens, 1, WORD_AT_MOST, "tokens"),
         depth: whole(depth, 1, 255, "depth"),
-        bytes: bytes === undefined ? 0 : whole(bytes, 1, WORD_AT_MOST, "bytes"),
-        drop: (kept(hinting, "hinting") ? 0 : 1) | (kept(names, "names") ? 0 : 2) | (kept(glyphNames, "glyphNames") ? 0 : 4),
+        bytes: mostBytes === undefined ? 0 : whole(mostBytes, 1, WORD_AT_MOST, "mostBytes"),
+        drop: kept(small, "small") ? 7 : dropped,
         coordinates: coordinatesOf(coordinates),
     };
 }
 
-/** The number of a choice among names; else TypeError or RangeError. */
-function oneOf(value, names, what) {
+/** The number of a choice among names, or older names of these; else TypeError or RangeError. */
+function oneOf(value, names, what, older = {}) {
     if (value === undefined) {
         return 0;
     }
     if (typeof value !== "string") {
         throw new TypeError(`${what} must be a string, and not ${typeof value}`);
     }
-    if (!names.includes(value)) {
+    const name = Object.hasOwn(older, value) ? older[value] : value;
+    if (!names.includes(name)) {
         throw new RangeError(`${what} must be one of ${names.join(", ")}, and not ${shown(value)}`);
     }
-    return names.indexOf(value);
+    return names.indexOf(name);
 }
 
 /** The two words of a tag; 0 and 0 for none. Else TypeError or RangeError. */
@@ -237,19 +241,19 @@ function tagOf(tag) {
 }
 
 /** The choices of a font for a PDF. */
-const PDF_CHOICES = ["limits", "hinting", "coordinates", "program", "codes", "vertical", "bounds", "cidSet", "tag", "rights"];
+const PDF_CHOICES = ["limits", "small", "hinting", "coordinates", "program", "codes", "vertical", "bounds", "cidSet", "tag", "rights"];
 
 /** The same, and the further words of the options for a PDF. */
 function pdfChoicesOf(options) {
-    const { limits, hinting, coordinates, program, codes, vertical = false, bounds, cidSet = false, tag, rights } = options;
-    const chosen = choicesOf({ limits, hinting, coordinates });
+    const { limits, small, hinting, coordinates, program, codes, vertical = false, bounds, cidSet = false, tag, rights } = options;
+    const chosen = choicesOf({ limits, small, hinting, coordinates });
     const further = [
         oneOf(program, ["smallest", "opentype"], "program"),
-        oneOf(codes, ["consecutive", "source", "eachText"], "codes"),
+        oneOf(codes, ["consecutive", "source", "each_text"], "codes", { eachText: "each_text" }),
         kept(vertical, "vertical") ? 1 : 0,
         oneOf(bounds, ["font", "kept"], "bounds"),
         kept(cidSet, "cidSet") ? 1 : 0,
-        oneOf(rights, ["asSaid", "held"], "rights"),
+        oneOf(rights, ["from_font", "held"], "rights", { asSaid: "from_font" }),
         ...tagOf(tag),
     ];
     return { ...chosen, further };
@@ -481,7 +485,7 @@ class PdfFont {
         this.glyphCount = raw.widths.count;
         this.cids = list(2, raw.cids);
         this.codes = list(2, raw.codes);
-        this.isSaid = Array.from(raw.isSaid.bytes, (it) => it === 1);
+        this.textIsMapped = Array.from(raw.isSaid.bytes, (it) => it === 1);
         this.widths = list(4, raw.widths);
         this.defaultWidth = defaultWidth;
         if (isVertical) {
@@ -504,14 +508,30 @@ class PdfFont {
         }
     }
 
+    /** The older name of `textIsMapped`. */
+    get isSaid() {
+        return this.textIsMapped;
+    }
+
+    close() {
+        this.#raw = null;
+    }
+
+    #written(name, number, entries) {
+        if (!this.#raw) {
+            throw new TypeError("the font is closed");
+        }
+        return this.#library.write(name, this.#raw, this.#numbers, number, entries);
+    }
+
     objects(first) {
         const number = whole(first, 1, WORD_AT_MOST, "the first number");
-        return this.#library.write("subsetter_pdf_objects", this.#raw, this.#numbers, number, { glyphs: [], text: [], ends: [] });
+        return this.#written("subsetter_pdf_objects", number, { glyphs: [], text: [], ends: [] });
     }
 
     sheet(layout) {
         const number = oneOf(layout, ["line", "grid"], "layout");
-        return this.#library.write("subsetter_pdf_sheet", this.#raw, this.#numbers, number, this.#entries).bytes;
+        return this.#written("subsetter_pdf_sheet", number, this.#entries).bytes;
     }
 }
 

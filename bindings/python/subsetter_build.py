@@ -113,12 +113,13 @@ def library(target):
     cargo, folder = shutil.which("cargo"), crates()
     if not cargo:
         raise SystemExit("subsetter: there is no cargo on the PATH, and the library is built by it (Rust 1.63 or later)")
-    # (no path of this machine is in the library)
-    flags = f"{os.environ.get('RUSTFLAGS', '')} --remap-path-prefix={folder}=."
+    # (no path of this machine is in the library; in this variable, whose separator is no blank, a path may have one)
+    given = os.environ.get("CARGO_ENCODED_RUSTFLAGS", "\x1f".join(os.environ.get("RUSTFLAGS", "").split()))
+    flags = f"{given}\x1f--remap-path-prefix={folder}=.".lstrip("\x1f")
     with tempfile.TemporaryDirectory(prefix="subsetter-") as room:
         words = [cargo, "build", "--release", "--offline", "--locked", "--manifest-path", os.path.join(folder, "capi", "Cargo.toml")]
         words += ["--target-dir", room, *(["--target", target] if target else [])]
-        subprocess.run(words, check=True, env={**os.environ, "RUSTFLAGS": flags.strip()})
+        subprocess.run(words, check=True, env={**os.environ, "CARGO_ENCODED_RUSTFLAGS": flags})
         name = library_name(target)
         return name, read(room, target, "release", name) if target else read(room, "release", name)
 

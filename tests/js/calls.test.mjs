@@ -74,7 +74,7 @@ test("options", () => {
         wrongOptions(TypeError, { hinting: value });
         for (const name of ["names", "glyphNames"]) for (const call of callsOn(FONT, [1], { [name]: value })) throws(call, TypeError, name);
     }
-    for (const [name, most] of [["tokens", 2 ** 32 - 1], ["depth", 255], ["bytes", 2 ** 32 - 1]]) {
+    for (const [name, most] of [["tokens", 2 ** 32 - 1], ["depth", 255], ["mostBytes", 2 ** 32 - 1]]) {
         for (const value of ["5", null, 1n, [1], true]) wrongOptions(TypeError, { limits: { [name]: value } });
         for (const value of [0, -1, most + 1, 2 ** 53, 0.5, NaN, Infinity]) wrongOptions(RangeError, { limits: { [name]: value } });
         for (const value of [most, undefined]) assert.ok(subsetter.subset(FONT, [1], { limits: { [name]: value } }));

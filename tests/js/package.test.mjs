@@ -62,7 +62,7 @@ test("the types", () => {
     // What an interface names is there, and the other way.
     const members = (name) => [...new RegExp(`^export interface ${name} \\{\\n(.*?)^\\}`, "ms").exec(types)[1].matchAll(/^    (?:readonly )?(\w+)\??[(:]/gm)].map(([, it]) => it).sort();
     const own = (it) => [...Object.keys(it), ...Object.getOwnPropertyNames(Object.getPrototypeOf(it))].filter((name) => name !== "constructor").sort();
-    const font = read("bindings/rust/tests/data/made.ttf"), pdf = subsetter.pdfFont(font, [{ glyph: 1, text: "A" }, { glyph: 1, text: "a" }], { vertical: true, cidSet: true, codes: "eachText" });
+    const font = read("bindings/rust/tests/data/made.ttf"), pdf = subsetter.pdfFont(font, [{ glyph: 1, text: "A" }, { glyph: 1, text: "a" }], { vertical: true, cidSet: true, codes: "each_text" });
     assert.deepEqual(members("Subsetter"), Object.keys(subsetter).sort());
     assert.deepEqual(members("Font"), own(subsetter.open(font)));
     assert.deepEqual(members("PdfFont"), own(pdf));

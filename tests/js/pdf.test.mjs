@@ -28,8 +28,9 @@ test("texts", () => {
 test("choices", () => {
     const plain = subsetter.pdfFont(TTF, SHOWN), opened = subsetter.open(TTF);
     assert.equal(subsetter.pdfFont(TTF, SHOWN, { tag: "ZYXWVU" }).descriptor.fontName, "ZYXWVU+Made-Regular");
-    assert.deepEqual(subsetter.pdfFont(TTF, new Set(SHOWN), { codes: "eachText" }).codes, [1, 2, 3]);
-    assert.deepEqual(plain.isSaid, [true, true, false]);
+    assert.deepEqual(subsetter.pdfFont(TTF, new Set(SHOWN), { codes: "each_text" }).codes, [1, 2, 3]);
+    assert.deepEqual(subsetter.pdfFont(TTF, SHOWN, { codes: "eachText", rights: "asSaid", limits: { bytes: 99999 } }).isSaid, [true, true, true]);
+    assert.deepEqual(plain.textIsMapped, [true, true, false]);
     assert.deepEqual(plain.program, subsetter.embed(TTF, [1, 5], { names: false, glyphNames: false }).font);
     throws(() => subsetter.pdfFont(TTF, SHOWN, { limits: { bytes: 100 } }), OverflowError, "a bound");
     throws(() => subsetter.pdfFont(made("made_version_1.otf"), SHOWN, { limits: { tokens: 1 } }), CFFError, "a limit");
@@ -100,19 +101,21 @@ test("permissions, by fsType of OS/2", () => {
         new DataView(font.buffer).setUint16(at, Number(number));
         assert.deepEqual(subsetter.pdfFont(font, SHOWN, { rights: "held" }).permission, { usage, subsetting, outlines });
         if (usage === "restricted" || !subsetting || !outlines) throws(() => subsetter.pdfFont(font, SHOWN), NotPermitted, number);
-        else subsetter.pdfFont(font, SHOWN, { rights: "asSaid" });
+        else subsetter.pdfFont(font, SHOWN, { rights: "from_font" });
     }
 });
 
 test("what is changed in an answer is written nowhere", () => {
-    const shown = SHOWN.map((it) => ({ ...it })), font = subsetter.pdfFont(TTF, shown, { codes: "eachText", cidSet: true, vertical: true });
+    const shown = SHOWN.map((it) => ({ ...it })), font = subsetter.pdfFont(TTF, shown, { codes: "each_text", cidSet: true, vertical: true });
     const wanted = [font.objects(4), font.sheet(), font.sheet("grid")];
     shown.push({ glyph: 9, text: "H" });
-    for (const name of ["program", "toUnicode", "encoding", "cidSet", "codes", "cids", "widths", "isSaid"]) font[name].fill(0);
+    for (const name of ["program", "toUnicode", "encoding", "cidSet", "codes", "cids", "widths", "textIsMapped"]) font[name].fill(0);
     font.descriptor.flags = 7;
     font.objects(4).bytes.fill(0);
     for (let i = 0; i < 20; i++) subsetter.embed(TTF, [1, 2, 3, i % 9]);
     assert.deepEqual([font.objects(4), font.sheet(), font.sheet("grid")], wanted);
     const plain = subsetter.pdfFont(TTF, SHOWN);
+    font.close();
+    for (const call of [() => font.objects(4), () => font.sheet()]) throws(call, TypeError, "a closed font");
     assert.ok(!["columns", "defaultColumn", "encoding", "encodingName", "cidSet"].some((name) => name in plain));
 });

@@ -3,8 +3,8 @@
 const ERRORS = [, "UnknownKind", "MalformedFont", "Unimplemented", "SubsetError", "OverflowError", "CFFError", "OutOfMemory"];
 /** What a kind of row has between its glyphs and its status. */
 const FIELDS = {
-    "": [], limits: ["tokens", "depth"], options: ["tokens", "depth", "drop"], bounded_options: ["tokens", "depth", "drop", "bytes"],
-    at: ["coordinates", "tokens", "depth", "drop", "bytes"],
+    "": [], limits: ["tokens", "depth"], options: ["tokens", "depth", "drop"], bounded_options: ["tokens", "depth", "drop", "mostBytes"],
+    at: ["coordinates", "tokens", "depth", "drop", "mostBytes"],
 };
 
 const bytesOf = (word) => Uint8Array.from(word === "-" ? [] : word.match(/../g), (digits) => parseInt(digits, 16));
@@ -27,7 +27,8 @@ function optionsOf(kind, words) {
         if (Object.keys(options.coordinates).length < pairs.length) return undefined;
     }
     if (Number(drop) > 7) return undefined;
-    ["hinting", "names", "glyphNames"].forEach((name, i) => Number(drop) & (1 << i) && (options[name] = false));
+    if (Number(drop) === 7) options.small = true;
+    else ["hinting", "names", "glyphNames"].forEach((name, i) => Number(drop) & (1 << i) && (options[name] = false));
     // (0 is the default, but not where the row is one of limits)
     const named = Object.entries(limits).filter(([, word]) => kind === "limits" || word !== "0");
     if (named.length > 0) options.limits = Object.fromEntries(named.map(([name, word]) => [name, Number(word)]));
@@ -81,7 +82,7 @@ export function wrongRows(library, subsetter, table) {
 // ---- fonts for a PDF
 
 const PDF_OPTIONS = {
-    "direction=Vertical": { vertical: true }, "codes=Source": { codes: "source" }, "codes=EachText": { codes: "eachText" },
+    "direction=Vertical": { vertical: true }, "codes=Source": { codes: "source" }, "codes=EachText": { codes: "each_text" },
     "bounds=Kept": { bounds: "kept" }, "program=OpenType": { program: "opentype" }, "rights=Held": { rights: "held" }, cid_set: { cidSet: true },
 };
 const KINDS = { TrueType: "TrueType", CFF: "CIDFontType0C", OpenType: "OpenType" };
@@ -115,7 +116,7 @@ function fields(font) {
     const columns = font.columns && [...font.columns.map(({ advance, x, y }) => `${advance},${x},${y}`), ...Array(font.glyphCount - font.columns.length).fill("-")];
     const found = {
         kind: KINDS[font.kind], program: hexadecimal(font.program), glyph_count: font.glyphCount, cids: font.cids.join(" "), codes: font.codes.join(" "),
-        is_said: font.isSaid.map(Number).join(" "), widths: font.widths.join(" "), default_width: font.defaultWidth, columns: columns?.join(" "),
+        is_said: font.textIsMapped.map(Number).join(" "), widths: font.widths.join(" "), default_width: font.defaultWidth, columns: columns?.join(" "),
         dw2: font.defaultColumn?.join(" "), name: values.fontName, flags: values.flags, bounds: values.bounds.join(" "), angle: values.italicAngle,
         ascent: values.ascent, descent: values.descent, cap_height: values.capHeight, x_height: values.xHeight ?? "-", stem_v: values.stemV,
         font_weight: values.fontWeight, to_unicode: latin1(font.toUnicode), encoding: latin1(font.encoding), cid_set: font.cidSet ? hexadecimal(font.cidSet) : "-",
@@ -157,7 +158,7 @@ export function wrongPdfRows(library, subsetter, text, files) {
             check(!row.encoding || row.encoding.includes(`/CMapName /${font.encodingName} def`), "the name of its CMap");
             check(line === latin1(font.sheet("line")) && line.startsWith("%PDF-1.7\n") && line.endsWith("%%EOF\n"), "its sheet");
             check(line.includes(latin1(font.objects(5).bytes)) && grid.includes("[0 0 595 842]") && !line.includes("[0 0 595 842]"), "its pages");
-            check(line.includes("/ActualText") === font.isSaid.includes(false), "texts that codes don't say");
+            check(line.includes("/ActualText") === font.textIsMapped.includes(false), "texts that codes don't say");
         }
         opened.close();
     }

@@ -8,7 +8,7 @@ export async function accepted(data: Uint8Array, module: WebAssembly.Module): Pr
     const version: string = subsetter.version;
     let font: Uint8Array = subsetter.subset(data, [36, 68]);
     font = subsetter.subset(new DataView(data.buffer), new Set([1]), { index: 1, hinting: false, names: false, glyphNames: false });
-    font = subsetter.subset(data.buffer, Uint16Array.of(1), { limits: { tokens: 5, depth: 3, bytes: 7 }, coordinates: { wght: 650, wdth: 87.5 } });
+    font = subsetter.subset(data.buffer, Uint16Array.of(1), { small: true, limits: { tokens: 5, depth: 3, mostBytes: 7 }, coordinates: { wght: 650, wdth: 87.5 } });
     const embedded: Embedded = subsetter.embed(data, [36], { limits: {}, coordinates: {} });
     const numbers: number[][] = [embedded.cids, embedded.widths];
     const opened: Font = subsetter.open(data, { index: 0 });
@@ -21,7 +21,7 @@ export async function accepted(data: Uint8Array, module: WebAssembly.Module): Pr
 export function acceptedForPdf(subsetter: Subsetter, data: Uint8Array): void {
     const shown: Shown[] = subsetter.glyphsOf(data, "Hello", { index: 0 });
     let font: PdfFont = subsetter.pdfFont(data, shown);
-    font = subsetter.open(data).pdfFont(new Set(shown), { program: "opentype", codes: "eachText", vertical: true, bounds: "kept", cidSet: true });
+    font = subsetter.open(data).pdfFont(new Set(shown), { program: "opentype", codes: "each_text", vertical: true, bounds: "kept", cidSet: true });
     font = subsetter.pdfFont(data, [{ glyph: 5, text: "fi" }], { tag: "ABCDEF", rights: "held", hinting: false, limits: { tokens: 5 }, coordinates: { wght: 1 } });
     const bytes: Uint8Array[] = [font.program, font.toUnicode, font.sheet(), font.sheet("grid"), font.encoding ?? font.program, font.cidSet ?? font.program];
     const objects: Objects = font.objects(4);
@@ -30,7 +30,8 @@ export function acceptedForPdf(subsetter: Subsetter, data: Uint8Array): void {
     const { fontName, bounds: [left], italicAngle, xHeight } = font.descriptor;
     const numbers: number[] = [font.glyphCount, ...font.cids, ...font.codes, ...font.widths, font.defaultWidth, left, italicAngle, xHeight ?? 0, ...objects.offsets];
     const texts: string[] = [fontName, kind, font.encodingName ?? "", font.permission.usage];
-    const truths: boolean[] = [...font.isSaid, font.permission.subsetting, font.permission.outlines];
+    const truths: boolean[] = [...font.textIsMapped, font.permission.subsetting, font.permission.outlines];
+    font.close();
     console.log(bytes, columns, numbers, texts, truths, font.defaultColumn?.[1], columns[0]?.advance);
 }
 

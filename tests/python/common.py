@@ -56,7 +56,7 @@ def choices_of(kind, words):
     drop = int(fields.pop("drop", 0))
     if drop > 7 or int(fields.get("depth", 0)) > 255:
         return None
-    found.update({name: False for bit, name in DROPS.items() if drop & bit})
+    found.update({"small": True} if drop == 7 else {name: False for bit, name in DROPS.items() if drop & bit})
     # (0 is the default, but not where the row is one of limits)
     found.update({name: int(word) for name, word in fields.items() if kind == "limits" or word != "0"})
     return found

@@ -38,7 +38,7 @@ def examples():
 @pytest.fixture(scope="module")
 def room(tmp_path_factory):
     """A folder with the files of a clone that the module is built of, and an environment of Python."""
-    room = tmp_path_factory.mktemp("install")
+    room = tmp_path_factory.mktemp("an install")
     leave = shutil.ignore_patterns("target", "out", "__pycache__", "*.so")
     for name in ("python", "capi", "rust"):
         shutil.copytree(ROOT / "bindings" / name, room / "clone/bindings" / name, ignore=leave)

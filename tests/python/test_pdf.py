@@ -1,8 +1,10 @@
 """What the calls for PDF take and refuse, and what an answer is besides what the rows have of it."""
 
+import copy
 import ctypes
-import gc
+import pickle
 import re
+import warnings
 
 import pytest
 import subsetter
@@ -11,7 +13,7 @@ from hypothesis import given, strategies as st
 
 FONTS = read_rows()[1]
 TTF, SHOWN = made("made.ttf"), [(1, "A"), (5, "fi"), (1, "a")]
-NAMES = {"program": ["smallest", "opentype"], "codes": ["consecutive", "source", "each_text"], "bounds": ["font", "kept"], "rights": ["as_said", "held"]}
+NAMES = {"program": ["smallest", "opentype"], "codes": ["consecutive", "source", "each_text"], "bounds": ["font", "kept"], "rights": ["from_font", "held"]}
 
 
 def test_glyphs_of_a_text():
@@ -110,10 +112,10 @@ def test_the_program_is_that_of_embed():
 
 def test_choices():
     plain = subsetter.pdf_font(TTF, SHOWN)
-    assert plain.is_said == [True, True, False] and plain.codes == [1, 2, 1]
+    assert plain.text_is_mapped == [True, True, False] and plain.codes == [1, 2, 1]
     assert subsetter.pdf_font(TTF, SHOWN, codes="each_text").codes == [1, 2, 3]
     for name, known in NAMES.items():
-        for value in ("", " ", known[0].upper(), known[0] + " ", known[1] + "\n", ", ".join(known), "eachText", "asSaid"):
+        for value in ("", " ", known[0].upper(), known[0] + " ", known[1] + "\n", ", ".join(known), "eachText", "fromFont"):
             assert type(raised(subsetter.pdf_font, TTF, SHOWN, **{name: value})) is ValueError
         for value in (None, 0, 1, True, known[0].encode(), [known[0]]):
             assert type(raised(subsetter.pdf_font, TTF, SHOWN, **{name: value})) is TypeError
@@ -149,10 +151,22 @@ def test_what_is_changed_in_an_answer_is_written_nowhere():
     font = subsetter.pdf_font(TTF, shown, codes="each_text", cid_set=True, vertical=True)
     wanted = font.objects(4), font.sheet(), font.sheet("grid")
     shown.append((9, "H"))
-    for it in (font.cids, font.codes, font.widths, font.is_said, font.columns, font.objects(4).offsets):
+    for it in (font.cids, font.codes, font.widths, font.text_is_mapped, font.columns, font.objects(4).offsets):
         it.clear()
     font.program, font.to_unicode, font.encoding, font.cid_set, font.kind, font.glyph_count = b"", b"", None, None, "CFF", 0
-    assert (font.objects(4), font.sheet(), font.sheet("grid")) == wanted
+    with warnings.catch_warnings():
+        warnings.simplefilter("error")
+        for it in (font, copy.copy(font), copy.deepcopy(font), pickle.loads(pickle.dumps(font))):
+            assert (it.objects(4), it.sheet(), it.sheet("grid")) == wanted
+    with font:
+        pass
+    assert [type(raised(call)) for call in (lambda: font.objects(4), font.sheet)] == [ValueError, ValueError]
+
+
+def test_older_names():
+    for call in (lambda: subsetter.pdf_font(TTF, SHOWN).is_said, lambda: subsetter.pdf_font(TTF, SHOWN, rights="as_said").text_is_mapped):
+        with pytest.warns(DeprecationWarning):
+            assert call() == [True, True, False]
 
 
 def raising(error):
@@ -175,9 +189,7 @@ def test_what_the_library_hands_over_is_given_back_once(monkeypatch):
     font = subsetter.pdf_font(TTF, SHOWN)
     objects, program = font.objects(4), font.program
     assert raised(font.objects, 2**32 - 1) and font.sheet() and raised(subsetter.pdf_font, TTF[:40], SHOWN)
-    assert list(counts.values()) == [1, 1, 2, 0, 2, 1, 3]
-    del font
-    assert list(counts.values()) == [1, 1, 2, 1, 2, 1, 3]
+    assert list(counts.values()) == [1, 1, 2, 2, 2, 1, 3]
     assert len(program) > 100 and objects.bytes.startswith(b"4 0 obj")
     # So it is where there is no memory for a copy of an answer.
     font = subsetter.pdf_font(TTF, SHOWN)
@@ -185,16 +197,15 @@ def test_what_the_library_hands_over_is_given_back_once(monkeypatch):
         patch.setattr(ctypes, "string_at", raising(MemoryError("mine")))
         for call in (lambda: subsetter.subset(TTF, [1]), lambda: subsetter.pdf_font(TTF, SHOWN), lambda: font.objects(4)):
             assert str(raised(call)) == "mine"
-    gc.collect()
-    assert list(counts.values()) == [2, 2, 4, 2, 3, 1, 4]
+    assert list(counts.values()) == [2, 2, 4, 4, 3, 1, 4]
 
 
 TYPES = {"uint8_t": ctypes.c_uint8, "uint16_t": ctypes.c_uint16, "uint32_t": ctypes.c_uint32, "int32_t": ctypes.c_int32,
-         "size_t": ctypes.c_size_t, "subsetter_column": subsetter._Column}
+         "size_t": ctypes.c_size_t}
 
 
 @pytest.mark.parametrize("name, own", [
-    ("coordinate", subsetter._Coordinate), ("made", subsetter._Made), ("column", subsetter._Column), ("pdf_font", subsetter._PdfFont),
+    ("coordinate", subsetter._Coordinate), ("made", subsetter._Made), ("pdf_font", subsetter._PdfFont),
     ("pdf_objects", subsetter._Objects),
 ])
 def test_structs_are_those_of_the_header(name, own):
@@ -204,5 +215,5 @@ def test_structs_are_those_of_the_header(name, own):
     fields = re.findall(r"^\s*(?:const )?(\w+) (\*?)(\w+)(?:\[(\d+)\])?;", body, re.M)
     assert len(fields) > 1 and [it[2] for it in fields] == [field for field, _ in own._fields_]
     for (kind, star, field, count), (_, found) in zip(fields, own._fields_):
-        wanted = TYPES[kind] * int(count) if count else TYPES[kind]
-        assert found is (ctypes.POINTER(wanted) if star else wanted) or (found is ctypes.c_void_p and star and kind == "uint8_t"), field
+        wanted = TYPES[kind] * int(count) if count else TYPES.get(kind)
+        assert found is (ctypes.POINTER(wanted) if star else wanted) or (found is ctypes.c_void_p and star), field

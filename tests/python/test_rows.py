@@ -63,7 +63,7 @@ def fields(font):
     values, permission = font.descriptor, font.permission
     found = {
         "kind": KINDS[font.kind], "program": font.program.hex(), "glyph_count": font.glyph_count, "cids": words(font.cids),
-        "codes": words(font.codes), "is_said": words(map(int, font.is_said)), "widths": words(font.widths),
+        "codes": words(font.codes), "is_said": words(map(int, font.text_is_mapped)), "widths": words(font.widths),
         "default_width": font.default_width, "name": values.font_name, "flags": values.flags, "bounds": words(values.bounds),
         "angle": f"{values.italic_angle:g}", "ascent": values.ascent, "descent": values.descent, "cap_height": values.cap_height,
         "x_height": "-" if values.x_height is None else values.x_height, "stem_v": values.stem_v, "font_weight": values.font_weight,
@@ -112,4 +112,4 @@ def test_pdf_row(row):
     assert line == font.sheet("line") and font.objects(5).bytes in line
     assert line.startswith(b"%PDF-1.7\n") and line.endswith(b"%%EOF\n")
     assert b"[0 0 595 842]" in grid and b"[0 0 595 842]" not in line
-    assert (b"/ActualText" in line) == (not all(font.is_said))
+    assert (b"/ActualText" in line) == (not all(font.text_is_mapped))

@@ -23,7 +23,7 @@ def accepted(data: bytes, mapped: mmap.mmap, one: Index, value: Real) -> None:
     font: bytes = subsetter.subset(data, [36, 68])
     font = subsetter.subset(memoryview(font), range(3), 1, tokens=5, depth=3, most_bytes=7, coordinates={"wght": one, "wdth": value})
     font = subsetter.subset(bytearray(font), {1, 2}, index=0, hinting=False, names=False, glyph_names=False)
-    font = subsetter.subset(mapped, iter((1, True)), coordinates={"wght": 650, "wdth": 87.5})
+    font = subsetter.subset(mapped, iter((1, True)), coordinates={"wght": 650, "wdth": 87.5}, small=True)
     font = subsetter.subset(array.array("B", font), (), tokens=None, coordinates={"wght": Decimal(1), "wdth": Fraction(1, 2)})
     font = subsetter.subset(data=data, glyphs=[one], index=one, tokens=one, depth=one, most_bytes=one, coordinates=None)
     embedded: subsetter.Embedded = subsetter.embed(font, (one, 36), one, tokens=one, coordinates={})
@@ -50,7 +50,10 @@ def accepted_for_pdf(data: bytes, mapped: mmap.mmap, one: Index) -> None:
     value: Type[ValueError] = subsetter.InvalidText
     if font.permission.usage == "editable" and font.encoding is not None and font.encoding_name is not None:
         print(font.encoding + font.encoding_name.encode(), font.descriptor.x_height, font.default_column)
-    print(whole, lists, angle, columns, kind, value)
+    with font as opened:
+        mapped_texts: List[bool] = opened.text_is_mapped
+    font.close()
+    print(whole, lists, angle, columns, kind, value, mapped_texts)
 
 
 def refused(data: bytes, value: Real) -> None:

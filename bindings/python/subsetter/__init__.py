@@ -1,19 +1,21 @@
 """Fonts cut down to some of their glyphs, for embedding in PDF.
 
-    import subsetter
-    with open("font.ttf", "rb") as file:
-        data = file.read()
-    font = subsetter.subset(data, [36, 68])
-    embedded = subsetter.embed(data, [36, 68])  # .font, .cids, .widths
-
 All that a PDF has of a font, and a PDF of one line:
 
     import subsetter
     with open("font.ttf", "rb") as file:
         data = file.read()
-    font = subsetter.pdf_font(data, subsetter.glyphs_of(data, "Hello"))  # .program, .codes, .widths, .descriptor ..
+    font = subsetter.pdf_font(data, subsetter.glyphs_of(data, "Hello"))  # .objects(5), .program, .codes, .widths ..
     with open("hello.pdf", "wb") as file:
         file.write(font.sheet())
+
+The font alone, or with CIDs and widths:
+
+    import subsetter
+    with open("font.ttf", "rb") as file:
+        data = file.read()
+    font = subsetter.subset(data, [36, 68])
+    embedded = subsetter.embed(data, [36, 68])  # .font, .cids, .widths
 
 The work is done by the library `libsubsetter.so` (on Windows `subsetter.dll`, on macOS `libsubsetter.dylib`), which the first
 call loads. It is the file that the environment's SUBSETTER_LIBRARY names, else it is looked for beside this file, in
@@ -33,7 +35,7 @@ import operator
 import os
 import sys
 import threading
-import weakref
+import warnings
 from array import array
 from contextlib import contextmanager
 from typing import (
@@ -50,9 +52,8 @@ else:
     Buffer = Any
 
 __all__ = [
-    "subset", "embed", "Embedded", "Error", "UnknownKind", "MalformedFont", "Unimplemented", "SubsetError", "CFFError",
-    "OutOfMemory", "glyphs_of", "pdf_font", "PdfFont", "Column", "Descriptor", "Permission", "Objects", "NotPermitted",
-    "InvalidText",
+    "pdf_font", "glyphs_of", "PdfFont", "Column", "Descriptor", "Permission", "Objects", "subset", "embed", "Embedded", "Error",
+    "UnknownKind", "MalformedFont", "Unimplemented", "SubsetError", "CFFError", "OutOfMemory", "NotPermitted", "InvalidText",
 ]
 
 __version__ = "0.2.6+1"
@@ -173,7 +174,7 @@ _ERRORS: Dict[int, Type[Error]] = {
     1: UnknownKind, 2: MalformedFont, 3: Unimplemented, 4: SubsetError, 5: OverflowError, 6: CFFError, 7: OutOfMemory,
     11: NotPermitted, 12: InvalidText,
 }
-_DROP_HINTING, _DROP_NAMES, _DROP_GLYPH_NAMES = 1, 2, 4
+_DROP_HINTING, _DROP_NAMES, _DROP_GLYPH_NAMES, _DROP_ALL = 1, 2, 4, 7
 
 
 class _Coordinate(ctypes.Structure):
@@ -192,20 +193,16 @@ class _Made(ctypes.Structure):
     ]
 
 
-class _Column(ctypes.Structure):
-    _fields_ = [("advance", ctypes.c_int32), ("x", ctypes.c_int32), ("y", ctypes.c_int32)]
-
-
 class _PdfFont(ctypes.Structure):
-    """What the library hands over of a font for a PDF."""
+    """What the library hands over of a font for a PDF. (Lists are read as bytes, so any pointer will do.)"""
 
     _fields_ = [
         ("program", ctypes.c_void_p), ("program_size", ctypes.c_size_t),
-        ("cids", ctypes.POINTER(ctypes.c_uint16)), ("cid_count", ctypes.c_size_t),
-        ("codes", ctypes.POINTER(ctypes.c_uint16)), ("code_count", ctypes.c_size_t),
-        ("is_said", ctypes.POINTER(ctypes.c_uint8)), ("said_count", ctypes.c_size_t),
-        ("widths", ctypes.POINTER(ctypes.c_uint32)), ("width_count", ctypes.c_size_t),
-        ("columns", ctypes.POINTER(_Column)), ("column_count", ctypes.c_size_t),
+        ("cids", ctypes.c_void_p), ("cid_count", ctypes.c_size_t),
+        ("codes", ctypes.c_void_p), ("code_count", ctypes.c_size_t),
+        ("is_said", ctypes.c_void_p), ("said_count", ctypes.c_size_t),
+        ("widths", ctypes.c_void_p), ("width_count", ctypes.c_size_t),
+        ("columns", ctypes.c_void_p), ("column_count", ctypes.c_size_t),
         ("font_name", ctypes.c_void_p), ("font_name_size", ctypes.c_size_t),
         ("to_unicode", ctypes.c_void_p), ("to_unicode_size", ctypes.c_size_t),
         ("encoding", ctypes.c_void_p), ("encoding_size", ctypes.c_size_t),
@@ -418,20 +415,24 @@ def _coordinates(coordinates: Mapping[str, Value]) -> ctypes.Array[_Coordinate]:
     return (_Coordinate * len(found))(*found)
 
 
+def _flag(what: str, value: bool) -> int:
+    if not isinstance(value, bool):
+        raise TypeError(f"{what} is True or False, and no {type(value).__name__}")
+    return int(value)
+
+
 def _words(
     tokens: Optional[SupportsIndex], depth: Optional[SupportsIndex], most_bytes: Optional[SupportsIndex], hinting: bool,
-    names: bool, glyph_names: bool,
+    names: bool, glyph_names: bool, small: bool,
 ) -> array[int]:
     """The options as the library takes them: their size in bytes, the limits of a charstring, what is left out, and the
     most bytes of the font. (Later ones go behind these.)"""
-    drop = 0
+    drop = _DROP_ALL * _flag("small", small)
     for name, kept, bit in (
         ("hinting", hinting, _DROP_HINTING), ("names", names, _DROP_NAMES),
         ("glyph_names", glyph_names, _DROP_GLYPH_NAMES),
     ):
-        if not isinstance(kept, bool):
-            raise TypeError(f"{name} is True or False, and no {type(kept).__name__}")
-        if not kept:
+        if not _flag(name, kept):
             drop |= bit
     return array("I", [
         20,
@@ -490,6 +491,7 @@ def subset(
     names: bool = True,
     glyph_names: bool = True,
     coordinates: Optional[Mapping[str, Value]] = None,
+    small: bool = False,
 ) -> bytes:
     """The subset of a font for glyph 0 and the given glyphs.
 
@@ -505,7 +507,7 @@ def subset(
 
     What a PDF doesn't need can be left out. Without `hinting` there are no instructions of TrueType outlines and no `cvt `,
     `fpgm` and `prep` (not for fonts that draw by their instructions, as MingLiU does); without `names` no `name`; without
-    `glyph_names` `post` has version 3.0.
+    `glyph_names` `post` has version 3.0. `small` leaves out all three.
 
     `coordinates` are where a variable font is taken: the tags of axes with values in what the axes count, as
     {"wght": 650, "wdth": 87.5}. An axis without a value stays at its default, one past an axis's end is that end, and a tag
@@ -522,7 +524,7 @@ def subset(
     arguments of another kind, and `ValueError` for numbers out of range, a value that is NaN or infinite, and a tag that
     hasn't four ASCII characters.
     """
-    words = _words(tokens, depth, most_bytes, hinting, names, glyph_names)
+    words = _words(tokens, depth, most_bytes, hinting, names, glyph_names, small)
     if coordinates is not None:
         place = _coordinates(coordinates)
         with _made("subsetter_make_subset_at_by_words", data, glyphs, index, words, place) as made:
@@ -543,13 +545,14 @@ def embed(
     names: bool = True,
     glyph_names: bool = True,
     coordinates: Optional[Mapping[str, Value]] = None,
+    small: bool = False,
 ) -> Embedded:
     """The subset of a font, the CID of each given glyph, and the width of each CID.
 
     The arguments and errors are those of `subset`; with `coordinates` a width is the advance that its glyph has there.
     Besides, `MalformedFont` is raised where the font has no `hmtx` or no `head`, or 0 units per em.
     """
-    words = _words(tokens, depth, most_bytes, hinting, names, glyph_names)
+    words = _words(tokens, depth, most_bytes, hinting, names, glyph_names, small)
     place = None if coordinates is None else _coordinates(coordinates)
     call = "subsetter_make_embedded_by_words" if place is None else "subsetter_make_embedded_at_by_words"
     with _made(call, data, glyphs, index, words, place) as made:
@@ -586,12 +589,6 @@ def _choice(what: str, value: str, known: Tuple[str, ...]) -> int:
     return known.index(value)
 
 
-def _flag(what: str, value: bool) -> int:
-    if not isinstance(value, bool):
-        raise TypeError(f"{what} is True or False, and no {type(value).__name__}")
-    return int(value)
-
-
 def _letters(tag: Optional[str]) -> Tuple[int, int]:
     """The words of a tag; 0 and 0 for none."""
     if tag is None:
@@ -615,15 +612,14 @@ class _Entries:
 
     def __init__(self, shown: Iterable[Tuple[SupportsIndex, str]]) -> None:
         pairs = [(glyph, text) for glyph, text in shown]
-        self.glyphs, self.text = _glyph_numbers([glyph for glyph, _ in pairs]), array("I")
-        self.ends = (ctypes.c_size_t * len(pairs))()
-        for place, (_, text) in enumerate(pairs):
+        self.glyphs, self.text, self.ends = _glyph_numbers([glyph for glyph, _ in pairs]), array("I"), array("Q")
+        for _, text in pairs:
             self.text.extend(_characters(text))
-            self.ends[place] = len(self.text)
+            self.ends.append(len(self.text))
 
     def arguments(self) -> Tuple[Any, ...]:
-        glyphs, text = self.glyphs, self.text
-        return (glyphs.buffer_info()[0], len(glyphs), text.buffer_info()[0], len(text), self.ends, len(self.ends))
+        glyphs, text, ends = self.glyphs, self.text, (ctypes.c_size_t * len(self.ends))(*self.ends)
+        return (glyphs.buffer_info()[0], len(glyphs), text.buffer_info()[0], len(text), ends, len(ends))
 
 
 def glyphs_of(data: Buffer, text: str, index: SupportsIndex = 0) -> List[Tuple[int, str]]:
@@ -648,6 +644,39 @@ def glyphs_of(data: Buffer, text: str, index: SupportsIndex = 0) -> List[Tuple[i
     return list(zip(glyphs, text))
 
 
+_ITEMS = {"cids": "H", "codes": "H", "widths": "I", "columns": "i"}
+_NUMBERS = 84
+_LISTS = [(field, size) for (field, _), (size, _) in zip(_PdfFont._fields_[0:22:2], _PdfFont._fields_[1:22:2])]
+
+
+def _lists(made: _PdfFont) -> Dict[str, Any]:
+    """Copies of the lists of a font: bytes, or arrays."""
+    found = {}
+    for field, size in _LISTS:
+        code = _ITEMS.get(field)
+        each = 1 if code is None else array(code).itemsize * (3 if field == "columns" else 1)
+        data = ctypes.string_at(getattr(made, field), each * getattr(made, size))
+        found[field] = data if code is None else array(code, data)
+    return found
+
+
+def _numbers(made: _PdfFont) -> array[int]:
+    """The numbers behind them."""
+    return array("I", bytes(made)[_PdfFont.kind.offset:_PdfFont.kind.offset + _NUMBERS])
+
+
+def _with_lists(lists: Dict[str, Any], numbers: array[int]) -> _PdfFont:
+    """The struct of a font of such copies, which have to stay as long as it is used."""
+    made = _PdfFont()
+    for field, size in _LISTS:
+        items = lists[field]
+        at = items.buffer_info()[0] if isinstance(items, array) else ctypes.cast(ctypes.c_char_p(items), ctypes.c_void_p).value
+        setattr(made, field, at)
+        setattr(made, size, len(items) // (3 if field == "columns" else 1))
+    ctypes.memmove(ctypes.byref(made, _PdfFont.kind.offset), numbers.buffer_info()[0], _NUMBERS)
+    return made
+
+
 class PdfFont:
     """All that a PDF has of a font for the glyphs in use: what `pdf_font` answers.
 
@@ -664,7 +693,7 @@ class PdfFont:
     """The CID of each entry."""
     codes: List[int]
     """The code of each entry, which strings hold in two bytes, the higher first."""
-    is_said: List[bool]
+    text_is_mapped: List[bool]
     """Of each entry whether readers find its text by its code; where they don't, ActualText says it (14.9.4)."""
     widths: List[int]
     """The width of each CID."""
@@ -688,22 +717,21 @@ class PdfFont:
     """The bytes of CIDSet, if it was chosen."""
 
     def __init__(self, made: _PdfFont, entries: _Entries) -> None:
-        library = _library()
-        self._made, self._entries = made, entries
-        # (the lists are the library's until the last use)
-        self._end = weakref.finalize(self, library.subsetter_free_pdf_font, ctypes.byref(made))
-        self.program = ctypes.string_at(made.program, made.program_size)
+        # (what is written is written of these copies, which nothing else changes)
+        self._kept: Optional[Tuple[Dict[str, Any], array[int], _Entries]] = (_lists(made), _numbers(made), entries)
+        lists = self._kept[0]
+        self.program = lists["program"]
         self.kind = _KINDS[made.kind]
         self.glyph_count = made.width_count
-        self.cids, self.codes = made.cids[:made.cid_count], made.codes[:made.code_count]
-        self.is_said = [it == 1 for it in made.is_said[:made.said_count]]
-        self.widths, self.default_width = made.widths[:made.width_count], made.default_width
+        self.cids, self.codes, self.widths = lists["cids"].tolist(), lists["codes"].tolist(), lists["widths"].tolist()
+        self.text_is_mapped = [it == 1 for it in lists["is_said"]]
+        self.default_width = made.default_width
         self.columns, self.default_column = None, None
         if made.is_vertical:
-            self.columns = [Column(it.advance, it.x, it.y) for it in made.columns[:made.column_count]]
+            self.columns = [Column(*it) for it in zip(*[iter(lists["columns"])] * 3)]
             self.default_column = (made.default_column[0], made.default_column[1])
         self.descriptor = Descriptor(
-            font_name=ctypes.string_at(made.font_name, made.font_name_size).decode("ascii"),
+            font_name=lists["font_name"].decode("ascii"),
             flags=made.flags,
             bounds=(made.bounds[0], made.bounds[1], made.bounds[2], made.bounds[3]),
             italic_angle=made.italic_angle / 1000,
@@ -715,20 +743,36 @@ class PdfFont:
             font_weight=made.font_weight,
         )
         self.permission = Permission(_USAGES[made.usage], made.may_subset == 1, made.may_embed_outlines == 1)
-        self.to_unicode = ctypes.string_at(made.to_unicode, made.to_unicode_size)
-        self.encoding, self.encoding_name, self.cid_set = None, None, None
-        if made.encoding_size:
-            self.encoding = ctypes.string_at(made.encoding, made.encoding_size)
-            self.encoding_name = ctypes.string_at(made.encoding_name, made.encoding_name_size).decode("ascii")
-        if made.cid_set_size:
-            self.cid_set = ctypes.string_at(made.cid_set, made.cid_set_size)
+        self.to_unicode = lists["to_unicode"]
+        self.encoding = lists["encoding"] or None
+        self.encoding_name = lists["encoding_name"].decode("ascii") or None
+        self.cid_set = lists["cid_set"] or None
+
+    @property
+    def is_said(self) -> List[bool]:
+        """`text_is_mapped`, by its older name."""
+        warnings.warn("the name of is_said is text_is_mapped", DeprecationWarning, stacklevel=2)
+        return self.text_is_mapped
+
+    def close(self) -> None:
+        """Gives back what `objects` and `sheet` are written of: they raise ValueError then. All else stays."""
+        self._kept = None
+
+    def __enter__(self) -> PdfFont:
+        return self
+
+    def __exit__(self, *_: object) -> None:
+        self.close()
 
     def __repr__(self) -> str:
         return f"<PdfFont {self.descriptor.font_name}, {self.kind}, {self.glyph_count} glyphs>"
 
     def _written(self, call: str, *arguments: Any) -> Objects:
-        library, made = _library(), _Objects()
-        status = getattr(library, call)(ctypes.byref(self._made), *arguments, ctypes.byref(made))
+        if self._kept is None:
+            raise ValueError("the font is closed")
+        library, made = _library_for_pdf(), _Objects()
+        font = _with_lists(self._kept[0], self._kept[1])
+        status = getattr(library, call)(ctypes.byref(font), *arguments, ctypes.byref(made))
         try:
             _check(library, status)
             return Objects(ctypes.string_at(made.bytes, made.size), made.offsets[:made.offset_count])
@@ -748,7 +792,8 @@ class PdfFont:
         """A whole PDF file that shows the entries in 36 points: in one line (in vertical writing in one column) on a page that
         is as long, or in a grid, 12 by 16 a page."""
         number = _choice("layout", layout, ("line", "grid"))
-        return self._written("subsetter_make_pdf_sheet", *self._entries.arguments(), number).bytes
+        entries = self._kept[2].arguments() if self._kept else ()
+        return self._written("subsetter_make_pdf_sheet", *entries, number).bytes
 
 
 def pdf_font(
@@ -767,7 +812,8 @@ def pdf_font(
     bounds: Literal["font", "kept"] = "font",
     cid_set: bool = False,
     tag: Optional[str] = None,
-    rights: Literal["as_said", "held"] = "as_said",
+    rights: Literal["from_font", "held", "as_said"] = "from_font",
+    small: bool = False,
 ) -> PdfFont:
     """All that a PDF has of a font for the glyphs in use.
 
@@ -781,13 +827,16 @@ def pdf_font(
     - `bounds`: whether FontBBox holds all glyphs of the "font", or those "kept".
     - `cid_set`: whether there is a CIDSet, which PDF/A-1 demands.
     - `tag`: the six capitals in front of the font's name; without them they are computed of the font program.
-    - `rights`: "as_said" by `fsType` of the table `OS/2`, or "held" by the caller, whatever that says.
+    - `rights`: by `fsType` of the table `OS/2`, "from_font", or "held" by the caller, whatever that says.
 
     Raises an `Error` by its name: those of `embed`, `NotPermitted`, and `InvalidText` for a text of more than 256 UTF-16 units or
     with a surrogate that stands alone. No value of the font descriptor is a reason: where a table is missing or cut, another
     source of the value is taken. `NotImplementedError` is raised as by `glyphs_of`.
     """
-    words = _words(tokens, depth, most_bytes, hinting, True, True)
+    if rights == "as_said":
+        warnings.warn('the name of "as_said" is "from_font"', DeprecationWarning, stacklevel=2)
+        rights = "from_font"
+    words = _words(tokens, depth, most_bytes, hinting, True, True, small)
     words[0] = 52
     words.extend([
         _choice("program", program, ("smallest", "opentype")),
@@ -795,7 +844,7 @@ def pdf_font(
         _flag("vertical", vertical),
         _choice("bounds", bounds, ("font", "kept")),
         _flag("cid_set", cid_set),
-        _choice("rights", rights, ("as_said", "held")),
+        _choice("rights", rights, ("from_font", "held")),
         *_letters(tag),
     ])
     entries, face = _Entries(shown), _number("index", index, 0, 0xFFFFFFFF)
@@ -805,5 +854,8 @@ def pdf_font(
         status = library.subsetter_make_pdf_font_by_words(
             font, size, face, place, len(place), *entries.arguments(), words.buffer_info()[0], len(words), ctypes.byref(made),
         )
-    _check(library, status)
-    return PdfFont(made, entries)
+    try:
+        _check(library, status)
+        return PdfFont(made, entries)
+    finally:
+        library.subsetter_free_pdf_font(ctypes.byref(made))

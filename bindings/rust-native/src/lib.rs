@@ -83,6 +83,9 @@ pub const DROP_NAMES: u32 = 2;
 /// For [`Options::drop`]: the names of glyphs in `post`.
 pub const DROP_GLYPH_NAMES: u32 = 4;
 
+/// For [`Options::drop`]: all of these, for the smallest font.
+pub const SMALL: u32 = 7;
+
 /// The choices of a subset. 0 is the default of each.
 #[derive(Debug, Copy, Clone, Default, Eq, PartialEq, Hash)]
 pub struct Options {

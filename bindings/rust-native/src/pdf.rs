@@ -21,8 +21,15 @@ choices! {
     "How the glyphs in use get codes." Codes: Consecutive, Source, EachText;
     "How text runs." Direction: Horizontal, Vertical;
     "Which glyphs FontBBox holds: all of the font, or those of the font program." Bounds: Font, Kept;
-    "Whose permission counts: that of the font's maker, as `fsType` says it, or the caller's." Rights: AsSaid, Held;
+    "Whose permission counts: that of the font's maker, as `fsType` says it, or the caller's." Rights: FromFont, Held;
     "How a sheet shows glyphs: in one line, or each in a cell." Layout: Line, Grid;
+}
+
+impl Rights {
+    /// [`FromFont`](Self::FromFont).
+    #[allow(non_upper_case_globals)]
+    #[deprecated(note = "its name is `FromFont`")]
+    pub const AsSaid: Self = Self::FromFont;
 }
 
 /// The choices of a font for a PDF. (Names of the font and of its glyphs are always dropped.)
@@ -98,10 +105,20 @@ impl PdfFont {
         "The font program." program: u8;
         "The CID of each entry." cids: u16;
         "The code of each entry." codes: u16;
-        "Of each entry 1 where readers find its text by its code." is_said: u8;
         "The width of each CID of the font program." widths: u32;
         "In vertical writing each CID from 0 on that a string can show." columns: Column;
         "The ToUnicode CMap." to_unicode: u8;
+    }
+
+    /// Of each entry 1 where readers find its text by its code.
+    pub fn text_is_mapped(&self) -> &[u8] {
+        self.0.is_said()
+    }
+
+    /// [`text_is_mapped`](Self::text_is_mapped).
+    #[deprecated(note = "its name is `text_is_mapped`")]
+    pub fn is_said(&self) -> &[u8] {
+        self.0.is_said()
     }
 
     /// FontName.

@@ -117,7 +117,7 @@ fn a_pdf_font_has_all_its_parts() {
     assert_eq!(glyphs_of(MADE, 0, "AHz"), Ok(vec![1, 9, 0]));
     let font = made(&PdfOptions::default());
     assert!(font.font_name().ends_with("+Made-Regular"));
-    assert_eq!((font.cids(), font.codes(), font.is_said()), (&[1, 2, 1, 3][..], &[1, 2, 1, 3][..], &[1, 1, 0, 1][..]));
+    assert_eq!((font.cids(), font.codes(), font.text_is_mapped()), (&[1, 2, 1, 3][..], &[1, 2, 1, 3][..], &[1, 1, 0, 1][..]));
     assert_eq!(font.widths()[..4], [500, 667, 556, 667]);
     assert!(font.encoding().is_none() && font.cid_set().is_none() && font.columns().is_empty());
     let numbers = font.numbers();

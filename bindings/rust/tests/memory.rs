@@ -131,7 +131,7 @@ mod pdf {
         })?;
         let columns = made.columns().map(|it| number(&it));
         let encoding = made.encoding().map(|it| number(&it));
-        let lists = (made.program(), made.cids(), made.codes(), made.is_said());
+        let lists = (made.program(), made.cids(), made.codes(), made.text_is_mapped());
         let values = (made.widths(), made.descriptor(), made.to_unicode());
         Ok(number(&(lists, values, columns, encoding, made.cid_set())))
     }

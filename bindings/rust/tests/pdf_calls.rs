@@ -195,7 +195,7 @@ fn a_tag_and_limits_are_heeded() {
     let whole = made("made.ttf", FontOptions::new()).unwrap().into_program();
     let size = whole.len() as u32;
     for bytes in [0, 1, size - 1, size, size + 1, 65_536, 1 << 24, u32::MAX] {
-        let options = FontOptions::new().limits(Limits::default().with_bytes(bytes));
+        let options = FontOptions::new().limits(Limits::default().with_most_bytes(bytes));
         let font = made("made.ttf", options).map(|it| it.into_program());
         let wanted = match bytes >= size {
             true => Ok(whole.clone()),
@@ -383,7 +383,7 @@ fn each_bit_of_fs_type_has_its_meaning() {
             let made = |rights| pdf_font(&font, 0, &[], &SHOWN, &FontOptions::new().rights(rights));
             assert_eq!(made(Rights::Held).unwrap().permission(), permission);
             let is_refused = bits == 2 || further != 0;
-            let found = made(Rights::AsSaid).map(|it| it.permission());
+            let found = made(Rights::FromFont).map(|it| it.permission());
             assert_eq!(
                 found,
                 if is_refused {

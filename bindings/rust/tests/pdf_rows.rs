@@ -82,7 +82,7 @@ fn said(font: &PdfFont) -> Vec<(&'static str, String)> {
         ("codes", words(font.codes())),
         (
             "is_said",
-            words(font.is_said().iter().map(|it| u8::from(*it))),
+            words(font.text_is_mapped().iter().map(|it| u8::from(*it))),
         ),
         ("widths", words(font.widths())),
         ("default_width", font.default_width().to_string()),

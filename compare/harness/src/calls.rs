@@ -103,7 +103,7 @@ fn options(choice: usize) -> Options {
     options.limits(if bytes == 0 {
         limits
     } else {
-        limits.with_bytes(bytes)
+        limits.with_most_bytes(bytes)
     })
 }
 

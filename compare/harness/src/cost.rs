@@ -54,7 +54,7 @@ fn limits_in(list: &str) -> Limits {
     let numbers: Vec<u32> = list.split(',').map(|it| it.parse().unwrap()).collect();
     Limits::new(numbers[0], numbers[1] as u8)
         .unwrap()
-        .with_bytes(numbers[2])
+        .with_most_bytes(numbers[2])
 }
 
 /// Prints a call's nanoseconds, the bytes that it answers and those that it holds at most, and its status.

@@ -65,7 +65,7 @@ fn lists(font: &PdfFont) -> Vec<String> {
         format!("codes {}", words(font.codes())),
         format!(
             "is_said {}",
-            words(font.is_said().iter().map(|it| u8::from(*it)))
+            words(font.text_is_mapped().iter().map(|it| u8::from(*it)))
         ),
         format!("widths {}", words(font.widths())),
         format!("default_width {}", font.default_width()),

@@ -100,7 +100,7 @@ impl Sum {
             1 => all.hinting(false),
             2 => all.names(false),
             3 => all.glyph_names(false),
-            _ => all.limits(Limits::new(300, 3).unwrap().with_bytes(20_000)),
+            _ => all.limits(Limits::new(300, 3).unwrap().with_most_bytes(20_000)),
         };
         let mapper = GlyphRemapper::new_from_glyphs(&lists[1]);
         self.add_font(subset_with_options(data, faces[0], &mapper, &options));

@@ -46,7 +46,7 @@ impl FontOptions {
                 .tag
                 .and_then(|tag| proved::SubsetTag::new(tag.letters())),
             rights: match self.rights {
-                Rights::AsSaid => proved::Rights::AsSaid,
+                Rights::FromFont => proved::Rights::AsSaid,
                 Rights::Held => proved::Rights::Held,
             },
         }

@@ -67,8 +67,14 @@ impl PdfFont {
     }
 
     /// Of each entry whether readers find its text by its code; where they don't, ActualText says it (14.9.4).
-    pub fn is_said(&self) -> &[bool] {
+    pub fn text_is_mapped(&self) -> &[bool] {
         &self.made.is_said
+    }
+
+    /// [`text_is_mapped`](Self::text_is_mapped).
+    #[deprecated(note = "its name is `text_is_mapped`")]
+    pub fn is_said(&self) -> &[bool] {
+        self.text_is_mapped()
     }
 
     /// The width of each CID from 0 on, in thousandths of the em.

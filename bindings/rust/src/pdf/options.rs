@@ -46,9 +46,16 @@ pub enum Bounds {
 #[derive(Debug, Copy, Clone, Eq, PartialEq, Hash)]
 pub enum Rights {
     /// That of the font's maker, as `fsType` of the table `OS/2` says it.
-    AsSaid,
+    FromFont,
     /// The caller's, who may embed the font, whatever `fsType` says.
     Held,
+}
+
+impl Rights {
+    /// [`FromFont`](Self::FromFont).
+    #[allow(non_upper_case_globals)]
+    #[deprecated(note = "its name is `FromFont`")]
+    pub const AsSaid: Self = Self::FromFont;
 }
 
 /// The tag in front of a subset's name: six capitals (9.6.4).
@@ -121,7 +128,7 @@ impl FontOptions {
             bounds: Bounds::Font,
             cid_set: false,
             tag: None,
-            rights: Rights::AsSaid,
+            rights: Rights::FromFont,
         }
     }
 

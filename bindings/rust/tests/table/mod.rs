@@ -186,7 +186,7 @@ impl Row {
         let limits = Limits::new(or_default(tokens, 1_000_000), or_default(depth, 64) as u8)?;
         Some(match bytes {
             0 => limits,
-            _ => limits.with_bytes(bytes),
+            _ => limits.with_most_bytes(bytes),
         })
     }
 
