@@ -41,6 +41,34 @@ void subsetter_free_pdf_font(subsetter_pdf_font *made)
     *made = nothing;
 }
 
+void subsetter_free_font(subsetter_font *made)
+{
+    if (made == NULL)
+        return;
+    subsetter_font nothing = {0};
+    nothing.size = made->size;
+    subsetter_free_pdf_font(&made->pdf);
+    give_back(made->exact_widths, made->exact_width_count);
+    give_back(made->unknown_axes, made->unknown_axis_count);
+    give_back(made->glyphs, made->glyph_count);
+    give_back(made->text, made->text_count);
+    give_back(made->ends, made->end_count);
+    *made = nothing;
+}
+
+void subsetter_free_pdf_parts(subsetter_pdf_parts *made)
+{
+    static const subsetter_pdf_parts nothing = {NULL, 0};
+    if (made == NULL)
+        return;
+    for (size_t i = 0; i < made->part_count; i++) {
+        give_back(made->parts[i].entries, made->parts[i].entries_size);
+        give_back(made->parts[i].strings, made->parts[i].string_count);
+    }
+    give_back(made->parts, made->part_count);
+    *made = nothing;
+}
+
 void subsetter_free_pdf_objects(subsetter_pdf_objects *made)
 {
     static const subsetter_pdf_objects nothing = {NULL, 0, NULL, 0};

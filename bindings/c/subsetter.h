@@ -18,6 +18,19 @@
  * font has glyph 0, then the given glyphs in order, each once, and then each further glyph that these need as components.
  * A glyph's CID is its number there.
  *
+ * A whole PDF of one line, and the objects of the font for a PDF of your own, whose pages name object 5:
+ *
+ *     subsetter_font font;
+ *     subsetter_pdf_objects sheet, objects;
+ *     const char *text = "Hello";
+ *     status = subsetter_make_pdf_font_of_utf8(data, size, 0, NULL, 0, text, strlen(text), NULL, &font);
+ *     status = subsetter_make_sheet(&font, SUBSETTER_LAYOUT_LINE, &sheet);
+ *     status = subsetter_make_pdf_objects(&font.pdf, 5, &objects);
+ *     ..
+ *     subsetter_free_pdf_objects(&objects);
+ *     subsetter_free_pdf_objects(&sheet);
+ *     subsetter_free_font(&font);
+ *
  * For other languages: the library exports the functions that are declared here without `static inline`. The inline ones
  * need this header; each stands beside the exported call that does its work.
  */
@@ -70,9 +83,11 @@ enum {
     SUBSETTER_UNKNOWN_OPTION = 10,
     /* The font's maker doesn't permit that it is embedded (`fsType` of the table `OS/2`); of the calls for PDF alone. */
     SUBSETTER_NOT_PERMITTED = 11,
-    /* A text has a number that is no character, an end that isn't in its order, or more than 256 UTF-16 units; of the calls for
-     * PDF alone. */
-    SUBSETTER_INVALID_TEXT = 12
+    /* A text has a number that is no character, an end that isn't in its order, or more than 256 UTF-16 units, or isn't UTF-8; of
+     * the calls for PDF alone. */
+    SUBSETTER_INVALID_TEXT = 12,
+    /* The numbers of objects are too few or too many, 0, or not distinct; of the calls for PDF alone. */
+    SUBSETTER_INVALID_NUMBERS = 16
 };
 
 /* What a status says, in English. */
@@ -83,7 +98,7 @@ static inline const char *subsetter_status_text(uint32_t status)
         "overflow occurred", "processing CFF table failed", "out of memory", "a buffer is too small",
         "the limit of the depth is 0", "unknown option", "embedding not permitted", "invalid text"
     };
-    return status < sizeof texts / sizeof *texts ? texts[status] : "unknown status";
+    return status < sizeof texts / sizeof *texts ? texts[status] : status == 16 ? "invalid numbers" : "unknown status";
 }
 
 /* The same from the library, in ASCII, without a zero behind it: print it by "%.*s", with (int)length in front.
@@ -147,6 +162,458 @@ static inline size_t subsetter_option_count(const subsetter_options *options)
     return options == NULL ? 0 : options->size < 4 ? 1 : options->size / 4;
 }
 
+/* The tag of an axis: SUBSETTER_TAG('w', 'g', 'h', 't'). */
+#define SUBSETTER_TAG(a, b, c, d)                                                              \
+    (((uint32_t)(uint8_t)(a) << 24) | ((uint32_t)(uint8_t)(b) << 16) | ((uint32_t)(uint8_t)(c) << 8) | (uint32_t)(uint8_t)(d))
+
+/* A value on an axis. */
+typedef struct subsetter_coordinate {
+    /* The tag of the axis: its four bytes, the first in the highest bits. */
+    uint32_t tag;
+    /* The value in 65536ths of what the axis counts: weight 650 is 650 * 65536. */
+    int32_t value;
+} subsetter_coordinate;
+
+/* ---- all that a PDF has of a font (sections in brackets are those of ISO 32000-1) */
+
+/* The glyph of each character of a text, by the font's table `cmap`: 0 where the font has none. `text` are 32-bit characters.
+ * The text isn't shaped: there are no ligatures, no kerning and no reordering, which Arabic or Devanagari need.
+ *   0: `glyphs` begins with the glyphs, and `*length` is `text_count`.
+ *   8: there is room for less than `text_count` glyphs; `glyphs` is as it was, and `*length` is `text_count`.
+ *   1, 2, 7, 12: `glyphs` is as it was, and `*length` is 0. 2 also where the font has no Unicode table of the formats 4 and 12.
+ */
+uint32_t subsetter_glyphs_of(const uint8_t *font, size_t font_size, uint32_t index,
+                             const uint32_t *text, size_t text_count,
+                             uint16_t *glyphs, size_t glyph_count, size_t *length);
+
+/* The advances of glyphs, horizontal and vertical, at coordinates (none: the font's default), in the font's units: exact, without
+ * embedding, and whatever `fsType` permits. `widths` and `heights` have room for `glyph_count` each, and are in the order of
+ * `glyphs`. A glyph without a height of its own has one of an em. Of the options `tokens` counts alone: how many steps a glyph may
+ * take where its outline has to be moved for it.
+ *   0: all three are written.
+ *   1 to 8, 10: nothing is written.
+ */
+uint32_t subsetter_advances_by_words(const uint8_t *font, size_t font_size, uint32_t index,
+                                     const subsetter_coordinate *coordinates, size_t coordinate_count,
+                                     const uint16_t *glyphs, size_t glyph_count,
+                                     const uint32_t *options, size_t option_count,
+                                     uint16_t *widths, size_t width_count, uint16_t *heights, size_t height_count,
+                                     uint32_t *units_per_em);
+
+static inline uint32_t subsetter_advances(const uint8_t *font, size_t font_size, uint32_t index,
+                                          const subsetter_coordinate *coordinates, size_t coordinate_count,
+                                          const uint16_t *glyphs, size_t glyph_count,
+                                          const subsetter_options *options,
+                                          uint16_t *widths, uint16_t *heights, uint32_t *units_per_em)
+{
+    return subsetter_advances_by_words(font, font_size, index, coordinates, coordinate_count, glyphs, glyph_count,
+                                       subsetter_option_words(options), subsetter_option_count(options), widths, glyph_count,
+                                       heights, glyph_count, units_per_em);
+}
+
+/* What the font program of a font with outlines in `CFF ` is (`program`). */
+enum {
+    /* The bytes of `CFF ` alone. */
+    SUBSETTER_PROGRAM_SMALLEST = 0,
+    /* The whole file (PDF 1.6). PDF/A-1 forbids it. */
+    SUBSETTER_PROGRAM_OPENTYPE = 1
+};
+
+/* How the glyphs in use get codes (`codes`). Code 0 is that of glyph 0 in each. */
+enum {
+    /* The codes are the CIDs: from 1 on, in order of use. */
+    SUBSETTER_CODES_CONSECUTIVE = 0,
+    /* The code of a glyph is its number in the font, so that a page can be written before the font. */
+    SUBSETTER_CODES_SOURCE = 1,
+    /* Each pair of a glyph and a text has a code: from 1 on, in order of use. So one glyph can say "B" and "b". */
+    SUBSETTER_CODES_EACH_TEXT = 2
+};
+
+/* The code of each entry, as `subsetter_make_font` gives it: it takes no font, so that pages can be written first. Where a list goes
+ * on, the codes of the entries before stay. `kind` is one of SUBSETTER_CODES_..; entries are as for that call.
+ *   0: `codes` begins with the codes, and `*length` is `glyph_count`.
+ *   8: there is room for less; `codes` is as it was, and `*length` is `glyph_count`.
+ *   5 (more than 65,535 glyphs, or pairs of a glyph and a text), 7, 10 (another kind), 12: `codes` is as it was, and `*length` is 0.
+ */
+uint32_t subsetter_codes_of(const uint16_t *glyphs, size_t glyph_count,
+                            const uint32_t *text, size_t text_count,
+                            const size_t *ends, size_t end_count,
+                            uint32_t kind, uint16_t *codes, size_t code_count, size_t *length);
+
+/* How text runs (`direction`). */
+enum {
+    SUBSETTER_HORIZONTAL = 0,
+    /* From top to bottom. */
+    SUBSETTER_VERTICAL = 1
+};
+
+/* Which glyphs FontBBox holds (`bounds`). */
+enum {
+    /* All glyphs of the font. */
+    SUBSETTER_BOUNDS_FONT = 0,
+    /* Those of the font program. Of outlines in `CFF ` it is as SUBSETTER_BOUNDS_FONT. */
+    SUBSETTER_BOUNDS_KEPT = 1
+};
+
+/* Whose permission counts (`rights`). */
+enum {
+    /* That of the font's maker, as `fsType` of the table `OS/2` says it. */
+    SUBSETTER_RIGHTS_FROM_FONT = 0,
+    /* (its older name) */
+    SUBSETTER_RIGHTS_AS_SAID = 0,
+    /* The caller's, who may embed the font, whatever `fsType` says. */
+    SUBSETTER_RIGHTS_HELD = 1
+};
+
+/* Three letters of a tag in a number. */
+#define SUBSETTER_LETTERS(a, b, c) (((uint32_t)(uint8_t)(a) << 16) | ((uint32_t)(uint8_t)(b) << 8) | (uint32_t)(uint8_t)(c))
+
+/* All choices of a font for a PDF. It begins with the fields of `subsetter_options`, and what is said there of `size`, of later
+ * versions and of 0 counts here too. A value that isn't among those above is status 10.
+ *
+ *     subsetter_pdf_options options = SUBSETTER_DEFAULT_PDF_OPTIONS;
+ *     options.codes = SUBSETTER_CODES_SOURCE;
+ */
+typedef struct subsetter_pdf_options {
+    /* sizeof (subsetter_pdf_options). */
+    uint32_t size;
+    /* As in `subsetter_options`. Names and glyph names are always dropped. */
+    uint32_t tokens;
+    uint32_t depth;
+    uint32_t drop;
+    uint32_t bytes;
+    uint32_t program;
+    uint32_t codes;
+    uint32_t direction;
+    uint32_t bounds;
+    /* 1: there is a CIDSet (9.8.3), which PDF/A-1 demands. PDF 2.0 has none. */
+    uint32_t cid_set;
+    uint32_t rights;
+    /* The tag in front of the font's name, six capitals, as SUBSETTER_LETTERS('A', 'B', 'C') and the like; 0, 0: it is computed
+     * of the font program, so that equal programs have equal tags. */
+    uint32_t tag[2];
+} subsetter_pdf_options;
+
+#define SUBSETTER_DEFAULT_PDF_OPTIONS { sizeof(subsetter_pdf_options), 0, 0, 0, 0, 0, 0, 0, 0, 0, 0, { 0, 0 } }
+
+static inline const uint32_t *subsetter_pdf_option_words(const subsetter_pdf_options *options)
+{
+    return options == NULL ? NULL : &options->size;
+}
+
+static inline size_t subsetter_pdf_option_count(const subsetter_pdf_options *options)
+{
+    return options == NULL ? 0 : options->size < 4 ? 1 : options->size / 4;
+}
+
+/* A CID in vertical writing (9.7.4.3), in thousandths of the em. */
+typedef struct subsetter_column {
+    /* From one glyph to the next, mostly below 0: downwards. */
+    int32_t advance;
+    /* The origin of vertical writing, to the right of that of horizontal writing, and above it. */
+    int32_t x;
+    int32_t y;
+} subsetter_column;
+
+/* What the font program is (`kind`; 9.9). */
+enum {
+    /* A TrueType file: FontFile2. */
+    SUBSETTER_KIND_TRUETYPE = 0,
+    /* The bytes of `CFF `: FontFile3 of the subtype CIDFontType0C. */
+    SUBSETTER_KIND_BARE_CFF = 1,
+    /* An OpenType file with outlines in `CFF `: FontFile3 of the subtype OpenType. */
+    SUBSETTER_KIND_OPENTYPE = 2
+};
+
+/* What a document may do with the font, as its maker says (`usage`). */
+enum {
+    SUBSETTER_USAGE_UNSAID = 0,
+    SUBSETTER_USAGE_INSTALLABLE = 1,
+    SUBSETTER_USAGE_EDITABLE = 2,
+    SUBSETTER_USAGE_PREVIEW_AND_PRINT = 3,
+    SUBSETTER_USAGE_RESTRICTED = 4
+};
+
+/* All that a PDF has of a font: lists that the caller only reads, and numbers. Where a size or a count is 0, its pointer says
+ * nothing. An entry is a glyph in use with its text, as the call was given them. Lengths are in thousandths of the em. No later
+ * version changes this struct: what is new is in `subsetter_font`, which has this one as a field. */
+typedef struct subsetter_pdf_font {
+    /* The font program, in bytes. */
+    const uint8_t *program;
+    size_t program_size;
+    /* The CID of each entry. */
+    const uint16_t *cids;
+    size_t cid_count;
+    /* The code of each entry, which strings hold in two bytes, the higher first. */
+    const uint16_t *codes;
+    size_t code_count;
+    /* Of each entry 1 where readers find its text by its code; where it is 0, ActualText says it (14.9.4). */
+    const uint8_t *is_said;
+    size_t said_count;
+    /* The width of each CID of the font program. */
+    const uint32_t *widths;
+    size_t width_count;
+    /* In vertical writing of each CID from 0 on that a string can show. */
+    const subsetter_column *columns;
+    size_t column_count;
+    /* FontName, in ASCII without a zero behind it. */
+    const uint8_t *font_name;
+    size_t font_name_size;
+    /* The ToUnicode CMap (9.10.3). */
+    const uint8_t *to_unicode;
+    size_t to_unicode_size;
+    /* The CMap from codes to CIDs, and its name; nothing where each code is its CID (`Identity-H`, `Identity-V`). */
+    const uint8_t *encoding;
+    size_t encoding_size;
+    const uint8_t *encoding_name;
+    size_t encoding_name_size;
+    /* The bytes of CIDSet, if it was chosen. */
+    const uint8_t *cid_set;
+    size_t cid_set_size;
+    /* SUBSETTER_KIND_TRUETYPE, .._BARE_CFF or .._OPENTYPE. */
+    uint32_t kind;
+    /* 1: text runs from top to bottom. */
+    uint32_t is_vertical;
+    /* DW, and DW2 (y and advance; 0, 0 in horizontal writing). */
+    uint32_t default_width;
+    int32_t default_column[2];
+    /* The font descriptor (Table 122). ItalicAngle is in thousandths of a degree, counterclockwise. */
+    uint32_t flags;
+    int32_t bounds[4];
+    int32_t italic_angle;
+    int32_t ascent;
+    int32_t descent;
+    int32_t cap_height;
+    /* 0: there is no XHeight. */
+    uint32_t has_x_height;
+    int32_t x_height;
+    uint32_t stem_v;
+    uint32_t font_weight;
+    /* One of SUBSETTER_USAGE_.., and 1 where subsets and outlines may be embedded. */
+    uint32_t usage;
+    uint32_t may_subset;
+    uint32_t may_embed_outlines;
+} subsetter_pdf_font;
+
+/* All that a PDF has of a font, and what it was made of. It is given back by `subsetter_free_font`. */
+typedef struct subsetter_font {
+    /* sizeof (subsetter_font), which the inline calls write; another is status 10, and then nothing is written. Later versions
+     * put further fields behind these, and go on to take this size. */
+    uint32_t size;
+    /* unitsPerEm: how many units an em has. */
+    uint32_t units_per_em;
+    subsetter_pdf_font pdf;
+    /* The advance of each CID of the font program, in the font's units: `pdf.widths` are these in thousandths of the em. */
+    const uint16_t *exact_widths;
+    size_t exact_width_count;
+    /* The axes of the coordinates that the font doesn't have, each once, as SUBSETTER_TAG makes them. */
+    const uint32_t *unknown_axes;
+    size_t unknown_axis_count;
+    /* The entries that it was made of: glyphs, the characters of all, and where those of each end. */
+    const uint16_t *glyphs;
+    size_t glyph_count;
+    const uint32_t *text;
+    size_t text_count;
+    const size_t *ends;
+    size_t end_count;
+} subsetter_font;
+
+/* All that a PDF has of a font for the glyphs in use, at coordinates (none: the font's default).
+ *
+ * `glyphs` are in order of use, with repeats if need be. The text of each is none, a character, or several (a ligature): `text`
+ * are the 32-bit characters of all entries, and `ends` says for each entry where its characters end there; they begin where
+ * those of the entry before end. So `end_count` is `glyph_count`. Where each glyph has one character, `ends` is 1, 2, 3 and so on.
+ *   0: `*made` is the font.
+ *   1 to 7, 10 to 12: all sizes, counts and numbers of `*made` are 0 (but for `made->size`), and nothing is to be freed. First comes
+ *   10, then a text that isn't one (12), what is found in opening the font, 11, a text that is too long (12), and then what
+ *   `subsetter_embed_at_by_words` answers. 2 also where outlines in `glyf` have no `maxp`; 5 also for more than 65,535 pairs of a
+ *   glyph and a text.
+ * `made` is written by each call and must not be null; what it held before isn't freed. No value of the font descriptor is a
+ * reason to refuse a font: where a table is missing or cut, another source of the value is taken.
+ */
+uint32_t subsetter_make_font_by_words(const uint8_t *font, size_t font_size, uint32_t index,
+                                      const subsetter_coordinate *coordinates, size_t coordinate_count,
+                                      const uint16_t *glyphs, size_t glyph_count,
+                                      const uint32_t *text, size_t text_count,
+                                      const size_t *ends, size_t end_count,
+                                      const uint32_t *options, size_t option_count,
+                                      subsetter_font *made);
+
+static inline uint32_t subsetter_make_font(const uint8_t *font, size_t font_size, uint32_t index,
+                                           const subsetter_coordinate *coordinates, size_t coordinate_count,
+                                           const uint16_t *glyphs, size_t glyph_count,
+                                           const uint32_t *text, size_t text_count,
+                                           const size_t *ends, size_t end_count,
+                                           const subsetter_pdf_options *options, subsetter_font *made)
+{
+    made->size = sizeof(subsetter_font);
+    return subsetter_make_font_by_words(font, font_size, index, coordinates, coordinate_count, glyphs, glyph_count, text,
+                                        text_count, ends, end_count, subsetter_pdf_option_words(options),
+                                        subsetter_pdf_option_count(options), made);
+}
+
+/* The same of a text in UTF-8, of `text_size` bytes: each character has the glyph that `cmap` gives it (see `subsetter_glyphs_of`),
+ * and is the text of it. Statuses of both; 12 where it isn't UTF-8. */
+uint32_t subsetter_make_pdf_font_of_utf8_by_words(const uint8_t *font, size_t font_size, uint32_t index,
+                                                  const subsetter_coordinate *coordinates, size_t coordinate_count,
+                                                  const uint8_t *text, size_t text_size,
+                                                  const uint32_t *options, size_t option_count,
+                                                  subsetter_font *made);
+
+static inline uint32_t subsetter_make_pdf_font_of_utf8(const uint8_t *font, size_t font_size, uint32_t index,
+                                                       const subsetter_coordinate *coordinates, size_t coordinate_count,
+                                                       const char *text, size_t text_size,
+                                                       const subsetter_pdf_options *options, subsetter_font *made)
+{
+    made->size = sizeof(subsetter_font);
+    return subsetter_make_pdf_font_of_utf8_by_words(font, font_size, index, coordinates, coordinate_count,
+                                                    (const uint8_t *)text, text_size, subsetter_pdf_option_words(options),
+                                                    subsetter_pdf_option_count(options), made);
+}
+
+/* Gives back what these two handed over, and sets all but `size` to 0. Also after a call that failed, or with a null pointer. */
+void subsetter_free_font(subsetter_font *made);
+
+/* A part of a PDF file, or a whole one, which the caller only reads, and gives back by `subsetter_free_pdf_objects`. Where the
+ * size or the count is 0, its pointer says nothing. */
+typedef struct subsetter_pdf_objects {
+    const uint8_t *bytes;
+    size_t size;
+    /* Where each object begins in the bytes; of a whole file nothing. */
+    const size_t *offsets;
+    size_t offset_count;
+} subsetter_pdf_objects;
+
+/* The objects of a font, whole, with numbers from `first` on: the Type 0 font, which pages name, its CIDFont, the font
+ * descriptor, the font program, ToUnicode, CIDSet if there is one, and the CMap if the file has its own. Streams have no filter,
+ * and it is for files that aren't encrypted. `font` is one that a `make` call made, unchanged: `&font.pdf` of a
+ * `subsetter_font`.
+ *   0: `*made` are the objects, one behind the other.
+ *   5: seven numbers from `first` on don't fit 32 bits; 7: malloc gave nothing. The size and the count of `*made` are 0, and
+ *   nothing is to be freed.
+ */
+uint32_t subsetter_make_pdf_objects(const subsetter_pdf_font *font, uint32_t first, subsetter_pdf_objects *made);
+
+/* How a sheet shows glyphs. */
+enum {
+    /* In one line, or in vertical writing in one column, on a page that is as long. */
+    SUBSETTER_LAYOUT_LINE = 0,
+    /* Each in a cell of its own, 12 by 16 a page. */
+    SUBSETTER_LAYOUT_GRID = 1
+};
+
+/* A whole PDF file that shows glyphs in 36 points. Glyphs, text and ends are those that the font was made of, or the first of
+ * them.
+ *   0: `made->bytes` is the file, and the count of offsets is 0.
+ *   5, 7, 10 (another layout), 12: the size and the count of `*made` are 0, and nothing is to be freed.
+ */
+uint32_t subsetter_make_pdf_sheet(const subsetter_pdf_font *font,
+                                  const uint16_t *glyphs, size_t glyph_count,
+                                  const uint32_t *text, size_t text_count,
+                                  const size_t *ends, size_t end_count,
+                                  uint32_t layout, subsetter_pdf_objects *made);
+
+/* The same of all entries that a font was made of. */
+static inline uint32_t subsetter_make_sheet(const subsetter_font *font, uint32_t layout, subsetter_pdf_objects *made)
+{
+    return subsetter_make_pdf_sheet(&font->pdf, font->glyphs, font->glyph_count, font->text, font->text_count, font->ends,
+                                    font->end_count, layout, made);
+}
+
+/* Gives back what these handed over, and sets all to 0. */
+void subsetter_free_pdf_objects(subsetter_pdf_objects *made);
+
+/* ---- the objects as data, so that a writer can pack and encrypt them */
+
+/* What a part is (`role`). */
+enum {
+    /* The Type 0 font, which pages name (9.7.6). */
+    SUBSETTER_ROLE_FONT = 0,
+    /* Its CIDFont (9.7.4). */
+    SUBSETTER_ROLE_CID_FONT = 1,
+    /* The font descriptor (9.8). */
+    SUBSETTER_ROLE_DESCRIPTOR = 2,
+    /* The font program (9.9). */
+    SUBSETTER_ROLE_PROGRAM = 3,
+    /* ToUnicode (9.10.3). */
+    SUBSETTER_ROLE_TO_UNICODE = 4,
+    /* CIDSet (9.8.3). */
+    SUBSETTER_ROLE_CID_SET = 5,
+    /* The CMap of the file's own (9.7.5). */
+    SUBSETTER_ROLE_ENCODING = 6
+};
+
+/* Bytes from `start` up to `end`, without that. */
+typedef struct subsetter_pdf_range {
+    size_t start;
+    size_t end;
+} subsetter_pdf_range;
+
+/* An object: a dictionary, or a stream with its dictionary. */
+typedef struct subsetter_pdf_part {
+    /* One of SUBSETTER_ROLE_.. */
+    uint32_t role;
+    /* The number that the caller gave it. */
+    uint32_t number;
+    /* The entries of its dictionary, each with a blank behind it, without `<<`, `>>`, Length and Filter. The object is "<< ", these and
+     * ">>"; that of a stream "<< ", these, "/Length N >>", a line end, "stream", a line end, its bytes, a line end and "endstream".
+     * Where a caller packs the bytes, it adds Filter, and Length is that of what it packed. */
+    const uint8_t *entries;
+    size_t entries_size;
+    /* Where strings are in the entries, with their parentheses: a file that is encrypted has other ones in their place (7.6). */
+    const subsetter_pdf_range *strings;
+    size_t string_count;
+    /* 1: it is a stream, of these bytes, which are those of the font. */
+    uint32_t is_stream;
+    const uint8_t *stream;
+    size_t stream_size;
+} subsetter_pdf_part;
+
+/* All parts of a font, which the caller only reads, as long as it keeps the font, and gives back by `subsetter_free_pdf_parts`. */
+typedef struct subsetter_pdf_parts {
+    const subsetter_pdf_part *parts;
+    size_t part_count;
+} subsetter_pdf_parts;
+
+/* How many parts a font has: 5, one more with a CIDSet, and one more with a CMap of the file's own. */
+uint32_t subsetter_pdf_part_count(const subsetter_font *font);
+
+/* The parts of a font, in the order of their roles. `numbers` are `subsetter_pdf_part_count` numbers of objects, of generation 0, distinct
+ * and above 0, the Type 0 font's first.
+ *   0: `*made` are the parts.
+ *   7, 10 (an unknown `font->size`), 16: the count of `*made` is 0, and nothing is to be freed.
+ */
+uint32_t subsetter_make_pdf_parts(const subsetter_font *font, const uint32_t *numbers, size_t number_count, subsetter_pdf_parts *made);
+
+/* Gives the parts back, and sets both fields to 0. The font stays. */
+void subsetter_free_pdf_parts(subsetter_pdf_parts *made);
+
+/* ---- a font in the older struct */
+
+/* The same without what is new in `subsetter_font`: what its field `pdf` is. */
+uint32_t subsetter_make_pdf_font_by_words(const uint8_t *font, size_t font_size, uint32_t index,
+                                          const subsetter_coordinate *coordinates, size_t coordinate_count,
+                                          const uint16_t *glyphs, size_t glyph_count,
+                                          const uint32_t *text, size_t text_count,
+                                          const size_t *ends, size_t end_count,
+                                          const uint32_t *options, size_t option_count,
+                                          subsetter_pdf_font *made);
+
+static inline uint32_t subsetter_make_pdf_font(const uint8_t *font, size_t font_size, uint32_t index,
+                                               const subsetter_coordinate *coordinates, size_t coordinate_count,
+                                               const uint16_t *glyphs, size_t glyph_count,
+                                               const uint32_t *text, size_t text_count,
+                                               const size_t *ends, size_t end_count,
+                                               const subsetter_pdf_options *options, subsetter_pdf_font *made)
+{
+    return subsetter_make_pdf_font_by_words(font, font_size, index, coordinates, coordinate_count, glyphs, glyph_count, text,
+                                            text_count, ends, end_count, subsetter_pdf_option_words(options),
+                                            subsetter_pdf_option_count(options), made);
+}
+
+/* Gives back what `subsetter_make_pdf_font` handed over, and sets all to 0, as `subsetter_free` does. */
+void subsetter_free_pdf_font(subsetter_pdf_font *made);
+
 /* ---- a subset in the caller's buffer */
 
 /* The subset of a font.
@@ -188,18 +655,6 @@ static inline uint32_t subsetter_subset_with_options(const uint8_t *font, size_t
 }
 
 /* ---- at a place on the axes of a variable font */
-
-/* The tag of an axis: SUBSETTER_TAG('w', 'g', 'h', 't'). */
-#define SUBSETTER_TAG(a, b, c, d)                                                              \
-    (((uint32_t)(uint8_t)(a) << 24) | ((uint32_t)(uint8_t)(b) << 16) | ((uint32_t)(uint8_t)(c) << 8) | (uint32_t)(uint8_t)(d))
-
-/* A value on an axis. */
-typedef struct subsetter_coordinate {
-    /* The tag of the axis: its four bytes, the first in the highest bits. */
-    uint32_t tag;
-    /* The value in 65536ths of what the axis counts: weight 650 is 650 * 65536. */
-    int32_t value;
-} subsetter_coordinate;
 
 /* The subset of a font as it is at these coordinates, with all choices.
  *
@@ -399,268 +854,6 @@ static inline uint32_t subsetter_make_embedded_at(const uint8_t *font, size_t fo
 /* Gives back what a `make` call handed over, and sets the pointers to null and the sizes to 0, so that it may be called
  * again. Also after a call that failed, or with a null pointer: then it does nothing. */
 void subsetter_free(subsetter_made *made);
-
-/* ---- all that a PDF has of a font (sections in brackets are those of ISO 32000-1) */
-
-/* The glyph of each character of a text, by the font's table `cmap`: 0 where the font has none. `text` are 32-bit characters.
- * The text isn't shaped: there are no ligatures, no kerning and no reordering, which Arabic or Devanagari need.
- *   0: `glyphs` begins with the glyphs, and `*length` is `text_count`.
- *   8: there is room for less than `text_count` glyphs; `glyphs` is as it was, and `*length` is `text_count`.
- *   1, 2, 7, 12: `glyphs` is as it was, and `*length` is 0. 2 also where the font has no Unicode table of the formats 4 and 12.
- */
-uint32_t subsetter_glyphs_of(const uint8_t *font, size_t font_size, uint32_t index,
-                             const uint32_t *text, size_t text_count,
-                             uint16_t *glyphs, size_t glyph_count, size_t *length);
-
-/* What the font program of a font with outlines in `CFF ` is (`program`). */
-enum {
-    /* The bytes of `CFF ` alone. */
-    SUBSETTER_PROGRAM_SMALLEST = 0,
-    /* The whole file (PDF 1.6). PDF/A-1 forbids it. */
-    SUBSETTER_PROGRAM_OPENTYPE = 1
-};
-
-/* How the glyphs in use get codes (`codes`). Code 0 is that of glyph 0 in each. */
-enum {
-    /* The codes are the CIDs: from 1 on, in order of use. */
-    SUBSETTER_CODES_CONSECUTIVE = 0,
-    /* The code of a glyph is its number in the font, so that a page can be written before the font. */
-    SUBSETTER_CODES_SOURCE = 1,
-    /* Each pair of a glyph and a text has a code: from 1 on, in order of use. So one glyph can say "B" and "b". */
-    SUBSETTER_CODES_EACH_TEXT = 2
-};
-
-/* How text runs (`direction`). */
-enum {
-    SUBSETTER_HORIZONTAL = 0,
-    /* From top to bottom. */
-    SUBSETTER_VERTICAL = 1
-};
-
-/* Which glyphs FontBBox holds (`bounds`). */
-enum {
-    /* All glyphs of the font. */
-    SUBSETTER_BOUNDS_FONT = 0,
-    /* Those of the font program. Of outlines in `CFF ` it is as SUBSETTER_BOUNDS_FONT. */
-    SUBSETTER_BOUNDS_KEPT = 1
-};
-
-/* Whose permission counts (`rights`). */
-enum {
-    /* That of the font's maker, as `fsType` of the table `OS/2` says it. */
-    SUBSETTER_RIGHTS_FROM_FONT = 0,
-    /* (its older name) */
-    SUBSETTER_RIGHTS_AS_SAID = 0,
-    /* The caller's, who may embed the font, whatever `fsType` says. */
-    SUBSETTER_RIGHTS_HELD = 1
-};
-
-/* Three letters of a tag in a number. */
-#define SUBSETTER_LETTERS(a, b, c) (((uint32_t)(uint8_t)(a) << 16) | ((uint32_t)(uint8_t)(b) << 8) | (uint32_t)(uint8_t)(c))
-
-/* All choices of a font for a PDF. It begins with the fields of `subsetter_options`, and what is said there of `size`, of later
- * versions and of 0 counts here too. A value that isn't among those above is status 10.
- *
- *     subsetter_pdf_options options = SUBSETTER_DEFAULT_PDF_OPTIONS;
- *     options.codes = SUBSETTER_CODES_SOURCE;
- */
-typedef struct subsetter_pdf_options {
-    /* sizeof (subsetter_pdf_options). */
-    uint32_t size;
-    /* As in `subsetter_options`. Names and glyph names are always dropped. */
-    uint32_t tokens;
-    uint32_t depth;
-    uint32_t drop;
-    uint32_t bytes;
-    uint32_t program;
-    uint32_t codes;
-    uint32_t direction;
-    uint32_t bounds;
-    /* 1: there is a CIDSet (9.8.3), which PDF/A-1 demands. PDF 2.0 has none. */
-    uint32_t cid_set;
-    uint32_t rights;
-    /* The tag in front of the font's name, six capitals, as SUBSETTER_LETTERS('A', 'B', 'C') and the like; 0, 0: it is computed
-     * of the font program, so that equal programs have equal tags. */
-    uint32_t tag[2];
-} subsetter_pdf_options;
-
-#define SUBSETTER_DEFAULT_PDF_OPTIONS { sizeof(subsetter_pdf_options), 0, 0, 0, 0, 0, 0, 0, 0, 0, 0, { 0, 0 } }
-
-static inline const uint32_t *subsetter_pdf_option_words(const subsetter_pdf_options *options)
-{
-    return options == NULL ? NULL : &options->size;
-}
-
-static inline size_t subsetter_pdf_option_count(const subsetter_pdf_options *options)
-{
-    return options == NULL ? 0 : options->size < 4 ? 1 : options->size / 4;
-}
-
-/* A CID in vertical writing (9.7.4.3), in thousandths of the em. */
-typedef struct subsetter_column {
-    /* From one glyph to the next, mostly below 0: downwards. */
-    int32_t advance;
-    /* The origin of vertical writing, to the right of that of horizontal writing, and above it. */
-    int32_t x;
-    int32_t y;
-} subsetter_column;
-
-/* What the font program is (`kind`; 9.9). */
-enum {
-    /* A TrueType file: FontFile2. */
-    SUBSETTER_KIND_TRUETYPE = 0,
-    /* The bytes of `CFF `: FontFile3 of the subtype CIDFontType0C. */
-    SUBSETTER_KIND_BARE_CFF = 1,
-    /* An OpenType file with outlines in `CFF `: FontFile3 of the subtype OpenType. */
-    SUBSETTER_KIND_OPENTYPE = 2
-};
-
-/* What a document may do with the font, as its maker says (`usage`). */
-enum {
-    SUBSETTER_USAGE_UNSAID = 0,
-    SUBSETTER_USAGE_INSTALLABLE = 1,
-    SUBSETTER_USAGE_EDITABLE = 2,
-    SUBSETTER_USAGE_PREVIEW_AND_PRINT = 3,
-    SUBSETTER_USAGE_RESTRICTED = 4
-};
-
-/* All that a PDF has of a font: lists that the caller only reads, and gives back by `subsetter_free_pdf_font`, and numbers. Where
- * a size or a count is 0, its pointer says nothing. An entry is a glyph in use with its text, as the call was given them. Lengths
- * are in thousandths of the em. No later version changes this struct. */
-typedef struct subsetter_pdf_font {
-    /* The font program, in bytes. */
-    const uint8_t *program;
-    size_t program_size;
-    /* The CID of each entry. */
-    const uint16_t *cids;
-    size_t cid_count;
-    /* The code of each entry, which strings hold in two bytes, the higher first. */
-    const uint16_t *codes;
-    size_t code_count;
-    /* Of each entry 1 where readers find its text by its code; where it is 0, ActualText says it (14.9.4). */
-    const uint8_t *is_said;
-    size_t said_count;
-    /* The width of each CID of the font program. */
-    const uint32_t *widths;
-    size_t width_count;
-    /* In vertical writing of each CID from 0 on that a string can show. */
-    const subsetter_column *columns;
-    size_t column_count;
-    /* FontName, in ASCII without a zero behind it. */
-    const uint8_t *font_name;
-    size_t font_name_size;
-    /* The ToUnicode CMap (9.10.3). */
-    const uint8_t *to_unicode;
-    size_t to_unicode_size;
-    /* The CMap from codes to CIDs, and its name; nothing where each code is its CID (`Identity-H`, `Identity-V`). */
-    const uint8_t *encoding;
-    size_t encoding_size;
-    const uint8_t *encoding_name;
-    size_t encoding_name_size;
-    /* The bytes of CIDSet, if it was chosen. */
-    const uint8_t *cid_set;
-    size_t cid_set_size;
-    /* SUBSETTER_KIND_TRUETYPE, .._BARE_CFF or .._OPENTYPE. */
-    uint32_t kind;
-    /* 1: text runs from top to bottom. */
-    uint32_t is_vertical;
-    /* DW, and DW2 (y and advance; 0, 0 in horizontal writing). */
-    uint32_t default_width;
-    int32_t default_column[2];
-    /* The font descriptor (Table 122). ItalicAngle is in thousandths of a degree, counterclockwise. */
-    uint32_t flags;
-    int32_t bounds[4];
-    int32_t italic_angle;
-    int32_t ascent;
-    int32_t descent;
-    int32_t cap_height;
-    /* 0: there is no XHeight. */
-    uint32_t has_x_height;
-    int32_t x_height;
-    uint32_t stem_v;
-    uint32_t font_weight;
-    /* One of SUBSETTER_USAGE_.., and 1 where subsets and outlines may be embedded. */
-    uint32_t usage;
-    uint32_t may_subset;
-    uint32_t may_embed_outlines;
-} subsetter_pdf_font;
-
-/* All that a PDF has of a font for the glyphs in use, at coordinates (none: the font's default).
- *
- * `glyphs` are in order of use, with repeats if need be. The text of each is none, a character, or several (a ligature): `text`
- * are the 32-bit characters of all entries, and `ends` says for each entry where its characters end there; they begin where
- * those of the entry before end. So `end_count` is `glyph_count`. Where each glyph has one character, `ends` is 1, 2, 3 and so on.
- *   0: `*made` is the font.
- *   1 to 7, 10 to 12: all sizes, counts and numbers of `*made` are 0, and nothing is to be freed. First comes 10, then a text
- *   that isn't one (12), what is found in opening the font, 11, a text that is too long (12), and then what
- *   `subsetter_embed_at_by_words` answers. 2 also where outlines in `glyf` have no `maxp`; 5 also for more than 65,535 pairs of a
- *   glyph and a text.
- * `made` is written by each call and must not be null; what it held before isn't freed. No value of the font descriptor is a
- * reason to refuse a font: where a table is missing or cut, another source of the value is taken.
- */
-uint32_t subsetter_make_pdf_font_by_words(const uint8_t *font, size_t font_size, uint32_t index,
-                                          const subsetter_coordinate *coordinates, size_t coordinate_count,
-                                          const uint16_t *glyphs, size_t glyph_count,
-                                          const uint32_t *text, size_t text_count,
-                                          const size_t *ends, size_t end_count,
-                                          const uint32_t *options, size_t option_count,
-                                          subsetter_pdf_font *made);
-
-static inline uint32_t subsetter_make_pdf_font(const uint8_t *font, size_t font_size, uint32_t index,
-                                               const subsetter_coordinate *coordinates, size_t coordinate_count,
-                                               const uint16_t *glyphs, size_t glyph_count,
-                                               const uint32_t *text, size_t text_count,
-                                               const size_t *ends, size_t end_count,
-                                               const subsetter_pdf_options *options, subsetter_pdf_font *made)
-{
-    return subsetter_make_pdf_font_by_words(font, font_size, index, coordinates, coordinate_count, glyphs, glyph_count, text,
-                                            text_count, ends, end_count, subsetter_pdf_option_words(options),
-                                            subsetter_pdf_option_count(options), made);
-}
-
-/* Gives back what `subsetter_make_pdf_font` handed over, and sets all to 0, as `subsetter_free` does. */
-void subsetter_free_pdf_font(subsetter_pdf_font *made);
-
-/* A part of a PDF file, or a whole one, which the caller only reads, and gives back by `subsetter_free_pdf_objects`. Where the
- * size or the count is 0, its pointer says nothing. */
-typedef struct subsetter_pdf_objects {
-    const uint8_t *bytes;
-    size_t size;
-    /* Where each object begins in the bytes; of a whole file nothing. */
-    const size_t *offsets;
-    size_t offset_count;
-} subsetter_pdf_objects;
-
-/* The objects of a font, whole, with numbers from `first` on: the Type 0 font, which pages name, its CIDFont, the font
- * descriptor, the font program, ToUnicode, CIDSet if there is one, and the CMap if the file has its own. Streams have no filter,
- * and it is for files that aren't encrypted. `font` is one that `subsetter_make_pdf_font` made, unchanged.
- *   0: `*made` are the objects, one behind the other.
- *   5: seven numbers from `first` on don't fit 32 bits; 7: malloc gave nothing. The size and the count of `*made` are 0, and
- *   nothing is to be freed.
- */
-uint32_t subsetter_make_pdf_objects(const subsetter_pdf_font *font, uint32_t first, subsetter_pdf_objects *made);
-
-/* How a sheet shows glyphs. */
-enum {
-    /* In one line, or in vertical writing in one column, on a page that is as long. */
-    SUBSETTER_LAYOUT_LINE = 0,
-    /* Each in a cell of its own, 12 by 16 a page. */
-    SUBSETTER_LAYOUT_GRID = 1
-};
-
-/* A whole PDF file that shows glyphs in 36 points. Glyphs, text and ends are those that the font was made of, or the first of
- * them.
- *   0: `made->bytes` is the file, and the count of offsets is 0.
- *   5, 7, 10 (another layout), 12: the size and the count of `*made` are 0, and nothing is to be freed.
- */
-uint32_t subsetter_make_pdf_sheet(const subsetter_pdf_font *font,
-                                  const uint16_t *glyphs, size_t glyph_count,
-                                  const uint32_t *text, size_t text_count,
-                                  const size_t *ends, size_t end_count,
-                                  uint32_t layout, subsetter_pdf_objects *made);
-
-/* Gives back what these two handed over, and sets all to 0. */
-void subsetter_free_pdf_objects(subsetter_pdf_objects *made);
 
 #ifdef __cplusplus
 }

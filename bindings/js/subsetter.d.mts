@@ -180,6 +180,40 @@ export interface Objects {
     offsets: number[];
 }
 
+/** An object of a PDF, as data: a dictionary, or a stream with its dictionary. */
+export interface Part {
+    /** What it is. */
+    role: "font" | "cid_font" | "descriptor" | "program" | "to_unicode" | "cid_set" | "encoding";
+    /** Its number, as the caller chose it. */
+    number: number;
+    /** The entries of its dictionary, without `<<`, `>>` and Length, and without Filter unless the stream is packed. */
+    entries: Uint8Array;
+    /** Where strings are in the entries, from and up to: encryption has to cover these too. */
+    strings: [number, number][];
+    /** The bytes of the stream; none where the object is none. */
+    stream?: Uint8Array;
+    /** The object, as it is between `N 0 obj` and `endobj`. */
+    readonly value: Uint8Array;
+}
+
+/** How the streams of parts are packed. */
+export interface Packing {
+    /** Packs the bytes of a stream, as Node's `deflateSync` does. Without it nothing is packed. */
+    readonly pack?: (bytes: Uint8Array) => Uint8Array;
+    /** The Filter of that, as PDF writes it. Without it "/FlateDecode". */
+    readonly filter?: string;
+}
+
+/** Advances of glyphs, in the font's units. */
+export interface Advances {
+    /** How many units an em has. */
+    unitsPerEm: number;
+    /** Of each given glyph the horizontal advance. */
+    widths: number[];
+    /** And the vertical one: an em where the font has none. */
+    heights: number[];
+}
+
 /** All that a PDF has of a font for the glyphs in use. An entry is a glyph in use with its text. */
 export interface PdfFont {
     /** The font program. */
@@ -198,6 +232,12 @@ export interface PdfFont {
     readonly isSaid: boolean[];
     /** The width of each CID, in thousandths of the em. */
     widths: number[];
+    /** The width of each CID in the font's units. */
+    exactWidths: number[];
+    /** How many units of the font an em has. */
+    unitsPerEm: number;
+    /** The axes of the coordinates that the font doesn't have. */
+    unknownAxes: string[];
     /** DW. */
     defaultWidth: number;
     /** In vertical writing of each CID from 0 on that a string can show. */
@@ -221,6 +261,14 @@ export interface PdfFont {
      * bits. (What is changed in this object isn't written.)
      */
     objects(first: number): Objects;
+    /** How many objects it has. */
+    partCount: number;
+    /**
+     * The font's objects as data, with numbers of the caller's: `partCount` of them, distinct and above 0, that of the Type 0 font
+     * first. They are in the order of `objects`, and each has the `value` that is written there for the same numbers. A RangeError is
+     * thrown for other numbers.
+     */
+    parts(numbers: Iterable<number>, options?: Packing): Part[];
     /**
      * A whole PDF file that shows the entries in 36 points: in one line (in vertical writing in one column) on a page that is as
      * long, or in a grid, 12 by 16 a page. Without a layout a line.
@@ -251,6 +299,16 @@ export interface Subsetter {
      * font doesn't have gets glyph 0. MalformedFont is thrown where the font has no Unicode table of the formats 4 and 12.
      */
     glyphsOf(data: FontData, text: string, options?: Face): Shown[];
+    /**
+     * The code of each entry, as `pdfFont` gives it: it takes no font, so that pages can be written first. Where a list goes on, the
+     * codes of the entries before stay.
+     */
+    codesOf(shown: Iterable<Shown>, codes?: PdfChoices["codes"]): number[];
+    /**
+     * The advances of glyphs before the font is embedded: in the order given, in the font's units, exact, at the coordinates. Of the
+     * limits `tokens` counts alone.
+     */
+    advances(data: FontData, glyphs: Iterable<number>, options?: Face & Place & { readonly limits?: Limits }): Advances;
     /** The subset of a font for glyph 0 and the given glyphs. */
     subset(data: FontData, glyphs: Iterable<number>, options?: Face & Choices & Place): Uint8Array;
     /**
@@ -268,6 +326,8 @@ export interface Font {
     pdfFont(shown: Iterable<Shown>, options?: PdfChoices & Place): PdfFont;
     /** As `Subsetter.glyphsOf`. */
     glyphsOf(text: string): Shown[];
+    /** As `Subsetter.advances`. */
+    advances(glyphs: Iterable<number>, options?: Place & { readonly limits?: Limits }): Advances;
     /** As `Subsetter.subset`. */
     subset(glyphs: Iterable<number>, options?: Choices & Place): Uint8Array;
     /** As `Subsetter.embed`. */

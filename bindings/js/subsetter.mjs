@@ -46,6 +46,7 @@ for (const [name, error] of Object.entries(NAMES)) {
 const ERRORS = [, UnknownKind, MalformedFont, Unimplemented, SubsetError, OverflowError, CFFError, OutOfMemory];
 ERRORS[11] = NotPermitted;
 ERRORS[12] = InvalidText;
+ERRORS[16] = RangeError;
 const DONE = 0;
 const PAGE = 65536, ALIGNMENT = 16, MEMORY_AT_MOST = 2 ** 31;
 const WORD_AT_MOST = 2 ** 32 - 1;
@@ -57,6 +58,9 @@ const MADE = [0, 0, 0, 0, 0, 0];
 /** The lists of a font for a PDF, by the bytes of an item, and how many numbers there are behind them. */
 const PARTS = { program: 1, cids: 2, codes: 2, isSaid: 1, widths: 4, columns: 12, fontName: 1, toUnicode: 1, encoding: 1, encodingName: 1, cidSet: 1 };
 const NUMBERS = 21;
+/** The codes of glyphs in use, and what the parts of a font are. */
+const CODES = ["consecutive", "source", "each_text"];
+const ROLES = ["font", "cid_font", "descriptor", "program", "to_unicode", "cid_set", "encoding"];
 const USAGES = ["unsaid", "installable", "editable", "previewAndPrint", "restricted"];
 
 const aligned = (at) => Math.ceil(at / ALIGNMENT) * ALIGNMENT;
@@ -240,6 +244,9 @@ function tagOf(tag) {
     return [tag.slice(0, 3), tag.slice(3)].map((three) => [...three].reduce((word, letter) => word * 256 + letter.charCodeAt(0), 0));
 }
 
+/** The number of a kind of codes. */
+const codesOf = (codes) => oneOf(codes, CODES, "codes", { eachText: "each_text" });
+
 /** The choices of a font for a PDF. */
 const PDF_CHOICES = ["limits", "small", "hinting", "coordinates", "program", "codes", "vertical", "bounds", "cidSet", "tag", "rights"];
 
@@ -249,7 +256,7 @@ function pdfChoicesOf(options) {
     const chosen = choicesOf({ limits, small, hinting, coordinates });
     const further = [
         oneOf(program, ["smallest", "opentype"], "program"),
-        oneOf(codes, ["consecutive", "source", "each_text"], "codes", { eachText: "each_text" }),
+        codesOf(codes),
         kept(vertical, "vertical") ? 1 : 0,
         oneOf(bounds, ["font", "kept"], "bounds"),
         kept(cidSet, "cidSet") ? 1 : 0,
@@ -437,30 +444,100 @@ class Library {
             font.at, font.size, index, coordinatesAt, coordinates.length / 2, glyphsAt, glyphs.length, textAt, text.length,
             endsAt, ends.length, tokens, depth, bytes, drop, ...further,
         ];
-        const parts = Object.entries(PARTS), room = Array(2 * parts.length + NUMBERS).fill(0);
+        const parts = Object.entries(PARTS), room = Array(2 * parts.length + NUMBERS + 5).fill(0);
         const { status, buffer, words } = this.#call("subsetter_pdf_font", lists, (...places) => [...given(...places), ...room]);
         this.#check(status);
         const made = words.slice(-room.length), raw = {};
+        const [unitsPerEm, exactAt, exactCount, axesAt, axisCount] = made.splice(-5);
+        const axes = numbersOf(4, buffer, axesAt, axisCount).map((it) => String.fromCharCode(it >>> 24, (it >> 16) & 255, (it >> 8) & 255, it & 255));
+        const added = { unitsPerEm, exactWidths: numbersOf(2, buffer, exactAt, exactCount), unknownAxes: axes };
         parts.forEach(([name, size], i) => {
             const [at, count] = made.slice(2 * i);
             raw[name] = { count, bytes: new Uint8Array(buffer.slice(at, at + size * count)) };
         });
-        return new PdfFont(this, raw, made.slice(2 * parts.length), entries);
+        return new PdfFont(this, raw, made.slice(2 * parts.length), entries, added);
+    }
+
+    /** The codes of entries, without a font. */
+    codesOf({ glyphs, text, ends }, kind) {
+        const lists = [listOf(2, glyphs), listOf(4, text), listOf(4, ends)];
+        const given = (glyphsAt, textAt, endsAt) => [glyphsAt, glyphs.length, textAt, text.length, endsAt, ends.length, kind, 0, 0];
+        const { status, buffer, words } = this.#call("subsetter_codes_of", lists, given);
+        this.#check(status);
+        const [at, count] = words.slice(-2);
+        return numbersOf(2, buffer, at, count);
+    }
+
+    /** The advances of glyphs of a font that is held here. */
+    advances(font, index, glyphs, { tokens, coordinates = [] }) {
+        const lists = [listOf(4, coordinates), listOf(2, glyphs)];
+        const given = (coordinatesAt, glyphsAt) =>
+            [font.at, font.size, index, coordinatesAt, coordinates.length / 2, glyphsAt, glyphs.length, tokens, 0, 0, 0, 0, 0];
+        const { status, buffer, words } = this.#call("subsetter_advances", lists, given);
+        this.#check(status);
+        const [unitsPerEm, widthsAt, widthCount, heightsAt, heightCount] = words.slice(-5);
+        return { unitsPerEm, widths: numbersOf(2, buffer, widthsAt, widthCount), heights: numbersOf(2, buffer, heightsAt, heightCount) };
+    }
+
+    /** The lists of such a font, and their words. */
+    #lists(raw) {
+        const parts = Object.values(raw);
+        return { lists: parts.map(({ bytes }) => bytes), counted: (places) => parts.flatMap(({ count }, i) => [places[i], count]) };
+    }
+
+    /** The parts of such a font, with these numbers. */
+    parts(raw, numbers, given) {
+        const { lists, counted } = this.#lists(raw);
+        const call = (...places) => [...counted(places), ...numbers, places.at(-1), given.length, 0, 0];
+        const { status, buffer, words } = this.#call("subsetter_parts", [...lists, listOf(4, given)], call);
+        this.#check(status);
+        const [at, count] = words.slice(-2), bytes = (from, size) => new Uint8Array(buffer.slice(from, from + size));
+        return Array.from({ length: count }, (_, i) => {
+            const [role, number, entriesAt, size, stringsAt, ends, isStream, streamAt, length] = numbersOf(4, buffer, at + 36 * i, 9);
+            const places = numbersOf(4, buffer, stringsAt, ends), strings = [];
+            for (let k = 0; k < ends; k += 2) strings.push([places[k], places[k + 1]]);
+            return new Part(ROLES[role], number, bytes(entriesAt, size), strings, isStream ? bytes(streamAt, length) : undefined);
+        });
     }
 
     /** What the call `name` writes of such a font. */
     write(name, raw, numbers, number, { glyphs, text, ends }) {
-        const parts = Object.values(raw);
-        const lists = [...parts.map(({ bytes }) => bytes), listOf(2, glyphs), listOf(4, text), listOf(4, ends)];
-        const counts = [...parts.map(({ count }) => count), glyphs.length, text.length, ends.length];
+        const { lists, counted } = this.#lists(raw), all = [...lists, listOf(2, glyphs), listOf(4, text), listOf(4, ends)];
         const given = (...places) => {
-            const pairs = places.map((at, i) => [at, counts[i]]);
-            return [...pairs.slice(0, parts.length).flat(), ...numbers, number, ...pairs.slice(parts.length).flat(), 0, 0, 0, 0];
+            const [glyphsAt, textAt, endsAt] = places.slice(lists.length);
+            return [...counted(places), ...numbers, number, glyphsAt, glyphs.length, textAt, text.length, endsAt, ends.length, 0, 0, 0, 0];
         };
-        const { status, buffer, words } = this.#call(name, lists, given);
+        const { status, buffer, words } = this.#call(name, all, given);
         this.#check(status);
         const [at, size, offsetsAt, offsetCount] = words.slice(-4);
         return { bytes: new Uint8Array(buffer.slice(at, at + size)), offsets: numbersOf(4, buffer, offsetsAt, offsetCount) };
+    }
+}
+
+const latin1 = (text) => Uint8Array.from(text, (it) => it.charCodeAt(0));
+
+/** Bytes one behind the other. */
+function joined(...lists) {
+    const all = new Uint8Array(lists.reduce((size, list) => size + list.length, 0));
+    lists.reduce((at, list) => (all.set(list, at), at + list.length), 0);
+    return all;
+}
+
+/** An object of a PDF, as data. */
+class Part {
+    constructor(role, number, entries, strings, stream) {
+        this.role = role;
+        this.number = number;
+        this.entries = entries;
+        this.strings = strings;
+        if (stream) {
+            this.stream = stream;
+        }
+    }
+
+    get value() {
+        const { entries, stream } = this;
+        return stream ? joined(latin1("<< "), entries, latin1(`/Length ${stream.length} >>\nstream\n`), stream, latin1("\nendstream")) : joined(latin1("<< "), entries, latin1(">>"));
     }
 }
 
@@ -471,7 +548,9 @@ class PdfFont {
     #numbers;
     #entries;
 
-    constructor(library, raw, numbers, entries) {
+    constructor(library, raw, numbers, entries, added) {
+        Object.assign(this, added);
+        this.partCount = 5 + (raw.cidSet.count ? 1 : 0) + (raw.encoding.count ? 1 : 0);
         this.#library = library;
         this.#raw = raw;
         this.#numbers = numbers;
@@ -517,11 +596,32 @@ class PdfFont {
         this.#raw = null;
     }
 
-    #written(name, number, entries) {
+    #kept() {
         if (!this.#raw) {
             throw new TypeError("the font is closed");
         }
-        return this.#library.write(name, this.#raw, this.#numbers, number, entries);
+        return this.#raw;
+    }
+
+    #written(name, number, entries) {
+        return this.#library.write(name, this.#kept(), this.#numbers, number, entries);
+    }
+
+    parts(numbers, options) {
+        const { pack, filter = "/FlateDecode" } = named(options, ["pack", "filter"], "options");
+        if (typeof numbers !== "object" || typeof numbers?.[Symbol.iterator] !== "function") {
+            throw new TypeError("numbers of objects must be an iterable of numbers");
+        }
+        if (typeof filter !== "string" || (pack !== undefined && typeof pack !== "function")) {
+            throw new TypeError("pack must be a function, and filter a string");
+        }
+        const given = Array.from(numbers, (it) => whole(it, 0, WORD_AT_MOST, "a number of an object"));
+        const parts = this.#library.parts(this.#kept(), this.#numbers, given);
+        for (const part of pack ? parts.filter(({ stream }) => stream) : []) {
+            part.entries = joined(part.entries, latin1(`/Filter ${filter} `));
+            part.stream = pack(part.stream);
+        }
+        return parts;
     }
 
     objects(first) {
@@ -572,6 +672,11 @@ class Font {
         return this.#called("pdfFont", entriesOf(shown), choices);
     }
 
+    advances(glyphs, options) {
+        const choices = choicesOf(named(options, ["limits", "coordinates"], "options"));
+        return this.#called("advances", glyphsOf(glyphs), choices);
+    }
+
     subset(glyphs, options) {
         return this.#made("subset", glyphs, options);
     }
@@ -599,9 +704,9 @@ function callsOf(library) {
             library.release(place);
         }
     }
-    function once(name, data, glyphs, options) {
+    function once(name, data, glyphs, options, names = CHOICES) {
         const bytes = bytesOf(data);
-        const given = named(options, ["index", ...CHOICES], "options");
+        const given = named(options, ["index", ...names], "options");
         const index = indexOf(given), choices = choicesOf(given);
         return called(name, bytes, index, glyphsOf(glyphs), choices);
     }
@@ -616,10 +721,12 @@ function callsOf(library) {
     }
     return Object.freeze({
         version: library.version,
+        pdfFont: (data, shown, options) => pdfFont(data, shown, options),
+        glyphsOf: (data, text, options) => glyphs(data, text, options),
+        codesOf: (shown, codes) => library.codesOf(entriesOf(shown), codesOf(codes)),
+        advances: (data, glyphs, options) => once("advances", data, glyphs, options, ["limits", "coordinates"]),
         subset: (data, glyphs, options) => once("subset", data, glyphs, options),
         embed: (data, glyphs, options) => once("embed", data, glyphs, options),
-        glyphsOf: (data, text, options) => glyphs(data, text, options),
-        pdfFont: (data, shown, options) => pdfFont(data, shown, options),
         open: (data, options) => new Font(library, bytesOf(data), indexOf(named(options, ["index"], "options"))),
     });
 }

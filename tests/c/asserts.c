@@ -14,16 +14,18 @@
 NUMBER(SUBSETTER_DONE, 0) NUMBER(SUBSETTER_UNKNOWN_KIND, 1) NUMBER(SUBSETTER_MALFORMED_FONT, 2) NUMBER(SUBSETTER_UNIMPLEMENTED, 3)
 NUMBER(SUBSETTER_SUBSET_ERROR, 4) NUMBER(SUBSETTER_OVERFLOW_ERROR, 5) NUMBER(SUBSETTER_CFF_ERROR, 6) NUMBER(SUBSETTER_OUT_OF_MEMORY, 7)
 NUMBER(SUBSETTER_BUFFER_TOO_SMALL, 8) NUMBER(SUBSETTER_NO_DEPTH, 9) NUMBER(SUBSETTER_UNKNOWN_OPTION, 10) NUMBER(SUBSETTER_NOT_PERMITTED, 11)
-NUMBER(SUBSETTER_INVALID_TEXT, 12)
+NUMBER(SUBSETTER_INVALID_TEXT, 12) NUMBER(SUBSETTER_INVALID_NUMBERS, 16) NUMBER(SUBSETTER_SMALL, 7)
 NUMBER(SUBSETTER_DROP_HINTING, 1) NUMBER(SUBSETTER_DROP_NAMES, 2) NUMBER(SUBSETTER_DROP_GLYPH_NAMES, 4)
 NUMBER(SUBSETTER_PROGRAM_SMALLEST, 0) NUMBER(SUBSETTER_PROGRAM_OPENTYPE, 1)
 NUMBER(SUBSETTER_CODES_CONSECUTIVE, 0) NUMBER(SUBSETTER_CODES_SOURCE, 1) NUMBER(SUBSETTER_CODES_EACH_TEXT, 2)
 NUMBER(SUBSETTER_HORIZONTAL, 0) NUMBER(SUBSETTER_VERTICAL, 1) NUMBER(SUBSETTER_BOUNDS_FONT, 0) NUMBER(SUBSETTER_BOUNDS_KEPT, 1)
-NUMBER(SUBSETTER_RIGHTS_AS_SAID, 0) NUMBER(SUBSETTER_RIGHTS_HELD, 1)
+NUMBER(SUBSETTER_RIGHTS_FROM_FONT, 0) NUMBER(SUBSETTER_RIGHTS_AS_SAID, 0) NUMBER(SUBSETTER_RIGHTS_HELD, 1)
 NUMBER(SUBSETTER_KIND_TRUETYPE, 0) NUMBER(SUBSETTER_KIND_BARE_CFF, 1) NUMBER(SUBSETTER_KIND_OPENTYPE, 2)
 NUMBER(SUBSETTER_USAGE_UNSAID, 0) NUMBER(SUBSETTER_USAGE_INSTALLABLE, 1) NUMBER(SUBSETTER_USAGE_EDITABLE, 2)
 NUMBER(SUBSETTER_USAGE_PREVIEW_AND_PRINT, 3) NUMBER(SUBSETTER_USAGE_RESTRICTED, 4)
 NUMBER(SUBSETTER_LAYOUT_LINE, 0) NUMBER(SUBSETTER_LAYOUT_GRID, 1)
+NUMBER(SUBSETTER_ROLE_FONT, 0) NUMBER(SUBSETTER_ROLE_CID_FONT, 1) NUMBER(SUBSETTER_ROLE_DESCRIPTOR, 2) NUMBER(SUBSETTER_ROLE_PROGRAM, 3)
+NUMBER(SUBSETTER_ROLE_TO_UNICODE, 4) NUMBER(SUBSETTER_ROLE_CID_SET, 5) NUMBER(SUBSETTER_ROLE_ENCODING, 6)
 
 /* The preprocessor knows the version; numbers of characters have each at its place, with its eight bits alone, in any expression. */
 #if SUBSETTER_VERSION >> 24 != SUBSETTER_VERSION_MAJOR || (SUBSETTER_VERSION >> 16 & 255) != SUBSETTER_VERSION_MINOR \
@@ -77,6 +79,21 @@ PDF_NUMBER(20, may_embed_outlines, uint32_t *)
 /* (behind 21 numbers there may be room) */
 SIZE(subsetter_pdf_font, (22 * WORD + 4 * 21 + WORD - 1) / WORD * WORD)
 
+/* (what is behind these of later versions isn't promised) */
+enum { BEHIND = 8 + sizeof(subsetter_pdf_font) };
+FIELD(subsetter_font, size, 0, uint32_t *) FIELD(subsetter_font, units_per_em, 4, uint32_t *) FIELD(subsetter_font, pdf, 8, subsetter_pdf_font *)
+#define FONT_LIST(AT, NAME, ITEM, COUNT)                                                                          \
+    FIELD(subsetter_font, NAME, BEHIND + 2 * (AT) * WORD, const ITEM **) FIELD(subsetter_font, COUNT, BEHIND + (2 * (AT) + 1) * WORD, size_t *)
+FONT_LIST(0, exact_widths, uint16_t, exact_width_count) FONT_LIST(1, unknown_axes, uint32_t, unknown_axis_count)
+FONT_LIST(2, glyphs, uint16_t, glyph_count) FONT_LIST(3, text, uint32_t, text_count) FONT_LIST(4, ends, size_t, end_count)
+SIZE(subsetter_font, BEHIND + 10 * WORD) _Static_assert(WORD != 8 || sizeof(subsetter_font) == 352, "the size that the proved library knows");
+FIELD(subsetter_pdf_range, start, 0, size_t *) FIELD(subsetter_pdf_range, end, WORD, size_t *) SIZE(subsetter_pdf_range, 2 * WORD)
+FIELD(subsetter_pdf_part, role, 0, uint32_t *) FIELD(subsetter_pdf_part, number, 4, uint32_t *) FIELD(subsetter_pdf_part, entries, 8, const uint8_t **)
+FIELD(subsetter_pdf_part, entries_size, 8 + WORD, size_t *) FIELD(subsetter_pdf_part, strings, 8 + 2 * WORD, const subsetter_pdf_range **)
+FIELD(subsetter_pdf_part, string_count, 8 + 3 * WORD, size_t *) FIELD(subsetter_pdf_part, is_stream, 8 + 4 * WORD, uint32_t *)
+FIELD(subsetter_pdf_part, stream, 8 + 5 * WORD, const uint8_t **) FIELD(subsetter_pdf_part, stream_size, 8 + 6 * WORD, size_t *) SIZE(subsetter_pdf_part, 8 + 7 * WORD)
+LIST(subsetter_pdf_parts, 0, parts, subsetter_pdf_part, part_count) SIZE(subsetter_pdf_parts, 2 * WORD)
+
 /* ---- calls */
 
 #define FONT const uint8_t *, size_t, uint32_t
@@ -118,3 +135,15 @@ CALL(subsetter_free_pdf_font, void, subsetter_pdf_font *)
 CALL(subsetter_make_pdf_objects, uint32_t, const subsetter_pdf_font *, uint32_t, subsetter_pdf_objects *)
 CALL(subsetter_make_pdf_sheet, uint32_t, const subsetter_pdf_font *, SHOWN, uint32_t, subsetter_pdf_objects *)
 CALL(subsetter_free_pdf_objects, void, subsetter_pdf_objects *)
+CALL(subsetter_make_font_by_words, uint32_t, FONT, AT, SHOWN, WORDS, subsetter_font *)
+CALL(subsetter_make_font, uint32_t, FONT, AT, SHOWN, const subsetter_pdf_options *, subsetter_font *)
+CALL(subsetter_make_pdf_font_of_utf8_by_words, uint32_t, FONT, AT, const uint8_t *, size_t, WORDS, subsetter_font *)
+CALL(subsetter_make_pdf_font_of_utf8, uint32_t, FONT, AT, const char *, size_t, const subsetter_pdf_options *, subsetter_font *)
+CALL(subsetter_make_sheet, uint32_t, const subsetter_font *, uint32_t, subsetter_pdf_objects *)
+CALL(subsetter_free_font, void, subsetter_font *)
+CALL(subsetter_pdf_part_count, uint32_t, const subsetter_font *)
+CALL(subsetter_make_pdf_parts, uint32_t, const subsetter_font *, WORDS, subsetter_pdf_parts *)
+CALL(subsetter_free_pdf_parts, void, subsetter_pdf_parts *)
+CALL(subsetter_codes_of, uint32_t, SHOWN, uint32_t, uint16_t *, size_t, size_t *)
+CALL(subsetter_advances_by_words, uint32_t, FONT, AT, GLYPHS, WORDS, uint16_t *, size_t, uint16_t *, size_t, uint32_t *)
+CALL(subsetter_advances, uint32_t, FONT, AT, GLYPHS, CHOSEN, uint16_t *, uint16_t *, uint32_t *)

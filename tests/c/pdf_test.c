@@ -373,28 +373,6 @@ static uint32_t status_of(const struct row *row, const subsetter_pdf_options *op
     return status;
 }
 
-static void answer(const struct row *row)
-{
-    const char *error = value(row, "error");
-    subsetter_pdf_font font;
-    if (error != NULL) {
-        check(status_of(row, &row->options) == (strcmp(error, "NotPermitted") == 0 ? SUBSETTER_NOT_PERMITTED : SUBSETTER_INVALID_TEXT), error, row->name);
-        return;
-    }
-    uint32_t status = make(row, &row->options, &font);
-    check(status == 0, "the status", row->name);
-    if (status != 0)
-        return;
-    compare_lists(row, &font);
-    compare_numbers(row, &font);
-    compare_objects(row, &font);
-    compare_sheets(row, &font);
-    for (int turn = 0; turn < 2; turn++) {
-        subsetter_free_pdf_font(&font);
-        check(is_given_back(&font), "what is left of a font", row->name);
-    }
-}
-
 /* Whether two fonts have the same lists and numbers. */
 static int are_same(const subsetter_pdf_font *a, const subsetter_pdf_font *b)
 {
@@ -411,31 +389,191 @@ static int are_same_objects(const subsetter_pdf_objects *a, const subsetter_pdf_
 #undef SAME
 }
 
+/* ---- by the newer struct */
+
+static uint32_t make_whole(const struct row *row, const subsetter_pdf_options *options, subsetter_font *font)
+{
+    memset(font, FILLED, sizeof *font);
+    return subsetter_make_font(row->font, row->font_size, 0, row->coordinates, row->coordinate_count, row->glyphs, row->glyph_count, row->text,
+        row->text_count, row->ends, row->glyph_count, options, font);
+}
+
+/* Whether all but the size of a font is 0 or an empty list. */
+static int is_no_whole(const subsetter_font *font)
+{
+    return font->size == sizeof *font && font->units_per_em == 0 && is_nothing(&font->pdf) && is_empty(font->exact_widths, font->exact_width_count)
+        && is_empty(font->unknown_axes, font->unknown_axis_count) && is_empty(font->glyphs, font->glyph_count)
+        && is_empty(font->text, font->text_count) && is_empty(font->ends, font->end_count);
+}
+
+static uint32_t make_parts(const subsetter_font *font, const uint32_t *numbers, uint32_t count, subsetter_pdf_parts *parts)
+{
+    memset(parts, FILLED, sizeof *parts);
+    uint32_t status = subsetter_make_pdf_parts(font, numbers, count, parts);
+    check(status == 0 || is_empty(parts->parts, parts->part_count), "what is left of no parts", "parts");
+    return status;
+}
+
+/* The parts of a font, written as objects, are its objects; other numbers are refused. */
+static void compare_parts(const struct row *row, const subsetter_font *font)
+{
+    uint32_t numbers[8] = {7, 8, 9, 10, 11, 12, 13, 14}, count = subsetter_pdf_part_count(font);
+    subsetter_pdf_objects objects;
+    subsetter_pdf_parts parts;
+    check(make_parts(font, numbers, count, &parts) == 0 && parts.part_count == count, "parts", row->name);
+    check(subsetter_make_pdf_objects(&font->pdf, 7, &objects) == 0 && objects.offset_count == count, "objects", row->name);
+    wanted_size = 0;
+    for (size_t i = 0; i < parts.part_count; i++) {
+        const subsetter_pdf_part *part = &parts.parts[i];
+        char text[64];
+        want(text, (size_t)snprintf(text, sizeof text, "%u 0 obj\n<< ", (unsigned)part->number));
+        want(part->entries, part->entries_size);
+        if (part->is_stream) {
+            want(text, (size_t)snprintf(text, sizeof text, "/Length %zu >>\nstream\n", part->stream_size));
+            want(part->stream, part->stream_size);
+            want("\nendstream\nendobj\n", 18);
+        } else
+            want(">>\nendobj\n", 10);
+        for (size_t k = 0; k < part->string_count; k++)
+            check(part->entries[part->strings[k].start] == '(' && part->entries[part->strings[k].end - 1] == ')', "a string", row->name);
+        check(part->string_count == (part->role == SUBSETTER_ROLE_CID_FONT || part->role == SUBSETTER_ROLE_ENCODING ? 2 : 0), "strings", row->name);
+    }
+    check(is_same(objects.bytes, objects.size, wanted, wanted_size), "the parts", row->name);
+    subsetter_free_pdf_objects(&objects);
+    for (int turn = 0; turn < 2; turn++) {
+        subsetter_free_pdf_parts(&parts);
+        check(parts.parts == NULL && parts.part_count == 0, "what is left of parts", row->name);
+    }
+    check(make_parts(font, numbers, count - 1, &parts) == 16 && make_parts(font, numbers, count + 1, &parts) == 16, "their count", row->name);
+    for (uint32_t place = 0; place < count; place++)
+        for (uint32_t number = 0; number <= 14; number += number == 0 ? 7 : 1) {
+            uint32_t kept = numbers[place], is_known = number == kept || number > 6 + count;
+            numbers[place] = number;
+            check(make_parts(font, numbers, count, &parts) == (is_known ? 0 : 16), "a number", row->name);
+            subsetter_free_pdf_parts(&parts);
+            numbers[place] = kept;
+        }
+}
+
+/* The same font, what is new of it, and what needs no font. */
+static void compare_whole(const struct row *row, const subsetter_pdf_font *font)
+{
+    uint16_t codes[ENTRIES], widths[ENTRIES], heights[ENTRIES];
+    uint32_t units;
+    size_t length, count = row->glyph_count, differing = 0;
+    subsetter_font whole;
+    check(make_whole(row, &row->options, &whole) == 0 && whole.size == sizeof whole && are_same(&whole.pdf, font), "the newer call", row->name);
+    check(is_same(whole.glyphs, 2 * whole.glyph_count, row->glyphs, 2 * count) && is_same(whole.text, 4 * whole.text_count, row->text, 4 * row->text_count)
+              && is_same(whole.ends, whole.end_count * sizeof *whole.ends, row->ends, count * sizeof *row->ends), "its entries", row->name);
+    check(subsetter_codes_of(row->glyphs, count, row->text, row->text_count, row->ends, count, row->options.codes, codes, ENTRIES, &length) == 0
+              && is_same(codes, 2 * length, font->codes, 2 * font->code_count), "codes", row->name);
+    check(count == 0 || (subsetter_codes_of(row->glyphs, count, row->text, row->text_count, row->ends, count, 0, codes, count - 1, &length) == 8
+              && length == count), "room for codes", row->name);
+    check(subsetter_advances(row->font, row->font_size, 0, row->coordinates, row->coordinate_count, row->glyphs, count, NULL, widths, heights, &units) == 0
+              && units == whole.units_per_em && whole.exact_width_count == font->width_count, "advances", row->name);
+    for (size_t i = 0; i < count; i++)
+        differing += widths[i] != whole.exact_widths[font->cids[i]];
+    for (size_t i = 0; i < font->width_count; i++)
+        differing += font->widths[i] != (2000 * whole.exact_widths[i] + units) / (2 * units);
+    check(differing == 0, "widths that differ", row->name);
+    compare_parts(row, &whole);
+    for (int turn = 0; turn < 2; turn++) {
+        static const subsetter_font zero;
+        subsetter_free_font(&whole);
+        check(whole.size == sizeof whole && whole.units_per_em == 0 && is_given_back(&whole.pdf)
+                  && memcmp(&whole.exact_widths, &zero.exact_widths, sizeof zero - offsetof(subsetter_font, exact_widths)) == 0, "what is left", row->name);
+    }
+    whole.size--;
+    check(subsetter_make_font_by_words(row->font, row->font_size, 0, NULL, 0, NULL, 0, NULL, 0, NULL, 0, NULL, 0, &whole) == 10 && whole.size == sizeof whole - 1
+              && make_parts(&whole, NULL, 0, &(subsetter_pdf_parts){NULL, 0}) == 10, "another size", row->name);
+}
+
+/* A text in UTF-8: the same font as of its glyphs; an axis that the font doesn't have; and kinds of codes. */
+static void try_utf8(const struct row *row)
+{
+    static const char name[] = "a text in UTF-8", *const wrong[] = {"\xff", "A\xc0\x80", "\xed\xa0\x80", "\xf4\x90\x80\x80", "\xe2\x82"};
+    static const char text[] = "AH\xef\xac\x81\xf0\x9f\x98\x80z";
+    const subsetter_coordinate at[] = {{SUBSETTER_TAG('n', 'o', 'n', 'e'), 7}, {SUBSETTER_TAG('n', 'o', 'n', 'e'), 8}};
+    subsetter_pdf_objects sheets[2];
+    subsetter_pdf_font older;
+    subsetter_font font;
+    uint16_t code;
+    uint32_t units;
+    size_t length;
+    check(subsetter_make_pdf_font_of_utf8(row->font, row->font_size, 0, at, 2, text, sizeof text - 1, NULL, &font) == 0, "status", name);
+    check(font.glyph_count == 5 && font.text[2] == 0xfb01 && font.text[3] == 0x1f600 && font.ends[4] == 5 && font.glyphs[1] == 9 && font.glyphs[4] == 0
+              && font.unknown_axis_count == 1 && font.unknown_axes[0] == at[0].tag, "what was looked up", name);
+    check(subsetter_make_pdf_font(row->font, row->font_size, 0, NULL, 0, font.glyphs, 5, font.text, 5, font.ends, 5, NULL, &older) == 0
+              && are_same(&font.pdf, &older), "the font", name);
+    check(subsetter_make_sheet(&font, 1, &sheets[0]) == 0 && subsetter_make_pdf_sheet(&older, font.glyphs, 5, font.text, 5, font.ends, 5, 1, &sheets[1]) == 0
+              && are_same_objects(&sheets[0], &sheets[1]), "a sheet", name);
+    subsetter_free_pdf_objects(&sheets[0]);
+    subsetter_free_pdf_objects(&sheets[1]);
+    subsetter_free_pdf_font(&older);
+    subsetter_free_font(&font);
+    for (size_t i = 0; i < sizeof wrong / sizeof *wrong; i++) {
+        memset(&font, FILLED, sizeof font);
+        check(subsetter_make_pdf_font_of_utf8(row->font, row->font_size, 0, NULL, 0, wrong[i], strlen(wrong[i]), NULL, &font) == 12 && is_no_whole(&font), "no UTF-8", name);
+    }
+    check(subsetter_make_pdf_font_of_utf8((const uint8_t *)"no", 2, 0, NULL, 0, "A", 1, NULL, &font) == 1 && is_no_whole(&font), "no font", name);
+    for (uint32_t kind = 0; kind < 300; kind++)
+        check(subsetter_codes_of(row->glyphs, 1, NULL, 0, (const size_t[]){0}, 1, kind, &code, 1, &length) == (kind < 3 ? 0 : 10) && length == (kind < 3), "a kind", name);
+    check(subsetter_codes_of(row->glyphs, 1, NULL, 0, (const size_t[]){1}, 1, 0, &code, 1, &length) == 12 && length == 0, "no text", name);
+    check(subsetter_advances((const uint8_t *)"no", 2, 0, NULL, 0, row->glyphs, 1, NULL, &code, &code, &units) == 1, "advances of no font", name);
+}
+
+static void answer(const struct row *row)
+{
+    const char *error = value(row, "error");
+    subsetter_pdf_font font;
+    if (error != NULL) {
+        check(status_of(row, &row->options) == (strcmp(error, "NotPermitted") == 0 ? SUBSETTER_NOT_PERMITTED : SUBSETTER_INVALID_TEXT), error, row->name);
+        return;
+    }
+    uint32_t status = make(row, &row->options, &font);
+    check(status == 0, "the status", row->name);
+    if (status != 0)
+        return;
+    compare_lists(row, &font);
+    compare_numbers(row, &font);
+    compare_objects(row, &font);
+    compare_sheets(row, &font);
+    compare_whole(row, &font);
+    for (int turn = 0; turn < 2; turn++) {
+        subsetter_free_pdf_font(&font);
+        check(is_given_back(&font), "what is left of a font", row->name);
+    }
+}
+
 /* What the calls of a row make, as far as they succeed. */
 struct all {
-    subsetter_pdf_font font;
+    subsetter_font font;
     subsetter_pdf_objects objects, page;
-    uint32_t statuses[3];
+    subsetter_pdf_parts parts;
+    uint32_t statuses[4];
 };
 
 static void make_all(const struct row *row, struct all *it)
 {
+    static const uint32_t numbers[] = {9, 8, 7, 6, 5, 4, 3};
     memset(it, FILLED, sizeof *it);
-    it->statuses[1] = it->statuses[2] = 0;
-    it->statuses[0] = make(row, &row->options, &it->font);
-    if (it->statuses[0] == 0)
-        it->statuses[1] = subsetter_make_pdf_objects(&it->font, 4, &it->objects);
-    if (it->statuses[0] == 0 && it->statuses[1] == 0)
-        it->statuses[2] = sheet(row, &it->font, 0, &it->page);
+    it->statuses[1] = it->statuses[2] = it->statuses[3] = 0;
+    it->statuses[0] = make_whole(row, &row->options, &it->font);
+    if (it->statuses[0] == 0) {
+        it->statuses[1] = subsetter_make_pdf_objects(&it->font.pdf, 4, &it->objects);
+        it->statuses[2] = subsetter_make_sheet(&it->font, 0, &it->page);
+        it->statuses[3] = make_parts(&it->font, numbers, subsetter_pdf_part_count(&it->font), &it->parts);
+    }
 }
 
 static void free_all(struct all *it)
 {
-    subsetter_free_pdf_font(&it->font);
-    if (it->statuses[0] == 0)
+    if (it->statuses[0] == 0) {
+        subsetter_free_pdf_parts(&it->parts);
         subsetter_free_pdf_objects(&it->objects);
-    if (it->statuses[0] == 0 && it->statuses[1] == 0)
         subsetter_free_pdf_objects(&it->page);
+    }
+    subsetter_free_font(&it->font);
 }
 
 /* Each request for memory is refused in turn: what is answered is whole, or nothing with status 7. Where a smaller block is requested the
@@ -445,7 +583,7 @@ static void refuse(const struct row *row)
     struct all whole, it;
     size_t goes_on = 0;
     make_all(row, &whole);
-    check(whole.statuses[1] == 0 && whole.statuses[2] == 0, "all that is made", row->name);
+    check(whole.statuses[1] == 0 && whole.statuses[2] == 0 && whole.statuses[3] == 0, "all that is made", row->name);
     for (unsigned long request = 1;; request++) {
         long before = held;
         requests = 0;
@@ -455,13 +593,15 @@ static void refuse(const struct row *row)
         refused = 0;
         const uint32_t *found = it.statuses;
         check(found[0] == whole.statuses[0] || (was_refused && found[0] == 7), "a refused request", row->name);
-        check((found[1] == 0 || found[1] == 7) && (found[2] == 0 || found[2] == 7), "a refused request of objects or of a sheet", row->name);
-        check(found[0] == 0 ? are_same(&it.font, &whole.font) : is_nothing(&it.font), "a font that isn't whole", row->name);
-        if (found[0] == 0)
+        for (int call = 1; call < 4; call++)
+            check(found[call] == 0 || found[call] == 7, "a refused request of objects, a sheet or parts", row->name);
+        check(found[0] == 0 ? are_same(&it.font.pdf, &whole.font.pdf) : is_no_whole(&it.font), "a font that isn't whole", row->name);
+        if (found[0] == 0) {
             check(found[1] == 0 ? are_same_objects(&it.objects, &whole.objects) : are_no_objects(&it.objects), "objects that aren't whole", row->name);
-        if (found[0] == 0 && found[1] == 0)
             check(found[2] == 0 ? are_same_objects(&it.page, &whole.page) : are_no_objects(&it.page), "a sheet that isn't whole", row->name);
-        goes_on += was_refused && found[0] == 0 && found[1] == 0 && found[2] == 0;
+            check(found[3] != 0 || it.parts.part_count == whole.parts.part_count, "parts that aren't whole", row->name);
+        }
+        goes_on += was_refused && found[0] == 0 && found[1] == 0 && found[2] == 0 && found[3] == 0;
         check(request > 20 || was_refused || found[0] != 0, "requests of the calls", row->name);
         free_all(&it);
         check(held == before, "memory that isn't given back", row->name);
@@ -817,6 +957,8 @@ static void try_lists_alone(void)
     subsetter_free(NULL);
     subsetter_free_pdf_font(NULL);
     subsetter_free_pdf_objects(NULL);
+    subsetter_free_font(NULL);
+    subsetter_free_pdf_parts(NULL);
 }
 
 /* Any pointer to no items, and null, are the same to each call. */
@@ -1008,7 +1150,7 @@ int main(int count, char **words)
 {
     static struct row row;
     static void (*const tries[])(const struct row *) = {
-        try_words, try_options, try_tags, try_texts, try_nulls, try_sheets, try_glyphs, try_permissions, try_faces};
+        try_utf8, try_words, try_options, try_tags, try_texts, try_nulls, try_sheets, try_glyphs, try_permissions, try_faces};
     size_t size, rows = 0;
     int damaged = 1000;
     for (int i = 1; i < count; i++) {

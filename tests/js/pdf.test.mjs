@@ -1,6 +1,11 @@
 /** What the calls for PDF take and refuse, and what an answer is besides what the rows have of it. */
 import assert from "node:assert/strict";
+import { execFileSync } from "node:child_process";
+import { mkdtempSync, readFileSync, writeFileSync } from "node:fs";
+import { tmpdir } from "node:os";
+import { join } from "node:path";
 import { test } from "node:test";
+import { deflateSync } from "node:zlib";
 import { fonts, latin1, library, made, subsetter, throws } from "./support.mjs";
 
 const { CFFError, InvalidText, MalformedFont, NotPermitted, OverflowError, UnknownKind } = library;
@@ -105,6 +110,48 @@ test("permissions, by fsType of OS/2", () => {
     }
 });
 
+test("parts", () => {
+    const font = subsetter.pdfFont(TTF, SHOWN, { codes: "each_text", cidSet: true, vertical: true }), { bytes } = font.objects(4);
+    const numbers = Array.from({ length: font.partCount }, (_, i) => i + 4), parts = font.parts(numbers);
+    assert.deepEqual(parts.map((it) => it.role), ["font", "cid_font", "descriptor", "program", "to_unicode", "cid_set", "encoding"].filter((it) => it !== "encoding" || font.encoding));
+    assert.equal(parts.map((it) => `${it.number} 0 obj\n${latin1(it.value)}\nendobj\n`).join(""), latin1(bytes));
+    const strings = parts.flatMap((it) => it.strings.map(([start, end]) => latin1(it.entries.slice(start, end))));
+    assert.deepEqual(new Set(strings), new Set(["(Adobe)", "(Identity)"]));
+    for (const wrong of [[1, 2], numbers.map(() => 7), numbers.map((_, i) => i), numbers.map(() => 2 ** 32), numbers.map(() => 1.5)]) throws(() => font.parts(wrong), RangeError, `${wrong}`);
+    for (const wrong of [[5], [numbers, { pack: 5 }], [numbers, { compress: true }], [numbers, { filter: 5 }]]) throws(() => font.parts(...wrong), TypeError, "no parts");
+});
+
+test("a PDF of packed parts", () => {
+    const data = readFileSync("/usr/share/fonts/truetype/dejavu/DejaVuSans.ttf"), font = subsetter.pdfFont(data, subsetter.glyphsOf(data, "Hello, \u0395!"));
+    const parts = font.parts([30, 29, 28, 27, 26], { pack: deflateSync }), codes = font.codes.map((code) => code.toString(16).padStart(4, "0")).join("");
+    const shows = `BT /F1 24 Tf 36 60 Td <${codes}> Tj ET`, objects = [
+        [1, "<< /Type /Catalog /Pages 2 0 R >>"], [2, "<< /Type /Pages /Count 1 /Kids [3 0 R] >>"],
+        [3, "<< /Type /Page /Parent 2 0 R /MediaBox [0 0 300 144] /Contents 4 0 R /Resources << /Font << /F1 30 0 R >> >> >>"],
+        [4, `<< /Length ${shows.length} >>\nstream\n${shows}\nendstream`], ...parts.map((it) => [it.number, latin1(it.value)])];
+    let pdf = "%PDF-1.7\n", table = "xref\n0 1\n0000000000 65535 f \n";
+    for (const [number, value] of objects) {
+        table += `${number} 1\n${String(pdf.length).padStart(10, "0")} 00000 n \n`;
+        pdf += `${number} 0 obj\n${value}\nendobj\n`;
+    }
+    const path = join(mkdtempSync(join(tmpdir(), "subsetter-")), "packed.pdf");
+    writeFileSync(path, `${pdf}${table}trailer\n<< /Size 31 /Root 1 0 R >>\nstartxref\n${pdf.length}\n%%EOF\n`, "latin1");
+    assert.match(execFileSync("qpdf", ["--check", path], { encoding: "utf8" }), /No syntax or stream encoding errors found/);
+    assert.equal(execFileSync("pdftotext", ["-enc", "UTF-8", path, "-"], { encoding: "utf8" }).trim(), "Hello, \u0395!");
+    assert.match(latin1(parts[3].entries), /\/Filter \/FlateDecode $/);
+});
+
+test("codes and advances without a font", () => {
+    for (const codes of [undefined, "consecutive", "source", "each_text"]) assert.deepEqual(subsetter.codesOf(SHOWN, codes), subsetter.pdfFont(TTF, SHOWN, { codes }).codes);
+    const variable = made("made_variable.ttf"), coordinates = { wght: 650, wgth: 1 }, font = subsetter.pdfFont(variable, SHOWN, { coordinates });
+    const found = { unitsPerEm: 2048, widths: [1466, 1139, 1466], heights: [2048, 2048, 2048] };
+    for (const it of [subsetter.advances(variable, [1, 5, 1], { coordinates }), subsetter.open(variable).advances([1, 5, 1], { coordinates, limits: {} })]) assert.deepEqual(it, found);
+    assert.deepEqual([font.unitsPerEm, font.unknownAxes, font.cids.map((cid) => font.exactWidths[cid])], [2048, ["wgth"], [1466, 1139, 1466]]);
+    throws(() => subsetter.codesOf([{ glyph: 1, text: "\ud800" }]), InvalidText, "no text");
+    throws(() => subsetter.codesOf(SHOWN, "cids"), RangeError, "a kind");
+    throws(() => subsetter.advances(TTF, [999]), MalformedFont, "no glyph");
+    throws(() => subsetter.advances(TTF, [1], { small: true }), TypeError, "an option");
+});
+
 test("what is changed in an answer is written nowhere", () => {
     const shown = SHOWN.map((it) => ({ ...it })), font = subsetter.pdfFont(TTF, shown, { codes: "each_text", cidSet: true, vertical: true });
     const wanted = [font.objects(4), font.sheet(), font.sheet("grid")];
@@ -116,6 +163,6 @@ test("what is changed in an answer is written nowhere", () => {
     assert.deepEqual([font.objects(4), font.sheet(), font.sheet("grid")], wanted);
     const plain = subsetter.pdfFont(TTF, SHOWN);
     font.close();
-    for (const call of [() => font.objects(4), () => font.sheet()]) throws(call, TypeError, "a closed font");
+    for (const call of [() => font.objects(4), () => font.sheet(), () => font.parts([1])]) throws(call, TypeError, "a closed font");
     assert.ok(!["columns", "defaultColumn", "encoding", "encodingName", "cidSet"].some((name) => name in plain));
 });

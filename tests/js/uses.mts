@@ -1,6 +1,6 @@
 /** Uses of the package: tsc has to accept each, but for the line behind each `@ts-expect-error`, which it has to refuse. */
 import { load, OutOfMemory, SubsetterError, UnknownKind } from "subsetter-proved";
-import type { Column, Embedded, Font, Objects, PdfFont, Shown, Subsetter } from "subsetter-proved";
+import type { Advances, Column, Embedded, Font, Objects, Part, PdfFont, Shown, Subsetter } from "subsetter-proved";
 
 export async function accepted(data: Uint8Array, module: WebAssembly.Module): Promise<void> {
     const subsetter: Subsetter = await load();
@@ -31,6 +31,11 @@ export function acceptedForPdf(subsetter: Subsetter, data: Uint8Array): void {
     const numbers: number[] = [font.glyphCount, ...font.cids, ...font.codes, ...font.widths, font.defaultWidth, left, italicAngle, xHeight ?? 0, ...objects.offsets];
     const texts: string[] = [fontName, kind, font.encodingName ?? "", font.permission.usage];
     const truths: boolean[] = [...font.textIsMapped, font.permission.subsetting, font.permission.outlines];
+    const parts: Part[] = [...font.parts([1, 2, 3, 4, 5]), ...font.parts(new Set([1]), { pack: (it: Uint8Array) => it.slice(), filter: "/X" })];
+    const advances: Advances = subsetter.advances(data, [1], { index: 0, coordinates: { wght: 1 }, limits: { tokens: 5 } });
+    bytes.push(parts[0].entries, parts[0].value, parts[0].stream ?? data);
+    numbers.push(parts[0].number, parts[0].strings[0][1], font.partCount, font.unitsPerEm, ...font.exactWidths, ...advances.widths, ...subsetter.codesOf(shown, "each_text"));
+    texts.push(parts[0].role, ...font.unknownAxes);
     font.close();
     console.log(bytes, columns, numbers, texts, truths, font.defaultColumn?.[1], columns[0]?.advance);
 }

@@ -11,7 +11,7 @@ def made(name):
 
 
 def parts(font):
-    return font.program, font.codes, font.widths, font.to_unicode, font.encoding, font.cid_set, font.objects(4), font.sheet("grid")
+    return font.program, font.codes, font.widths, font.to_unicode, font.encoding, font.cid_set, font.objects(4), font.sheet("grid"), font.exact_widths, font.parts(range(1, font.part_count + 1), compress=True)
 
 
 def pdf(module, name, **choices):
@@ -26,6 +26,8 @@ def calls(module):
         "an embedded font at coordinates": lambda: module.embed(made("made_variable.ttf"), [1, 5], coordinates={"wght": 650}),
         "a subset of CFF2": lambda: module.subset(made("made_cff2.otf"), [1, 2], coordinates={}),
         "glyphs of a text": lambda: module.glyphs_of(made("made.ttf"), "AH\ufb01"),
+        "codes": lambda: module.codes_of([(1, "A"), (5, "fi")]),
+        "advances": lambda: module.advances(made("made_variable.ttf"), [1, 5], coordinates={"wght": 650}),
         "a font for a PDF": pdf(module, "made.ttf", cid_set=True, codes="each_text"),
         "a vertical font for a PDF": pdf(module, "made.otf", vertical=True, rights="held"),
     }

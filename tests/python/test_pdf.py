@@ -5,10 +5,11 @@ import ctypes
 import pickle
 import re
 import warnings
+from pathlib import Path
 
 import pytest
 import subsetter
-from common import ROOT, made, raised, read_rows
+from common import ROOT, made, raised, read_rows, run
 from hypothesis import given, strategies as st
 
 FONTS = read_rows()[1]
@@ -169,6 +170,78 @@ def test_older_names():
             assert call() == [True, True, False]
 
 
+DEJAVU = Path("/usr/share/fonts/truetype/dejavu/DejaVuSans.ttf")
+
+
+@pytest.mark.parametrize("more", [{"compress": True}, {"pack": lambda it: it.hex().encode() + b">", "filter": "/ASCIIHexDecode"}], ids=["zlib", "hex"])
+def test_a_pdf_of_packed_parts(tmp_path, more):
+    """Objects with numbers of the writer's, in another order, each stream packed: qpdf, Poppler and MuPDF read them."""
+    font = subsetter.pdf_font(DEJAVU.read_bytes(), subsetter.glyphs_of(DEJAVU.read_bytes(), "Hello, \u0395\u03bb\u03bb!"), cid_set=True, codes="each_text")
+    parts = font.parts(range(30, 30 - font.part_count, -1), **more)
+    assert [it.role for it in parts] == ["font", "cid_font", "descriptor", "program", "to_unicode", "cid_set", "encoding"][:font.part_count]
+    shows = b"BT /F1 24 Tf 36 60 Td <%s> Tj ET" % "".join("%04X" % code for code in font.codes).encode()
+    objects = {
+        1: b"<< /Type /Catalog /Pages 2 0 R >>", 2: b"<< /Type /Pages /Count 1 /Kids [3 0 R] >>",
+        3: b"<< /Type /Page /Parent 2 0 R /MediaBox [0 0 300 144] /Contents 4 0 R /Resources << /Font << /F1 30 0 R >> >> >>",
+        4: b"<< /Length %d >>\nstream\n%s\nendstream" % (len(shows), shows), **{it.number: it.value for it in parts},
+    }
+    pdf, table = b"%PDF-1.7\n", b"xref\n0 1\n0000000000 65535 f \n"
+    for number, value in objects.items():
+        table += b"%d 1\n%010d 00000 n \n" % (number, len(pdf))
+        pdf += b"%d 0 obj\n%s\nendobj\n" % (number, value)
+    path = tmp_path / "packed.pdf"
+    path.write_bytes(pdf + table + b"trailer\n<< /Size 31 /Root 1 0 R >>\nstartxref\n%d\n%%%%EOF\n" % len(pdf))
+    assert "No syntax or stream encoding errors found" in run("qpdf", "--check", path).stdout
+    for words in (["pdftotext", "-enc", "UTF-8", path, "-"], ["mutool", "draw", "-q", "-F", "txt", path]):
+        assert run(*words).stdout.strip().split("\n")[-1] == "Hello, \u0395\u03bb\u03bb!"
+    assert re.search(r"\+DejaVuSans +CID TrueType +Identity-H +yes yes yes", run("pdffonts", path).stdout)
+    program = next(it for it in parts if it.role == "program")
+    assert b"/Filter " + more.get("filter", "/FlateDecode").encode() in program.entries and len(program.stream) != len(font.program)
+
+
+def test_parts_are_the_objects():
+    for font in (subsetter.pdf_font(TTF, SHOWN, vertical=True, cid_set=True, codes="each_text"), subsetter.pdf_font(made("made.otf"), SHOWN, rights="held")):
+        parts = font.parts(range(4, 4 + font.part_count))
+        assert b"".join(b"%d 0 obj\n%s\nendobj\n" % (it.number, it.value) for it in parts) == font.objects(4).bytes
+        assert {it.entries[start:end] for it in parts for start, end in it.strings} == {b"(Adobe)", b"(Identity)"}
+        for wrong in ([1, 2], range(font.part_count), [7] * font.part_count, [2**32] * font.part_count, [-1] * font.part_count):
+            assert type(raised(font.parts, wrong)) is ValueError
+        assert type(raised(font.parts, ["1"] * font.part_count)) is TypeError
+
+
+def test_codes_and_advances_without_a_font():
+    for codes in ("consecutive", "source", "each_text"):
+        assert subsetter.codes_of(iter(SHOWN), codes) == subsetter.pdf_font(TTF, SHOWN, codes=codes).codes
+    assert type(raised(subsetter.codes_of, [(1, "\ud800")])) is subsetter.InvalidText and type(raised(subsetter.codes_of, SHOWN, "cids")) is ValueError
+    variable, place = made("made_variable.ttf"), {"wght": 650, "wgth": 1, "none": 2}
+    font = subsetter.pdf_font(variable, SHOWN, coordinates=place)
+    found = subsetter.advances(variable, [1, 5, 1], coordinates=place)
+    assert found == (2048, [1466, 1139, 1466], [2048] * 3) and found.widths == [font.exact_widths[cid] for cid in font.cids]
+    assert (font.units_per_em, font.unknown_axes) == (2048, ["wgth", "none"]) and found.widths != subsetter.advances(variable, [1, 5, 1]).widths
+    assert type(raised(subsetter.advances, TTF, [999])) is subsetter.MalformedFont and subsetter.advances(TTF, []).widths == []
+
+
+def test_over_an_older_library(monkeypatch):
+    """One without the newer calls makes fonts all the same."""
+    wanted = subsetter.pdf_font(TTF, SHOWN).objects(4)
+
+    class Older:
+        _name = "libolder.so"
+
+        def __getattr__(self, name):
+            if name in ("subsetter_make_font_by_words", "subsetter_make_pdf_parts", "subsetter_codes_of", "subsetter_advances_by_words"):
+                raise AttributeError(name)
+            return getattr(library, name)
+
+    library = subsetter._library()
+    monkeypatch.setattr(subsetter, "_loaded", Older())
+    font = subsetter.pdf_font(TTF, SHOWN)
+    assert font.objects(4) == wanted and pickle.loads(pickle.dumps(font)).objects(4) == wanted
+    for call in (lambda: font.exact_widths, lambda: font.part_count, lambda: font.parts([1]), lambda: subsetter.codes_of(SHOWN), lambda: subsetter.advances(TTF, [1])):
+        assert type(raised(call)) is NotImplementedError
+    assert not hasattr(font, "no_such_name")
+
+
 def raising(error):
     def call(*_):
         raise error
@@ -177,7 +250,7 @@ def raising(error):
 
 def test_what_the_library_hands_over_is_given_back_once(monkeypatch):
     library, counts = subsetter._library(), {}
-    for name in ("make_subset_by_words", "free", "make_pdf_font_by_words", "free_pdf_font", "make_pdf_objects", "make_pdf_sheet", "free_pdf_objects"):
+    for name in ("make_subset_by_words", "free", "make_font_by_words", "free_font", "make_pdf_objects", "make_pdf_sheet", "free_pdf_objects"):
         counts[name] = 0
 
         def call(*arguments, name=name, real=getattr(library, f"subsetter_{name}")):
@@ -201,12 +274,12 @@ def test_what_the_library_hands_over_is_given_back_once(monkeypatch):
 
 
 TYPES = {"uint8_t": ctypes.c_uint8, "uint16_t": ctypes.c_uint16, "uint32_t": ctypes.c_uint32, "int32_t": ctypes.c_int32,
-         "size_t": ctypes.c_size_t}
+         "size_t": ctypes.c_size_t, "subsetter_pdf_font": subsetter._PdfFont, "subsetter_pdf_range": subsetter._Range, "subsetter_pdf_part": subsetter._Part}
 
 
 @pytest.mark.parametrize("name, own", [
     ("coordinate", subsetter._Coordinate), ("made", subsetter._Made), ("pdf_font", subsetter._PdfFont),
-    ("pdf_objects", subsetter._Objects),
+    ("pdf_objects", subsetter._Objects), ("font", subsetter._Font), ("pdf_range", subsetter._Range), ("pdf_part", subsetter._Part), ("pdf_parts", subsetter._Parts),
 ])
 def test_structs_are_those_of_the_header(name, own):
     """A sign, a width or an order that differs would read other numbers. (What is read as bytes may be any pointer.)"""

@@ -50,6 +50,11 @@ def accepted_for_pdf(data: bytes, mapped: mmap.mmap, one: Index) -> None:
     value: Type[ValueError] = subsetter.InvalidText
     if font.permission.usage == "editable" and font.encoding is not None and font.encoding_name is not None:
         print(font.encoding + font.encoding_name.encode(), font.descriptor.x_height, font.default_column)
+    parts: List[subsetter.Part] = font.parts(range(1, 8), compress=True) + font.parts([one], pack=bytes.upper, filter="/X")
+    streams = [part.entries + (part.stream or b"") + part.value for part in parts]
+    advances: subsetter.Advances = subsetter.advances(data, [one], one, coordinates={"wght": 1}, tokens=one)
+    lists += [subsetter.codes_of(shown, "source"), advances.widths, advances.heights, font.exact_widths, [font.units_per_em, font.part_count]]
+    print(streams, font.unknown_axes, parts[0].role, parts[0].strings[0][1])
     with font as opened:
         mapped_texts: List[bool] = opened.text_is_mapped
     font.close()
@@ -76,6 +81,7 @@ def refused(data: bytes, value: Real) -> None:
     subsetter.pdf_font(data, [], names=False)  # type: ignore[call-arg]
     subsetter.pdf_font(data, []).sheet("page")  # type: ignore[arg-type]
     subsetter.pdf_font(data, []).objects()  # type: ignore[call-arg]
+    subsetter.pdf_font(data, []).parts([1], True)  # type: ignore[misc]
     font: bytes = subsetter.embed(data, [1])  # type: ignore[assignment]
     widths: List[str] = subsetter.embed(data, [1]).widths  # type: ignore[assignment]
     text: str = subsetter.pdf_font(data, []).program  # type: ignore[assignment]

@@ -2,41 +2,28 @@
 
 use crate::buffers::{hand_items, list, Buffer};
 use crate::calls::guarded;
-use crate::heap::give_back;
-use crate::making::kept;
+use crate::making::List;
 use crate::options::font_choices;
 use crate::status::{status_of, DONE, INVALID_TEXT, NOT_PERMITTED, UNKNOWN_OPTION};
 use fonts::capi::pdf::{glyphs_of, pdf_font, Column, Entries, FontLists, FontNumbers, FontParts, Refusal};
 use fonts::capi::Coordinate;
 use fonts::pdf::FontError;
-use std::ptr;
 
 /// A font for a PDF, which the caller reads, and gives back by `subsetter_free_pdf_font`.
 #[derive(Clone, Copy)]
 #[repr(C)]
 pub struct PdfMade {
-    program: *const u8,
-    program_size: usize,
-    cids: *const u16,
-    cid_count: usize,
-    codes: *const u16,
-    code_count: usize,
-    is_said: *const bool,
-    said_count: usize,
-    widths: *const u32,
-    width_count: usize,
-    columns: *const Column,
-    column_count: usize,
-    font_name: *const u8,
-    font_name_size: usize,
-    to_unicode: *const u8,
-    to_unicode_size: usize,
-    encoding: *const u8,
-    encoding_size: usize,
-    encoding_name: *const u8,
-    encoding_name_size: usize,
-    cid_set: *const u8,
-    cid_set_size: usize,
+    program: List<u8>,
+    cids: List<u16>,
+    codes: List<u16>,
+    is_said: List<bool>,
+    widths: List<u32>,
+    columns: List<Column>,
+    font_name: List<u8>,
+    to_unicode: List<u8>,
+    encoding: List<u8>,
+    encoding_name: List<u8>,
+    cid_set: List<u8>,
     numbers: FontNumbers,
 }
 
@@ -44,84 +31,41 @@ impl PdfMade {
     /// How many bytes the font program has.
     #[cfg(test)]
     pub fn size(&self) -> usize {
-        self.program_size
-    }
-
-    /// The bytes of the font program.
-    ///
-    /// # Safety
-    ///
-    /// As of `parts`.
-    #[cfg(test)]
-    pub unsafe fn program<'a>(&self) -> &'a [u8] {
-        unsafe { self.parts() }.program
+        self.program.count()
     }
 
     /// Nothing.
     pub fn nothing() -> Self {
         Self {
-            program: ptr::null(),
-            program_size: 0,
-            cids: ptr::null(),
-            cid_count: 0,
-            codes: ptr::null(),
-            code_count: 0,
-            is_said: ptr::null(),
-            said_count: 0,
-            widths: ptr::null(),
-            width_count: 0,
-            columns: ptr::null(),
-            column_count: 0,
-            font_name: ptr::null(),
-            font_name_size: 0,
-            to_unicode: ptr::null(),
-            to_unicode_size: 0,
-            encoding: ptr::null(),
-            encoding_size: 0,
-            encoding_name: ptr::null(),
-            encoding_name_size: 0,
-            cid_set: ptr::null(),
-            cid_set_size: 0,
+            program: List::NONE,
+            cids: List::NONE,
+            codes: List::NONE,
+            is_said: List::NONE,
+            widths: List::NONE,
+            columns: List::NONE,
+            font_name: List::NONE,
+            to_unicode: List::NONE,
+            encoding: List::NONE,
+            encoding_name: List::NONE,
+            cid_set: List::NONE,
             numbers: FontNumbers::default(),
         }
     }
 
     /// A font that stays until it is given back.
-    fn of(lists: FontLists, numbers: FontNumbers) -> Self {
-        let (program, program_size) = kept(lists.program);
-        let (cids, cid_count) = kept(lists.cids);
-        let (codes, code_count) = kept(lists.codes);
-        let (is_said, said_count) = kept(lists.is_said);
-        let (widths, width_count) = kept(lists.widths);
-        let (columns, column_count) = kept(lists.columns);
-        let (font_name, font_name_size) = kept(lists.font_name);
-        let (to_unicode, to_unicode_size) = kept(lists.to_unicode);
-        let (encoding, encoding_size) = kept(lists.encoding);
-        let (encoding_name, encoding_name_size) = kept(lists.encoding_name);
-        let (cid_set, cid_set_size) = kept(lists.cid_set);
+    pub fn of(lists: FontLists, numbers: FontNumbers) -> Self {
         Self {
-            program,
-            program_size,
-            cids,
-            cid_count,
-            codes,
-            code_count,
-            is_said,
-            said_count,
-            widths,
-            width_count,
-            columns,
-            column_count,
-            font_name,
-            font_name_size,
-            to_unicode,
-            to_unicode_size,
-            encoding,
-            encoding_size,
-            encoding_name,
-            encoding_name_size,
-            cid_set,
-            cid_set_size,
+            program: List::of(lists.program),
+            cids: List::of(lists.cids),
+            codes: List::of(lists.codes),
+            is_said: List::of(lists.is_said),
+            widths: List::of(lists.widths),
+            columns: List::of(lists.columns),
+            font_name: List::of(lists.font_name),
+            to_unicode: List::of(lists.to_unicode),
+            encoding: List::of(lists.encoding),
+            encoding_name: List::of(lists.encoding_name),
+            cid_set: List::of(lists.cid_set),
             numbers,
         }
     }
@@ -130,21 +74,21 @@ impl PdfMade {
     ///
     /// # Safety
     ///
-    /// They were handed over by `subsetter_make_pdf_font`, and aren't given back as long as they are used.
-    unsafe fn parts<'a>(&self) -> FontParts<'a> {
+    /// They were handed over by a call that makes a font, and aren't given back as long as they are used.
+    pub unsafe fn parts<'a>(&self) -> FontParts<'a> {
         unsafe {
             FontParts {
-                program: list(self.program, self.program_size),
-                cids: list(self.cids, self.cid_count),
-                codes: list(self.codes, self.code_count),
-                is_said: list(self.is_said, self.said_count),
-                widths: list(self.widths, self.width_count),
-                columns: list(self.columns, self.column_count),
-                font_name: list(self.font_name, self.font_name_size),
-                to_unicode: list(self.to_unicode, self.to_unicode_size),
-                encoding: list(self.encoding, self.encoding_size),
-                encoding_name: list(self.encoding_name, self.encoding_name_size),
-                cid_set: list(self.cid_set, self.cid_set_size),
+                program: self.program.items(),
+                cids: self.cids.items(),
+                codes: self.codes.items(),
+                is_said: self.is_said.items(),
+                widths: self.widths.items(),
+                columns: self.columns.items(),
+                font_name: self.font_name.items(),
+                to_unicode: self.to_unicode.items(),
+                encoding: self.encoding.items(),
+                encoding_name: self.encoding_name.items(),
+                cid_set: self.cid_set.items(),
                 numbers: self.numbers,
             }
         }
@@ -154,20 +98,20 @@ impl PdfMade {
     ///
     /// # Safety
     ///
-    /// They were handed over by `subsetter_make_pdf_font`, and aren't used again.
-    unsafe fn give_back(&self) {
+    /// They were handed over by a call that makes a font, and aren't used again.
+    pub unsafe fn give_back(&self) {
         unsafe {
-            give_back(self.program, self.program_size);
-            give_back(self.cids, self.cid_count);
-            give_back(self.codes, self.code_count);
-            give_back(self.is_said, self.said_count);
-            give_back(self.widths, self.width_count);
-            give_back(self.columns, self.column_count);
-            give_back(self.font_name, self.font_name_size);
-            give_back(self.to_unicode, self.to_unicode_size);
-            give_back(self.encoding, self.encoding_size);
-            give_back(self.encoding_name, self.encoding_name_size);
-            give_back(self.cid_set, self.cid_set_size);
+            self.program.give_back();
+            self.cids.give_back();
+            self.codes.give_back();
+            self.is_said.give_back();
+            self.widths.give_back();
+            self.columns.give_back();
+            self.font_name.give_back();
+            self.to_unicode.give_back();
+            self.encoding.give_back();
+            self.encoding_name.give_back();
+            self.cid_set.give_back();
         }
     }
 }
@@ -176,41 +120,33 @@ impl PdfMade {
 #[derive(Clone, Copy)]
 #[repr(C)]
 pub struct ObjectsMade {
-    bytes: *const u8,
-    size: usize,
-    offsets: *const usize,
-    offset_count: usize,
+    bytes: List<u8>,
+    offsets: List<usize>,
 }
 
 impl ObjectsMade {
     /// How many bytes there are.
     #[cfg(test)]
     pub fn size(&self) -> usize {
-        self.size
+        self.bytes.count()
     }
 
     /// Nothing.
     pub const NOTHING: Self = Self {
-        bytes: ptr::null(),
-        size: 0,
-        offsets: ptr::null(),
-        offset_count: 0,
+        bytes: List::NONE,
+        offsets: List::NONE,
     };
 
     fn of(bytes: Vec<u8>, starts: Vec<usize>) -> Self {
-        let (bytes, size) = kept(bytes);
-        let (offsets, offset_count) = kept(starts);
         Self {
-            bytes,
-            size,
-            offsets,
-            offset_count,
+            bytes: List::of(bytes),
+            offsets: List::of(starts),
         }
     }
 }
 
 /// The number of a refusal.
-fn status_of_refusal(refusal: Refusal) -> u32 {
+pub fn status_of_refusal(refusal: Refusal) -> u32 {
     match refusal {
         Refusal::Text | Refusal::Font(FontError::TextTooLong) => INVALID_TEXT,
         Refusal::Font(FontError::NotPermitted(_)) => NOT_PERMITTED,
@@ -223,7 +159,7 @@ fn status_of_refusal(refusal: Refusal) -> u32 {
 /// # Safety
 ///
 /// What is made can be written.
-unsafe fn hand<T>(answer: Result<T, u32>, nothing: T, made: *mut T) -> u32 {
+pub unsafe fn hand<T>(answer: Result<T, u32>, nothing: T, made: *mut T) -> u32 {
     let (value, status) = match answer {
         Ok(value) => (value, DONE),
         Err(status) => (nothing, status),
@@ -297,7 +233,7 @@ pub unsafe extern "C" fn subsetter_make_pdf_font_by_words(
 /// # Safety
 ///
 /// As of [`list`], for each.
-unsafe fn entries_of<'a>(
+pub unsafe fn entries_of<'a>(
     glyphs: *const u16,
     glyph_count: usize,
     text: *const u32,
@@ -393,7 +329,7 @@ pub unsafe extern "C" fn subsetter_free_pdf_objects(made: *mut ObjectsMade) {
     }
     unsafe {
         let objects = made.replace(ObjectsMade::NOTHING);
-        give_back(objects.bytes, objects.size);
-        give_back(objects.offsets, objects.offset_count);
+        objects.bytes.give_back();
+        objects.offsets.give_back();
     }
 }

@@ -25,3 +25,4 @@ mod options;
 mod status;
 #[cfg(test)]
 mod tests;
+mod whole_fonts;

@@ -1,5 +1,6 @@
 //! Handing an answer over in memory of the library.
 
+use crate::buffers::list;
 use crate::heap::give_back;
 use crate::status::DONE;
 use fonts::Embedded;
@@ -44,6 +45,60 @@ impl Made {
             give_back(self.cids, self.cid_count);
             give_back(self.widths, self.width_count);
         }
+    }
+}
+
+/// A list as C has it, which stays until it is given back. One of no items is null and takes no memory.
+#[derive(Clone, Copy)]
+#[repr(C)]
+pub struct List<T> {
+    at: *const T,
+    count: usize,
+}
+
+impl<T> List<T> {
+    /// No items.
+    pub const NONE: Self = Self {
+        at: ptr::null(),
+        count: 0,
+    };
+
+    /// A list that stays.
+    pub fn of(items: Vec<T>) -> Self {
+        let (at, count) = kept(items);
+        Self { at, count }
+    }
+
+    /// A list that somebody else keeps.
+    pub fn borrowed(items: &[T]) -> Self {
+        Self {
+            at: items.as_ptr(),
+            count: items.len(),
+        }
+    }
+
+    /// How many items it has.
+    #[cfg(test)]
+    pub fn count(&self) -> usize {
+        self.count
+    }
+
+    /// Its items.
+    ///
+    /// # Safety
+    ///
+    /// As of [`list`].
+    pub unsafe fn items<'a>(&self) -> &'a [T] {
+        unsafe { list(self.at, self.count) }
+    }
+
+    /// Gives it back.
+    ///
+    /// # Safety
+    ///
+    /// It was handed over by this module, and isn't used again.
+    pub unsafe fn give_back(&self) {
+        unsafe { give_back(self.at, self.count) }
     }
 }
 

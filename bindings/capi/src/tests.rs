@@ -4,6 +4,7 @@ use crate::buffers::Sizes;
 use crate::calls::*;
 use crate::fonts_for_pdf::*;
 use crate::making::{make, Made};
+use crate::whole_fonts::*;
 use crate::status::{status_text, version_of, DONE, PANICKED, TOO_SMALL};
 use fonts::capi::Coordinate;
 use fonts::Embedded;
@@ -93,6 +94,19 @@ fn in_memory(address: usize) -> Vec<(u32, usize)> {
         all.push((found, objects.size()));
         subsetter_free_pdf_objects(&mut objects);
         subsetter_free_pdf_font(&mut made);
+        let (mut whole, mut parts, mut units) = (FontMade::nothing(), PartsMade::NOTHING, 0);
+        let (empty, buffer, bytes) = (address as *const u8, address as *mut u16, words);
+        let found = subsetter_make_font_by_words(font, size, 0, at, 0, glyphs, 0, words, 0, ends, 0, bytes, 0, &mut whole);
+        all.push((found, 0));
+        let found = subsetter_make_pdf_font_of_utf8_by_words(font, size, 0, at, 0, empty, 0, bytes, 0, &mut whole);
+        all.push((found, 0));
+        all.push((subsetter_make_pdf_parts(&whole, [1, 2, 3, 4, 5].as_ptr(), 5, &mut parts), subsetter_pdf_part_count(&whole) as usize));
+        subsetter_free_pdf_parts(&mut parts);
+        subsetter_free_font(&mut whole);
+        length = 0;
+        all.push((subsetter_codes_of(glyphs, 0, words, 0, ends, 0, 0, buffer, 0, &mut length), length));
+        let found = subsetter_advances_by_words(font, size, 0, at, 0, glyphs, 0, words, 0, buffer, 0, buffer, 0, &mut units);
+        all.push((found, units as usize));
     }
     all
 }
@@ -112,7 +126,10 @@ fn no_panic_reaches_the_caller() {
         };
         assert_eq!(left, wanted, "call {call}");
     }
-    assert_eq!(memory, [(PANICKED, 0); 8]);
+    let mut wanted = [(PANICKED, 0); 13];
+    // (how many parts there are is counted)
+    wanted[10].1 = 5;
+    assert_eq!(memory, wanted);
     assert_eq!(
         (PANICKED, &status_text(PANICKED)[..]),
         (u32::MAX, &b"unknown status"[..])
@@ -137,6 +154,7 @@ fn lists_of_no_items_may_be_anywhere() {
             [(DONE, 164), (DONE, 164), (2, 0), (2, 0), (2, 0), (2, 0)]
         );
         assert!(made[6].0 == DONE && made[6].1 > 500 && made[7].0 == DONE);
+        assert_eq!(made[8..], [(2, 0), (2, 0), (DONE, 5), (DONE, 0), (2, 0)]);
     }
 }
 

@@ -14,11 +14,12 @@ mod status;
 
 use fonts::capi::pdf::{self, Column, Entries, FontChoices, FontLists, FontNumbers, FontParts, Refusal};
 use fonts::capi::{self, Choices, Coordinate};
-use fonts::pdf::FontError;
+use fonts::pdf::{FontError, PartsError};
 use fonts::{Embedded, Error};
 use status::{
-    status_of, status_text, DONE, INVALID_TEXT, NOT_PERMITTED, NO_DEPTH, UNKNOWN_OPTION, VERSION,
+    status_of, status_text, DONE, INVALID_NUMBERS, INVALID_TEXT, NOT_PERMITTED, NO_DEPTH, UNKNOWN_OPTION, VERSION,
 };
+use std::mem::take;
 use std::slice;
 
 /// A list by its address.
@@ -219,6 +220,9 @@ pub struct PdfCall {
     /// The words of `subsetter_pdf_options` behind those.
     further: [u32; 8],
     made: PdfMade,
+    units_per_em: u32,
+    exact_widths: List<u16>,
+    unknown_axes: List<u32>,
 }
 
 /// A call that writes of such a font: objects from `number` on, or a sheet of that layout.
@@ -229,6 +233,46 @@ pub struct WriteCall {
     entries: EntryLists,
     bytes: List<u8>,
     offsets: List<usize>,
+}
+
+/// A call that gives the parts of such a font.
+#[repr(C)]
+pub struct PartsCall {
+    font: PdfMade,
+    numbers: List<u32>,
+    parts: List<PartMade>,
+}
+
+/// A part of a font, as words: `strings` has the start and the end of each string.
+#[repr(C)]
+pub struct PartMade {
+    role: u32,
+    number: u32,
+    entries: List<u8>,
+    strings: List<usize>,
+    is_stream: u32,
+    stream: List<u8>,
+}
+
+/// A call that gives codes.
+#[repr(C)]
+pub struct CodesCall {
+    entries: EntryLists,
+    kind: u32,
+    codes: List<u16>,
+}
+
+/// A call that gives advances.
+#[repr(C)]
+pub struct AdvancesCall {
+    font: List<u8>,
+    index: u32,
+    coordinates: List<Coordinate>,
+    glyphs: List<u16>,
+    tokens: u32,
+    units_per_em: u32,
+    widths: List<u16>,
+    heights: List<u16>,
 }
 
 /// A call that looks glyphs up.
@@ -253,13 +297,17 @@ fn status_of_refusal(refusal: Refusal) -> u32 {
 /// # Safety
 ///
 /// As of `List::items`.
-unsafe fn pdf_made(call: &PdfCall) -> Result<PdfMade, u32> {
+unsafe fn pdf_made(call: &mut PdfCall) -> Result<(), u32> {
     let limits = choices_of(call.tokens, call.depth, call.bytes, call.drop)?;
     let choices = FontChoices::new(&limits, call.further).ok_or(UNKNOWN_OPTION)?;
     let (font, at) = unsafe { (call.font.items(), call.coordinates.items()) };
     let made = pdf::pdf_font(font, call.index, at, unsafe { call.entries.entries() }, &choices);
-    let (lists, numbers) = made.map_err(status_of_refusal)?;
-    Ok(PdfMade::of(lists, numbers))
+    let (mut lists, numbers) = made.map_err(status_of_refusal)?;
+    call.units_per_em = u32::from(lists.units_per_em);
+    call.exact_widths = List::of(take(&mut lists.exact_widths));
+    call.unknown_axes = List::of(take(&mut lists.unknown_axes));
+    call.made = PdfMade::of(lists, numbers);
+    Ok(())
 }
 
 /// # Safety
@@ -267,7 +315,7 @@ unsafe fn pdf_made(call: &PdfCall) -> Result<PdfMade, u32> {
 /// As of `List::items`.
 #[no_mangle]
 pub unsafe extern "C" fn subsetter_pdf_font(call: &mut PdfCall) -> u32 {
-    status(unsafe { pdf_made(call) }.map(|made| call.made = made))
+    status(unsafe { pdf_made(call) })
 }
 
 /// # Safety
@@ -290,6 +338,55 @@ pub unsafe extern "C" fn subsetter_pdf_sheet(call: &mut WriteCall) -> u32 {
     let (parts, entries) = unsafe { (call.font.parts(), call.entries.entries()) };
     let made = parts.sheet(entries, call.number == 1);
     status(made.map_err(status_of_refusal).map(|bytes| call.bytes = List::of(bytes)))
+}
+
+/// # Safety
+///
+/// As of `List::items`.
+#[no_mangle]
+pub unsafe extern "C" fn subsetter_parts(call: &mut PartsCall) -> u32 {
+    let (parts, numbers) = unsafe { (call.font.parts(), call.numbers.items()) };
+    let found = parts.parts(numbers).map_err(|error| match error {
+        PartsError::InvalidNumbers => INVALID_NUMBERS,
+        PartsError::Subset(error) => status_of(error),
+    });
+    status(found.map(|parts| {
+        let made = parts.into_iter().map(|part| PartMade {
+            role: part.role as u32,
+            number: part.number,
+            strings: List::of(part.strings.iter().flat_map(|it| [it.start, it.end]).collect()),
+            is_stream: u32::from(part.stream.is_some()),
+            stream: List::of(part.stream.map_or_else(Vec::new, |it| it.into_owned())),
+            entries: List::of(part.entries),
+        });
+        call.parts = List::of(made.collect());
+    }))
+}
+
+/// # Safety
+///
+/// As of `List::items`.
+#[no_mangle]
+pub unsafe extern "C" fn subsetter_codes_of(call: &mut CodesCall) -> u32 {
+    let found = pdf::codes_of(unsafe { call.entries.entries() }, call.kind);
+    let codes = found.ok_or(UNKNOWN_OPTION).and_then(|codes| codes.map_err(status_of_refusal));
+    status(codes.map(|codes| call.codes = List::of(codes)))
+}
+
+/// # Safety
+///
+/// As of `List::items`.
+#[no_mangle]
+pub unsafe extern "C" fn subsetter_advances(call: &mut AdvancesCall) -> u32 {
+    let (font, at, glyphs) = unsafe { (call.font.items(), call.coordinates.items(), call.glyphs.items()) };
+    let found = choices_of(call.tokens, 1, 0, 0).and_then(|limits| {
+        pdf::advances(font, call.index, at, glyphs, &limits).map_err(status_of)
+    });
+    status(found.map(|made| {
+        call.units_per_em = u32::from(made.units_per_em);
+        call.widths = List::of(made.widths);
+        call.heights = List::of(made.heights);
+    }))
 }
 
 /// # Safety

@@ -36,14 +36,19 @@ import os
 import sys
 import threading
 import warnings
+import zlib
 from array import array
 from contextlib import contextmanager
 from typing import (
-    TYPE_CHECKING, Any, Dict, Iterable, Iterator, List, Literal, Mapping, NamedTuple, Optional, SupportsFloat,
+    TYPE_CHECKING, Any, Callable, Dict, Iterable, Iterator, List, Literal, Mapping, NamedTuple, NoReturn, Optional, SupportsFloat,
     SupportsIndex, Tuple, Type, Union,
 )
 
 Value = Union[SupportsFloat, SupportsIndex]
+Codes = Literal["consecutive", "source", "each_text"]
+_CODES: Tuple[Codes, ...] = ("consecutive", "source", "each_text")
+Role = Literal["font", "cid_font", "descriptor", "program", "to_unicode", "cid_set", "encoding"]
+_ROLES: Tuple[Role, ...] = ("font", "cid_font", "descriptor", "program", "to_unicode", "cid_set", "encoding")
 if TYPE_CHECKING:
     from _typeshed import ReadableBuffer as Buffer
 elif sys.version_info >= (3, 12):
@@ -52,7 +57,8 @@ else:
     Buffer = Any
 
 __all__ = [
-    "pdf_font", "glyphs_of", "PdfFont", "Column", "Descriptor", "Permission", "Objects", "subset", "embed", "Embedded", "Error",
+    "pdf_font", "glyphs_of", "codes_of", "advances", "PdfFont", "Advances", "Column", "Descriptor", "Permission", "Objects", "Part",
+    "subset", "embed", "Embedded", "Error",
     "UnknownKind", "MalformedFont", "Unimplemented", "SubsetError", "CFFError", "OutOfMemory", "NotPermitted", "InvalidText",
 ]
 
@@ -158,6 +164,39 @@ class Permission(NamedTuple):
     """Whether outlines may be embedded, and not bitmaps alone."""
 
 
+class Advances(NamedTuple):
+    """Advances of glyphs, in the font's units."""
+
+    units_per_em: int
+    """How many units an em has."""
+    widths: List[int]
+    """Of each given glyph the horizontal advance."""
+    heights: List[int]
+    """And the vertical one: an em where the font has none."""
+
+
+class Part(NamedTuple):
+    """An object of a PDF, as data: a dictionary, or a stream with its dictionary."""
+
+    role: Role
+    """What it is."""
+    number: int
+    """Its number, as the caller chose it."""
+    entries: bytes
+    """The entries of its dictionary, without `<<`, `>>` and Length, and without Filter unless the stream is packed."""
+    strings: List[Tuple[int, int]]
+    """Where strings are in the entries, from and up to: encryption has to cover these too."""
+    stream: Optional[bytes]
+    """The bytes of the stream; None where the object is none."""
+
+    @property
+    def value(self) -> bytes:
+        """The object, as it is between `N 0 obj` and `endobj`."""
+        if self.stream is None:
+            return b"<< %s>>" % self.entries
+        return b"<< %s/Length %d >>\nstream\n%s\nendstream" % (self.entries, len(self.stream), self.stream)
+
+
 class Objects(NamedTuple):
     """Whole indirect objects of a PDF, one behind the other."""
 
@@ -215,6 +254,41 @@ class _PdfFont(ctypes.Structure):
         ("stem_v", ctypes.c_uint32), ("font_weight", ctypes.c_uint32), ("usage", ctypes.c_uint32),
         ("may_subset", ctypes.c_uint32), ("may_embed_outlines", ctypes.c_uint32),
     ]
+
+
+class _Font(ctypes.Structure):
+    """The same with what is new, behind its own size."""
+
+    _fields_ = [
+        ("size", ctypes.c_uint32), ("units_per_em", ctypes.c_uint32), ("pdf", _PdfFont),
+        ("exact_widths", ctypes.c_void_p), ("exact_width_count", ctypes.c_size_t),
+        ("unknown_axes", ctypes.c_void_p), ("unknown_axis_count", ctypes.c_size_t),
+        ("glyphs", ctypes.c_void_p), ("glyph_count", ctypes.c_size_t),
+        ("text", ctypes.c_void_p), ("text_count", ctypes.c_size_t),
+        ("ends", ctypes.c_void_p), ("end_count", ctypes.c_size_t),
+    ]
+
+
+class _Range(ctypes.Structure):
+    _fields_ = [("start", ctypes.c_size_t), ("end", ctypes.c_size_t)]
+
+
+class _Part(ctypes.Structure):
+    """An object of a font."""
+
+    _fields_ = [
+        ("role", ctypes.c_uint32), ("number", ctypes.c_uint32),
+        ("entries", ctypes.c_void_p), ("entries_size", ctypes.c_size_t),
+        ("strings", ctypes.POINTER(_Range)), ("string_count", ctypes.c_size_t),
+        ("is_stream", ctypes.c_uint32),
+        ("stream", ctypes.c_void_p), ("stream_size", ctypes.c_size_t),
+    ]
+
+
+class _Parts(ctypes.Structure):
+    """All objects of a font."""
+
+    _fields_ = [("parts", ctypes.POINTER(_Part)), ("part_count", ctypes.c_size_t)]
 
 
 class _Objects(ctypes.Structure):
@@ -279,9 +353,21 @@ def _declare(library: ctypes.CDLL) -> ctypes.CDLL:
             [pointer] + [pointer, size] * 3 + [ctypes.c_uint32, ctypes.POINTER(_Objects)], ctypes.c_uint32),
         "subsetter_free_pdf_objects": ([ctypes.POINTER(_Objects)], None),
     }
-    # (a library has all of these or, if it is older than they are, none)
-    if hasattr(library, "subsetter_glyphs_of"):
-        declared.update(for_pdf)
+    new = {
+        "subsetter_make_font_by_words": (make_at[:5] + [pointer, size] * 4 + [ctypes.POINTER(_Font)], ctypes.c_uint32),
+        "subsetter_free_font": ([ctypes.POINTER(_Font)], None),
+        "subsetter_pdf_part_count": ([pointer], ctypes.c_uint32),
+        "subsetter_make_pdf_parts": ([pointer, pointer, size, ctypes.POINTER(_Parts)], ctypes.c_uint32),
+        "subsetter_free_pdf_parts": ([ctypes.POINTER(_Parts)], None),
+        "subsetter_codes_of": (
+            [pointer, size] * 3 + [ctypes.c_uint32, pointer, size, ctypes.POINTER(size)], ctypes.c_uint32),
+        "subsetter_advances_by_words": (
+            make_at[:5] + [pointer, size] * 4 + [ctypes.POINTER(ctypes.c_uint32)], ctypes.c_uint32),
+    }
+    # (a library has all calls of a group or, if it is older than they are, none)
+    for first, group in (("subsetter_glyphs_of", for_pdf), ("subsetter_make_font_by_words", new)):
+        if hasattr(library, first):
+            declared.update(group)
     for name, (arguments, result) in declared.items():
         try:
             call = getattr(library, name)
@@ -454,6 +540,8 @@ def _text(library: ctypes.CDLL, status: int) -> str:
 def _check(library: ctypes.CDLL, status: int) -> None:
     if status in _ERRORS:
         raise _ERRORS[status](_text(library, status))
+    if status == 16:
+        raise ValueError("numbers of objects are distinct and above 0, and as many as there are parts")
     if status != 0:
         raise RuntimeError(f"{_NAME} answers status {status}: it is of another version")
 
@@ -564,15 +652,20 @@ def embed(
 # ---- all that a PDF has of a font
 
 
-def _library_for_pdf() -> ctypes.CDLL:
-    """The library, if it has the calls for PDF."""
+def _library_with(call: str) -> ctypes.CDLL:
+    """The library, if it has a call."""
     library = _library()
-    if not hasattr(library, "subsetter_glyphs_of"):
+    if not hasattr(library, call):
         raise NotImplementedError(
-            f"{library._name} has no calls for PDF: it is of an older version. "
-            "`pip install ./bindings/python` in a clone builds one that has them."
+            f"{library._name} has no {call}: it is of an older version. "
+            "`pip install ./bindings/python` in a clone builds one that has it."
         )
     return library
+
+
+def _library_for_pdf() -> ctypes.CDLL:
+    """The library, if it has the calls for PDF."""
+    return _library_with("subsetter_glyphs_of")
 
 
 _KINDS: Tuple[Literal["TrueType", "CFF", "OpenType"], ...] = ("TrueType", "CFF", "OpenType")
@@ -642,6 +735,49 @@ def glyphs_of(data: Buffer, text: str, index: SupportsIndex = 0) -> List[Tuple[i
         )
     _check(library, status)
     return list(zip(glyphs, text))
+
+
+def codes_of(shown: Iterable[Tuple[SupportsIndex, str]], codes: Codes = "consecutive") -> List[int]:
+    """The code of each entry, in order, as `pdf_font` gives it: it takes no font, so that pages can be written first. Where a list
+    goes on, the codes of the entries before stay.
+
+    Raises `OverflowError` for more than 65,535 glyphs, or pairs of a glyph and a text, `InvalidText` for a surrogate that stands
+    alone, and `NotImplementedError` where the library is of an older version.
+    """
+    entries, kind = _Entries(shown), _choice("codes", codes, _CODES)
+    library, length = _library_with("subsetter_codes_of"), ctypes.c_size_t()
+    found = array("H", bytes(2 * len(entries.glyphs)))
+    status = library.subsetter_codes_of(
+        *entries.arguments(), kind, found.buffer_info()[0], len(found), ctypes.byref(length),
+    )
+    _check(library, status)
+    return found.tolist()
+
+
+def advances(
+    data: Buffer,
+    glyphs: Iterable[SupportsIndex],
+    index: SupportsIndex = 0,
+    *,
+    coordinates: Optional[Mapping[str, Value]] = None,
+    tokens: Optional[SupportsIndex] = None,
+) -> Advances:
+    """The advances of glyphs before the font is embedded: in the order given, in the font's units, exact, at `coordinates`.
+
+    The arguments are those of `subset`. A glyph without a vertical advance has one of an em. Raises an `Error` by its name, as
+    `pdf_font` does, but for `NotPermitted`; and `NotImplementedError` where the library is of an older version.
+    """
+    numbers, face = _glyph_numbers(glyphs), _number("index", index, 0, 0xFFFFFFFF)
+    words, place = _words(tokens, None, None, True, True, True, False), _coordinates({} if coordinates is None else coordinates)
+    library, units = _library_with("subsetter_advances_by_words"), ctypes.c_uint32()
+    widths, heights = array("H", bytes(2 * len(numbers))), array("H", bytes(2 * len(numbers)))
+    with _bytes_of(data) as (font, size):
+        status = library.subsetter_advances_by_words(
+            font, size, face, place, len(place), numbers.buffer_info()[0], len(numbers), words.buffer_info()[0], len(words),
+            widths.buffer_info()[0], len(widths), heights.buffer_info()[0], len(heights), ctypes.byref(units),
+        )
+    _check(library, status)
+    return Advances(units.value, widths.tolist(), heights.tolist())
 
 
 _ITEMS = {"cids": "H", "codes": "H", "widths": "I", "columns": "i"}
@@ -715,8 +851,16 @@ class PdfFont:
     """Its name."""
     cid_set: Optional[bytes]
     """The bytes of CIDSet, if it was chosen."""
+    units_per_em: int
+    """How many units of the font an em has."""
+    exact_widths: List[int]
+    """The width of each CID in the font's units."""
+    unknown_axes: List[str]
+    """The axes of the coordinates that the font doesn't have."""
+    part_count: int
+    """How many objects it has."""
 
-    def __init__(self, made: _PdfFont, entries: _Entries) -> None:
+    def __init__(self, made: _PdfFont, entries: _Entries, new: Optional[_Font]) -> None:
         # (what is written is written of these copies, which nothing else changes)
         self._kept: Optional[Tuple[Dict[str, Any], array[int], _Entries]] = (_lists(made), _numbers(made), entries)
         lists = self._kept[0]
@@ -747,6 +891,17 @@ class PdfFont:
         self.encoding = lists["encoding"] or None
         self.encoding_name = lists["encoding_name"].decode("ascii") or None
         self.cid_set = lists["cid_set"] or None
+        if new is not None:
+            self.units_per_em = new.units_per_em
+            self.exact_widths = array("H", ctypes.string_at(new.exact_widths, 2 * new.exact_width_count)).tolist()
+            axes = array("I", ctypes.string_at(new.unknown_axes, 4 * new.unknown_axis_count))
+            self.unknown_axes = [it.to_bytes(4, "big").decode("ascii") for it in axes]
+            self.part_count = _library().subsetter_pdf_part_count(ctypes.byref(new))
+
+    def __getattr__(self, name: str) -> NoReturn:
+        if name in ("units_per_em", "exact_widths", "unknown_axes", "part_count"):
+            raise NotImplementedError(f"the font is of a library of an older version, which says no {name}")
+        raise AttributeError(f"a PdfFont has no {name}")
 
     @property
     def is_said(self) -> List[bool]:
@@ -788,6 +943,41 @@ class PdfFont:
         """
         return self._written("subsetter_make_pdf_objects", _number("first", first, 1, 0xFFFFFFFF))
 
+    def parts(
+        self, numbers: Iterable[SupportsIndex], *, compress: bool = False, pack: Optional[Callable[[bytes], bytes]] = None,
+        filter: str = "/FlateDecode",
+    ) -> List[Part]:
+        """The font's objects as data, with numbers of the caller's: `part_count` of them, distinct and above 0, that of the Type 0
+        font first. They are in the order of `objects`, and each has the `value` that is written there for the same numbers.
+
+        `compress` packs each stream by zlib, or `pack` does, whose Filter is `filter`: "/FlateDecode", if nothing else is said.
+        Raises `ValueError` for other numbers, and `NotImplementedError` where the library is of an older version.
+        """
+        if compress and pack is None:
+            pack = zlib.compress
+        given = array("I", [_number("a number of an object", it, 0, 0xFFFFFFFF) for it in numbers])
+        if self._kept is None:
+            raise ValueError("the font is closed")
+        library, made = _library_with("subsetter_make_pdf_parts"), _Parts()
+        font = _Font(size=ctypes.sizeof(_Font), pdf=_with_lists(self._kept[0], self._kept[1]))
+        status = library.subsetter_make_pdf_parts(ctypes.byref(font), given.buffer_info()[0], len(given), ctypes.byref(made))
+        try:
+            _check(library, status)
+            found = [
+                Part(
+                    _ROLES[it.role], it.number, ctypes.string_at(it.entries, it.entries_size),
+                    [(string.start, string.end) for string in it.strings[:it.string_count]],
+                    ctypes.string_at(it.stream, it.stream_size) if it.is_stream else None,
+                )
+                for it in made.parts[:made.part_count]
+            ]
+        finally:
+            library.subsetter_free_pdf_parts(ctypes.byref(made))
+        if pack is None:
+            return found
+        said = b"/Filter %s " % filter.encode("ascii")
+        return [it if it.stream is None else it._replace(entries=it.entries + said, stream=pack(it.stream)) for it in found]
+
     def sheet(self, layout: Literal["line", "grid"] = "line") -> bytes:
         """A whole PDF file that shows the entries in 36 points: in one line (in vertical writing in one column) on a page that
         is as long, or in a grid, 12 by 16 a page."""
@@ -807,7 +997,7 @@ def pdf_font(
     hinting: bool = True,
     coordinates: Optional[Mapping[str, Value]] = None,
     program: Literal["smallest", "opentype"] = "smallest",
-    codes: Literal["consecutive", "source", "each_text"] = "consecutive",
+    codes: Codes = "consecutive",
     vertical: bool = False,
     bounds: Literal["font", "kept"] = "font",
     cid_set: bool = False,
@@ -840,7 +1030,7 @@ def pdf_font(
     words[0] = 52
     words.extend([
         _choice("program", program, ("smallest", "opentype")),
-        _choice("codes", codes, ("consecutive", "source", "each_text")),
+        _choice("codes", codes, _CODES),
         _flag("vertical", vertical),
         _choice("bounds", bounds, ("font", "kept")),
         _flag("cid_set", cid_set),
@@ -849,13 +1039,22 @@ def pdf_font(
     ])
     entries, face = _Entries(shown), _number("index", index, 0, 0xFFFFFFFF)
     place = _coordinates({} if coordinates is None else coordinates)
-    library, made = _library_for_pdf(), _PdfFont()
+    library = _library_for_pdf()
+    given = (place, len(place), *entries.arguments(), words.buffer_info()[0], len(words))
+    if hasattr(library, "subsetter_make_font_by_words"):
+        made = _Font(size=ctypes.sizeof(_Font))
+        with _bytes_of(data) as (font, size):
+            status = library.subsetter_make_font_by_words(font, size, face, *given, ctypes.byref(made))
+        try:
+            _check(library, status)
+            return PdfFont(made.pdf, entries, made)
+        finally:
+            library.subsetter_free_font(ctypes.byref(made))
+    older = _PdfFont()
     with _bytes_of(data) as (font, size):
-        status = library.subsetter_make_pdf_font_by_words(
-            font, size, face, place, len(place), *entries.arguments(), words.buffer_info()[0], len(words), ctypes.byref(made),
-        )
+        status = library.subsetter_make_pdf_font_by_words(font, size, face, *given, ctypes.byref(older))
     try:
         _check(library, status)
-        return PdfFont(made, entries)
+        return PdfFont(older, entries, None)
     finally:
-        library.subsetter_free_pdf_font(ctypes.byref(made))
+        library.subsetter_free_pdf_font(ctypes.byref(older))

@@ -21,6 +21,7 @@
 //! # }
 //! ```
 
+mod advance;
 mod calls;
 mod error;
 mod font;
@@ -31,10 +32,12 @@ mod shown;
 mod values;
 mod written;
 
+pub use advance::{advances, advances_with_limits, Advances};
 pub use error::FontError;
 pub use font::PdfFont;
 pub use objects::{Dictionaries, Layout, Objects, References};
 pub use options::{Bounds, Codes, Direction, FontOptions, ProgramChoice, Rights, SubsetTag};
+pub(crate) use parts::parts_of;
 pub use parts::{Part, PartsError, Role};
 pub use shown::Shown;
 pub use values::{Cmap, Column, Columns, Descriptor, Permission, ProgramKind, Usage};

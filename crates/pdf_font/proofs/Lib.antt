@@ -1,7 +1,7 @@
 mod AllWidths
 mod Answered
 mod Fresh
-mod LawProofs
+pub mod LawProofs
 mod NewLaws
 mod OneFont
 mod Opening

@@ -1,6 +1,9 @@
 -- Fonts and files for PDF, handed to C.
+pub mod Codes
 pub mod PdfFonts
 pub mod PdfGlyphs
 pub mod PdfLaws
 pub mod PdfObjects
 pub mod PdfOptions
+pub mod Texts
+pub mod Whole

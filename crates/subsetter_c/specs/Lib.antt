@@ -1,3 +1,4 @@
+pub mod Advances
 pub mod Answers
 pub mod Options
 pub mod Documents

@@ -40,7 +40,7 @@ fn mapping_by<'a>(face: &Face<'a>) -> Option<Subtable<'a>>
 }
 
 /// The table of a font by which the glyphs of Unicode characters are found.
-fn mapping_for(font: &[u8], index: u32) -> Result<Subtable<'_>, Error>
+pub fn mapping_for(font: &[u8], index: u32) -> Result<Subtable<'_>, Error>
     ensures ok { IfOk result (λ table. face_mapping (font_at font.now index all_extras) ≡ Some (mapping_view table)) }
     ensures opens { IfOk result (λ table. (e : SpecError) → ¬ (HasOpeningFaultAt (font_at font.now index all_extras) e)) }
     ensures err { IfErr result (λ e. HasOpeningFaultAt (font_at font.now index all_extras) e ⊎ HasNoMapping (font_at font.now index all_extras) e) }

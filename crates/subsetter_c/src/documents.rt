@@ -1,6 +1,9 @@
 //! Fonts and files for PDF, handed to C.
 
+pub(crate) mod codes;
 pub(crate) mod pdf_calls;
 pub(crate) mod pdf_files;
 pub(crate) mod pdf_fonts;
 pub(crate) mod pdf_options;
+pub(crate) mod texts;
+pub(crate) mod whole;

@@ -9,6 +9,7 @@
 //! ```
 #![tactic(auto)]
 
+mod advances;
 mod answers;
 mod calls;
 mod characters;

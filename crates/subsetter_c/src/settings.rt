@@ -29,7 +29,7 @@ fn setting(coordinate: Coordinate) -> (Tag, i32)
 }
 
 /// Tags with values.
-fn settings_of(alloc: Global, coordinates: &[Coordinate]) -> Result<Vec<(Tag, i32)>, Error>
+pub fn settings_of(alloc: Global, coordinates: &[Coordinate]) -> Result<Vec<(Tag, i32)>, Error>
     ensures ok { IfOk result (λ v. v.items ≡ settings_of coordinates.now) }
     ensures err { IfErr result (λ e. e ≡ OutOfMemory) }
 {

@@ -1,8 +1,9 @@
 -- Texts one by one, and what is answered.
-use Rattle.std.proofs.Common.{◌≡◌, ◌<◌, ◌≤◌, ℕ, zero, suc, ◌+◌, true, List, [], ◌∷◌, ◌++◌, length, get_or, map, drop, refl, ap, append_assoc, ◌∙◌, ◌⊎◌, inl, inr, add-one, drop-cons, arith, Result, Ok, Err}
+use Rattle.std.proofs.Common.{◌≡◌, ◌<◌, ◌≤◌, ℕ, zero, suc, ◌+◌, ◌-◌, true, List, [], ◌∷◌, ◌++◌, length, get_or, map, drop, refl, ap, append_assoc, ◌∙◌, ◌⊎◌, inl, inr, add-one, drop-cons, arith, Result, Ok, Err}
 use Rattle.std.specs.Prelude.{IfOk, IfErr}
 use Rattle.std.proofs.lemmas.List.{map-append}
 use Rattle.subsetter_base.specs.Texts.{is_scalar}
+use Rattle.subsetter_pdf_c.specs.Texts.{one_each}
 use Rattle.subsetter_base.specs.declared.error.Error.{Error}
 use Rattle.subsetter_base.specs.declared.error.Error.TheVariants.{OutOfMemory, OverflowError}
 use Rattle.pdf_codes.specs.Codes.{Used}
@@ -56,3 +57,11 @@ texts_fit count text ends h = record { count_is = grind arith; scalars = grind a
 pub uses_split : (shown : List Shown) → uses_of shown ≡ uses_with (map (λ (s : Shown). s.glyph) shown) (texts_of shown)
 uses_split [] = refl
 uses_split (s ∷ shown) = ap (λ (us : List Used). use_of s ∷ us) (uses_split shown)
+
+-- ---- texts of one character each
+
+each_suc : (place count : ℕ) → place < count → one_each place (count - place) ≡ suc place ∷ one_each (suc place) (count - suc place)
+each_suc place count lt = let more : count - place ≡ suc (count - suc place) = omega arith in ap (one_each place) more
+
+pub next_each : (place count : ℕ) → place < count → one_each place (count - place) ≡ (place + 1) ∷ one_each (place + 1) (count - (place + 1))
+next_each place count lt = rw add-one (each_suc place count lt)

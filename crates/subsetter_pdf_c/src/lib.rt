@@ -13,6 +13,7 @@ mod found;
 mod kept;
 mod made;
 mod parts;
+mod texts;
 mod view;
 mod written;
 
@@ -22,5 +23,6 @@ pub use kept::kept_bytes;
 pub use made::{PdfMade, PdfNumbers};
 pub use parts::{PdfPart, part_count, parts_of};
 pub use pdf_text::{PartsError, StringRange};
+pub use texts::{characters_in, ends_of};
 pub use view::view_of;
 pub use written::{sheet_of, write_objects};

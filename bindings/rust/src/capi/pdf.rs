@@ -1,13 +1,20 @@
 //! The fonts for a PDF, as C has them: lists and numbers, and what is written of them.
 
+mod advances;
+mod texts;
+
+pub use advances::advances;
+pub use texts::{codes_of, TextEntries};
+
 use super::{settings, Coordinate};
 use crate::library::refused;
-use crate::pdf::{glyphs_by_cmap, with_room, FontError};
+use crate::pdf::{glyphs_by_cmap, parts_of, with_room, FontError, Part, PartsError};
 use crate::proved::pdf_font::{
-    self as proved, Bounds, Codes, Direction, ProgramChoice, ProgramKind, Rights, Usage,
+    self as proved, Bounds, Direction, ProgramChoice, ProgramKind, Rights, Usage,
 };
-use crate::proved::pdf_objects::{write_objects, write_sheet, FontView, Layout};
+use crate::proved::pdf_objects::{part_count, write_objects, write_sheet, FontView, Layout};
 use crate::proved::pdf_text::{DefaultColumn, Descriptor, FontColumns, FontValues, OwnCmap};
+use crate::proved::subsetter as subsetting;
 use crate::proved::subsetter_variable::check_opening_at;
 use crate::rattle::alloc::Global;
 use crate::Error;
@@ -49,12 +56,7 @@ impl FontChoices {
             limits: limits.0.limits,
             hinting: limits.0.extras.hinting,
             program: first_or_second(program, ProgramChoice::Smallest, ProgramChoice::OpenType)?,
-            codes: match codes {
-                0 => Codes::Consecutive,
-                1 => Codes::Source,
-                2 => Codes::EachText,
-                _ => return None,
-            },
+            codes: texts::codes_chosen(codes)?,
             direction: first_or_second(direction, Direction::Horizontal, Direction::Vertical)?,
             bounds: first_or_second(bounds, Bounds::Font, Bounds::Kept)?,
             cid_set: first_or_second(cid_set, false, true)?,
@@ -88,6 +90,12 @@ pub struct FontLists {
     pub encoding_name: Vec<u8>,
     /// CIDSet, or nothing.
     pub cid_set: Vec<u8>,
+    /// unitsPerEm.
+    pub units_per_em: u16,
+    /// The width of each CID, in the font's units.
+    pub exact_widths: Vec<u16>,
+    /// The axes that the font doesn't have, with the first letter in the highest bits.
+    pub unknown_axes: Vec<u32>,
 }
 
 /// The numbers of a font, as `subsetter_pdf_font` ends with them.
@@ -257,8 +265,11 @@ impl From<EntryError> for Refusal {
 }
 
 /// The lists and numbers of a font that was made.
-fn parted(font: proved::PdfFont) -> (FontLists, FontNumbers) {
+fn parted(font: proved::PdfFont) -> Result<(FontLists, FontNumbers), Error> {
     let numbers = FontNumbers::of(&font);
+    let mut unknown_axes = with_room(font.unknown_axes.len())?;
+    let number = |tag: &subsetting::Tag| u32::from_be_bytes(*tag.get());
+    unknown_axes.extend(font.unknown_axes.iter().map(number));
     let (name, encoding) = match font.encoding {
         Some(cmap) => (cmap.name.into_inner(), cmap.text.into_inner()),
         None => (Vec::new(), Vec::new()),
@@ -277,8 +288,11 @@ fn parted(font: proved::PdfFont) -> (FontLists, FontNumbers) {
         encoding,
         encoding_name: name,
         cid_set: font.cid_set.map_or_else(Vec::new, |it| it.into_inner()),
+        units_per_em: font.units_per_em,
+        exact_widths: font.exact_widths.into_inner(),
+        unknown_axes,
     };
-    (lists, numbers)
+    Ok((lists, numbers))
 }
 
 /// All that a PDF has of a font. For a font that can't be opened its fault is answered, whatever memory there is.
@@ -308,7 +322,7 @@ pub fn pdf_font(
     let at = settings(data, index, coordinates, &open)?;
     let made = proved::pdf_font(Global, data, index, &at, &shown, &choices.0);
     let made = made.map_err(|error| Refusal::Font(FontError::of(error)))?;
-    Ok(parted(made))
+    Ok(parted(made)?)
 }
 
 /// A font that was made, as a caller of C has it.
@@ -406,6 +420,20 @@ impl<'a> FontParts<'a> {
     pub fn objects(&self, first: u32) -> Result<(Vec<u8>, Vec<usize>), Error> {
         let made = write_objects(Global, self.view().values, first).map_err(refused)?;
         Ok((made.text.into_inner(), made.offsets.into_inner()))
+    }
+
+    /// How many objects it has.
+    pub fn part_count(&self) -> u32 {
+        part_count(self.view().values) as u32
+    }
+
+    /// The objects of the font as data, with these numbers.
+    ///
+    /// # Errors
+    ///
+    /// Those of [`PdfFont::parts`](crate::pdf::PdfFont::parts).
+    pub fn parts(&self, numbers: &[u32]) -> Result<Vec<Part<'a>>, PartsError> {
+        parts_of(self.view().values, numbers)
     }
 
     /// A whole PDF of these entries, in a grid or in a line.

@@ -3,6 +3,7 @@
 use super::PdfFont;
 use crate::library::refused;
 use crate::proved::pdf_objects as proved;
+use crate::proved::pdf_text::FontValues;
 use crate::rattle::alloc::Global;
 use crate::Error;
 use alloc::borrow::Cow;
@@ -168,24 +169,30 @@ impl PdfFont {
     ///
     /// [`PartsError::InvalidNumbers`]: the numbers are others; [`PartsError::Subset`] with [`Error::OutOfMemory`].
     pub fn parts(&self, numbers: &[u32]) -> Result<Vec<Part<'_>>, PartsError> {
-        let view = proved::view_of(self.made());
-        let made =
-            proved::write_parts(Global, view.values, numbers).map_err(|error| match error {
-                proved::PartsError::InvalidNumbers => PartsError::InvalidNumbers,
-                proved::PartsError::Subset(error) => refused(error).into(),
-            })?;
-        let mut parts = super::with_room(made.len())?;
-        for it in made.into_inner() {
-            let mut strings = super::with_room(it.strings.len())?;
-            strings.extend(it.strings.iter().map(|it| it.start..it.end));
-            parts.push(Part {
-                role: Role::of(it.role),
-                number: it.number,
-                entries: it.entries.into_inner(),
-                strings,
-                stream: it.stream.map(Cow::Borrowed),
-            });
-        }
-        Ok(parts)
+        parts_of(proved::view_of(self.made()).values, numbers)
     }
+}
+
+/// The parts of a font that is borrowed.
+pub(crate) fn parts_of<'a>(
+    values: FontValues<'a>,
+    numbers: &[u32],
+) -> Result<Vec<Part<'a>>, PartsError> {
+    let made = proved::write_parts(Global, values, numbers).map_err(|error| match error {
+        proved::PartsError::InvalidNumbers => PartsError::InvalidNumbers,
+        proved::PartsError::Subset(error) => refused(error).into(),
+    })?;
+    let mut parts = super::with_room(made.len())?;
+    for it in made.into_inner() {
+        let mut strings = super::with_room(it.strings.len())?;
+        strings.extend(it.strings.iter().map(|it| it.start..it.end));
+        parts.push(Part {
+            role: Role::of(it.role),
+            number: it.number,
+            entries: it.entries.into_inner(),
+            strings,
+            stream: it.stream.map(Cow::Borrowed),
+        });
+    }
+    Ok(parts)
 }

@@ -31,7 +31,7 @@ impl Sizes {
 }
 
 /// Puts items at the front of a buffer, in which they fit.
-fn begin_with<T: Copy>(buffer: &mut [T], items: &[T])
+pub fn begin_with<T: Copy>(buffer: &mut [T], items: &[T])
     requires { length items.now ≤ length buffer.old }
     ensures { buffer.new ≡ begun_with items.now buffer.old }
 {

@@ -31,7 +31,7 @@ fn program_of(number: u32) -> Option<ProgramChoice>
 }
 
 /// How glyphs get codes.
-fn codes_of(number: u32) -> Option<Codes>
+pub fn codes_of(number: u32) -> Option<Codes>
     ensures { MatchOption result (3 ≤ number) (λ choice. (number < 3) × (choice ≡ codes_chosen number)) }
 {
     match number {

@@ -1,0 +1,30 @@
+//! Advances before anything is embedded, at coordinates in 65536ths.
+
+use crate::capi::{settings, Choices, Coordinate};
+use crate::library::refused;
+use crate::pdf::Advances;
+use crate::proved::font_advances as proved;
+use crate::rattle::alloc::Global;
+use crate::Error;
+
+/// The advances of glyphs. Of the choices the tokens count alone.
+///
+/// # Errors
+///
+/// Those of [`advances`](crate::pdf::advances).
+pub fn advances(
+    data: &[u8],
+    index: u32,
+    coordinates: &[Coordinate],
+    glyphs: &[u16],
+    choices: &Choices,
+) -> Result<Advances, Error> {
+    let at = settings(data, index, coordinates, choices)?;
+    let found = proved::advances(Global, data, index, glyphs, &at, &choices.0.limits);
+    let found = found.map_err(refused)?;
+    Ok(Advances {
+        units_per_em: found.units_per_em,
+        widths: found.widths.into_inner(),
+        heights: found.heights.into_inner(),
+    })
+}

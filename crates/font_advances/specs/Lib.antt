@@ -1,0 +1,4 @@
+pub mod Advances
+pub mod Heights
+pub mod Laws
+pub mod Widths
