@@ -1,9 +1,9 @@
 //! The fonts for a PDF, as C has them: lists and numbers, and what is written of them.
 
-mod advances;
+mod advance;
 mod texts;
 
-pub use advances::advances;
+pub use advance::advances;
 pub use texts::{codes_of, TextEntries};
 
 use super::{settings, Coordinate};

@@ -4,6 +4,7 @@ mod arrays;
 mod boxes;
 mod cff;
 mod columns;
+mod lean;
 mod names;
 mod sheet;
 mod square;
