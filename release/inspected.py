@@ -1,4 +1,4 @@
-"""What stands in the release files, by their bytes: `look(folder, skip, version)` gives what is wrong, and how many packed files it saw.
+"""What stands in the release files, by their bytes: `look(folder, skip, version, crate_version)` gives what is wrong, and how many packed files it saw.
 
 It asks nothing of what made them. What users notice when they install a package, release/test notices.
 """
@@ -80,10 +80,8 @@ def glibc(data):
 
 
 class Looker:
-    def __init__(self, folder, skip, version):
-        self.folder, self.skip, self.version = folder, skip, version
-        self.number, _, release = version.partition("+")
-        self.wheel_version, self.npm_version = f"{self.number}.post{release}", f"{self.number}-{release}"
+    def __init__(self, folder, skip, version, crate_version):
+        self.folder, self.skip, self.version, self.crate_version = folder, skip, version, crate_version
         self.targets = [it for it in TRIPLES if it not in skip]
         self.wrong, self.packed = [], []
 
@@ -100,15 +98,15 @@ class Looker:
 
     def names(self):
         """The names of all files; a wheel's tags are looked at below."""
-        wanted = {f"subsetter-{self.version}.crate", f"subsetter-native-{self.version}.crate"}
+        wanted = {f"subsetter-{self.crate_version}.crate", f"subsetter-native-{self.version}.crate"}
         wanted |= {f"subsetter-{self.version}-linux-{it}.tar.gz" for it in [*self.targets, "s390x"] if it not in self.skip}
-        of_windows = {f"subsetter-{self.version}-windows-x86_64.zip", f"subsetter-{self.wheel_version}-py3-none-win_amd64.whl"}
+        of_windows = {f"subsetter-{self.version}-windows-x86_64.zip", f"subsetter-{self.version}-py3-none-win_amd64.whl"}
         wanted |= set() if "windows" in self.skip else of_windows
-        wanted |= set() if "js" in self.skip else {f"subsetter-proved-{self.npm_version}.tgz"}
+        wanted |= set() if "js" in self.skip else {f"subsetter-proved-{self.version}.tgz"}
         there = sorted(os.listdir(self.folder))
         for target in self.targets:
-            wheels = [it for it in there if re.fullmatch(rf"subsetter-{self.wheel_version}-py3-none-manylinux.*_{target}\.whl", it)]
-            self.demand(len(wheels) == 1, f"not one wheel of version {self.wheel_version} for {target}")
+            wheels = [it for it in there if re.fullmatch(rf"subsetter-{self.version}-py3-none-manylinux.*_{target}\.whl", it)]
+            self.demand(len(wheels) == 1, f"not one wheel of version {self.version} for {target}")
             wanted |= {*wheels}
         whole = wanted | {f"{it}.spdx.json" for it in wanted} | {"PROVED", "SHA256SUMS"}
         self.demand(whole == {*there}, f"the files are {there}, and they should be {sorted(whole)}")
@@ -142,7 +140,7 @@ class Looker:
         for it in bill.get("relationships", []):
             if it["relationshipType"] in ("STATIC_LINK", "DESCENDANT_OF"):
                 linked[it["relatedSpdxElement"].removeprefix("SPDXRef-Part-")] = packages[it["relatedSpdxElement"]]["versionInfo"]
-        number = self.npm_version if name.endswith(".tgz") else self.wheel_version if name.endswith(".whl") else self.version
+        number = self.crate_version if name == f"subsetter-{self.crate_version}.crate" else self.version
         head = (bill.get("spdxVersion"), package.get("packageFileName"), package.get("versionInfo"), package.get("licenseDeclared"), package.get("checksums"))
         wanted = ("SPDX-2.3", name, number, LICENCE, [{"algorithm": "SHA256", "checksumValue": hashlib.sha256(data).hexdigest()}])
         self.demand(head == wanted, f"{name}.spdx.json: {head}, and not {wanted}")
@@ -193,7 +191,7 @@ class Looker:
 
     def linux(self, target):
         """The package for C; it gives both libraries."""
-        name, full = f"subsetter-{self.version}-linux-{target}", f"libsubsetter.so.{self.version.replace('+', '.')}"
+        name, full = f"subsetter-{self.version}-linux-{target}", "libsubsetter.so.0.3.0"
         has_program = target == "x86_64"
         sources = {"include/subsetter.h": "bindings/c/subsetter.h", **{f"share/doc/subsetter/{it}": it for it in ("LICENSE", "NOTICE")}}
         sources.update({path: f"crates/subset_font/{it}" for path, it in OF_PROGRAM.items()} if has_program else {})
@@ -239,11 +237,11 @@ class Looker:
     def wheel(self, end, library, name):
         """The wheel with a library, whose tags promise no older glibc than it needs."""
         [whole] = [it for it in os.listdir(self.folder) if it.endswith(f"_{end}.whl")] or [""]
-        info = f"subsetter-{self.wheel_version}.dist-info"
+        info = f"subsetter-{self.version}.dist-info"
         sources = {f"subsetter/{it}": f"bindings/python/subsetter/{it}" for it in ("__init__.py", "py.typed")}
         sources.update({f"{info}/licenses/{it}": it for it in ("LICENSE", "NOTICE")})
         is_proved = end != "amd64"
-        metadata = ["Metadata-Version: 2.4\n", "\nName: subsetter\n", f"\nVersion: {self.wheel_version}\n", "\nRequires-Python: >=3.8\n",
+        metadata = ["Metadata-Version: 2.4\n", "\nName: subsetter\n", f"\nVersion: {self.version}\n", "\nRequires-Python: >=3.8\n",
                     f"\nLicense-Expression: {LICENCE}\nLicense-File: LICENSE\nLicense-File: NOTICE\n", "by a proved library" if is_proved else "from proved sources"]
         found = self.package(whole, "", sources, {f"subsetter/{name}", *(f"{info}/{it}" for it in ("METADATA", "WHEEL", "RECORD"))},
                              {f"{info}/METADATA": metadata, f"{info}/WHEEL": ["Wheel-Version: 1.0\n", "\nRoot-Is-Purelib: false\n"]})
@@ -259,20 +257,20 @@ class Looker:
             promised = [int(it) for it in numbers.groups()] if numbers else older[tag.split("-")[2].split("_")[0]]
             self.demand([0, 0] < glibc(library) <= promised <= [2, 31], f"{whole}: {tag}, and the library needs glibc {glibc(library)}")
 
-    def crate(self, package, folder, own_files, more, words):
+    def crate(self, package, version, folder, own_files, more, words):
         """A crate: its manifest and sources as they are in a folder of the bindings."""
         at = os.path.join(ROOT, "bindings", folder)
         code = [os.path.join(here, it) for here, _, names in os.walk(os.path.join(at, "src")) for it in names]
         paths = [*own_files, "Cargo.toml", *(os.path.relpath(it, at) for it in code)]
         sources = {"LICENSE": "LICENSE", "NOTICE": "NOTICE", **{it: f"bindings/{folder}/{it}" for it in paths}}
-        manifest = [f'\nname = "{package}"\nversion = "{self.version}"\n', f'\nlicense = "{LICENCE}"\n']
-        return self.package(f"{package}-{self.version}.crate", f"{package}-{self.version}/", sources, more, {"Cargo.toml": manifest, "README.md": words})
+        manifest = [f'\nname = "{package}"\nversion = "{version}"\n', f'\nlicense = "{LICENCE}"\n']
+        return self.package(f"{package}-{version}.crate", f"{package}-{version}/", sources, more, {"Cargo.toml": manifest, "README.md": words})
 
     def js(self):
-        name = f"subsetter-proved-{self.npm_version}.tgz"
+        name = f"subsetter-proved-{self.version}.tgz"
         sources = {f"package/{it}": f"bindings/js/{it}" for it in ("README.md", "subsetter.d.mts", "subsetter.mjs")}
         sources.update({f"package/{it}": it for it in ("LICENSE", "NOTICE")})
-        words = {"package/package.json": [f'"version": "{self.npm_version}"', f'"license": "{LICENCE}"']}
+        words = {"package/package.json": [f'"version": "{self.version}"', f'"license": "{LICENCE}"']}
         found = self.package(name, "", sources, {"package/package.json", "package/subsetter.wasm"}, words)
         self.demand(found.get("package/subsetter.wasm", b"")[:8] == b"\0asm\x01\0\0\0", f"{name}: subsetter.wasm is no module")
 
@@ -283,9 +281,9 @@ class Looker:
         self.demand(not found, f"traces of this machine: {found[:5]}")
 
 
-def look(folder, skip, version):
+def look(folder, skip, version, crate_version):
     """What is wrong with the files of a folder, as a list of texts, and how many files it looked at."""
-    it = Looker(folder, skip, version)
+    it = Looker(folder, skip, version, crate_version)
     names, kit, native = it.names(), it.proved(), {}
     for target in it.targets:
         shared, static = it.linux(target)
@@ -295,9 +293,9 @@ def look(folder, skip, version):
         it.linux("s390x")
     if "windows" not in skip:
         it.wheel("amd64", it.windows(), "subsetter.dll")
-    it.crate("subsetter", "rust", ["README.md"], set(), [f"\n`{LICENCE}` (LICENSE, NOTICE).\n"])
+    it.crate("subsetter", crate_version, "rust", ["README.md"], set(), [f"\n`{LICENCE}` (LICENSE, NOTICE).\n"])
     words = [f"# subsetter-native {version}\n", f'path = "subsetter-native-{version}"', f"The licence is {LICENCE} (LICENSE, NOTICE)."]
-    found = it.crate("subsetter-native", "rust-native", ["build.rs"], {"README.md", *native}, words)
+    found = it.crate("subsetter-native", version, "rust-native", ["build.rs"], {"README.md", *native}, words)
     it.demand({path: found.get(path) for path in native} == native, "subsetter-native: a library isn't that for C")
     if "js" not in skip:
         it.js()
