@@ -175,14 +175,15 @@ test("errors", () => {
 
 test("each status is thrown by its class, in its words", async () => {
     let status;
-    const change = (exports) => ({ ...exports, ...Object.fromEntries(["subset", "subset_at", "embed", "embed_at", "glyphs_of", "pdf_font"].map((name) => [`subsetter_${name}`, () => status])) });
+    const change = (exports) => ({ ...exports, ...Object.fromEntries(["subset", "subset_at", "embed", "embed_at", "glyphs_of", "pdf_font", "codes_of", "advances"].map((name) => [`subsetter_${name}`, () => status])) });
     const kinds = { 1: "UnknownKind", 2: "MalformedFont", 3: "Unimplemented", 4: "SubsetError", 5: "OverflowError", 6: "CFFError", 7: "OutOfMemory", 11: "NotPermitted", 12: "InvalidText" };
     await watched(async () => {
         const it = await load(wasm), font = it.open(TTF), at = { coordinates: { wght: 1 } };
-        const calls = [() => it.subset(TTF, []), () => it.embed(TTF, []), () => font.subset([], at), () => font.embed([], at), () => it.glyphsOf(TTF, "A"), () => font.pdfFont([])];
+        const calls = [() => it.subset(TTF, []), () => it.embed(TTF, []), () => font.subset([], at), () => font.embed([], at), () => it.glyphsOf(TTF, "A"), () => font.pdfFont([]), () => it.codesOf([]), () => it.advances(TTF, [])];
         for (status of [...Array(20).keys(), 99].slice(1)) {
             const kind = kinds[status] ?? "SubsetterError";
-            for (const call of calls) assert.equal(throws(call, library[kind], status).message, kinds[status] ? texts[status] : `status ${status}`);
+            const text = status === 16 ? "invalid numbers" : kinds[status] ? texts[status] : `status ${status}`;
+            for (const call of calls) assert.equal(throws(call, status === 16 ? RangeError : library[kind], status).message, text);
         }
     }, change);
 });

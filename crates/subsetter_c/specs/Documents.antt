@@ -1,5 +1,6 @@
 -- Fonts and files for PDF, handed to C.
 pub mod Codes
+pub mod Parts
 pub mod PdfFonts
 pub mod PdfGlyphs
 pub mod PdfLaws

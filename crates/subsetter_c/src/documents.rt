@@ -1,6 +1,7 @@
 //! Fonts and files for PDF, handed to C.
 
 pub(crate) mod codes;
+pub(crate) mod parts;
 pub(crate) mod pdf_calls;
 pub(crate) mod pdf_files;
 pub(crate) mod pdf_fonts;

@@ -56,7 +56,6 @@ pub fn characters_in(alloc: Global, text: &str) -> Result<Vec<u32>, Error>
 /// # Errors
 ///
 /// `OutOfMemory` alone.
-#[tactic(auto, using(crate::proofs::Steps::next_each))]
 pub fn ends_of(alloc: Global, count: usize) -> Result<Vec<usize>, Error>
     ensures ok { IfOk result (λ v. v.items ≡ one_each 0 count) }
     ensures err { IfErr result (λ e. e ≡ OutOfMemory) }

@@ -34,6 +34,10 @@ not_permitted = 11
 abbrev pub invalid_text : ℕ
 invalid_text = 12
 
+-- the numbers of objects aren't distinct, one is 0, or there are too few or too many
+abbrev pub invalid_numbers : ℕ
+invalid_numbers = 16
+
 -- what a status says
 unfoldable pub status_text : ℕ → List ℕ
 status_text status =
@@ -50,4 +54,5 @@ status_text status =
     else if status == unknown_option then codes "unknown option"
     else if status == not_permitted then codes "embedding not permitted"
     else if status == invalid_text then codes "invalid text"
+    else if status == invalid_numbers then codes "invalid numbers"
     else codes "unknown status"

@@ -4,6 +4,7 @@ ghost use Rattle.std.specs.Prelude.{◌≡◌};
 
 use pdf_text::Column;
 pub use subsetter_pdf_c::kept_bytes;
+use subsetter_pdf_c::PdfPart;
 
 /// Numbers of 16 bits.
 pub fn kept_shorts(numbers: Vec<u16>) -> &'static [u16]
@@ -53,4 +54,14 @@ pub fn kept_columns(columns: Vec<Column>) -> &'static [Column]
         return &[];
     }
     columns.leak()
+}
+
+/// Parts.
+pub fn kept_parts(parts: Vec<PdfPart>) -> &'static [PdfPart]
+    ensures { result.now ≡ parts.items }
+{
+    if parts.is_empty() {
+        return &[];
+    }
+    parts.leak()
 }

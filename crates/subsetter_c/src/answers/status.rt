@@ -18,6 +18,8 @@ pub const UNKNOWN_OPTION: u32 = 10;
 pub const NOT_PERMITTED: u32 = 11;
 /// A text isn't one, or is too long.
 pub const INVALID_TEXT: u32 = 12;
+/// The numbers of objects aren't distinct, one is 0, or there are too few or too many.
+pub const INVALID_NUMBERS: u32 = 16;
 
 /// The number of an error: from 1 on, in the order of the names in `Error`.
 pub fn status_of(error: Error) -> u32
@@ -53,6 +55,7 @@ pub fn status_text(status: u32) -> &'static [u8]
         10 => b"unknown option",
         11 => b"embedding not permitted",
         12 => b"invalid text",
+        16 => b"invalid numbers",
         _ => b"unknown status",
     }
 }

@@ -207,7 +207,7 @@ pub fn no_font() -> PdfMade
 }
 
 /// A font that stays until the caller gives it back.
-fn laid_out(font: PdfFont) -> PdfMade
+pub fn laid_out(font: PdfFont) -> PdfMade
     ensures { IsLaidOut font result }
 {
     let numbers = numbers_of(&font);
@@ -231,7 +231,7 @@ fn laid_out(font: PdfFont) -> PdfMade
 // ---- a font
 
 /// The number of a refusal.
-fn refusal_status(error: FontError) -> u32
+pub fn refusal_status(error: FontError) -> u32
     ensures { result ≡ refusal_status error }
 {
     match error {
