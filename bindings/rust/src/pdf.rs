@@ -21,6 +21,7 @@
 //! # }
 //! ```
 
+mod advance;
 mod calls;
 mod error;
 mod font;
@@ -30,6 +31,7 @@ mod shown;
 mod values;
 mod written;
 
+pub use advance::{advances, advances_with_limits, Advances};
 pub use error::FontError;
 pub use font::PdfFont;
 pub use objects::{Dictionaries, Layout, Objects, References};

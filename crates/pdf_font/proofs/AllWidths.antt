@@ -22,6 +22,8 @@ use Rattle.subsetter.specs.Subset.{IsSubset}
 use Rattle.cid_embed.specs.Afresh.{Measures, measures_of, widths_from, widths_of}
 use Rattle.cid_embed.specs.Width.{units_per_em, thousandths, width, HasWidthFault, no_hmtx, no_head, no_units}
 use Rattle.subsetter_sfnt.specs.Fields.Head.{units_per_em as units_in}
+use Rattle.pdf_source.specs.Exact.{Exact, advances_from, exact_of}
+use Rattle.pdf_font.specs.PdfFont.{exact_width}
 
 -- ---- the advance of a metric
 
@@ -72,23 +74,34 @@ one_width : (m : Measures) (g n a : ℕ) (ws : List ℕ) → advance_in m.hmtx m
 one_width m g n a ws h k =
     ap (λ o. ok_or o MalformedFont >>= λ advance. widths_from m (g + 1) n >>= λ widths. Ok (thousandths advance m.units ∷ widths)) h ∙ ap (λ (r : Result (List ℕ) Error). r >>= λ widths. Ok (thousandths a m.units ∷ widths)) k
 
+one_advance : (m : Measures) (g n a : ℕ) (ws : List ℕ) → advance_in m.hmtx m.number_of_h_metrics g ≡ Some a → advances_from m (g + 1) n ≡ Ok ws → advances_from m g (suc n) ≡ Ok (a ∷ ws)
+one_advance m g n a ws h k =
+    ap (λ o. ok_or o MalformedFont >>= λ advance. advances_from m (g + 1) n >>= λ others. Ok (advance ∷ others)) h ∙ ap (λ (r : Result (List ℕ) Error). r >>= λ others. Ok (a ∷ others)) k
+
 -- the widths that are read, of these glyphs
 pub record AreWidths (font : Font) (m : Measures) (g : ℕ) (glyphs : List ℕ) : Type 0 where
   pub widths : List ℕ
   pub read : widths_from m g (length glyphs) ≡ Ok widths
   pub are : map Some widths ≡ map (width font) glyphs
+  pub exact : List ℕ
+  pub exact_read : advances_from m g (length glyphs) ≡ Ok exact
+  pub exact_are : map Some exact ≡ map (exact_width font) glyphs
 
 pub all_widths : (font : Font) (m : Measures) (glyphs : List ℕ) (g : ℕ) → units_per_em font ≡ Some m.units → ((i : ℕ) → i < length glyphs → HasMetric font m (slice_index glyphs i) (g + i)) → AreWidths font m g glyphs
-all_widths font m [] g u h = record { widths = []; read = refl; are = refl }
+all_widths font m [] g u h = record { widths = []; read = refl; are = refl; exact = []; exact_read = refl; exact_are = refl }
 all_widths font m (x ∷ glyphs) g u h =
     let first = h 0 (omega arith) in
     let here : metric_in m.hmtx m.number_of_h_metrics g ≡ Some first.metric = ap (metric_in m.hmtx m.number_of_h_metrics) (omega arith) ∙ first.copy in
     let later : (i : ℕ) → i < length glyphs → HasMetric font m (slice_index glyphs i) (g + 1 + i) = λ i lt. subst (HasMetric font m (slice_index glyphs i)) (omega arith) (h (suc i) (omega arith)) in
     let rest = all_widths font m glyphs (g + 1) u later in
+    let advance = advance_of m.hmtx m.number_of_h_metrics g first.metric here in
     record {
       widths = thousandths first.metric.advance_width m.units ∷ rest.widths;
-      read = one_width m g (length glyphs) first.metric.advance_width rest.widths (advance_of m.hmtx m.number_of_h_metrics g first.metric here) rest.read;
+      read = one_width m g (length glyphs) first.metric.advance_width rest.widths advance rest.read;
       are = ap (λ o. o ∷ map Some rest.widths) (sym (width_is font x m.units first.metric first.source u)) ∙ ap (λ (l : List (Option ℕ)). width font x ∷ l) rest.are;
+      exact = first.metric.advance_width ∷ rest.exact;
+      exact_read = one_advance m g (length glyphs) first.metric.advance_width rest.exact advance rest.exact_read;
+      exact_are = ap (λ o. o ∷ map Some rest.exact) (sym (ap (option_map (λ (it : LongHorMetric). it.advance_width)) first.source)) ∙ ap (λ (l : List (Option ℕ)). exact_width font x ∷ l) rest.exact_are;
     }
 
 -- ---- what is read step by step
@@ -96,6 +109,10 @@ all_widths font m (x ∷ glyphs) g u h =
 all_read : (find : List ℕ → Option (List ℕ)) (n : ℕ) (hmtx head hhea : List ℕ) (units pairs : ℕ) → find (codes "hmtx") ≡ Some hmtx → find (codes "head") ≡ Some head → number head 18 2 ≡ Some (suc units) → find (codes "hhea") ≡ Some hhea → number_of_h_metrics hhea ≡ Some pairs → widths_of find n ≡ widths_from (record { hmtx = hmtx; number_of_h_metrics = pairs; units = suc units }) 0 n
 unfolding widths_of measures_of
 all_read find n hmtx head hhea units pairs h k u a b = rw (h, k, u, ne_eqb (suc units) 0 (λ e. omega arith), a, b) refl
+
+exact_all_read : (find : List ℕ → Option (List ℕ)) (n : ℕ) (hmtx head hhea : List ℕ) (units pairs : ℕ) → find (codes "hmtx") ≡ Some hmtx → find (codes "head") ≡ Some head → number head 18 2 ≡ Some (suc units) → find (codes "hhea") ≡ Some hhea → number_of_h_metrics hhea ≡ Some pairs → exact_of find n ≡ (advances_from (record { hmtx = hmtx; number_of_h_metrics = pairs; units = suc units }) 0 n >>= λ widths. Ok (record { units_per_em = suc units; widths = widths }))
+unfolding exact_of measures_of
+exact_all_read find n hmtx head hhea units pairs h k u a b = rw (h, k, u, ne_eqb (suc units) 0 (λ e. omega arith), a, b) refl
 
 -- ---- unitsPerEm is kept
 
@@ -118,6 +135,10 @@ pub record AreAllWidths (font : Font) (order out : List ℕ) : Type 0 where
   pub widths : List ℕ
   pub read : widths_of (table (as_font out)) (length order) ≡ Ok widths
   pub are : map Some widths ≡ map (width font) order
+  pub exact : Exact
+  pub exact_read : exact_of (table (as_font out)) (length order) ≡ Ok exact
+  pub exact_are : map Some exact.widths ≡ map (exact_width font) order
+  pub units_are : units_per_em font ≡ Some exact.units_per_em
 
 module _ (tokens depth : ℕ) (font : Font) (glyphs out : List ℕ) (s : IsSubset tokens depth font glyphs out) (clean : (e : Error) → HasFault tokens depth font glyphs s.keeps.order e → ⊥) (sound : (e : Error) → HasWidthFault font e → ⊥) where
   abbrev there : List ℕ → Option (List ℕ)
@@ -152,6 +173,11 @@ module _ (tokens depth : ℕ) (font : Font) (glyphs out : List ℕ) (s : IsSubse
           widths = all.widths;
           read = all_read (table (as_font out)) (length s.keeps.order) kept.hmtx header.copy kept.hhea units kept.count kept.hmtx_is header.copy_is (copied ∙ u) kept.hhea_is kept.count_is ∙ all.read;
           are = all.are;
+          exact = record { units_per_em = suc units; widths = all.exact };
+          exact_read = exact_all_read (table (as_font out)) (length s.keeps.order) kept.hmtx header.copy kept.hhea units kept.count kept.hmtx_is header.copy_is (copied ∙ u) kept.hhea_is kept.count_is
+              ∙ ap (λ (r : Result (List ℕ) Error). r >>= λ widths. let x : Exact = record { units_per_em = suc units; widths = widths } in Ok x) all.exact_read;
+          exact_are = all.exact_are;
+          units_are = em;
         }
 
   by_head : (hmtx : List ℕ) → there (codes "hmtx") ≡ Some hmtx → (head : Option (List ℕ)) → there (codes "head") ≡ head → AreAllWidths font s.keeps.order out

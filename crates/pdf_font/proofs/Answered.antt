@@ -157,6 +157,8 @@ module _ (font : Font) (settings : List (Tag × ℤ)) (options : FontOptions) (u
             cids = t.cids;
             counted = t.count ∙ read.count;
             widths = ap (map Some) t.widths ∙ read.widths;
+            exact = ap (map Some) t.exact ∙ read.exact;
+            units = read.units ∙ ap (λ (n : ℕ). Some n) (sym t.units);
             values = t.values ∙ read.values ∙ ap (λ (k : ℕ). values_in find (stored (as_font e.font.items)) k options.bounds settings) (sym t.count) ∙ ap (λ (look : List ℕ → Option (List ℕ)). values_in look (stored (as_font e.font.items)) f.glyph_count options.bounds settings) ef;
             filled = subst (λ (look : List ℕ → Option (List ℕ)). IsFilled look settings options us e.widths.items f) ef filled;
           }
@@ -165,7 +167,7 @@ module _ (font : Font) (settings : List (Tag × ℤ)) (options : FontOptions) (u
       pub all_answered : (within : IsWithin options.limits.bytes e.font.items) → IsTheAnswerAt font settings (numbering (glyphs_of us)) e.font.items → ((IsAtDefault (whole font) settings → ⊥) → HasGlyphsDrawn (whole font) settings (numbering (glyphs_of us)) e.font.items) → (IsCff2Font (whole font) → HasGlyphsBlended (whole font) settings (numbering (glyphs_of us)) e.font.items) → (p : Permission) (ws : List ℕ) → ws ≡ e.widths.items → (x : Result PdfFont Error) → IfOk x (λ f. IsFilled find settings options us ws f) → IfOk x (λ f. Takes n e.cids.items p f) → IfOk x (λ f. IsEmbeddedFor font settings options us f)
       all_answered within same drawn blended p ws w (Ok f) filled t =
           answered within same drawn blended f
-          (record { kind = t.kind; program = t.program; count = t.count; widths = t.widths; values = t.values; cids = t.cids; permission = refl })
+          (record { kind = t.kind; program = t.program; count = t.count; widths = t.widths; exact = t.exact; units = t.units; values = t.values; cids = t.cids; permission = refl })
           (subst (λ (l : List ℕ). IsFilled find settings options us l f) w filled)
       all_answered within same drawn blended p ws w (Err why) filled t = tt
 

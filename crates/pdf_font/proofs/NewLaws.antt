@@ -20,14 +20,16 @@ use Rattle.subsetter.specs.Subset.{KeepsDrawing, by_outlines, by_charstrings}
 use Rattle.subsetter_again.proofs.OrderLaws.GivenOrder.{only_given}
 use Rattle.cid_embed.specs.Afresh.{widths_of}
 use Rattle.cid_embed.specs.Embed.{numbering, IsEmbeddingAnswer, in_subset, in_widths}
-use Rattle.cid_embed.specs.Width.{width}
+use Rattle.cid_embed.specs.Width.{units_per_em, width}
 use Rattle.cid_embed.specs.declared.embedding.Embedded.{Embedded}
+use Rattle.pdf_source.specs.Exact.{Exact, exact_of}
 use Rattle.pdf_source.specs.Made.{Made, Profile, made_in, profile_in}
 use Rattle.pdf_source.specs.Program.{IsProgram, bare_cff, count_in, flavor_in, kind_of, program_in}
 use Rattle.pdf_source.specs.Moved.{values_in}
 use Rattle.pdf_source.specs.declared.choice.FontOptions.{FontOptions}
 use Rattle.pdf_source.specs.declared.choice.ProgramChoice.{ProgramChoice}
 use Rattle.pdf_source.specs.declared.choice.ProgramChoice.TheVariants.{Smallest, OpenType}
+use Rattle.pdf_font.specs.PdfFont.{exact_width}
 use Rattle.pdf_font.proofs.Fresh.{Opens, new_opens, same_flavor}
 use Rattle.pdf_font.proofs.Tables.{no_maxp_again}
 use Rattle.pdf_font.proofs.AllWidths.{AreAllWidths, are_all_widths}
@@ -39,10 +41,10 @@ module _ (find : List ℕ → Option (List ℕ)) (settings : List (Tag × ℤ)) 
   afresh = stored (as_font file)
 
   abbrev profile_by : Result ℕ Error → Result Profile Error
-  profile_by r = r >>= λ count. (widths_of afresh count >>= λ widths. Ok (record { count = count; widths = widths; values = values_in find afresh count options.bounds settings }))
+  profile_by r = r >>= λ count. (widths_of afresh count >>= λ widths. (exact_of afresh count >>= λ exact. Ok (record { count = count; widths = widths; exact = exact; values = values_in find afresh count options.bounds settings })))
 
   abbrev in_directory : (List ℕ → Option (List ℕ)) → FontFlavor → Result Profile Error
-  in_directory look k = count_in k look requested >>= λ count. (widths_of look count >>= λ widths. Ok (record { count = count; widths = widths; values = values_in find look count options.bounds settings }))
+  in_directory look k = count_in k look requested >>= λ count. (widths_of look count >>= λ widths. (exact_of look count >>= λ exact. Ok (record { count = count; widths = widths; exact = exact; values = values_in find look count options.bounds settings })))
 
   profile_opened : profile_in find settings options requested file ≡ in_directory (table_in file o.directory) (flavor_in file)
   unfolding profile_in
@@ -51,8 +53,13 @@ module _ (find : List ℕ → Option (List ℕ)) (settings : List (Tag × ℤ)) 
   profile_is : profile_in find settings options requested file ≡ profile_by (count_in kind afresh requested)
   profile_is = profile_opened ∙ ap (λ (look : List ℕ → Option (List ℕ)). in_directory look (flavor_in file)) o.find ∙ ap (in_directory afresh) f
 
-  profile_read : (n : ℕ) (ws : List ℕ) → count_in kind afresh requested ≡ Ok n → widths_of afresh n ≡ Ok ws → profile_in find settings options requested file ≡ Ok (record { count = n; widths = ws; values = values_in find afresh n options.bounds settings })
-  profile_read n ws c w = profile_is ∙ ap profile_by c ∙ ap (λ (r : Result (List ℕ) Error). r >>= λ widths. Ok (record { count = n; widths = widths; values = values_in find afresh n options.bounds settings })) w
+  abbrev profile_of : ℕ → List ℕ → Exact → Profile
+  profile_of n ws x = record { count = n; widths = ws; exact = x; values = values_in find afresh n options.bounds settings }
+
+  profile_read : (n : ℕ) (ws : List ℕ) (x : Exact) → count_in kind afresh requested ≡ Ok n → widths_of afresh n ≡ Ok ws → exact_of afresh n ≡ Ok x → profile_in find settings options requested file ≡ Ok (profile_of n ws x)
+  profile_read n ws x c w e =
+      profile_is ∙ ap profile_by c ∙ ap (λ (r : Result (List ℕ) Error). r >>= λ widths. (exact_of afresh n >>= λ exact. Ok (profile_of n widths exact))) w
+      ∙ ap (λ (r : Result Exact Error). r >>= λ exact. Ok (profile_of n ws exact)) e
 
   profile_missing : count_in kind afresh requested ≡ Err MalformedFont → profile_in find settings options requested file ≡ Err MalformedFont
   profile_missing c = profile_is ∙ ap profile_by c
@@ -67,10 +74,10 @@ module _ (find : List ℕ → Option (List ℕ)) (settings : List (Tag × ℤ)) 
   pub made_missing : count_in kind afresh requested ≡ Err MalformedFont → made_in find settings options requested file ≡ Err MalformedFont
   made_missing c = made_by (Err MalformedFont) (profile_missing c)
 
-  pub made_read : (n : ℕ) (ws program : List ℕ) → count_in kind afresh requested ≡ Ok n → widths_of afresh n ≡ Ok ws → program_in (kind_of kind options.program) file ≡ Ok program → made_in find settings options requested file ≡ Ok (record { kind = kind_of kind options.program; program = program; profile = record { count = n; widths = ws; values = values_in find afresh n options.bounds settings } })
-  made_read n ws program c w p =
-      let profile : Profile = record { count = n; widths = ws; values = values_in find afresh n options.bounds settings } in
-      made_by (Ok profile) (profile_read n ws c w) ∙ ap (λ (r : Result (List ℕ) Error). r >>= λ bytes. Ok (record { kind = kind_of kind options.program; program = bytes; profile = profile })) p
+  pub made_read : (n : ℕ) (ws : List ℕ) (x : Exact) (program : List ℕ) → count_in kind afresh requested ≡ Ok n → widths_of afresh n ≡ Ok ws → exact_of afresh n ≡ Ok x → program_in (kind_of kind options.program) file ≡ Ok program → made_in find settings options requested file ≡ Ok (record { kind = kind_of kind options.program; program = program; profile = profile_of n ws x })
+  made_read n ws x program c w e p =
+      let profile : Profile = profile_of n ws x in
+      made_by (Ok profile) (profile_read n ws x c w e) ∙ ap (λ (r : Result (List ℕ) Error). r >>= λ bytes. Ok (record { kind = kind_of kind options.program; program = bytes; profile = profile })) p
 
 -- the `CFF ` of a file that has one
 bare_is : (file copy : List ℕ) (o : Opens file) → stored (as_font file) (codes "CFF ") ≡ Some copy → bare_cff file ≡ Ok copy
@@ -91,6 +98,8 @@ pub record IsRead (font : Font) (find : List ℕ → Option (List ℕ)) (setting
   pub maxp : kind ≡ TrueType → IsSome (table (as_font file) (codes "maxp"))
   pub count : m.profile.count ≡ length order
   pub widths : map Some m.profile.widths ≡ map (width font) order
+  pub exact : map Some m.profile.exact.widths ≡ map (exact_width font) order
+  pub units : units_per_em font ≡ Some m.profile.exact.units_per_em
   pub values : m.profile.values ≡ values_in find (stored (as_font file)) m.profile.count options.bounds settings
 
 pub record LacksMaxp (font : Font) (file : List ℕ) (kind : FontFlavor) : Type 0 where
@@ -130,9 +139,9 @@ module _ (tokens depth : ℕ) (font : Font) (glyphs : List ℕ) (new : Embedded)
     read : (program : List ℕ) → count_in kind (stored (as_font file)) requested ≡ Ok (length order) → program_in (kind_of kind options.program) file ≡ Ok program → IsProgram (kind_of kind options.program) file program → (kind ≡ TrueType → IsSome (table (as_font file) (codes "maxp"))) → MadeCase font find settings options order file kind made
     read program c p is m =
         inl (
-          record { kind = kind_of kind options.program; program = program; profile = record { count = length order; widths = all.widths; values = values_in find (stored (as_font file)) (length order) options.bounds settings } },
-          made_read find settings options requested file kind opens flavor_is (length order) all.widths program c all.read p,
-          record { kind_is = refl; program = is; maxp = m; count = refl; widths = all.are; values = refl },
+          record { kind = kind_of kind options.program; program = program; profile = record { count = length order; widths = all.widths; exact = all.exact; values = values_in find (stored (as_font file)) (length order) options.bounds settings } },
+          made_read find settings options requested file kind opens flavor_is (length order) all.widths all.exact program c all.read all.exact_read p,
+          record { kind_is = refl; program = is; maxp = m; count = refl; widths = all.are; exact = all.exact_are; units = all.units_are; values = refl },
         )
 
   by_maxp : a.embedded.subset.keeps.kind ≡ TrueType → (maxp : Option (List ℕ)) → table font (codes "maxp") ≡ maxp → MadeCase font find settings options order file TrueType made

@@ -13,7 +13,7 @@ use Rattle.subsetter_sfnt.specs.declared.flavor.FontFlavor.{FontFlavor}
 use Rattle.subsetter_variable.proofs.Static.{one_static}
 use Rattle.cid_embed.specs.Afresh.{widths_of}
 use Rattle.cid_embed.specs.Embed.{numbering, in_subset, in_widths}
-use Rattle.cid_embed.specs.Width.{width}
+use Rattle.cid_embed.specs.Width.{units_per_em, width}
 use Rattle.pdf_codes.specs.Codes.{Used, coded, glyphs_of}
 use Rattle.pdf_codes.specs.Cmaps.Leading.{own_cmap, own_name, pairs_with}
 use Rattle.pdf_codes.specs.Cmaps.Texts.{is_line_found, lines_of_codes}
@@ -133,9 +133,10 @@ module _ (font : Font) (settings : List (Tag × ℤ)) (options : FontOptions) (u
     pub is : made ≡ Ok it
     pub count : it.profile.count ≡ f.glyph_count
     pub widths : it.profile.widths ≡ f.widths.items
+    pub exact : it.profile.exact.widths ≡ f.exact_widths.items
 
   by_case : MadeCase static (stored font) settings options order file kind made → HasMade
-  by_case (inl c) = record { it = c.0; is = c.1; count = c.2.count ∙ sym p.made.counted; widths = same_numbers c.0.profile.widths f.widths.items (c.2.widths ∙ sym p.made.widths) }
+  by_case (inl c) = record { it = c.0; is = c.1; count = c.2.count ∙ sym p.made.counted; widths = same_numbers c.0.profile.widths f.widths.items (c.2.widths ∙ sym p.made.widths); exact = same_numbers c.0.profile.exact.widths f.exact_widths.items (c.2.exact ∙ sym p.made.exact) }
   by_case (inr c) = absurd (absent (table (as_font file) (codes "maxp")) c.1.copy (p.made.maxp c.1.kind_is))
 
   pub has_made : HasMade
@@ -200,6 +201,12 @@ module _ (font : Font) (settings : List (Tag × ℤ)) (options : FontOptions) (u
   widths : f.widths.items ≡ g.widths.items
   widths = sym (has_made font settings options us f p).widths ∙ ap (λ (m : Made). m.profile.widths) both ∙ (has_made font settings options us g q).widths
 
+  exact : f.exact_widths.items ≡ g.exact_widths.items
+  exact = sym (has_made font settings options us f p).exact ∙ ap (λ (m : Made). m.profile.exact.widths) both ∙ (has_made font settings options us g q).exact
+
+  units : f.units_per_em ≡ g.units_per_em
+  units = just_is f.units_per_em g.units_per_em (sym p.made.units ∙ ap units_per_em statics ∙ q.made.units)
+
   cids : f.cids.items ≡ g.cids.items
   cids = p.made.cids ∙ same_numbers p.made.new.cids.items q.made.new.cids.items (p.made.embedded.answer.embedded.cids ∙ sym q.made.embedded.answer.embedded.cids) ∙ sym q.made.cids
 
@@ -234,10 +241,13 @@ module _ (font : Font) (settings : List (Tag × ℤ)) (options : FontOptions) (u
     codes = same_codes;
     said = p.made.filled.coded.said ∙ ap (λ (l : List ℕ). map (is_line_found (coded us l)) (coded us l)) same_codes ∙ sym q.made.filled.coded.said;
     widths = widths;
+    exact = exact;
+    units = units;
     default_width = one_width g.widths.items f.default_width g.default_width (subst (λ (l : List ℕ). IsMostFrequent l f.default_width) widths p.made.filled.default_width) q.made.filled.default_width;
     columns = columns;
     name = name;
     values = values;
+    unknown_axes = p.made.filled.unknown_axes ∙ sym q.made.filled.unknown_axes;
     permission = p.permission ∙ sym q.permission;
     to_unicode = p.made.filled.coded.to_unicode ∙ ap (λ (l : List ℕ). cmap_text (lines_of_codes (coded us l))) same_codes ∙ sym q.made.filled.coded.to_unicode;
     encoding = p.made.filled.coded.encoding ∙ ap (own_cmap (is_vertical options.direction)) same_pairs ∙ sym q.made.filled.coded.encoding;

@@ -49,10 +49,13 @@ pub record AreSame (f g : PdfFont) : Type 0 where
   pub codes : f.codes.items ≡ g.codes.items
   pub said : f.is_said.items ≡ g.is_said.items
   pub widths : f.widths.items ≡ g.widths.items
+  pub exact : f.exact_widths.items ≡ g.exact_widths.items
+  pub units : f.units_per_em ≡ g.units_per_em
   pub default_width : f.default_width ≡ g.default_width
   pub columns : option_map columns_seen f.columns ≡ option_map columns_seen g.columns
   pub name : f.descriptor.font_name.items ≡ g.descriptor.font_name.items
   pub values : f.descriptor.values ≡ g.descriptor.values
+  pub unknown_axes : f.unknown_axes.items ≡ g.unknown_axes.items
   pub permission : f.permission ≡ g.permission
   pub to_unicode : f.to_unicode.items ≡ g.to_unicode.items
   pub encoding : text_of f.encoding ≡ text_of g.encoding

@@ -8,12 +8,13 @@ use Rattle.subsetter_sfnt.specs.Read.{Font, as_font, flavor, stored, table}
 use Rattle.subsetter_sfnt.specs.FontAt.{font_at}
 use Rattle.subsetter_sfnt.specs.declared.flavor.FontFlavor.TheVariants.{TrueType}
 use Rattle.subsetter.specs.Bound.{IsWithin}
+use Rattle.subsetter.specs.Common.Hmtx.Read.{metric}
 use Rattle.subsetter_variable.specs.Afresh.{HasGlyphsDrawn}
 use Rattle.subsetter_variable.specs.Blended.{HasGlyphsBlended}
 use Rattle.subsetter_variable.specs.DefaultLocation.{IsAtDefault, IsCff2Font}
 use Rattle.subsetter_variable.specs.Subset.{IsStatic, IsTheAnswerAt, whole}
 use Rattle.cid_embed.specs.Embed.{numbering}
-use Rattle.cid_embed.specs.Width.{width}
+use Rattle.cid_embed.specs.Width.{units_per_em, width}
 use Rattle.cid_embed.specs.declared.embedding.Embedded.{Embedded}
 use Rattle.cid_embed_at.specs.Embed.{HasEmbedFaultAt, IsEmbeddingAnswerAt}
 use Rattle.pdf_codes.specs.Codes.{AreCodes, IsOverfull, Used, coded, glyphs_of}
@@ -34,6 +35,7 @@ use Rattle.pdf_source.specs.Moved.{values_in}
 use Rattle.pdf_source.specs.Program.{IsProgram, kind_of}
 use Rattle.pdf_source.specs.Named.{heights_there, name_there}
 use Rattle.pdf_source.specs.Source.{tag_in, vertical_of}
+use Rattle.pdf_source.specs.UnknownAxes.{unknown_axes}
 use Rattle.pdf_source.specs.declared.choice.Direction.{Direction}
 use Rattle.pdf_source.specs.declared.choice.Direction.TheVariants.{Horizontal, Vertical as TopToBottom}
 use Rattle.pdf_source.specs.declared.choice.FontOptions.{FontOptions}
@@ -44,6 +46,10 @@ use Rattle.pdf_font.specs.declared.font.PdfFont.{PdfFont}
 -- the font that is read
 abbrev pub font_of : List ℕ → ℕ → FontOptions → Font
 font_of bytes index options = font_at bytes index (extras_of options)
+
+-- the advance of a glyph, in the font's units
+abbrev pub exact_width : Font → ℕ → Option ℕ
+exact_width font g = option_map (λ m. m.advance_width) (metric font g)
 
 -- codes of the glyphs in use, where they lead, and their texts
 pub record IsCoded (options : FontOptions) (us : List Used) (f : PdfFont) : Type 0 where
@@ -75,6 +81,7 @@ pub record IsFilled (find : List ℕ → Option (List ℕ)) (settings : List (Ta
   pub default_width : IsMostFrequent f.widths.items f.default_width
   pub columns : AreColumns options.direction (vertical_of find) (heights_there find settings) (glyphs_of us) widths f.columns
   pub name : f.descriptor.font_name.items ≡ font_name (tag_in options.tag f.program.items) (name_there find settings)
+  pub unknown_axes : f.unknown_axes.items ≡ unknown_axes find settings
   pub cid_set : IsCidSetIf options.cid_set f.glyph_count (option_map (λ v. v.items) f.cid_set)
 
 pub record IsEmbeddedFor (font : Font) (settings : List (Tag × ℤ)) (options : FontOptions) (us : List Used) (f : PdfFont) : Type 0 where
@@ -93,10 +100,12 @@ pub record IsEmbeddedFor (font : Font) (settings : List (Tag × ℤ)) (options :
   pub kind : f.kind ≡ kind_of embedded.answer.embedded.subset.keeps.kind options.program
   pub program : IsProgram f.kind new.font.items f.program.items
   pub maxp : embedded.answer.embedded.subset.keeps.kind ≡ TrueType → IsSome (table (as_font new.font.items) (codes "maxp"))
-  -- each of its glyphs has a CID, and the width of its source
+  -- each of its glyphs has a CID, and the width of its source, which is also in the font's units
   pub cids : f.cids.items ≡ new.cids.items
   pub counted : f.glyph_count ≡ length embedded.answer.embedded.subset.keeps.order
   pub widths : map Some f.widths.items ≡ map (width embedded.static) embedded.answer.embedded.subset.keeps.order
+  pub exact : map Some f.exact_widths.items ≡ map (exact_width embedded.static) embedded.answer.embedded.subset.keeps.order
+  pub units : units_per_em embedded.static ≡ Some f.units_per_em
   -- the values of the descriptor, of the source at these coordinates
   pub values : f.descriptor.values ≡ values_in (stored font) (stored (as_font new.font.items)) f.glyph_count options.bounds settings
   pub filled : IsFilled (stored font) settings options us new.widths.items f

@@ -10,6 +10,8 @@ pub record Takes (n : NewFont) (numbers : List ℕ) (p : Permission) (f : PdfFon
   pub program : f.program.items ≡ n.program.items
   pub count : f.glyph_count ≡ n.profile.count
   pub widths : f.widths.items ≡ n.profile.widths.items
+  pub exact : f.exact_widths.items ≡ n.profile.exact.widths.items
+  pub units : f.units_per_em ≡ n.profile.exact.units_per_em
   pub values : f.descriptor.values ≡ n.profile.values
   pub cids : f.cids.items ≡ numbers
   pub permission : f.permission ≡ p

@@ -17,7 +17,7 @@ use pdf_codes::{Shown, codes_and_texts, encoding_of};
 use pdf_glyphs::{Columns, columns_at};
 use pdf_source::{
     Descriptor, Direction, FontOptions, Location, NewFont, heights_by, location_in, most_frequent,
-    name_in, vertical_of,
+    name_in, unknown_axes, vertical_of,
 };
 use pdf_text::{NamedCmap, ProgramKind, cid_set};
 use pdf_values::Permission;
@@ -41,12 +41,18 @@ pub struct PdfFont {
     pub is_said: Vec<bool>,
     /// Of each CID the width, in thousandths of the em.
     pub widths: Vec<u32>,
+    /// The same in the font's units.
+    pub exact_widths: Vec<u16>,
+    /// unitsPerEm: how many of these units the em has.
+    pub units_per_em: u16,
     /// DW.
     pub default_width: u32,
     /// In vertical writing of each CID that a string can show, which are those of glyph 0 and of the glyphs in use, the
     /// advance and the origin; else none.
     pub columns: Option<Columns>,
     pub descriptor: Descriptor,
+    /// The axes that were asked for and that the font doesn't have, in the order asked, each once.
+    pub unknown_axes: Vec<Tag>,
     pub permission: Permission,
     /// The ToUnicode CMap.
     pub to_unicode: Vec<u8>,
@@ -121,6 +127,7 @@ pub fn filled(
     let location = location_in(alloc, face, settings)?;
     let columns = columns_if(alloc, options, &location, face, glyphs, widths)?;
     let cid_set = cid_set_if(alloc, options.cid_set, new.profile.count)?;
+    let unknown_axes = unknown_axes(alloc, face, settings)?;
     let font_name = name_in(alloc, &location, face, &new.program, options.tag, settings)?;
     Ok(PdfFont {
         program: new.program,
@@ -130,12 +137,15 @@ pub fn filled(
         codes: coded.codes,
         is_said: coded.is_said,
         widths: new.profile.widths,
+        exact_widths: new.profile.exact.widths,
+        units_per_em: new.profile.exact.units_per_em,
         default_width,
         columns,
         descriptor: Descriptor {
             font_name,
             values: new.profile.values,
         },
+        unknown_axes,
         permission,
         to_unicode: coded.to_unicode,
         encoding,

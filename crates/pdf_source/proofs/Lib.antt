@@ -1,2 +1,4 @@
+mod AxisSteps
 mod Counting
+mod ExactSteps
 mod Tags

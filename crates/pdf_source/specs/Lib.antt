@@ -1,5 +1,6 @@
 pub mod Cff
 pub mod Chosen
+pub mod Exact
 pub mod Frequent
 pub mod Counted
 pub mod Made
@@ -7,3 +8,4 @@ pub mod Moved
 pub mod Named
 pub mod Program
 pub mod Source
+pub mod UnknownAxes

@@ -8,27 +8,30 @@ use Rattle.subsetter_sfnt.specs.Read.{as_font, table_in}
 use Rattle.cid_embed.specs.Afresh.{widths_of}
 use Rattle.pdf_text.specs.declared.values.ProgramKind.{ProgramKind}
 use Rattle.pdf_values.specs.declared.descriptor.Values.{Values}
+use Rattle.pdf_source.specs.Exact.{Exact, exact_of, exact_seen}
 use Rattle.pdf_source.specs.Program.{count_in, flavor_in, kind_of, program_in}
 use Rattle.pdf_source.specs.Moved.{values_in}
 use Rattle.pdf_source.specs.declared.choice.FontOptions.{FontOptions}
 use Rattle.pdf_source.specs.declared.program.NewFont.{NewFont}
 use Rattle.pdf_source.specs.declared.program.Profile.{Profile as GivenProfile}
 
--- how many glyphs it has, their widths, and the values of the descriptor
+-- how many glyphs it has, their widths, in thousandths of the em and in the font's units, and the values of the descriptor
 pub record Profile : Type 0 where
   pub count : ℕ
   pub widths : List ℕ
+  pub exact : Exact
   pub values : Values
 
 abbrev pub profile_seen : GivenProfile → Profile
-profile_seen p = record { count = p.count; widths = p.widths.items; values = p.values }
+profile_seen p = record { count = p.count; widths = p.widths.items; exact = exact_seen p.exact; values = p.values }
 
 unfoldable pub profile_in : (List ℕ → Option (List ℕ)) → List (Tag × ℤ) → FontOptions → ℕ → List ℕ → Result Profile Error
 profile_in find settings options requested file = do
   directory ← opened (as_font file)
   count ← count_in (flavor_in file) (table_in file directory) requested
   widths ← widths_of (table_in file directory) count
-  Ok (record { count = count; widths = widths; values = values_in find (table_in file directory) count options.bounds settings })
+  exact ← exact_of (table_in file directory) count
+  Ok (record { count = count; widths = widths; exact = exact; values = values_in find (table_in file directory) count options.bounds settings })
 
 -- and the program
 pub record Made : Type 0 where

@@ -8,16 +8,20 @@
 //! ```
 #![tactic(auto)]
 
+mod axes;
 mod cff;
 mod choice;
 mod described;
+mod exact;
 mod moved;
 mod program;
 mod tag;
 mod widths;
 
+pub use axes::unknown_axes;
 pub use choice::{Direction, FontOptions, ProgramChoice};
 pub use described::{Descriptor, heights_by, name_in, vertical_of};
+pub use exact::{ExactWidths, exact_of};
 pub use moved::{Location, location_in};
 pub use program::{NewFont, Profile, new_font};
 pub use tag::SubsetTag;

@@ -43,7 +43,7 @@ fn coordinates_of(
 }
 
 /// The axes that `fvar` lists, if it can be read.
-fn axes_of(alloc: Global, fvar: Option<&[u8]>) -> Result<Option<Vec<Axis>>, Error>
+pub(crate) fn axes_of(alloc: Global, fvar: Option<&[u8]>) -> Result<Option<Vec<Axis>>, Error>
     ensures { Gives (λ o. option_map (λ v. v.items) o) result (Ok (axes_in (option_copied fvar.entry))) }
 {
     let Some(fvar) = fvar else {

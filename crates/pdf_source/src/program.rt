@@ -10,6 +10,7 @@ ghost use Rattle.pdf_source.specs.Program.{bare_cff, count_in, flavor_by, flavor
 use crate::cff::font_stem;
 use crate::choice::{FontOptions, ProgramChoice};
 use crate::described::{kept_in, values_by};
+use crate::exact::{ExactWidths, exact_of};
 use crate::moved::location_in;
 use crate::widths::widths_of;
 use pdf_text::ProgramKind;
@@ -30,6 +31,8 @@ pub struct Profile {
     pub count: u16,
     /// The width of each.
     pub widths: Vec<u32>,
+    /// The same in the font's units.
+    pub exact: ExactWidths,
     pub values: Values,
 }
 
@@ -104,6 +107,7 @@ fn profile_of(
     let new = parse(file, 0, Extras::ALL)?;
     let count = count_in(&new, flavor_in(file), requested)?;
     let widths = widths_of(alloc, &new, count)?;
+    let exact = exact_of(alloc, &new, count)?;
     let location = location_in(alloc, face, settings)?;
     let stem = font_stem(alloc, face, &new)?;
     let kept = kept_in(alloc, face, &new, count)?;
@@ -111,6 +115,7 @@ fn profile_of(
     Ok(Profile {
         count,
         widths,
+        exact,
         values,
     })
 }

@@ -19,7 +19,7 @@ use subsetter_sfnt::fields::hhea::number_of_h_metrics;
 
 /// The metrics of a font. What is missing or cut, and a unitsPerEm of 0, is `MalformedFont`.
 #[tactic(auto, unfolding(cid_embed::specs::Afresh::measures_of))]
-fn metrics_of<'a>(face: &Face<'a>) -> Result<Metrics<'a>, Error>
+pub(crate) fn metrics_of<'a>(face: &Face<'a>) -> Result<Metrics<'a>, Error>
     ensures ok { IfOk result (λ m. measures_of (table_in face.now.«data».now face.now.records.now) ≡ Ok (measures_seen m)) }
     ensures err { IfErr result (λ e. measures_of (table_in face.now.«data».now face.now.records.now) ≡ Err e) }
     ensures divides { IfOk result (λ m. 0 < m.units) }

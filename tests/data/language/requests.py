@@ -15,9 +15,9 @@ ROWS = {"subset": SUBSET + NEW, "limits": SUBSET + LIMITS + NEW, "options": SUBS
         "bounded_options": SUBSET + LIMITS + ["drop"] + BOUND + NEW, "embed": SUBSET + EMBEDDED,
         "embed_options": SUBSET + LIMITS + ["drop"] + EMBEDDED, "embed_bounded_options": SUBSET + LIMITS + ["drop"] + BOUND + EMBEDDED,
         "subset_at": SUBSET + ["at"] + LIMITS + ["drop"] + BOUND + NEW, "embed_at": SUBSET + ["at"] + LIMITS + ["drop"] + BOUND + EMBEDDED,
-        "instance": SUBSET + ["at", "steps"]}
+        "instance": SUBSET + ["at", "steps"], "advances": SUBSET + ["at", "tokens", "status", "units", "widths", "heights"]}
 DEFAULTS = {"font": None, "face": "0", "glyphs": "-", "tokens": "0", "depth": "0", "drop": "0", "most": "0", "at": "-", "steps": None,
-            "status": "DONE", "new": "-", "cids": "-", "widths": "-"}
+            "status": "DONE", "new": "-", "cids": "-", "widths": "-", "units": "-", "heights": "-"}
 # Rows that are as they are in today's file, but for words `TAG=VALUE` with values in units of the axis.
 PLAIN = {"nearest", "axes", "scalar", "numbers", "deltas", "tuple", "moved", "advance", "read", "written", "fits", "coordinates"}
 
@@ -134,6 +134,9 @@ class Library:
                 line.fails(f"{key}= is missing")
         if given["font"] not in self.fonts:
             line.fails(f"there is no font {given['font']} in front of it")
+        if kind == "advances":
+            # (each test reads this file alone, so that the font is in the row)
+            given["font"] = self.hex(self.fonts[given["font"]])
         if "status" in given:
             self.gives(line, name, given, like)
         if "drop" in given:
@@ -147,6 +150,8 @@ class Library:
         if given["status"] not in STATUS:
             line.fails(f"there is no status {given['status']}")
         given["status"] = str(STATUS.index(given["status"]))
+        if "new" not in given:
+            return
         is_made = like is not None or line.children != []
         if (given["status"] == "0") == (given["new"] == "-" and not is_made) or (given["new"] != "-" and is_made):
             line.fails("a row has a status, or its new font below it, or new=ROW")

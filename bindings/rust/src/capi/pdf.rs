@@ -443,12 +443,16 @@ impl FontParts<'_> {
             codes: copied(self.codes)?,
             is_said: copied(self.is_said)?,
             widths: copied(self.widths)?,
+            // (no object has these)
+            exact_widths: List::new(Global),
+            units_per_em: 0,
             default_width: self.numbers.default_width,
             columns: self.columns()?,
             descriptor: proved::Descriptor {
                 font_name: copied(self.font_name)?,
                 values: self.numbers.values(),
             },
+            unknown_axes: List::new(Global),
             permission: ANY_PERMISSION,
             to_unicode: copied(self.to_unicode)?,
             encoding: self.encoding()?,

@@ -2,7 +2,7 @@
 
 use super::{with_room, Cmap, Column, Columns, Descriptor, Permission, ProgramKind};
 use crate::proved::pdf_font as proved;
-use crate::Error;
+use crate::{Error, Tag};
 use alloc::vec::Vec;
 use core::{fmt, str};
 
@@ -12,6 +12,7 @@ use core::{fmt, str};
 pub struct PdfFont {
     made: proved::PdfFont,
     columns: Vec<Column>,
+    unknown_axes: Vec<Tag>,
 }
 
 /// A text of bytes between 33 and 126.
@@ -28,7 +29,13 @@ impl PdfFont {
             x: it.x,
             y: it.y,
         }));
-        Ok(Self { made, columns })
+        let mut unknown_axes = with_room(made.unknown_axes.len())?;
+        unknown_axes.extend(made.unknown_axes.iter().map(|it| Tag::new(it.get())));
+        Ok(Self {
+            made,
+            columns,
+            unknown_axes,
+        })
     }
 
     /// What the proved call answered.
@@ -76,6 +83,17 @@ impl PdfFont {
         &self.made.widths
     }
 
+    /// The width of each CID from 0 on, in the font's units, as [`advances`](super::advances) gives it: [`widths`](Self::widths)
+    /// before they are rounded.
+    pub fn exact_widths(&self) -> &[u16] {
+        &self.made.exact_widths
+    }
+
+    /// How many of the font's units the em has.
+    pub fn units_per_em(&self) -> u16 {
+        self.made.units_per_em
+    }
+
     /// DW: the most frequent width.
     pub fn default_width(&self) -> u32 {
         self.made.default_width
@@ -106,6 +124,11 @@ impl PdfFont {
             stem_v: values.stem_v,
             font_weight: values.font_weight,
         }
+    }
+
+    /// The axes that coordinates were given for and that the font doesn't have, in the order given, each once.
+    pub fn unknown_axes(&self) -> &[Tag] {
+        &self.unknown_axes
     }
 
     /// What the font's maker permits.

@@ -30,6 +30,8 @@ pub mod cid_embed;
 pub mod cid_embed_at;
 #[cfg(feature = "variable-fonts")]
 pub mod cmap;
+#[cfg(feature = "variable-fonts")]
+pub mod font_advances;
 #[cfg(feature = "program")]
 pub mod glyph_names;
 #[cfg(feature = "program")]

@@ -6,8 +6,8 @@ use crate::rattle::prelude::Vec;
 use crate::proved::pdf_codes::{codes_and_texts, encoding_of, Shown};
 use crate::proved::pdf_glyphs::{columns_at, Columns};
 use crate::proved::pdf_source::{
-    heights_by, location_in, most_frequent, name_in, vertical_of, Descriptor, Direction,
-    FontOptions, Location, NewFont,
+    heights_by, location_in, most_frequent, name_in, unknown_axes, vertical_of, Descriptor,
+    Direction, FontOptions, Location, NewFont,
 };
 use crate::proved::pdf_text::{cid_set, NamedCmap, ProgramKind};
 use crate::proved::pdf_values::Permission;
@@ -30,12 +30,18 @@ pub struct PdfFont {
     pub is_said: Vec<bool>,
     /// Of each CID the width, in thousandths of the em.
     pub widths: Vec<u32>,
+    /// The same in the font's units.
+    pub exact_widths: Vec<u16>,
+    /// unitsPerEm: how many of these units the em has.
+    pub units_per_em: u16,
     /// DW.
     pub default_width: u32,
     /// In vertical writing of each CID that a string can show, which are those of glyph 0 and of the glyphs in use, the
     /// advance and the origin; else none.
     pub columns: Option<Columns>,
     pub descriptor: Descriptor,
+    /// The axes that were asked for and that the font doesn't have, in the order asked, each once.
+    pub unknown_axes: Vec<Tag>,
     pub permission: Permission,
     /// The ToUnicode CMap.
     pub to_unicode: Vec<u8>,
@@ -96,6 +102,7 @@ pub fn filled(
     let location = location_in(alloc, face, settings)?;
     let columns = columns_if(alloc, options, &location, face, glyphs, widths)?;
     let cid_set = cid_set_if(alloc, options.cid_set, new.profile.count)?;
+    let unknown_axes = unknown_axes(alloc, face, settings)?;
     let font_name = name_in(alloc, &location, face, &new.program, options.tag, settings)?;
     Ok(PdfFont {
         program: new.program,
@@ -105,12 +112,15 @@ pub fn filled(
         codes: coded.codes,
         is_said: coded.is_said,
         widths: new.profile.widths,
+        exact_widths: new.profile.exact.widths,
+        units_per_em: new.profile.exact.units_per_em,
         default_width,
         columns,
         descriptor: Descriptor {
             font_name,
             values: new.profile.values,
         },
+        unknown_axes,
         permission,
         to_unicode: coded.to_unicode,
         encoding,

@@ -8,14 +8,17 @@
 //! let width = most_frequent(alloc, &new.profile.widths)?;
 //! ```
 
+mod axes;
 mod cff;
 mod choice;
 mod described;
+mod exact;
 mod moved;
 mod program;
 mod tag;
 mod widths;
 
+pub use axes::unknown_axes;
 pub use choice::{Direction, FontOptions, ProgramChoice};
 pub use described::{heights_by, name_in, vertical_of, Descriptor};
 pub use moved::{location_in, Location};

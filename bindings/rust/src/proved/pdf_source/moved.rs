@@ -34,7 +34,7 @@ fn coordinates_of(
 }
 
 /// The axes that `fvar` lists, if it can be read.
-fn axes_of(alloc: Global, fvar: Option<&[u8]>) -> Result<Option<Vec<Axis>>, Error> {
+pub(crate) fn axes_of(alloc: Global, fvar: Option<&[u8]>) -> Result<Option<Vec<Axis>>, Error> {
     let fvar = match fvar {
         Some(fvar) => fvar,
         _ => {

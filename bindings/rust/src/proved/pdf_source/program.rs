@@ -6,6 +6,7 @@ use crate::rattle::prelude::Vec;
 use crate::proved::pdf_source::cff::font_stem;
 use crate::proved::pdf_source::choice::{FontOptions, ProgramChoice};
 use crate::proved::pdf_source::described::{kept_in, values_by};
+use crate::proved::pdf_source::exact::{exact_of, ExactWidths};
 use crate::proved::pdf_source::moved::location_in;
 use crate::proved::pdf_source::widths::widths_of;
 use crate::proved::pdf_text::ProgramKind;
@@ -25,6 +26,8 @@ pub struct Profile {
     pub count: u16,
     /// The width of each.
     pub widths: Vec<u32>,
+    /// The same in the font's units.
+    pub exact: ExactWidths,
     pub values: Values,
 }
 
@@ -87,6 +90,7 @@ fn profile_of(
     let new = parse(file, 0, Extras::ALL)?;
     let count = count_in(&new, flavor_in(file), requested)?;
     let widths = widths_of(alloc, &new, count)?;
+    let exact = exact_of(alloc, &new, count)?;
     let location = location_in(alloc, face, settings)?;
     let stem = font_stem(alloc, face, &new)?;
     let kept = kept_in(alloc, face, &new, count)?;
@@ -94,6 +98,7 @@ fn profile_of(
     Ok(Profile {
         count,
         widths,
+        exact,
         values,
     })
 }

@@ -12,7 +12,7 @@ use crate::rattle::alloc::Global;
 use crate::rattle::collections::HashMap;
 
 /// The metrics of a font. What is missing or cut, and a unitsPerEm of 0, is `MalformedFont`.
-fn metrics_of<'a>(face: &Face<'a>) -> Result<Metrics<'a>, Error> {
+pub(crate) fn metrics_of<'a>(face: &Face<'a>) -> Result<Metrics<'a>, Error> {
     let hmtx = face.stored(Tag::HMTX).ok_or(Error::MalformedFont)?;
     let head = face.stored(Tag::HEAD).ok_or(Error::MalformedFont)?;
     let units = units_per_em(head).ok_or(Error::MalformedFont)?;
