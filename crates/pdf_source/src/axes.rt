@@ -33,11 +33,7 @@ fn is_listed(axes: &[Axis], before: &[(Tag, i32)], tag: Tag) -> bool
 }
 
 /// The tags of settings that none of these axes has, each once.
-fn unknown_among(
-    alloc: Global,
-    axes: &[Axis],
-    settings: &[(Tag, i32)],
-) -> Result<Vec<Tag>, Error>
+fn unknown_among(alloc: Global, axes: &[Axis], settings: &[(Tag, i32)]) -> Result<Vec<Tag>, Error>
     ensures ok { IfOk result (λ v. v.items ≡ unknown_behind axes.now [] settings.now) }
     ensures err { IfErr result (λ e. e ≡ OutOfMemory) }
 {
