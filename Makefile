@@ -25,13 +25,13 @@ generate: # writes the crate bindings/rust from the proved sources
 	@bindings/rust/generate
 	@tools/copies --write
 
-dist: # the release files, into dist/out (docs/PACKAGES.md); ARGS="--skip=PART,.."
-	@dist/make $(ARGS)
+release: # the release files, into out/release (docs/PACKAGES.md); ARGS="--skip=PART,.."
+	@release/make $(ARGS)
 
-dist-test: # installs and tests the release files; ARGS="--skip=PART,.."
-	@dist/test $(ARGS)
+release-test: # installs and tests the release files; ARGS="--skip=PART,.."
+	@release/test $(ARGS)
 
 clean: # removes what was built, but not the proofs in crates/*/out
-	@rm -rf out dist/out compare/build bindings/*/out bindings/*/target
+	@rm -rf out compare/build bindings/*/out bindings/*/target
 
-.PHONY: help demo test quick prove generate dist dist-test clean
+.PHONY: help demo test quick prove generate release release-test clean

@@ -387,7 +387,7 @@ def test_calls_fail(traced, error):
     if error != "EINTR" and not traced.way.in_place:
         assert [ends[it][0] for it in ("write", "fdatasync", "rename")] == ["unwritten"] * 3, ends
     elif error == "EINTR" and IS_CARGO:
-        assert {it for call in ("openat", "read", "write", "fdatasync") for it in ends.get(call, [])} <= {"whole"}, ends
+        assert {it for call in ("openat", "read", "write", "fdatasync", "unlink") for it in ends.get(call, [])} <= {"whole"}, ends
 
 
 def test_killed(traced):

@@ -44,12 +44,12 @@
 extern "C" {
 #endif
 
-/* The version of this header: that of the Rust crate whose interface it follows, and a number of its own. */
-#define SUBSETTER_VERSION_MAJOR 0
-#define SUBSETTER_VERSION_MINOR 2
-#define SUBSETTER_VERSION_PATCH 6
-#define SUBSETTER_VERSION_N 1
-#define SUBSETTER_VERSION_TEXT "0.2.6+1"
+/* The version of this header. The fourth number is 0. */
+#define SUBSETTER_VERSION_MAJOR 1
+#define SUBSETTER_VERSION_MINOR 0
+#define SUBSETTER_VERSION_PATCH 0
+#define SUBSETTER_VERSION_N 0
+#define SUBSETTER_VERSION_TEXT "1.0.0"
 /* The four in one number, eight bits each; `#if` may ask for it. */
 #define SUBSETTER_VERSION                                                                    \
     (SUBSETTER_VERSION_MAJOR * 0x1000000u + SUBSETTER_VERSION_MINOR * 0x10000u               \

@@ -286,7 +286,7 @@ export interface PdfFont {
  * and RangeError for a number that is not whole or too large, or for a wrong tag or value of a coordinate.
  */
 export interface Subsetter {
-    /** The library's version, as "0.2.6+1". */
+    /** The library's version, as "1.0.0". */
     readonly version: string;
     /**
      * All that a PDF has of a font for glyphs in order of use, with repeats if need be. Besides, NotPermitted and InvalidText are

@@ -288,7 +288,7 @@ class Library {
         this.#exports = instance.exports;
         this.#texts = ERRORS.map((_, status) => this.#text(status));
         const version = instance.exports.subsetter_version();
-        this.version = `${version >>> 24}.${(version >> 16) & 255}.${(version >> 8) & 255}+${version & 255}`;
+        this.version = `${version >>> 24}.${(version >> 16) & 255}.${(version >> 8) & 255}`;
     }
 
     /** Makes the memory of an instance `end` bytes large, if it isn't. */

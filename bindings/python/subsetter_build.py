@@ -60,9 +60,9 @@ def licence():
 
 
 def version():
-    """The module's version as packages of Python have it: 0.2.6+1 is 0.2.6.post1."""
+    """The module's version."""
     text = read(HERE, NAME, "__init__.py").decode()
-    return re.search(r'^__version__ = "(\d+\.\d+\.\d+)\+(\d+)"$', text, re.M).expand(r"\1.post\2")
+    return re.search(r'^__version__ = "(\d+\.\d+\.\d+)"$', text, re.M)[1]
 
 
 def module():

@@ -158,6 +158,8 @@ def bounds(source, program, is_kept):
 def italic_angle(source):
     if source.is_moved and "slnt" in source.at:
         return int(half_up(fractions.Fraction(1000 * source.at["slnt"], 65536)))
+    if source.is_moved and source.at.get("ital", 32768) < 32768:
+        return 0
     angle = field(source["post"], 4, "i")
     return int(half_up(fractions.Fraction(1000 * angle, 65536))) if angle is not None else 0
 
@@ -230,6 +232,8 @@ def flags(source, angle):
         found |= 8
     selection = field(os2, 62, "H")
     slanted = selection & 0x201 if selection is not None else (field(source["head"], 44, "H") or 0) & 2
+    if source.is_moved and {"ital", "slnt"} & set(source.at):
+        slanted, angle = source.at.get("ital", 0) >= 32768 or source.at.get("slnt", 0) < 0, 0
     return found | (64 if slanted or angle else 0)
 
 

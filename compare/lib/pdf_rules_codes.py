@@ -83,6 +83,8 @@ def most_frequent(items):
 def widths_in(array, default, count):
     """What W says of each CID below `count`: its two forms."""
     found, at = [default] * count, 0
+    if len(array) > 8191:
+        raise ValueError(f"an array of {len(array)}")
     while at < len(array):
         first, second = array[at:at + 2]
         if isinstance(second, list):
@@ -99,6 +101,8 @@ def widths_in(array, default, count):
 def columns_in(array, default, widths, count):
     """What W2 says of each CID below `count`, as advance, x and y."""
     found, at = [(default[1], fractions.Fraction(width, 2), default[0]) for width in widths[:count]], 0
+    if len(array) > 8191:
+        raise ValueError(f"an array of {len(array)}")
     while at < len(array):
         first, second = array[at:at + 2]
         if isinstance(second, list):

@@ -64,14 +64,18 @@ def normalized(axis, value):
     return 0
 
 
-def is_map(pairs):
-    """Whether a segment map keeps -1, 0 and 1, its fromCoordinates ascend and its toCoordinates don't descend."""
-    ascends = all(a < c and b <= d for (a, b), (c, d) in zip(pairs, pairs[1:]))
-    return ascends and all((v, v) in pairs for v in (-16384, 0, 16384))
+def counting(pairs):
+    """The pairs that count: fromCoordinate is above those of all pairs before, toCoordinate not below that of the last one that counts."""
+    kept = []
+    for at, (a, b) in enumerate(pairs):
+        if not kept or a > max(c for c, _ in pairs[:at]) and b >= kept[-1][1]:
+            kept.append((a, b))
+    return kept
 
 
 def bent(pairs, n):
-    if not is_map(pairs):
+    pairs = counting(pairs)
+    if not all((v, v) in pairs for v in (-16384, 0, 16384)):
         return n
     for (a, b), (c, d) in zip(pairs, pairs[1:]):
         if 4 * a <= n < 4 * c:

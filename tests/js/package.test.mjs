@@ -7,7 +7,7 @@ import { join } from "node:path";
 import { after, test } from "node:test";
 import { library, path, read, subsetter } from "./support.mjs";
 
-const version = read("VERSION").toString().trim(), packed = path(`bindings/js/out/subsetter-proved-${version.replace("+", "-")}.tgz`);
+const version = read("VERSION").toString().split("\n")[0], packed = path(`bindings/js/out/subsetter-proved-${version}.tgz`);
 const folder = mkdtempSync(join(tmpdir(), "subsetter package é %20-")), top = join(folder, "node_modules/subsetter-proved");
 after(() => rmSync(folder, { recursive: true }));
 const run = (program, ...words) => execFileSync(program, words, { cwd: folder, encoding: "utf8" });
@@ -20,7 +20,7 @@ test("the files of the package", () => {
     const sources = { LICENSE: "", NOTICE: "", "README.md": "bindings/js/", "subsetter.d.mts": "bindings/js/", "subsetter.mjs": "bindings/js/", "subsetter.wasm": "bindings/js/out/" };
     for (const [name, source] of Object.entries(sources)) assert.ok(readFileSync(join(top, name)).equals(read(`${source}${name}`)), name);
     const manifest = JSON.parse(readFileSync(join(top, "package.json"), "utf8"));
-    assert.deepEqual(manifest, { ...JSON.parse(read("bindings/js/package.json")), version: version.replace("+", "-") });
+    assert.deepEqual(manifest, { ...JSON.parse(read("bindings/js/package.json")), version });
     assert.deepEqual([manifest.name, manifest.type, manifest.license, manifest.dependencies], ["subsetter-proved", "module", "MIT OR Apache-2.0", undefined]);
     assert.equal(join(top, manifest.main), join(top, manifest.exports["."].default));
 });

@@ -18,5 +18,5 @@ test("each row for PDF", () => {
 test("the module needs nothing, names no folder of this machine, and has the version", async () => {
     assert.deepEqual(WebAssembly.Module.imports(await WebAssembly.compile(wasm)), []);
     assert.ok(!Buffer.from(wasm).includes(path("").slice(0, -1)));
-    assert.equal(subsetter.version, read("VERSION").toString().trim());
+    assert.equal(subsetter.version, read("VERSION").toString().split("\n")[0]);
 });

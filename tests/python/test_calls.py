@@ -282,4 +282,4 @@ def test_names():
     names = {}
     exec("from subsetter import *", names)
     assert "OverflowError" not in names and set(names) - {"__builtins__"} == set(subsetter.__all__)
-    assert subsetter.__version__ == (ROOT / "VERSION").read_text().strip()
+    assert subsetter.__version__ == (ROOT / "VERSION").read_text().split()[0]

@@ -18,7 +18,7 @@ from common import MODULE, ROOT, run
 sys.path.insert(0, str(MODULE))
 import subsetter_build  # noqa: E402
 
-VERSION = (ROOT / "VERSION").read_text().strip().replace("+", ".post")
+VERSION = (ROOT / "VERSION").read_text().split()[0]
 FRONT = f"subsetter-{VERSION}"
 INFO = f"{FRONT}.dist-info"
 TAGS = {

@@ -53,7 +53,7 @@ pub fn status_text(status: u32) -> &'static [u8] {
     }
 }
 
-/// The numbers of a version such as `0.2.6+1` in one, eight bits each.
+/// The numbers of a version such as `1.0.0.0` in one, eight bits each.
 pub const fn version_of(text: &[u8]) -> u32 {
     let (mut version, mut number, mut at) = (0, 0, 0);
     while at < text.len() {
@@ -68,5 +68,5 @@ pub const fn version_of(text: &[u8]) -> u32 {
     version | number
 }
 
-/// The version of the library: its four numbers, eight bits each.
-pub const VERSION: u32 = version_of(env!("CARGO_PKG_VERSION").as_bytes());
+/// The version of the library: its three numbers and 0, eight bits each.
+pub const VERSION: u32 = version_of(concat!(env!("CARGO_PKG_VERSION"), ".0").as_bytes());

@@ -202,10 +202,10 @@ fn blocks_have_their_alignment_and_keep_their_bytes() {
 #[test]
 fn each_number_of_a_version_has_eight_bits() {
     let versions = [
-        ("0.0.0+0", 0),
-        ("1.2.3+4", 0x0102_0304),
-        ("10.20.30+40", 0x0a14_1e28),
-        ("255.254.199+108", 0xfffe_c76c),
+        ("0.0.0.0", 0),
+        ("1.2.3.4", 0x0102_0304),
+        ("10.20.30.40", 0x0a14_1e28),
+        ("255.254.199.108", 0xfffe_c76c),
     ];
     for (text, wanted) in versions {
         assert_eq!(version_of(text.as_bytes()), wanted, "{text}");

@@ -62,7 +62,7 @@ __all__ = [
     "UnknownKind", "MalformedFont", "Unimplemented", "SubsetError", "CFFError", "OutOfMemory", "NotPermitted", "InvalidText",
 ]
 
-__version__ = "0.2.6+1"
+__version__ = "1.0.0"
 
 
 class Error(Exception):

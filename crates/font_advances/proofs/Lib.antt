@@ -1,3 +1,1 @@
-mod Agreeing
-mod Columns
 mod Each

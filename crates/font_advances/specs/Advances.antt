@@ -11,7 +11,7 @@ use Rattle.subsetter_sfnt.specs.Read.{Font, table_in}
 use Rattle.cid_embed.specs.Afresh.{if_units}
 use Rattle.font_advances.specs.Heights.{heights_in}
 use Rattle.font_advances.specs.Widths.{outlines_in, widths_of}
-use Rattle.font_advances.specs.declared.call.Advances.{Advances as GivenAdvances}
+use Rattle.font_advances.specs.declared.call.GlyphAdvances.{GlyphAdvances as GivenAdvances}
 use Rattle.font_advances.specs.declared.widths.Outlines.{Outlines}
 
 -- unitsPerEm, and of each glyph the width and the height

@@ -1,4 +1,3 @@
 pub mod Advances
 pub mod Heights
-pub mod Laws
 pub mod Widths

@@ -86,7 +86,7 @@ glyf_widths find settings steps glyphs = do
 -- ---- outlines in CFF2, which have no phantom points
 
 abbrev pub blended_width : BlendedSource → List ℤ → ℕ → Result ℕ Error
-blended_width s at g = if nat_lt g s.count then advance_or_fault (blended_metric s g) >>= λ before. varied_advance s.hvar at g before else Err MalformedFont
+blended_width s at g = if nat_lt g s.count then (advance_or_fault (blended_metric s g) >>= λ before. varied_advance s.hvar at g before) else Err MalformedFont
 
 unfoldable pub blended_widths : (List ℕ → Option (List ℕ)) → List (Tag × ℤ) → List ℕ → Result (List ℕ) Error
 blended_widths find settings glyphs = do

@@ -20,7 +20,7 @@ use subsetter_type2::limits::Limits;
 
 /// Advances of glyphs, in the font's units.
 #[derive(Debug, Drop)]
-pub struct Advances {
+pub struct GlyphAdvances {
     /// unitsPerEm: how many units the em has. It isn't 0.
     pub units_per_em: u16,
     /// Of each given glyph, in the order given, the advance width.
@@ -63,13 +63,13 @@ fn advances_by(
     coordinates: &[(Tag, i32)],
     steps: u32,
     glyphs: &[u16],
-) -> Result<Advances, Error>
+) -> Result<GlyphAdvances, Error>
     ensures { Gives advances_seen result (advances_by outlines (table_in face.now.«data».now face.now.records.now) coordinates.now steps glyphs.now) }
 {
     let units = units_in(face)?;
     let widths = widths_of(alloc, outlines, face, coordinates, steps, glyphs)?;
     let heights = heights_in(alloc, face, coordinates, units, glyphs)?;
-    Ok(Advances {
+    Ok(GlyphAdvances {
         units_per_em: units,
         widths,
         heights,
@@ -96,6 +96,7 @@ fn advances_by(
 ///   `HVAR`, also: a composite glyph scales the offset of a component.
 /// - `OverflowError`: numberOfHMetrics is 0; an advance has no 16 bits; a glyph takes more steps.
 /// - `OutOfMemory`: a request for memory was refused; never for a font that can't be opened.
+#[tactic(auto, unfolding(crate::specs::Advances::advances_of))]
 pub fn advances(
     alloc: Global,
     data: &[u8],
@@ -103,7 +104,7 @@ pub fn advances(
     glyphs: &[u16],
     coordinates: &[(Tag, i32)],
     limits: &Limits,
-) -> Result<Advances, Error>
+) -> Result<GlyphAdvances, Error>
     // What is answered is what the font's tables say, or the name of what is wrong with them, unless memory ran out.
     ensures value { Gives advances_seen result (advances_of (font_at «data».now index all_extras) coordinates.now limits.now.tokens glyphs.now) }
     // A font that can't be opened is refused before memory is taken.

@@ -1,17 +1,20 @@
 //! Advance heights (OpenType, "vhea", "vmtx" and "VVAR").
 
-ghost use Rattle.std.specs.Prelude.{◌≡◌, IfOk, IfErr, map, pos, ◌+ℤ◌};
+ghost use Rattle.std.specs.Prelude.{◌≡◌, IfOk, IfErr, codes, map, pos, ◌+ℤ◌};
 ghost use Rattle.std.specs.Option.{option_map, unwrap_or};
 ghost use Rattle.std.specs.Result.{result_unwrap_or};
 ghost use Rattle.subsetter_base.specs.declared.error.Error.TheVariants.{OutOfMemory};
 ghost use Rattle.subsetter_sfnt.specs.Read.{table_in};
 ghost use Rattle.pdf_glyphs.specs.HeightVariation.{if_height, variation_view};
 ghost use Rattle.pdf_glyphs.specs.Vertical.{advance_of, pair_count, vertical_view};
+ghost use Rattle.pdf_source.specs.Moved.{location_seen};
+ghost use Rattle.pdf_source.specs.Named.{heights_by};
+ghost use Rattle.pdf_source.specs.Source.{vertical_of};
 ghost use Rattle.font_advances.specs.Heights.{AreKnownBy, IsKnownBy, height, heights_in};
 
 use crate::known::{known_at, known_deltas};
 use pdf_glyphs::{HeightVariation, VerticalTables};
-use pdf_source::{heights_by, location_in, vertical_of};
+use pdf_source::{Location, heights_by, location_in, vertical_of};
 use std::alloc::{AllocError, Global};
 use subsetter_base::{Error, Tag};
 use subsetter_sfnt::face::Face;
@@ -87,10 +90,7 @@ fn height(
     };
     match known {
         Some(delta) => varied_height(advance, delta),
-        None => varied_height(
-            advance,
-            advance_delta(variation.vvar, variation.at, glyph),
-        ),
+        None => varied_height(advance, advance_delta(variation.vvar, variation.at, glyph)),
     }
 }
 
@@ -129,6 +129,29 @@ fn each_height(
     Ok(heights)
 }
 
+/// The heights of glyphs at a location of a font of so many units per em.
+fn heights_at(
+    alloc: Global,
+    face: &Face<'_>,
+    location: &Option<Location>,
+    units: u16,
+    glyphs: &[u16],
+) -> Result<Vec<u16>, Error>
+    ensures ok { IfOk result (λ v. v.items ≡ map (height (vertical_of (table_in face.now.«data».now face.now.records.now)) (heights_by (option_map location_seen location.now) (table_in face.now.«data».now face.now.records.now (codes "VVAR"))) units) glyphs.now) }
+    ensures err { IfErr result (λ e. e ≡ OutOfMemory) }
+{
+    let known = deltas_of(alloc, heights_by(face, location), glyphs)?;
+    let tables = vertical_of(face);
+    each_height(
+        alloc,
+        tables,
+        heights_by(face, location),
+        units,
+        glyphs,
+        &known,
+    )
+}
+
 /// The heights of glyphs of a font of so many units per em.
 pub fn heights_in(
     alloc: Global,
@@ -141,7 +164,5 @@ pub fn heights_in(
     ensures err { IfErr result (λ e. e ≡ OutOfMemory) }
 {
     let location = location_in(alloc, face, coordinates)?;
-    let variation = heights_by(face, &location);
-    let known = deltas_of(alloc, variation, glyphs)?;
-    each_height(alloc, vertical_of(face), variation, units, glyphs, &known)
+    heights_at(alloc, face, &location, units, glyphs)
 }

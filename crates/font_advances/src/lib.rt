@@ -9,8 +9,6 @@
 mod call;
 mod heights;
 mod known;
-mod laws;
 mod widths;
 
-pub use call::{Advances, advances};
-pub use laws::{are_those_of_a_pdf, are_those_of_columns};
+pub use call::{GlyphAdvances, advances};

@@ -83,8 +83,7 @@ fn metrics_in<'a>(face: &Face<'a>) -> Result<Metrics<'a>, Error>
 fn still_width(metrics: &Metrics<'_>, glyph: u16) -> Result<u16, Error>
     ensures { result ≡ still_width (metrics_seen metrics.now) glyph }
 {
-    let metric =
-        glyph_metric(metrics.hmtx, metrics.pairs, glyph).ok_or(Error::MalformedFont)?;
+    let metric = glyph_metric(metrics.hmtx, metrics.pairs, glyph).ok_or(Error::MalformedFont)?;
     Ok(metric.advance_width)
 }
 
@@ -93,8 +92,9 @@ fn each_still(alloc: Global, metrics: &Metrics<'_>, glyphs: &[u16]) -> Result<Ve
     ensures { Gives (λ v. v.items) result (each (still_width (metrics_seen metrics.now)) glyphs.now) }
 {
     let mut widths = Vec::with_capacity(alloc, glyphs.len())?;
-    for glyph in glyphs {
-        widths.push(still_width(metrics, *glyph)?)?;
+    for place in 0..glyphs.len() {
+        let width = still_width(metrics, glyphs[place])?;
+        widths.push(width)?;
     }
     Ok(widths)
 }
@@ -144,6 +144,16 @@ fn varied_advance(
     }
 }
 
+/// How far the right phantom point is from the left one.
+fn distance(left: i64, right: i64) -> i64
+    requires left { unsigned_abs left ≤ 2 ^ 58 }
+    requires right { unsigned_abs right ≤ 2 ^ 58 }
+    ensures value { result ≡ right -ℤ left }
+    ensures bound { unsigned_abs result ≤ 2 ^ 59 }
+{
+    right - left
+}
+
 /// The distance between the phantom points of a glyph, which may take so many steps, and the glyphs that are kept.
 #[tactic(auto, unfolding(crate::specs::Widths::phantom_width))]
 fn phantom_width(
@@ -161,7 +171,8 @@ fn phantom_width(
     ensures kept { IfOk result (λ r. AreKept source.now at.now r.1) }
 {
     let (unfolded, _, kept) = unfold(alloc, spare, source, at, steps, glyph, kept)?;
-    let width = advance(None, at, glyph, 0, unfolded.right - unfolded.left)?;
+    let between = distance(unfolded.left, unfolded.right);
+    let width = advance(None, at, glyph, 0, between)?;
     Ok((width, kept))
 }
 

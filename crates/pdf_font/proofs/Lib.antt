@@ -1,7 +1,7 @@
 mod AllWidths
 mod Answered
 mod Fresh
-pub mod LawProofs
+mod LawProofs
 mod NewLaws
 mod OneFont
 mod Opening

@@ -1,3 +1,4 @@
+mod AxisSteps
 mod Counting
 mod ExactSteps
 mod Tags

@@ -1,5 +1,5 @@
 -- Axes that are asked for and that a font doesn't have (OpenType, "fvar").
-use Rattle.std.specs.Prelude.{ℕ, Bool, is_some, ◌||◌, if◌then◌else◌, List, [], ◌∷◌, ◌++◌, codes, Option, ℤ}
+use Rattle.std.specs.Prelude.{ℕ, Bool, is_some, not, ◌&&◌, if◌then◌else◌, List, [], ◌∷◌, ◌++◌, codes, Option, ℤ}
 use Rattle.std.specs.List.{list_any}
 use Rattle.std.specs.Option.{unwrap_or}
 use Rattle.std.specs.Str.{bytes_eq}
@@ -15,10 +15,14 @@ has_axis axes tag = is_some (find_axis tag.0 axes)
 abbrev pub is_set : List (Tag × ℤ) → Tag → Bool
 is_set settings tag = list_any (λ s. bytes_eq s.0.0 tag.0) settings
 
--- the tags of settings that come behind others: each that no axis has, and that doesn't come before
+-- a tag that no axis has is listed where it doesn't come before
+abbrev pub is_listed : List Axis → List (Tag × ℤ) → Tag → Bool
+is_listed axes before tag = not (has_axis axes tag) && not (is_set before tag)
+
+-- the tags of settings that come behind others
 abbrev pub unknown_behind : List Axis → List (Tag × ℤ) → List (Tag × ℤ) → List Tag
 unknown_behind axes before [] = []
-unknown_behind axes before (s ∷ settings) = (if has_axis axes s.0 || is_set before s.0 then [] else s.0 ∷ []) ++ unknown_behind axes (before ++ s ∷ []) settings
+unknown_behind axes before (s ∷ settings) = (if is_listed axes before s.0 then s.0 ∷ [] else []) ++ unknown_behind axes (before ++ s ∷ []) settings
 
 -- of a font whose `fvar` is missing or can't be read all are unknown
 abbrev pub unknown_axes : (List ℕ → Option (List ℕ)) → List (Tag × ℤ) → List Tag

@@ -23,7 +23,7 @@ mod units;
 pub use descriptor::{Known, Tables, Values, values_of};
 pub use laws::{first_is_taken, none_is_passed};
 pub use looks::bounds::{Bounds, Edges, GlyphBox, bounds_of};
-pub use looks::flags::flags_of;
+pub use looks::flags::{flags_by, flags_of, is_italic};
 pub use looks::heights::{Heights, heights_of};
 pub use looks::lean::italic_angle;
 pub use looks::weight::{font_weight, stem_v, weight_of};

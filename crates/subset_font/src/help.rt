@@ -2,7 +2,7 @@
 
 /// What `--version` prints: the version of the program, which the file `VERSION` at the top of the repository says too
 /// (that of the crate that it ports, and behind the plus its own), and that of the crate.
-pub const VERSION_LINE: &str = "subset_font 0.2.6+1, a port of the Rust crate subsetter 0.2.6\n";
+pub const VERSION_LINE: &str = "subset_font 1.0.0, a port of the Rust crate subsetter 0.2.6\n";
 
 /// What `--help` prints.
 pub const HELP: &str = "usage: subset_font [OPTIONS] IN OUT INDEX GID[,GID..]
@@ -81,6 +81,9 @@ What the new font has:
                     glyph, the greatest depth of its
                     subroutines (default 1000000,64), and
                     the most bytes of the new font
+  --most-input BYTES
+                    the most bytes of IN (default
+                    1073741824)
 With --at an axis that isn't named is at its default. Of a
 tag that is given twice the last value counts. A tag that
 the font lacks is passed over, and a value outside its axis

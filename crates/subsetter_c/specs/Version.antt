@@ -1,6 +1,6 @@
 -- The version of the library.
 use Rattle.std.specs.Prelude.{ℕ, List, [], ◌∷◌}
 
--- that of the Rust crate whose interface it follows, in three numbers, and a number of its own: the file VERSION has them too
+-- in three numbers, that of the first line of the file VERSION, and 0
 abbrev pub version : List ℕ
-version = 0 ∷ 2 ∷ 6 ∷ 1 ∷ []
+version = 1 ∷ 0 ∷ 0 ∷ 0 ∷ []

@@ -8,5 +8,5 @@ ghost use Rattle.subsetter_c.specs.Version.{version};
 pub fn version() -> u32
     ensures { result ≡ be version }
 {
-    u32::from_be_bytes([0, 2, 6, 1])
+    u32::from_be_bytes([1, 0, 0, 0])
 }

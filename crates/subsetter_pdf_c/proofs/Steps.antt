@@ -1,6 +1,7 @@
 -- Texts one by one, and what is answered.
-use Rattle.std.proofs.Common.{◌≡◌, ◌<◌, ◌≤◌, ℕ, zero, suc, ◌+◌, ◌-◌, true, List, [], ◌∷◌, ◌++◌, length, get_or, map, drop, refl, ap, append_assoc, ◌∙◌, ◌⊎◌, inl, inr, add-one, drop-cons, arith, Result, Ok, Err}
-use Rattle.std.specs.Prelude.{IfOk, IfErr}
+use Rattle.std.proofs.Common.{◌≡◌, ◌<◌, ◌≤◌, ℕ, zero, suc, ◌+◌, ◌-◌, true, List, [], ◌∷◌, ◌++◌, length, get_or, map, drop, refl, ap, append_assoc, ◌∙◌, ◌⊎◌, inl, inr, add-one, drop-cons, arith, Result, Ok, Err, Vec, Global}
+use Rattle.std.specs.Prelude.{◌^◌, IfOk, IfErr}
+use Rattle.std.specs.List.{concat}
 use Rattle.std.proofs.lemmas.List.{map-append}
 use Rattle.subsetter_base.specs.Texts.{is_scalar}
 use Rattle.subsetter_pdf_c.specs.Texts.{one_each}
@@ -9,7 +10,16 @@ use Rattle.subsetter_base.specs.declared.error.Error.TheVariants.{OutOfMemory, O
 use Rattle.pdf_codes.specs.Codes.{Used}
 use Rattle.pdf_codes.specs.Shown.{use_of, uses_of, texts_of}
 use Rattle.pdf_codes.specs.declared.shown.Shown.{Shown}
+use Rattle.pdf_objects.specs.Glyphs.{IsSheetOf as IsSheetOfView, IsTooLargeFor as IsTooLargeForView}
+use Rattle.pdf_objects.specs.declared.view.FontView.{FontView}
+use Rattle.pdf_sheet.specs.declared.frame.Layout.{Layout}
+use Rattle.pdf_text.specs.Dictionaries.Widths.{HasManyColumns}
+use Rattle.pdf_text.specs.Objects.{font_objects, offsets_from, AreFontObjectsAt}
+use Rattle.pdf_text.specs.declared.objects.FontObjects.{FontObjects}
 use Rattle.subsetter_pdf_c.specs.Entries.{AreTexts, are_ascending, are_scalars, are_texts, text_between, texts_from, uses_with}
+use Rattle.subsetter_pdf_c.specs.Made.{IsViewOf}
+use Rattle.subsetter_pdf_c.specs.Written.{AreObjectsOf, HaveNoNumbers, IsSheetOf, IsTooLargeFor}
+use Rattle.subsetter_pdf_c.specs.declared.made.PdfMade.{PdfMade}
 
 -- each number of such a text is a character
 pub scalar_at : (text : List ℕ) (i : ℕ) → are_scalars text ≡ true → i < length text → is_scalar (get_or text i 0) ≡ true
@@ -65,3 +75,30 @@ each_suc place count lt = let more : count - place ≡ suc (count - suc place) =
 
 pub next_each : (place count : ℕ) → place < count → one_each place (count - place) ≡ (place + 1) ∷ one_each (place + 1) (count - (place + 1))
 next_each place count lt = rw add-one (each_suc place count lt)
+
+-- ---- what is answered of a font that C holds
+
+module _ (made : PdfMade) (w : FontView) (is : IsViewOf made w) where
+  pub objects_made : (first : ℕ) (answer : Result FontObjects Error) → IfOk answer (λ o. o.text.items ≡ concat (font_objects first w.values)) → IfOk answer (λ o. o.offsets.items ≡ offsets_from 0 (font_objects first w.values)) → IfOk answer (λ o. AreFontObjectsAt first w.values o.text.items o.offsets.items) → IfOk answer (λ o. AreObjectsOf made first o.text.items o.offsets.items)
+  objects_made first (Ok o) text offsets at = record { view = w; is = is; text_is = text; offsets_are = offsets; at = at }
+  objects_made first (Err e) text offsets at = tt
+
+  objects_refused_by : (first : ℕ) (e : Error) → (e ≡ OutOfMemory) ⊎ ((e ≡ OverflowError) × ((2 ^ 32 ≤ first + 7) ⊎ HasManyColumns w.values.columns)) → (e ≡ OutOfMemory) ⊎ ((e ≡ OverflowError) × HaveNoNumbers made first)
+  objects_refused_by first e (inl p) = inl p
+  objects_refused_by first e (inr p) = inr (p.0, record { view = w; is = is; why = p.1 })
+
+  pub objects_refused : (first : ℕ) (answer : Result FontObjects Error) → IfErr answer (λ e. (e ≡ OutOfMemory) ⊎ ((e ≡ OverflowError) × ((2 ^ 32 ≤ first + 7) ⊎ HasManyColumns w.values.columns))) → IfErr answer (λ e. (e ≡ OutOfMemory) ⊎ ((e ≡ OverflowError) × HaveNoNumbers made first))
+  objects_refused first (Ok o) h = tt
+  objects_refused first (Err e) h = objects_refused_by first e h
+
+  pub sheet_made : (ts : List (List ℕ)) (layout : Layout) (answer : Result (Vec ℕ Global) Error) → IfOk answer (λ file. IsSheetOfView w ts layout file.items) → IfOk answer (λ file. IsSheetOf made ts layout file.items)
+  sheet_made ts layout (Ok file) h = record { view = w; is = is; sheet = h }
+  sheet_made ts layout (Err e) h = tt
+
+  sheet_refused_by : (ts : List (List ℕ)) (layout : Layout) (e : Error) → (e ≡ OutOfMemory) ⊎ ((e ≡ OverflowError) × IsTooLargeForView w ts layout) → (e ≡ OutOfMemory) ⊎ ((e ≡ OverflowError) × IsTooLargeFor made ts layout)
+  sheet_refused_by ts layout e (inl p) = inl p
+  sheet_refused_by ts layout e (inr p) = inr (p.0, record { view = w; is = is; large = p.1 })
+
+  pub sheet_refused : (ts : List (List ℕ)) (layout : Layout) (answer : Result (Vec ℕ Global) Error) → IfErr answer (λ e. (e ≡ OutOfMemory) ⊎ ((e ≡ OverflowError) × IsTooLargeForView w ts layout)) → IfErr answer (λ e. (e ≡ OutOfMemory) ⊎ ((e ≡ OverflowError) × IsTooLargeFor made ts layout))
+  sheet_refused ts layout (Ok file) h = tt
+  sheet_refused ts layout (Err e) h = sheet_refused_by ts layout e h

@@ -2,6 +2,7 @@
 
 ghost use Rattle.std.specs.Prelude.{◌≡◌, ◌≤◌, ◌<◌, ◌+◌, length, map, IfOk, IfErr};
 ghost use Rattle.std.specs.Option.{option_copied};
+ghost use Rattle.subsetter_base.specs.declared.error.Error.TheVariants.{OutOfMemory};
 ghost use Rattle.pdf_text.specs.Parts.{part_view, parts_view};
 ghost use Rattle.subsetter_pdf_c.specs.Written.{ArePartsOf, HasNoPartsOf, IsPartCount, laid_out, laid_view, role_number, stream_bytes, stream_number};
 
@@ -83,8 +84,9 @@ fn all_laid_out(alloc: Global, parts: Vec<FontPart<'static>>) -> Result<Vec<PdfP
     ensures err { IfErr result (λ e. e ≡ OutOfMemory) }
 {
     let mut list = Vec::with_capacity(alloc, parts.len())?;
-    for part in parts {
-        list.push_reserved(laid_out(part));
+    let mut rest = parts;
+    while !rest.is_empty() {
+        list.push_reserved(laid_out(rest.remove(0)));
     }
     Ok(list)
 }

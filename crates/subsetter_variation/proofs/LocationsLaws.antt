@@ -2,4 +2,5 @@
 pub mod Ascent
 pub mod Bent
 pub mod Bounds
+pub mod Counting
 pub mod Placing

@@ -80,7 +80,7 @@ pub fn is_item_at_master()
     ensures { IsItemAtMaster }
 {}
 
-/// A segment map takes each number to itself that it keeps.
+/// A segment map takes each number to itself that its ends keep, of those that count.
 pub fn is_mapped_to_itself()
     ensures { IsMappedToItself }
 {}

@@ -6,7 +6,7 @@ use Rattle.std.specs.Ordering.{int_eq}
 use Rattle.std.specs.Str.{bytes_eq}
 use Rattle.pdf_text.specs.declared.metrics.columns.Column.{Column}
 use Rattle.pdf_text.specs.declared.metrics.columns.DefaultColumn.{DefaultColumn}
-use Rattle.pdf_text.specs.Metrics.Arrays.{Entry, each, same, entries_from, spread}
+use Rattle.pdf_text.specs.Metrics.Arrays.{Entry, each, same, entries_from, lists_from, has_room, spread}
 use Rattle.pdf_text.specs.Numbers.{integers}
 use Rattle.pdf_text.specs.Tokens.{tokens, number_in}
 
@@ -48,9 +48,25 @@ abbrev pub span_of : List Column → Entry → Span
 span_of cs (each first ms) = listed_columns first (map (column_at cs) ms)
 span_of cs (same first last m) = same_columns first last (column_at cs m)
 
--- the parts of W2, as those of W by the marks: at most 2,730 columns in a list, which are 8,190 numbers
+-- marks of their own for all columns
+abbrev pub own_marks : ℕ → List Column → List ℕ
+own_marks own [] = []
+own_marks own (c ∷ cs) = own ∷ own_marks (own + 1) cs
+
+-- the parts by the marks: at most 2,730 columns in a list, which are 8,190 numbers
+abbrev pub marked : DefaultColumn → List Column → List Entry
+marked d cs = entries_from 2729 0 0 0 (marks d cs)
+
+-- whether default columns are left out: where the other ones have room in the outer array
+abbrev pub leaves_out : DefaultColumn → List Column → Bool
+leaves_out d cs = has_room 3 (marked d cs)
+
+-- the parts of W2, as those of W by the marks; where these are too many for the outer array, lists of all columns
+abbrev pub column_entries : DefaultColumn → List Column → List Entry
+column_entries d cs = if leaves_out d cs then marked d cs else lists_from 2729 (length cs) 0 (own_marks 1 cs)
+
 abbrev pub spans : DefaultColumn → List Column → List Span
-spans d cs = map (span_of cs) (entries_from 2729 0 0 0 (marks d cs))
+spans d cs = map (span_of cs) (column_entries d cs)
 
 -- the vertical displacement, and the position of the origin
 abbrev pub column_text : Column → List ℕ
@@ -117,6 +133,10 @@ column_for text n k = option_map (λ ss. column_in ss n k) (spans_of (tokens (sp
 abbrev pub column_found : DefaultColumn → Column → Column → Column
 column_found d n c = if is_default d c then n else c
 
+-- what a reader finds for CID k
+abbrev pub column_read : DefaultColumn → List Column → Column → ℕ → Column
+column_read d cs n k = if leaves_out d cs then column_found d n (get_or cs k n) else get_or cs k n
+
 -- numbers of 32 bits
 pub record IsColumn (c : Column) : Type 0 where
   pub advance : unsigned_abs c.advance ≤ 2 ^ 31
@@ -128,3 +148,9 @@ abbrev pub AreShortSpans : List Span → Type 0
 AreShortSpans [] = Unit {0}
 AreShortSpans (listed_columns first cs ∷ ss) = (3 * length cs ≤ 8190) × AreShortSpans ss
 AreShortSpans (same_columns first last c ∷ ss) = AreShortSpans ss
+
+-- a CID and a list, or two CIDs and three numbers
+abbrev pub span_elements : List Span → ℕ
+span_elements [] = 0
+span_elements (listed_columns first cs ∷ ss) = 2 + span_elements ss
+span_elements (same_columns first last c ∷ ss) = 5 + span_elements ss

@@ -3,7 +3,7 @@
 ghost use Rattle.std.specs.Prelude.{ℕ, List, ◌≡◌, ◌<◌, ◌≤◌, ◌+◌, ◌^◌, ◌++◌, ◌∷◌, IfOk, IfErr, OnOk, map, length, decimal, codes, get_or, Some};
 ghost use Rattle.std.specs.List.{join_with_byte};
 ghost use Rattle.subsetter_base.specs.declared.error.Error.TheVariants.{OutOfMemory};
-ghost use Rattle.pdf_text.specs.Metrics.Arrays.{each, same, six_equal, run, listed, opened, more, entries_from, entries, entry_text, array_text, value_in, AreRead, AreShort};
+ghost use Rattle.pdf_text.specs.Metrics.Arrays.{each, same, six_equal, run, listed, opened, more, entries_from, lists_from, elements_of, has_room, entries, entry_text, array_text, value_in, AreRead, AreShort, AreFew};
 ghost use Rattle.pdf_text.specs.View.{part_view, parts_view, maybe_view};
 
 use std::alloc::Global;
@@ -152,6 +152,63 @@ pub fn parts_of(
     Ok(parts)
 }
 
+/// How many elements a part adds to the outer array: a CID and a list, or two CIDs and so many numbers.
+fn elements_of(part: Part<'_>, numbers: usize) -> usize
+    requires { numbers ≤ 3 }
+    ensures { result ≡ elements_of numbers (part_view part.entry) }
+{
+    match part {
+        Part::Each(..) => 2,
+        Part::Same(..) => 2 + numbers,
+    }
+}
+
+/// Whether an array of PDF/A-1, of at most 8,191 elements, has room for parts.
+#[tactic(auto, using(crate::proofs::MetricsLaws::WidthLaws::Lists::room_left, crate::proofs::MetricsLaws::WidthLaws::Lists::no_room_left, crate::proofs::MetricsLaws::WidthLaws::Lists::room_for_all))]
+pub fn has_room(numbers: usize, parts: &[Part<'_>]) -> bool
+    requires { numbers ≤ 3 }
+    ensures { result ≡ has_room numbers (parts_view parts.now) }
+{
+    let mut left = 8191;
+    for part in parts {
+        let more = elements_of(*part, numbers);
+        if left < more {
+            return false;
+        }
+        left -= more;
+    }
+    true
+}
+
+/// Lists of all widths from CID 0 on, each of at most so many.
+#[tactic(auto, using(crate::proofs::MetricsLaws::WidthLaws::Lists::no_widths))]
+pub fn lists_of(alloc: Global, most: usize, widths: &[u32]) -> Result<Vec<Part<'_>>, Error>
+    requires { 0 < most }
+    ensures ok { IfOk result (λ parts. parts_view parts.items ≡ lists_from most (length widths.now) 0 widths.now) }
+    ensures err { IfErr result (λ e. e ≡ OutOfMemory) }
+{
+    let mut parts = Vec::new(alloc);
+    let mut first = 0;
+    while first < widths.len() {
+        let behind = first + most.min(widths.len() - first);
+        push_part(&mut parts, Some(Part::Each(first, &widths[first..behind])))?;
+        first = behind;
+    }
+    Ok(parts)
+}
+
+/// The parts of W: lists of all widths where the shorter parts are too many.
+fn fitting_parts(alloc: Global, widths: &[u32], default: u32) -> Result<Vec<Part<'_>>, Error>
+    ensures ok { IfOk result (λ parts. parts_view parts.items ≡ entries widths.now default) }
+    ensures err { IfErr result (λ e. e ≡ OutOfMemory) }
+{
+    let parts = parts_of(alloc, 8189, widths, default)?;
+    if has_room(1, &parts) {
+        return Ok(parts);
+    }
+    lists_of(alloc, 8189, widths)
+}
+
 // ---- their text
 
 /// Writes a CID in decimal.
@@ -221,7 +278,7 @@ fn array_of(alloc: Global, widths: &[u32], default: u32) -> Result<Vec<u8>, Erro
     ensures ok { IfOk result (λ text. text.items ≡ array_text (entries widths.now default)) }
     ensures err { IfErr result (λ e. e ≡ OutOfMemory) }
 {
-    let parts = parts_of(alloc, 8189, widths, default)?;
+    let parts = fitting_parts(alloc, widths, default)?;
     let mut text = Vec::new(alloc);
     text.extend_from_slice(b"[")?;
     write_parts(&mut text, &parts)?;
@@ -229,7 +286,8 @@ fn array_of(alloc: Global, widths: &[u32], default: u32) -> Result<Vec<u8>, Erro
     Ok(text)
 }
 
-/// The value of W for the widths of the CIDs from 0 on, of which it leaves out those that are the default one (DW).
+/// The value of W for the widths of the CIDs from 0 on, of which it leaves out those that are the default one (DW). Where it would have
+/// more than 8,191 elements, it has lists of all widths.
 ///
 /// # Errors
 ///
@@ -242,8 +300,9 @@ pub fn write_widths(alloc: Global, widths: &[u32], default: u32) -> Result<Vec<u
     array_of(alloc, widths, default)
 }
 
-/// What a reader of W finds for each CID is its width, and no list in it is long.
+/// What a reader of W finds for each CID is its width, and neither it nor a list in it is long.
 pub fn widths_are_read()
     ensures read { AreRead }
+    ensures few { AreFew }
     ensures short { (ws : List ℕ) (d : ℕ) → AreShort (entries ws d) }
 {}

@@ -4,10 +4,10 @@ ghost use Rattle.std.specs.Prelude.{List, All, ℕ, ◌≡◌, ◌<◌, ◌≤�
 ghost use Rattle.std.specs.List.{join_with_byte};
 ghost use Rattle.subsetter_base.specs.declared.error.Error.TheVariants.{OutOfMemory};
 ghost use Rattle.pdf_text.specs.declared.metrics.columns.Column.{Column};
-ghost use Rattle.pdf_text.specs.Metrics.Columns.{is_default, alike, no_column, mark, marks_from, marks, column_at, listed_columns, same_columns, span_of, spans, column_text, span_text, columns_text, column_for, column_found, IsColumn, AreShortSpans};
+ghost use Rattle.pdf_text.specs.Metrics.Columns.{is_default, alike, no_column, mark, marks_from, marks, column_at, listed_columns, same_columns, span_of, own_marks, column_entries, spans, span_elements, column_text, span_text, columns_text, column_for, column_read, IsColumn, AreShortSpans};
 ghost use Rattle.pdf_text.specs.View.{part_view, parts_view};
 
-use crate::metrics::arrays::{Part, parts_of, write_cid};
+use crate::metrics::arrays::{Part, has_room, lists_of, parts_of, write_cid};
 use crate::numbers::write_integer;
 use std::alloc::Global;
 use subsetter_base::Error;
@@ -75,6 +75,21 @@ fn marks_of(alloc: Global, columns: &[Column], default: DefaultColumn) -> Result
         m = mark(default, own, before, m, *column);
         marks.push(m)?;
         before = *column;
+        own += 1;
+    }
+    Ok(marks)
+}
+
+/// Marks of their own for columns.
+fn own_marks_of(alloc: Global, columns: &[Column]) -> Result<Vec<u32>, Error>
+    requires { length columns.now ≤ 65536 }
+    ensures ok { IfOk result (λ v. v.items ≡ own_marks 1 columns.now) }
+    ensures err { IfErr result (λ e. e ≡ OutOfMemory) }
+{
+    let mut marks = Vec::new(alloc);
+    let mut own = 1;
+    for _column in columns {
+        marks.push(own)?;
         own += 1;
     }
     Ok(marks)
@@ -185,7 +200,20 @@ fn write_spans(text: &mut Vec<u8>, columns: &[Column], parts: &[Part<'_>]) -> Re
     Ok(())
 }
 
+/// The text of parts of W2.
+fn text_of_parts(alloc: Global, columns: &[Column], parts: &[Part<'_>]) -> Result<Vec<u8>, Error>
+    ensures ok { IfOk result (λ text. text.items ≡ columns_text (map (span_of columns.now) (parts_view parts.now))) }
+    ensures err { IfErr result (λ e. e ≡ OutOfMemory) }
+{
+    let mut text = Vec::new(alloc);
+    text.extend_from_slice(b"[")?;
+    write_spans(&mut text, columns, parts)?;
+    text.extend_from_slice(b"]")?;
+    Ok(text)
+}
+
 /// The text of W2.
+#[tactic(auto, using(crate::proofs::MetricsLaws::ColumnLaws::Steps::marked_written))]
 fn text_of(alloc: Global, columns: &[Column], default: DefaultColumn) -> Result<Vec<u8>, Error>
     requires { length columns.now ≤ 65536 }
     ensures ok { IfOk result (λ text. text.items ≡ columns_text (spans default columns.now)) }
@@ -193,15 +221,17 @@ fn text_of(alloc: Global, columns: &[Column], default: DefaultColumn) -> Result<
 {
     let marks = marks_of(alloc, columns, default)?;
     let parts = parts_of(alloc, 2729, &marks, 0)?;
-    let mut text = Vec::new(alloc);
-    text.extend_from_slice(b"[")?;
-    write_spans(&mut text, columns, &parts)?;
-    text.extend_from_slice(b"]")?;
-    Ok(text)
+    if has_room(3, &parts) {
+        return text_of_parts(alloc, columns, &parts);
+    }
+    let marks = own_marks_of(alloc, columns)?;
+    let parts = lists_of(alloc, 2729, &marks)?;
+    text_of_parts(alloc, columns, &parts)
 }
 
 /// The value of W2 for the columns of the CIDs from 0 on, of which it leaves out those that are the default one (DW2): their x is
-/// then half of their width (W). A CID that no text shows may have the default column too. CIDs have 16 bits.
+/// then half of their width (W). Where it would have more than 8,191 elements, it has lists of all columns. A CID that no text shows may
+/// have the default column too. CIDs have 16 bits.
 ///
 /// # Errors
 ///
@@ -213,13 +243,14 @@ pub fn write_columns(
 ) -> Result<Vec<u8>, Error>
     requires { length columns.now ≤ 65536 }
     ensures ok { IfOk result (λ text. text.items ≡ columns_text (spans default columns.now)) }
-    ensures read { IfOk result (λ text. All IsColumn columns.now → (n : Column) (k : ℕ) → k < length columns.now → column_for text.items n k ≡ Some (column_found default n (get_or columns.now k n))) }
+    ensures read { IfOk result (λ text. All IsColumn columns.now → (n : Column) (k : ℕ) → k < length columns.now → column_for text.items n k ≡ Some (column_read default columns.now n k)) }
     ensures err { IfErr result (λ e. e ≡ OutOfMemory) }
 {
     text_of(alloc, columns, default)
 }
 
-/// No list of W2 has more than 8,190 numbers.
+/// No list of W2 has more than 8,190 numbers, and W2 itself no more than 8,191 elements.
 pub fn columns_are_short()
-    ensures { (d : DefaultColumn) (cs : List Column) → AreShortSpans (spans d cs) }
+    ensures lists { (d : DefaultColumn) (cs : List Column) → AreShortSpans (spans d cs) }
+    ensures few { (d : DefaultColumn) (cs : List Column) → length cs ≤ 65536 → span_elements (spans d cs) ≤ 8191 }
 {}

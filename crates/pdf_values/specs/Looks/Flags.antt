@@ -44,8 +44,15 @@ abbrev pub flag : Bool → ℕ → ℕ
 flag b n = if b then n else 0
 
 -- FixedPitch is 1, Serif 2, Script 8, Italic 64; Symbolic, 4, is always set, as codes are a font's own
+abbrev pub flags_by : Option (List ℕ) → Option (List ℕ) → Bool → ℕ
+flags_by post os2 italic = 4 + flag (is_fixed post) 1 + flag (has_serifs os2) 2 + flag (is_script os2) 8 + flag italic 64
+
+-- a font is italic that is called so, or leans
+abbrev pub is_italic : Option (List ℕ) → Option (List ℕ) → ℤ → Bool
+is_italic os2 head angle = is_slanted os2 head || not (int_eq angle (pos 0))
+
 abbrev pub flags_of : Option (List ℕ) → Option (List ℕ) → Option (List ℕ) → ℤ → ℕ
-flags_of post os2 head angle = 4 + flag (is_fixed post) 1 + flag (has_serifs os2) 2 + flag (is_script os2) 8 + flag (is_slanted os2 head || not (int_eq angle (pos 0))) 64
+flags_of post os2 head angle = flags_by post os2 (is_italic os2 head angle)
 
 -- Symbolic is set, and Nonsymbolic, 32, isn't
 pub record IsFlags (n : ℕ) : Type 0 where

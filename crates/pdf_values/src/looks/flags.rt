@@ -2,7 +2,7 @@
 
 ghost use Rattle.std.specs.Prelude.{◌≡◌};
 ghost use Rattle.std.specs.Option.{option_copied};
-ghost use Rattle.pdf_values.specs.Looks.Flags.{is_fixed, has_serifs, is_script, is_slanted, flag, flags_of, is_serif_class, is_serif_face, is_script_face, IsFlags};
+ghost use Rattle.pdf_values.specs.Looks.Flags.{is_fixed, has_serifs, is_script, is_slanted, is_italic, flag, flags_by, flags_of, is_serif_class, is_serif_face, is_script_face, IsFlags};
 
 use crate::fields::{has_bit, sets_bit};
 use subsetter_sfnt::fields::head::mac_style;
@@ -86,14 +86,29 @@ fn flag(is_set: bool, n: u32) -> u32
     if is_set { n } else { 0 }
 }
 
-/// Flags of a font whose ItalicAngle is this: FixedPitch is 1, Serif 2, Script 8, Italic 64. Symbolic, 4, is always set,
-/// as the codes are a font's own, and Nonsymbolic, 32, never is.
-pub fn flags_of(post: Option<&[u8]>, os2: Option<&[u8]>, head: Option<&[u8]>, angle: i32) -> u32
-    ensures value { result ≡ flags_of (option_copied post.entry) (option_copied os2.entry) (option_copied head.entry) angle }
+/// Flags of a font that is italic or isn't: FixedPitch is 1, Serif 2, Script 8, Italic 64. Symbolic, 4, is always set, as the codes are a
+/// font's own, and Nonsymbolic, 32, never is.
+pub fn flags_by(post: Option<&[u8]>, os2: Option<&[u8]>, is_italic: bool) -> u32
+    ensures value { result ≡ flags_by (option_copied post.entry) (option_copied os2.entry) is_italic }
     ensures kind { IsFlags result }
 {
     4 + flag(is_fixed(post), 1)
         + flag(has_serifs(os2), 2)
         + flag(is_script(os2), 8)
-        + flag(is_slanted(os2, head) || angle != 0, 64)
+        + flag(is_italic, 64)
+}
+
+/// Whether a font is called italic or oblique, or has an ItalicAngle other than 0.
+pub fn is_italic(os2: Option<&[u8]>, head: Option<&[u8]>, angle: i32) -> bool
+    ensures { result ≡ is_italic (option_copied os2.entry) (option_copied head.entry) angle }
+{
+    is_slanted(os2, head) || angle != 0
+}
+
+/// Flags of a font whose ItalicAngle is this.
+pub fn flags_of(post: Option<&[u8]>, os2: Option<&[u8]>, head: Option<&[u8]>, angle: i32) -> u32
+    ensures value { result ≡ flags_of (option_copied post.entry) (option_copied os2.entry) (option_copied head.entry) angle }
+    ensures kind { IsFlags result }
+{
+    flags_by(post, os2, is_italic(os2, head, angle))
 }

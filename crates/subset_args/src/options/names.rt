@@ -55,6 +55,8 @@ pub enum Setting {
     Codes,
     /// `--rights held`
     Rights,
+    /// `--most-input BYTES`
+    MostInput,
 }
 
 /// How the glyphs of a PDF get codes.
@@ -97,7 +99,7 @@ pub enum Kind {
 }
 
 /// The options with a name, in the order of the help.
-pub const OPTIONS: [&str; 26] = [
+pub const OPTIONS: [&str; 27] = [
     "--gids",
     "--gids-file",
     "--text",
@@ -115,6 +117,7 @@ pub const OPTIONS: [&str; 26] = [
     "--no-names",
     "--no-glyph-names",
     "--limits",
+    "--most-input",
     "--widths",
     "--verbose",
     "--json",
@@ -162,6 +165,7 @@ fn setting_of(word: &str) -> Option<Setting>
         "--pdf" => Some(Setting::Pdf),
         "--codes" => Some(Setting::Codes),
         "--rights" => Some(Setting::Rights),
+        "--most-input" => Some(Setting::MostInput),
         _ => None,
     }
 }

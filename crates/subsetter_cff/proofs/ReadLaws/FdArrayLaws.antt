@@ -3,6 +3,7 @@ pub mod FontDictLists
 pub mod LeadingEntries
 pub mod Locals
 pub mod OwnPrivates
+pub mod RangeBlockSteps
 pub mod RangeLookups
 pub mod RangeSteps
 pub mod SoundDicts

@@ -5,5 +5,6 @@ pub mod FontDicts
 pub mod Keying
 pub mod Private
 pub mod PrivateView
+pub mod RangeBlocks
 pub mod Ranges
 pub mod SubrSayings

@@ -8,7 +8,8 @@ use Rattle.subsetter_variation.specs.Locations.Axes.{above_default, below_defaul
 use Rattle.subsetter_variation.specs.Locations.Coordinates.{coordinate}
 use Rattle.subsetter_variation.specs.Nearest.{mul_div_nearest}
 use Rattle.subsetter_variation.specs.Locations.LocationLaws.{NeverDescendsBent}
-use Rattle.subsetter_variation.specs.Locations.Segments.{ascends, ascends_from, by_segments, f2dot14_to_fixed, follows, is_on, is_segment_map, keeps, mapped, mapped_from, on_segment, interpolated}
+use Rattle.subsetter_variation.specs.Locations.Segments.{by_segments, counting, f2dot14_to_fixed, is_on, is_segment_map, keeps, mapped, mapped_from, on_segment, interpolated}
+use Rattle.subsetter_variation.proofs.LocationsLaws.Counting.{ascends, ascends_from, follows, counting_ascends}
 use Rattle.subsetter_variation.specs.declared.locations.axes.Axis.{Axis}
 use Rattle.subsetter_variation.specs.declared.locations.segments.AxisValueMap.{AxisValueMap}
 use Rattle.subsetter_variation.proofs.LocationsLaws.Ascent.{apart_is, apart_too, closer_above, closer_below, le_false, le_true, lt_false, lt_true, nearest_up, never_descends, through, toward_within}
@@ -126,21 +127,20 @@ up_from p (q ∷ ends) m n up h low le high = by (λ u k l. up_from q ends m n u
         let l = behind_first p q m x low in
         later f.up (kept_behind p q ends n h f.from (through (f2dot14_to_fixed q.from) m n l le) high) l
 
-segments_up : (ends : List AxisValueMap) (m n : ℤ) → is_segment_map ends ≡ true → neg_ℤ (pos 65536) ≤ℤ m → m ≤ℤ n → n ≤ℤ pos 65536 → by_segments ends m ≤ℤ by_segments ends n
-segments_up [] m n h low le high = le
-segments_up (p ∷ ends) m n h low le high =
+segments_up : (ends : List AxisValueMap) (m n : ℤ) → ascends ends ≡ true → is_segment_map ends ≡ true → neg_ℤ (pos 65536) ≤ℤ m → m ≤ℤ n → n ≤ℤ pos 65536 → by_segments ends m ≤ℤ by_segments ends n
+segments_up [] m n up h low le high = le
+segments_up (p ∷ ends) m n up h low le high =
     let all = p ∷ ends in
-    let a = both_of (keeps (neg_ℤ (pos 16384)) all) (keeps (pos 0) all && (keeps (pos 16384) all && ascends all)) h in
-    let b = both_of (keeps (pos 0) all) (keeps (pos 16384) all && ascends all) a.1 in
-    let c = both_of (keeps (pos 16384) all) (ascends all) b.1 in
-    let first : p.from ≤ℤ neg_ℤ (pos 16384) = at_least (neg_ℤ (pos 16384)) p ends c.1 a.0 in
-    up_from p ends m n c.1 c.0 (omega (arith, ints)) le high
+    let a = both_of (keeps (neg_ℤ (pos 16384)) all) (keeps (pos 0) all && keeps (pos 16384) all) h in
+    let b = both_of (keeps (pos 0) all) (keeps (pos 16384) all) a.1 in
+    let first : p.from ≤ℤ neg_ℤ (pos 16384) = at_least (neg_ℤ (pos 16384)) p ends up a.0 in
+    up_from p ends m n up b.1 (omega (arith, ints)) le high
 
 mapped_up : (ends : List AxisValueMap) (m n : ℤ) → neg_ℤ (pos 65536) ≤ℤ m → m ≤ℤ n → n ≤ℤ pos 65536 → mapped ends m ≤ℤ mapped ends n
-mapped_up ends m n low le high = by (is_segment_map ends) refl
+mapped_up ends m n low le high = by (is_segment_map (counting ends)) refl
   where
-    by : (b : Bool) → is_segment_map ends ≡ b → cond b (by_segments ends m) m ≤ℤ cond b (by_segments ends n) n
-    by true h = segments_up ends m n h low le high
+    by : (b : Bool) → is_segment_map (counting ends) ≡ b → cond b (by_segments (counting ends) m) m ≤ℤ cond b (by_segments (counting ends) n) n
+    by true h = segments_up (counting ends) m n (counting_ascends ends) h low le high
     by false h = le
 
 -- ---- axes

@@ -8,7 +8,8 @@ use Rattle.std.proofs.Math.IntN.{zero-*ℤ}
 use Rattle.subsetter_variation.specs.Locations.Axes.{default_normalized, user_coordinate}
 use Rattle.subsetter_variation.specs.Locations.Coordinates.{coordinate}
 use Rattle.subsetter_variation.specs.Nearest.{nearest, mul_div_nearest}
-use Rattle.subsetter_variation.specs.Locations.Segments.{ascends, ascends_from, by_segments, f2dot14_to_fixed, follows, is_on, is_segment_map, keeps, mapped, mapped_from, on_segment, interpolated}
+use Rattle.subsetter_variation.specs.Locations.Segments.{by_segments, counting, f2dot14_to_fixed, is_on, is_segment_map, keeps, mapped, mapped_from, on_segment, interpolated}
+use Rattle.subsetter_variation.proofs.LocationsLaws.Counting.{ascends, ascends_from, follows, counting_ascends}
 use Rattle.subsetter_variation.specs.Locations.LocationLaws.{IsDefaultAtZero, IsGreatestAtOne, IsMappedToItself, IsLeastAtMinusOne}
 use Rattle.subsetter_variation.specs.declared.locations.axes.Axis.{Axis}
 use Rattle.subsetter_variation.specs.declared.locations.segments.AxisValueMap.{AxisValueMap}
@@ -108,30 +109,25 @@ kept_by z [] up h = refl
 kept_by z (p ∷ ends) up h = kept_from z p ends up h
 
 pub is_kept : IsMappedToItself
-is_kept ends z h = by (is_segment_map ends) refl
+is_kept ends z h = by (is_segment_map (counting ends))
   where
-    by : (b : Bool) → is_segment_map ends ≡ b → cond b (by_segments ends (f2dot14_to_fixed z)) (f2dot14_to_fixed z) ≡ f2dot14_to_fixed z
-    by false e = refl
-    by true e =
-        let a = both_of (keeps (neg_ℤ (pos 16384)) ends) (keeps (pos 0) ends && (keeps (pos 16384) ends && ascends ends)) e in
-        let b = both_of (keeps (pos 0) ends) (keeps (pos 16384) ends && ascends ends) a.1 in
-        let c = both_of (keeps (pos 16384) ends) (ascends ends) b.1 in
-        kept_by z ends c.1 h
+    by : (b : Bool) → cond b (by_segments (counting ends) (f2dot14_to_fixed z)) (f2dot14_to_fixed z) ≡ f2dot14_to_fixed z
+    by false = refl
+    by true = kept_by z (counting ends) (counting_ascends ends) h
 
 -- each of -1, 0 and 1 stays, whatever the segments
-stays : (ends : List AxisValueMap) (z : ℤ) → (is_segment_map ends ≡ true → keeps z ends ≡ true) → mapped ends (f2dot14_to_fixed z) ≡ f2dot14_to_fixed z
-stays ends z h = by (is_segment_map ends) refl
+stays : (ends : List AxisValueMap) (z : ℤ) → (is_segment_map (counting ends) ≡ true → keeps z (counting ends) ≡ true) → mapped ends (f2dot14_to_fixed z) ≡ f2dot14_to_fixed z
+stays ends z h = by (is_segment_map (counting ends)) refl
   where
-    by : (b : Bool) → is_segment_map ends ≡ b → cond b (by_segments ends (f2dot14_to_fixed z)) (f2dot14_to_fixed z) ≡ f2dot14_to_fixed z
+    by : (b : Bool) → is_segment_map (counting ends) ≡ b → cond b (by_segments (counting ends) (f2dot14_to_fixed z)) (f2dot14_to_fixed z) ≡ f2dot14_to_fixed z
     by false e = refl
-    by true e = ap (λ b. cond b (by_segments ends (f2dot14_to_fixed z)) (f2dot14_to_fixed z)) (sym e) ∙ is_kept ends z (h e)
+    by true e = kept_by z (counting ends) (counting_ascends ends) (h e)
 
 parts_of : (ends : List AxisValueMap) → is_segment_map ends ≡ true → (keeps (neg_ℤ (pos 16384)) ends ≡ true) × (keeps (pos 0) ends ≡ true) × (keeps (pos 16384) ends ≡ true)
 parts_of ends e =
-    let a = both_of (keeps (neg_ℤ (pos 16384)) ends) (keeps (pos 0) ends && (keeps (pos 16384) ends && ascends ends)) e in
-    let b = both_of (keeps (pos 0) ends) (keeps (pos 16384) ends && ascends ends) a.1 in
-    let c = both_of (keeps (pos 16384) ends) (ascends ends) b.1 in
-    (a.0, b.0, c.0)
+    let a = both_of (keeps (neg_ℤ (pos 16384)) ends) (keeps (pos 0) ends && keeps (pos 16384) ends) e in
+    let b = both_of (keeps (pos 0) ends) (keeps (pos 16384) ends) a.1 in
+    (a.0, b.0, b.1)
 
 -- ---- axes
 
@@ -149,12 +145,12 @@ at_maximum a c lt h = rw (lt_not c a.default (omega (arith, ints)), lt_is a.defa
 
 pub is_default_at_zero : IsDefaultAtZero
 unfolding coordinate nearest
-is_default_at_zero a ends settings h = ap (λ n. nearest (mapped ends n) 4) (at_default a (user_coordinate a settings) h) ∙ ap (λ n. nearest n 4) (stays ends (pos 0) (λ e. (parts_of ends e).1))
+is_default_at_zero a ends settings h = ap (λ n. nearest (mapped ends n) 4) (at_default a (user_coordinate a settings) h) ∙ ap (λ n. nearest n 4) (stays ends (pos 0) (λ e. (parts_of (counting ends) e).1))
 
 pub is_least_at_minus_one : IsLeastAtMinusOne
 unfolding coordinate nearest
-is_least_at_minus_one a ends settings lt h = ap (λ n. nearest (mapped ends n) 4) (at_minimum a (user_coordinate a settings) (lt_true a.minimum a.default lt) h) ∙ ap (λ n. nearest n 4) (stays ends (neg_ℤ (pos 16384)) (λ e. (parts_of ends e).0))
+is_least_at_minus_one a ends settings lt h = ap (λ n. nearest (mapped ends n) 4) (at_minimum a (user_coordinate a settings) (lt_true a.minimum a.default lt) h) ∙ ap (λ n. nearest n 4) (stays ends (neg_ℤ (pos 16384)) (λ e. (parts_of (counting ends) e).0))
 
 pub is_greatest_at_one : IsGreatestAtOne
 unfolding coordinate nearest
-is_greatest_at_one a ends settings lt h = ap (λ n. nearest (mapped ends n) 4) (at_maximum a (user_coordinate a settings) (lt_true a.default a.maximum lt) h) ∙ ap (λ n. nearest n 4) (stays ends (pos 16384) (λ e. (parts_of ends e).2))
+is_greatest_at_one a ends settings lt h = ap (λ n. nearest (mapped ends n) 4) (at_maximum a (user_coordinate a settings) (lt_true a.default a.maximum lt) h) ∙ ap (λ n. nearest n 4) (stays ends (pos 16384) (λ e. (parts_of (counting ends) e).2))

@@ -3,13 +3,13 @@ use Rattle.std.specs.Prelude.{◌≡◌, ℤ, pos, neg_ℤ, ◌≤ℤ◌, int_lt
 use Rattle.subsetter_base.specs.declared.tag.Tag.{Tag}
 use Rattle.subsetter_variation.specs.Locations.Axes.{default_normalized, user_coordinate}
 use Rattle.subsetter_variation.specs.Locations.Coordinates.{coordinate}
-use Rattle.subsetter_variation.specs.Locations.Segments.{f2dot14_to_fixed, keeps, mapped}
+use Rattle.subsetter_variation.specs.Locations.Segments.{counting, f2dot14_to_fixed, keeps, mapped}
 use Rattle.subsetter_variation.specs.declared.locations.axes.Axis.{Axis}
 use Rattle.subsetter_variation.specs.declared.locations.segments.AxisValueMap.{AxisValueMap}
 
--- a segment map takes each number to itself that it keeps: -1, 0 and 1 among them
+-- a segment map takes each number to itself that its ends keep, of those that count: -1, 0 and 1 among them
 abbrev pub IsMappedToItself : Type 0
-IsMappedToItself = (ends : List AxisValueMap) (z : ℤ) → keeps z ends ≡ true → mapped ends (f2dot14_to_fixed z) ≡ f2dot14_to_fixed z
+IsMappedToItself = (ends : List AxisValueMap) (z : ℤ) → keeps z (counting ends) ≡ true → mapped ends (f2dot14_to_fixed z) ≡ f2dot14_to_fixed z
 
 -- the default of an axis is at 0, whatever the segments
 abbrev pub IsDefaultAtZero : Type 0

@@ -1,5 +1,5 @@
 -- The segments that bend an axis (OpenType, "avar").
-use Rattle.std.specs.Prelude.{ℕ, ◌+◌, ◌*◌, Bool, true, false, ◌&&◌, ◌||◌, List, [], ◌∷◌, take, drop, Option, Some, int_lt, int_le, if◌then◌else◌, ℤ, pos, neg_ℤ, ◌+ℤ◌, ◌-ℤ◌, ◌*ℤ◌, unsigned_abs}
+use Rattle.std.specs.Prelude.{ℕ, ◌+◌, ◌*◌, Bool, false, ◌&&◌, ◌||◌, List, [], ◌∷◌, take, drop, Option, Some, int_lt, int_le, if◌then◌else◌, ℤ, pos, neg_ℤ, ◌+ℤ◌, ◌-ℤ◌, ◌*ℤ◌, unsigned_abs}
 use Rattle.std.specs.Int.{w16, cast_signed}
 use Rattle.std.specs.Ordering.{int_eq}
 use Rattle.subsetter_base.specs.Bytes.{be, range, number}
@@ -47,29 +47,40 @@ abbrev pub by_segments : List AxisValueMap → ℤ → ℤ
 by_segments [] n = n
 by_segments (p ∷ ends) n = mapped_from p ends n
 
--- ---- what a map of segments has to be
+-- ---- which ends count
 
--- a number has itself as its new number
+-- behind others an end counts whose number is above those of all before it, and whose new number isn't less than that of the last one that counts
+abbrev pub counts : ℤ → AxisValueMap → AxisValueMap → Bool
+counts top last q = int_lt top q.from && int_le last.to q.to
+
+-- the greatest number so far
+abbrev pub topmost : ℤ → AxisValueMap → ℤ
+topmost top q = if int_lt top q.from then q.from else top
+
+-- the ends that count behind the last one that did
+abbrev pub counting_from : ℤ → AxisValueMap → List AxisValueMap → List AxisValueMap
+counting_from top last [] = []
+counting_from top last (q ∷ ends) = if counts top last q then q ∷ counting_from (topmost top q) q ends else counting_from (topmost top q) last ends
+
+-- the others are ignored
+abbrev pub counting : List AxisValueMap → List AxisValueMap
+counting [] = []
+counting (p ∷ ends) = p ∷ counting_from p.from p ends
+
+-- ---- what they have to keep
+
+-- an end has a number as its new number
+abbrev pub stays : ℤ → AxisValueMap → Bool
+stays z p = int_eq p.from z && int_eq p.to z
+
 abbrev pub keeps : ℤ → List AxisValueMap → Bool
 keeps z [] = false
-keeps z (p ∷ ends) = (int_eq p.from z && int_eq p.to z) || keeps z ends
+keeps z (p ∷ ends) = stays z p || keeps z ends
 
--- an end comes after another: its number is greater, and its new number isn't less
-abbrev pub follows : AxisValueMap → AxisValueMap → Bool
-follows p q = int_lt p.from q.from && int_le p.to q.to
-
-abbrev pub ascends_from : AxisValueMap → List AxisValueMap → Bool
-ascends_from p [] = true
-ascends_from p (q ∷ ends) = follows p q && ascends_from q ends
-
-abbrev pub ascends : List AxisValueMap → Bool
-ascends [] = true
-ascends (p ∷ ends) = ascends_from p ends
-
--- it keeps -1, 0 and 1, and ascends
+-- -1, 0 and 1
 abbrev pub is_segment_map : List AxisValueMap → Bool
-is_segment_map ends = keeps (neg_ℤ (pos 16384)) ends && (keeps (pos 0) ends && (keeps (pos 16384) ends && ascends ends))
+is_segment_map ends = keeps (neg_ℤ (pos 16384)) ends && (keeps (pos 0) ends && keeps (pos 16384) ends)
 
--- any other one maps nothing
+-- by the ends that count; where they lack one of the three nothing is mapped
 abbrev pub mapped : List AxisValueMap → ℤ → ℤ
-mapped ends n = if is_segment_map ends then by_segments ends n else n
+mapped ends n = if is_segment_map (counting ends) then by_segments (counting ends) n else n

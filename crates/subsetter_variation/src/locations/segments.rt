@@ -1,10 +1,10 @@
 //! The segments that bend an axis (OpenType, "avar").
 //!
-//! OpenType requests the pairs of -1, 0 and 1, past which there is no number, for numbers that ascend, and for new numbers that
-//! don't descend. Where an axis has anything else, its coordinate isn't modified. The major version has to be 1.
+//! OpenType requests numbers that ascend, and new numbers that don't descend: an end that comes otherwise is ignored. Where the others
+//! lack the pairs of -1, 0 and 1, past which there is no number, the coordinate isn't modified. The major version has to be 1.
 
-ghost use Rattle.std.specs.Prelude.{◌≡◌, ◌+◌, ◌*◌, ◌<◌, ◌≤◌, ◌^◌, Some, true, ◌-ℤ◌, ◌≤ℤ◌, ◌<ℤ◌, IfSome, true, unsigned_abs};
-ghost use Rattle.subsetter_variation.specs.Locations.Segments.{axis_value_map_of, segment_map_at, axis_value_maps, f2dot14_to_fixed, interpolated, on_segment, is_on, by_segments, keeps, follows, ascends, is_segment_map, mapped};
+ghost use Rattle.std.specs.Prelude.{if◌then◌else◌, ◌&&◌, ◌≡◌, ◌+◌, ◌*◌, ◌<◌, ◌≤◌, ◌^◌, Some, true, ◌-ℤ◌, ◌≤ℤ◌, ◌<ℤ◌, IfSome, true, unsigned_abs};
+ghost use Rattle.subsetter_variation.specs.Locations.Segments.{axis_value_map_of, segment_map_at, axis_value_maps, f2dot14_to_fixed, interpolated, on_segment, is_on, by_segments, counts, topmost, counting, stays, keeps, is_segment_map, mapped};
 
 use crate::rounding::{minus, mul_div_nearest, plus};
 use subsetter_base::read::{LazyArray16, Readable, Reader, signed_at};
@@ -92,51 +92,89 @@ pub fn next_segment_map<'a>(r: &mut Reader<'a>) -> Option<LazyArray16<'a, AxisVa
     r.read_array16(count)
 }
 
-/// Whether a number has itself as its new number.
-fn keeps(ends: &LazyArray16<'_, AxisValueMap>, number: i16) -> bool
-    ensures { result ≡ keeps number (axis_value_maps ends.now) }
+/// What ends so far say: the greatest number, and the last one that counts.
+#[derive(Clone, Copy)]
+pub struct Passed {
+    top: i16,
+    last: AxisValueMap,
+}
+
+/// Whether an end counts behind others: its number is above the greatest so far, and its new number isn't less than that of the last end
+/// that counts.
+fn counts(passed: Passed, q: AxisValueMap) -> bool
+    ensures { result ≡ counts passed.top passed.last q }
 {
-    for end in ends.iter() {
-        if end.from == number && end.to == number {
+    passed.top < q.from && passed.last.to <= q.to
+}
+
+/// The greatest number so far.
+fn topmost(top: i16, q: AxisValueMap) -> i16
+    ensures { result ≡ topmost top q }
+{
+    if top < q.from { q.from } else { top }
+}
+
+/// What ends say with one more.
+fn with_end(passed: Passed, q: AxisValueMap) -> Passed
+    ensures top { result.top ≡ topmost passed.top q }
+    ensures last { result.last ≡ (if counts passed.top passed.last q then q else passed.last) }
+{
+    let top = topmost(passed.top, q);
+    if counts(passed, q) {
+        return Passed { top, last: q };
+    }
+    Passed {
+        top,
+        last: passed.last,
+    }
+}
+
+/// Whether an end has a number as its new number.
+fn stays(p: AxisValueMap, number: i16) -> bool
+    ensures { result ≡ stays number p }
+{
+    p.from == number && p.to == number
+}
+
+/// Whether an end counts and has a number as its new number.
+fn counts_and_stays(passed: Passed, q: AxisValueMap, number: i16) -> bool
+    ensures { result ≡ (counts passed.top passed.last q && stays number q) }
+{
+    counts(passed, q) && stays(q, number)
+}
+
+/// Whether a number has itself as its new number, by an end that counts.
+fn keeps(ends: &LazyArray16<'_, AxisValueMap>, number: i16) -> bool
+    ensures { result ≡ keeps number (counting (axis_value_maps ends.now)) }
+{
+    let mut rest = ends.iter();
+    let Some(first) = rest.next() else {
+        return false;
+    };
+    if stays(first, number) {
+        return true;
+    }
+    let mut passed = Passed {
+        top: first.from,
+        last: first,
+    };
+    for q in rest {
+        if counts_and_stays(passed, q, number) {
             return true;
         }
+        passed = with_end(passed, q);
     }
     false
 }
 
-/// Whether an end comes after another.
-fn follows(p: AxisValueMap, q: AxisValueMap) -> bool
-    ensures { result ≡ follows p q }
-{
-    p.from < q.from && p.to <= q.to
-}
-
-/// Whether each end comes after the one before it.
-fn ascends(ends: &LazyArray16<'_, AxisValueMap>) -> bool
-    ensures { result ≡ ascends (axis_value_maps ends.now) }
-{
-    let mut rest = ends.iter();
-    let Some(first) = rest.next() else {
-        return true;
-    };
-    let mut p = first;
-    for q in rest {
-        if !follows(p, q) {
-            return false;
-        }
-        p = q;
-    }
-    true
-}
-
-/// Whether these are the ends of segments: -1, 0 and 1 are kept, and the ends ascend.
+/// Whether the ends that count are those of segments: -1, 0 and 1 are kept.
 fn is_segment_map(ends: &LazyArray16<'_, AxisValueMap>) -> bool
-    ensures { result ≡ is_segment_map (axis_value_maps ends.now) }
+    ensures { result ≡ is_segment_map (counting (axis_value_maps ends.now)) }
 {
-    keeps(ends, -ONE) && keeps(ends, 0) && keeps(ends, ONE) && ascends(ends)
+    keeps(ends, -ONE) && keeps(ends, 0) && keeps(ends, ONE)
 }
 
-/// A number by the segments of an axis; one that is in none is unchanged, and so is each where the ends aren't those of segments.
+/// A number by the segments of an axis; one that is in none is unchanged, and so is each where the ends that count lack -1, 0 or 1.
 pub fn mapped(ends: LazyArray16<'_, AxisValueMap>, n: i64) -> i64
     requires { unsigned_abs n ≤ 2 ^ 19 }
     ensures value { result ≡ mapped (axis_value_maps ends.entry) n }
@@ -149,22 +187,34 @@ pub fn mapped(ends: LazyArray16<'_, AxisValueMap>, n: i64) -> i64
     }
 }
 
-/// A number by the first segment in which it is; one that is in none is unchanged.
+/// Whether an end counts, and a number is between the last one that does and it.
+fn counts_and_is_on(passed: Passed, q: AxisValueMap, n: i64) -> bool
+    ensures value { result ≡ (counts passed.top passed.last q && is_on passed.last q n) }
+    ensures behind { result ≡ true → f2dot14_to_fixed passed.last.from ≤ℤ n }
+    ensures before { result ≡ true → n <ℤ f2dot14_to_fixed q.from }
+{
+    counts(passed, q) && is_on(passed.last, q, n)
+}
+
+/// A number by the first segment in which it is, of ends that count; one that is in none is unchanged.
 fn by_segments(ends: LazyArray16<'_, AxisValueMap>, n: i64) -> i64
     requires { unsigned_abs n ≤ 2 ^ 19 }
-    ensures value { result ≡ by_segments (axis_value_maps ends.entry) n }
+    ensures value { result ≡ by_segments (counting (axis_value_maps ends.entry)) n }
     ensures bound { unsigned_abs result ≤ 2 ^ 19 }
 {
     let mut rest = ends.iter();
     let Some(first) = rest.next() else {
         return n;
     };
-    let mut p = first;
+    let mut passed = Passed {
+        top: first.from,
+        last: first,
+    };
     for q in rest {
-        if is_on(p, q, n) {
-            return on_segment(p, q, n);
+        if counts_and_is_on(passed, q, n) {
+            return on_segment(passed.last, q, n);
         }
-        p = q;
+        passed = with_end(passed, q);
     }
     n
 }

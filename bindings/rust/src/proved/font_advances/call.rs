@@ -15,7 +15,7 @@ use crate::rattle::alloc::Global;
 
 /// Advances of glyphs, in the font's units.
 #[derive(Debug)]
-pub struct Advances {
+pub struct GlyphAdvances {
     /// unitsPerEm: how many units the em has. It isn't 0.
     pub units_per_em: u16,
     /// Of each given glyph, in the order given, the advance width.
@@ -49,11 +49,11 @@ fn advances_by(
     coordinates: &[(Tag, i32)],
     steps: u32,
     glyphs: &[u16],
-) -> Result<Advances, Error> {
+) -> Result<GlyphAdvances, Error> {
     let units = units_in(face)?;
     let widths = widths_of(alloc, outlines, face, coordinates, steps, glyphs)?;
     let heights = heights_in(alloc, face, coordinates, units, glyphs)?;
-    Ok(Advances {
+    Ok(GlyphAdvances {
         units_per_em: units,
         widths,
         heights,
@@ -87,7 +87,7 @@ pub fn advances(
     glyphs: &[u16],
     coordinates: &[(Tag, i32)],
     limits: &Limits,
-) -> Result<Advances, Error> {
+) -> Result<GlyphAdvances, Error> {
     let (face, outlines) = open(data, index)?;
     advances_by(alloc, outlines, &face, coordinates, limits.tokens(), glyphs)
 }

@@ -5,7 +5,7 @@ use crate::rattle::prelude::Vec;
 
 use crate::proved::font_advances::known::{known_at, known_deltas};
 use crate::proved::pdf_glyphs::{HeightVariation, VerticalTables};
-use crate::proved::pdf_source::{heights_by, location_in, vertical_of};
+use crate::proved::pdf_source::{heights_by, location_in, vertical_of, Location};
 use crate::proved::subsetter_base::{Error, Tag};
 use crate::proved::subsetter_sfnt::face::Face;
 use crate::proved::subsetter_sfnt::fields::hhea::number_of_h_metrics;
@@ -112,6 +112,26 @@ fn each_height(
     Ok(heights)
 }
 
+/// The heights of glyphs at a location of a font of so many units per em.
+fn heights_at(
+    alloc: Global,
+    face: &Face<'_>,
+    location: &Option<Location>,
+    units: u16,
+    glyphs: &[u16],
+) -> Result<Vec<u16>, Error> {
+    let known = deltas_of(alloc, heights_by(face, location), glyphs)?;
+    let tables = vertical_of(face);
+    each_height(
+        alloc,
+        tables,
+        heights_by(face, location),
+        units,
+        glyphs,
+        &known,
+    )
+}
+
 /// The heights of glyphs of a font of so many units per em.
 pub fn heights_in(
     alloc: Global,
@@ -121,7 +141,5 @@ pub fn heights_in(
     glyphs: &[u16],
 ) -> Result<Vec<u16>, Error> {
     let location = location_in(alloc, face, coordinates)?;
-    let variation = heights_by(face, &location);
-    let known = deltas_of(alloc, variation, glyphs)?;
-    each_height(alloc, vertical_of(face), variation, units, glyphs, &known)
+    heights_at(alloc, face, &location, units, glyphs)
 }

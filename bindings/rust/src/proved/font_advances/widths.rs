@@ -72,8 +72,9 @@ fn still_width(metrics: &Metrics<'_>, glyph: u16) -> Result<u16, Error> {
 /// The advances that `hmtx` has of glyphs.
 fn each_still(alloc: Global, metrics: &Metrics<'_>, glyphs: &[u16]) -> Result<Vec<u16>, Error> {
     let mut widths = Vec::with_capacity(alloc, glyphs.len())?;
-    for glyph in glyphs {
-        widths.push(still_width(metrics, *glyph)?)?;
+    for place in 0..glyphs.len() {
+        let width = still_width(metrics, glyphs[place])?;
+        widths.push(width)?;
     }
     Ok(widths)
 }
@@ -118,6 +119,11 @@ fn varied_advance(
     }
 }
 
+/// How far the right phantom point is from the left one.
+fn distance(left: i64, right: i64) -> i64 {
+    right - left
+}
+
 /// The distance between the phantom points of a glyph, which may take so many steps, and the glyphs that are kept.
 fn phantom_width(
     alloc: Global,
@@ -129,7 +135,8 @@ fn phantom_width(
     kept: GlyphCache,
 ) -> Result<(u16, GlyphCache), Error> {
     let (unfolded, _, kept) = unfold(alloc, spare, source, at, steps, glyph, kept)?;
-    let width = advance(None, at, glyph, 0, unfolded.right - unfolded.left)?;
+    let between = distance(unfolded.left, unfolded.right);
+    let width = advance(None, at, glyph, 0, between)?;
     Ok((width, kept))
 }
 

@@ -209,11 +209,25 @@ fn replace<R: Files>(rt: &R, alloc: Global, made: &str, name: &str) -> io::Resul
     renamed
 }
 
+/// Removes the file beside that of a name, which is whole. So where that fails the file is written all the same. A signal may
+/// interrupt a removal, which is made again.
+fn remove_made<R: Files>(rt: &R, made: &str) {
+    for _ in 0..TRIES {
+        match fs::remove_file(rt, made) {
+            Err(error) if error.kind() == ErrorKind::Interrupted => {}
+            _ => return,
+        }
+    }
+}
+
 /// Does with the file beside that of a name what is to be done with it.
 pub fn finish<R: Files>(rt: &R, alloc: Global, made: &str, name: &str, way: Way) -> io::Result<()> {
     match way {
         Way::PutBack => replace(rt, alloc, made, name),
         Way::Rename => fs::rename(rt, made, name),
-        Way::InPlace => fs::remove_file(rt, made),
+        Way::InPlace => {
+            remove_made(rt, made);
+            Ok(())
+        }
     }
 }

@@ -4,17 +4,63 @@
 use crate::proved::pdf_moved::heights::heights_at;
 use crate::proved::pdf_moved::movement::{coordinate_on, Movement};
 use crate::proved::pdf_values::{
-    bounds_of, flags_of, font_weight, italic_angle, stem_v, thousandths, units_per_em, weight_of,
-    Bounds, Known, Tables, Values,
+    bounds_of, flags_by, font_weight, is_italic, italic_angle, stem_v, thousandths, units_per_em,
+    weight_of, Bounds, Known, Tables, Values,
 };
 use crate::proved::subsetter_base::Tag;
 use crate::proved::subsetter_variation::rounding::nearest;
+
+/// Whether a coordinate of `ital` is italic: from a half on.
+fn is_ital(coordinate: i32) -> bool {
+    coordinate >= 32768
+}
+
+/// Whether a coordinate of `slnt` is: below 0.
+fn leans(coordinate: i32) -> bool {
+    coordinate < 0
+}
+
+/// ItalicAngle by `post`, which is that of the italic, where the font has the axis `ital`.
+fn angle_by(ital: Option<i32>, post: Option<&[u8]>) -> i32 {
+    match ital {
+        None => italic_angle(post),
+        Some(coordinate) => {
+            if is_ital(coordinate) {
+                italic_angle(post)
+            } else {
+                0
+            }
+        }
+    }
+}
+
+/// Whether a font is italic: by its coordinates on `ital` and `slnt`, where it has one of these axes, else as by default.
+fn italic_by(ital: Option<i32>, slnt: Option<i32>, default: bool) -> bool {
+    match (ital, slnt) {
+        (None, None) => default,
+        (Some(ital), None) => is_ital(ital),
+        (None, Some(slnt)) => leans(slnt),
+        (Some(ital), Some(slnt)) => is_ital(ital) || leans(slnt),
+    }
+}
+
+/// Whether a font with this ItalicAngle is italic.
+fn is_italic_at(
+    movement: Movement<'_>,
+    os2: Option<&[u8]>,
+    head: Option<&[u8]>,
+    angle: i32,
+) -> bool {
+    let ital = coordinate_on(movement, Tag::new(b"ital"));
+    let slnt = coordinate_on(movement, Tag::new(b"slnt"));
+    italic_by(ital, slnt, is_italic(os2, head, angle))
+}
 
 /// ItalicAngle in thousandths of a degree: the coordinate on `slnt`, where the font has this axis.
 fn angle_at(movement: Movement<'_>, post: Option<&[u8]>) -> i32 {
     match coordinate_on(movement, Tag::new(b"slnt")) {
         Some(coordinate) => thousandths(coordinate, 65536),
-        None => italic_angle(post),
+        None => angle_by(coordinate_on(movement, Tag::new(b"ital")), post),
     }
 }
 
@@ -48,7 +94,11 @@ pub fn values_at(
     let angle = angle_at(movement, tables.post);
     let weight = weight_at(movement, tables.os2, tables.head);
     Values {
-        flags: flags_of(tables.post, tables.os2, tables.head, angle),
+        flags: flags_by(
+            tables.post,
+            tables.os2,
+            is_italic_at(movement, tables.os2, tables.head, angle),
+        ),
         bounds: bounds_of(choice, tables.head, known.kept, units),
         italic_angle: angle,
         heights: heights_at(

@@ -19,12 +19,17 @@ fn is_set(settings: &[(Tag, i32)], tag: Tag) -> bool {
     settings.iter().any(|setting| setting.0 == tag)
 }
 
+/// Whether a tag is listed behind these settings: no axis has it, and none of the settings is for it.
+fn is_listed(axes: &[Axis], before: &[(Tag, i32)], tag: Tag) -> bool {
+    !has_axis(axes, tag) && !is_set(before, tag)
+}
+
 /// The tags of settings that none of these axes has, each once.
 fn unknown_among(alloc: Global, axes: &[Axis], settings: &[(Tag, i32)]) -> Result<Vec<Tag>, Error> {
     let mut unknown = Vec::new(alloc);
     for place in 0..settings.len() {
         let tag = settings[place].0;
-        if !has_axis(axes, tag) && !is_set(&settings[..place], tag) {
+        if is_listed(axes, &settings[..place], tag) {
             unknown.push(tag)?;
         }
     }

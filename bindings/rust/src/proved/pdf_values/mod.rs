@@ -21,7 +21,7 @@ mod units;
 
 pub use descriptor::{values_of, Known, Tables, Values};
 pub use looks::bounds::{bounds_of, Bounds, GlyphBox};
-pub use looks::flags::flags_of;
+pub use looks::flags::{flags_by, is_italic};
 pub use looks::heights::Heights;
 pub use looks::lean::italic_angle;
 pub use looks::weight::{font_weight, stem_v, weight_of};

@@ -3,5 +3,5 @@ use Rattle.subsetter_base.proofs.Results.{with_front}
 use Rattle.font_advances.specs.Widths.{each, metrics_seen, still_width}
 use Rattle.font_advances.proofs.widths.each_still.Given as goal
 
-abbrev pub invariant-loop-glyph : goal.invariant-loop-glyph
-invariant-loop-glyph l = with_front l.widths.items (each (still_width (metrics_seen l.metrics)) (drop l.glyph-index l.glyphs)) ≡ each (still_width (metrics_seen l.metrics)) l.glyphs
+abbrev pub invariant-loop-place : goal.invariant-loop-place
+invariant-loop-place l = with_front l.widths.items (each (still_width (metrics_seen l.metrics)) (drop l.place l.glyphs)) ≡ each (still_width (metrics_seen l.metrics)) l.glyphs

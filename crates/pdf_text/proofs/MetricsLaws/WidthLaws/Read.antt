@@ -37,12 +37,12 @@ below_or_not (suc a) (suc b) = elim (below_or_not a b) [ inl l ↦ inl (omega ar
 
 -- ---- one entry
 
-in_each : (first : ℕ) (ws : List ℕ) (es : List Entry) (d j : ℕ) → j < length ws → width_in (each first ws ∷ es) d (first + j) ≡ get_or ws j d
+pub in_each : (first : ℕ) (ws : List ℕ) (es : List Entry) (d j : ℕ) → j < length ws → width_in (each first ws ∷ es) d (first + j) ≡ get_or ws j d
 in_each first ws es d j l =
     let e : (first + j) - first ≡ j = omega arith in
     rw (e, true_test (nat_le first (first + j)) (nat_lt j (length ws)) (le_true first (first + j) (omega arith)) (lt_true j (length ws) l)) refl
 
-past_each : (first : ℕ) (ws : List ℕ) (es : List Entry) (d k : ℕ) → (k < first) ⊎ (length ws ≤ k - first) → width_in (each first ws ∷ es) d k ≡ width_in es d k
+pub past_each : (first : ℕ) (ws : List ℕ) (es : List Entry) (d k : ℕ) → (k < first) ⊎ (length ws ≤ k - first) → width_in (each first ws ∷ es) d k ≡ width_in es d k
 past_each first ws es d k (inl l) = rw (false_test (nat_le first k) (nat_lt (k - first) (length ws)) (inl (le_false first k l))) refl
 past_each first ws es d k (inr l) = rw (false_test (nat_le first k) (nat_lt (k - first) (length ws)) (inr (lt_false (k - first) (length ws) l))) refl
 
@@ -131,7 +131,7 @@ listed_or_not most d w ws false p = inr (positive most (first_false (most == 0) 
 
 -- ---- all
 
-taken : (n : ℕ) (ws : List ℕ) (d i : ℕ) → i < n → get_or (take n ws) i d ≡ get_or ws i d
+pub taken : (n : ℕ) (ws : List ℕ) (d i : ℕ) → i < n → get_or (take n ws) i d ≡ get_or ws i d
 taken n ws d i l = rw get_or-take refl
 
 pub taken_size : (n : ℕ) (ws : List ℕ) → n ≤ length ws → length (take n ws) ≡ n

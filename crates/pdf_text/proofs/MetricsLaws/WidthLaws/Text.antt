@@ -1,5 +1,5 @@
 -- The text of W says each width.
-use Rattle.std.proofs.Common.{◌≡◌, ℕ, suc, zero, ◌+◌, ◌-◌, ◌^◌, ◌<◌, ◌≤◌, true, false, List, [], ◌∷◌, ◌++◌, length, map, take, get_or, refl, sym, ap, subst, ◌∙◌, ◌⊎◌, inl, inr, append_assoc, append-nil, arith}
+use Rattle.std.proofs.Common.{◌≡◌, ℕ, suc, zero, ◌+◌, ◌-◌, ◌^◌, ◌<◌, ◌≤◌, true, false, List, [], ◌∷◌, ◌++◌, length, map, take, refl, sym, ap, subst, ◌∙◌, ◌⊎◌, inl, inr, append_assoc, append-nil, arith}
 use Rattle.std.specs.Prelude.{◌==◌, ◌||◌, All, Option, Some, codes, decimal}
 use Rattle.std.specs.Option.{option_map}
 use Rattle.std.specs.List.{join_with_byte}
@@ -9,9 +9,9 @@ use Rattle.std.proofs.lemmas.List.Elements.{All-cons, All-head, All-tail, All-ta
 use Rattle.std.proofs.lemmas.Bool.Decides.{nat_tests}
 use Rattle.subsetter_base.proofs.Lists.{and_parts}
 use Rattle.pdf_text.specs.Tokens.{tokens, number_in}
-use Rattle.pdf_text.specs.Metrics.Arrays.{Entry, each, same, width_in, entry_text, array_text, run, listed, opened, more, entries_from, entries, spread, between, begun, ranged, listing, entries_in, array_in, value_in, AreRead, AreAtMost, AreShort}
+use Rattle.pdf_text.specs.Metrics.Arrays.{Entry, each, same, entry_text, array_text, run, listed, opened, more, entries_from, spread, between, begun, ranged, listing, entries_in, array_in, AreAtMost}
 use Rattle.pdf_text.proofs.TokenLaws.Tokens.{first_token, digits_dark, decimal_digits, decimal_some, number_read, no_word}
-use Rattle.pdf_text.proofs.MetricsLaws.WidthLaws.Read.{Opens, none, many, list, opens, run_size, listed_size, listed_or_not, taken_size, entries_are_read}
+use Rattle.pdf_text.proofs.MetricsLaws.WidthLaws.Read.{Opens, none, many, list, opens, run_size, listed_size, listed_or_not, taken_size}
 use Rattle.subsetter_base.proofs.TextLemmas.{spaced, joined}
 
 -- ---- numbers among brackets
@@ -145,7 +145,7 @@ all_read : (es : List Entry) → AllSmall es → entries_in between (all_tokens 
 all_read [] h = refl
 all_read (e ∷ es) h = entry_read e (all_tokens es) h.0 ∙ ap (λ (o : Option (List Entry)). option_map (λ fs. e ∷ fs) o) (all_read es h.1)
 
-array_read : (es : List Entry) → AllSmall es → array_in (array_text es) ≡ Some es
+pub array_read : (es : List Entry) → AllSmall es → array_in (array_text es) ≡ Some es
 array_read es h = ap (λ (ts : List (List ℕ)). entries_in between ts) (joined_entries es h) ∙ all_read es h
 
 -- ---- the numbers are small
@@ -165,11 +165,6 @@ entries_small most (w ∷ ws) first d (suc settled) l h = entries_small most ws 
 entries_small most (w ∷ ws) first d zero l h =
     opened_small most first d w ws (entries_from most (first + 1) d (more most d w ws) ws) l h
     (entries_small most ws (first + 1) d (more most d w ws) (omega arith) (All-tail (λ v. v < 2 ^ 64) w ws h)) (opens most first d w ws)
-
-pub widths_are_read : AreRead
-widths_are_read ws d k h l m =
-    ap (λ (o : Option (List Entry)). option_map (λ es. width_in es d k) o) (array_read (entries ws d) (entries_small 8189 ws 0 d 0 (omega arith) h))
-    ∙ ap Some (entries_are_read 8189 ws d k)
 
 -- ---- no list is long
 
@@ -193,11 +188,3 @@ pub entries_short : (most : ℕ) (ws : List ℕ) (first d settled : ℕ) → Are
 entries_short most [] first d settled = tt
 entries_short most (w ∷ ws) first d (suc settled) = entries_short most ws (first + 1) d settled
 entries_short most (w ∷ ws) first d zero = opened_short most first d w ws (entries_from most (first + 1) d (more most d w ws) ws) (entries_short most ws (first + 1) d (more most d w ws)) (opens most first d w ws)
-
-pub lists_are_short : (ws : List ℕ) (d : ℕ) → AreShort (entries ws d)
-lists_are_short ws d = entries_short 8189 ws 0 d 0
-
--- ---- of the text that is written
-
-pub value_of_text : (ws : List ℕ) (d : ℕ) (text : List ℕ) → AreSmall ws → length ws < 2 ^ 64 → text ≡ array_text (entries ws d) → (k : ℕ) → k < length ws → value_in text d k ≡ Some (get_or ws k d)
-value_of_text ws d text h l e k m = ap (λ (t : List ℕ). value_in t d k) e ∙ widths_are_read ws d k h l m

@@ -121,6 +121,48 @@ pub fn parts_of(
     Ok(parts)
 }
 
+/// How many elements a part adds to the outer array: a CID and a list, or two CIDs and so many numbers.
+fn elements_of(part: Part<'_>, numbers: usize) -> usize {
+    match part {
+        Part::Each(..) => 2,
+        Part::Same(..) => 2 + numbers,
+    }
+}
+
+/// Whether an array of PDF/A-1, of at most 8,191 elements, has room for parts.
+pub fn has_room(numbers: usize, parts: &[Part<'_>]) -> bool {
+    let mut left = 8191;
+    for part in parts {
+        let more = elements_of(*part, numbers);
+        if left < more {
+            return false;
+        }
+        left -= more;
+    }
+    true
+}
+
+/// Lists of all widths from CID 0 on, each of at most so many.
+pub fn lists_of(alloc: Global, most: usize, widths: &[u32]) -> Result<Vec<Part<'_>>, Error> {
+    let mut parts = Vec::new(alloc);
+    let mut first = 0;
+    while first < widths.len() {
+        let behind = first + most.min(widths.len() - first);
+        push_part(&mut parts, Some(Part::Each(first, &widths[first..behind])))?;
+        first = behind;
+    }
+    Ok(parts)
+}
+
+/// The parts of W: lists of all widths where the shorter parts are too many.
+fn fitting_parts(alloc: Global, widths: &[u32], default: u32) -> Result<Vec<Part<'_>>, Error> {
+    let parts = parts_of(alloc, 8189, widths, default)?;
+    if has_room(1, &parts) {
+        return Ok(parts);
+    }
+    lists_of(alloc, 8189, widths)
+}
+
 // ---- their text
 
 /// Writes a CID in decimal.
@@ -172,7 +214,7 @@ fn write_parts(text: &mut Vec<u8>, parts: &[Part<'_>]) -> Result<(), Error> {
 
 /// The text of the parts.
 fn array_of(alloc: Global, widths: &[u32], default: u32) -> Result<Vec<u8>, Error> {
-    let parts = parts_of(alloc, 8189, widths, default)?;
+    let parts = fitting_parts(alloc, widths, default)?;
     let mut text = Vec::new(alloc);
     text.extend_from_slice(b"[")?;
     write_parts(&mut text, &parts)?;
@@ -180,7 +222,8 @@ fn array_of(alloc: Global, widths: &[u32], default: u32) -> Result<Vec<u8>, Erro
     Ok(text)
 }
 
-/// The value of W for the widths of the CIDs from 0 on, of which it leaves out those that are the default one (DW).
+/// The value of W for the widths of the CIDs from 0 on, of which it leaves out those that are the default one (DW). Where it would have
+/// more than 8,191 elements, it has lists of all widths.
 ///
 /// # Errors
 ///

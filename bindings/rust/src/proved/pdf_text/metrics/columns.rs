@@ -3,7 +3,7 @@
 
 use crate::rattle::prelude::Vec;
 
-use crate::proved::pdf_text::metrics::arrays::{parts_of, write_cid, Part};
+use crate::proved::pdf_text::metrics::arrays::{has_room, lists_of, parts_of, write_cid, Part};
 use crate::proved::pdf_text::numbers::write_integer;
 use crate::proved::subsetter_base::Error;
 use crate::rattle::alloc::Global;
@@ -65,6 +65,17 @@ fn marks_of(alloc: Global, columns: &[Column], default: DefaultColumn) -> Result
         m = mark(default, own, before, m, *column);
         marks.push(m)?;
         before = *column;
+        own += 1;
+    }
+    Ok(marks)
+}
+
+/// Marks of their own for columns.
+fn own_marks_of(alloc: Global, columns: &[Column]) -> Result<Vec<u32>, Error> {
+    let mut marks = Vec::new(alloc);
+    let mut own = 1;
+    for _ in columns {
+        marks.push(own)?;
         own += 1;
     }
     Ok(marks)
@@ -158,19 +169,30 @@ fn write_spans(text: &mut Vec<u8>, columns: &[Column], parts: &[Part<'_>]) -> Re
     Ok(())
 }
 
-/// The text of W2.
-fn text_of(alloc: Global, columns: &[Column], default: DefaultColumn) -> Result<Vec<u8>, Error> {
-    let marks = marks_of(alloc, columns, default)?;
-    let parts = parts_of(alloc, 2729, &marks, 0)?;
+/// The text of parts of W2.
+fn text_of_parts(alloc: Global, columns: &[Column], parts: &[Part<'_>]) -> Result<Vec<u8>, Error> {
     let mut text = Vec::new(alloc);
     text.extend_from_slice(b"[")?;
-    write_spans(&mut text, columns, &parts)?;
+    write_spans(&mut text, columns, parts)?;
     text.extend_from_slice(b"]")?;
     Ok(text)
 }
 
+/// The text of W2.
+fn text_of(alloc: Global, columns: &[Column], default: DefaultColumn) -> Result<Vec<u8>, Error> {
+    let marks = marks_of(alloc, columns, default)?;
+    let parts = parts_of(alloc, 2729, &marks, 0)?;
+    if has_room(3, &parts) {
+        return text_of_parts(alloc, columns, &parts);
+    }
+    let marks = own_marks_of(alloc, columns)?;
+    let parts = lists_of(alloc, 2729, &marks)?;
+    text_of_parts(alloc, columns, &parts)
+}
+
 /// The value of W2 for the columns of the CIDs from 0 on, of which it leaves out those that are the default one (DW2): their x is
-/// then half of their width (W). A CID that no text shows may have the default column too. CIDs have 16 bits.
+/// then half of their width (W). Where it would have more than 8,191 elements, it has lists of all columns. A CID that no text shows may
+/// have the default column too. CIDs have 16 bits.
 ///
 /// # Errors
 ///

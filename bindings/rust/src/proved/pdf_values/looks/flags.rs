@@ -85,11 +85,21 @@ fn flag(is_set: bool, n: u32) -> u32 {
     }
 }
 
-/// Flags of a font whose ItalicAngle is this: FixedPitch is 1, Serif 2, Script 8, Italic 64. Symbolic, 4, is always set,
-/// as the codes are a font's own, and Nonsymbolic, 32, never is.
-pub fn flags_of(post: Option<&[u8]>, os2: Option<&[u8]>, head: Option<&[u8]>, angle: i32) -> u32 {
+/// Flags of a font that is italic or isn't: FixedPitch is 1, Serif 2, Script 8, Italic 64. Symbolic, 4, is always set, as the codes are a
+/// font's own, and Nonsymbolic, 32, never is.
+pub fn flags_by(post: Option<&[u8]>, os2: Option<&[u8]>, is_italic: bool) -> u32 {
     4 + flag(is_fixed(post), 1)
         + flag(has_serifs(os2), 2)
         + flag(is_script(os2), 8)
-        + flag(is_slanted(os2, head) || angle != 0, 64)
+        + flag(is_italic, 64)
+}
+
+/// Whether a font is called italic or oblique, or has an ItalicAngle other than 0.
+pub fn is_italic(os2: Option<&[u8]>, head: Option<&[u8]>, angle: i32) -> bool {
+    is_slanted(os2, head) || angle != 0
+}
+
+/// Flags of a font whose ItalicAngle is this.
+pub fn flags_of(post: Option<&[u8]>, os2: Option<&[u8]>, head: Option<&[u8]>, angle: i32) -> u32 {
+    flags_by(post, os2, is_italic(os2, head, angle))
 }

@@ -35,6 +35,7 @@ fn job_with(
         switches: chosen.switches,
         position,
         pdf,
+        most_input: chosen.most_input,
     })
 }
 

@@ -2,7 +2,7 @@ use Rattle.std.proofs.Common.{◌<◌, ◌^◌, length, arith}
 use Rattle.std.proofs.lemmas.Result.{IfOk-weaker}
 use Rattle.std.proofs.lemmas.Grind.{get_or_default_zero}
 use Rattle.std.specs.Prelude.{All}
-use Rattle.pdf_text.proofs.MetricsLaws.WidthLaws.Text.{value_of_text}
+use Rattle.pdf_text.proofs.MetricsLaws.WidthLaws.Whole.{value_of_text}
 use Rattle.pdf_text.proofs.metrics.arrays.write_widths.Goals as goal
 
 pub returns-clause-read : goal.returns-clause-read

@@ -3,11 +3,24 @@
 
 use crate::proved::subsetter_base::read::u16_at;
 
-/// Ranges of glyphs with one font dict each. Where none begins before the one in front of it, a glyph is looked up by halves.
+/// How many ranges a block has.
+const BLOCK: usize = 256;
+/// How many blocks there can be.
+const BLOCKS: usize = 256;
+
+/// Of each block of ranges, a glyph that none begins before, and one that none ends behind.
+#[derive(Clone, Copy, Debug)]
+pub struct Blocks {
+    least: [u16; BLOCKS],
+    greatest: [u16; BLOCKS],
+}
+
+/// Ranges of glyphs with one font dict each. Where none begins before the one in front of it, a glyph is looked up by halves; else
+/// blocks of ranges that all lie before the glyph or behind it are passed.
 pub struct Ranges<'a> {
     data: &'a [u8],
     count: usize,
-    ascends: bool,
+    blocks: Option<Blocks>,
 }
 
 /// Where the ranges begin, behind their number.
@@ -53,11 +66,55 @@ fn has(bytes: &[u8], i: usize, glyph: u16) -> bool {
     first_of(bytes, i) <= glyph && glyph < first_of(bytes, i + 1)
 }
 
-/// Looks a glyph up from the front.
-fn find(bytes: &[u8], count: usize, glyph: u16) -> Option<u8> {
+/// Bounds of each block of ranges.
+fn read_blocks(bytes: &[u8], count: usize) -> Blocks {
+    let mut least = [u16::MAX; BLOCKS];
+    let mut greatest = [0; BLOCKS];
     for i in 0..count {
+        let block = i / BLOCK;
+        least[block] = least[block].min(first_of(bytes, i));
+        greatest[block] = greatest[block].max(first_of(bytes, i + 1));
+    }
+    Blocks { least, greatest }
+}
+
+/// Looks a glyph up in ranges from one on, as far as another.
+fn find_between(bytes: &[u8], from: usize, to: usize, glyph: u16) -> Option<u8> {
+    for i in from..to {
         if has(bytes, i, glyph) {
             return Some(number_of(bytes, i));
+        }
+    }
+    None
+}
+
+/// Looks a glyph up in a block.
+fn find_in_block(
+    bytes: &[u8],
+    count: usize,
+    blocks: &Blocks,
+    block: usize,
+    glyph: u16,
+) -> Option<u8> {
+    if glyph < blocks.least[block] {
+        return None;
+    }
+    if blocks.greatest[block] <= glyph {
+        return None;
+    }
+    let from = BLOCK * block;
+    find_between(bytes, from, (from + BLOCK).min(count), glyph)
+}
+
+/// Looks a glyph up block by block.
+fn find_by_blocks(bytes: &[u8], count: usize, blocks: &Blocks, glyph: u16) -> Option<u8> {
+    for block in 0..BLOCKS {
+        if count <= BLOCK * block {
+            return None;
+        }
+        let found = find_in_block(bytes, count, blocks, block, glyph);
+        if found.is_some() {
+            return found;
         }
     }
     None
@@ -80,6 +137,15 @@ fn find_by_halves(bytes: &[u8], count: usize, glyph: u16) -> Option<u8> {
     None
 }
 
+/// What is known of ranges, so that a glyph is looked up fast: bounds of their blocks, or that they ascend.
+fn known_of(bytes: &[u8], count: usize) -> Option<Blocks> {
+    if ascend(bytes, count) {
+        None
+    } else {
+        Some(read_blocks(bytes, count))
+    }
+}
+
 impl<'a> Ranges<'a> {
     /// The ranges that the bytes behind the format byte hold.
     pub fn new(bytes: &'a [u8]) -> Self {
@@ -87,16 +153,15 @@ impl<'a> Ranges<'a> {
         Ranges {
             data: bytes,
             count,
-            ascends: ascend(bytes, count),
+            blocks: known_of(bytes, count),
         }
     }
 
     /// The font dict of a glyph: that of the first range that has it.
     pub fn font_dict(&self, glyph: u16) -> Option<u8> {
-        if self.ascends {
-            find_by_halves(self.data, self.count, glyph)
-        } else {
-            find(self.data, self.count, glyph)
+        match &self.blocks {
+            None => find_by_halves(self.data, self.count, glyph),
+            Some(blocks) => find_by_blocks(self.data, self.count, blocks, glyph),
         }
     }
 }

@@ -1,6 +1,0 @@
-use Rattle.std.proofs.Common.{◌≡◌, ◌-◌}
-use Rattle.subsetter_cff.specs.Read.FdArray.Ranges.{found_from}
-use Rattle.subsetter_cff.proofs.read.fd_array.ranges.find.Given as goal
-
-abbrev pub invariant-loop-i : goal.invariant-loop-i
-invariant-loop-i l = found_from l.bytes l.glyph (l.count - l.i) l.i ≡ found_from l.bytes l.glyph l.count 0
