@@ -36,3 +36,7 @@ looked_up_texts table glyphs text ends g s e =
     let count : length glyphs ≡ length ends = ap length g ∙ length-map (glyph_of table) text ∙ sym (ap length e ∙ each_length 0 (length text)) in
     let above : are_ascending 0 ends (length text) ≡ true = subst (λ (l : List ℕ). are_ascending 0 l (length text) ≡ true) (sym e) (each_ascending 0 (length text) (length text) (omega arith)) in
     texts_by (length glyphs) text ends count s above
+
+-- what holds of three lists holds of three that equal them
+pub there : (P : List ℕ → List ℕ → List ℕ → Type 0) (g t e glyphs text ends : List ℕ) → g ≡ glyphs → t ≡ text → e ≡ ends → P glyphs text ends → P g t e
+there P g t e glyphs text ends pg pt pe p = subst (λ (l : List ℕ). P g t l) (sym pe) (subst (λ (l : List ℕ). P g l ends) (sym pt) (subst (λ (l : List ℕ). P l text ends) (sym pg) p))
