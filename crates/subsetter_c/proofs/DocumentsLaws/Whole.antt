@@ -33,7 +33,7 @@ texts_by count text ends n s a = grind arith
 
 pub looked_up_texts : (table : Mapping) (glyphs text ends : List ℕ) → glyphs ≡ map (glyph_of table) text → are_scalars text ≡ true → ends ≡ one_each 0 (length text) → are_texts (length glyphs) text ends ≡ true
 looked_up_texts table glyphs text ends g s e =
-    let count : length glyphs ≡ length ends = ap length g ∙ length-map (glyph_of table) text ∙ sym (ap length e ∙ each_length 0 (length text)) in
+    let count : length glyphs ≡ length ends = ap length g ∙ length-map text (glyph_of table) ∙ sym (ap length e ∙ each_length 0 (length text)) in
     let above : are_ascending 0 ends (length text) ≡ true = subst (λ (l : List ℕ). are_ascending 0 l (length text) ≡ true) (sym e) (each_ascending 0 (length text) (length text) (omega arith)) in
     texts_by (length glyphs) text ends count s above
 
