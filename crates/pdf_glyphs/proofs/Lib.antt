@@ -3,4 +3,5 @@ pub mod ColumnSteps
 pub mod CountSteps
 pub mod KeySteps
 pub mod Most
+pub mod MoveSteps
 pub mod OriginSteps

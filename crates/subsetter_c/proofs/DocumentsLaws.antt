@@ -3,3 +3,5 @@ pub mod PdfFonts
 pub mod PdfGlyphs
 pub mod PdfLaws
 pub mod PdfObjects
+pub mod Parts
+pub mod Whole

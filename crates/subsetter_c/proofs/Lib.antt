@@ -1,3 +1,4 @@
+pub mod AdvancesLaws
 mod Asked
 mod AtCoordinates
 pub mod AnswersLaws

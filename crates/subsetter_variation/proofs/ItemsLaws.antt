@@ -1,4 +1,5 @@
 -- Item variation stores, and what varies by them (OpenType, "Item Variation Store", "HVAR" and "MVAR").
 pub mod Items
+pub mod Listed
 pub mod Terms
 pub mod Values

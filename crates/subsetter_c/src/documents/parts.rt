@@ -1,10 +1,8 @@
 //! The parts of a font, handed to C.
 
-ghost use Rattle.std.specs.Prelude.{◌≡◌, ◌≢◌, Ok, Err};
-ghost use Rattle.pdf_text.specs.declared.parts.PartsError.{PartsError as SpecPartsError};
+ghost use Rattle.std.specs.Prelude.{◌≡◌, ◌≢◌, Err};
 ghost use Rattle.subsetter_pdf_c.specs.Written.{ArePartsOf, HasNoPartsOf, IsPartCount};
-ghost use Rattle.subsetter_pdf_c.specs.declared.parts.PdfPart.{PdfPart as SpecPart};
-ghost use Rattle.subsetter_c.specs.Documents.Parts.{ArePartsHanded, AreNoParts, parts_status};
+ghost use Rattle.subsetter_c.specs.Documents.Parts.{AreNoParts, ArePartsAnswered, ArePartsHanded, parts_status};
 ghost use Rattle.subsetter_c.specs.Documents.Whole.{own_size};
 ghost use Rattle.subsetter_c.specs.Answers.Status.{unknown_option};
 
@@ -40,7 +38,7 @@ fn parts_status(error: PartsError) -> u32
 
 /// Hands parts over, or the error: the status.
 fn hand_parts(answer: Result<Vec<PdfPart>, PartsError>, made: &mut PartsMade) -> u32
-    ensures { ArePartsHanded (λ parts. (v : Vec SpecPart Global) × (answer ≡ Ok v) × (v.items ≡ parts)) (λ e. answer ≡ Err e) made.new result }
+    ensures { ArePartsHanded (ArePartsAnswered answer) (λ e. answer ≡ Err e) made.new result }
 {
     match answer {
         Ok(parts) => {

@@ -167,3 +167,48 @@ fn varied_origin(vvar: &[u8], at: &[i32], glyph: u16) -> Option<i128> {
 pub fn origin_delta(vvar: &[u8], at: &[i32], glyph: u16) -> Result<i64, Error> {
     in_whole_units(varied_origin(vvar, at, glyph).ok_or(Error::MalformedFont)?)
 }
+
+/// The item of the vertical origin of each of these glyphs.
+fn origin_items(
+    alloc: Global,
+    vvar: &[u8],
+    glyphs: &[u16],
+) -> Result<Vec<Option<(u32, u32)>>, AllocError> {
+    let mut items = Vec::with_capacity(alloc, glyphs.len())?;
+    for glyph in glyphs {
+        items.push(origin_index(vvar, *glyph))?;
+    }
+    Ok(items)
+}
+
+/// What the y of the vertical origin of each of these glyphs varies by, one after the other.
+fn origins_one_by_one(
+    alloc: Global,
+    vvar: &[u8],
+    at: &[i32],
+    glyphs: &[u16],
+) -> Result<Vec<Result<i64, Error>>, AllocError> {
+    let mut deltas = Vec::with_capacity(alloc, glyphs.len())?;
+    for glyph in glyphs {
+        deltas.push(origin_delta(vvar, at, *glyph))?;
+    }
+    Ok(deltas)
+}
+
+/// What the y of the vertical origin of each of these glyphs varies by at a location, each as `origin_delta` says. The scalar of
+/// a region is reckoned once, and so is the sum of an item.
+pub fn origin_deltas(
+    alloc: Global,
+    vvar: &[u8],
+    at: &[i32],
+    glyphs: &[u16],
+) -> Result<Vec<Result<i64, Error>>, AllocError> {
+    let s = match store_of(vvar, at.len()) {
+        Some(s) => s,
+        _ => {
+            return origins_one_by_one(alloc, vvar, at, glyphs);
+        }
+    };
+    let items = origin_items(alloc, vvar, glyphs)?;
+    each_delta(alloc, &s, at, &items)
+}
