@@ -57,19 +57,15 @@ def varied(axes, count, **tables):
     return static(count, **{"fvar": fvar(axes), "gvar": gvar, **tables})
 
 
-def advances(axes, regions):
-    held = store(axes, regions)
-    return u16s(1, 0) + u32s(20, 20 + len(held), 0, 0) + held + u16s(0, 1) + b"\0"
-
-
 def hvar(axes, regions, count=200):
-    return varied(axes, count, HVAR=advances(axes, regions))
-
-
-def vvar(axes, regions, count=200):
     held = store(axes, regions)
+    return varied(axes, count, HVAR=u16s(1, 0) + u32s(20, 20 + len(held), 0, 0) + held + u16s(0, 1) + b"\0")
+
+
+def vvar(size):
+    held = store(size, 6 * size)
     table = u16s(1, 0) + u32s(24, 24 + len(held), 0, 0, 24 + len(held)) + held + u16s(0, 1) + b"\0"
-    return varied(axes, count, VVAR=table, vhea=u32s(0x10000) + bytes(30) + u16s(1), vmtx=u16s(1000, 0) + bytes(2 * count - 2))
+    return varied(size, 200, VVAR=table, vhea=u32s(0x10000) + bytes(30) + u16s(1), vmtx=u16s(1000, 0) + bytes(398))
 
 
 def mvar(size):
@@ -83,14 +79,9 @@ def tuples(size):
     return varied(size, count, gvar=gvar + shared + data)
 
 
-def font2(count, table, axes=1, **tables):
-    """A font with a table `CFF2` and axes."""
-    return static(count, fvar=fvar(axes), CFF2=table, glyf=None, loca=None, **tables).replace(b"\0\1\0\0", b"OTTO", 1)
-
-
-def hvar2(axes, regions, count=20):
-    """`HVAR` of a font with `CFF2`."""
-    return font2(count, made2.cff2([b""] * count), axes, HVAR=advances(axes, regions))
+def font2(count, table):
+    """A font with a table `CFF2` and an axis."""
+    return static(count, fvar=fvar(1), CFF2=table, glyf=None, loca=None).replace(b"\0\1\0\0", b"OTTO", 1)
 
 
 def blends(size):
@@ -172,8 +163,7 @@ CALLS = [
     ("the same for a PDF", lambda n: keyed(3, [b"\x8b\x0b" * 5 * n], n), 300, "pdf 0-1 -"),
     ("blends of many regions", blends, 8000, f"at 1 {AT}"), ("blends of a private dict", private_blends, 8000, f"at 0 {AT}"),
     ("HVAR, axes", lambda n: hvar(n, 6 * n), 5000, f"at 0-19 {AT}"), ("HVAR, glyphs", lambda n: hvar(1, n, n), 16000, f"at 0-{{last}} {AT}"),
-    ("HVAR of CFF2, axes", lambda n: hvar2(n, 6 * n), 5000, f"at 0-19 {AT}"), ("HVAR of CFF2, glyphs", lambda n: hvar2(1, n, n), 16000, f"at 0-{{last}} {AT}"),
-    ("VVAR, axes", lambda n: vvar(n, 6 * n), 2000, f"columns 1-9 {AT}"), ("VVAR, glyphs", lambda n: vvar(1, n, n), 16000, f"columns 1-{{last}} {AT}"), ("MVAR", mvar, 2000, f"pdf 1-2 {AT}"), ("gvar, tuples and axes", tuples, 2000, f"at 0 {AT}"),
+    ("VVAR", vvar, 2000, f"columns 1-9 {AT}"), ("MVAR", mvar, 2000, f"pdf 1-2 {AT}"), ("gvar, tuples and axes", tuples, 2000, f"at 0 {AT}"),
     ("FDSelect out of order", select3, 16000, "subset 0-{last} -"), ("names of glyphs", named, 16000, "subset 0-{last} -"),
     ("one name of all glyphs", lambda n: named(n, 0), 16000, "subset 0-{last} -"), ("names of the font", records, 2500, "subset 0 -"),
     ("groups of cmap", groups, 40000, "glyphs 0-{size} -"), ("segments of cmap", segments, 8000, "glyphs 1-{size} -"),

@@ -2,7 +2,7 @@ use Rattle.std.proofs.Common.{◌≡◌, ◌++◌, drop, length}
 use Rattle.std.specs.Option.{option_map}
 use Rattle.pdf_glyphs.specs.HeightVariation.{variation_view}
 use Rattle.pdf_glyphs.specs.Vertical.{columns_at, vertical_view}
-use Rattle.pdf_glyphs.proofs.columns.columns_by.Given as goal
+use Rattle.pdf_glyphs.proofs.columns.each_column.Given as goal
 
 abbrev pub invariant-loop-index : goal.invariant-loop-index
 invariant-loop-index l = record {
