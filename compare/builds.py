@@ -1,25 +1,23 @@
 #!/usr/bin/python3
-"""Compares two builds of the same sources: the generated crate, with overflow checks, and the C library (proved, or LIBRARY).
+"""Compares two builds of the same sources: the C library over the generated crate, with overflow checks, and LIBRARY (the proved one).
 
-    compare/builds.py [--short] [--faces N] [--copies N] [--jobs J]
+    compare/builds.py [FOLDER ..] [--short] [--faces N] [--copies N] [--seed S] [--jobs J]
 
     faces    N faces of the machine's fonts, spread over all, with lists of 0 to 2,000 glyphs, options, CIDs and widths, coordinates, and
-             faces that aren't there: the same bytes or the same error, and no panic. Of one list also what no proof says: all glyphs
-             of a subset give it back, and each option leaves out what it names and keeps every other table
-    memory   of some of these faces and of fonts of all kinds (lib/kinds.py) each request for memory is refused in turn: the crate answers
-             `OutOfMemory`, or as without
-    damage   N damaged copies of fonts of all kinds and of those under 900 KB, each by one call, and of a variable one by one at
+             faces that aren't there: the same answer, and no panic. Of one list also what no proof says: all glyphs of a subset give it
+             back, and each option leaves out what it names and keeps every other table
+    damage   N damaged copies of fonts of all kinds (lib/kinds.py, lib/damaged.py), each by one call, and of a variable one by one at
              coordinates
-
     wasm     80 glyphs of each of the faces by the WebAssembly module bindings/js/out/subsetter.wasm (`make -C bindings/js`), or WASM;
              not in the short form
 
-Other processors have the rows and numbers of tests/platforms. The library is bindings/c/out/libsubsetter.so, which `make -C bindings/c` proves and builds, or the file LIBRARY. The status is 1 where an
-answer differs, or nothing was compared.
+Other processors have the rows and numbers of tests/platforms. The library is bindings/c/out/libsubsetter.so, which `make -C bindings/c` proves and
+builds, or the file LIBRARY. The status is 1 where an answer differs, or nothing was compared.
 """
+import functools
 import hashlib
-import json
 import os
+import random
 import subprocess
 import sys
 import tempfile
@@ -27,60 +25,100 @@ import tempfile
 sys.path.insert(0, os.path.join(os.path.dirname(os.path.realpath(__file__)), "lib"))
 
 import build
+import damaged
 import fonts
 import kinds
 import report as reports
 
-# How many of the machine's faces have their requests refused, and of how large a file at most.
-REFUSED_FACES, REFUSED_SIZE = 60, 400_000
+# The options of a call; none of the first.
+OPTIONS = [{}, {"tokens": 200_000, "depth": 20, "hinting": False, "names": False, "glyph_names": False, "most_bytes": 8_000_000}, {"hinting": False}, {"names": False},
+           {"glyph_names": False}, {"tokens": 300, "depth": 3}, {"tokens": 100_000, "depth": 64, "most_bytes": 20_000}]
+# The tables that an option leaves out, and those that it may change.
+GONE = {2: {"cvt ", "fpgm", "prep"}, 3: {"name"}, 4: set()}
+CHANGED = {2: {"glyf", "loca", "maxp", "head"}, 3: {"head"}, 4: {"post", "head"}}
+PIECE = 100
 
 
-def spread(items, count):
-    """So many items, spread over all."""
-    return items if len(items) <= count else [items[k * len(items) // count] for k in range(count)]
+@functools.cache
+def builds(*paths):
+    return [build.Calls(path) for path in paths]
 
 
-def known_faces():
-    """The faces of fonts of all kinds."""
-    found = []
-    for _, path in kinds.all_fonts():
-        head = kinds.content(path)[:12]
-        found += [(path, index) for index in range(head[11] if head[:4] == b"ttcf" else 1)]
-    return found
+def compare(report, paths, label, call, data, glyphs, index, **more):
+    """An answer of both builds."""
+    one, other = [it.answer(call, data, glyphs, index, **more) for it in builds(*paths)]
+    canary = builds(*paths)[0].canary
+    if canary.is_due and isinstance(one, bytes):
+        one = canary.changed(one)
+    report.counts.update(calls=1, fonts=int(not isinstance(one, str)))
+    if one != other or one == "RuntimeError":
+        report.say(label, f"{call} of {len(glyphs)} glyphs, {more}: " + " and ".join(it if isinstance(it, str) else f"{len(bytes(it[0]) if isinstance(it, tuple) else it)} bytes" for it in (one, other)))
+    return one
 
 
-def listed(faces, path):
-    """A file of faces for the harness."""
-    with open(path, "w", encoding="utf-8") as file:
-        file.writelines(f"{name}\t{index}\n" for name, index in faces)
-    return path
+def places(data, index):
+    """Coordinates of a face: half way to each axis's end, at the ends, past them, at the default, and one axis alone beside an unknown one."""
+    axes = fonts.axes(data, index)
+    found = [{tag: value(low, usual, most) / 65536 for tag, low, usual, most in axes} for value in (
+        lambda low, usual, most: (usual + most) / 2, lambda low, usual, most: most, lambda low, usual, most: most + 3 * (most - usual), lambda low, usual, most: usual)]
+    return [*found, {"zzzz": 3.0, axes[0][0]: (axes[0][1] + 3 * axes[0][2]) / 262144}] if axes else []
 
 
-def run(program, jobs, report, *words):
-    """Counts what the harness counts, and says each answer that differs."""
-    ran = subprocess.run([program, *map(str, words)], env=dict(os.environ, JOBS=str(jobs)), stdout=subprocess.PIPE, text=True)
-    *lines, last = ran.stdout.splitlines() or [""]
-    for line in lines:
-        if line.startswith("different: "):
-            report.say(words[0], line.removeprefix("different: "))
-    if ran.returncode or not last.startswith("{"):
-        report.say(words[0], f"ended with {ran.returncode}: {last[-300:]}")
-        return
-    counts = json.loads(last)
-    report.counts.update({words[0]: counts["calls"], "refused": counts["refused"], "fonts": counts["answers"].get("a font", 0)})
+def tables(font):
+    return {tag: font[at:at + size] for tag, (at, size) in fonts.directory(font).items()}
 
 
-def by_wasm(faces, library, report, room):
-    """Compares the WebAssembly module's answers with the library's, which ctypes calls."""
+def compare_laws(report, label, call, data, glyphs, index, font):
+    """What no proof says of a font, or of options."""
+    again = call.answer("subset", font, list(range(fonts.count_in(font, 0))))
+    wanted = font if "glyf" in fonts.directory(font) or isinstance(again, str) else call.answer("subset", again, list(range(fonts.count_in(again, 0))))
+    if again != wanted:
+        report.say(label, "all glyphs of a subset don't give it back")
+    for choice, gone in GONE.items():
+        made = call.answer("subset", data, glyphs, index, **OPTIONS[choice])
+        if not isinstance(made, str):
+            kept, passed = ({tag: table for tag, table in tables(it).items() if tag not in gone | CHANGED[choice]} for it in (made, font))
+            if kept != passed or gone & set(tables(made)):
+                report.say(label, f"other tables with {OPTIONS[choice]}")
+
+
+def compare_face(paths, path, index):
+    report, data = reports.Report(fonts.label(path, index)), fonts.content(path)
+    count, at = fonts.count_in(data, index), places(data, index)
+    lists = [[], [k * count // 4 for k in (1, 2, 3)], [k * count // 81 for k in range(1, 81)], list(range(min(count, 2000)))[::-1], [max(count, 1) - 1, count, 65535]]
+    for k, glyphs in enumerate(lists):
+        font = compare(report, paths, "as it is", "subset", data, glyphs, index)
+        for call, choice in (("embed", 1), ("embed", 0), (("embed", "subset")[k % 2], 2 + k % 5)):
+            compare(report, paths, "options", call, data, glyphs, index, **OPTIONS[choice])
+        for n, place in enumerate(at):
+            if k < 3 or n == k % 5:
+                compare(report, paths, "at coordinates", ("subset", "embed")[(n + k) % 2], data, glyphs, index, coordinates=place, **OPTIONS[(n + k) % len(OPTIONS)])
+        if k == 1:
+            for more in (1, 1000, 0x0FFFFFFF, 0x3FFFFFFD, 0x40000000, 0xFFFFFFFF):
+                compare(report, paths, f"face {more} further", ("embed", "subset")[more % 2], data, glyphs, (index + more) % 2 ** 32)
+            if isinstance(font, bytes):
+                compare_laws(report, "laws", builds(*paths)[1], data, glyphs, index, font)
+    return report
+
+
+def compare_piece(paths, found, numbers, seed):
+    """Some damaged copies."""
+    report, rng, make = reports.Report("damaged copies"), random.Random(f"{seed} {numbers[0]}"), damaged.by_kinds(found)
+    for number in numbers:
+        _, path, source, index, glyphs, what, data = make(rng, number)
+        glyphs = list(map(int, glyphs.split(",")))
+        label, at = f"{os.path.basename(path)} {index}, copy {number}: {what}", places(source, index if index < fonts.face_count(source) else 0)
+        report.counts["copies"] += 1
+        for place in [None, *rng.sample(at, min(len(at), 1))]:
+            compare(report, paths, label, rng.choice(("subset", "embed")), data, glyphs, index, coordinates=place, **rng.choice(OPTIONS))
+    return report
+
+
+def by_wasm(faces, report, room):
+    """Compares the WebAssembly module's answers with the library's."""
     module = os.environ.get("WASM", os.path.join(build.ROOT, "bindings", "js", "out", "subsetter.wasm"))
-    calls, lists = build.Library(library), []
-    for path, index in faces:
-        try:
-            count = fonts.glyph_count(path, index)
-        except LookupError:
-            continue
-        lists.append((path, index, sorted({count * k // 80 for k in range(80)})))
-    name = os.path.join(room, "wasm")
+    calls, name = build.Calls(), os.path.join(room, "wasm")
+    lists = [(path, index, sorted({count * k // 80 for k in range(80)})) for path, index in faces for count in [fonts.glyph_count(path, index)]]
     with open(name, "w", encoding="utf-8") as file:
         file.writelines(f"{path}\t{index}\t{','.join(map(str, glyphs))}\n" for path, index, glyphs in lists)
     ran = subprocess.run(["node", os.path.join(build.DRIVERS, "wasm.mjs"), module, name], stdout=subprocess.PIPE, text=True)
@@ -88,8 +126,7 @@ def by_wasm(faces, library, report, room):
     if ran.returncode or len(said) != len(lists):
         report.say("wasm", f"ended with {ran.returncode}, {len(said)} answers of {len(lists)}")
     for (path, index, glyphs), answer in zip(lists, said):
-        with open(path, "rb") as file:
-            font = calls.subset(file.read(), glyphs, index=index)
+        font = calls.subset(fonts.content(path), glyphs, index=index)
         wanted = font if isinstance(font, str) else f"{len(font)} {hashlib.sha256(font).hexdigest()}"
         report.counts["wasm"] += 1
         if answer != wanted:
@@ -98,27 +135,20 @@ def by_wasm(faces, library, report, room):
 
 def main():
     words = reports.words(__doc__, faces=(1000, 60), copies=(100000, 6000))
-    if "LIBRARY" not in os.environ:
-        os.environ["LIBRARY"] = build.PROVED
-    library, program, report = build.library(), build.harness("checked"), reports.Report("builds")
+    os.environ.setdefault("LIBRARY", build.PROVED)
+    paths, report = (build.checked_library(), build.library()), reports.Report("builds")
     fonts.install(kinds.PACKAGES)
-    known, there = known_faces(), fonts.faces()
-    with tempfile.TemporaryDirectory(prefix="builds-") as room:
-        run(program, words.jobs, report, "faces", listed(spread(there, words.faces), os.path.join(room, "faces")), library)
-        if words.copies:
-            few = known[::4] if words.short else known
-            small = few + spread([it for it in there if os.path.getsize(it[0]) < REFUSED_SIZE], 5 if words.short else REFUSED_FACES)
-            run(program, words.jobs, report, "memory", listed(small, os.path.join(room, "small")))
-            # (half of the copies are of the one, half of the others)
-            path = listed(known * max(1, len(there) // len(known)) + there, os.path.join(room, "all"))
-            run(program, words.jobs, report, "damage", path, 0, words.copies, library)
-        if not words.short:
-            by_wasm(spread(there, words.faces), library, report, room)
-    counts = report.counts
-    if words.copies and not counts["refused"]:
-        report.say("memory", "no request was refused")
-    reports.end([report], counts["faces"] + counts["memory"] + counts["damage"] + counts["wasm"],
-                f"{counts['faces']} calls of faces, {counts['damage']} of damaged copies, {counts['fonts']} fonts; {counts['refused']} requests for memory refused, {counts['wasm']} faces by WebAssembly")
+    faces = fonts.part_of([it for it in fonts.faces() if words.only in it[0]], words.faces)
+    found = reports.beside(words, compare_face, [(paths, *it) for it in faces], 0.6)
+    known = [it for it in kinds.all_fonts(words.folders) if words.only in it[1]]
+    pieces = [(paths, known, range(first, min(first + PIECE, words.copies)), words.seed) for first in range(0, words.copies, PIECE)]
+    found += reports.beside(words, compare_piece, pieces, 0.8)
+    if not words.short:
+        with tempfile.TemporaryDirectory(prefix="builds-") as room:
+            by_wasm(faces, report, room)
+    counts = reports.total([*found, report])
+    reports.end([*found, report], counts["calls"] + counts["wasm"],
+                f"{counts['calls']} calls of {len(faces)} faces and {counts['copies']} damaged copies, {counts['fonts']} fonts; {counts['wasm']} faces by WebAssembly")
 
 
 if __name__ == "__main__":

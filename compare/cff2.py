@@ -14,21 +14,15 @@ default and at N places, for N glyphs (0: all; of more than 5,000 glyphs 300), i
     advance       hmtx has HarfBuzz's advance, and what a second reading of HVAR comes to; the bearing is the source's
     width         the charstring's width, as fontTools reads it by the private dict, is that of hmtx
     private dict  the glyph's has the operators that CFF and CFF2 share, each edge and number at the location rounded once
-    FreeType      its hinted outline at 16 pixels an em is within a pixel of the source's there. Where half a unit of rounding decides
-                  where FreeType puts a stem, one of a thousand glyphs may be up to 1.1 pixels off, and one of a hundred of the fonts of
-                  lib/cff2_fonts.py, whose stems are random, more. It has to be hinted as the same glyph of a static font
-                  that lib/cff2_static.py makes of the source's exact numbers by fontTools, in each point, and without hints within 3
-                  64ths of a pixel of the source's
-    fontTools     its mutator, which rounds each operand, draws it within 16 units (not where a private dict has `vsindex`, which that
-                  doesn't read, nor of more than 5,000 glyphs)
+    FreeType      its hinted outline at 16 pixels an em is within a pixel of the source's there, but for one of a thousand glyphs, and one of a
+                  hundred of the fonts of lib/cff2_fonts.py, whose stems are random: half a unit of rounding decides where FreeType
+                  puts some stems
     file          OTTO; the tables CFF, head, hhea, hmtx, maxp, name and post (those two where the source has them) and no others, with
-                  their checksums, one after the other; CID-keyed Adobe Identity with the source's scale, head's box, no subroutines and
+                  their checksums; CID-keyed Adobe Identity with the source's scale, head's box, no subroutines and
                   no unused font dict; head is the source's, and hhea and post are what MVAR makes of theirs
 
 N copies of the fonts of at most 1 MB are damaged in CFF2, fvar, avar or HVAR, each at a random place and for 12 glyphs: the program has to answer what
-HarfBuzz draws of the copy (or, where that goes on otherwise, what fontTools reads; or, where one of them reads nothing, what lib/cff2_dicts.py
-reads, by which a dict ends before the first byte that can't be read, and a font dict without a private dict has an empty one; or else a font
-that FreeType opens as little as the copy), or to refuse it with status 1 and one of its messages, within a second of a processor.
+HarfBuzz draws of the copy (or, where that goes on otherwise, what fontTools reads; or, where one of them reads nothing, what lib/cff2_dicts.py reads; or else a font that FreeType opens as little as the copy), or to refuse it with status 1 and one of its messages, within a second of a processor.
 
 A glyph that is refused is a difference, but where a charstring has no number for the advance that the second reading of HVAR
 comes to (above 32,767: an overflow). The status is 1 where something differs, or nothing was compared.
@@ -43,8 +37,8 @@ import build
 import cff2_damaged
 import cff2_fonts
 import cff2_whole
-import font_at
 import fonts
+import harfbuzz
 import report as reports
 
 # Larger fonts aren't damaged.
@@ -58,19 +52,19 @@ def one_face(words, path, index):
 
 def main():
     words = reports.words(__doc__, places=(20, 2), glyphs=(0, 60), copies=(100000, 600))
-    fonts.install(font_at.PACKAGES)
+    fonts.install(harfbuzz.PACKAGES)
     words.program = build.program()
     faces = cff2_fonts.faces(words.folders, words.only, with_large=not words.short)
-    found = reports.beside(words.jobs, one_face, *zip(*[(words, *it) for it in faces]))
+    found = reports.beside(words, one_face, [(words, *it) for it in faces], 0.5)
     small = cff2_fonts.faces(words.folders, words.only, DAMAGED_AT_MOST)
     pieces = [(words, *face, number) for number in range(-(-words.copies // (cff2_damaged.PIECE * len(small)))) for face in small]
-    found += reports.beside(words.jobs, cff2_damaged.piece, *zip(*pieces)) if pieces else []
+    found += reports.beside(words, cff2_damaged.piece, pieces)
     counts = reports.total(found)
-    kinds = min(counts[kind] for kind in cff2_whole.KINDS if kind != "fontTools")
+    kinds = min(counts[kind] for kind in cff2_whole.KINDS)
     reports.end(found, kinds and counts["drawing"] + counts["copies"],
                 f"{len(faces)} faces, {counts['file']} new fonts, {counts['drawing']} glyphs, of which FreeType hints {counts['hinted otherwise']} otherwise, {counts['too wide']} refused for an advance past 32767; "
                 f"{counts['copies']} damaged copies, {counts['refused']} refused, drawn as by HarfBuzz {counts['drawn as by HarfBuzz']} glyphs, by fontTools {counts['drawn as by fontTools']}, "
-                f"by {cff2_damaged.THIRD} {counts['drawn as by ' + cff2_damaged.THIRD]}")
+                f"by {cff2_damaged.THIRD} {counts['drawn as by ' + cff2_damaged.THIRD]}, opened by nobody {counts['opened by nobody']}")
 
 
 if __name__ == "__main__":

@@ -3,7 +3,7 @@
 
     compare/hostile.py [--short] [--only WORD]
 
-Each family is made at half its size, at its size and at twice that: what takes a call of the crate, or a run of the program (as Cargo builds it, or
+Each family is made at half its size, at its size and at twice that: what takes a call, or a run of the program (as Cargo builds it, or
 SUBSET_FONT), of a processor, and what does it hold at most? A family fails where from half to twice the size the time, or the bytes held, for each byte
 of input and answer grow by more than GROWTH, where it takes more than SECONDS and 20 microseconds for each byte, or holds more than HELD and 64 bytes
 for each byte, and where it doesn't end. The families of BOUND run as many tokens or steps as the limits let them; these have to end. --short halves the
@@ -17,7 +17,7 @@ import tempfile
 
 sys.path.insert(0, os.path.join(os.path.dirname(os.path.realpath(__file__)), "lib"))
 
-import build, made, made2
+import build, made
 import report as reports
 from made import number, u16s, u32s
 
@@ -57,19 +57,15 @@ def varied(axes, count, **tables):
     return static(count, **{"fvar": fvar(axes), "gvar": gvar, **tables})
 
 
-def advances(axes, regions):
-    held = store(axes, regions)
-    return u16s(1, 0) + u32s(20, 20 + len(held), 0, 0) + held + u16s(0, 1) + b"\0"
-
-
 def hvar(axes, regions, count=200):
-    return varied(axes, count, HVAR=advances(axes, regions))
-
-
-def vvar(axes, regions, count=200):
     held = store(axes, regions)
+    return varied(axes, count, HVAR=u16s(1, 0) + u32s(20, 20 + len(held), 0, 0) + held + u16s(0, 1) + b"\0")
+
+
+def vvar(size):
+    held = store(size, 6 * size)
     table = u16s(1, 0) + u32s(24, 24 + len(held), 0, 0, 24 + len(held)) + held + u16s(0, 1) + b"\0"
-    return varied(axes, count, VVAR=table, vhea=u32s(0x10000) + bytes(30) + u16s(1), vmtx=u16s(1000, 0) + bytes(2 * count - 2))
+    return varied(size, 200, VVAR=table, vhea=u32s(0x10000) + bytes(30) + u16s(1), vmtx=u16s(1000, 0) + bytes(398))
 
 
 def mvar(size):
@@ -83,26 +79,21 @@ def tuples(size):
     return varied(size, count, gvar=gvar + shared + data)
 
 
-def font2(count, table, axes=1, **tables):
-    """A font with a table `CFF2` and axes."""
-    return static(count, fvar=fvar(axes), CFF2=table, glyf=None, loca=None, **tables).replace(b"\0\1\0\0", b"OTTO", 1)
-
-
-def hvar2(axes, regions, count=20):
-    """`HVAR` of a font with `CFF2`."""
-    return font2(count, made2.cff2([b""] * count), axes, HVAR=advances(axes, regions))
+def font2(count, table):
+    """A font with a table `CFF2` and an axis."""
+    return static(count, fvar=fvar(1), CFF2=table, glyf=None, loca=None).replace(b"\0\1\0\0", b"OTTO", 1)
 
 
 def blends(size):
     """So many regions, and so many blends after a `vsindex`."""
-    glyph = number(1) + made2.VSINDEX + (made2.called(0, 1, made2.GLOBAL_CALL) * (size // 100))
-    held = made2.store([[(0, 0, 0)]], [[0], [0] * size])
-    return font2(3, made2.cff2([b"", glyph, b""], subroutines=[(number(0) + made2.BLEND) * 100], variation=held))
+    glyph = number(1) + made.VSINDEX + (made.called(0, 1, made.GLOBAL_CALL) * (size // 100))
+    held = made.store([[(0, 0, 0)]], [[0], [0] * size])
+    return font2(3, made.cff2([b"", glyph, b""], subroutines=[(number(0) + made.BLEND) * 100], variation=held))
 
 
 def private_blends(size):
-    entries = number(1) + made2.PRIVATE_VSINDEX + (number(0) + made2.PRIVATE_BLEND) * size
-    return font2(1, made2.cff2([b""], [(entries, ())], variation=made2.store([[(0, 0, 0)]], [[0], [0] * size])))
+    entries = number(1) + made.PRIVATE_VSINDEX + (number(0) + made.PRIVATE_BLEND) * size
+    return font2(1, made.cff2([b""], [(entries, ())], variation=made.store([[(0, 0, 0)]], [[0], [0] * size])))
 
 
 def keyed(count, dicts=(b"",), times=1, select=None, charstring=b"\x0e"):
@@ -164,16 +155,15 @@ def lines(size, kind):
     return "".join(json.dumps({"in": f"/no/{k if kind == 'in' else 0}", "out": f"{k}", "gids": 1}) + "\n" for k in range(size)).encode()
 
 
-# ---- the families: name, maker, size, and the call of the crate (with its glyphs) or the words of the program
+# ---- the families: name, maker, size, and the call (with its glyphs) or the words of the program
 
 AT = "wght=650"
 CALLS = [
     ("font dicts with one private dict", lambda n: keyed(3, [b"\x8b\x0b" * 5 * n], n), 800, "subset 0-1 -"),
     ("the same for a PDF", lambda n: keyed(3, [b"\x8b\x0b" * 5 * n], n), 300, "pdf 0-1 -"),
-    ("blends of many regions", blends, 8000, f"at 1 {AT}"), ("blends of a private dict", private_blends, 8000, f"at 0 {AT}"),
-    ("HVAR, axes", lambda n: hvar(n, 6 * n), 5000, f"at 0-19 {AT}"), ("HVAR, glyphs", lambda n: hvar(1, n, n), 16000, f"at 0-{{last}} {AT}"),
-    ("HVAR of CFF2, axes", lambda n: hvar2(n, 6 * n), 5000, f"at 0-19 {AT}"), ("HVAR of CFF2, glyphs", lambda n: hvar2(1, n, n), 16000, f"at 0-{{last}} {AT}"),
-    ("VVAR, axes", lambda n: vvar(n, 6 * n), 2000, f"columns 1-9 {AT}"), ("VVAR, glyphs", lambda n: vvar(1, n, n), 16000, f"columns 1-{{last}} {AT}"), ("MVAR", mvar, 2000, f"pdf 1-2 {AT}"), ("gvar, tuples and axes", tuples, 2000, f"at 0 {AT}"),
+    ("blends of many regions", blends, 8000, f"subset 1 {AT}"), ("blends of a private dict", private_blends, 8000, f"subset 0 {AT}"),
+    ("HVAR, axes", lambda n: hvar(n, 6 * n), 5000, f"subset 0-19 {AT}"), ("HVAR, glyphs", lambda n: hvar(1, n, n), 16000, f"subset 0-{{last}} {AT}"),
+    ("VVAR", vvar, 2000, f"columns 1-9 {AT}"), ("MVAR", mvar, 2000, f"pdf 1-2 {AT}"), ("gvar, tuples and axes", tuples, 2000, f"subset 0 {AT}"),
     ("FDSelect out of order", select3, 16000, "subset 0-{last} -"), ("names of glyphs", named, 16000, "subset 0-{last} -"),
     ("one name of all glyphs", lambda n: named(n, 0), 16000, "subset 0-{last} -"), ("names of the font", records, 2500, "subset 0 -"),
     ("groups of cmap", groups, 40000, "glyphs 0-{size} -"), ("segments of cmap", segments, 8000, "glyphs 1-{size} -"),
@@ -192,12 +182,11 @@ RUNS = [
 ]
 
 
-def by_crate(harness, path, call, size):
-    """The seconds of a call, the bytes that it answers, those that it holds, and its status."""
+def by_library(library, path, call, size):
+    """The seconds of a call, the bytes that it answers, those that it holds, and the name of its error."""
     call, glyphs, at = call.format(last=size - 1, size=size).split()
-    ran = subprocess.run([harness, "cost", call, path, glyphs, at, LIMITS], stdout=subprocess.PIPE, text=True, check=True, timeout=ENDLESS)
-    took, answered, held, status = map(int, ran.stdout.split())
-    return took / 1e9, answered + (4 * size if call == "glyphs" else 0), held, status
+    took, answered, held, error = reports.cost(library, call, path, 0, glyphs, at, LIMITS, 0, timeout=ENDLESS)
+    return took / 1e9, answered, held, error
 
 
 def by_program(program, path, call, size):
@@ -232,7 +221,7 @@ def measure(report, runner, name, make, usual, call):
         took *= 60 if build.CANARY and size > usual else 1
         work = length + answered
         rows.append((took / work, held / work))
-        cells.append(f"{work:,} bytes: {1000 * took:.0f} ms, {held / 2 ** 20:.0f} MB" + f", status {status}" * (status > 0))
+        cells.append(f"{work:,} bytes: {1000 * took:.0f} ms, {held / 2 ** 20:.0f} MB" + f", {status}" * (status not in (0, "-")))
         if name not in BOUND and (took > SECONDS + work * 20e-6 or held > HELD + 64 * work):
             report.say(name, f"size {size}, {cells[-1]}")
     report.counts["families"] += 1
@@ -244,8 +233,9 @@ def measure(report, runner, name, make, usual, call):
 
 def main():
     words = reports.words(__doc__)
-    harness, program, report = build.harness(), build.program(), reports.Report("hostile")
-    for families, runner, by in ((CALLS, by_crate, harness), (RUNS, by_program, program)):
+    build.preload("refuse.c", to="refuse.so")
+    library, program, report = build.library(), build.program(), reports.Report("hostile")
+    for families, runner, by in ((CALLS, by_library, library), (RUNS, by_program, program)):
         for name, make, size, call in families:
             if words.only in name:
                 measure(report, lambda *it: runner(by, *it), name, make, size // (2 if words.short else 1), call)

@@ -4,8 +4,8 @@
     ORIGINAL=FOLDER compare/original.py [FOLDER ..] [--short] [--faces N] [--copies N] [--seed S] [--jobs J]
 
 ORIGINAL is the folder of the Rust crate as published (README.md says how to get it). Each of N faces of the machine's fonts, spread over all, is subset
-to four lists of glyphs by both. Then N damaged copies of fonts that differ in kind (lib/kinds.py, with the variable fonts of each FOLDER), whose damage
-keeps them plausible (lib/plausible.py), are given to both. Where the answers differ one of the differences of docs/DIFFERENCES.md has to be in the
+to four lists of glyphs by both. Then N damaged copies of fonts that differ in kind (lib/kinds.py, with the variable fonts of each FOLDER), mostly so that they stay
+plausible (lib/damage.py), are given to both. Where the answers differ one of the differences of docs/DIFFERENCES.md has to be in the
 font, or in the copy and not in its source: lib/explain.py looks at the bytes alone, and mends what it can; then both must answer alike, or
 another difference must be left. The status is 1 where a difference isn't explained, and where the Rust crate is missing.
 """
@@ -20,34 +20,17 @@ import build
 import explain
 import fonts
 import kinds
-import original_crate
 import report as reports
 from damaged import ROOM, answers_of, by_kinds, judged, kind_of, names_of
 
 SIZES, PIECE = (0, 3, 40, 400), 100
 
 
-def built():
-    """The drivers of both crates, which read the same lists."""
-    original_crate.lay_out()
-    return {name: os.path.join(build.cargo(f"compare/{folder}", "--release"), "release", f"{folder}_bench")
-            for name, folder in (("original", "original"), ("crate", "generated"))}
-
-
-def glyph_count(data, index):
-    """How many glyphs `maxp` of a face says; 1 where there is none."""
-    try:
-        return fonts.u16(data, fonts.directory(data, index)["maxp"][0] + 4)
-    except LookupError:
-        return 1
-
-
 def compare_face(drivers, path, index):
     """The lists of glyphs of a face."""
     report, rng = reports.Report(fonts.label(path, index)), random.Random(f"{os.path.basename(path)} {index}")
-    with open(path, "rb") as file:
-        data = file.read()
-    count = glyph_count(data, index)
+    data = fonts.content(path)
+    count = fonts.count_in(data, index)
     lists = [sorted(rng.sample(range(count), min(size, count))) or [0] for size in SIZES]
     with tempfile.TemporaryDirectory(prefix="compare-", dir=ROOM) as room:
         said = answers_of(drivers, [f"{path} {index} {','.join(map(str, glyphs))} 1" for glyphs in lists], room)
@@ -68,14 +51,14 @@ def compare_piece(drivers, found, numbers, seed):
 
 def main():
     words = reports.words(__doc__, faces=(1000, 60), copies=(1000000, 5000))
-    drivers = built()
+    # (both read the same lists)
+    drivers = {name: build.driver(folder) for name, folder in (("original", "original"), ("crate", "generated"))}
     fonts.install(kinds.PACKAGES)
-    there = fonts.faces()
-    faces = there if len(there) <= words.faces else [there[k * len(there) // words.faces] for k in range(words.faces)]
-    found = reports.beside(words.jobs, compare_face, *zip(*[(drivers, *it) for it in faces]))
+    faces = fonts.part_of(fonts.faces(), words.faces)
+    found = reports.beside(words, compare_face, [(drivers, *it) for it in faces], 0.3)
     known = [it for it in kinds.all_fonts(words.folders) if words.only in it[1]]
     pieces = [(drivers, known, range(first, min(first + PIECE, words.copies)), words.seed) for first in range(0, words.copies, PIECE)]
-    found += reports.beside(words.jobs, compare_piece, *zip(*pieces)) if pieces else []
+    found += reports.beside(words, compare_piece, pieces)
     counts = reports.total(found)
     reports.end(found, counts["answers"] + counts["copies"], f"{counts['answers']} answers of {len(faces)} faces, {counts['copies']} damaged copies, {counts['refused']} refused alike, {counts['explained']} different as explained")
 

@@ -1,5 +1,5 @@
 #!/usr/bin/python3
-"""Compares what the crate's `pdf_font` says of random fonts with rules that are written a second time, and shows it to PDF readers.
+"""Compares what the Python module's `pdf_font` says of random fonts with rules that are written a second time, and shows it to PDF readers.
 
     compare/pdf_font.py [--short] [--faces N] [--copies N] [--seed S] [--jobs J]
 
@@ -7,7 +7,7 @@ Of N faces of the machine (Debian's fonts, and a tenth more of variable ones at 
 takes up to 40 characters, ligatures, and texts of several characters, with random options. A copy has a table `OS/2`, `post`, `name`,
 `vhea`, `vmtx`, `VORG` or `VVAR` that is missing, cut, changed or another font's, or other numbers in `head` or `hhea`. Of each font
 
-- codes, widths, columns, descriptor, permission, ToUnicode, CMap and CIDSet, both as the crate says them and as qpdf reads them in the
+- codes, widths, columns, descriptor, permission, ToUnicode, CMap and CIDSet, both as the module says them and as qpdf reads them in the
   file that `sheet` writes, are those of lib/pdf_rules.py; the dictionaries have these entries and no others;
 - an error is that of `embed`, or comes as lib/pdf_rules.py says that the font isn't permitted;
 
@@ -17,29 +17,30 @@ and of one in 6, in turn:
 - Poppler reads the text of the grid; MuPDF does where each glyph has one text, which its code says (several characters beyond U+FFFF
   it doesn't read);
 - PDFBox's preflight finds the page of `objects` valid as PDF/A-1b (not with an OpenType program, which PDF/A-1 forbids);
-- MuPDF draws the line, and Poppler the grid, as with the whole font (off a variable font's default fontTools' instance of it), each glyph
-  at the point that the source's own advance gives it: ink lies within two pixels, at 100 an inch, of ink.
+- MuPDF draws the line, and Poppler the grid, as with the whole font, each glyph at the point that the source's own advance gives it: ink lies
+  within two pixels, at 100 an inch, of ink (not off a variable font's default, where readers.py draws it).
 
-It needs Cargo. The status is 1 where something differs, or too little was compared.
+The library is as Cargo builds it, or LIBRARY. The status is 1 where something differs, or too little was compared.
 """
 import collections
+import functools
 import os
 import random
 import struct
 import sys
 import tempfile
+import time
 from concurrent.futures import ThreadPoolExecutor
 
 sys.path.insert(0, os.path.join(os.path.dirname(os.path.realpath(__file__)), "lib"))
 
 import build
 import fonts
-import pdf_harness
 import pdf_readers as readers
 import pdf_rules as rules
 import report as reports
 from pdf_cases import LOOSE, Case, damaged
-from pdf_faults import Font, archival_page, faults_of_calls, faults_of_file, faults_of_ink, faults_of_text, faults_of_values, outcome
+from pdf_faults import Font, archival_page, faults_of_file, faults_of_ink, faults_of_text, faults_of_values, outcome
 
 FONTS = [it[0] for it in fonts.TRUETYPE_FONTS + fonts.CFF_FONTS] + ["fonts-inter-variable"]
 OF_THE_CRATE = [os.path.join(build.ROOT, "bindings", "rust", "tests", "data", it) for it in ("made.ttf", "made.otf", "made_variable.ttf")]
@@ -47,27 +48,37 @@ OF_THE_CRATE = [os.path.join(build.ROOT, "bindings", "rust", "tests", "data", it
 PIECE, SEEN = 120, 6
 
 
+CANARY = build.Canary()
+
+
+@functools.cache
+def calls():
+    return build.Calls()
+
+
 # ---- a case
 
 def judged(case, pages):
     """What differs, and what was compared (as a Counter). The page for preflight goes to `pages`."""
-    done, values = collections.Counter(), pdf_harness.values(case.folder)
-    wants, came = outcome(case, values)
+    done, made = collections.Counter(), case.make(calls())
+    wants, came = outcome(case, made)
     if wants or came:
         done["refused"] += 1
         return ([] if wants == came else [f"the error is {came}, not {wants}"]), done
     done["fonts"] += 1
-    wrong, font = faults_of_calls(case, values), Font(case, values)
-    wrong += faults_of_values(case, values, font)
+    if CANARY.is_due:
+        CANARY.is_due, made.descriptor = False, made.descriptor._replace(flags=made.descriptor.flags ^ 4)
+    font = Font(case, made)
+    wrong = faults_of_values(case, made, font)
     done.update({f"kind {font.kind}": 1, "moved": int(case.source.is_moved), "vertical": int(case.is_vertical)})
     if not case.is_seen:
         return wrong + faults_of_file(case, font, case.file("line.pdf")), done + collections.Counter(files=1)
     path = os.path.join(pages, os.path.basename(case.folder) + ".pdf")
-    archival_page(case, values, path)
+    archival_page(case, path)
     for each in (case.file("line.pdf"), case.file("grid.pdf"), path):
         wrong += readers.faults_by_qpdf(each) or faults_of_file(case, font, each)
     found, by_mupdf = faults_of_text(case, font)
-    drawn, pictures = faults_of_ink(case, font) if case.shown else ([], 0)
+    drawn, pictures = faults_of_ink(case, font) if case.shown and not case.source.is_moved else ([], 0)
     done.update({"files": 3, "texts": 1 + by_mupdf, "pictures": pictures})
     if not case.has("CIDSet") or case.has("OpenType"):
         os.unlink(path)
@@ -81,11 +92,10 @@ def judge(case, pages):
         return [f"not compared: {error!r}"[:300]], collections.Counter()
 
 
-def compared_piece(cases, program, given, room):
+def compared_piece(cases, given, room):
     """What differs of some cases, each with the case; and what was compared."""
     pages = os.path.join(room, "pages")
     os.makedirs(pages)
-    pdf_harness.made(program, [it.line() for it in cases], room)
     total, wrong = collections.Counter(), []
     with ThreadPoolExecutor(given.jobs) as pool:
         for case, (faults, done) in zip(cases, pool.map(lambda it: judge(it, pages), cases)):
@@ -148,11 +158,14 @@ def main():
     fonts.install(FONTS + readers.PACKAGES + readers.PDFBOX)
     if not readers.has_pdfbox():
         sys.exit("pdf_font: PDFBox isn't there: apt-get install " + " ".join(readers.PDFBOX))
-    program, total, all_, wanted = build.harness(), collections.Counter(), reports.Report("pdf_font"), 0
+    total, all_, wanted = collections.Counter(), reports.Report("pdf_font"), 0
+    calls()
     with tempfile.TemporaryDirectory(prefix="pdf-font-") as room:
         for number, cases in enumerate(pieces(given, room)):
+            if time.monotonic() > given.end:
+                break
             wanted += len(cases)
-            found, done = compared_piece(cases, program, given, os.path.join(room, str(number)))
+            found, done = compared_piece(cases, given, os.path.join(room, str(number)))
             total.update(done)
             for case, it in found:
                 all_.say(case.name, f"{' '.join(case.options)}, {case.coordinates}: {it}")
@@ -161,7 +174,7 @@ def main():
             all_.say(kind, "none was compared")
     if total["fonts"] + total["refused"] != wanted:
         all_.say("fonts", f"{total['fonts'] + total['refused']} of {wanted} compared")
-    reports.end([all_], total["fonts"] + total["refused"], f"{total['kind TrueType']} TrueType, {total['moved']} of them off their default, {total['kind BareCff']} bare CFF, {total['kind OpenType']} OpenType, "
+    reports.end([all_], total["fonts"] + total["refused"], f"{total['kind TrueType']} TrueType, {total['moved']} of them off their default, {total['kind CFF']} bare CFF, {total['kind OpenType']} OpenType, "
                 f"{total['vertical']} in columns, {total['refused']} refused as they should be; {total['files']} files read by qpdf, {total['texts']} texts, {total['pictures']} pictures, {total['preflight']} pages judged by PDFBox")
 
 

@@ -11,20 +11,13 @@ CIDFontType0C (the bare table) and as OpenType (the whole file). --bare N faces 
 The first page has the glyphs on a grid. The second has a line of them: in the source each glyph stands where the
 advances of the source's `hmtx` put it; in the subset it is one string, whose glyphs `/W` alone moves on.
 
-MuPDF, Poppler and Ghostscript draw both. Of each reader
-    the pictures of the grid must be the same, pixel for pixel, and not blank. (Ghostscript lets FreeType hint outlines
-    that have no hints of their own, and that goes by letters which FreeType finds in the font by `cmap` or by the glyphs'
-    names. A subset may lack these letters. So where pictures differ, both fonts are drawn again without `cmap` and
-    `post`, and a bare TrueType source without instructions too: these pictures must be the same.)
-    the line must end at the same place: by MuPDF's trace of the glyphs as near as widths in whole thousandths are, by
-    each picture to a pixel; and
-    no warning may come for the subset that doesn't come for the source.
+MuPDF, Poppler and Ghostscript draw both: the pictures of the grid are the same, pixel for pixel (of Ghostscript, which lets FreeType hint by letters
+that it finds by names, ink lies within a pixel of ink), and not blank; the line's ink lies within a pixel of ink, and by MuPDF's trace each of its glyphs
+is as near as widths in whole thousandths are; and no warning comes for the subset that doesn't come for the source.
 
-Of variable fonts (Debian's Inter, those with CFF2 of lib/cff2_fonts.py, and those of each FOLDER) N are taken, at N places: lib/drawn_variable.py and lib/drawn_cff2.py say
-how. The program is as Cargo builds it, or SUBSET_FONT. The status is 1 where something differs, or nothing was compared.
+Of variable fonts (Debian's Inter, those with CFF2 of lib/cff2_fonts.py, and those of each FOLDER) N are taken, at N places: lib/drawn_at.py says how. The program is as Cargo builds it, or SUBSET_FONT. The status is 1 where something differs, or nothing was compared.
 """
 import functools
-import io
 import mmap
 import os
 import random
@@ -35,20 +28,17 @@ import tempfile
 sys.path.insert(0, os.path.join(os.path.dirname(os.path.realpath(__file__)), "lib"))
 
 import cff2_fonts
+import drawn_at
 import drawn_by
-import drawn_cff2
-import drawn_variable
-import font_at
 import fonts
+import harfbuzz
 import report as reports
 from cff import cids
-from drawn_by import LINE, PAGE, READERS, UNREADABLE, Refused, drawn, grid, line_by_widths, line_of, places_by_trace, subset
+from drawn_by import LINE, PAGE, UNREADABLE, Refused, grid, line_by_widths, line_of, places_by_trace, subset
 from pdf_file import Face, Pdf, embedded, pages
 from report import Report
 
 GLYPHS_A_FACE = 40
-# The tables by which a reader finds letters in a font.
-NAMES = "cmap", "post"
 
 
 def line_by_places(codes, places):
@@ -58,96 +48,33 @@ def line_by_places(codes, places):
     return "\n".join(text + ["ET"])
 
 
-def without_instructions(data):
-    """A TrueType font without its programs and its glyphs' instructions, by fontTools."""
-    from fontTools.ttLib import TTFont
-
-    font, out = TTFont(io.BytesIO(data), recalcBBoxes=False, recalcTimestamp=False), io.BytesIO()
-    for tag in ("cvt ", "fpgm", "prep"):
-        if tag in font:
-            del font[tag]
-    for name in font.getGlyphOrder():
-        font["glyf"][name].removeHinting()
-    # (by this FreeType knows that there are none)
-    font["maxp"].maxSizeOfInstructions = 0
-    font.save(out)
-    return out.getvalue()
-
-
-def write(source, copy, glyphs, numbers, widths, program, folder, bare):
-    """The files for one way to embed the font, with the glyphs' names and without; the number of glyphs in the line."""
-    nameless = source.file_without(*NAMES)
-    if bare and not source.is_cff:
-        nameless = without_instructions(nameless)
-    old = cids(source.tables["CFF "], max(glyphs) + 1) if source.is_cff else range(65536)
-    line, places = line_of(source, glyphs)
-    own = "[" + " ".join(f"{old[g]} [{source.advance(g) * 1000 / source.units:.4f}]" for g in sorted(set(glyphs))) + "]"
-    by_places = line_by_places([old[g] for g in line], places)
-    for name, face, codes, array, second in (
-            ("source", source, [old[g] for g in glyphs], own, by_places),
-            ("source-nameless", Face(nameless), [old[g] for g in glyphs], own, by_places),
-            ("subset", copy, [numbers[g] for g in glyphs], widths, line_by_widths([numbers[g] for g in line])),
-            ("subset-nameless", Face(copy.file_without(*NAMES)), [numbers[g] for g in glyphs], widths, "")):
-        pdf = Pdf()
-        font = embedded(pdf, face, program, "AAAAAA+Shown", array)
-        os.makedirs(os.path.join(folder, name), exist_ok=True)
-        with open(os.path.join(folder, name, "page.pdf"), "wb") as file:
-            file.write(pages(pdf, PAGE, [font], [grid(codes), second]))
-    return len(line)
-
-
-def end_of_ink(picture):
-    """The last column that has ink, or None."""
-    width, _, data = picture
-    rows = [data[k:k + width] for k in range(0, len(data), width)]
-    columns = [x for x in range(width) if any(row[x] < 250 for row in rows)]
-    return columns[-1] if columns else None
-
-
-def differences(folder, count):
-    """What the readers show otherwise for the subset than for the source, and which of them do so by names alone."""
-    wrong, noted = [], []
-    source, copy = os.path.join(folder, "source"), os.path.join(folder, "subset")
-    for reader in READERS:
-        (before, said), (after, answer) = drawn(reader, source), drawn(reader, copy)
-        if before is None or after is None:
-            wrong.append(f"{reader} draws nothing of the {'source' if before is None else 'subset'}")
-            continue
-        if before[0] != after[0]:
-            (one, _), (other, _) = (drawn(reader, os.path.join(folder, f"{it}-nameless")) for it in ("source", "subset"))
-            same = one is not None and other is not None and one[0] == other[0]
-            (noted if same else wrong).append(f"{reader}: {'without names' if same else 'other pixels'}")
-        if set(after[0][2]) == {255}:
-            wrong.append(f"{reader}: blank")
-        ends = end_of_ink(before[1]), end_of_ink(after[1])
-        if (ends[0] is None) != (ends[1] is None) or ends[0] is not None and abs(ends[0] - ends[1]) > 1:
-            wrong.append(f"{reader}: the line ends at column {ends[1]}, not {ends[0]}")
-        if answer - said:
-            wrong.append(f"{reader} warns of the subset alone: {min(answer - said)}")
-    # A width is off by half a thousandth at most, and the trace says places to a ten thousandth or so.
-    before, after = places_by_trace(source), places_by_trace(copy)
-    slack = count * 0.0005 * LINE + 0.01
-    if len(before) != count or len(after) != count or any(abs(a - b) > slack for a, b in zip(before, after)):
-        wrong.append("MuPDF: the line's glyphs stand elsewhere")
-    return wrong, noted
+def write(face, program, widths, contents, folder):
+    """A PDF file that embeds a font, with two pages."""
+    pdf = Pdf()
+    os.makedirs(folder)
+    with open(os.path.join(folder, "page.pdf"), "wb") as file:
+        file.write(pages(pdf, PAGE, [embedded(pdf, face, program, "AAAAAA+Shown", widths)], contents))
 
 
 def compare(font, index, glyphs, folder, bare):
-    """How a face is embedded, and what differs."""
-    out = os.path.join(folder, "subset.font")
+    """What differs, for each way to embed the font."""
+    out, wrong = os.path.join(folder, "subset.font"), []
     numbers, widths = subset(font, index, glyphs, out, bare)
-    with open(font, "rb") as file:
-        source = Face(file.read(), index)
-    with open(out, "rb") as file:
-        copy = Face(file.read())
-    wrong, noted = [], []
-    ways = ["CIDFontType0C", "OpenType"] if source.is_cff else ["TrueType"]
-    for way in ways:
-        room = os.path.join(folder, way)
-        found, known = differences(room, write(source, copy, glyphs, numbers, widths, way, room, bare))
+    source, copy = Face(fonts.content(font), index), Face(fonts.content(out))
+    old = cids(source.tables["CFF "], max(glyphs) + 1) if source.is_cff else range(65536)
+    line, places = line_of(source, glyphs)
+    own = "[" + " ".join(f"{old[g]} [{source.advance(g) * 1000 / source.units:.4f}]" for g in sorted(set(glyphs))) + "]"
+    for way in ("CIDFontType0C", "OpenType") if source.is_cff else ("TrueType",):
+        before, after = (os.path.join(folder, way, it) for it in ("source", "subset"))
+        write(source, way, own, [grid([old[g] for g in glyphs]), line_by_places([old[g] for g in line], places)], before)
+        write(copy, way, widths, [grid([numbers[g] for g in glyphs]), line_by_widths([numbers[g] for g in line])], after)
+        found = drawn_by.differences(after, before, 1 if bare else 0)
+        # A width is off by half a thousandth at most, and the trace says places to a ten thousandth or so.
+        theirs, ours, slack = places_by_trace(before), places_by_trace(after), len(line) * 0.0005 * LINE + 0.01
+        if not len(theirs) == len(ours) == len(line) or any(abs(a - b) > slack for a, b in zip(theirs, ours)):
+            found.append("MuPDF: the line's glyphs stand elsewhere")
         wrong += [f"{way}: {it}" for it in found]
-        noted += known
-    return ways, wrong, noted
+    return wrong
 
 
 @functools.lru_cache(maxsize=None)
@@ -196,12 +123,12 @@ def compare_face(bare, path, index):
     with tempfile.TemporaryDirectory(prefix="readers-") as room:
         try:
             asked = some_glyphs(path, index)
-            _, wrong, noted = compare(path, index, asked, room, bare)
+            wrong = compare(path, index, asked, room, bare)
         except Refused as it:
-            wrong, noted = [f"refused: {it}"], []
+            wrong = [f"refused: {it}"]
         except UNREADABLE as it:
-            wrong, noted = [f"not read by this script: {it!r}"], []
-    report.counts.update(faces=1, bare=int(bare), nameless=int(bool(noted)))
+            wrong = [f"not read by this script: {it!r}"]
+    report.counts.update(faces=1, bare=int(bare))
     for it in wrong:
         report.say("bare" if bare else "whole", it)
     return report
@@ -209,19 +136,18 @@ def compare_face(bare, path, index):
 
 def main():
     words = reports.words(__doc__, faces=(200, 15), bare=(60, 6), fonts=(1000, 3), places=(20, 1))
-    fonts.install([*drawn_by.PACKAGES, *font_at.PACKAGES, "fontconfig", *(it[0] for it in fonts.TRUETYPE_FONTS + fonts.CFF_FONTS)])
+    fonts.install([*drawn_by.PACKAGES, *harfbuzz.PACKAGES, "fontconfig", *(it[0] for it in fonts.TRUETYPE_FONTS + fonts.CFF_FONTS)])
     drawn_by.program()
     listed = [it[1:] for pair in zip(fonts.TRUETYPE_FONTS, fonts.CFF_FONTS) for it in pair]
     faces = [(bare, path, index) for bare, count in ((False, words.faces), (True, words.bare))
              for path, index in (listed[:count] if words.short else [it[1:] for it in chosen(count)]) if words.only in path]
-    found = reports.beside(words.jobs, compare_face, *zip(*faces)) if faces else []
-    variable = font_at.font_paths(words.folders, words.only)[:words.fonts]
-    found += reports.beside(words.jobs, drawn_variable.compare_font, [words] * len(variable), variable)
+    found = reports.beside(words, compare_face, faces, 0.5)
+    variable = [(path, 0) for path in fonts.variable(words.folders, words.only)][:words.fonts]
     cff2 = cff2_fonts.faces(words.folders, words.only)[:words.fonts]
-    found += reports.beside(words.jobs, drawn_cff2.compare_face, *zip(*[(words, *it) for it in cff2])) if cff2 else []
+    found += reports.beside(words, drawn_at.compare_font, [(words, *it) for it in variable + cff2])
     counts = reports.total(found)
-    reports.end(found, counts["faces"] + counts["places"], f"{counts['faces']} faces, {counts['bare']} of them bare ({counts['nameless']} drawn alike by one reader without the glyphs' names alone), "
-                f"and {counts['places']} places of {len(variable)} fonts with `glyf` and {len(cff2)} with CFF2, by three readers")
+    reports.end(found, counts["faces"] + counts["places"], f"{counts['faces']} faces, {counts['bare']} of them bare, and {counts['places']} places of {len(variable)} fonts with `glyf` "
+                f"and {len(cff2)} with CFF2, by three readers")
 
 
 if __name__ == "__main__":

@@ -1,5 +1,5 @@
 #!/usr/bin/python3
-"""Instances of variable fonts with outlines in `glyf`, by the C library, beside a second reading, HarfBuzz, fontTools and FreeType.
+"""Instances of variable fonts with outlines in `glyf`, by the C library, beside a second reading, HarfBuzz and fontTools.
 
     compare/variable.py [FOLDER ..] [--short] [--places N] [--glyphs N] [--copies N] [--seed S] [--only WORD] [--jobs J]
 
@@ -11,36 +11,33 @@ random and the same in each run by the seed, and N glyphs at each, and compares 
                  extremes, and `hhea` and `post` what `MVAR` varies
     HarfBuzz     what the second reading has before rounding is within 0.01 of what HarfBuzz draws at the same normalized
                  coordinates, and the advance is HarfBuzz's
-    fontTools    the points are those of fontTools' reader in floats, unfolded and rounded once by halves up; the box of `head` and the
-                 extremes of `hhea` are those that it computes, and `hhea` and `post` have what its reader of MVAR adds
-    FreeType     where a font has no HVAR, the advance is within 1 of FreeType's; a subset of the new font's glyphs is drawn by FreeType
-                 as the new font
+    fontTools    the box of `head` and the extremes of `hhea` are those that it computes, and `hhea` and `post` have what its reader of MVAR
+                 adds
 
 A glyph that the second reading refuses has to be refused by itself, and at its default a font is subset as it is. N damaged copies are changed in fvar, avar, gvar, HVAR, MVAR or glyf,
 at a random place and for 12 glyphs: each is answered as the second reading has it, or refused where that refuses it, within a second. The
 status is 1 where something differs.
 """
+import io
 import os
 import random
 import sys
-import tempfile
 import time
 
 sys.path.insert(0, os.path.join(os.path.dirname(os.path.realpath(__file__)), "lib"))
 
 import build
-import copies
-import font_at
+import damage
 import fonts
+import harfbuzz
 import reading
 import reading_font
 import report as reports
 from made import u16s as unsigned
-from others import Floats, advance_by, extremes_of, freetype_points, metrics_of
 from reading import UNIT
 from report import Report
 
-STEPS, PIECE = 1000000, 50
+STEPS, PIECE, BOUND = 1000000, 50, 0.01
 DAMAGED = ["fvar", "avar", "gvar", "HVAR", "MVAR", "glyf"]
 
 
@@ -98,61 +95,56 @@ def difference(data, drawn, lines):
     return None
 
 
-def write(path, data):
-    with open(path, "wb") as file:
-        file.write(data)
-
-
 # ---- a font
 
-def beside_freetype(report, path, font, drawn):
-    """The advances, where no HVAR says them."""
-    import freetype
-
-    if b"HVAR" in font.tables:
-        return
-    face = freetype.Face(path)
-    face.set_var_blend_coords([value / 16384 for value in font.at])
-    for glyph, (_, _, advance, _, _) in drawn.items():
-        face.load_glyph(glyph, freetype.FT_LOAD_NO_SCALE)
-        report.counts["FreeType advance"] += 1
-        theirs = max(face.glyph.metrics.horiAdvance, 0)
-        if abs(advance - theirs) > font_at.FREETYPE_BOUND:
-            report.say("FreeType advance", f"glyph {glyph} at {font.at}: {advance}, and not {theirs}")
+# Where fontTools has the metrics that MVAR varies in `hhea` and `post`.
+METRICS = {"hasc": ("hhea", "ascent"), "hdsc": ("hhea", "descent"), "hlgp": ("hhea", "lineGap"), "hcrs": ("hhea", "caretSlopeRise"), "hcrn": ("hhea", "caretSlopeRun"),
+           "hcof": ("hhea", "caretOffset"), "undo": ("post", "underlinePosition"), "unds": ("post", "underlineThickness")}
+EXTREMES = ("head", ("xMin", "yMin", "xMax", "yMax")), ("hhea", ("advanceWidthMax", "minLeftSideBearing", "minRightSideBearing", "xMaxExtent"))
 
 
-def beside_fonttools(report, font, out, source):
+def extremes_of(font):
+    return [getattr(font[tag], name) for tag, names in EXTREMES for name in names]
+
+
+def metrics_of(source, font, at):
+    """The metrics of an instance, and those of the source with what fontTools' reader of MVAR adds."""
+    from fontTools.varLib.varStore import VarStoreInstancer
+
+    mvar, deltas, axes = source["MVAR"].table if "MVAR" in source else None, {}, source["fvar"].axes
+    if mvar and mvar.VarStore:
+        store = VarStoreInstancer(mvar.VarStore, axes, {axis.axisTag: value / 16384 for axis, value in zip(axes, at)})
+        deltas = {record.ValueTag: store[record.VarIdx] for record in mvar.ValueRecord}
+    there = {name: place for name, place in METRICS.items() if place[0] in font}
+    return [[getattr(it[tag], field) + (harfbuzz.half_up(float(deltas.get(name, 0))) if it is source else 0) for name, (tag, field) in there.items()] for it in (font, source)]
+
+
+def beside_fonttools(report, at, data, source):
     """The headers of an instance."""
-    stored, computed = extremes_of(out)
-    report.counts["extremes"] += 1
-    if stored != computed:
-        report.say("extremes", f"at {font.at}: {stored}, and not {computed}")
-    if not source.has_twins:
-        ours, theirs = metrics_of(source, out, font.at)
-        report.counts["MVAR"] += b"MVAR" in font.tables
-        if ours != theirs:
-            report.say("MVAR", f"at {font.at}: {ours}, and not {theirs}")
+    from fontTools.ttLib import TTFont
+
+    font, tags = TTFont(io.BytesIO(data), recalcBBoxes=False), [axis.axisTag for axis in source["fvar"].axes]
+    stored = extremes_of(font)
+    # (fontTools' tuples are by tag, so of axes of one tag it knows the last alone)
+    ours, theirs = metrics_of(source, font, at) if len(set(tags)) == len(tags) else (None, None)
+    font.recalcBBoxes = True
+    font["maxp"].recalc(font)
+    font["hhea"].recalc(font)
+    report.counts["fontTools"] += 1
+    if (stored, ours) != (extremes_of(font), theirs):
+        report.say("fontTools", f"at {at}: {stored} {ours}, and not {extremes_of(font)} {theirs}")
 
 
-def beside_others(report, font, drawn, floats, harfbuzz):
-    harfbuzz.place(font.at)
-    for glyph, (_, points, advance, _, it) in drawn.items():
+def beside_harfbuzz(report, font, drawn, other):
+    other.place(font.at)
+    for glyph, (_, _, advance, _, it) in drawn.items():
         fine = [((x - it.left) / UNIT, y / UNIT) for x, y, _ in it.points]
-        flags = [p[2] for p in it.points]
-        distance = font_at.path_distance(font_at.outline_path(fine, it.ends, flags), harfbuzz.drawn(glyph))
+        distance = harfbuzz.path_distance(harfbuzz.outline_path(fine, it.ends, [p[2] for p in it.points]), other.drawn(glyph))
         report.counts["HarfBuzz"] += 1
-        if distance is None or distance > font_at.HARFBUZZ_BOUND:
+        if distance is None or distance > BOUND:
             report.say("HarfBuzz", f"glyph {glyph} at {font.at}: {distance} off")
-        report.counts["HarfBuzz advance"] += 1
-        # (no advance in a file is under 0)
-        theirs = max(advance_by(harfbuzz, glyph), 0)
-        if advance != theirs:
-            report.say("HarfBuzz advance", f"glyph {glyph} at {font.at}: {advance}, and not {theirs}")
-        if floats:
-            theirs, left = floats.unfolded(glyph, font.at)
-            report.counts["fontTools"] += 1
-            if [(font_at.half_up(x - left), font_at.half_up(y)) for x, y in theirs] != [p[:2] for p in points]:
-                report.say("fontTools", f"glyph {glyph} at {font.at}: other points")
+        if advance != other.advance(glyph):
+            report.say("HarfBuzz", f"glyph {glyph} at {font.at}: an advance of {advance}, and not {other.advance(glyph)}")
 
 
 def compare_default(report, library, data, glyphs, place):
@@ -162,7 +154,7 @@ def compare_default(report, library, data, glyphs, place):
         report.say("default", f"at {place}: another font than without coordinates")
 
 
-def compare_place(report, library, path, data, place, glyphs, others, room):
+def compare_place(report, library, data, place, glyphs, source, other):
     """One instance."""
     font = reading_font.Font(data, place_in(place))
     if not any(font.at):
@@ -174,7 +166,6 @@ def compare_place(report, library, path, data, place, glyphs, others, room):
             drawn[glyph] = font.drawn(glyph, STEPS)
         except reading.Fault:
             refused.append(glyph)
-    out, again = os.path.join(room, "instance"), os.path.join(room, "subset")
     for glyph in refused:
         report.counts["refused"] += 1
         if isinstance(library.subset(data, [glyph], place), bytes):
@@ -186,39 +177,23 @@ def compare_place(report, library, path, data, place, glyphs, others, room):
     if not isinstance(made, bytes):
         report.say("reading", f"refused at {font.at}: {made}")
         return
-    write(out, made)
     wrong = is_as_read(made, {glyph: it[:4] for glyph, it in drawn.items()}, font.lines())
     report.counts["reading"] += len(drawn)
     if wrong:
         report.say("reading", f"at {font.at}: {wrong}")
         return
-    source, *others = others
-    beside_others(report, font, drawn, *others)
-    beside_freetype(report, path, font, drawn)
-    beside_fonttools(report, font, out, source)
-    count = len(drawn)
-    subset = library.subset(made, list(range(1, count)))
-    if not isinstance(subset, bytes):
-        report.say("FreeType", f"at {font.at}: `subset` refuses the instance")
-        return
-    write(again, subset)
-    report.counts["FreeType"] += len(drawn)
-    if freetype_points(out, list(range(count))) != freetype_points(again, list(range(count))):
-        report.say("FreeType", f"at {font.at}: the subset is drawn otherwise")
+    beside_harfbuzz(report, font, drawn, other)
+    beside_fonttools(report, font.at, made, source)
 
 
 def compare_font(words, path):
-    report, library = Report(path), build.Library(words.library)
-    source, harfbuzz = font_at.Source(path), font_at.HarfBuzz(path)
-    others = source, None if source.has_twins else Floats(source), harfbuzz
-    rng = random.Random(f"{words.seed} {report.label}")
-    with open(path, "rb") as file:
-        data = file.read()
-    with tempfile.TemporaryDirectory(prefix="instances-") as room:
-        for _ in range(words.places):
-            place = font_at.random_place(source.axes, rng)
-            glyphs = rng.sample(range(len(source.names)), min(words.glyphs, len(source.names)))
-            compare_place(report, library, path, data, place, glyphs, others, room)
+    from fontTools.ttLib import TTFont
+
+    report, library, data = Report(path), build.Calls(words.library), fonts.content(path)
+    rng, source, other = random.Random(f"{words.seed} {report.label}"), TTFont(path, lazy=True), harfbuzz.HarfBuzz(path)
+    for _ in range(words.places):
+        place = harfbuzz.random_place(fonts.axes(data), rng)
+        compare_place(report, library, data, place, rng.sample(range(fonts.count_in(data, 0)), min(words.glyphs, fonts.count_in(data, 0))), source, other)
     return report
 
 
@@ -231,7 +206,7 @@ def damaged(rng, data):
     at, size = tables[tag]
     copy, size = bytearray(data), min(size, 4096) if rng.random() < 0.5 else size
     for _ in range(rng.choice((1, 1, 2))):
-        rng.choice(copies.KINDS)(rng, copy, at, at + size)
+        rng.choice(damage.KINDS)(rng, copy, at, at + size)
     return tag, bytes(copy)
 
 
@@ -248,14 +223,12 @@ def answer_of(data, place, glyphs):
 
 def damage_piece(words, path, number):
     """So many damaged copies of a font."""
-    report, library, source = Report(path), build.Library(words.library), font_at.Source(path)
-    rng = random.Random(f"{words.seed} {report.label} {number}")
-    with open(path, "rb") as file:
-        data = file.read()
+    report, library, data = Report(path), build.Calls(words.library), fonts.content(path)
+    rng, axes, count = random.Random(f"{words.seed} {report.label} {number}"), fonts.axes(data), fonts.count_in(data, 0)
     for k in range(PIECE):
         tag, copy = damaged(rng, data)
-        place = font_at.random_place(source.axes, rng)
-        glyphs = rng.sample(range(1, len(source.names)), min(12, len(source.names) - 1))
+        place = harfbuzz.random_place(axes, rng)
+        glyphs = rng.sample(range(1, count), min(12, count - 1))
         start = time.perf_counter()
         made, label = library.subset(copy, sorted(glyphs), place), f"piece {number}, copy {k}, {tag}"
         if time.perf_counter() - start > 1:
@@ -285,12 +258,12 @@ def judge_copy(report, made, wanted, label):
 
 def main():
     words = reports.words(__doc__, places=(20, 4), glyphs=(100, 40), copies=(100000, 2000))
-    fonts.install(font_at.PACKAGES)
+    fonts.install(harfbuzz.PACKAGES)
     words.library = build.library()
-    paths = font_at.font_paths(words.folders, words.only)
-    found = reports.beside(words.jobs, compare_font, [words] * len(paths), paths)
+    paths = fonts.variable(words.folders, words.only)
+    found = reports.beside(words, compare_font, [(words, path) for path in paths], 0.5)
     pieces = [(words, path, number) for number in range(-(-words.copies // (PIECE * len(paths)))) for path in paths]
-    found += reports.beside(words.jobs, damage_piece, *zip(*pieces)) if pieces else []
+    found += reports.beside(words, damage_piece, pieces)
     counts = reports.total(found)
     reports.end(found, counts["reading"] + counts["copies"] + counts["at the default"], f"{len(paths)} fonts at {words.places} places, {counts['reading']} glyphs, {counts['refused']} refused; "
                 f"{counts['copies']} damaged copies, {counts['at the default']} at the default, {counts['refused copies']} refused ({counts['another error']} under another name)")

@@ -14,7 +14,6 @@ sys.path.insert(0, os.path.join(os.path.dirname(os.path.dirname(os.path.realpath
 sys.dont_write_bytecode = True
 
 from drawn_by import READERS, drawn, subset
-from drawn_variable import subset_at
 from pdf_file import Face, Pdf, embedded, pages
 
 NOTO = "/usr/share/fonts/truetype/noto"
@@ -88,7 +87,7 @@ def weights_file(reader, room):
     labels = [(reader, 12, COLUMN[1] - 16)]
     for place, weight in enumerate(WEIGHTS):
         glyphs, out = shaped(VARIABLE, 0, TEXT, f"--variations=wght={weight}"), os.path.join(room, "subset")
-        numbers, widths = subset_at(VARIABLE, [("wght", weight << 16)], [it["g"] for it in glyphs], out)
+        numbers, widths = subset(VARIABLE, 0, [it["g"] for it in glyphs], out, True, ["--at", f"wght={weight}"])
         with open(out, "rb") as file:
             face = Face(file.read())
         fonts.append(embedded(pdf, face, "TrueType", f"AAAAA{chr(65 + place)}+Specimen", widths))
@@ -107,8 +106,7 @@ def draw_weights(png):
             data = weights_file(reader, room)
             with open(os.path.join(room, "page.pdf"), "wb") as file:
                 file.write(data)
-            width, height, grey = drawn(reader, room, 110)[0][0]
-            columns.append(Image.frombytes("L", (width, height), grey))
+            columns.append(drawn(reader, room, 110)[0][0])
     picture = Image.new("L", (sum(it.width for it in columns), columns[0].height), 255)
     for place, column in enumerate(columns):
         picture.paste(column, (place * columns[0].width, 0))

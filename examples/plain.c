@@ -1,13 +1,14 @@
-/* A PDF of one line, written by hand: the font's objects from the library, and the file around them. */
+/* A PDF of one line, written by hand: the font's objects from the library, compressed by zlib, and the file around them. */
 #include "subsetter.h"
 
 #include <stdio.h>
 #include <stdlib.h>
+#include <zlib.h>
 
 #define FONT "/usr/share/fonts/truetype/dejavu/DejaVuSans.ttf"
 
-static const uint32_t TEXT[] = U"Hello, Ελλάδα!";
-enum { COUNT = sizeof TEXT / sizeof *TEXT - 1 };
+static const char TEXT[] = "Hello, Ελλάδα!";
+enum { OWN = 4, MOST = 16 };
 
 static void demand(uint32_t status)
 {
@@ -17,32 +18,67 @@ static void demand(uint32_t status)
     }
 }
 
+/* Memory, or a file, that isn't there ends the program. */
+static void *there(void *it)
+{
+    if (it == NULL) {
+        fputs("no memory, or no file\n", stderr);
+        exit(1);
+    }
+    return it;
+}
+
+static uint8_t *content_of(const char *name, size_t *size)
+{
+    FILE *file = there(fopen(name, "rb"));
+    uint8_t *bytes = NULL;
+    size_t read = 1 << 16;
+    for (*size = 0; read == 1 << 16; *size += read) {
+        bytes = there(realloc(bytes, *size + (1 << 16)));
+        read = fread(bytes + *size, 1, 1 << 16, file);
+    }
+    fclose(file);
+    return bytes;
+}
+
+static void put_part(FILE *file, const subsetter_pdf_part *part)
+{
+    fprintf(file, "%u 0 obj\n<< %.*s", (unsigned)part->number, (int)part->entries_size, (const char *)part->entries);
+    if (part->is_stream) {
+        uLongf size = compressBound(part->stream_size);
+        Bytef *packed = there(malloc(size));
+        if (compress(packed, &size, part->stream, part->stream_size) != Z_OK)
+            exit(1);
+        fprintf(file, "/Filter /FlateDecode /Length %lu >>\nstream\n", size);
+        fwrite(packed, 1, size, file);
+        fputs("\nendstream\nendobj\n", file);
+        free(packed);
+    } else {
+        fputs(">>\nendobj\n", file);
+    }
+}
+
 int main(void)
 {
-    static uint8_t data[1 << 24];
-    FILE *source = fopen(FONT, "rb"), *file = fopen("hello.pdf", "wb");
-    if (source == NULL || file == NULL)
-        return 1;
-    size_t size = fread(data, 1, sizeof data, source), ends[COUNT], length;
-    fclose(source);
+    size_t size;
+    uint8_t *data = content_of(FONT, &size);
+    subsetter_font font;
+    demand(subsetter_make_pdf_font_of_utf8(data, size, 0, NULL, 0, TEXT, sizeof TEXT - 1, NULL, &font));
+    free(data);
+    uint32_t numbers[MOST];
+    for (uint32_t i = 0; i < MOST; i++)
+        numbers[i] = OWN + 1 + i;
+    subsetter_pdf_parts made;
+    demand(subsetter_make_pdf_parts(&font, numbers, subsetter_pdf_part_count(&font), &made));
 
-    /* Each character has a glyph, and is the text of it. */
-    uint16_t glyphs[COUNT];
-    demand(subsetter_glyphs_of(data, size, 0, TEXT, COUNT, glyphs, COUNT, &length));
-    for (size_t i = 0; i < COUNT; i++)
-        ends[i] = i + 1;
-    subsetter_pdf_font font;
-    demand(subsetter_make_pdf_font(data, size, 0, NULL, 0, glyphs, COUNT, TEXT, COUNT, ends, COUNT, NULL, &font));
-    subsetter_pdf_objects objects;
-    demand(subsetter_make_pdf_objects(&font, 5, &objects));
-
-    /* Objects 1 to 4, and where each begins; the page names object 5. */
+    /* Objects 1 to 4; the page names the font, number 5. */
     char content[1024];
     int at = sprintf(content, "BT /F1 24 Tf 36 60 Td <");
-    for (size_t i = 0; i < font.code_count; i++)
-        at += sprintf(content + at, "%04X", (unsigned)font.codes[i]);
+    for (size_t i = 0; i < font.pdf.code_count; i++)
+        at += sprintf(content + at, "%04X", (unsigned)font.pdf.codes[i]);
     at += sprintf(content + at, "> Tj ET");
-    long offsets[5];
+    FILE *file = there(fopen("hello.pdf", "wb"));
+    long offsets[OWN + MOST + 1];
     fputs("%PDF-1.7\n", file);
     offsets[1] = ftell(file);
     fputs("1 0 obj\n<< /Type /Catalog /Pages 2 0 R >>\nendobj\n", file);
@@ -55,16 +91,17 @@ int main(void)
     fprintf(file, "4 0 obj\n<< /Length %d >>\nstream\n%s\nendstream\nendobj\n", at, content);
 
     /* The font's objects, the table of all, and the trailer. */
-    long front = ftell(file);
-    fwrite(objects.bytes, 1, objects.size, file);
+    size_t count = OWN + made.part_count;
+    for (size_t i = 0; i < made.part_count; i++) {
+        offsets[OWN + 1 + i] = ftell(file);
+        put_part(file, &made.parts[i]);
+    }
     long table = ftell(file);
-    fprintf(file, "xref\n0 %zu\n0000000000 65535 f \n", 5 + objects.offset_count);
-    for (int i = 1; i <= 4; i++)
+    fprintf(file, "xref\n0 %zu\n0000000000 65535 f \n", count + 1);
+    for (size_t i = 1; i <= count; i++)
         fprintf(file, "%010ld 00000 n \n", offsets[i]);
-    for (size_t i = 0; i < objects.offset_count; i++)
-        fprintf(file, "%010ld 00000 n \n", front + (long)objects.offsets[i]);
-    fprintf(file, "trailer\n<< /Size %zu /Root 1 0 R >>\nstartxref\n%ld\n%%%%EOF\n", 5 + objects.offset_count, table);
-    subsetter_free_pdf_objects(&objects);
-    subsetter_free_pdf_font(&font);
-    return fclose(file) != 0;
+    fprintf(file, "trailer\n<< /Size %zu /Root 1 0 R >>\nstartxref\n%ld\n%%%%EOF\n", count + 1, table);
+    subsetter_free_pdf_parts(&made);
+    subsetter_free_font(&font);
+    return ferror(file) || fclose(file) != 0;
 }

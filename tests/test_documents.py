@@ -69,10 +69,15 @@ def rust(room, program):
     run(room, "cargo", "run", "--quiet", "--offline", "--release", CARGO_TARGET_DIR=os.path.join(ROOT, "out", "examples"))
 
 
-def c(room, program):
-    write(room / "user.c", program)
-    run(room, "cc", "-std=c11", "-Wall", "-Wextra", "-Werror", "-I", f"{ROOT}/bindings/c", "user.c", f"{library()}/libsubsetter.so", f"-Wl,-rpath,{library()}", "-o", "user")
-    run(room, "./user")
+def c(room, program, compiler=("cc", "-std=c11", "-xc"), libraries=("-lz",)):
+    write(room / "user", program)
+    words = ["-Wall", "-Wextra", "-Werror", "-I", f"{ROOT}/bindings/c", "user", "-xnone", f"{library()}/libsubsetter.so", f"-Wl,-rpath,{library()}"]
+    run(room, *compiler, *words, *libraries, "-o", "program")
+    run(room, "./program")
+
+
+def with_qpdf(room, program):
+    c(room, program, ("c++", "-std=c++17", "-xc++"), ("-lqpdf",))
 
 
 def python(room, program):
@@ -99,9 +104,12 @@ def test_programs_of_documents(tmp_path, how, document, language):
         demand_pdf(tmp_path)
 
 
-@pytest.mark.parametrize("how, name", [(rust, "writer.rs"), (c, "plain.c"), (python, "with_pikepdf.py"), (python, "with_reportlab.py")])
-def test_examples(tmp_path, how, name):
-    how(tmp_path, read("examples", name))
+EXAMPLES = {"writer.rs": rust, "plain.c": c, "with_qpdf.cc": with_qpdf, "shaped.mjs": js}
+
+
+@pytest.mark.parametrize("name", sorted(it for it in os.listdir(os.path.join(ROOT, "examples")) if it != "README.md"))
+def test_examples(tmp_path, name):
+    EXAMPLES.get(name, python)(tmp_path, read("examples", name))
     demand_pdf(tmp_path)
 
 

@@ -1,4 +1,4 @@
-/* Blocks of memory whose sizes are known: what peak.c and refuse.c put before the C library's allocator. In front of each
+/* Blocks of memory whose sizes are known: what refuse.c puts before the C library's allocator. In front of each
  * block stands what was asked for, and how far before the block its memory begins. For programs of one thread. */
 #include <errno.h>
 #include <stdint.h>

@@ -173,6 +173,13 @@ ssize_t write(int file, const void *bytes, size_t count) {
 
 ssize_t __write(int file, const void *bytes, size_t count) { return write(file, bytes, count); }
 
+/* For lib/cost.py: the most bytes that were held since this was last asked. */
+size_t most_held(void) {
+    size_t most = peak;
+    peak = held;
+    return most;
+}
+
 __attribute__((destructor)) static void tell(void) {
     const char *name = getenv("TOLD");
     char text[400];

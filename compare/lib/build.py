@@ -1,6 +1,9 @@
-"""What the comparisons run, and how it is built: the program, the C library, the harness and the drivers in C."""
+"""What the comparisons run, and how it is built: the program, the C library and its calls, and the drivers."""
 import ctypes
+import glob
+import importlib.util
 import os
+import shutil
 import subprocess
 import sys
 
@@ -32,9 +35,9 @@ class Canary:
         return bytes(data)
 
 
-def cargo(manifest, *words, target=CARGO, flags=""):
+def cargo(manifest, *words, target=CARGO, **more):
     """Builds by Cargo, without the network."""
-    env = dict(os.environ, RUSTFLAGS=flags)
+    env = dict(os.environ, **more)
     command = ["cargo", "build", "--offline", "--quiet", "--manifest-path", os.path.join(ROOT, manifest, "Cargo.toml"), "--target-dir", target]
     subprocess.run([*command, *words], env=env, check=True)
     return target
@@ -54,16 +57,48 @@ def library():
     return os.path.join(cargo("bindings/capi", "--release"), "release", "libsubsetter.so")
 
 
+def checked_library():
+    """The C library as Cargo builds it, where a sum that wraps is a panic."""
+    checks = {f"CARGO_PROFILE_RELEASE_{it}": "true" for it in ("OVERFLOW_CHECKS", "DEBUG_ASSERTIONS")}
+    return os.path.join(cargo("bindings/capi", "--release", target=os.path.join(BUILD, "checked"), **checks), "release", "libsubsetter.so")
+
+
 def named(variable):
     """A file that the environment names; the script ends where it isn't there."""
-    path = os.path.realpath(os.environ[variable])
+    path = os.path.realpath(os.environ.get(variable, "nothing"))
     if not os.path.exists(path):
-        sys.exit(f"{NAME}: no {variable} {path}")
+        sys.exit(f"{NAME}: no {variable} {path} (compare/README.md)")
     return path
 
 
-def harness(profile="release"):
-    return os.path.join(cargo("compare/harness", "--profile", profile), profile, "harness")
+MANIFEST = """[package]
+name = "%s"
+version = "%s"
+edition = "2021"
+
+[dependencies]
+%s
+
+[features]
+default = ["std"]
+std = []
+variable-fonts = []
+
+[workspace]
+"""
+
+
+def driver(folder):
+    """A driver over the generated crate, or over the Rust crate (ORIGINAL), whose sources are laid out with manifests that name no registry."""
+    found = sorted(glob.glob("/usr/share/cargo/registry/rustc-hash-*"))
+    if folder == "original" and not found:
+        sys.exit(f"{NAME}: no rustc-hash: apt-get install librust-rustc-hash-dev")
+    parts = [("subsetter", "0.2.6", named("ORIGINAL"), 'rustc-hash = { path = "../rustc-hash" }'), ("rustc-hash", found[-1].rpartition("-")[2], found[-1], "")] if folder == "original" else []
+    for name, version, source, needs in parts:
+        shutil.copytree(os.path.join(source, "src"), os.path.join(BUILD, name, "src"), dirs_exist_ok=True)
+        with open(os.path.join(BUILD, name, "Cargo.toml"), "w", encoding="utf-8") as file:
+            file.write(MANIFEST % (name, version, needs))
+    return os.path.join(cargo(f"compare/{folder}", "--release", RUSTFLAGS="-C target-cpu=x86-64-v2"), "release", f"{folder}_bench")
 
 
 def gcc(source, *more, to):
@@ -79,42 +114,27 @@ def preload(source, to):
     return gcc(source, "-shared", "-fPIC", to=to)
 
 
-def commit():
-    """The commit that is checked out, and whether anything differs from it."""
-    git = ["git", "-C", ROOT]
-    name = subprocess.run([*git, "rev-parse", "--short=8", "HEAD"], capture_output=True, text=True, check=True).stdout.strip()
-    return name, bool(subprocess.run([*git, "status", "--porcelain"], capture_output=True, text=True, check=True).stdout)
+# ---- the calls
 
+class Calls:
+    """The Python module over a C library: the one of a path, LIBRARY, or as Cargo builds it."""
 
-# ---- the C library
+    def __init__(self, path=None):
+        place = os.path.join(ROOT, "bindings", "python", "subsetter", "__init__.py")
+        spec = importlib.util.spec_from_file_location(f"subsetter_{id(self)}", place)
+        self.module, self.canary = importlib.util.module_from_spec(spec), Canary()
+        spec.loader.exec_module(self.module)
+        self.module._loaded = self.module._declare(ctypes.CDLL(path or library()))
 
-class Coordinate(ctypes.Structure):
-    _fields_ = [("tag", ctypes.c_uint32), ("value", ctypes.c_int32)]
-
-
-class Made(ctypes.Structure):
-    _fields_ = [(name, kind) for list_, count in (("font", "font_size"), ("cids", "cid_count"), ("widths", "width_count"))
-                for name, kind in ((list_, ctypes.c_void_p), (count, ctypes.c_size_t))]
-
-
-STATUSES = {1: "UnknownKind", 2: "MalformedFont", 3: "Unimplemented", 4: "SubsetError", 5: "OverflowError", 6: "CFFError", 7: "OutOfMemory"}
-
-
-class Library:
-    """`subset` of the C library, as the font is and at coordinates."""
-
-    def __init__(self, path):
-        self.calls, self.canary = ctypes.CDLL(path), Canary()
+    def answer(self, call, *words, **more):
+        """What a call answers, or the name of its error; of a panic `RuntimeError`."""
+        try:
+            return getattr(self.module, call)(*words, **more)
+        except (self.module.Error, RuntimeError) as error:
+            return type(error).__name__
 
     def subset(self, data, glyphs, place=(), index=0):
-        """The new font, or the name of the error. `place` has pairs of a tag and a value in 65536ths."""
-        at = (Coordinate * len(place))(*[Coordinate(int.from_bytes(tag.encode("latin-1"), "big"), value) for tag, value in place])
-        kept, made = (ctypes.c_uint16 * len(glyphs))(*glyphs), Made()
-        before, after = (data, ctypes.c_size_t(len(data)), ctypes.c_uint32(index)), (kept, ctypes.c_size_t(len(glyphs)), None, ctypes.c_size_t(0), ctypes.byref(made))
-        if place:
-            status = self.calls.subsetter_make_subset_at_by_words(*before, at, ctypes.c_size_t(len(at)), *after)
-        else:
-            status = self.calls.subsetter_make_subset_by_words(*before, *after)
-        font = ctypes.string_at(made.font, made.font_size) if status == 0 else STATUSES.get(status, f"status {status}")
-        self.calls.subsetter_free(ctypes.byref(made))
-        return font if status else self.canary.changed(font)
+        """The new font, or the name of the error. `place` has pairs of a tag and a value in 65536ths; none is the font as it is."""
+        more = {"coordinates": {tag: value / 65536 for tag, value in place}} if place else {}
+        font = self.answer("subset", data, glyphs, index, **more)
+        return font if isinstance(font, str) else self.canary.changed(font)

@@ -80,24 +80,9 @@ def last(entries, operator):
     return found[-1] if found else None
 
 
-def top_dict(cff):
-    """The entries of the first top dict."""
-    return list(dict_entries(Index(cff, Index(cff, cff[2]).end).item(0)))
-
-
-def charstrings(cff):
-    """The CharStrings INDEX that the first top dict names."""
-    return Index(cff, last(top_dict(cff), CHARSTRINGS)[0])
-
-
-def is_keyed(cff):
-    """Whether the font is CID-keyed."""
-    return last(top_dict(cff), ROS) is not None
-
-
 def cids(cff, count):
     """The CID of each glyph, or the glyph's number where the font isn't CID-keyed (ISO 32000-1, 9.7.4.2)."""
-    top = top_dict(cff)
+    top = list(dict_entries(Index(cff, Index(cff, cff[2]).end).item(0)))
     place = (last(top, CHARSET) or [0])[-1]
     if last(top, ROS) is None or place <= 2:
         return list(range(count))

@@ -1,9 +1,8 @@
 """Damaged CFF2 fonts, and what the program may answer of them: what cff2.py takes.
 
 A new font has to draw what HarfBuzz draws of the damaged copy, each coordinate rounded once. Where HarfBuzz draws something else, as it goes on
-where a table is broken and knows other limits, it has to be what fontTools reads, in exact fractions. Where HarfBuzz draws nothing, or fontTools
-reads nothing, it may also be what a third reading (cff2_dicts.py) has: fontTools reads no table with a dict that can't be read to its end, and
-takes the last of the ranges of font dicts that have a glyph, not the first. The advance is HarfBuzz's, or that of the second reading (reading.py).
+where a table is broken and knows other limits, it has to be what fontTools reads, in exact fractions; or where one of them reads nothing, what a third
+reading has (cff2_dicts.py). The advance is HarfBuzz's, or that of the second reading (reading.py).
 A private dict that has an operator without its operand is in the new font as it is in the copy: FreeType has to open neither.
 """
 import os
@@ -12,22 +11,20 @@ import resource
 import tempfile
 
 import cff2_dicts
-import copies
-import font_at
+import damage
 import fonts
+import harfbuzz
 import reading
-from cff2_drawn import CLOSED, HarfBuzz, contours
-from cff2_exact import Source, drawn_exactly, half_up
-from cff2_others import FreeType, advance_by
-from cff2_whole import Broken, Face, Refused, Report, subset_at
+from cff2_source import CLOSED, Face, Source
+from cff2_whole import Broken, FreeType, Refused, subset_at
+from harfbuzz import HarfBuzz, contours, half_up
+from report import Report
 
 DAMAGED = ["CFF2", "fvar", "avar", "HVAR"]
 GLYPHS, SECONDS = 12, 1
-# A copy's tables are changed where these glyphs are, so that the change is seen.
-KINDS = copies.KINDS
+THIRD = "a third reading"
 # HarfBuzz's floats have 24 bits, and a coordinate is a sum of many.
 NEAR, PART = 0.001, 2 ** -19
-THIRD = "a third reading"
 # Pieces of so many copies.
 PIECE = 50
 
@@ -65,7 +62,7 @@ def damaged(rng, data, face, glyphs):
         _, first, last = rng.choice([it for it in found if it[0] == name])
         first, last = at + first, at + last
     copy = bytearray(data)
-    done = [rng.choice(KINDS)(rng, copy, first, last) for _ in range(rng.choice((1, 1, 2)))]
+    done = [rng.choice(damage.KINDS)(rng, copy, first, last) for _ in range(rng.choice((1, 1, 2)))]
     return bytes(copy), f"{name}: {', '.join(done)}"
 
 
@@ -90,47 +87,34 @@ class Copy:
     """A damaged copy, as HarfBuzz and fontTools read it."""
 
     def __init__(self, path, face, place):
-        self.path, self.index = path, face.index
-        with open(path, "rb") as file:
-            data = file.read()
+        self.path, self.index, self.metrics, data = path, face.index, face.metrics, fonts.content(path)
         self.tables = {tag.encode("latin-1"): data[at:at + size] for tag, (at, size) in fonts.directory(data, face.index).items()}
         self.at = reading.place_of(self.tables, [(tag.encode("latin-1"), value) for tag, value in place])
         self.harfbuzz = HarfBuzz(path, face.index)
         self.harfbuzz.place(self.at)
-        self.metrics, self.names = face.metrics, face.names
 
     def draws(self, glyph, ours):
         """Who draws this of a glyph: HarfBuzz, fontTools, the third reading where one of them reads nothing, or nobody."""
         theirs = self.harfbuzz.drawn(glyph)
         if agree(ours, theirs):
             return "HarfBuzz"
-        exact = self.exactly(self.read_by_fonttools, glyph)
+        exact = self.exactly(lambda: Source(self.path, self.index), glyph)
         if exact is not None and agree(ours, exact):
             return "fontTools"
-        third = self.exactly(self.read_by_dicts, glyph) if exact is None or not theirs else None
+        third = self.exactly(lambda: cff2_dicts.Table(self.tables[b"CFF2"]), glyph) if exact is None or not theirs else None
         return THIRD if third is not None and agree(ours, third) else "nobody"
 
-    def exactly(self, read, glyph):
+    def exactly(self, make, glyph):
         """What a reading draws, or nothing where it fails."""
         try:
-            return drawn_exactly(read(glyph))
+            return make().drawn(glyph, self.at).path
         except Exception:
             return None
 
-    def read_by_fonttools(self, glyph):
-        return Source(self.path, self.index).events(glyph, self.at)
-
-    def read_by_dicts(self, glyph):
-        return cff2_dicts.Table(self.tables[b"CFF2"]).events(glyph, self.at)
-
     def has_advance(self, glyph, advance):
         """Whether an advance is HarfBuzz's, or that of the second reading."""
-        default = self.metrics[self.names[glyph]][0]
-        if b"HVAR" in self.tables:
-            exact = default + reading.advance_delta(self.tables[b"HVAR"], self.at, glyph) / reading.UNIT
-        else:
-            exact = default
-        return advance in (max(half_up(exact), 0), max(advance_by(self.harfbuzz, glyph), 0))
+        delta = reading.advance_delta(self.tables[b"HVAR"], self.at, glyph) if b"HVAR" in self.tables else 0
+        return advance in (max(half_up(self.metrics[glyph][0] + delta / reading.UNIT), 0), self.harfbuzz.advance(glyph))
 
 
 def judge(report, copy, data, old, room, label):
@@ -150,12 +134,12 @@ def judge(report, copy, data, old, room, label):
             report.say("damage", f"{label}: glyph {glyph} is drawn otherwise")
             return
         try:
-            sound = copy.has_advance(glyph, advance_by(new, number))
+            sound = copy.has_advance(glyph, new.advance(number))
         except reading.Fault as it:
             report.say("damage", f"{label}: glyph {glyph} has an advance, and not {it.args[0]}")
             return
         if not sound:
-            report.say("damage", f"{label}: glyph {glyph} has an advance of {advance_by(new, number)}")
+            report.say("damage", f"{label}: glyph {glyph} has an advance of {new.advance(number)}")
             return
 
 
@@ -168,8 +152,8 @@ def spent():
 
 
 def one_copy(words, report, face, data, rng, room, label):
-    count = len(face.names)
-    place, glyphs = font_at.random_place(face.axes, rng), rng.sample(range(count), min(GLYPHS, count))
+    count = len(face.metrics)
+    place, glyphs = harfbuzz.random_place(face.axes, rng), rng.sample(range(count), min(GLYPHS, count))
     made, done = damaged(rng, data, face, glyphs)
     path = os.path.join(room, "copy")
     with open(path, "wb") as file:
@@ -187,7 +171,6 @@ def one_copy(words, report, face, data, rng, room, label):
         return
     finally:
         took = spent() - before
-        report.worst = max(report.worst, took)
     if took > SECONDS:
         report.say("damage", f"{label}, {done}: {took:.1f} seconds")
     try:
@@ -202,8 +185,7 @@ def piece(words, path, index, number):
     """So many damaged copies of a face."""
     face = Face(path, index)
     report, rng = Report(face.label), random.Random(f"{words.seed} {os.path.basename(path)} {index} {number}")
-    with open(path, "rb") as file:
-        data = file.read()
+    data = fonts.content(path)
     with tempfile.TemporaryDirectory(prefix="damaged-") as room:
         for k in range(min(PIECE, words.copies)):
             one_copy(words, report, face, data, rng, room, f"piece {number}, copy {k}")

@@ -3,27 +3,27 @@ first byte that can't be read, a reserved one (31, 255) is an operator without a
 font dict that names no private dict has an empty one. Item variation data are read where a charstring needs them."""
 import types
 
-import cff2_private
-from cff2_exact import Source, recorder
-from reading import cut, number
+from cff2_source import Source, drawn
+from reading import cut, need, number
 
 CHARSTRINGS, SELECT, DICTS, STORE = (17,), (12, 37), (12, 36), (24,)
 PRIVATE, SUBROUTINES, VSINDEX = (18,), (19,), (22,)
 # The bytes of a range's first glyph and of its font dict, by FDSelect's format.
 RANGES = {3: (2, 1), 4: (4, 2)}
-LAST_OPERATOR = 27
-# Reserved bytes behind it, which end an entry, too (those below are among the operators).
+# Reserved bytes, which end an entry as an operator does.
 RESERVED = {31, 255}
 ONE = 16384
 
 
 def last_entries(data):
     """The last operands of each operator, of what can be read."""
+    from fontTools.misc.psCharStrings import cffDictOperandEncoding as encoding
+
     found, operands, at = {}, [], 0
     try:
         while at < len(data):
-            if data[at] > LAST_OPERATOR and data[at] not in RESERVED:
-                value, at = cff2_private.number_at(data, at)
+            if data[at] > 27 and data[at] not in RESERVED:
+                value, at = encoding[data[at]](None, data[at], data, at + 1)
                 operands.append(value)
             else:
                 size = 2 if data[at] == 12 else 1
@@ -80,15 +80,14 @@ def private(table, font_dict):
     return types.SimpleNamespace(vsindex=offset(found.get(VSINDEX, [0])), Subrs=subrs)
 
 
-class Each:
-    """So many items, each read where it is asked for."""
+class Each(list):
+    """Items, each read where it is asked for."""
 
-    def __init__(self, read, count):
-        self.read, self.count = read, count
+    def __init__(self, read):
+        super().__init__()
+        self.read = read
 
     def __getitem__(self, k):
-        if not 0 <= k < self.count:
-            raise IndexError(k)
         return self.read(k)
 
 
@@ -98,15 +97,17 @@ def store(table, at):
     axes = number(table, listed)
 
     def region(k):
+        need(k < number(table, listed + 2))
         first = listed + 4 + 6 * axes * k
         ends = [[number(table, first + 6 * axis + 2 * end, 2, True) / ONE for end in range(3)] for axis in range(axes)]
         return types.SimpleNamespace(VarRegionAxis=[types.SimpleNamespace(StartCoord=it[0], PeakCoord=it[1], EndCoord=it[2]) for it in ends])
 
     def data(k):
+        need(k < number(table, at + 6))
         first = at + number(table, at + 8 + 4 * k, 4)
         return types.SimpleNamespace(VarRegionIndex=[number(table, first + 6 + 2 * j) for j in range(number(table, first + 4))])
 
-    return types.SimpleNamespace(VarRegionList=types.SimpleNamespace(Region=Each(region, number(table, listed + 2))), VarData=Each(data, number(table, at + 6)))
+    return types.SimpleNamespace(VarRegionList=types.SimpleNamespace(Region=Each(region)), VarData=Each(data))
 
 
 class Table(Source):
@@ -115,16 +116,14 @@ class Table(Source):
     def __init__(self, table):
         size, top_size = number(table, 2, 1), number(table, 3)
         top = last_entries(cut(table, size, top_size))
-        self.table, self.drawn, self.shared = table, index(table, offset(top[CHARSTRINGS])), subroutines(table, size + top_size)
+        self.table, self.charstrings, self.shared = table, index(table, offset(top[CHARSTRINGS])), subroutines(table, size + top_size)
         self.dicts, self.select = index(table, offset(top[DICTS])), offset(top[SELECT]) if SELECT in top else None
-        self.top = types.SimpleNamespace(CharStrings=types.SimpleNamespace(charStringsIndex=self))
+        self.scalars, self.top = {}, types.SimpleNamespace()
         if STORE in top:
             self.top.VarStore = types.SimpleNamespace(otVarStore=store(table, offset(top[STORE]) + 2))
-        self.recorder, self.scalars = recorder(), {}
 
-    def __getitem__(self, glyph):
-        """A charstring, with what it may call."""
+    def drawn(self, glyph, at):
         from fontTools.misc.psCharStrings import T2CharString
 
-        number_of_dict = 0 if self.select is None else selected(self.table, self.select, glyph)
-        return T2CharString(bytecode=self.drawn[glyph], private=private(self.table, self.dicts[number_of_dict]), globalSubrs=self.shared)
+        font_dict = self.dicts[0 if self.select is None else selected(self.table, self.select, glyph)]
+        return drawn(T2CharString(bytecode=self.charstrings[glyph]), private(self.table, font_dict), self.shared, self, at)

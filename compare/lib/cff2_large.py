@@ -6,8 +6,8 @@ avar. All of it is random, and the same for one seed and one number of glyphs.
 """
 import random
 
-import made2
-from made2 import BLEND, GLOBAL_CALL, PRIVATE_BLEND, PRIVATE_VSINDEX, VSINDEX, called, fixed, number
+import made
+from made import BLEND, GLOBAL_CALL, PRIVATE_BLEND, PRIVATE_VSINDEX, VSINDEX, called, fixed, number
 
 GLYPHS, SMALL = 65535, 100
 DICTS = 18
@@ -191,14 +191,14 @@ def table(rng, count, kind, large=True):
     dicts, chosen = groups(maker, count)
     own = [k % len(DATA) for k in range(DICTS)]
     shared = Subroutines(maker, LARGE_DICT + 200 if large else SUBROUTINES, range(len(DATA)), GLOBAL_CALL)
-    locals_ = [Subroutines(maker, LARGE_DICT if k == 0 and large else SUBROUTINES * (k % 3), [own[k]], made2.CALL, shared) for k in range(DICTS)]
+    locals_ = [Subroutines(maker, LARGE_DICT if k == 0 and large else SUBROUTINES * (k % 3), [own[k]], made.CALL, shared) for k in range(DICTS)]
     drawn = []
     for number_, choice in zip(dicts, chosen):
         data = own[number_] if choice is None else choice
         front = b"" if choice is None else number(choice) + VSINDEX
         drawn.append(charstring(maker, data, [locals_[number_], shared], front))
     privates = [(private_entries(maker, own[k], k), locals_[k].bodies) for k in range(DICTS)]
-    return made2.cff2(drawn, privates, made2.select(dicts, kind), shared.bodies, made2.store(regions_of(SUPPORTS), DATA))
+    return made.cff2(drawn, privates, made.select(dicts, kind), shared.bodies, made.store(regions_of(SUPPORTS), DATA))
 
 
 def metrics_of(rng, count):
@@ -211,7 +211,7 @@ def further(rng, count):
     indexes = [(outer, rng.randrange(ROWS[outer][1])) for outer in (rng.randrange(len(ROWS)) for _ in range(count))]
     indexes[-ALIKE:] = [indexes[-ALIKE]] * ALIKE
     names = [".notdef"] + [f"g{k}" for k in range(1, count)]
-    return [made2.advances_vary(AXES, SUPPORTS, [held for held, _ in ROWS], rows, indexes, names), made2.metrics_vary(AXES, SUPPORTS, [0, 1], METRICS), made2.bends(BENDS)]
+    return [made.advances_vary(AXES, SUPPORTS, [held for held, _ in ROWS], rows, indexes, names), made.metrics_vary(AXES, SUPPORTS, [0, 1], METRICS), made.bends(BENDS)]
 
 
 def faces(seed, count, kind):
@@ -220,5 +220,5 @@ def faces(seed, count, kind):
     outlines, more = table(rng, count, kind, count > SMALL), further(rng, count)
     first = {0x4E00 + k: 1 + k for k in range(min(count - 1, 20000))}
     second = {code: 1 + (glyph * 7) % (count - 1) for code, glyph in first.items()}
-    yield made2.font("Made Large", outlines, metrics_of(rng, count), AXES, more, first)
-    yield made2.font("Made Second", outlines, metrics_of(rng, count), AXES, more[:2], second)
+    yield made.cff2_font("Made Large", outlines, metrics_of(rng, count), AXES, more, first)
+    yield made.cff2_font("Made Second", outlines, metrics_of(rng, count), AXES, more[:2], second)

@@ -56,26 +56,20 @@ def task(copy, file):
 
 
 def by_kinds(found):
-    """Copies of fonts of all kinds that stay plausible."""
-    import plausible
+    """Makes damaged copies of fonts of all kinds."""
+    import damage
 
-    faces, kinds = [], {}
-    for kind, path in found:
-        with open(path, "rb") as file:
-            data = file.read()
-        count = fonts.u32(data, 8) if data[:4] == b"ttcf" else 1
-        faces.append([plausible.Face(path, data, index) for index in range(count)])
-        kinds[path] = kind
-    others = [face for lot in faces for face in lot]
+    contents = {path: fonts.content(path) for _, path in found}
+    others = list(contents.values())
 
     def make(rng, number):
-        face = rng.choice(faces[number % len(faces)])
-        glyphs = [rng.randrange(face.glyphs) for _ in range(rng.choice((1, 3, 10, 20, 20)))]
-        if rng.random() < 0.02:
-            glyphs.append(face.glyphs + rng.choice((0, 1, 100)))
-        index = rng.randrange(4) if rng.random() < 0.02 else face.index
-        data, what = plausible.damaged(rng, face, glyphs, others)
-        return kinds[face.name], face.name, face.data, index, ",".join(map(str, glyphs)), what, data
+        kind, path = found[number % len(found)]
+        data, index = contents[path], rng.randrange(fonts.face_count(contents[path]))
+        count = fonts.count_in(data, index)
+        glyphs = [rng.randrange(count) for _ in range(rng.choice((1, 3, 10, 20, 20)))]
+        made, what = damage.damaged(rng, data, index, glyphs, others)
+        glyphs += [count + rng.choice((0, 1, 100))] * (rng.random() < 0.02)
+        return kind, path, data, rng.randrange(4) if rng.random() < 0.02 else index, ",".join(map(str, glyphs)), what, made
     return make
 
 

@@ -6,6 +6,8 @@ import struct
 import subprocess
 
 import build
+import fonts
+from pdf_readers import ink_apart, is_blank, picture
 
 PACKAGES = ["mupdf-tools", "poppler-utils", "ghostscript", "python3-pil"]
 CANARY = build.Canary()
@@ -86,26 +88,35 @@ READERS = {
 
 
 def drawn(reader, folder, dpi=96):
-    """A reader's pictures of the two pages, each as (width, height, bytes), and the lines that it says."""
+    """A reader's pictures of the two pages, and the lines that it says."""
     words = [word.replace("DPI", str(dpi)) for word in READERS[reader]]
     said = subprocess.run(words, cwd=folder, capture_output=True, text=True, errors="replace")
     lines = {line for line in (said.stdout + said.stderr).splitlines() if line and not line.startswith("page page.pdf")}
-    if said.returncode:
-        lines.add(f"status {said.returncode}")
-    found = []
-    for page in (1, 2):
-        name = os.path.join(folder, f"{reader.lower()}-{page}.pgm")
-        if not os.path.exists(name):
-            return None, lines
-        with open(name, "rb") as file:
-            data = file.read()
-        head = re.match(rb"P5\s+(?:#[^\n]*\n\s*)*(\d+)\s+(\d+)\s+255\s", data)
-        found.append((int(head[1]), int(head[2]), data[head.end():]))
-    return found, lines
+    lines |= {f"status {said.returncode}"} if said.returncode else set()
+    paths = [os.path.join(folder, f"{reader.lower()}-{page}.pgm") for page in (1, 2)]
+    return [picture(fonts.content(path)) for path in paths] if all(map(os.path.exists, paths)) else None, lines
+
+
+def differences(ours, theirs, most, dpi=96):
+    """What the readers show otherwise in one folder than in the other: ink that has no ink within so many pixels. With 0 each pixel is the same; but
+    of Ghostscript, which hints by letters that it finds by names, ink lies within one."""
+    wrong = []
+    for reader in READERS:
+        (after, said), (before, usual) = (drawn(reader, folder, dpi) for folder in (ours, theirs))
+        if before is None or after is None:
+            wrong.append(f"{reader} draws nothing")
+            continue
+        for page, (one, other) in enumerate(zip(after, before), 1):
+            # (the lines begin alike, and are as long to a pixel)
+            slack = most if page == 1 else max(most, 1)
+            far = 0 if one.tobytes() == other.tobytes() else ink_apart(one, other, max(slack, reader == "Ghostscript")) or not max(slack, reader == "Ghostscript")
+            wrong += [f"{reader}: {int(far)} pixels of ink of page {page} are elsewhere"] * bool(far)
+            wrong += [f"{reader}: page {page} is blank"] * is_blank(one)
+        wrong += [f"{reader} warns of the subset alone: {line}" for line in sorted(said - usual)[:1]]
+    return wrong
 
 
 def places_by_trace(folder):
     """Where MuPDF puts each glyph of the second page, in points."""
-    said = subprocess.run(["mutool", "draw", "-F", "trace", "page.pdf", "2"], cwd=folder, capture_output=True, text=True,
-                          errors="replace").stdout
+    said = subprocess.run(["mutool", "draw", "-F", "trace", "page.pdf", "2"], cwd=folder, capture_output=True, text=True, errors="replace").stdout
     return [float(x) for x in re.findall(r'<g [^>]*\bx="([-0-9.e]+)"', said)]

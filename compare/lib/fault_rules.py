@@ -1,6 +1,5 @@
 """How a run of the program may end in which a system call fails, by docs/CLI.md: for faults.py."""
 import errno
-import fcntl
 import os
 import re
 
@@ -43,10 +42,6 @@ OTHERS = (errno.EINTR, errno.EIO, errno.ENOMEM)
 BUSY = "resource busy\n"
 # How a run ends in which a file beside OUT can't be removed, behind what it ends with.
 FILE_LEFT = ", and a file beside it is left"
-# AT_SYMLINK_NOFOLLOW, by the argument of the call that has it.
-NO_FOLLOW, FLAGS_AT = 0x100, {"statx": 2, "newfstatat": 3}
-# What `fcntl` does besides giving a descriptor a second number is a look at it.
-SECOND_NUMBER = (fcntl.F_DUPFD, fcntl.F_DUPFD_CLOEXEC)
 # These can't fail.
 NEVER = ("exit", "exit_group", "rt_sigreturn")
 
@@ -55,44 +50,21 @@ def reason_of(number):
     return f"{os.strerror(number)} (os error {number})"
 
 
-def names_of(room, step):
-    """The files that a step names: those of the folder by their names there, and the standard streams."""
-    found = []
-    for it in step.names:
-        name = it[1:] if it.startswith("n") else it.partition(":")[2].removesuffix(" (deleted)")
-        for folder in (room.work, room.streams):
-            name = name.removeprefix(folder + os.sep)
-        if name:
-            found.append(name)
-    return found
-
-
 def opens_for_reading(step):
-    return step.call in ("open", "openat") and step.arguments[1 + (step.call == "openat")] & os.O_ACCMODE == os.O_RDONLY
-
-
-def makes_new(step):
-    """Whether a file is made that must not be there."""
-    return step.call in ("open", "openat") and step.arguments[1 + (step.call == "openat")] & os.O_EXCL != 0
+    return step.call in ("open", "openat") and "O_RDONLY" in step.arguments
 
 
 def looks_at_name(step):
     """Whether a name itself is looked at, and not what a link leads to."""
-    at = FLAGS_AT.get(step.call)
-    return step.call == "lstat" or at is not None and step.arguments[at] & NO_FOLLOW != 0
-
-
-def cuts(step):
-    """Whether a file that may be there is opened without its bytes."""
-    return step.call in ("open", "openat") and step.arguments[1 + (step.call == "openat")] & os.O_TRUNC != 0
+    return step.call == "lstat" or "AT_SYMLINK_NOFOLLOW" in step.arguments
 
 
 class Roles:
     """What each step of a way is about: `read`, `write`, `stdin`, `stdout`, `stderr`, or `own`, with the file's name."""
 
-    def __init__(self, room, way, steps):
+    def __init__(self, way, steps):
         self.way, self.steps = way, steps
-        self.names = [names_of(room, it) for it in steps]
+        self.names = [it.names for it in steps]
         self.beside = next((at for at, names in enumerate(self.names) if any(BESIDE.fullmatch(it) for it in names)), len(steps))
         self.first = next((at for at in range(len(steps)) if self.role(at)[0] != "own"), len(steps))
         # (behind the lines there is a message of no bytes)
@@ -103,7 +75,7 @@ class Roles:
             if looks_at_name(it) and self.names[at] and self.role(at)[0] == "write" and not BESIDE.fullmatch(self.names[at][-1]):
                 self.looks.setdefault(self.names[at][-1], at)
         # from this on a file that is written in place may be a part
-        self.cut = next((at for at, it in enumerate(steps) if cuts(it) and self.role(at)[0] == "write"), len(steps))
+        self.cut = next((at for at, it in enumerate(steps) if "O_TRUNC" in it.arguments and self.role(at)[0] == "write"), len(steps))
         # behind these OUT, or the PDF, is whole
         self.named = {}
         for at, it in enumerate(steps):
@@ -203,7 +175,7 @@ def ended_by_file(way, before, base, got, number, others):
 def allowed(roles, at, how, number, is_start):
     """The ends that a run may have where something is done to the step `at`."""
     step, (role, name) = roles.steps[at], roles.role(at)
-    if how == "short" or (how == "error" and number == errno.EINTR and step.call in INTERRUPTED):
+    if how == "error" and number == errno.EINTR and step.call in INTERRUPTED:
         return {"whole"} if not is_start else {"whole", "stopped"}
     if is_start:
         return {"whole", "stopped", "out of memory"}
@@ -215,7 +187,7 @@ def allowed(roles, at, how, number, is_start):
 
 def is_look(step):
     """Whether a call about a stream neither reads nor writes it, nor opens it."""
-    return step.call == "close" or step.call == "fcntl" and step.arguments[1] not in SECOND_NUMBER
+    return step.call == "close" or step.call == "fcntl" and "F_DUPFD" not in step.arguments
 
 
 def of_reading(roles, at, number, name):
@@ -226,7 +198,7 @@ def of_reading(roles, at, number, name):
 def of_writing(roles, at, number, name):
     step = roles.steps[at]
     whole_at = roles.named.get(roles.way.links.get(name, name), len(roles.steps))
-    is_done_without = makes_new(step) and number not in NO_ROOM
+    is_done_without = "O_EXCL" in step.arguments and number not in NO_ROOM
     if at > whole_at or is_done_without or (step.call in ("fdatasync", "fsync") and number in NO_SYNC):
         return {"whole"}
     if step.call in (*WRITING, *REMOVING, "open", "openat") or at in roles.looks.values():
@@ -259,11 +231,11 @@ def allowed_from(roles, at, number, is_start):
 
 # ---- in each run
 
-def early_name(room, steps):
+def early_name(steps):
     """A file that gets its name before its bytes are on the disk; None where there is none."""
     dirty = set()
     for step in steps:
-        names = names_of(room, step)
+        names = step.names
         if step.gave is None or not names:
             continue
         if step.call in ("write", "pwrite64", "writev", "copy_file_range", "sendfile", "ftruncate") and step.gave > 0:

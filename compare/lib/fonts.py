@@ -1,4 +1,5 @@
 """The fonts of the comparison, and the glyphs that are kept of each."""
+import glob
 import os
 import random
 import struct
@@ -43,7 +44,7 @@ def install(packages):
     missing = [it for it in sorted(set(packages)) if subprocess.run(["dpkg", "-s", it], capture_output=True).returncode]
     if missing:
         print(f"installing {' '.join(missing)}", file=sys.stderr, flush=True)
-        subprocess.run(["apt-get", "install", "-y", "-qq", *missing], check=True, stdout=subprocess.DEVNULL)
+        subprocess.run(["apt-get", "-o", "DPkg::Lock::Timeout=600", "install", "-y", "-qq", *missing], check=True, stdout=subprocess.DEVNULL)
 
 
 def u16(data, at):
@@ -61,10 +62,33 @@ def directory(data, index=0):
     return {data[r:r + 4].decode("latin-1"): (u32(data, r + 8), u32(data, r + 12)) for r in records}
 
 
-def glyph_count(path, index):
+def content(path):
     with open(path, "rb") as file:
-        data = file.read()
-    return u16(data, directory(data, index)["maxp"][0] + 4)
+        return file.read()
+
+
+def face_count(data):
+    return u32(data, 8) if data[:4] == b"ttcf" else 1
+
+
+def count_in(data, index):
+    """How many glyphs `maxp` of a face says; 1 where there is none."""
+    try:
+        return u16(data, directory(data, index)["maxp"][0] + 4)
+    except LookupError:
+        return 1
+
+
+def glyph_count(path, index):
+    return count_in(content(path), index)
+
+
+def axes(data, index=0):
+    """Tag, least, default and greatest value of each axis, in 65536ths."""
+    at, size = directory(data, index).get("fvar", (0, 0))
+    table = data[at:at + size]
+    rows = [u16(table, 4) + u16(table, 10) * k for k in range(u16(table, 8))] if table else []
+    return [(table[row:row + 4].decode("latin-1"), *struct.unpack_from(">iii", table, row + 4)) for row in rows]
 
 
 def label(path, index):
@@ -88,6 +112,11 @@ def glyph_sets(count):
     return sets + [("all in order", f"0-{kept - 1}"), ("all jumbled", spread(kept, kept))]
 
 
+def part_of(items, count):
+    """So many items, spread over all."""
+    return items if len(items) <= count else [items[k * len(items) // count] for k in range(count)]
+
+
 def faces():
     """Each face of the machine, as a path and an index."""
     found = []
@@ -97,7 +126,12 @@ def faces():
             if not name.lower().endswith((".ttf", ".otf", ".ttc")) or os.path.islink(path):
                 continue
             with open(path, "rb") as file:
-                head = file.read(12)
-            count = u32(head, 8) if head[:4] == b"ttcf" else 1
+                count = face_count(file.read(12))
             found += [(path, index) for index in range(count)]
     return found
+
+
+def variable(folders, only):
+    """The variable fonts with `glyf`: Debian's Inter, and those of folders."""
+    found = [it for folder in (f"{TRUETYPE}/inter-vf", *folders) for it in sorted(glob.glob(os.path.join(folder, "*"))) if it.endswith((".ttf", ".otf")) and only in os.path.basename(it)]
+    return [path for path in found if content(path)[:4] in (b"\0\1\0\0", b"true") and {"fvar", "gvar", "glyf"} <= set(directory(content(path)))]

@@ -1,4 +1,4 @@
-"""Fonts that differ in kind, for damage.py --kinds: small ones as they are, large ones cut down to some glyphs by fontTools.
+"""Fonts that differ in kind: small ones as they are, large ones cut down to some glyphs by fontTools.
 
 What is cut down keeps its composites, hinting, names, subroutines and font dicts. Collections are put together of such
 fonts, and of the least fonts of made.py each is a kind. The fonts are made anew where build/kinds doesn't have them.
@@ -118,17 +118,12 @@ def stored(name, make):
     return path
 
 
-def content(path):
-    with open(path, "rb") as file:
-        return file.read()
-
-
 def single(path, index, count):
     """The path of a font of one face: the file, or what is cut of it."""
     stem, ending = os.path.splitext(os.path.basename(path))
     face = f"-{index}" if path.endswith(".ttc") else ""
     ending = ".otf" if "opentype" in path and "ipa" not in path else ".ttf"
-    return stored(f"{stem}{face}-{count}{ending}", lambda: cut(path, index, count) if count else content(path))
+    return stored(f"{stem}{face}-{count}{ending}", lambda: cut(path, index, count) if count else fonts.content(path))
 
 
 def members(name):
@@ -136,7 +131,7 @@ def members(name):
     if name in SHARED:
         _, path, faces, count = SHARED[name]
         return [cut(path, face, count) for face in faces]
-    return [content(glob.glob(os.path.join(FOLDER, f"{stem}.*"))[0]) for stem in COLLECTIONS[name]]
+    return [fonts.content(glob.glob(os.path.join(FOLDER, f"{stem}.*"))[0]) for stem in COLLECTIONS[name]]
 
 
 def all_fonts(folders=()):
@@ -145,7 +140,7 @@ def all_fonts(folders=()):
     for name in COLLECTIONS:
         found.append(("collection", stored(f"{name}.ttc", lambda: collection(members(name)))))
     # (no subset is made of the second format of CFF, so the table's tag alone matters)
-    sid = content(single(*WHOLE_AND_CUT[18][2:]))
+    sid = fonts.content(single(*WHOLE_AND_CUT[18][2:]))
     found.append(("CFF2", stored("second format.otf", lambda: sid.replace(b"CFF ", b"CFF2", 1))))
     for name, font in LEAST.items():
         found.append(("made", stored(f"{name}.font", lambda: font)))

@@ -2,7 +2,6 @@
 import os
 import struct
 
-import pdf_harness
 import pdf_rules as rules
 import pdf_rules_codes as codes_by
 from pdf_file import Face
@@ -13,6 +12,10 @@ LOOSE = ("OS/2", "post", "name", "vhea", "vmtx", "VORG", "VVAR")
 FIELDS = {"head": [(36, 2), (38, 2), (40, 2), (42, 2), (44, 2)], "hhea": [(4, 2), (6, 2)], "post": [(4, 4), (12, 4)], "vhea": [(34, 2)], "VORG": [(4, 2), (6, 2)],
           "OS/2": [(0, 2), (4, 2), (8, 2), (30, 1), (32, 1), (33, 1), (62, 2), (68, 2), (70, 2), (74, 2), (76, 2), (86, 2), (88, 2)]}
 RIGHTS = (0, 2, 4, 6, 8, 10, 0x100, 0x102, 0x104, 0x200, 0x208, 0x302)
+# What the options of a case are for `pdf_font`, and the number of the first object.
+CHOICES = {"Source": {"codes": "source"}, "EachText": {"codes": "each_text"}, "Held": {"rights": "held"}, "CIDSet": {"cid_set": True}, "Kept": {"bounds": "kept"},
+           "unhinted": {"hinting": False}, "Vertical": {"vertical": True}, "QWERTY": {"tag": "QWERTY"}, "OpenType": {"program": "opentype"}}
+FIRST = 7
 EXTREMES = (0, 1, 2, 3, 4, 5, 8, 9, 10, 0x100, 0x102, 0x200, 0x7FFF, 0x8000, 0xFFFF)
 
 
@@ -27,9 +30,6 @@ class Case:
         self.shown = entries(self.characters, rng)
         self.options = options_of(self.source, rng)
         os.makedirs(folder)
-        self.path = os.path.join(folder, "source")
-        with open(self.path, "wb") as file:
-            file.write(data)
 
     def has(self, option):
         return option in self.options
@@ -45,8 +45,18 @@ class Case:
     def file(self, name):
         return os.path.join(self.folder, name)
 
-    def line(self):
-        return pdf_harness.line(self.folder, self.path, self.index, self.coordinates, self.options, self.shown)
+    def make(self, calls):
+        """What `embed` and `pdf_font` answer, and the files of the font."""
+        at, text = dict(self.coordinates), "".join(text for _, text in self.shown)
+        self.embedded = calls.answer("embed", self.data, [glyph for glyph, _ in self.shown], self.index, coordinates=at, hinting=not self.has("unhinted"), names=False, glyph_names=False)
+        self.found = calls.answer("glyphs_of", self.data, text, self.index)
+        made = calls.answer("pdf_font", self.data, self.shown, self.index, coordinates=at, **{word: value for option in self.options for word, value in CHOICES[option].items()})
+        if not isinstance(made, str):
+            self.offsets = made.objects(FIRST).offsets
+            for name, data in (("line.pdf", made.sheet()), ("grid.pdf", made.sheet("grid")), ("objects", made.objects(FIRST).bytes)):
+                with open(self.file(name), "wb") as file:
+                    file.write(data)
+        return made
 
 
 def coordinates_of(source, rng):

@@ -7,25 +7,17 @@ import pdf_readers as readers
 import pdf_rules as rules
 import pdf_rules_codes as codes_by
 from cff import cids as cids_of_cff
-from pdf_file import Face, Pdf, embedded
+from pdf_cases import FIRST
+from pdf_file import Face, Pdf, embedded, pages
 
-FIRST = 7
-
-
-def outcome(case, values):
+def outcome(case, made):
     """The error that the rules want, or None; and the one that came."""
-    came = values.get("error")
-    if values["embed"] != "ok" and came == values["embed"]:
+    embedded, came = case.embedded, made if isinstance(made, str) else None
+    if isinstance(embedded, str) and came == embedded:
         return came, came
     if not case.has("Held") and not rules.is_permitted(case.source):
-        return "NotPermitted " + " ".join(map(str, rules.permission(case.source))), came
-    if values["embed"] != "ok":
-        return values["embed"], came
-    return None, came
-
-
-def numbers(text):
-    return [int(it) for it in text.split()]
+        return "NotPermitted", came
+    return embedded if isinstance(embedded, str) else None, came
 
 
 def wanted_widths(case, program, count):
@@ -72,12 +64,10 @@ def compared(wrong, what, has, wants):
 class Font:
     """What the rules say of a case whose font program is there."""
 
-    def __init__(self, case, values):
-        with open(case.file("program"), "rb") as file:
-            self.program = file.read()
-        source = case.source
-        self.kind = "TrueType" if not source.is_cff else "OpenType" if case.has("OpenType") else "BareCff"
-        self.tables = {} if self.kind == "BareCff" else {tag: self.program[o:o + n] for tag, (o, n) in fonts.directory(self.program).items()}
+    def __init__(self, case, made):
+        source, self.program = case.source, made.program
+        self.kind = "TrueType" if not source.is_cff else "OpenType" if case.has("OpenType") else "CFF"
+        self.tables = {} if self.kind == "CFF" else {tag: self.program[o:o + n] for tag, (o, n) in fonts.directory(self.program).items()}
         self.cids, self.codes = codes_by.cids(case.shown), case.codes
         self.count = self.glyph_count(case)
         self.widths = wanted_widths(case, self.tables, self.count)
@@ -98,32 +88,23 @@ class Font:
         return max(self.cids, default=0) + 1
 
 
-def faults_of_values(case, values, font):
-    """What the crate's values have otherwise than the rules."""
+def faults_of_values(case, made, font):
+    """What the library's values have otherwise than the rules."""
     wrong = []
-    words = {"kind": font.kind, "glyph_count": str(font.count), "name": font.name, "default_width": str(font.default), "to_unicode": font.to_unicode.encode().hex(),
-             "permission": " ".join(map(str, rules.permission(case.source))), "encoding": font.cmap and f"{font.cmap[0]} {font.cmap[1].encode().hex()}",
-             "cid_set": codes_by.cid_set(font.count).hex() if case.has("CIDSet") else None}
-    lists = {"cids": font.cids, "codes": font.codes, "is_said": codes_by.is_said(case.shown, font.codes), "widths": font.widths, "dw2": font.dw2}
-    words.update({name: wanted if wanted is None else " ".join(map(str, wanted)) for name, wanted in lists.items()})
-    words["columns"] = font.columns and " ".join(",".join(map(str, it)) for it in font.columns)
-    for name, wanted in font.values.items():
-        words[name] = " ".join(map(str, wanted)) if isinstance(wanted, list) else "-" if wanted is None else str(wanted)
-    for name, wanted in words.items():
-        compared(wrong, name, values.get(name), wanted)
-    if font.kind != "BareCff":
-        compared(wrong, "the program as `embed` makes it", values["is_embedded"], "1")
-    return wrong
-
-
-def faults_of_calls(case, values):
-    """What `glyphs_of` and `codes_of` answer otherwise."""
-    wrong = []
-    text = "".join(text for _, text in case.shown)
+    name, text = font.cmap or (None, "")
+    wanted = {"kind": font.kind, "glyph_count": font.count, "cids": font.cids, "codes": font.codes, "is_said": [it == 1 for it in codes_by.is_said(case.shown, font.codes)], "widths": font.widths,
+              "default_width": font.default, "columns": font.columns, "default_column": font.dw2 and tuple(font.dw2), "to_unicode": font.to_unicode.encode(), "encoding": text.encode() or None,
+              "encoding_name": name, "cid_set": codes_by.cid_set(font.count) if case.has("CIDSet") else None}
+    for field, wants in wanted.items():
+        compared(wrong, field, getattr(made, field), wants)
+    compared(wrong, "permission", made.permission, rules.permission(case.source))
+    values = {**font.values, "font_name": font.name, "bounds": tuple(font.values["bounds"]), "italic_angle": font.values["italic_angle"] / 1000}
+    for field, has in made.descriptor._asdict().items():
+        compared(wrong, field, has, values[field])
+    if font.kind != "CFF":
+        compared(wrong, "the program as `embed` makes it", made.program == case.embedded[0], True)
     if case.characters:
-        compared(wrong, "glyphs_of", values["glyphs_of"], " ".join(str(case.characters.get(ord(it), 0)) for it in text))
-    for choice in ("Consecutive", "Source", "EachText"):
-        compared(wrong, f"codes_of {choice}", values[f"codes_of_{choice}"], " ".join(map(str, codes_by.codes(case.shown, choice))))
+        compared(wrong, "glyphs_of", case.found, [(case.characters.get(ord(it), 0), it) for _, text in case.shown for it in text])
     return wrong
 
 
@@ -184,7 +165,7 @@ def faults_of_streams(case, font, objects, values):
     data, entries = stream(objects, program)
     compared(wrong, "font program", data == font.program, True)
     kept = {it: value for it, value in entries.items() if it != "/Length"}
-    more = {"TrueType": {"/Length1": len(font.program)}, "BareCff": {"/Subtype": "/CIDFontType0C"}, "OpenType": {"/Subtype": "/OpenType"}}
+    more = {"TrueType": {"/Length1": len(font.program)}, "CFF": {"/Subtype": "/CIDFontType0C"}, "OpenType": {"/Subtype": "/OpenType"}}
     compared(wrong, "its dictionary", kept, more[font.kind])
     compared(wrong, "ToUnicode", stream(objects, top["/ToUnicode"])[0].decode(), font.to_unicode)
     compared(wrong, "CIDSet", cid_set and stream(objects, cid_set)[0], codes_by.cid_set(font.count) if case.has("CIDSet") else None)
@@ -209,30 +190,11 @@ def faults_of_text(case, font):
     return wrong, is_simple
 
 
-def instance_of(source, glyphs):
-    """A variable font's static font at its coordinates, with the outlines of these glyphs under their numbers, by fontTools."""
-    import io
-
-    from fontTools import subset
-    from fontTools.ttLib import TTFont
-    from fontTools.varLib import instancer
-
-    font, out = TTFont(io.BytesIO(source.data), fontNumber=source.index), io.BytesIO()
-    for tag in ("GSUB", "GPOS", "GDEF", "BASE", "STAT", "MVAR", "DSIG"):
-        if tag in font:
-            del font[tag]
-    cut = subset.Subsetter(subset.Options(retain_gids=True, notdef_outline=True, layout_features=[]))
-    cut.populate(gids=glyphs)
-    cut.subset(font)
-    instancer.instantiateVariableFont(font, {tag: value / 65536 for tag, value in source.at.items()}, inplace=True).save(out)
-    return out.getvalue()
-
-
 def points(case, font, is_line, extent):
     """Where each entry's origin lies, exactly; of columns that of horizontal writing."""
     pen, found = 0, []
     for k, ((glyph, _), cid) in enumerate(zip(case.shown, font.cids)):
-        units = advance(font.tables, cid) if case.source.is_moved else case.source.advance(glyph)
+        units = case.source.advance(glyph)
         x, y = (36 + pen, 54) if is_line else (34 + 44 * (k % 12), 50 + 48 * (15 - k // 12 % 16))
         if case.is_vertical:
             down, _, top = font.columns[cid]
@@ -253,16 +215,12 @@ def whole_page(case, font, face, is_line, box):
         text.append(f"1 0 0 1 {float(x):.4f} {float(y):.4f} Tm <{numbers[glyph]:04X}> Tj")
     pdf = Pdf()
     used = embedded(pdf, face, "OpenType" if face.is_cff else "TrueType", "AAAAAA+Whole", "[]")
-    tree, contents = pdf.room(), pdf.stream("", "\n".join([*text, "ET"]).encode())
-    page = pdf.put(f"<< /Type /Page /Parent {tree} 0 R /MediaBox [0 0 {box[0]} {box[1]}] /Contents {contents} 0 R /Resources << /Font << /F0 {used} 0 R >> >> >>")
-    pdf.fill(tree, f"<< /Type /Pages /Count 1 /Kids [{page} 0 R] >>")
-    return pdf.file(pdf.put(f"<< /Type /Catalog /Pages {tree} 0 R >>"))
+    return pages(pdf, box, [used], ["\n".join([*text, "ET"])])
 
 
 def faults_of_ink(case, font):
     """What MuPDF and Poppler draw otherwise than with the whole font; and how many pictures were compared."""
-    wrong, count = [], 0
-    face = Face(instance_of(case.source, [glyph for glyph, _ in case.shown]) if case.source.is_moved else case.data, 0 if case.source.is_moved else case.index)
+    wrong, count, face = [], 0, Face(case.data, case.index)
     for name, reader, draw in (("line", "MuPDF", readers.by_mupdf), ("grid", "Poppler", readers.by_poppler)):
         box = next(it["value"]["/MediaBox"] for it in readers.objects_of(case.file(f"{name}.pdf")).values() if "/MediaBox" in (it.get("value") or ()))
         path = case.file(f"whole-{name}.pdf")
@@ -276,10 +234,10 @@ def faults_of_ink(case, font):
     return wrong, count
 
 
-def archival_page(case, values, path):
+def archival_page(case, path):
     """A PDF/A-1b page of the font's objects, which shows its codes."""
     with open(case.file("objects"), "rb") as file:
         objects = file.read()
     codes = "".join(f"<{code:04X}> Tj\n" for code in case.codes)
     with open(path, "wb") as file:
-        file.write(readers.archival(objects, numbers(values["offsets"]), FIRST, f"BT /F0 12 Tf 20 50 Td\n{codes}ET", (800, 100)))
+        file.write(readers.archival(objects, case.offsets, FIRST, f"BT /F0 12 Tf 20 50 Td\n{codes}ET", (800, 100)))

@@ -54,7 +54,7 @@ class Source:
         self.tables = {tag: data[o:o + length] for tag, (o, length) in fonts.directory(data, index).items()}
         self.is_cff = "glyf" not in self.tables
         self.units = field(self.tables.get("head"), 18, "H")
-        self.axes = self.axes_of()
+        self.axes = fonts.axes(data, index)
         given = dict(coordinates)
         # (each value clamped to its axis, in 65536ths)
         self.at = {tag: min(max(round(given.get(tag, default / 65536) * 65536), low), high) for tag, low, default, high in self.axes}
@@ -63,13 +63,6 @@ class Source:
 
     def __getitem__(self, tag):
         return self.tables.get(tag)
-
-    def axes_of(self):
-        """Tag, least, default and greatest value of each axis, in 65536ths."""
-        table = self["fvar"]
-        start, count, size = field(table, 4, "H"), field(table, 8, "H") or 0, field(table, 10, "H") or 0
-        rows = [start + size * k for k in range(count)]
-        return [(table[at:at + 4].decode("latin-1"), *struct.unpack_from(">iii", table, at + 4)) for at in rows]
 
     @property
     def font(self):
@@ -340,11 +333,11 @@ def permission(source):
     os2 = source["OS/2"]
     version, bits = field(os2, 0, "H"), field(os2, 8, "H")
     if bits is None:
-        return "Unsaid", 1, 1
-    usage = next((name for bit, name in ((8, "Editable"), (4, "PreviewAndPrint"), (2, "Restricted")) if bits & bit), "Installable")
+        return "unsaid", 1, 1
+    usage = next((name for bit, name in ((8, "editable"), (4, "preview_and_print"), (2, "restricted")) if bits & bit), "installable")
     return (usage, int(not bits & 0x100), int(not bits & 0x200)) if version >= 2 else (usage, 1, 1)
 
 
 def is_permitted(source):
     usage, subsets, outlines = permission(source)
-    return usage != "Restricted" and subsets and outlines
+    return usage != "restricted" and subsets and outlines

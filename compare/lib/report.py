@@ -3,7 +3,9 @@ import argparse
 import collections
 import concurrent.futures
 import os
+import subprocess
 import sys
+import time
 
 import build
 
@@ -29,19 +31,38 @@ def words(text, **numbers):
     parser.add_argument("--seed", default="1", metavar="S", help="the seed of the random choices")
     parser.add_argument("--only", default="", metavar="WORD", help="take those whose names have this word")
     parser.add_argument("--jobs", type=int, default=2, metavar="J", help="so many at a time")
+    parser.add_argument("--minutes", type=float, default=1e6, metavar="M", help="what isn't begun after so many isn't compared")
     for name, (usual, short) in numbers.items():
         parser.add_argument(f"--{name}", type=int, metavar="N", help=f"{usual}, with --short {short}")
     given = parser.parse_args()
     for name, pair in numbers.items():
         if getattr(given, name) is None:
             setattr(given, name, pair[given.short])
+    given.end = time.monotonic() + 60 * given.minutes
     return given
 
 
-def beside(jobs, call, *columns):
-    """What a call answers for each row of the columns, some of them at a time."""
-    with concurrent.futures.ProcessPoolExecutor(jobs) as pool:
-        return list(pool.map(call, *columns))
+def beside(words, call, rows, part=1):
+    """What a call answers for each row, some of them at a time, in this part of the time that is left."""
+    end = time.monotonic() + part * (words.end - time.monotonic())
+    with concurrent.futures.ProcessPoolExecutor(words.jobs) as pool:
+        waiting, found, rows = set(), [], iter(rows)
+        for row in rows if time.monotonic() < end else ():
+            waiting.add(pool.submit(call, *row))
+            if len(waiting) > words.jobs:
+                done, waiting = concurrent.futures.wait(waiting, return_when=concurrent.futures.FIRST_COMPLETED)
+                found += [it.result() for it in done]
+            if time.monotonic() > end:
+                break
+        return found + [it.result() for it in waiting]
+
+
+def cost(library, *words, timeout=None):
+    """What cost.py says of a call: nanoseconds, bytes answered and held, and the name of an error or `-`."""
+    env = {**os.environ, "LIBRARY": library, "LD_PRELOAD": os.path.join(build.BUILD, "refuse.so")}
+    ran = subprocess.run([sys.executable, os.path.join(os.path.dirname(__file__), "cost.py"), *map(str, words)], env=env, stdout=subprocess.PIPE, text=True, check=True, timeout=timeout)
+    *numbers, error = ran.stdout.split()
+    return *map(int, numbers), error
 
 
 def total(reports):

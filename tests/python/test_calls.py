@@ -273,6 +273,8 @@ def test_errors():
             assert kind.__bases__ == (subsetter.Error, *[it for name, it in bases.items() if name == kind.__name__])
             again = pickle.loads(pickle.dumps(error))
             assert type(again) is kind and again.args == error.args
+        elif status == 16:
+            assert type(error) is ValueError
         else:
             assert type(error) is RuntimeError and f"status {status}" in str(error)
     assert subsetter.Error.__bases__ == (Exception,)

@@ -111,5 +111,5 @@ def test_each_request_that_is_refused(tmp_path):
     shim = tmp_path / "refuse.so"
     shared_library(HERE / "refuse.c", shim)
     *lines, last = child(REFUSED, LD_PRELOAD=shim).splitlines()
-    assert [line.partition(": ")[2] for line in lines] == ["True True True"] * 8, lines
+    assert len(lines) > 7 and {line.partition(": ")[2] for line in lines} == {"True True True"}, lines
     assert last == "True"

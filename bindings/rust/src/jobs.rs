@@ -8,7 +8,7 @@ mod lines;
 use crate::host::process::{ExitCode, Termination};
 use crate::host::rt::{AllocGlobal, Eprint, HostRuntime};
 use crate::host::turns;
-use crate::proved::subset_args::{Job, Shown};
+use crate::proved::subset_args::Shown;
 use crate::proved::subset_font::{
     answer_apart, batch_or_status, due, due_of, hold_streams, is_shown, next_of_source,
     read_arguments, read_lines, read_source, refuse_memory, run_by, set_answer, status_of_batch,
@@ -137,10 +137,11 @@ fn answer_all<W: Write>(
     answers.write_ready(rt, requests, states)?;
     for first in 0..requests.len() {
         if let Some(job) = due(requests, states, first) {
-            let of_source = |index: &usize| due_of(requests, states, *index, job).is_some();
+            let input = job.input.as_str();
+            let of_source = |index: &usize| due_of(requests, states, *index, input).is_some();
             let chain = iter::successors(Some(first), |index| next.get(*index).copied());
             let indexes: Vec<usize> = chain.filter(of_source).collect();
-            answer_source(rt, requests, states, job, &indexes, count, answers)?;
+            answer_source(rt, requests, states, input, &indexes, count, answers)?;
         }
     }
     Ok(())
@@ -153,12 +154,12 @@ fn answer_source<W: Write>(
     rt: &HostRuntime,
     requests: &[Request],
     states: &mut [State],
-    first: &Job,
+    input: &str,
     indexes: &[usize],
     count: usize,
     answers: &mut AnswerLines<W>,
 ) -> Result<(), Failure> {
-    let source = read_source(rt, first);
+    let source = read_source(rt, input);
     let next = AtomicUsize::new(0);
     let (send, receive) = mpsc::channel();
     let work = |send: mpsc::Sender<_>| {

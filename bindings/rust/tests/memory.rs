@@ -111,7 +111,7 @@ fn each_request_of_an_instance_may_be_refused() {
 mod pdf {
     use std::hash::{Hash, Hasher};
     use subsetter::pdf::{
-        codes_of, glyphs_of, pdf_font, Codes, Direction, FontError, FontOptions, Layout, Part,
+        codes_of, glyphs_of, pdf_font, Codes, Direction, FontError, FontOptions, Layout,
         PartsError, PdfFont, References, Shown,
     };
     use subsetter::{Error, Tag};
@@ -131,7 +131,12 @@ mod pdf {
         })?;
         let columns = made.columns().map(|it| number(&it));
         let encoding = made.encoding().map(|it| number(&it));
-        let lists = (made.program(), made.cids(), made.codes(), made.text_is_mapped());
+        let lists = (
+            made.program(),
+            made.cids(),
+            made.codes(),
+            made.text_is_mapped(),
+        );
         let values = (made.widths(), made.descriptor(), made.to_unicode());
         Ok(number(&(lists, values, columns, encoding, made.cid_set())))
     }
@@ -152,15 +157,16 @@ mod pdf {
             font.sheet(&shown, Layout::Grid)?,
         );
         let objects = (font.objects(4)?, font.dictionaries(&references)?);
-        let numbers: Vec<u32> = (1..).take(font.part_count()).collect();
-        let parts = font.parts(&numbers).map_err(|error| match error {
+        let numbers = [1, 2, 3, 4, 5, 6, 7];
+        let parts = font.parts(&numbers[..font.part_count()]);
+        let parts = parts.map_err(|error| match error {
             PartsError::Subset(error) => error,
             other => panic!("{other}"),
         })?;
-        let values = parts
-            .iter()
-            .map(Part::value)
-            .collect::<Result<Vec<_>, _>>()?;
+        let mut values = 0;
+        for part in &parts {
+            values ^= number(&(part.number, part.value()?));
+        }
         Ok(number(&(sheets, objects, values, font.w()?, font.w2()?)))
     }
 

@@ -3,5 +3,4 @@ pub mod ColumnSteps
 pub mod CountSteps
 pub mod KeySteps
 pub mod Most
-pub mod MoveSteps
 pub mod OriginSteps

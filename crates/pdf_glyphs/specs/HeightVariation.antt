@@ -1,10 +1,9 @@
 -- What advance heights and the origins of "VORG" vary by off a font's default (OpenType, "VVAR"): its items are found as those of "HVAR" are.
-use Rattle.std.specs.Prelude.{ℕ, ◌^◌, nat_lt, if◌then◌else◌, ◌&&◌, int_le, int_lt, List, ℤ, pos, neg_ℤ, ◌+ℤ◌, unsigned_abs, Option, Some, None}
+use Rattle.std.specs.Prelude.{ℕ, ◌^◌, nat_lt, if◌then◌else◌, ◌&&◌, int_le, int_lt, List, ℤ, pos, neg_ℤ, ◌+ℤ◌, unsigned_abs}
 use Rattle.std.specs.Result.{result_unwrap_or}
 use Rattle.subsetter_variation.specs.Items.ItemVariations.{whole_or_fault}
 use Rattle.subsetter_variation.specs.Items.Advances.{advance_delta, origin_delta}
 use Rattle.pdf_glyphs.specs.declared.heights.HeightVariation.{HeightVariation}
-use Rattle.pdf_glyphs.specs.declared.heights.Moves.{Moves}
 
 -- the normalized coordinates, in 16384ths, and the bytes of "VVAR"
 pub record Variation : Type 0 where
@@ -23,8 +22,8 @@ abbrev pub if_height : ℤ → ℕ → ℕ
 if_height sum a = if int_le sum (pos 0) then 0 else if nat_lt (unsigned_abs sum) (2 ^ 16) then unsigned_abs sum else a
 
 -- an advance height with what it varies by
-abbrev pub varied_height : ℤ → ℕ → ℕ
-varied_height delta a = if_height (pos a +ℤ delta) a
+abbrev pub varied_height : Variation → ℕ → ℕ → ℕ
+varied_height v g a = if_height (pos a +ℤ height_delta v g) a
 
 -- what the y of a glyph's origin varies by, in whole units, halves up; 0 where nothing is there to be read
 abbrev pub origin_shift : Variation → ℕ → ℤ
@@ -35,13 +34,5 @@ abbrev pub if_origin : ℤ → ℤ → ℤ
 if_origin sum y = if int_le (neg_ℤ (pos (2 ^ 15))) sum && int_lt sum (pos (2 ^ 15)) then sum else y
 
 -- the y of an origin with what it varies by
-abbrev pub varied_origin : ℤ → ℤ → ℤ
-varied_origin shift y = if_origin (y +ℤ shift) y
-
--- what both of a glyph vary by, if they do
-abbrev pub moves_of : Variation → ℕ → Moves
-moves_of v g = record { height = height_delta v g; origin = origin_shift v g }
-
-abbrev pub moves_at : Option Variation → ℕ → Option Moves
-moves_at None g = None
-moves_at (Some v) g = Some (moves_of v g)
+abbrev pub varied_origin : Variation → ℕ → ℤ → ℤ
+varied_origin v g y = if_origin (y +ℤ origin_shift v g) y

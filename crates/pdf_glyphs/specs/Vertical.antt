@@ -6,8 +6,7 @@ use Rattle.subsetter_base.specs.Bytes.{field, signed_field}
 use Rattle.pdf_values.specs.Head.{units_per_em}
 use Rattle.pdf_values.specs.Rounding.{thousandths}
 use Rattle.pdf_glyphs.specs.Boxes.{Outlines, glyph_box, outlines_view}
-use Rattle.pdf_glyphs.specs.HeightVariation.{Variation, moves_at, varied_height, varied_origin}
-use Rattle.pdf_glyphs.specs.declared.heights.Moves.{Moves}
+use Rattle.pdf_glyphs.specs.HeightVariation.{Variation, varied_height, varied_origin}
 use Rattle.pdf_glyphs.specs.declared.metrics.VerticalTables.{VerticalTables}
 
 -- the bytes of the tables that are there
@@ -105,24 +104,24 @@ columns_of t _ _ = []
 -- ---- off the default
 
 -- the advance height with what it varies by, if it does
-abbrev pub advance_at : Vertical → Option Moves → ℕ → Option ℕ
+abbrev pub advance_at : Vertical → Option Variation → ℕ → Option ℕ
 advance_at t None g = advance_of t g
-advance_at t (Some by) g = option_map (varied_height by.height) (advance_of t g)
+advance_at t (Some v) g = option_map (varied_height v g) (advance_of t g)
 
--- the y of an origin with what it varies by, if it does: one by "VORG"; of TrueType outlines it is that of the default
-abbrev pub moved_by : Option Moves → Option (List ℕ) → Option ℤ → Option ℤ
-moved_by None glyf y = y
-moved_by (Some by) None y = option_map (varied_origin by.origin) y
-moved_by (Some by) (Some glyf) y = y
+-- the y of an origin with what it varies by: one by "VORG"; of TrueType outlines it is that of the default
+abbrev pub moved_by : Option Variation → Option (List ℕ) → ℕ → Option ℤ → Option ℤ
+moved_by None glyf g y = y
+moved_by (Some v) None g y = option_map (varied_origin v g) y
+moved_by (Some v) (Some glyf) g y = y
 
-abbrev pub origin_y_at : Vertical → Option Moves → ℕ → Option ℤ
-origin_y_at t by g = moved_by by t.outlines.glyf (origin_y t g)
+abbrev pub origin_y_at : Vertical → Option Variation → ℕ → Option ℤ
+origin_y_at t v g = moved_by v t.outlines.glyf g (origin_y t g)
 
 -- the column
-abbrev pub metric_at : Vertical → Option Moves → ℕ → ℕ → Column
-metric_at t by g w = option_map_or (λ a. column (units_per_em t.outlines.head) w a (origin_y_at t by g)) (advance_at t by g) (own_column w)
+abbrev pub metric_at : Vertical → Option Variation → ℕ → ℕ → Column
+metric_at t v g w = option_map_or (λ a. column (units_per_em t.outlines.head) w a (origin_y_at t v g)) (advance_at t v g) (own_column w)
 
 -- of each glyph
 abbrev pub columns_at : Vertical → Option Variation → List ℕ → List ℕ → List Column
-columns_at t v (g ∷ gs) (w ∷ ws) = metric_at t (moves_at v g) g w ∷ columns_at t v gs ws
+columns_at t v (g ∷ gs) (w ∷ ws) = metric_at t v g w ∷ columns_at t v gs ws
 columns_at t v _ _ = []

@@ -1,15 +1,15 @@
 //! The columns of the CIDs that strings can show (ISO 32000-1, 9.7.4.3).
 
-ghost use Rattle.std.specs.Prelude.{◌≡◌, ◌<◌, ◌≤◌, ◌⊎◌, ℕ, [], ◌∷◌, length, map, IfErr, IfOk, None, OnOk, slice_index, slice_index_or};
+ghost use Rattle.std.specs.Prelude.{◌≡◌, ◌<◌, ◌≤◌, ◌⊎◌, ℕ, [], ◌∷◌, length, IfErr, IfOk, None, OnOk, slice_index, slice_index_or};
 ghost use Rattle.std.specs.Option.{option_map};
 ghost use Rattle.subsetter_base.specs.Indexes.{HasAllAboveZero, with_glyphs};
 ghost use Rattle.subsetter_base.specs.declared.error.Error.TheVariants.{OutOfMemory, OverflowError};
 ghost use Rattle.pdf_glyphs.specs.Frequent.{most_frequent};
-ghost use Rattle.pdf_glyphs.specs.HeightVariation.{moves_at, variation_view};
+ghost use Rattle.pdf_glyphs.specs.HeightVariation.{variation_view};
 ghost use Rattle.pdf_glyphs.specs.Vertical.{columns_at, columns_of, origin_of, vertical_view};
 
 use crate::frequent::most_frequent;
-use crate::heights::{HeightVariation, Moves, moves_of_each};
+use crate::heights::HeightVariation;
 use crate::metrics::{VerticalTables, metric_at};
 use crate::origins::origins_of;
 use pdf_text::{Column, DefaultColumn};
@@ -33,39 +33,7 @@ fn glyphs_of(alloc: Global, mapper: &GlyphRemapper) -> Result<Vec<u16>, Error>
     Ok(mapper.remapped_gids().collect(alloc)?)
 }
 
-/// The column of each glyph that has a width, by what its metrics vary by.
-fn columns_by(
-    alloc: Global,
-    tables: VerticalTables<'_>,
-    variation: Option<HeightVariation<'_>>,
-    glyphs: &[u16],
-    moves: &[Option<Moves>],
-    origins: &[Option<i16>],
-    widths: &[u32],
-) -> Result<Vec<Column>, Error>
-    requires moves { moves.now ≡ map (moves_at (option_map variation_view variation)) glyphs.now }
-    requires many { length moves.now ≡ length glyphs.now }
-    requires len { length origins.now ≡ length glyphs.now }
-    requires are { (k : ℕ) → k < length glyphs.now → slice_index_or origins.now k None ≡ origin_of (vertical_view tables).vorg (slice_index glyphs.now k) }
-    ensures ok { IfOk result (λ columns. columns.items ≡ columns_at (vertical_view tables.entry) (option_map variation_view variation.entry) glyphs.now widths.now) }
-    ensures few { IfOk result (λ columns. length columns.items ≤ length glyphs.now) }
-    ensures err { IfErr result (λ e. e ≡ OutOfMemory) }
-{
-    let mut columns = Vec::with_capacity(alloc, glyphs.len())?;
-    for index in 0..glyphs.len().min(widths.len()) {
-        let column = metric_at(
-            tables,
-            moves[index],
-            glyphs[index],
-            widths[index],
-            origins[index],
-        );
-        columns.push(column)?;
-    }
-    Ok(columns)
-}
-
-/// The same by what `VVAR` says of all glyphs.
+/// The column of each glyph that has a width.
 fn each_column(
     alloc: Global,
     tables: VerticalTables<'_>,
@@ -80,8 +48,18 @@ fn each_column(
     ensures few { IfOk result (λ columns. length columns.items ≤ length glyphs.now) }
     ensures err { IfErr result (λ e. e ≡ OutOfMemory) }
 {
-    let moves = moves_of_each(alloc, variation, glyphs)?;
-    columns_by(alloc, tables, variation, glyphs, &moves, origins, widths)
+    let mut columns = Vec::with_capacity(alloc, glyphs.len())?;
+    for index in 0..glyphs.len().min(widths.len()) {
+        let column = metric_at(
+            tables,
+            variation,
+            glyphs[index],
+            widths[index],
+            origins[index],
+        );
+        columns.push(column)?;
+    }
+    Ok(columns)
 }
 
 /// The columns of a font for the glyphs in use, in order of use, whose CIDs have these widths.

@@ -1,14 +1,9 @@
 //! What advance heights and the origins of `VORG` vary by off a font's default (OpenType, "VVAR").
 
-ghost use Rattle.std.specs.Prelude.{◌≡◌, ◌<◌, ◌≤◌, ◌^◌, IfOk, None, Ok, Some, length, map, pos, slice_index_or, unsigned_abs};
-ghost use Rattle.std.specs.Option.{option_map};
-ghost use Rattle.std.specs.Result.{result_unwrap_or};
-ghost use Rattle.subsetter_variation.specs.Items.Advances.{advance_or_fault, origin_or_fault};
-ghost use Rattle.pdf_glyphs.specs.HeightVariation.{if_height, if_origin, moves_at, variation_view, varied_height, varied_origin};
+ghost use Rattle.std.specs.Prelude.{◌≡◌, ◌≤◌, ◌^◌, unsigned_abs};
+ghost use Rattle.pdf_glyphs.specs.HeightVariation.{height_delta, if_height, if_origin, origin_shift, variation_view, varied_height, varied_origin};
 
-use std::alloc::{AllocError, Global};
-use subsetter_base::Error;
-use subsetter_variation::items::advances::{advance_deltas, origin_deltas};
+use subsetter_variation::items::advances::{advance_delta, origin_delta};
 
 /// Where a font is off its default, and what its advance heights and the origins of `VORG` vary by.
 #[derive(Clone, Copy)]
@@ -19,80 +14,13 @@ pub struct HeightVariation<'a> {
     pub vvar: &'a [u8],
 }
 
-/// What a glyph's advance height and the y of its origin vary by, in whole units.
-#[derive(Clone, Copy)]
-pub struct Moves {
-    pub height: i64,
-    pub origin: i64,
-}
-
-/// What is found; 0 where nothing is there to be read.
-fn or_zero(found: Result<i64, Error>) -> i64
-    ensures { result ≡ result_unwrap_or found (pos 0) }
+/// What a glyph's advance height varies by, in whole units; 0 where nothing is there to be read.
+fn height_delta(variation: HeightVariation<'_>, glyph: u16) -> i64
+    ensures { result ≡ height_delta (variation_view variation.entry) glyph }
 {
-    match found {
+    match advance_delta(variation.vvar, variation.at, glyph) {
         Ok(delta) => delta,
         Err(_) => 0,
-    }
-}
-
-/// What the metrics of a glyph vary by, by two lists.
-fn moves_in(heights: &[Result<i64, Error>], origins: &[Result<i64, Error>], place: usize) -> Moves
-    requires heights { place < length heights.now }
-    requires origins { place < length origins.now }
-    ensures { result ≡ record { height = result_unwrap_or (slice_index_or heights.now place (Ok (pos 0))) (pos 0); origin = result_unwrap_or (slice_index_or origins.now place (Ok (pos 0))) (pos 0) } }
-{
-    Moves {
-        height: or_zero(heights[place]),
-        origin: or_zero(origins[place]),
-    }
-}
-
-/// Nothing for each of so many glyphs.
-fn no_moves(alloc: Global, glyphs: &[u16]) -> Result<Vec<Option<Moves>>, AllocError>
-    ensures { IfOk result (λ v. v.items ≡ map (moves_at None) glyphs.now) }
-{
-    let mut all = Vec::with_capacity(alloc, glyphs.len())?;
-    for glyph in glyphs {
-        all.push(None)?;
-    }
-    Ok(all)
-}
-
-/// What the metrics of each of these glyphs vary by, by two lists.
-fn moves_by(
-    alloc: Global,
-    variation: HeightVariation<'_>,
-    glyphs: &[u16],
-    heights: &[Result<i64, Error>],
-    origins: &[Result<i64, Error>],
-) -> Result<Vec<Option<Moves>>, AllocError>
-    requires heights { heights.now ≡ map (advance_or_fault variation.vvar.now variation.at.now) glyphs.now }
-    requires origins { origins.now ≡ map (origin_or_fault variation.vvar.now variation.at.now) glyphs.now }
-    ensures { IfOk result (λ v. v.items ≡ map (moves_at (Some (variation_view variation))) glyphs.now) }
-{
-    let mut all = Vec::with_capacity(alloc, glyphs.len())?;
-    for place in 0..glyphs.len() {
-        all.push(Some(moves_in(heights, origins, place)))?;
-    }
-    Ok(all)
-}
-
-/// What the metrics of each of these glyphs vary by, if they do. What items of `VVAR` have in common is reckoned once.
-pub fn moves_of_each(
-    alloc: Global,
-    variation: Option<HeightVariation<'_>>,
-    glyphs: &[u16],
-) -> Result<Vec<Option<Moves>>, AllocError>
-    ensures { IfOk result (λ v. v.items ≡ map (moves_at (option_map variation_view variation.entry)) glyphs.now) }
-{
-    match variation {
-        None => no_moves(alloc, glyphs),
-        Some(variation) => {
-            let heights = advance_deltas(alloc, variation.vvar, variation.at, glyphs)?;
-            let origins = origin_deltas(alloc, variation.vvar, variation.at, glyphs)?;
-            moves_by(alloc, variation, glyphs, &heights, &origins)
-        }
     }
 }
 
@@ -110,10 +38,21 @@ fn if_height(sum: i128, advance: u16) -> u16
 }
 
 /// An advance height with what it varies by.
-pub fn varied_height(delta: i64, advance: u16) -> u16
-    ensures { result ≡ varied_height delta advance }
+pub fn varied_height(variation: HeightVariation<'_>, glyph: u16, advance: u16) -> u16
+    ensures { result ≡ varied_height (variation_view variation.entry) glyph advance }
 {
+    let delta = height_delta(variation, glyph);
     if_height(i128::from(advance) + i128::from(delta), advance)
+}
+
+/// What the y of a glyph's origin varies by, in whole units; 0 where nothing is there to be read.
+fn origin_shift(variation: HeightVariation<'_>, glyph: u16) -> i64
+    ensures { result ≡ origin_shift (variation_view variation.entry) glyph }
+{
+    match origin_delta(variation.vvar, variation.at, glyph) {
+        Ok(shift) => shift,
+        Err(_) => 0,
+    }
 }
 
 /// A sum as the y of an origin; past 16 bits the y stays.
@@ -127,8 +66,9 @@ fn if_origin(sum: i128, y: i16) -> i16
 }
 
 /// The y of a glyph's origin in `VORG` with what it varies by.
-pub fn varied_origin(shift: i64, y: i16) -> i16
-    ensures { result ≡ varied_origin shift y }
+pub fn varied_origin(variation: HeightVariation<'_>, glyph: u16, y: i16) -> i16
+    ensures { result ≡ varied_origin (variation_view variation.entry) glyph y }
 {
+    let shift = origin_shift(variation, glyph);
     if_origin(i128::from(y) + i128::from(shift), y)
 }

@@ -4,10 +4,11 @@ ghost use Rattle.std.specs.Prelude.{◌≡◌, ◌≤◌, ◌<◌, ◌^◌, ◌+
 ghost use Rattle.std.specs.Option.{option_map, option_map_or};
 ghost use Rattle.pdf_values.specs.Rounding.{thousandths};
 ghost use Rattle.pdf_glyphs.specs.Boxes.{outlines_view};
+ghost use Rattle.pdf_glyphs.specs.HeightVariation.{variation_view};
 ghost use Rattle.pdf_glyphs.specs.Vertical.{advance_at, advance_of, bearing_of, box_top, half, metric_at, moved_by, origin_of, origin_y_at, pair_count, vertical_view, vorg_y};
 
 use crate::boxes::{OutlineTables, glyph_box};
-use crate::heights::{Moves, varied_height, varied_origin};
+use crate::heights::{HeightVariation, varied_height, varied_origin};
 use crate::origins::default_origin;
 use pdf_text::Column;
 use pdf_values::{thousandths, units_per_em};
@@ -51,13 +52,17 @@ fn advance_of(tables: VerticalTables<'_>, glyph: u16) -> Option<u16>
 }
 
 /// The same with what it varies by, if it does.
-fn advance_at(tables: VerticalTables<'_>, by: Option<Moves>, glyph: u16) -> Option<u16>
-    ensures { result ≡ advance_at (vertical_view tables.entry) by glyph }
+fn advance_at(
+    tables: VerticalTables<'_>,
+    variation: Option<HeightVariation<'_>>,
+    glyph: u16,
+) -> Option<u16>
+    ensures { result ≡ advance_at (vertical_view tables.entry) (option_map variation_view variation.entry) glyph }
 {
     let advance = advance_of(tables, glyph)?;
-    match by {
+    match variation {
         None => Some(advance),
-        Some(by) => Some(varied_height(by.height, advance)),
+        Some(variation) => Some(varied_height(variation, glyph, advance)),
     }
 }
 
@@ -107,35 +112,35 @@ fn vorg_y(tables: VerticalTables<'_>, glyph: u16, recorded: Option<i16>) -> Opti
 /// The same with what it varies by, if it does.
 fn vorg_y_at(
     tables: VerticalTables<'_>,
-    by: Option<Moves>,
+    variation: Option<HeightVariation<'_>>,
     glyph: u16,
     recorded: Option<i16>,
 ) -> Option<i16>
     requires { recorded ≡ origin_of (vertical_view tables).vorg glyph }
-    ensures { result ≡ moved_by by None (vorg_y (vertical_view tables.entry).vorg glyph) }
+    ensures { result ≡ moved_by (option_map variation_view variation.entry) None glyph (vorg_y (vertical_view tables.entry).vorg glyph) }
 {
     let y = vorg_y(tables, glyph, recorded)?;
-    match by {
+    match variation {
         None => Some(y),
-        Some(by) => Some(varied_origin(by.origin, y)),
+        Some(variation) => Some(varied_origin(variation, glyph, y)),
     }
 }
 
 /// The y of the origin: of TrueType outlines by box and bearing, else by VORG with what it varies by.
 fn origin_y_at(
     tables: VerticalTables<'_>,
-    by: Option<Moves>,
+    variation: Option<HeightVariation<'_>>,
     glyph: u16,
     recorded: Option<i16>,
 ) -> Option<i32>
     requires { recorded ≡ origin_of (vertical_view tables).vorg glyph }
-    ensures exact { result ≡ origin_y_at (vertical_view tables.entry) by glyph }
+    ensures exact { result ≡ origin_y_at (vertical_view tables.entry) (option_map variation_view variation.entry) glyph }
     ensures small { IfSome result (λ v. unsigned_abs v ≤ 2 ^ 16) }
 {
     if tables.outlines.glyf.is_some() {
         return origin_of_box(tables, glyph);
     }
-    Some(i32::from(vorg_y_at(tables, by, glyph, recorded)?))
+    Some(i32::from(vorg_y_at(tables, variation, glyph, recorded)?))
 }
 
 /// Half of a width.
@@ -168,15 +173,15 @@ fn scaled_y(y: Option<i32>, units: u16) -> i32
 /// The column of a glyph with a width, of which VORG has this y. Its advance and an origin by VORG vary.
 pub fn metric_at(
     tables: VerticalTables<'_>,
-    by: Option<Moves>,
+    variation: Option<HeightVariation<'_>>,
     glyph: u16,
     width: u32,
     recorded: Option<i16>,
 ) -> Column
     requires { recorded ≡ origin_of (vertical_view tables).vorg glyph }
-    ensures { result ≡ metric_at (vertical_view tables.entry) by glyph width }
+    ensures { result ≡ metric_at (vertical_view tables.entry) (option_map variation_view variation.entry) glyph width }
 {
-    let Some(advance) = advance_at(tables, by, glyph) else {
+    let Some(advance) = advance_at(tables, variation, glyph) else {
         return Column {
             advance: -1000,
             x: half(width),
@@ -187,6 +192,6 @@ pub fn metric_at(
     Column {
         advance: downwards(advance, units),
         x: half(width),
-        y: scaled_y(origin_y_at(tables, by, glyph, recorded), units),
+        y: scaled_y(origin_y_at(tables, variation, glyph, recorded), units),
     }
 }

@@ -9,7 +9,7 @@ use Rattle.subset_args.specs.Coordinates.{coordinate_in}
 use Rattle.subset_args.specs.Options.{kind_of, looks_like_option, coding_in, holds_rights}
 use Rattle.subset_args.specs.declared.options.names.Kind.TheVariants.{Place}
 use Rattle.subset_args.specs.declared.mistakes.mistake.Wrong.{Wrong}
-use Rattle.subset_args.specs.declared.mistakes.mistake.Wrong.TheVariants.{NoInput, NoOutput, NoIndex, NoGlyphs, Further, BehindShown, Late, ShownLate, NoBatchFile, BehindBatch, BatchLate, Unknown, Twice, NoValue, GlyphsTwice, BesideOption, InputTwice, Index, FaceIndex, Glyph, Limits, Coordinate, Part, Descends, Codes, CodesDescend, TooMany, BesideInput, NoOutputOption, NoSource, Coding, Rights, NoPdf, OutputTwice, MostInput}
+use Rattle.subset_args.specs.declared.mistakes.mistake.Wrong.TheVariants.{NoInput, NoOutput, NoIndex, NoGlyphs, Further, BehindShown, Late, ShownLate, NoBatchFile, BehindBatch, BatchLate, Unknown, Twice, NoValue, GlyphsTwice, BesideOption, InputTwice, Index, FaceIndex, Glyph, Limits, Coordinate, Part, Descends, Codes, CodesDescend, TooMany, BesideInput, NoOutputOption, NoSource, Coding, Rights, NoPdf, OutputTwice}
 
 -- what is said of an argument, or of a value that it lists, is so as far as its own bytes show
 abbrev pub IsWrong : Wrong → List ℕ → Type 0
@@ -47,4 +47,3 @@ IsWrong Coding word = coding_in word ≡ None
 IsWrong Rights word = holds_rights word ≡ false
 IsWrong NoPdf word = Unit {0}
 IsWrong OutputTwice word = Unit {0}
-IsWrong MostInput word = number_in_bits 32 word ≡ None

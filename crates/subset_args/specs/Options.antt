@@ -7,7 +7,7 @@ use Rattle.subset_args.specs.Limits.{Bounds, limits_in}
 use Rattle.subset_args.specs.declared.options.names.Switch.{Switch}
 use Rattle.subset_args.specs.declared.options.names.Switch.TheVariants.{Widths, NoHinting, NoNames, NoGlyphNames, Json, Quiet, Verbose, Vertical}
 use Rattle.subset_args.specs.declared.options.names.Setting.{Setting}
-use Rattle.subset_args.specs.declared.options.names.Setting.TheVariants.{Limits, GidsFile, Text, At, Gids, FaceIndex, Output, TextFile, Unicodes, UnicodesFile, Pdf, Codes, Rights, MostInput}
+use Rattle.subset_args.specs.declared.options.names.Setting.TheVariants.{Limits, GidsFile, Text, At, Gids, FaceIndex, Output, TextFile, Unicodes, UnicodesFile, Pdf, Codes, Rights}
 use Rattle.subset_args.specs.declared.options.names.Coding.{Coding}
 use Rattle.subset_args.specs.declared.options.names.Coding.TheVariants.{Consecutive, Source as InSource, Text as EachText}
 use Rattle.subset_args.specs.declared.options.names.Kind.{Kind}
@@ -46,7 +46,6 @@ setting_of word =
     else if bytes_eq word (codes "--pdf") then Some Pdf
     else if bytes_eq word (codes "--codes") then Some Codes
     else if bytes_eq word (codes "--rights") then Some Rights
-    else if bytes_eq word (codes "--most-input") then Some MostInput
     else None
 
 -- what an argument that is neither is
@@ -108,12 +107,10 @@ pub record Choice : Type 0 where
   pub pdf : Option (List ℕ)
   pub coding : Option Coding
   pub is_held : Bool
-  -- the most bytes that IN may have
-  pub most_input : Option ℕ
 
 -- nothing
 abbrev pub no_choice : Choice
-no_choice = record { switches = record { widths = false; no_hinting = false; no_names = false; no_glyph_names = false; json = false; quiet = false; verbose = false; vertical = false }; limits = None; source = None; at = None; output = None; index = None; pdf = None; coding = None; is_held = false; most_input = None }
+no_choice = record { switches = record { widths = false; no_hinting = false; no_names = false; no_glyph_names = false; json = false; quiet = false; verbose = false; vertical = false }; limits = None; source = None; at = None; output = None; index = None; pdf = None; coding = None; is_held = false }
 
 -- with an option without a value; none where it was given before
 abbrev pub with_switch : Switch → Choice → Option Choice
@@ -162,10 +159,6 @@ holds_rights word = bytes_eq word (codes "held")
 abbrev pub with_rights : List ℕ → Choice → Option Choice
 with_rights value choice = if choice.is_held || not (holds_rights value) then None else Some (record choice { is_held = true })
 
--- with the most bytes that IN may have; none where they were given before, or are no number
-abbrev pub with_most_input : List ℕ → Choice → Option Choice
-with_most_input value choice = if is_some choice.most_input then None else option_map (λ most. record choice { most_input = Some most }) (number_in_bits 32 value)
-
 -- with an option and its value
 abbrev pub with_setting : Setting → List ℕ → Choice → Option Choice
 with_setting Limits value choice = with_limits value choice
@@ -181,7 +174,6 @@ with_setting UnicodesFile value choice = with_source (in_file OfCharacters value
 with_setting Pdf value choice = with_pdf value choice
 with_setting Codes value choice = with_coding value choice
 with_setting Rights value choice = with_rights value choice
-with_setting MostInput value choice = with_most_input value choice
 
 -- what the arguments with options in front say: that help or the version is wanted, or what is chosen, and the arguments behind the options
 pub data Options : Type 0 where

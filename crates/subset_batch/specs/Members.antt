@@ -52,7 +52,6 @@ single_of name =
     else if bytes_eq name (codes "pdf") then Some Single
     else if bytes_eq name (codes "codes") then Some Single
     else if bytes_eq name (codes "rights") then Some Single
-    else if bytes_eq name (codes "most-input") then Some Single
     else None
 
 abbrev pub or_kind : Option Kind → Option Kind → Option Kind

@@ -7,12 +7,12 @@ _subset_font() {
         mapfile -t COMPREPLY < <(compgen -f -- "$word")
         return
         ;;
-    --gids | --text | --unicodes | --face-index | --codes | --rights | --at | --limits | --most-input)
+    --gids | --text | --unicodes | --face-index | --codes | --rights | --at | --limits)
         return
         ;;
     esac
     case $word in
-    -*) mapfile -t COMPREPLY < <(compgen -W "--gids --gids-file --text --text-file --unicodes --unicodes-file -o --output-file --face-index --pdf --vertical --codes --rights --at --no-hinting --no-names --no-glyph-names --limits --most-input --widths --verbose --json --quiet --axes --info --batch -h --help --version" -- "$word") ;;
+    -*) mapfile -t COMPREPLY < <(compgen -W "--gids --gids-file --text --text-file --unicodes --unicodes-file -o --output-file --face-index --pdf --vertical --codes --rights --at --no-hinting --no-names --no-glyph-names --limits --widths --verbose --json --quiet --axes --info --batch -h --help --version" -- "$word") ;;
     *) mapfile -t COMPREPLY < <(compgen -f -- "$word") ;;
     esac
 }

@@ -16,7 +16,6 @@ complete -c subset_font -l no-hinting -d 'leaves out the instructions of TrueTyp
 complete -c subset_font -l no-names -d 'leaves out the table name'
 complete -c subset_font -l no-glyph-names -d 'leaves out the names of glyphs in post'
 complete -c subset_font -l limits -x -d 'the most numbers and operators of a glyph, the greatest depth of its subroutines (default 1000000,64), and the most bytes of the new font'
-complete -c subset_font -l most-input -x -d 'the most bytes of IN (default 1073741824)'
 complete -c subset_font -l widths -d 'also the widths, for W in a PDF'
 complete -c subset_font -l verbose -d 'also each table\'s bytes before and after'
 complete -c subset_font -l json -d 'one JSON object in place of the lines'

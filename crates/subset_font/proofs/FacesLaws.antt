@@ -1,4 +1,3 @@
 -- What the font that is read has: its directory, its tables, its axes and its characters.
 pub mod Directory
 pub mod Showing
-pub mod Naming

@@ -1,17 +1,12 @@
 -- What a run reads from and writes to, by the names that it is given.
-use Rattle.std.specs.Prelude.{◌≡◌, ◌^◌, unwrap_or, ℕ, true, false, Option, Some, None, List}
+use Rattle.std.specs.Prelude.{◌≡◌, ℕ, true, false, Option, Some, None, List}
 use Rattle.std.specs.Borrow.{Bor}
 use Rattle.std.specs.Option.{option_map}
 use Rattle.subset_args.specs.Request.{is_stream}
-use Rattle.subset_args.specs.declared.jobs.command.Job.{Job}
 use Rattle.subset_font.specs.declared.streams.Source.{Source}
 use Rattle.subset_font.specs.declared.streams.Source.TheVariants.{File as FromFile, Standard as FromStream}
 use Rattle.subset_font.specs.declared.streams.Target.{Target}
 use Rattle.subset_font.specs.declared.streams.Target.TheVariants.{File as ToFile, Standard as ToStream, Nowhere}
-
--- the most bytes that are read of the source of a request: 1 GiB, unless it says another number
-abbrev pub most_input : Job → ℕ
-most_input job = unwrap_or job.most_input (2 ^ 30)
 
 -- standard input by the one name that means it, else a file
 abbrev pub IsSource : {F S : Type 0} → List ℕ → Source F S → Type 0

@@ -5,27 +5,17 @@ ghost use Rattle.std.specs.Io.{ReadsAtMost};
 ghost use Rattle.std.specs.Io.KnownBytes.{ReadConsumes};
 ghost use Rattle.std.specs.Option.{option_copied};
 ghost use Rattle.subset_args.specs.Request.{is_stream};
-ghost use Rattle.subset_font.specs.Streams.{most_input, IsSource, IsTarget};
+ghost use Rattle.subset_font.specs.Streams.{IsSource, IsTarget};
 
 use late_file::LateFile;
 use std::io::{ErrorKind, Read, Write};
 use std::os::unix::fs::MetadataExt;
 use std::rt::Files;
 use std::{fs, io};
-use subset_args::{Job, is_stream};
+use subset_args::is_stream;
 
-/// The most bytes that are read of a file or a stream, unless `--most-input` says another number for IN.
+/// The most bytes that are read of a file or a stream.
 pub const MOST_INPUT: u64 = 1 << 30;
-
-/// The most bytes that are read of the source of a request.
-pub fn most_input(job: &Job) -> u64
-    ensures { result ≡ most_input job.now }
-{
-    match job.most_input {
-        Some(bytes) => u64::from(bytes),
-        None => MOST_INPUT,
-    }
-}
 
 /// What the font or a list of glyphs is read from, and how many bytes may still be.
 #[derive(Drop)]
@@ -63,18 +53,14 @@ impl<F: Read + Drop, S: Read + Drop> Read for Source<F, S> {
 }
 
 /// Opens what is read, of which a byte more than may be is read, to see the end.
-pub fn open_source<R: Files + Input>(
-    rt: &R,
-    name: &str,
-    most: u64,
-) -> io::Result<Source<R::File, R::Reader>>
+pub fn open_source<R: Files + Input>(rt: &R, name: &str) -> io::Result<Source<R::File, R::Reader>>
     ensures ok { IfOk result (IsSource name.now) }
     ensures err { OnErr result (is_stream name.now ≡ false) }
 {
     if is_stream(name) {
-        return Ok(Source::Standard(rt.reader(), most.saturating_add(1)));
+        return Ok(Source::Standard(rt.reader(), MOST_INPUT + 1));
     }
-    Ok(Source::File(fs::open(rt, name)?, most.saturating_add(1)))
+    Ok(Source::File(fs::open(rt, name)?, MOST_INPUT + 1))
 }
 
 /// Opens three descriptors, of a folder: by these nothing can be read or written. Where a standard stream is closed at the

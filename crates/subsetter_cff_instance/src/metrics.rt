@@ -4,45 +4,31 @@ ghost use Rattle.std.specs.Prelude.{◌≡◌, IfOk, IfErr, length};
 ghost use Rattle.std.specs.Option.{option_copied, option_map};
 ghost use Rattle.subsetter_base.specs.Gives.{Gives};
 ghost use Rattle.subsetter_base.specs.declared.error.Error.TheVariants.{OutOfMemory};
-ghost use Rattle.subsetter_instance.specs.Glyphs.Known.{AreKnown, IsKnown};
 ghost use Rattle.subsetter_cff_instance.specs.Metrics.{varied_advance, varied_metric, metric_if, varied_metrics, metric_among, metrics_by_glyph, advances, widest};
 
 use crate::source::Source;
 use std::alloc::Global;
 use subsetter_base::{Error, GlyphRemapper};
-use subsetter_instance::glyphs::drawn::{advance, known_at, known_deltas};
+use subsetter_instance::glyphs::drawn::advance;
 use subsetter_sfnt::fields::hmtx::LongHorMetric;
 
-/// The advance by `HVAR`, of which the delta may be known, or that of `hmtx` where there is none.
-fn varied_advance(
-    hvar: Option<&[u8]>,
-    at: &[i32],
-    glyph: u16,
-    known: Option<Result<i64, Error>>,
-    before: u16,
-) -> Result<u16, Error>
-    requires known { IsKnown (option_copied hvar) at.now glyph known }
+/// The advance by `HVAR`, or that of `hmtx` where there is none.
+fn varied_advance(hvar: Option<&[u8]>, at: &[i32], glyph: u16, before: u16) -> Result<u16, Error>
     ensures { result ≡ varied_advance (option_copied hvar.entry) at.now glyph before }
 {
     match hvar {
         None => Ok(before),
-        Some(hvar) => advance(Some(hvar), at, glyph, known, before, 0),
+        Some(hvar) => advance(Some(hvar), at, glyph, before, 0),
     }
 }
 
 /// The metric of a glyph at a location.
 #[tactic(auto, unfolding(crate::specs::Metrics::varied_metric))]
-fn varied_metric(
-    source: &Source<'_>,
-    at: &[i32],
-    glyph: u16,
-    known: Option<Result<i64, Error>>,
-) -> Result<LongHorMetric, Error>
-    requires known { IsKnown source.now.hvar at.now glyph known }
+fn varied_metric(source: &Source<'_>, at: &[i32], glyph: u16) -> Result<LongHorMetric, Error>
     ensures { result ≡ varied_metric source.now at.now glyph }
 {
     let metric = source.metric(glyph).ok_or(Error::MalformedFont)?;
-    let advance_width = varied_advance(source.hvar(), at, glyph, known, metric.advance_width)?;
+    let advance_width = varied_advance(source.hvar(), at, glyph, metric.advance_width)?;
     Ok(LongHorMetric {
         advance_width,
         lsb: metric.lsb,
@@ -50,43 +36,18 @@ fn varied_metric(
 }
 
 /// The same of a glyph that is requested. `MalformedFont` where it is none of the font's.
-fn metric_if(
-    source: &Source<'_>,
-    at: &[i32],
-    glyph: u16,
-    known: Option<Result<i64, Error>>,
-) -> Result<LongHorMetric, Error>
-    requires known { IsKnown source.now.hvar at.now glyph known }
+fn metric_if(source: &Source<'_>, at: &[i32], glyph: u16) -> Result<LongHorMetric, Error>
     ensures { result ≡ metric_if source.now at.now glyph }
 {
     if glyph < source.count() {
-        varied_metric(source, at, glyph, known)
+        varied_metric(source, at, glyph)
     } else {
         Err(Error::MalformedFont)
     }
 }
 
-/// Those of these glyphs, by what their advances vary by.
-#[tactic(auto, using(crate::proofs::MetricsLaws::metrics_start))]
-fn metric_of_each(
-    alloc: Global,
-    source: &Source<'_>,
-    at: &[i32],
-    glyphs: &[u16],
-    known: &[Result<i64, Error>],
-) -> Result<Vec<LongHorMetric>, Error>
-    requires known { AreKnown source.now.hvar at.now glyphs.now known.now }
-    ensures { Gives (λ v. v.items) result (varied_metrics source.now at.now glyphs.now) }
-{
-    let mut metrics = Vec::with_capacity(alloc, glyphs.len())?;
-    for place in 0..glyphs.len() {
-        let metric = metric_if(source, at, glyphs[place], known_at(known, place))?;
-        metrics.push(metric)?;
-    }
-    Ok(metrics)
-}
-
-/// Those of the glyphs that are requested, in the mapper's order. What items of `HVAR` have in common is reckoned once.
+/// Those of the glyphs that are requested, in the mapper's order.
+#[tactic(auto, using(crate::proofs::MetricsLaws::metrics_start, crate::proofs::MetricsLaws::metrics_step, crate::proofs::MetricsLaws::metrics_end, crate::proofs::MetricsLaws::metrics_cut))]
 pub fn varied_metrics(
     alloc: Global,
     source: &Source<'_>,
@@ -95,9 +56,11 @@ pub fn varied_metrics(
 ) -> Result<Vec<LongHorMetric>, Error>
     ensures { Gives (λ v. v.items) result (varied_metrics source.now at.now mapper.now) }
 {
-    let glyphs: Vec<u16> = mapper.remapped_gids().collect(alloc)?;
-    let known = known_deltas(alloc, source.hvar(), at, &glyphs)?;
-    metric_of_each(alloc, source, at, &glyphs, &known)
+    let mut metrics = Vec::with_capacity(alloc, usize::from(mapper.num_gids()))?;
+    for glyph in mapper.remapped_gids() {
+        metrics.push(metric_if(source, at, glyph)?)?;
+    }
+    Ok(metrics)
 }
 
 /// The metric of a glyph, if it was requested.

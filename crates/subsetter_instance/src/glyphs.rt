@@ -5,6 +5,7 @@ pub mod components;
 pub mod composite;
 pub mod drawn;
 pub mod glyph;
+pub mod levels;
 pub mod placing;
 pub mod simple;
 pub mod spare;

@@ -66,7 +66,7 @@ fn stream_bytes(stream: Option<&'static [u8]>) -> &'static [u8]
 
 /// A part that stays until the caller gives it back.
 fn laid_out(part: FontPart<'static>) -> PdfPart
-    ensures { laid_view result ≡ laid_out (part_view part) }
+    ensures { laid_view result ≡ laid_out (part_view part.entry) }
 {
     PdfPart {
         role: role_number(part.role),
@@ -80,7 +80,7 @@ fn laid_out(part: FontPart<'static>) -> PdfPart
 
 /// Parts that stay until the caller gives them back.
 fn all_laid_out(alloc: Global, parts: Vec<FontPart<'static>>) -> Result<Vec<PdfPart>, Error>
-    ensures ok { IfOk result (λ list. map laid_view list.items ≡ map laid_out (parts_view parts.items)) }
+    ensures ok { IfOk result (λ list. map laid_view list.items ≡ map laid_out (parts_view parts.entry.items)) }
     ensures err { IfErr result (λ e. e ≡ OutOfMemory) }
 {
     let mut list = Vec::with_capacity(alloc, parts.len())?;

@@ -74,8 +74,6 @@ pub enum Wrong {
     NoPdf,
     /// It is the file of a PDF, and OUT.
     OutputTwice,
-    /// The value of `--most-input` isn't a number below 2^32.
-    MostInput,
 }
 
 /// A mistake in the arguments.

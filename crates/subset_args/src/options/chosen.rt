@@ -2,7 +2,7 @@
 
 ghost use Rattle.std.specs.Prelude.{◌≡◌};
 ghost use Rattle.std.specs.Option.{option_map};
-ghost use Rattle.subset_args.specs.Options.{is_on, switched_on, with_switch, with_limits, with_source, with_at, with_output, with_index, with_pdf, with_coding, with_rights, with_most_input, with_setting};
+ghost use Rattle.subset_args.specs.Options.{is_on, switched_on, with_switch, with_limits, with_source, with_at, with_output, with_index, with_pdf, with_coding, with_rights, with_setting};
 ghost use Rattle.subset_args.specs.View.{source_view, chosen_view};
 
 use crate::limits::RunLimits;
@@ -104,8 +104,6 @@ pub struct Chosen<'a> {
     pub coding: Option<Coding>,
     /// Whether the user holds the rights to embed the font.
     pub is_held: bool,
-    /// The most bytes that IN may have, if that is given.
-    pub most_input: Option<u32>,
 }
 
 impl<'a> Chosen<'a> {
@@ -120,7 +118,6 @@ impl<'a> Chosen<'a> {
         pdf: None,
         coding: None,
         is_held: false,
-        most_input: None,
     };
 
     /// With an option without a value, which is given once.
@@ -140,7 +137,6 @@ impl<'a> Chosen<'a> {
             pdf: self.pdf,
             coding: self.coding,
             is_held: self.is_held,
-            most_input: self.most_input,
         })
     }
 
@@ -162,7 +158,6 @@ impl<'a> Chosen<'a> {
             Setting::Pdf => self.with_pdf(value),
             Setting::Codes => self.with_coding(value),
             Setting::Rights => self.with_rights(value),
-            Setting::MostInput => self.with_most_input(value),
         }
     }
 
@@ -183,7 +178,6 @@ impl<'a> Chosen<'a> {
             pdf: self.pdf,
             coding: self.coding,
             is_held: self.is_held,
-            most_input: self.most_input,
         })
     }
 
@@ -204,7 +198,6 @@ impl<'a> Chosen<'a> {
             pdf: self.pdf,
             coding: self.coding,
             is_held: self.is_held,
-            most_input: self.most_input,
         })
     }
 
@@ -225,7 +218,6 @@ impl<'a> Chosen<'a> {
             pdf: self.pdf,
             coding: self.coding,
             is_held: self.is_held,
-            most_input: self.most_input,
         })
     }
 
@@ -246,7 +238,6 @@ impl<'a> Chosen<'a> {
             pdf: self.pdf,
             coding: self.coding,
             is_held: self.is_held,
-            most_input: self.most_input,
         })
     }
 
@@ -267,7 +258,6 @@ impl<'a> Chosen<'a> {
             pdf: self.pdf,
             coding: self.coding,
             is_held: self.is_held,
-            most_input: self.most_input,
         })
     }
 
@@ -288,7 +278,6 @@ impl<'a> Chosen<'a> {
             pdf: Some(value),
             coding: self.coding,
             is_held: self.is_held,
-            most_input: self.most_input,
         })
     }
 
@@ -309,7 +298,6 @@ impl<'a> Chosen<'a> {
             pdf: self.pdf,
             coding: Some(coding_of(value)?),
             is_held: self.is_held,
-            most_input: self.most_input,
         })
     }
 
@@ -330,28 +318,6 @@ impl<'a> Chosen<'a> {
             pdf: self.pdf,
             coding: self.coding,
             is_held: true,
-            most_input: self.most_input,
-        })
-    }
-
-    /// With the most bytes that IN may have.
-    fn with_most_input(self, value: &str) -> Option<Chosen<'a>>
-        ensures { option_map chosen_view result ≡ with_most_input value.now (chosen_view self.entry) }
-    {
-        if self.most_input.is_some() {
-            return None;
-        }
-        Some(Chosen {
-            switches: self.switches,
-            limits: self.limits,
-            source: self.source,
-            at: self.at,
-            output: self.output,
-            index: self.index,
-            pdf: self.pdf,
-            coding: self.coding,
-            is_held: self.is_held,
-            most_input: Some(u32_of(value)?),
         })
     }
 }

@@ -1,25 +1,25 @@
 //! What a request of a batch makes of its source.
 
-ghost use Rattle.std.specs.Prelude.{◌≡◌, ◌⊎◌, ◌≤◌, ◌^◌, Some, [], length, OnOk, IfOk, IfErr, IsErrOf, string_bytes};
+ghost use Rattle.std.specs.Prelude.{◌≡◌, ◌⊎◌, Some, [], OnOk, IfOk, IfErr, IsErrOf, string_bytes};
 ghost use Rattle.std.specs.Option.{option_copied};
 ghost use Rattle.std.specs.Io.KnownBytes.{Appends};
 ghost use Rattle.subset_font.specs.Making.Sheet.{page_of};
 ghost use Rattle.subset_font.specs.Making.Carried.{IsBeforeWriting, IsFailureOf, WritesAll};
 ghost use Rattle.subset_font.specs.Refusals.Failure.{status_of};
 ghost use Rattle.subset_font.specs.Report.{report_of};
-ghost use Rattle.subset_font.specs.Batch.Answers.{IsFailedBy, IsFailedWith, IsWithinMost};
+ghost use Rattle.subset_font.specs.Batch.Answers.{IsFailedBy, IsFailedWith};
 ghost use Rattle.subset_font.specs.Batch.Making.{IsDone, IsUndone, named_text, message_of, IsAnswerTo};
 ghost use Rattle.subset_font.specs.declared.refusals.failure.Failure.TheVariants.{Error as Refused, Read as CannotRead, Write as CannotWrite, WritePdf as CannotWritePdf};
 ghost use Rattle.subsetter_base.specs.declared.error.Error.TheVariants.{OutOfMemory};
 
-use crate::batch::answers::{Answer, Object, failed};
+use crate::batch::answers::{Answer, failed};
 use crate::making::carried::read_whole;
 use crate::making::outcome::{Outcome, make_planned};
 use crate::output::{write_font, write_numbers, write_page};
 use crate::refusals::failure::{Failure, file_by, given, list_file, pdf_file};
 use crate::run::job::{open_font, room_of};
 use crate::run::request::{list_of, plan_of};
-use crate::streams::{Target, is_to_standard_output, most_input};
+use crate::streams::{Target, is_to_standard_output};
 use crate::task::{Form, Plan};
 use std::alloc::{AllocError, Global};
 use std::io::Write;
@@ -31,33 +31,31 @@ use subsetter_words::plain_text;
 /// The status of a request that would write among the answers, as of wrong arguments.
 const AMONG_ANSWERS: u8 = 2;
 
-/// The bytes of the source of a request.
-pub fn read_source<R: Files + Input + AllocGlobal>(rt: &R, job: &Job) -> Result<Vec<u8>, Failure>
+/// The bytes of a source.
+pub fn read_source<R: Files + Input + AllocGlobal>(rt: &R, name: &str) -> Result<Vec<u8>, Failure>
     ensures { IfErr result (λ e. e ≡ CannotRead) }
 {
     let mut reason = None;
-    let most = most_input(job);
-    let mut source = open_font(rt, job.input.as_str(), most, &mut reason)?;
-    let room = room_of(&source, most, &mut reason)?;
+    let mut source = open_font(rt, name, &mut reason)?;
+    let room = room_of(&source, &mut reason)?;
     read_whole(rt.alloc(), &mut source, room)
 }
 
-/// What is printed of what was made, if that has 64 MiB at most.
-fn printed(alloc: Global, outcome: &Outcome<'_>, form: Form) -> Result<Vec<u8>, Failure>
+/// What is printed of what was made.
+fn printed(alloc: Global, outcome: &Outcome, form: Form) -> Result<Vec<u8>, Failure>
     ensures ok { IfOk result (λ object. object.items ≡ report_of form outcome.now) }
-    ensures within { IfOk result (λ object. length object.items ≤ 2 ^ 26) }
     ensures err { IfErr result (λ e. e ≡ Refused OutOfMemory) }
 {
-    let mut object = Object::new(alloc);
+    let mut object = Vec::new(alloc);
     match write_numbers(outcome, form, &mut object) {
-        Ok(()) => Ok(object.into_text()),
+        Ok(()) => Ok(object),
         Err(_) => Err(Failure::Error(Error::OutOfMemory)),
     }
 }
 
 /// Writes the PDF, if there is one, to one writer, and then the font to another.
 fn write_files<P: Write, W: Write>(
-    outcome: &Outcome<'_>,
+    outcome: &Outcome,
     page: &mut P,
     output: &mut W,
 ) -> Result<(), Failure>
@@ -74,7 +72,7 @@ fn write_files<P: Write, W: Write>(
 /// subset to another.
 fn carry_made<P: Write, W: Write>(
     alloc: Global,
-    outcome: &Outcome<'_>,
+    outcome: &Outcome,
     form: Form,
     page: &mut P,
     output: &mut W,
@@ -82,7 +80,6 @@ fn carry_made<P: Write, W: Write>(
     ensures page { IfOk result (λ object. Appends (P.contents page.old) (P.contents page.new) (page_of outcome.now.sheet)) }
     ensures font { IfOk result (λ object. Appends (W.contents output.old) (W.contents output.new) outcome.now.made.font.items) }
     ensures object { IfOk result (λ object. object.items ≡ report_of form outcome.now) }
-    ensures within { IfOk result (λ object. length object.items ≤ 2 ^ 26) }
     ensures page_kept { IfErr result (λ e. IsBeforeWriting e → page.new ≡ page.old) }
     ensures output_kept { IfErr result (λ e. IsBeforeWriting e → output.new ≡ output.old) }
     ensures no_font { IsErrOf result Failure.WritePdf → output.new ≡ output.old }
@@ -99,7 +96,7 @@ fn carry_made<P: Write, W: Write>(
 /// requested, and its subset to another. What is answered and written is what `carry_out` prints and writes between a reader
 /// of these bytes and three writers.
 ///
-/// It fails as `carry_out` does, and as for want of memory where more than 64 MiB would be printed.
+/// It fails as `carry_out` does.
 pub fn carry_answer<P: Write, W: Write>(
     alloc: Global,
     font: &[u8],
@@ -108,7 +105,6 @@ pub fn carry_answer<P: Write, W: Write>(
     output: &mut W,
 ) -> Result<Vec<u8>, Failure>
     ensures ok { IfOk result (λ object. WritesAll plan.now (Some font.now) (P.contents page.old) (P.contents page.new) (W.contents output.old) (W.contents output.new) (Some []) (Some object.items)) }
-    ensures within { IfOk result (λ object. length object.items ≤ 2 ^ 26) }
     // Both writers are as they were where the font is refused.
     ensures page_kept { IfErr result (λ e. IsBeforeWriting e → page.new ≡ page.old) }
     ensures output_kept { IfErr result (λ e. IsBeforeWriting e → output.new ≡ output.old) }
@@ -130,7 +126,6 @@ fn perform<R: Files + Print + Input + AllocGlobal>(
     job: &Job,
 ) -> Result<Vec<u8>, Failure>
     ensures ok { IfOk result (λ object. IsDone font.now job.now object.items) }
-    ensures within { IfOk result (λ object. length object.items ≤ 2 ^ 26) }
     ensures err { IfErr result (IsUndone font.now job.now) }
 {
     let mut text = Vec::new(rt.alloc());
@@ -181,14 +176,12 @@ fn answer_failed(alloc: Global, failure: &Failure, job: &Job) -> Answer
 }
 
 /// Does a request on the bytes of its source, or on why these can't be read, and answers it.
-#[tactic(auto, using(crate::proofs::BatchLaws::failed_within))]
 pub fn answer_of<R: Files + Print + Input + AllocGlobal>(
     rt: &R,
     source: &Result<Vec<u8>, Failure>,
     job: &Job,
 ) -> Answer
-    ensures answer { IsAnswerTo source.now job.now result }
-    ensures within { IsWithinMost result }
+    ensures { IsAnswerTo source.now job.now result }
 {
     let font = match source {
         Ok(font) => font,
@@ -214,14 +207,12 @@ fn answers_file<'a, R: Files>(rt: &R, job: &'a Job) -> Option<&'a str> {
 }
 
 /// Does a request as `answer_of` does, but for one that would write among the answers.
-#[tactic(auto, using(crate::proofs::BatchLaws::refused_within))]
 pub fn answer_apart<R: Files + Print + Input + AllocGlobal>(
     rt: &R,
     source: &Result<Vec<u8>, Failure>,
     job: &Job,
 ) -> Answer
-    ensures answer { IsFailedBy 2 result ⊎ IsAnswerTo source.now job.now result }
-    ensures within { IsWithinMost result }
+    ensures { IsFailedBy 2 result ⊎ IsAnswerTo source.now job.now result }
 {
     match answers_file(rt, job) {
         Some(name) => {

@@ -1,31 +1,22 @@
 //! The requests of a batch, and the answers to them.
 
-ghost use Rattle.std.specs.Prelude.{◌≡◌, ◌||◌, ℕ, List, Some, OnOk, IfOk, IfErr, is_some, slice_get, slice_set};
+ghost use Rattle.std.specs.Prelude.{◌≡◌, ◌||◌, ℕ, List, OnOk, IfOk, is_some, slice_get, slice_set};
 ghost use Rattle.std.specs.HashMap.{get_by_text};
 ghost use Rattle.std.specs.Option.{option_copied};
 ghost use Rattle.subset_batch.specs.Lines.{request_lines};
-ghost use Rattle.subset_args.specs.View.{job_view};
 ghost use Rattle.subset_batch.specs.View.{line_view};
-ghost use Rattle.subset_font.specs.Batch.Answers.{IsFailedBy};
-ghost use Rattle.subset_font.specs.Batch.Orders.{order_of, IsNoOrder};
-ghost use Rattle.subset_font.specs.Batch.Requests.{numbers_by, numbers_if, left_behind, is_of_name, writes, writes_if, is_written, is_written_if, is_named_before, AreNames, IsFirst, IsBegun, AddsLine, AreBegun, due, is_same_source, of_source, answer_in};
+ghost use Rattle.subset_font.specs.Batch.Requests.{is_of_name, writes, writes_if, is_written, is_written_if, is_named_before, AreNames, IsFirst, IsBegun, AddsLine, AreBegun, due, of_source, answer_in};
 
 use crate::batch::answers::{Answer, failed};
 use crate::batch::orders::order_of;
 use crate::refusals::failure::{given, pdf_file};
-use crate::streams::most_input;
 use std::alloc::{AllocError, Global};
 use std::collections::HashMap;
-use subset_args::{Glyphs, Job, Plain};
+use subset_args::{Job, Plain};
 use subset_batch::{Line, lines_of};
 
-/// The status of a request whose OUT a line before has named, or whose list is too long, as of wrong arguments.
+/// The status of a request whose OUT a line before has named, as of wrong arguments.
 const NAMED_TWICE: u8 = 2;
-
-const TOO_LONG: u8 = 2;
-
-/// The most numbers that the lists of all requests may have.
-pub const MOST_NUMBERS: usize = 2_000_000;
 
 /// A request of a batch.
 #[derive(Drop)]
@@ -94,7 +85,12 @@ fn named_before<'a>(
 }
 
 /// How far a request is before anything is made: that it fails is known where it writes a file which one before writes, too.
-fn first_state(alloc: Global, before: &[Request], names: &HashMap<String, ()>, job: &Job) -> State
+pub fn first_state(
+    alloc: Global,
+    before: &[Request],
+    names: &HashMap<String, ()>,
+    job: &Job,
+) -> State
     requires { AreNames before.now names.now }
     ensures { IsFirst (is_named_before before.now job.now) result }
 {
@@ -107,67 +103,21 @@ fn first_state(alloc: Global, before: &[Request], names: &HashMap<String, ()>, j
     }
 }
 
-/// How many numbers the list of a request has.
-pub fn numbers_of(job: &Job) -> usize
-    ensures { result ≡ numbers_by job.now.glyphs }
-{
-    match &job.glyphs {
-        Glyphs::Listed(glyphs) => glyphs.len(),
-        Glyphs::Characters(found) => found.len(),
-        Glyphs::InFile(_, _) => 0,
-        Glyphs::ByText(_) => 0,
-        Glyphs::Every => 0,
-    }
-}
-
-/// The answer to a request whose list is too long.
-fn too_long(alloc: Global) -> Answer
-    ensures { IsFailedBy 2 result }
-{
-    let text = "the lists of all lines have more than 2000000 numbers";
-    failed(TOO_LONG, String::from_str(alloc, text))
-}
-
-/// A request behind others, and how far it is, where lists may have so many more numbers.
-#[tactic(auto, using(crate::proofs::BatchLaws::begun_too_long, crate::proofs::BatchLaws::begun_few))]
-fn admit(
-    alloc: Global,
-    before: &[Request],
-    names: &HashMap<String, ()>,
-    left: usize,
-    line: &[u8],
-    job: Job,
-) -> (Option<Job>, State)
-    requires names { AreNames before.now names.now }
-    requires left { left ≡ left_behind before.now }
-    requires job { order_of line.now ≡ Some (job_view job) }
-    ensures { IsBegun before.now line.now result.0 result.1 }
-{
-    if numbers_of(&job) > left {
-        return (None, State::Answered(too_long(alloc)));
-    }
-    let state = first_state(alloc, before, names, &job);
-    (Some(job), state)
-}
-
-/// The request of a line behind others by what the line requests, and how far it is, where lists may have so many more numbers.
-#[tactic(auto, using(crate::proofs::BatchLaws::begun_by_nothing))]
+/// The request of a line behind others, and how far it is.
 fn begin(
     alloc: Global,
     before: &[Request],
     names: &HashMap<String, ()>,
-    left: usize,
     line: &[u8],
-    order: Result<Job, Answer>,
 ) -> (Option<Job>, State)
-    requires names { AreNames before.now names.now }
-    requires left { left ≡ left_behind before.now }
-    requires order { IfOk order (λ job. order_of line.now ≡ Some (job_view job)) }
-    requires no_order { IfErr order (IsNoOrder (order_of line.now)) }
+    requires { AreNames before.now names.now }
     ensures { IsBegun before.now line.now result.0 result.1 }
 {
-    match order {
-        Ok(job) => admit(alloc, before, names, left, line, job),
+    match order_of(alloc, line) {
+        Ok(job) => {
+            let state = first_state(alloc, before, names, &job);
+            (Some(job), state)
+        }
         Err(answer) => (None, State::Answered(answer)),
     }
 }
@@ -188,7 +138,11 @@ fn add_name(
 }
 
 /// Adds the names of the files that a request writes.
-fn add_names(alloc: Global, names: &mut HashMap<String, ()>, job: &Job) -> Result<(), AllocError>
+pub fn add_names(
+    alloc: Global,
+    names: &mut HashMap<String, ()>,
+    job: &Job,
+) -> Result<(), AllocError>
     ensures { OnOk result ((q : List ℕ) → is_some (get_by_text names.new q) ≡ (writes job.now q || is_some (get_by_text names.old q))) }
 {
     add_name(alloc, names, given(&job.output))?;
@@ -209,45 +163,28 @@ fn add_names_if(
     }
 }
 
-/// How many numbers the list of a request has that may be wrong.
-fn numbers_if(job: &Option<Job>) -> usize
-    ensures { result ≡ numbers_if job.now }
-{
-    match job {
-        Some(job) => numbers_of(job),
-        None => 0,
-    }
-}
-
-/// Adds the request of a line by what it requests, and the names of the files that it writes, and counts the numbers of its list.
+/// Adds the request of a line, and the names of the files that it writes.
 #[tactic(auto, using(crate::proofs::BatchLaws::adds_line, crate::proofs::BatchLaws::named_last))]
-pub fn push_order(
+fn push_line(
     alloc: Global,
     batch: &mut Batch,
     names: &mut HashMap<String, ()>,
-    left: &mut usize,
     line: Line<'_>,
-    order: Result<Job, Answer>,
 ) -> Result<(), AllocError>
-    requires names { AreNames batch.old.requests.items names.old }
-    requires left { left.old ≡ left_behind batch.old.requests.items }
-    requires order { IfOk order (λ job. order_of line.bytes.now ≡ Some (job_view job)) }
-    requires no_order { IfErr order (IsNoOrder (order_of line.bytes.now)) }
+    requires { AreNames batch.old.requests.items names.old }
     ensures line { OnOk result (AddsLine (line_view line.entry) batch.old batch.new) }
     ensures names { OnOk result (AreNames batch.new.requests.items names.new) }
-    ensures left { OnOk result (left.new ≡ left_behind batch.new.requests.items) }
 {
-    let (job, state) = begin(alloc, &batch.requests, names, *left, line.bytes, order);
+    let (job, state) = begin(alloc, &batch.requests, names, line.bytes);
     add_names_if(alloc, names, &job)?;
-    *left = left.saturating_sub(numbers_if(&job));
     let line = line.number;
     batch.requests.push(Request { line, job })?;
     batch.states.push(state)?;
     Ok(())
 }
 
-/// The requests of a file: one for each line that isn't blank, and how far it is: it is to be done unless it is wrong, a line
-/// before it writes its file, too, or its list and those before it have more than 2,000,000 numbers.
+/// The requests of a file: one for each line that isn't blank, and how far it is: it is to be done unless it is wrong, or a
+/// line before it writes its file, too.
 #[tactic(auto, using(crate::proofs::BatchLaws::so_far_first, crate::proofs::BatchLaws::so_far_last))]
 pub fn requests_of(alloc: Global, file: &[u8]) -> Result<Batch, AllocError>
     ensures { IfOk result (λ b. AreBegun (request_lines file.now) b.requests.items b.states.items) }
@@ -257,12 +194,10 @@ pub fn requests_of(alloc: Global, file: &[u8]) -> Result<Batch, AllocError>
         states: Vec::new(alloc),
     };
     let mut names = HashMap::new(alloc);
-    let mut left = MOST_NUMBERS;
     let lines = lines_of(alloc, file)?;
     let mut rest = lines.as_slice();
     while let [line, behind @ ..] = rest {
-        let order = order_of(alloc, line.bytes);
-        push_order(alloc, &mut batch, &mut names, &mut left, *line, order)?;
+        push_line(alloc, &mut batch, &mut names, *line)?;
         rest = behind;
     }
     Ok(batch)
@@ -284,24 +219,17 @@ pub fn due<'a>(requests: &'a [Request], states: &[State], index: usize) -> Optio
     }
 }
 
-/// Whether two requests are of one source, which both read as far.
-fn is_same_source(one: &Job, other: &Job) -> bool
-    ensures { result ≡ is_same_source one.now other.now }
-{
-    one.input.as_str() == other.input.as_str() && most_input(one) == most_input(other)
-}
-
-/// The same if it is of the source of a request.
+/// The same if it is of this source.
 pub fn due_of<'a>(
     requests: &'a [Request],
     states: &[State],
     index: usize,
-    first: &Job,
+    input: &str,
 ) -> Option<&'a Job>
-    ensures { option_copied result ≡ of_source first.now (due requests.now states.now index) }
+    ensures { option_copied result ≡ of_source input.now (due requests.now states.now index) }
 {
     match due(requests, states, index) {
-        Some(job) if is_same_source(job, first) => Some(job),
+        Some(job) if job.input.as_str() == input => Some(job),
         Some(_) => None,
         None => None,
     }

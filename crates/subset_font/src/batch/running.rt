@@ -15,7 +15,7 @@ use crate::making::carried::read_whole;
 use crate::refusals::failure::Failure;
 use crate::refusals::reason::{Noted, unread};
 use crate::run::reports::report_refused;
-use crate::streams::{MOST_INPUT, is_shown, open_source};
+use crate::streams::{is_shown, open_source};
 use std::alloc::AllocError;
 use std::io::{BufWriter, ErrorKind, Write};
 use std::rt::Files;
@@ -42,7 +42,7 @@ pub fn read_lines<R: Files + Input + Eprint + AllocGlobal>(
 ) -> Result<Vec<u8>, u8>
     ensures { IfErr result (λ status. status ≡ 2) }
 {
-    let mut file = match open_source(rt, name, MOST_INPUT) {
+    let mut file = match open_source(rt, name) {
         Ok(file) => Noted::new(file),
         Err(error) => return Err(refuse_file(rt, name, Some(error))),
     };
@@ -180,10 +180,10 @@ fn answer_source<R: Files + Print + Eprint + Input + AllocGlobal, W: Write + Dro
     let Some(job) = due(requests, states, first) else {
         return Ok(());
     };
-    let source = read_source(rt, job);
+    let source = read_source(rt, job.input.as_str());
     let mut index = first;
     for _ in first..requests.len() {
-        if let Some(other) = due_of(requests, states, index, job) {
+        if let Some(other) = due_of(requests, states, index, job.input.as_str()) {
             set_answer(states, index, answer_apart(rt, &source, other));
             answers.write_ready(rt, requests, states)?;
         }

@@ -9,7 +9,7 @@ use crate::refusals::reason::{Noted, reason_of};
 use crate::run::reports::{report_made, report_unlisted};
 use crate::run::request::{list_of, plan_of};
 use crate::streams::{
-    Source, Target, is_to_standard_output, lines_beside, most_input, open_source,
+    MOST_INPUT, Source, Target, is_to_standard_output, lines_beside, open_source,
 };
 use crate::task::Plan;
 use std::alloc::Global;
@@ -24,12 +24,11 @@ use subsetter::Error;
 pub fn open_font<R: Files + Input>(
     rt: &R,
     name: &str,
-    most: u64,
     reason: &mut Option<io::Error>,
 ) -> Result<Source<R::File, R::Reader>, Failure>
     ensures { IfErr result (λ e. e ≡ CannotRead) }
 {
-    match open_source(rt, name, most) {
+    match open_source(rt, name) {
         Ok(source) => Ok(source),
         Err(error) => {
             *reason = Some(error);
@@ -38,11 +37,10 @@ pub fn open_font<R: Files + Input>(
     }
 }
 
-/// Room for the bytes of a file, of which it may have so many, and for one more, so that its end is seen without a growth. None is
-/// taken for a stream. Why the size can't be had, or is too large, is kept.
+/// Room for the bytes of a file and for one more, so that its end is seen without a growth. None is taken for a stream. Why
+/// the size can't be had, or is too large, is kept.
 pub fn room_of<F: OpenFile + Read + Drop, S: Read + Drop>(
     source: &Source<F, S>,
-    most: u64,
     reason: &mut Option<io::Error>,
 ) -> Result<usize, Failure>
     ensures { IfErr result (λ e. e ≡ CannotRead) }
@@ -51,7 +49,7 @@ pub fn room_of<F: OpenFile + Read + Drop, S: Read + Drop>(
         return Ok(0);
     };
     match file.metadata() {
-        Ok(about) if about.len() > most => {
+        Ok(about) if about.len() > MOST_INPUT => {
             *reason = Some(io::Error::from(ErrorKind::FileTooLarge));
             Err(Failure::Read)
         }
@@ -94,9 +92,8 @@ fn perform<R: Files + Print + Eprint + Input + AllocGlobal>(
 ) -> Result<(), Failure>
     ensures { IfErr result (λ e. e ≢ Usage) }
 {
-    let most = most_input(job);
-    let opened = open_font(rt, job.input.as_str(), most, reason)?;
-    let room = room_of(&opened, most, reason)?;
+    let opened = open_font(rt, job.input.as_str(), reason)?;
+    let room = room_of(&opened, reason)?;
     let mut input = Noted::new(opened);
     let mut page = Noted::new(Target::new(rt, pdf_file(job)));
     let mut output = Noted::new(Target::new(rt, given(&job.output)));

@@ -4,6 +4,7 @@
 ghost use Rattle.std.specs.Prelude.{◌≡◌, [], IfOk};
 
 use crate::glyphs::components::Component;
+use crate::glyphs::levels::Level;
 use crate::glyphs::unfolding::Unfolded;
 use std::alloc::{AllocError, Global};
 use std::mem;
@@ -23,6 +24,8 @@ pub struct Spare {
     pub ends: Vec<usize>,
     /// For components.
     pub components: Vec<Component>,
+    /// For composite glyphs that are begun.
+    pub levels: Vec<Level>,
     /// For moved points.
     pub lists: SpareLists,
     /// For the moved offsets of components.
@@ -41,6 +44,7 @@ impl Spare {
             ys: Vec::new(alloc),
             ends: Vec::new(alloc),
             components: Vec::new(alloc),
+            levels: Vec::new(alloc),
             lists: SpareLists::new(alloc),
             offsets: SpareLists::new(alloc),
         }

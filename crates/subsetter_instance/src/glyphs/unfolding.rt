@@ -9,8 +9,7 @@ ghost use Rattle.subsetter_instance.specs.Glyphs.Unfolded.{IsInReach, counted_de
 ghost use Rattle.subsetter_instance.specs.Glyphs.Drawn.{levels};
 
 use crate::glyphs::cache::GlyphCache;
-use crate::glyphs::composite::read_composite;
-use crate::glyphs::simple::unfold_simple;
+use crate::glyphs::levels::Work;
 use crate::glyphs::spare::Spare;
 use crate::source::Source;
 use std::alloc::Global;
@@ -63,81 +62,43 @@ pub fn counted_description<'a>(source: &Source<'a>, glyph: u16) -> Option<&'a [u
     }
 }
 
-/// A glyph at a location, the steps that are left, and the glyphs that are kept. It may have components so many levels deep.
-#[tactic(auto, unfolding(crate::specs::Glyphs::Unfolded::unfolded))]
+/// Unfolds a glyph at a location. It may have components so many levels deep. What its levels hold is not on the stack, of which
+/// each takes little.
 fn unfold_within(
     alloc: Global,
     spare: &mut Spare,
+    work: &mut Work,
     depth: u8,
     source: &Source<'_>,
     at: &[i32],
-    steps: u32,
     glyph: u16,
-    kept: GlyphCache,
-) -> Result<(Unfolded, u32, GlyphCache), Error>
+) -> Result<(), Error>
     requires axes { HasAxes source.now.gvar (length at.now) }
-    requires kept { AreKept source.now at.now kept }
-    ensures value { Gives (λ r. (r.0, r.1)) result (unfolded depth source.now at.now steps glyph) }
-    ensures bound { IfOk result (λ r. IsInReach r.0) }
-    ensures kept { IfOk result (λ r. AreKept source.now at.now r.2) }
+    requires kept { AreKept source.now at.now work.old.kept }
+    ensures value { Gives (λ _. (work.new.part, work.new.left)) result (unfolded depth source.now at.now work.old.left glyph) }
+    ensures bound { IfOk result (λ _. IsInReach work.new.part) }
+    ensures kept { IfOk result (λ _. AreKept source.now at.now work.new.kept) }
+    ensures level { IfOk result (λ _. work.new.level ≡ work.old.level) }
+    ensures outer { IfOk result (λ _. work.new.outer.items ≡ work.old.outer.items) }
 {
-    if depth == 0 {
-        return Err(Error::MalformedFont);
-    }
-    let bytes = counted_description(source, glyph).ok_or(Error::MalformedFont)?;
-    let metric = source.metric(glyph).ok_or(Error::MalformedFont)?;
-    if !is_composite(bytes) {
-        let (simple, left) = unfold_simple(alloc, spare, source, at, steps, glyph, bytes, metric)?;
-        return Ok((simple, left, kept));
-    }
-    let composite = read_composite(alloc, spare, source, at, steps, glyph, bytes, metric)?;
-    let parts = &composite;
-    let mut all = parts.no_points(alloc, spare)?;
-    let mut left = parts.steps();
-    let mut kept = kept;
-    for k in 0..parts.count() {
-        let component = parts.component(k);
-        if let Some(found) = kept.find(depth - 1, component.glyph, left) {
-            let rest = left - found.cost;
-            let (more, rest) = parts.with_component(
-                alloc,
-                k,
-                component,
-                all,
-                &found.outline,
-                rest,
-            )?;
-            all = more;
-            left = rest;
+    let Some(count) = work.begin(alloc, spare, source, at, depth, glyph)? else {
+        return Ok(());
+    };
+    for k in 0..count {
+        let component = work.level.composite.component(k);
+        if let Some(found) = work.kept.find(depth - 1, component.glyph, work.left) {
+            let rest = work.left - found.cost;
+            work.left = work
+                .level
+                .place(alloc, k, &component, &found.outline, rest)?;
         } else {
-            let (part, rest, others) = unfold_within(
-                alloc,
-                spare,
-                depth - 1,
-                source,
-                at,
-                left,
-                component.glyph,
-                kept,
-            )?;
-            let (more, next) = parts.with_component(alloc, k, component, all, &part, rest)?;
-            kept = others.with(
-                alloc,
-                spare,
-                source,
-                at,
-                depth - 1,
-                left,
-                component.glyph,
-                part,
-                rest,
-            )?;
-            all = more;
-            left = next;
+            let before = work.left;
+            unfold_within(alloc, spare, work, depth - 1, source, at, component.glyph)?;
+            work.place_part(alloc, spare, source, at, depth - 1, k, &component, before)?;
         }
     }
-    composite.keep(spare);
-    Ok((all, left, kept))
+    work.end(spare);
+    Ok(())
 }
 
 /// A glyph at a location, the steps that are left, and the glyphs that are kept.
@@ -156,5 +117,7 @@ pub fn unfold(
     ensures bound { IfOk result (λ r. IsInReach r.0) }
     ensures kept { IfOk result (λ r. AreKept source.now at.now r.2) }
 {
-    unfold_within(alloc, spare, LEVELS, source, at, steps, glyph, kept)
+    let mut work = Work::new(alloc, spare, steps, kept);
+    unfold_within(alloc, spare, &mut work, LEVELS, source, at, glyph)?;
+    Ok(work.done(spare))
 }

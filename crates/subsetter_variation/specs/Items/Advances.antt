@@ -67,7 +67,3 @@ origin_delta vvar at g = do
   s ← store_of vvar (length at)
   index ← origin_index vvar g
   item_delta s at index.0 index.1
-
--- the same in whole units, or the name of what is wrong
-abbrev pub origin_or_fault : List ℕ → List ℤ → ℕ → Result ℤ Error
-origin_or_fault vvar at g = whole_or_fault (origin_delta vvar at g)

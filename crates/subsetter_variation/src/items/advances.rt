@@ -8,7 +8,7 @@ ghost use Rattle.std.specs.Prelude.{[], ◌≡◌, ◌+◌, ◌*◌, ◌<◌, �
 ghost use Rattle.std.specs.Option.{ok_or};
 ghost use Rattle.subsetter_base.specs.declared.error.Error.TheVariants.{MalformedFont};
 ghost use Rattle.subsetter_variation.specs.Items.ItemVariations.{nullable_offset, item_store, item_delta, in_whole_units, whole_or_fault};
-ghost use Rattle.subsetter_variation.specs.Items.Advances.{advance_or_fault, map_head, split_index, mapped_index, advance_index, store_of, advance_delta, entry_index, origin_index, origin_delta, origin_or_fault};
+ghost use Rattle.subsetter_variation.specs.Items.Advances.{advance_or_fault, map_head, split_index, mapped_index, advance_index, store_of, advance_delta, entry_index, origin_index, origin_delta};
 
 use crate::items::item_variations::{
     Store, in_whole_units, item_delta, item_store, nullable_offset,
@@ -204,52 +204,4 @@ pub fn origin_delta(vvar: &[u8], at: &[i32], glyph: u16) -> Result<i64, Error>
     ensures { result ≡ whole_or_fault (origin_delta vvar.now at.now glyph) }
 {
     in_whole_units(varied_origin(vvar, at, glyph).ok_or(Error::MalformedFont)?)
-}
-
-/// The item of the vertical origin of each of these glyphs.
-fn origin_items(
-    alloc: Global,
-    vvar: &[u8],
-    glyphs: &[u16],
-) -> Result<Vec<Option<(u32, u32)>>, AllocError>
-    ensures { IfOk result (λ v. v.items ≡ map (origin_index vvar.now) glyphs.now) }
-{
-    let mut items = Vec::with_capacity(alloc, glyphs.len())?;
-    for glyph in glyphs {
-        items.push(origin_index(vvar, *glyph))?;
-    }
-    Ok(items)
-}
-
-/// What the y of the vertical origin of each of these glyphs varies by, one after the other.
-fn origins_one_by_one(
-    alloc: Global,
-    vvar: &[u8],
-    at: &[i32],
-    glyphs: &[u16],
-) -> Result<Vec<Result<i64, Error>>, AllocError>
-    ensures { IfOk result (λ v. v.items ≡ map (origin_or_fault vvar.now at.now) glyphs.now) }
-{
-    let mut deltas = Vec::with_capacity(alloc, glyphs.len())?;
-    for glyph in glyphs {
-        deltas.push(origin_delta(vvar, at, *glyph))?;
-    }
-    Ok(deltas)
-}
-
-/// What the y of the vertical origin of each of these glyphs varies by at a location, each as `origin_delta` says. The scalar of
-/// a region is reckoned once, and so is the sum of an item.
-pub fn origin_deltas(
-    alloc: Global,
-    vvar: &[u8],
-    at: &[i32],
-    glyphs: &[u16],
-) -> Result<Vec<Result<i64, Error>>, AllocError>
-    ensures { IfOk result (λ v. v.items ≡ map (origin_or_fault vvar.now at.now) glyphs.now) }
-{
-    let Some(s) = store_of(vvar, at.len()) else {
-        return origins_one_by_one(alloc, vvar, at, glyphs);
-    };
-    let items = origin_items(alloc, vvar, glyphs)?;
-    each_delta(alloc, &s, at, &items)
 }

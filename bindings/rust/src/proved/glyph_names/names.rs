@@ -50,17 +50,20 @@ fn name_of<'a>(post: &'a [u8], _cff: &[u8], sources: &Sources<'a>, glyph: u16) -
 }
 
 /// The names of glyphs, by the tables `post` and `CFF ` of their font, each of no bytes where the font hasn't got it: the name
-/// in `post`, or else the one in `CFF `. A name is empty where neither has one. None is copied.
-pub fn glyph_names<'a>(
+/// in `post`, or else the one in `CFF `. A name is empty where neither has one.
+pub fn glyph_names(
     alloc: Global,
-    post: &'a [u8],
-    cff: &'a [u8],
+    post: &[u8],
+    cff: &[u8],
     glyphs: &[u16],
-) -> Result<Vec<&'a [u8]>, AllocError> {
+) -> Result<Vec<Vec<u8>>, AllocError> {
     let sources = read_sources(alloc, post, cff)?;
     let mut names = Vec::new(alloc);
     for glyph in glyphs {
-        names.push(name_of(post, cff, &sources, *glyph))?;
+        names.push(Vec::from_slice(
+            alloc,
+            name_of(post, cff, &sources, *glyph),
+        )?)?;
     }
     Ok(names)
 }

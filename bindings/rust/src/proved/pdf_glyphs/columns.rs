@@ -4,7 +4,7 @@
 use crate::rattle::prelude::{IteratorExt, Vec};
 
 use crate::proved::pdf_glyphs::frequent::most_frequent;
-use crate::proved::pdf_glyphs::heights::{moves_of_each, HeightVariation, Moves};
+use crate::proved::pdf_glyphs::heights::HeightVariation;
 use crate::proved::pdf_glyphs::metrics::{metric_at, VerticalTables};
 use crate::proved::pdf_glyphs::origins::origins_of;
 use crate::proved::pdf_text::{Column, DefaultColumn};
@@ -24,31 +24,7 @@ fn glyphs_of(alloc: Global, mapper: &GlyphRemapper) -> Result<Vec<u16>, Error> {
     Ok(mapper.remapped_gids().collect_with(alloc)?)
 }
 
-/// The column of each glyph that has a width, by what its metrics vary by.
-fn columns_by(
-    alloc: Global,
-    tables: VerticalTables<'_>,
-    _variation: Option<HeightVariation<'_>>,
-    glyphs: &[u16],
-    moves: &[Option<Moves>],
-    origins: &[Option<i16>],
-    widths: &[u32],
-) -> Result<Vec<Column>, Error> {
-    let mut columns = Vec::with_capacity(alloc, glyphs.len())?;
-    for index in 0..glyphs.len().min(widths.len()) {
-        let column = metric_at(
-            tables,
-            moves[index],
-            glyphs[index],
-            widths[index],
-            origins[index],
-        );
-        columns.push(column)?;
-    }
-    Ok(columns)
-}
-
-/// The same by what `VVAR` says of all glyphs.
+/// The column of each glyph that has a width.
 fn each_column(
     alloc: Global,
     tables: VerticalTables<'_>,
@@ -57,8 +33,18 @@ fn each_column(
     origins: &[Option<i16>],
     widths: &[u32],
 ) -> Result<Vec<Column>, Error> {
-    let moves = moves_of_each(alloc, variation, glyphs)?;
-    columns_by(alloc, tables, variation, glyphs, &moves, origins, widths)
+    let mut columns = Vec::with_capacity(alloc, glyphs.len())?;
+    for index in 0..glyphs.len().min(widths.len()) {
+        let column = metric_at(
+            tables,
+            variation,
+            glyphs[index],
+            widths[index],
+            origins[index],
+        );
+        columns.push(column)?;
+    }
+    Ok(columns)
 }
 
 /// The columns of a font for the glyphs in use, in order of use, whose CIDs have these widths.

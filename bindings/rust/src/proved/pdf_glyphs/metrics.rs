@@ -2,7 +2,7 @@
 //! Vertical metrics of a glyph (OpenType, "vhea", "vmtx"), as a PDF has them (ISO 32000-1, 9.7.4.3).
 
 use crate::proved::pdf_glyphs::boxes::{glyph_box, OutlineTables};
-use crate::proved::pdf_glyphs::heights::{varied_height, varied_origin, Moves};
+use crate::proved::pdf_glyphs::heights::{varied_height, varied_origin, HeightVariation};
 use crate::proved::pdf_glyphs::origins::default_origin;
 use crate::proved::pdf_text::Column;
 use crate::proved::pdf_values::{thousandths, units_per_em};
@@ -45,11 +45,15 @@ fn advance_of(tables: VerticalTables<'_>, glyph: u16) -> Option<u16> {
 }
 
 /// The same with what it varies by, if it does.
-fn advance_at(tables: VerticalTables<'_>, by: Option<Moves>, glyph: u16) -> Option<u16> {
+fn advance_at(
+    tables: VerticalTables<'_>,
+    variation: Option<HeightVariation<'_>>,
+    glyph: u16,
+) -> Option<u16> {
     let advance = advance_of(tables, glyph)?;
-    match by {
+    match variation {
         None => Some(advance),
-        Some(by) => Some(varied_height(by.height, advance)),
+        Some(variation) => Some(varied_height(variation, glyph, advance)),
     }
 }
 
@@ -89,28 +93,28 @@ fn vorg_y(tables: VerticalTables<'_>, _glyph: u16, recorded: Option<i16>) -> Opt
 /// The same with what it varies by, if it does.
 fn vorg_y_at(
     tables: VerticalTables<'_>,
-    by: Option<Moves>,
+    variation: Option<HeightVariation<'_>>,
     glyph: u16,
     recorded: Option<i16>,
 ) -> Option<i16> {
     let y = vorg_y(tables, glyph, recorded)?;
-    match by {
+    match variation {
         None => Some(y),
-        Some(by) => Some(varied_origin(by.origin, y)),
+        Some(variation) => Some(varied_origin(variation, glyph, y)),
     }
 }
 
 /// The y of the origin: of TrueType outlines by box and bearing, else by VORG with what it varies by.
 fn origin_y_at(
     tables: VerticalTables<'_>,
-    by: Option<Moves>,
+    variation: Option<HeightVariation<'_>>,
     glyph: u16,
     recorded: Option<i16>,
 ) -> Option<i32> {
     if tables.outlines.glyf.is_some() {
         return origin_of_box(tables, glyph);
     }
-    Some(i32::from(vorg_y_at(tables, by, glyph, recorded)?))
+    Some(i32::from(vorg_y_at(tables, variation, glyph, recorded)?))
 }
 
 /// Half of a width.
@@ -134,12 +138,12 @@ fn scaled_y(y: Option<i32>, units: u16) -> i32 {
 /// The column of a glyph with a width, of which VORG has this y. Its advance and an origin by VORG vary.
 pub fn metric_at(
     tables: VerticalTables<'_>,
-    by: Option<Moves>,
+    variation: Option<HeightVariation<'_>>,
     glyph: u16,
     width: u32,
     recorded: Option<i16>,
 ) -> Column {
-    let advance = match advance_at(tables, by, glyph) {
+    let advance = match advance_at(tables, variation, glyph) {
         Some(advance) => advance,
         _ => {
             return Column {
@@ -153,6 +157,6 @@ pub fn metric_at(
     Column {
         advance: downwards(advance, units),
         x: half(width),
-        y: scaled_y(origin_y_at(tables, by, glyph, recorded), units),
+        y: scaled_y(origin_y_at(tables, variation, glyph, recorded), units),
     }
 }

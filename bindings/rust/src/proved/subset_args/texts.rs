@@ -92,7 +92,6 @@ impl fmt::Display for Mistake<'_> {
             Wrong::Rights => write!(f, "--rights: \"{word}\" is not held"),
             Wrong::NoPdf => write!(f, "{word}: no PDF is requested"),
             Wrong::OutputTwice => write!(f, "--pdf: \"{word}\" is OUT, too"),
-            Wrong::MostInput => write!(f, "--most-input: \"{word}\" is not a number"),
         }
     }
 }
@@ -157,7 +156,6 @@ fn expected(wrong: Wrong) -> &'static str {
         Wrong::Rights => "expected: held, where you may embed the font whatever it says",
         Wrong::NoPdf => "expected: --pdf FILE beside it",
         Wrong::OutputTwice => "expected: two files, for the new font and for the PDF",
-        Wrong::MostInput => "expected: bytes, as 2147483648, to 4294967295",
         Wrong::NoOutputOption => "expected: a file for the new font, or - for standard output",
         Wrong::NoSource => "expected: --gids, --text, --unicodes, or a file of one",
     }

@@ -57,7 +57,6 @@ fn single_of(name: &str) -> Option<Kind> {
         "pdf" => Some(Kind::Single),
         "codes" => Some(Kind::Single),
         "rights" => Some(Kind::Single),
-        "most-input" => Some(Kind::Single),
         _ => None,
     }
 }

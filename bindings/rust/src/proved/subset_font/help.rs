@@ -82,9 +82,6 @@ What the new font has:
                     glyph, the greatest depth of its
                     subroutines (default 1000000,64), and
                     the most bytes of the new font
-  --most-input BYTES
-                    the most bytes of IN (default
-                    1073741824)
 With --at an axis that isn't named is at its default. Of a
 tag that is given twice the last value counts. A tag that
 the font lacks is passed over, and a value outside its axis

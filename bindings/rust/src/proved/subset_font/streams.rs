@@ -4,22 +4,14 @@
 use crate::rattle::prelude::{AllocGlobal, Eprint, Input, Print};
 
 use crate::proved::late_file::LateFile;
-use crate::proved::subset_args::{is_stream, Job};
+use crate::proved::subset_args::is_stream;
 use crate::rattle::io::{ErrorKind, Read, Write};
 use crate::rattle::os::unix::fs::MetadataExt;
 use crate::rattle::rt::Files;
 use crate::rattle::{fs, io};
 
-/// The most bytes that are read of a file or a stream, unless `--most-input` says another number for IN.
+/// The most bytes that are read of a file or a stream.
 pub const MOST_INPUT: u64 = 1 << 30;
-
-/// The most bytes that are read of the source of a request.
-pub fn most_input(job: &Job) -> u64 {
-    match job.most_input {
-        Some(bytes) => u64::from(bytes),
-        None => MOST_INPUT,
-    }
-}
 
 /// What the font or a list of glyphs is read from, and how many bytes may still be.
 pub enum Source<F: Read, S: Read> {
@@ -49,15 +41,11 @@ impl<F: Read, S: Read> Read for Source<F, S> {
 }
 
 /// Opens what is read, of which a byte more than may be is read, to see the end.
-pub fn open_source<R: Files + Input>(
-    rt: &R,
-    name: &str,
-    most: u64,
-) -> io::Result<Source<R::File, R::Reader>> {
+pub fn open_source<R: Files + Input>(rt: &R, name: &str) -> io::Result<Source<R::File, R::Reader>> {
     if is_stream(name) {
-        return Ok(Source::Standard(rt.reader(), most.saturating_add(1)));
+        return Ok(Source::Standard(rt.reader(), MOST_INPUT + 1));
     }
-    Ok(Source::File(fs::open(rt, name)?, most.saturating_add(1)))
+    Ok(Source::File(fs::open(rt, name)?, MOST_INPUT + 1))
 }
 
 /// Opens three descriptors, of a folder: by these nothing can be read or written. Where a standard stream is closed at the

@@ -67,8 +67,6 @@ pub struct Job {
     pub position: Option<Position>,
     /// The PDF that is requested, if one is.
     pub pdf: Option<PdfJob>,
-    /// The most bytes that the source may have, if that is given.
-    pub most_input: Option<u32>,
 }
 
 /// Where on its axes a variable font is requested.

@@ -35,7 +35,6 @@ fn job_with(
         switches: chosen.switches,
         position,
         pdf,
-        most_input: chosen.most_input,
     })
 }
 

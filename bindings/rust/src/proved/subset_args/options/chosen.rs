@@ -96,8 +96,6 @@ pub struct Chosen<'a> {
     pub coding: Option<Coding>,
     /// Whether the user holds the rights to embed the font.
     pub is_held: bool,
-    /// The most bytes that IN may have, if that is given.
-    pub most_input: Option<u32>,
 }
 
 impl<'a> Chosen<'a> {
@@ -112,7 +110,6 @@ impl<'a> Chosen<'a> {
         pdf: None,
         coding: None,
         is_held: false,
-        most_input: None,
     };
 
     /// With an option without a value, which is given once.
@@ -130,7 +127,6 @@ impl<'a> Chosen<'a> {
             pdf: self.pdf,
             coding: self.coding,
             is_held: self.is_held,
-            most_input: self.most_input,
         })
     }
 
@@ -150,7 +146,6 @@ impl<'a> Chosen<'a> {
             Setting::Pdf => self.with_pdf(value),
             Setting::Codes => self.with_coding(value),
             Setting::Rights => self.with_rights(value),
-            Setting::MostInput => self.with_most_input(value),
         }
     }
 
@@ -169,7 +164,6 @@ impl<'a> Chosen<'a> {
             pdf: self.pdf,
             coding: self.coding,
             is_held: self.is_held,
-            most_input: self.most_input,
         })
     }
 
@@ -188,7 +182,6 @@ impl<'a> Chosen<'a> {
             pdf: self.pdf,
             coding: self.coding,
             is_held: self.is_held,
-            most_input: self.most_input,
         })
     }
 
@@ -207,7 +200,6 @@ impl<'a> Chosen<'a> {
             pdf: self.pdf,
             coding: self.coding,
             is_held: self.is_held,
-            most_input: self.most_input,
         })
     }
 
@@ -226,7 +218,6 @@ impl<'a> Chosen<'a> {
             pdf: self.pdf,
             coding: self.coding,
             is_held: self.is_held,
-            most_input: self.most_input,
         })
     }
 
@@ -245,7 +236,6 @@ impl<'a> Chosen<'a> {
             pdf: self.pdf,
             coding: self.coding,
             is_held: self.is_held,
-            most_input: self.most_input,
         })
     }
 
@@ -264,7 +254,6 @@ impl<'a> Chosen<'a> {
             pdf: Some(value),
             coding: self.coding,
             is_held: self.is_held,
-            most_input: self.most_input,
         })
     }
 
@@ -283,7 +272,6 @@ impl<'a> Chosen<'a> {
             pdf: self.pdf,
             coding: Some(coding_of(value)?),
             is_held: self.is_held,
-            most_input: self.most_input,
         })
     }
 
@@ -302,26 +290,6 @@ impl<'a> Chosen<'a> {
             pdf: self.pdf,
             coding: self.coding,
             is_held: true,
-            most_input: self.most_input,
-        })
-    }
-
-    /// With the most bytes that IN may have.
-    fn with_most_input(self, value: &str) -> Option<Chosen<'a>> {
-        if self.most_input.is_some() {
-            return None;
-        }
-        Some(Chosen {
-            switches: self.switches,
-            limits: self.limits,
-            source: self.source,
-            at: self.at,
-            output: self.output,
-            index: self.index,
-            pdf: self.pdf,
-            coding: self.coding,
-            is_held: self.is_held,
-            most_input: Some(u32_of(value)?),
         })
     }
 }

@@ -53,8 +53,6 @@ pub enum Setting {
     Codes,
     /// `--rights held`
     Rights,
-    /// `--most-input BYTES`
-    MostInput,
 }
 
 /// How the glyphs of a PDF get codes.
@@ -97,7 +95,7 @@ pub enum Kind {
 }
 
 /// The options with a name, in the order of the help.
-pub const OPTIONS: [&str; 27] = [
+pub const OPTIONS: [&str; 26] = [
     "--gids",
     "--gids-file",
     "--text",
@@ -115,7 +113,6 @@ pub const OPTIONS: [&str; 27] = [
     "--no-names",
     "--no-glyph-names",
     "--limits",
-    "--most-input",
     "--widths",
     "--verbose",
     "--json",
@@ -159,7 +156,6 @@ fn setting_of(word: &str) -> Option<Setting> {
         "--pdf" => Some(Setting::Pdf),
         "--codes" => Some(Setting::Codes),
         "--rights" => Some(Setting::Rights),
-        "--most-input" => Some(Setting::MostInput),
         _ => None,
     }
 }

@@ -5,9 +5,8 @@ use crate::rattle::prelude::{String, Vec};
 
 use crate::proved::subset_batch::{write_done, write_failed};
 use crate::proved::subset_lines::Unwritten;
-use crate::rattle::alloc::{AllocError, Global};
-use crate::rattle::io;
-use crate::rattle::io::{ErrorKind, Write};
+use crate::rattle::alloc::AllocError;
+use crate::rattle::io::Write;
 
 /// What is answered to a request of a batch.
 pub enum Answer {
@@ -23,43 +22,6 @@ pub enum Answer {
 const NO_MEMORY_STATUS: u8 = 1;
 
 const NO_MEMORY: &str = "out of memory";
-
-/// The most bytes of an object that is answered.
-const MOST: usize = 1 << 26;
-
-/// An object that is written, of 64 MiB at most.
-pub struct Object {
-    text: Vec<u8>,
-}
-
-impl Object {
-    /// One without bytes.
-    pub fn new(alloc: Global) -> Self {
-        Object {
-            text: Vec::new(alloc),
-        }
-    }
-
-    /// Its bytes.
-    pub fn into_text(self) -> Vec<u8> {
-        let Object { text } = self;
-        text
-    }
-}
-
-impl Write for Object {
-    fn write(&mut self, buf: &[u8]) -> io::Result<usize> {
-        if buf.len() > MOST - self.text.len() {
-            return Err(io::Error::from(ErrorKind::OutOfMemory));
-        }
-        self.text.extend_from_slice(buf)?;
-        Ok(buf.len())
-    }
-
-    fn flush(&mut self) -> io::Result<()> {
-        Ok(())
-    }
-}
 
 /// The answer to a request that failed, by a text that memory may not have sufficed for.
 pub fn failed(status: u8, text: Result<String, AllocError>) -> Answer {

@@ -4,14 +4,14 @@
 use crate::rattle::prelude::{AllocGlobal, Input, Print, String, Vec};
 
 use crate::proved::subset_args::{Job, Plain};
-use crate::proved::subset_font::batch::answers::{failed, Answer, Object};
+use crate::proved::subset_font::batch::answers::{failed, Answer};
 use crate::proved::subset_font::making::carried::read_whole;
 use crate::proved::subset_font::making::outcome::{make_planned, Outcome};
 use crate::proved::subset_font::output::{write_font, write_numbers, write_page};
 use crate::proved::subset_font::refusals::failure::{file_by, given, list_file, pdf_file, Failure};
 use crate::proved::subset_font::run::job::{open_font, room_of};
 use crate::proved::subset_font::run::request::{list_of, plan_of};
-use crate::proved::subset_font::streams::{is_to_standard_output, most_input, Target};
+use crate::proved::subset_font::streams::{is_to_standard_output, Target};
 use crate::proved::subset_font::task::{Form, Plan};
 use crate::proved::subsetter::Error;
 use crate::proved::subsetter_words::plain_text;
@@ -22,27 +22,26 @@ use crate::rattle::rt::Files;
 /// The status of a request that would write among the answers, as of wrong arguments.
 const AMONG_ANSWERS: u8 = 2;
 
-/// The bytes of the source of a request.
-pub fn read_source<R: Files + Input + AllocGlobal>(rt: &R, job: &Job) -> Result<Vec<u8>, Failure> {
+/// The bytes of a source.
+pub fn read_source<R: Files + Input + AllocGlobal>(rt: &R, name: &str) -> Result<Vec<u8>, Failure> {
     let mut reason = None;
-    let most = most_input(job);
-    let mut source = open_font(rt, job.input.as_str(), most, &mut reason)?;
-    let room = room_of(&source, most, &mut reason)?;
+    let mut source = open_font(rt, name, &mut reason)?;
+    let room = room_of(&source, &mut reason)?;
     read_whole(rt.alloc(), &mut source, room)
 }
 
-/// What is printed of what was made, if that has 64 MiB at most.
-fn printed(alloc: Global, outcome: &Outcome<'_>, form: Form) -> Result<Vec<u8>, Failure> {
-    let mut object = Object::new(alloc);
+/// What is printed of what was made.
+fn printed(alloc: Global, outcome: &Outcome, form: Form) -> Result<Vec<u8>, Failure> {
+    let mut object = Vec::new(alloc);
     match write_numbers(outcome, form, &mut object) {
-        Ok(()) => Ok(object.into_text()),
+        Ok(()) => Ok(object),
         Err(_) => Err(Failure::Error(Error::OutOfMemory)),
     }
 }
 
 /// Writes the PDF, if there is one, to one writer, and then the font to another.
 fn write_files<P: Write, W: Write>(
-    outcome: &Outcome<'_>,
+    outcome: &Outcome,
     page: &mut P,
     output: &mut W,
 ) -> Result<(), Failure> {
@@ -54,7 +53,7 @@ fn write_files<P: Write, W: Write>(
 /// subset to another.
 fn carry_made<P: Write, W: Write>(
     alloc: Global,
-    outcome: &Outcome<'_>,
+    outcome: &Outcome,
     form: Form,
     page: &mut P,
     output: &mut W,
@@ -70,7 +69,7 @@ fn carry_made<P: Write, W: Write>(
 /// requested, and its subset to another. What is answered and written is what `carry_out` prints and writes between a reader
 /// of these bytes and three writers.
 ///
-/// It fails as `carry_out` does, and as for want of memory where more than 64 MiB would be printed.
+/// It fails as `carry_out` does.
 pub fn carry_answer<P: Write, W: Write>(
     alloc: Global,
     font: &[u8],

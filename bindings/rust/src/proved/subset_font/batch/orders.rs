@@ -66,7 +66,6 @@ fn with_answer(alloc: Global, job: Job) -> Result<Job, Answer> {
         switches,
         position: job.position,
         pdf: job.pdf,
-        most_input: job.most_input,
     })
 }
 

@@ -3,22 +3,16 @@
 
 use crate::rattle::prelude::{String, Vec};
 
-use crate::proved::subset_args::{Glyphs, Job, Plain};
+use crate::proved::subset_args::{Job, Plain};
 use crate::proved::subset_batch::{lines_of, Line};
 use crate::proved::subset_font::batch::answers::{failed, Answer};
 use crate::proved::subset_font::batch::orders::order_of;
 use crate::proved::subset_font::refusals::failure::{given, pdf_file};
-use crate::proved::subset_font::streams::most_input;
 use crate::rattle::alloc::{AllocError, Global};
 use crate::rattle::collections::HashMap;
 
-/// The status of a request whose OUT a line before has named, or whose list is too long, as of wrong arguments.
+/// The status of a request whose OUT a line before has named, as of wrong arguments.
 const NAMED_TWICE: u8 = 2;
-
-const TOO_LONG: u8 = 2;
-
-/// The most numbers that the lists of all requests may have.
-pub const MOST_NUMBERS: usize = 2_000_000;
 
 /// A request of a batch.
 pub struct Request {
@@ -75,7 +69,12 @@ fn named_before<'a>(
 }
 
 /// How far a request is before anything is made: that it fails is known where it writes a file which one before writes, too.
-fn first_state(alloc: Global, before: &[Request], names: &HashMap<String, ()>, job: &Job) -> State {
+pub fn first_state(
+    alloc: Global,
+    before: &[Request],
+    names: &HashMap<String, ()>,
+    job: &Job,
+) -> State {
     match named_before(before, names, job) {
         Some(name) => {
             let text = format!(in alloc; "a line before names {}, too", Plain(name));
@@ -85,50 +84,18 @@ fn first_state(alloc: Global, before: &[Request], names: &HashMap<String, ()>, j
     }
 }
 
-/// How many numbers the list of a request has.
-pub fn numbers_of(job: &Job) -> usize {
-    match &job.glyphs {
-        Glyphs::Listed(glyphs) => glyphs.len(),
-        Glyphs::Characters(found) => found.len(),
-        Glyphs::InFile(_, _) => 0,
-        Glyphs::ByText(_) => 0,
-        Glyphs::Every => 0,
-    }
-}
-
-/// The answer to a request whose list is too long.
-fn too_long(alloc: Global) -> Answer {
-    let text = "the lists of all lines have more than 2000000 numbers";
-    failed(TOO_LONG, String::from_str(alloc, text))
-}
-
-/// A request behind others, and how far it is, where lists may have so many more numbers.
-fn admit(
-    alloc: Global,
-    before: &[Request],
-    names: &HashMap<String, ()>,
-    left: usize,
-    _line: &[u8],
-    job: Job,
-) -> (Option<Job>, State) {
-    if numbers_of(&job) > left {
-        return (None, State::Answered(too_long(alloc)));
-    }
-    let state = first_state(alloc, before, names, &job);
-    (Some(job), state)
-}
-
-/// The request of a line behind others by what the line requests, and how far it is, where lists may have so many more numbers.
+/// The request of a line behind others, and how far it is.
 fn begin(
     alloc: Global,
     before: &[Request],
     names: &HashMap<String, ()>,
-    left: usize,
     line: &[u8],
-    order: Result<Job, Answer>,
 ) -> (Option<Job>, State) {
-    match order {
-        Ok(job) => admit(alloc, before, names, left, line, job),
+    match order_of(alloc, line) {
+        Ok(job) => {
+            let state = first_state(alloc, before, names, &job);
+            (Some(job), state)
+        }
         Err(answer) => (None, State::Answered(answer)),
     }
 }
@@ -147,7 +114,11 @@ fn add_name(
 }
 
 /// Adds the names of the files that a request writes.
-fn add_names(alloc: Global, names: &mut HashMap<String, ()>, job: &Job) -> Result<(), AllocError> {
+pub fn add_names(
+    alloc: Global,
+    names: &mut HashMap<String, ()>,
+    job: &Job,
+) -> Result<(), AllocError> {
     add_name(alloc, names, given(&job.output))?;
     add_name(alloc, names, pdf_file(job))
 }
@@ -164,46 +135,33 @@ fn add_names_if(
     }
 }
 
-/// How many numbers the list of a request has that may be wrong.
-fn numbers_if(job: &Option<Job>) -> usize {
-    match job {
-        Some(job) => numbers_of(job),
-        None => 0,
-    }
-}
-
-/// Adds the request of a line by what it requests, and the names of the files that it writes, and counts the numbers of its list.
-pub fn push_order(
+/// Adds the request of a line, and the names of the files that it writes.
+fn push_line(
     alloc: Global,
     batch: &mut Batch,
     names: &mut HashMap<String, ()>,
-    left: &mut usize,
     line: Line<'_>,
-    order: Result<Job, Answer>,
 ) -> Result<(), AllocError> {
-    let (job, state) = begin(alloc, &batch.requests, names, *left, line.bytes, order);
+    let (job, state) = begin(alloc, &batch.requests, names, line.bytes);
     add_names_if(alloc, names, &job)?;
-    *left = left.saturating_sub(numbers_if(&job));
     let line = line.number;
     batch.requests.push(Request { line, job })?;
     batch.states.push(state)?;
     Ok(())
 }
 
-/// The requests of a file: one for each line that isn't blank, and how far it is: it is to be done unless it is wrong, a line
-/// before it writes its file, too, or its list and those before it have more than 2,000,000 numbers.
+/// The requests of a file: one for each line that isn't blank, and how far it is: it is to be done unless it is wrong, or a
+/// line before it writes its file, too.
 pub fn requests_of(alloc: Global, file: &[u8]) -> Result<Batch, AllocError> {
     let mut batch = Batch {
         requests: Vec::new(alloc),
         states: Vec::new(alloc),
     };
     let mut names = HashMap::new(alloc);
-    let mut left = MOST_NUMBERS;
     let lines = lines_of(alloc, file)?;
     let mut rest = lines.as_slice();
     while let [line, behind @ ..] = rest {
-        let order = order_of(alloc, line.bytes);
-        push_order(alloc, &mut batch, &mut names, &mut left, *line, order)?;
+        push_line(alloc, &mut batch, &mut names, *line)?;
         rest = behind;
     }
     Ok(batch)
@@ -223,20 +181,15 @@ pub fn due<'a>(requests: &'a [Request], states: &[State], index: usize) -> Optio
     }
 }
 
-/// Whether two requests are of one source, which both read as far.
-fn is_same_source(one: &Job, other: &Job) -> bool {
-    one.input.as_str() == other.input.as_str() && most_input(one) == most_input(other)
-}
-
-/// The same if it is of the source of a request.
+/// The same if it is of this source.
 pub fn due_of<'a>(
     requests: &'a [Request],
     states: &[State],
     index: usize,
-    first: &Job,
+    input: &str,
 ) -> Option<&'a Job> {
     match due(requests, states, index) {
-        Some(job) if is_same_source(job, first) => Some(job),
+        Some(job) if job.input.as_str() == input => Some(job),
         Some(_) => None,
         None => None,
     }

@@ -5,7 +5,7 @@ use crate::rattle::prelude::Vec;
 
 use crate::proved::subset_font::faces::axes::names_of;
 use crate::proved::subset_font::refusals::failure::Failure;
-use crate::proved::subset_lines::{read_axes, text_of_name, FontAxes, NameTable};
+use crate::proved::subset_lines::{name_of, read_axes, text_of_name, FontAxes};
 use crate::proved::subsetter::{Error, Tag};
 use crate::proved::subsetter_base::fields::long_signed_in;
 use crate::proved::subsetter_base::read::after_four;
@@ -13,61 +13,29 @@ use crate::proved::subsetter_sfnt::directory::{header_offset, table};
 use crate::proved::subsetter_variation::locations::axes::Axis;
 use crate::rattle::alloc::{AllocError, Global};
 
-/// What a name has behind a text, which may differ from it in the case of ASCII letters. None where it doesn't begin so.
-fn behind_same<'a>(text: &[u8], name: &'a [u8]) -> Option<&'a [u8]> {
-    let mut rest = name;
-    for byte in text {
-        let (first, behind) = match rest {
-            [first, behind @ ..] => (first, behind),
-            _ => {
-                return None;
-            }
-        };
-        if !byte.eq_ignore_ascii_case(first) {
-            return None;
-        }
-        rest = behind;
-    }
-    Some(rest)
-}
-
-/// Whether the text of code units is a name, but for the case of ASCII letters. One character after another is compared.
-fn is_text_of(alloc: Global, units: &[u8], name: &[u8]) -> Result<bool, AllocError> {
-    let mut left = name;
-    let mut rest = units;
-    while let [high, low, more @ ..] = rest {
-        let text = match text_of_name(alloc, &[*high, *low]) {
-            Ok(text) => text,
-            _ => {
-                return Err(AllocError);
-            }
-        };
-        match behind_same(&text, left) {
-            Some(behind) => left = behind,
-            None => return Ok(false),
-        }
-        rest = more;
-    }
-    Ok(left.is_empty())
+/// Whether two names are the same but for the case of ASCII letters.
+fn is_same_name(one: &[u8], other: &[u8]) -> bool {
+    one.eq_ignore_ascii_case(other)
 }
 
 /// Whether the instance of a record has a name.
-fn has_name(
-    alloc: Global,
-    names: &NameTable<'_>,
-    bytes: &[u8],
-    name: &str,
-) -> Result<bool, AllocError> {
-    match names.of_instance(bytes) {
-        Some(units) => is_text_of(alloc, units, name.as_bytes()),
-        None => Ok(false),
+fn has_name(alloc: Global, names: &[u8], bytes: &[u8], name: &str) -> Result<bool, AllocError> {
+    let found = match name_of(names, bytes) {
+        Some(found) => found,
+        _ => {
+            return Ok(false);
+        }
+    };
+    match text_of_name(alloc, found) {
+        Ok(text) => Ok(is_same_name(&text, name.as_bytes())),
+        Err(_) => Err(AllocError),
     }
 }
 
 /// The first of the records whose instance has a name.
 fn find_named<'a>(
     alloc: Global,
-    names: &NameTable<'_>,
+    names: &[u8],
     records: &[&'a [u8]],
     name: &str,
 ) -> Result<Option<&'a [u8]>, AllocError> {
@@ -104,7 +72,7 @@ fn instance_settings(
     all: &FontAxes<'_>,
     name: &str,
 ) -> Result<Vec<(Tag, i32)>, Failure> {
-    match find_named(alloc, &all.names, &all.instances, name) {
+    match find_named(alloc, all.names, &all.instances, name) {
         Ok(Some(bytes)) => match settings_of(alloc, &all.axes, after_four(bytes)) {
             Ok(settings) => Ok(settings),
             Err(_) => Err(Failure::Error(Error::OutOfMemory)),
@@ -144,10 +112,10 @@ fn push_name(
     text: &mut Vec<u8>,
     alloc: Global,
     before: &[u8],
-    names: &NameTable<'_>,
+    names: &[u8],
     bytes: &[u8],
 ) -> Result<bool, AllocError> {
-    let found = match names.of_instance(bytes) {
+    let found = match name_of(names, bytes) {
         Some(found) => found,
         _ => {
             return Ok(false);
@@ -177,7 +145,7 @@ fn before_next(before: &[u8], found: bool) -> &[u8] {
 fn names_behind(
     alloc: Global,
     front: &[u8],
-    names: &NameTable<'_>,
+    names: &[u8],
     records: &[&[u8]],
 ) -> Result<Vec<u8>, AllocError> {
     let mut text = Vec::new(alloc);
@@ -215,11 +183,7 @@ fn with_more(alloc: Global, mut text: Vec<u8>, more: usize) -> Result<Vec<u8>, A
 }
 
 /// The line of the names of the first instances, and how many more there are.
-fn few_names(
-    alloc: Global,
-    names: &NameTable<'_>,
-    records: &[&[u8]],
-) -> Result<Vec<u8>, AllocError> {
+fn few_names(alloc: Global, names: &[u8], records: &[&[u8]]) -> Result<Vec<u8>, AllocError> {
     let text = names_behind(alloc, b"named instances: ", names, few_records(records))?;
     let text = with_more(alloc, text, records.len().saturating_sub(MOST_NAMES))?;
     line_of_names(text)
@@ -228,7 +192,7 @@ fn few_names(
 /// The line of the names of the instances in `fvar`.
 fn names_of_fvar(alloc: Global, fvar: &[u8], names: &[u8]) -> Result<Vec<u8>, AllocError> {
     match read_axes(alloc, fvar, names) {
-        Ok(all) => few_names(alloc, &all.names, &all.instances),
+        Ok(all) => few_names(alloc, names, &all.instances),
         Err(Error::OutOfMemory) => Err(AllocError),
         Err(_) => line_of_names(Vec::new(alloc)),
     }

@@ -10,7 +10,7 @@ use crate::proved::subset_font::refusals::reason::{reason_of, Noted};
 use crate::proved::subset_font::run::reports::{report_made, report_unlisted};
 use crate::proved::subset_font::run::request::{list_of, plan_of};
 use crate::proved::subset_font::streams::{
-    is_to_standard_output, lines_beside, most_input, open_source, Source, Target,
+    is_to_standard_output, lines_beside, open_source, Source, Target, MOST_INPUT,
 };
 use crate::proved::subset_font::task::Plan;
 use crate::proved::subsetter::Error;
@@ -24,10 +24,9 @@ use crate::rattle::rt::Files;
 pub fn open_font<R: Files + Input>(
     rt: &R,
     name: &str,
-    most: u64,
     reason: &mut Option<io::Error>,
 ) -> Result<Source<R::File, R::Reader>, Failure> {
-    match open_source(rt, name, most) {
+    match open_source(rt, name) {
         Ok(source) => Ok(source),
         Err(error) => {
             *reason = Some(error);
@@ -36,11 +35,10 @@ pub fn open_font<R: Files + Input>(
     }
 }
 
-/// Room for the bytes of a file, of which it may have so many, and for one more, so that its end is seen without a growth. None is
-/// taken for a stream. Why the size can't be had, or is too large, is kept.
+/// Room for the bytes of a file and for one more, so that its end is seen without a growth. None is taken for a stream. Why
+/// the size can't be had, or is too large, is kept.
 pub fn room_of<F: OpenFile + Read, S: Read>(
     source: &Source<F, S>,
-    most: u64,
     reason: &mut Option<io::Error>,
 ) -> Result<usize, Failure> {
     let file = match source {
@@ -50,7 +48,7 @@ pub fn room_of<F: OpenFile + Read, S: Read>(
         }
     };
     match file.metadata() {
-        Ok(about) if about.len() > most => {
+        Ok(about) if about.len() > MOST_INPUT => {
             *reason = Some(io::Error::from(ErrorKind::FileTooLarge));
             Err(Failure::Read)
         }
@@ -92,9 +90,8 @@ fn perform<R: Files + Print + Eprint + Input + AllocGlobal>(
     source: &mut Vec<u8>,
     reason: &mut Option<io::Error>,
 ) -> Result<(), Failure> {
-    let most = most_input(job);
-    let opened = open_font(rt, job.input.as_str(), most, reason)?;
-    let room = room_of(&opened, most, reason)?;
+    let opened = open_font(rt, job.input.as_str(), reason)?;
+    let room = room_of(&opened, reason)?;
     let mut input = Noted::new(opened);
     let mut page = Noted::new(Target::new(rt, pdf_file(job)));
     let mut output = Noted::new(Target::new(rt, given(&job.output)));

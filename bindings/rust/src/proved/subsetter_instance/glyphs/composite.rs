@@ -87,6 +87,18 @@ pub fn read_composite(
     })
 }
 
+/// A composite glyph without components, in no memory.
+pub(crate) fn no_components(alloc: Global) -> Composite {
+    Composite {
+        components: Vec::new(alloc),
+        xs: Vec::new(alloc),
+        ys: Vec::new(alloc),
+        left: 0,
+        right: 0,
+        steps: 0,
+    }
+}
+
 impl Composite {
     /// How many components there are.
     pub fn count(&self) -> usize {

@@ -5,6 +5,7 @@
 use crate::rattle::prelude::Vec;
 
 use crate::proved::subsetter_instance::glyphs::components::Component;
+use crate::proved::subsetter_instance::glyphs::levels::Level;
 use crate::proved::subsetter_instance::glyphs::unfolding::Unfolded;
 use crate::proved::subsetter_points::Columns;
 use crate::proved::subsetter_variation::glyphs::spare::SpareLists;
@@ -23,6 +24,8 @@ pub struct Spare {
     pub ends: Vec<usize>,
     /// For components.
     pub components: Vec<Component>,
+    /// For composite glyphs that are begun.
+    pub levels: Vec<Level>,
     /// For moved points.
     pub lists: SpareLists,
     /// For the moved offsets of components.
@@ -38,6 +41,7 @@ impl Spare {
             ys: Vec::new(alloc),
             ends: Vec::new(alloc),
             components: Vec::new(alloc),
+            levels: Vec::new(alloc),
             lists: SpareLists::new(alloc),
             offsets: SpareLists::new(alloc),
         }

@@ -6,8 +6,7 @@ use crate::rattle::prelude::Vec;
 use crate::proved::subsetter_base::read::Reader;
 use crate::proved::subsetter_base::Error;
 use crate::proved::subsetter_instance::glyphs::cache::GlyphCache;
-use crate::proved::subsetter_instance::glyphs::composite::read_composite;
-use crate::proved::subsetter_instance::glyphs::simple::unfold_simple;
+use crate::proved::subsetter_instance::glyphs::levels::Work;
 use crate::proved::subsetter_instance::glyphs::spare::Spare;
 use crate::proved::subsetter_instance::source::Source;
 use crate::proved::subsetter_points::header::COMPOSITE;
@@ -47,68 +46,38 @@ pub fn counted_description<'a>(source: &Source<'a>, glyph: u16) -> Option<&'a [u
     }
 }
 
-/// A glyph at a location, the steps that are left, and the glyphs that are kept. It may have components so many levels deep.
+/// Unfolds a glyph at a location. It may have components so many levels deep. What its levels hold is not on the stack, of which
+/// each takes little.
 fn unfold_within(
     alloc: Global,
     spare: &mut Spare,
+    work: &mut Work,
     depth: u8,
     source: &Source<'_>,
     at: &[i32],
-    steps: u32,
     glyph: u16,
-    kept: GlyphCache,
-) -> Result<(Unfolded, u32, GlyphCache), Error> {
-    if depth == 0 {
-        return Err(Error::MalformedFont);
-    }
-    let bytes = counted_description(source, glyph).ok_or(Error::MalformedFont)?;
-    let metric = source.metric(glyph).ok_or(Error::MalformedFont)?;
-    if !is_composite(bytes) {
-        let (simple, left) = unfold_simple(alloc, spare, source, at, steps, glyph, bytes, metric)?;
-        return Ok((simple, left, kept));
-    }
-    let composite = read_composite(alloc, spare, source, at, steps, glyph, bytes, metric)?;
-    let parts = &composite;
-    let mut all = parts.no_points(alloc, spare)?;
-    let mut left = parts.steps();
-    let mut kept = kept;
-    for k in 0..parts.count() {
-        let component = parts.component(k);
-        if let Some(found) = kept.find(depth - 1, component.glyph, left) {
-            let rest = left - found.cost;
-            let (more, rest) =
-                parts.with_component(alloc, k, component, all, &found.outline, rest)?;
-            all = more;
-            left = rest;
+) -> Result<(), Error> {
+    let count = match work.begin(alloc, spare, source, at, depth, glyph)? {
+        Some(count) => count,
+        _ => {
+            return Ok(());
+        }
+    };
+    for k in 0..count {
+        let component = work.level.composite.component(k);
+        if let Some(found) = work.kept.find(depth - 1, component.glyph, work.left) {
+            let rest = work.left - found.cost;
+            work.left = work
+                .level
+                .place(alloc, k, &component, &found.outline, rest)?;
         } else {
-            let (part, rest, others) = unfold_within(
-                alloc,
-                spare,
-                depth - 1,
-                source,
-                at,
-                left,
-                component.glyph,
-                kept,
-            )?;
-            let (more, next) = parts.with_component(alloc, k, component, all, &part, rest)?;
-            kept = others.with(
-                alloc,
-                spare,
-                source,
-                at,
-                depth - 1,
-                left,
-                component.glyph,
-                part,
-                rest,
-            )?;
-            all = more;
-            left = next;
+            let before = work.left;
+            unfold_within(alloc, spare, work, depth - 1, source, at, component.glyph)?;
+            work.place_part(alloc, spare, source, at, depth - 1, k, &component, before)?;
         }
     }
-    composite.keep(spare);
-    Ok((all, left, kept))
+    work.end(spare);
+    Ok(())
 }
 
 /// A glyph at a location, the steps that are left, and the glyphs that are kept.
@@ -121,5 +90,7 @@ pub fn unfold(
     glyph: u16,
     kept: GlyphCache,
 ) -> Result<(Unfolded, u32, GlyphCache), Error> {
-    unfold_within(alloc, spare, LEVELS, source, at, steps, glyph, kept)
+    let mut work = Work::new(alloc, spare, steps, kept);
+    unfold_within(alloc, spare, &mut work, LEVELS, source, at, glyph)?;
+    Ok(work.done(spare))
 }

@@ -1,4 +1,4 @@
-use Rattle.std.proofs.Common.{◌≡◌, ◌-◌, drop}
+use Rattle.std.proofs.Common.{◌≡◌, ◌-◌, ◌∷◌, ◌++◌, [], drop, length}
 use Rattle.subsetter_instance.specs.Glyphs.Cache.{AreKept}
 use Rattle.subsetter_instance.specs.Glyphs.Unfolded.{IsInReach, joined, unfolded}
 use Rattle.subsetter_instance.proofs.glyphs.unfolding.+unfold_within.Given as goal
@@ -8,7 +8,9 @@ decreases-unfold_within l = l.depth
 
 abbrev pub invariant-loop-k : goal.invariant-loop-k
 invariant-loop-k l = record {
-  value : joined (unfolded (l.depth - 1) l.source l.at) (drop l.k l.parts.components) l.k l.parts.xs l.parts.ys (l.all, l.left) ≡ unfolded l.depth l.source l.at l.steps l.glyph;
-  bound : IsInReach l.all;
-  kept : AreKept l.source l.at l.kept;
+  value : joined (unfolded (l.depth - 1) l.source l.at) (drop l.k l.work.level.composite.components) l.k l.work.level.composite.xs l.work.level.composite.ys (l.work.level.all, l.work.left) ≡ unfolded l.depth l.source l.at l.fn.work.left l.glyph;
+  count : l.count ≡ length l.work.level.composite.components;
+  bound : IsInReach l.work.level.all;
+  kept : AreKept l.source l.at l.work.kept;
+  outer : l.work.outer.items ≡ l.fn.work.outer.items ++ l.fn.work.level ∷ [];
 }

@@ -1,12 +1,15 @@
-use Rattle.std.proofs.Common.{◌≡◌, ℕ, List, [], ◌∷◌, map, Some, ℤ, Result, refl, sym, ap, subst, ◌∙◌, length}
+use Rattle.std.proofs.Common.{◌≡◌, ℕ, List, [], ◌∷◌, map, Option, None, Some, ℤ, Result, refl, sym, ap, subst, ◌∙◌, length}
 use Rattle.std.specs.Prelude.{IfOk}
 use Rattle.subsetter_base.specs.declared.error.Error.{Error}
 use Rattle.subsetter_base.specs.Options.{◌>>=◌}
 use Rattle.subsetter_variation.specs.Items.ItemVariations.{Store, item_delta, whole_or_fault}
 use Rattle.subsetter_variation.specs.Items.Advances.{advance_delta, advance_index, advance_or_fault, store_of}
 use Rattle.subsetter_variation.specs.Items.Known.{listed_delta}
-use Rattle.subsetter_variation.proofs.ItemsLaws.Listed.{by_index}
 use Rattle.subsetter_variation.proofs.items.advances.advance_deltas.Goals as goal
+
+by_index : (s : Store) (at : List ℤ) (index : Option (ℕ × ℕ)) → listed_delta s at index ≡ whole_or_fault (index >>= λ i. item_delta s at i.0 i.1)
+by_index s at None = refl
+by_index s at (Some i) = refl
 
 one : (hvar : List ℕ) (at : List ℤ) (s : Store) → store_of hvar (length at) ≡ Some s → (g : ℕ) → listed_delta s at (advance_index hvar g) ≡ advance_or_fault hvar at g
 unfolding advance_delta

@@ -1,0 +1,142 @@
+"""Runs of a program under strace, where system calls fail: for faults.py."""
+import errno
+import os
+import re
+import shutil
+import stat
+import subprocess
+from dataclasses import dataclass, field
+
+import build
+
+CANARY = build.Canary()
+LINE = re.compile(r"(\w+)\((.*)\)\s+= (-?\d+|\?|0x[0-9a-f]+)(.*)")
+# The calls whose texts are names of files.
+NAMING = re.compile(r"(open|stat|lstat|newfstatat|statx|access|faccessat|rename|link|unlink|symlink|readlink|chmod|fchmodat|truncate)")
+# (so that each run makes the same calls)
+STRACE = ["setarch", "-R", "strace", "-qq", "-y", "-s", "1"]
+
+
+class Trouble(Exception):
+    """What keeps a run from being looked at."""
+
+
+@dataclass
+class Step:
+    """A system call: its name, its arguments as strace writes them, what it gave (None where it didn't come back), and the files that it names."""
+    call: str
+    arguments: str
+    gave: int
+    names: list
+
+
+@dataclass
+class File:
+    """A file of the folder: its bytes, its rights, and how many names it has. A link has the target's name in front."""
+    data: bytes
+    mode: int
+    names: int = 1
+
+
+@dataclass
+class Ended:
+    """How a run ended: its status or the signal that ended it, what it printed, the files of its folder, and its system calls."""
+    status: int
+    signal: int
+    out: bytes
+    err: bytes
+    files: dict
+    steps: list = field(default_factory=list)
+
+    def __str__(self):
+        files = {name: (len(it.data), it.data[:12], oct(it.mode)) for name, it in self.files.items()}
+        return f"{f'status {self.status}' if self.signal is None else f'signal {self.signal}'}, {self.out[:40]!r}, {self.err[:160]!r}, files {files}"
+
+
+def file_of(path):
+    about = os.lstat(path)
+    if stat.S_ISLNK(about.st_mode):
+        return File(f"link to {os.readlink(path)}".encode(), 0)
+    with open(path, "rb") as file:
+        return File(file.read(), stat.S_IMODE(about.st_mode), about.st_nlink)
+
+
+class Room:
+    """A folder for runs: `work`, in which the program is started, and beside it `streams` with its standard streams."""
+
+    def __init__(self, top, program):
+        self.program = program
+        self.work, self.streams, self.log = (os.path.join(top, it) for it in ("work", "streams", "log"))
+        for it in (self.work, self.streams):
+            os.makedirs(it, exist_ok=True)
+
+    def files(self):
+        return {name: file_of(os.path.join(self.work, name)) for name in sorted(os.listdir(self.work))}
+
+    def lay(self, way):
+        """Makes the folder what it is before a run, and answers its files."""
+        for name in os.listdir(self.work):
+            os.unlink(os.path.join(self.work, name))
+        for name, (data, mode) in way.files.items():
+            path = os.path.join(self.work, name)
+            with open(path, "wb") as file:
+                file.write(data)
+            os.chmod(path, mode)
+        for name, group in way.groups.items():
+            os.chown(os.path.join(self.work, name), -1, group)
+        for name, target in way.links.items():
+            os.symlink(target, os.path.join(self.work, name))
+        for name, target in way.second_names.items():
+            os.link(os.path.join(self.work, target), os.path.join(self.work, name))
+        return self.files()
+
+    def step_of(self, line):
+        """A line of the log."""
+        found = LINE.match(line)
+        if not found:
+            raise Trouble(f"strace says {line[:200]}")
+        call, arguments, gave, why = found.groups()
+        gave = -getattr(errno, why.split()[0]) if gave == "-1" else None if gave == "?" else int(gave, 0)
+        pattern = r'"([^"]*)"|\b\d+<([^>]*)>' if NAMING.match(call) else r'()\b\d+<([^>]*)>'
+        # (Rust's start polls the standard streams)
+        names = [] if call == "poll" else [one or other.removesuffix(" (deleted)") for one, other in re.findall(pattern, arguments)]
+        for folder in (self.work, self.streams):
+            names = [it.removeprefix(folder + os.sep) for it in names]
+        return Step(call, arguments, gave, [it for it in names if it])
+
+    def run(self, way, inject="", is_laid=True, words=STRACE, **more):
+        """Runs a way, with something done to a call, as strace's `inject` says."""
+        if is_laid:
+            self.lay(way)
+        with open(os.path.join(self.streams, "stdin"), "wb") as file:
+            file.write(way.stdin)
+        words = [*words, "-o", self.log, *(["-e", f"inject={inject}"] if inject else [])] if words else []
+        with open(file.name, "rb") as stdin, open(os.path.join(self.streams, "stdout"), "wb") as stdout, open(os.path.join(self.streams, "stderr"), "wb") as stderr:
+            try:
+                status = subprocess.run([*words, self.program, *way.words], cwd=self.work, env={"PATH": "/usr/bin:/bin"}, timeout=120, stdin=stdin, stdout=stdout, stderr=stderr, **more).returncode
+            except subprocess.TimeoutExpired:
+                raise Trouble(f"{' '.join(way.words)[:200]} doesn't end, {inject}") from None
+        steps = []
+        if words:
+            with open(self.log, encoding="utf-8", errors="replace") as file:
+                steps = [self.step_of(it) for it in file.read().splitlines()[1:] if it[:4] not in ("--- ", "+++ ")]
+        if CANARY.is_due and ":error=" in inject and status > 0:
+            # (the first run that fails says that it didn't)
+            CANARY.is_due, status = False, 0
+        out, err = (file_of(os.path.join(self.streams, it)).data for it in ("stdout", "stderr"))
+        return Ended(status if status >= 0 else None, -status if status < 0 else None, out, err, self.files(), steps)
+
+    def run_alone(self, way, **more):
+        """Runs a way without a trace."""
+        return self.run(way, words=[], **more)
+
+    def run_limited(self, way, limit):
+        """Runs a way without a trace, its streams in pipes, which no limit on files holds for."""
+        ran = subprocess.run([self.program, *way.words], cwd=self.work, env={"PATH": "/usr/bin:/bin"}, input=way.stdin, capture_output=True, timeout=120, preexec_fn=limit)
+        status, number = (ran.returncode, None) if ran.returncode >= 0 else (None, -ran.returncode)
+        return Ended(status, number, ran.stdout, ran.stderr, self.files())
+
+
+def needs():
+    """What is missing here; empty where runs can be traced."""
+    return " and ".join(it for it in ("strace", "setarch") if not shutil.which(it))

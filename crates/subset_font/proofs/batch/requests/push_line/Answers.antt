@@ -1,0 +1,10 @@
+use Rattle.std.proofs.Common.{List, subst, sym}
+use Rattle.subset_font.specs.Batch.Requests.{AreNames}
+use Rattle.subset_font.specs.declared.batch.requests.Request.{Request}
+use Rattle.subset_font.proofs.BatchLaws.{named_last}
+use Rattle.subset_font.proofs.batch.requests.push_line.Goals as goal
+
+pub returns-clause-names : goal.returns-clause-names
+returns-clause-names c =
+    let request : Request = record { line = c.args.line.number; job = c.begin-job.result.0 } in
+    subst (λ (requests : List Request). AreNames requests c.add_names_if.new.names) (sym c.in_ok-push.ensures.items) (named_last c.args.batch.now.requests.items request c.args.names.now c.add_names_if.new.names c.requires c.in_ok-add_names_if.ensures)
