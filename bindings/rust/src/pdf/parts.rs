@@ -53,16 +53,16 @@ impl Part<'_> {
     /// ```
     /// use subsetter::pdf::{pdf_font, FontOptions, Shown};
     ///
-    /// # fn main() -> Result<(), Box<dyn std::error::Error>> {
+    /// # fn main() -> Result<(), subsetter::pdf::FontError> {
     /// # let data = include_bytes!("../../tests/data/made.ttf");
     /// // (`miniz_oxide::deflate::compress_to_vec_zlib(bytes, 6)` packs for "/FlateDecode")
     /// fn to_hex(bytes: &[u8]) -> Vec<u8> {
     ///     bytes.iter().flat_map(|it| format!("{it:02x}").into_bytes()).chain(*b">").collect()
     /// }
     /// let font = pdf_font(data, 0, &[], &[Shown::new(1, "A")], &FontOptions::new())?;
-    /// let mut parts = font.parts(&[1, 2, 3, 4, 5])?;
+    /// let mut parts = font.parts(&[1, 2, 3, 4, 5]).unwrap();
     /// for part in &mut parts {
-    ///     part.pack("/ASCIIHexDecode", to_hex)?;
+    ///     part.pack("/ASCIIHexDecode", to_hex).unwrap();
     /// }
     /// assert_eq!(parts[4].entries, b"/Filter /ASCIIHexDecode ");
     /// assert_eq!(parts[4].stream.as_deref(), Some(&to_hex(font.to_unicode())[..]));
@@ -150,14 +150,14 @@ impl PdfFont {
     /// ```
     /// use subsetter::pdf::{pdf_font, FontOptions, Shown};
     ///
-    /// # fn main() -> Result<(), Box<dyn std::error::Error>> {
+    /// # fn main() -> Result<(), subsetter::pdf::FontError> {
     /// # let data = include_bytes!("../../tests/data/made.ttf");
     /// let font = pdf_font(data, 0, &[], &[Shown::new(1, "A")], &FontOptions::new())?;
     /// let numbers: Vec<u32> = (12..).step_by(2).take(font.part_count()).collect();
     /// let mut file = Vec::new();
-    /// for part in font.parts(&numbers)? {
+    /// for part in font.parts(&numbers).unwrap() {
     ///     file.extend(format!("{} 0 obj\n", part.number).into_bytes());
-    ///     file.extend(part.value()?);
+    ///     file.extend(part.value().unwrap());
     ///     file.extend(b"\nendobj\n");
     /// }
     /// assert!(file.starts_with(b"12 0 obj\n<< /Type /Font /Subtype /Type0 "));
