@@ -3,8 +3,8 @@
 ghost use Rattle.std.specs.Prelude.{◌≡◌};
 
 use pdf_text::Column;
-pub use subsetter_pdf_c::kept_bytes;
 use subsetter_pdf_c::PdfPart;
+pub use subsetter_pdf_c::kept_bytes;
 
 /// Numbers of 16 bits.
 pub fn kept_shorts(numbers: Vec<u16>) -> &'static [u16]
