@@ -3,7 +3,7 @@ use Rattle.std.proofs.Common.{◌≡◌, ℕ, List, sym, ap, subst, ◌∙◌, R
 use Rattle.subsetter_base.specs.Gives.{Gives}
 use Rattle.subsetter_base.specs.declared.error.Error.{Error}
 use Rattle.font_advances.specs.Advances.{Advances, advances_seen}
-use Rattle.font_advances.specs.declared.call.Advances.{Advances as Given}
+use Rattle.font_advances.specs.declared.call.GlyphAdvances.{GlyphAdvances as Given}
 use Rattle.subsetter_c.specs.Advances.{AreAdvancesHanded, AreAdvancesOf, Buffers, begun, buffers, whole, short, refused}
 use Rattle.subsetter_c.specs.Answers.Handed.{begun_with}
 

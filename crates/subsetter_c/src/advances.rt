@@ -5,7 +5,7 @@ ghost use Rattle.subsetter_base.specs.Gives.{Fails, Gives};
 ghost use Rattle.subsetter_sfnt.specs.Extras.{all_extras};
 ghost use Rattle.subsetter_sfnt.specs.FontAt.{font_at};
 ghost use Rattle.font_advances.specs.Advances.{advances_of, advances_seen};
-ghost use Rattle.font_advances.specs.declared.call.Advances.{Advances as SpecAdvances};
+ghost use Rattle.font_advances.specs.declared.call.GlyphAdvances.{GlyphAdvances as SpecAdvances};
 ghost use Rattle.subsetter_c.specs.Advances.{AreAdvancesHanded, AreAdvancesOf, buffers};
 ghost use Rattle.subsetter_c.specs.Answers.Status.{unknown_option};
 ghost use Rattle.subsetter_c.specs.Options.{AreKnown, requested_tokens};
@@ -15,7 +15,7 @@ use crate::answers::handing::begin_with;
 use crate::answers::status::{DONE, TOO_SMALL, UNKNOWN_OPTION, status_of};
 use crate::options::options_of;
 use crate::settings::{Coordinate, settings_of};
-use font_advances::{Advances, advances};
+use font_advances::{GlyphAdvances, advances};
 use std::alloc::Global;
 use subsetter::{Error, Limits};
 
@@ -27,7 +27,7 @@ fn advances_for(
     coordinates: &[Coordinate],
     glyphs: &[u16],
     limits: &Limits,
-) -> Result<Advances, Error>
+) -> Result<GlyphAdvances, Error>
     ensures { Gives advances_seen result (advances_of (font_at font.now index all_extras) (settings_of coordinates.now) limits.now.tokens glyphs.now) }
 {
     let settings = settings_of(alloc, coordinates)?;
@@ -36,7 +36,7 @@ fn advances_for(
 
 /// Hands advances over, or the error: the status.
 fn hand_advances(
-    answer: Result<Advances, Error>,
+    answer: Result<GlyphAdvances, Error>,
     widths: &mut [u16],
     heights: &mut [u16],
     units_per_em: &mut u32,
