@@ -41,8 +41,9 @@ fn looked_up(alloc: Global, font: &[u8], index: u32, text: &str) -> Result<Looke
 {
     let table = mapping_for(font, index)?;
     let text = characters_in(alloc, text)?;
-    let glyphs = glyphs_by(alloc, table, &text)?;
-    let ends = ends_of(alloc, text.len())?;
+    let characters: &[u32] = &text;
+    let glyphs = glyphs_by(alloc, table, characters)?;
+    let ends = ends_of(alloc, characters.len())?;
     Ok(LookedUp { glyphs, text, ends })
 }
 
