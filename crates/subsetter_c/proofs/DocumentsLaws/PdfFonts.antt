@@ -56,6 +56,10 @@ module _ (font : Font) (settings : List (Tag × ℤ)) (options : FontOptions) (u
   same_error : (e d : FontError) → failed_font e ≡ failed_font d → e ≡ d
   same_error e d h = cc
 
+  -- a font that is answered can be opened
+  pub without_memory : (f : PdfFont) → IsPdfFont font settings options us f → IsFontRefused font settings options us (Subset OutOfMemory)
+  without_memory f is = record { why = inl refl; unopened = λ fault h. absurd (unopened_final fault h f is); forbidden = λ opens denied. inl refl; long = λ opens held h. inl refl }
+
   module _ (given : List (Tag × ℤ)) (used : List Used) (g : given ≡ settings) (u : used ≡ us) where
     there : (P : List (Tag × ℤ) → List Used → Type 0) → P given used → P settings us
     there P p = subst (λ (l : List Used). P settings l) u (subst (λ (s : List (Tag × ℤ)). P s used) g p)

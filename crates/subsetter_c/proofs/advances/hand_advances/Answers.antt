@@ -20,5 +20,5 @@ returns-then-len-widths c =
 pub returns : goal.returns
 returns c =
     whole (advances_seen c.in-Ok.found) (c.in-Ok.found, c.in-Ok.is, refl)
-    (both_begun (advances_seen c.in-Ok.found) (buffers c.args.widths.now c.args.heights.now c.args.units_per_em.now) _ _ _ _ c.deref.ensures.value c.deref-2.ensures.value c.begin_with.ensures c.begin_with-2.ensures)
+    (both_begun (advances_seen c.in-Ok.found) (buffers c.args.widths.now c.args.heights.now c.args.units_per_em.now) _ _ _ _ _ c.deref.ensures.value c.deref-2.ensures.value c.begin_with.ensures c.begin_with-2.ensures c.units_of.ensures)
     refl
