@@ -34,6 +34,13 @@ fn advances_for(
     advances(alloc, font, index, glyphs, &settings, limits)
 }
 
+/// unitsPerEm.
+fn units_of(found: &GlyphAdvances) -> u32
+    ensures { result ≡ found.now.units_per_em }
+{
+    u32::from(found.units_per_em)
+}
+
 /// Hands advances over, or the error: the status.
 fn hand_advances(
     answer: Result<GlyphAdvances, Error>,
@@ -52,7 +59,7 @@ fn hand_advances(
     }
     begin_with(widths, &found.widths);
     begin_with(heights, &found.heights);
-    *units_per_em = u32::from(found.units_per_em);
+    *units_per_em = units_of(&found);
     DONE
 }
 

@@ -38,10 +38,6 @@ module _ (font : Font) (settings : List (Tag × ℤ)) (options : FontOptions) (u
   unopened_final : (e : Error) → HasOpeningFaultAt font e → HasNoPdfFont font settings options us
   unopened_final e fault f is = opening_final options.limits.bytes options.limits.tokens options.limits.depth font settings (glyphs_of us) e fault is.made.new is.made.within is.made.embedded
 
-  -- a font was made, and there is no memory to hand it over
-  pub without_memory : (f : PdfFont) → IsPdfFont font settings options us f → IsFontRefused font settings options us (Subset OutOfMemory)
-  without_memory f is = record { why = inl refl; unopened = λ fault h. absurd (unopened_final fault h f is); forbidden = λ opens denied. inl refl; long = λ opens held h. inl refl }
-
   -- before the call: memory ran out, and the font can be opened, or it can't
   pub unopened : {X : Type 0} (e : Error) → (e ≡ OutOfMemory) ⊎ HasOpeningFaultAt font e → ((why : Error) → HasOpeningFaultAt font why → failed {X = X} e ≡ Err OutOfMemory → ⊥) → IsFontRefused font settings options us (Subset e)
   unopened {X} e (inl memory) before = record {
@@ -59,6 +55,10 @@ module _ (font : Font) (settings : List (Tag × ℤ)) (options : FontOptions) (u
 
   same_error : (e d : FontError) → failed_font e ≡ failed_font d → e ≡ d
   same_error e d h = cc
+
+  -- a font that is answered can be opened
+  pub without_memory : (f : PdfFont) → IsPdfFont font settings options us f → IsFontRefused font settings options us (Subset OutOfMemory)
+  without_memory f is = record { why = inl refl; unopened = λ fault h. absurd (unopened_final fault h f is); forbidden = λ opens denied. inl refl; long = λ opens held h. inl refl }
 
   module _ (given : List (Tag × ℤ)) (used : List Used) (g : given ≡ settings) (u : used ≡ us) where
     there : (P : List (Tag × ℤ) → List Used → Type 0) → P given used → P settings us

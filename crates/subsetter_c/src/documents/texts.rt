@@ -4,7 +4,7 @@ ghost use Rattle.std.specs.Prelude.{◌≡◌, ◌≢◌, IfOk, IfErr, length, t
 ghost use Rattle.std.specs.Str.{IsUtf8, encode_utf8_all};
 ghost use Rattle.subsetter_sfnt.specs.Extras.{all_extras};
 ghost use Rattle.subsetter_sfnt.specs.FontAt.{font_at};
-ghost use Rattle.subsetter_pdf_c.specs.Entries.{are_texts};
+ghost use Rattle.subsetter_pdf_c.specs.Entries.{are_scalars};
 ghost use Rattle.subsetter_pdf_c.specs.Texts.{one_each};
 ghost use Rattle.subsetter_c.specs.Documents.PdfGlyphs.{AreGlyphsOf, IsGlyphRefusal};
 ghost use Rattle.subsetter_c.specs.Documents.PdfOptions.{AreFontWordsKnown};
@@ -36,14 +36,13 @@ fn looked_up(alloc: Global, font: &[u8], index: u32, text: &str) -> Result<Looke
     ensures text { IfOk result (λ l. encode_utf8_all l.text.items ≡ text.now) }
     ensures glyphs { IfOk result (λ l. AreGlyphsOf (font_at font.now index all_extras) l.text.items l.glyphs.items) }
     ensures ends { IfOk result (λ l. l.ends.items ≡ one_each 0 (length l.text.items)) }
-    ensures texts { IfOk result (λ l. are_texts (length l.glyphs.items) l.text.items l.ends.items ≡ true) }
+    ensures scalars { IfOk result (λ l. are_scalars l.text.items ≡ true) }
     ensures err { IfErr result (λ e. IsGlyphRefusal (font_at font.now index all_extras) e) }
 {
     let table = mapping_for(font, index)?;
     let text = characters_in(alloc, text)?;
-    let characters: &[u32] = &text;
-    let glyphs = glyphs_by(alloc, table, characters)?;
-    let ends = ends_of(alloc, characters.len())?;
+    let glyphs = glyphs_by(alloc, table, &text)?;
+    let ends = ends_of(alloc, text.len())?;
     Ok(LookedUp { glyphs, text, ends })
 }
 

@@ -1,4 +1,4 @@
-use Rattle.std.proofs.Common.{arith, refl, inl, inr, ap, ◌∙◌}
+use Rattle.std.proofs.Common.{arith, refl, inl, inr}
 use Rattle.font_advances.specs.Advances.{advances_seen}
 use Rattle.subsetter_c.specs.Advances.{buffers, whole, short, refused}
 use Rattle.subsetter_c.proofs.AdvancesLaws.{both_begun}
@@ -20,5 +20,5 @@ returns-then-len-widths c =
 pub returns : goal.returns
 returns c =
     whole (advances_seen c.in-Ok.found) (c.in-Ok.found, c.in-Ok.is, refl)
-    (ap (buffers c.begin_with.new.buffer c.begin_with-2.new.buffer) c.from.ensures ∙ both_begun (advances_seen c.in-Ok.found) (buffers c.args.widths.now c.args.heights.now c.args.units_per_em.now) _ _ _ _ c.deref.ensures.value c.deref-2.ensures.value c.begin_with.ensures c.begin_with-2.ensures)
+    (both_begun (advances_seen c.in-Ok.found) (buffers c.args.widths.now c.args.heights.now c.args.units_per_em.now) _ _ _ _ _ c.deref.ensures.value c.deref-2.ensures.value c.begin_with.ensures c.begin_with-2.ensures c.units_of.ensures)
     refl
