@@ -99,7 +99,7 @@ def drawn(reader, folder, dpi=96):
 
 def differences(ours, theirs, most, dpi=96):
     """What the readers show otherwise in one folder than in the other: ink that has no ink within so many pixels. With 0 each pixel is the same; but
-    of Ghostscript, which hints by letters that it finds by names, ink lies within one."""
+    of Ghostscript, which hints by letters that it finds by names, ink lies within two."""
     wrong = []
     for reader in READERS:
         (after, said), (before, usual) = (drawn(reader, folder, dpi) for folder in (ours, theirs))
@@ -108,8 +108,8 @@ def differences(ours, theirs, most, dpi=96):
             continue
         for page, (one, other) in enumerate(zip(after, before), 1):
             # (the lines begin alike, and are as long to a pixel)
-            slack = most if page == 1 else max(most, 1)
-            far = 0 if one.tobytes() == other.tobytes() else ink_apart(one, other, max(slack, reader == "Ghostscript")) or not max(slack, reader == "Ghostscript")
+            slack = max(most, page > 1, 2 * (reader == "Ghostscript"))
+            far = 0 if one.tobytes() == other.tobytes() else ink_apart(one, other, slack) or not slack
             wrong += [f"{reader}: {int(far)} pixels of ink of page {page} are elsewhere"] * bool(far)
             wrong += [f"{reader}: page {page} is blank"] * is_blank(one)
         wrong += [f"{reader} warns of the subset alone: {line}" for line in sorted(said - usual)[:1]]
