@@ -10,7 +10,8 @@ fn text(path: &str) -> String {
 
 #[test]
 fn a_patch_of_0_2_6_takes_this_version() {
-    assert_eq!(env!("CARGO_PKG_VERSION"), text("../../VERSION").trim());
+    let versions = text("../../VERSION");
+    assert_eq!(Some(env!("CARGO_PKG_VERSION")), versions.lines().nth(1));
     assert!(env!("CARGO_PKG_VERSION").starts_with("0.2.6+"));
 }
 
