@@ -77,7 +77,7 @@ class Users:
         self.run(f"target/debug/user {self.font} subset", at)
         assert (at / "subset").read_bytes() == self.wanted
         lock = (at / "Cargo.lock").read_text(encoding="utf-8")
-        version = (self.room / "tree/VERSION").read_text(encoding="utf-8").strip()
+        version = (self.room / "tree/VERSION").read_text(encoding="utf-8").split()[1]
         assert lock.count('name = "subsetter"') == 1 and f'name = "subsetter"\nversion = "{version}"\n' in lock
         assert not (self.room / "called").exists()
 
