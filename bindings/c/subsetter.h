@@ -32,7 +32,7 @@
  *     subsetter_free_font(&font);
  *
  * For other languages: the library exports the functions that are declared here without `static inline`. The inline ones
- * need this header; each stands beside the exported call that does its work.
+ * need this header; each is next to the exported call that does its work.
  */
 #ifndef SUBSETTER_H
 #define SUBSETTER_H
@@ -101,7 +101,7 @@ static inline const char *subsetter_status_text(uint32_t status)
     return status < sizeof texts / sizeof *texts ? texts[status] : status == 16 ? "invalid numbers" : "unknown status";
 }
 
-/* The same from the library, in ASCII, without a zero behind it: print it by "%.*s", with (int)length in front.
+/* This text from the library, in ASCII, without a zero at the end: print it by "%.*s", with (int)length in front.
  *   0: `out` begins with the text, and `*length` is its size in bytes.
  *   8: `out` is too small and as it was; `*length` is the exact size (at most 27).
  */
@@ -125,7 +125,7 @@ enum {
     SUBSETTER_SMALL = 7
 };
 
-/* All choices of a call. Later versions put further fields behind these; in each of them 0 is the default. A field past
+/* All choices of a call. Later versions put further fields after these; in each of them 0 is the default. A field past
  * `size` has its default, and a `size` that the library doesn't know is refused (status 10), so that a program and a
  * library of two versions never misread each other. A null pointer in its place means all defaults.
  *
@@ -141,7 +141,7 @@ typedef struct subsetter_options {
     uint32_t depth;
     /* The sum of some of SUBSETTER_DROP_HINTING, .._NAMES and .._GLYPH_NAMES. Another bit is status 10. */
     uint32_t drop;
-    /* The most bytes that the new font may have; 0 for no bound. Where it would have more: status 5, told before it is
+    /* The most bytes that the new font may have; 0 for no bound. Where it would have more: status 5, reported before it is
      * made. */
     uint32_t bytes;
 } subsetter_options;
@@ -356,7 +356,7 @@ typedef struct subsetter_pdf_font {
     /* In vertical writing of each CID from 0 on that a string can show. */
     const subsetter_column *columns;
     size_t column_count;
-    /* FontName, in ASCII without a zero behind it. */
+    /* FontName, in ASCII without a zero at the end. */
     const uint8_t *font_name;
     size_t font_name_size;
     /* The ToUnicode CMap (9.10.3). */
@@ -398,7 +398,7 @@ typedef struct subsetter_pdf_font {
 /* All that a PDF has of a font, and what it was made of. It is given back by `subsetter_free_font`. */
 typedef struct subsetter_font {
     /* sizeof (subsetter_font), which the inline calls write; another is status 10, and then nothing is written. Later versions
-     * put further fields behind these, and go on to take this size. */
+     * put further fields after these, and go on to take this size. */
     uint32_t size;
     /* unitsPerEm: how many units an em has. */
     uint32_t units_per_em;
@@ -488,7 +488,7 @@ typedef struct subsetter_pdf_objects {
  * descriptor, the font program, ToUnicode, CIDSet if there is one, and the CMap if the file has its own. Streams have no filter,
  * and it is for files that aren't encrypted. `font` is one that a `make` call made, unchanged: `&font.pdf` of a
  * `subsetter_font`.
- *   0: `*made` are the objects, one behind the other.
+ *   0: `*made` are the objects, one after the other.
  *   5: seven numbers from `first` on don't fit 32 bits; 7: malloc gave nothing. The size and the count of `*made` are 0, and
  *   nothing is to be freed.
  */
@@ -555,7 +555,7 @@ typedef struct subsetter_pdf_part {
     uint32_t role;
     /* The number that the caller gave it. */
     uint32_t number;
-    /* The entries of its dictionary, each with a blank behind it, without `<<`, `>>`, Length and Filter. The object is "<< ", these and
+    /* The entries of its dictionary, each with a blank after it, without `<<`, `>>`, Length and Filter. The object is "<< ", these and
      * ">>"; that of a stream "<< ", these, "/Length N >>", a line end, "stream", a line end, its bytes, a line end and "endstream".
      * Where a caller packs the bytes, it adds Filter, and Length is that of what it packed. */
     const uint8_t *entries;
@@ -619,7 +619,7 @@ void subsetter_free_pdf_font(subsetter_pdf_font *made);
 /* The subset of a font.
  *
  * `out` is room for `out_size` bytes; the subset is mostly smaller than the font, but not always.
- *   0: `out` begins with the subset, the bytes behind it are as they were, and `*length` is its size in bytes.
+ *   0: `out` begins with the subset, the bytes after it are as they were, and `*length` is its size in bytes.
  *   8: `out` is too small and as it was; `*length` is the exact size in bytes. Call again with that room: the
  *      same call answers the same bytes, or 7.
  *   1 to 7: `out` is as it was, and `*length` is 0.
@@ -659,7 +659,7 @@ static inline uint32_t subsetter_subset_with_options(const uint8_t *font, size_t
 /* The subset of a font as it is at these coordinates, with all choices.
  *
  * An axis without a value stays at its default, of several values for an axis the last counts, one past an axis's end is that
- * end, and a tag that the font doesn't have is passed over. Where the font stands at its default, has no axes or has its
+ * end, and a tag that the font doesn't have is passed over. Where the font is at its default, has no axes or has its
  * outlines in `CFF `, it is subset as it is, with its hints. Else the new font is a static one: each glyph is a simple outline
  * without instructions, as the font draws it there, with the advance that it has there, and there are no further glyphs.
  *
@@ -709,7 +709,7 @@ typedef struct subsetter_sizes {
 /* The subset of a font, the CID of each given glyph in the order given, and the width of each CID from 0 on, in
  * thousandths of the em, rounded to the nearest. `cid_count` and `width_count` say for how many items there is room:
  * `glyph_count` CIDs and `glyph_count` + 1 widths always suffice, so that only the font's size has to be asked.
- *   0: each buffer begins with its part, what is behind it is as it was, and `*sizes` are the sizes.
+ *   0: each buffer begins with its part, what is after it is as it was, and `*sizes` are the sizes.
  *   8: one of the buffers is too small, and all are as they were; `*sizes` are the exact sizes. Call again with that
  *      room: the same call answers the same, or 7.
  *   1 to 7: the buffers are as they were, and `*sizes` are 0. 2 also where the font has no `hmtx` or no `head`, or 0 units

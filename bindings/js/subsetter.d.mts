@@ -30,7 +30,7 @@ export class OutOfMemory extends SubsetterError {}
 
 /** The font's maker doesn't permit that it is embedded (`fsType` of the table `OS/2`). */
 export class NotPermitted extends SubsetterError {}
-/** A text has a surrogate that stands alone, or more than 256 UTF-16 units. */
+/** A text has an unpaired surrogate, or more than 256 UTF-16 units. */
 export class InvalidText extends SubsetterError {}
 
 /** The bytes of a whole file, OpenType or a collection. They are copied, and never written. */
@@ -38,7 +38,7 @@ export type FontData = ArrayBufferLike | ArrayBufferView;
 
 /** How far the charstring of a glyph may run (fonts with CFF outlines), and how many bytes the new font may have. */
 export interface Limits {
-    /** At most so many numbers and operators, from 1 to 4294967295. Without it 1000000. */
+    /** At most this many numbers and operators, from 1 to 4294967295. Without it 1000000. */
     readonly tokens?: number;
     /** At most so deep, from 1 to 255; the glyph's own charstring is at depth 1. Without it 64. */
     readonly depth?: number;
@@ -71,7 +71,7 @@ export interface Place {
      * finite, and is taken as the nearest number of 65536ths, a half rounded up. An axis without a value stays at its default,
      * one past an axis's end is that end, and a tag that the font doesn't have is passed over.
      *
-     * Where the font stands at its default, has no axes or has its outlines in `CFF `, it is subset as it is, with its hints.
+     * Where the font is at its default, has no axes or has its outlines in `CFF `, it is subset as it is, with its hints.
      * Else the new font is a static one, each glyph a simple outline without instructions, and `limits.tokens` bounds the
      * steps of a glyph: one for each glyph that it leads to, each point, each tuple, and each point again of a tuple that
      * counts; OverflowError where it takes more. Besides, MalformedFont is thrown where `fvar`, `avar`, `gvar` or `HVAR` is cut,
@@ -167,13 +167,13 @@ export interface Descriptor {
 export interface Permission {
     /** What a document may do with the font. */
     usage: "unsaid" | "installable" | "editable" | "previewAndPrint" | "restricted";
-    /** Whether a subset may stand for the font. */
+    /** Whether a subset may be embedded for the font. */
     subsetting: boolean;
     /** Whether outlines may be embedded, and not bitmaps alone. */
     outlines: boolean;
 }
 
-/** Whole indirect objects of a PDF, one behind the other. */
+/** Whole indirect objects of a PDF, one after the other. */
 export interface Objects {
     bytes: Uint8Array;
     /** Where each object begins in them, for the cross-reference table. */
@@ -316,7 +316,7 @@ export interface Subsetter {
      * has no `hmtx` or no `head`, or 0 units per em. With coordinates a width is the advance that its glyph has there.
      */
     embed(data: FontData, glyphs: Iterable<number>, options?: Face & Choices & Place): Embedded;
-    /** Copies a font into the module, for any number of calls. What is wrong with it is told by the first of them. */
+    /** Copies a font into the module, for any number of calls. The first of them reports what is wrong with it. */
     open(data: FontData, options?: Face): Font;
 }
 

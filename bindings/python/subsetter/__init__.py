@@ -103,7 +103,7 @@ class NotPermitted(Error):
 
 
 class InvalidText(Error, ValueError):
-    """A text has a surrogate that stands alone, or more than 256 UTF-16 units."""
+    """A text has an unpaired surrogate, or more than 256 UTF-16 units."""
 
 
 class Embedded(NamedTuple):
@@ -159,7 +159,7 @@ class Permission(NamedTuple):
     usage: Literal["unsaid", "installable", "editable", "preview_and_print", "restricted"]
     """What a document may do with the font."""
     subsetting: bool
-    """Whether a subset may stand for the font."""
+    """Whether a subset may be embedded for the font."""
     outlines: bool
     """Whether outlines may be embedded, and not bitmaps alone."""
 
@@ -198,7 +198,7 @@ class Part(NamedTuple):
 
 
 class Objects(NamedTuple):
-    """Whole indirect objects of a PDF, one behind the other."""
+    """Whole indirect objects of a PDF, one after the other."""
 
     bytes: bytes
     """Their bytes."""
@@ -257,7 +257,7 @@ class _PdfFont(ctypes.Structure):
 
 
 class _Font(ctypes.Structure):
-    """The same with what is new, behind its own size."""
+    """The older struct and what is new, after its own size."""
 
     _fields_ = [
         ("size", ctypes.c_uint32), ("units_per_em", ctypes.c_uint32), ("pdf", _PdfFont),
@@ -422,10 +422,10 @@ _SIMPLE = 0
 
 @contextmanager
 def _bytes_of(data: Buffer) -> Iterator[Tuple[Optional[int], int]]:
-    """Where the bytes of a buffer stand, and how many they are. Nobody can resize it meanwhile, and none are copied."""
+    """The address of the bytes of a buffer, and their count. Nobody can resize it meanwhile, and none are copied."""
     with memoryview(data) as view:
         if view.ndim != 1 or view.format.lstrip("@=<>!") not in ("B", "b", "c") or not view.contiguous:
-            raise TypeError("a font is a buffer of bytes, one behind the other")
+            raise TypeError("a font is a buffer of bytes, one after the other")
         held = _View()
         _get_buffer(view, ctypes.byref(held), _SIMPLE)
         try:
@@ -512,7 +512,7 @@ def _words(
     names: bool, glyph_names: bool, small: bool,
 ) -> array[int]:
     """The options as the library takes them: their size in bytes, the limits of a charstring, what is left out, and the
-    most bytes of the font. (Later ones go behind these.)"""
+    most bytes of the font. (Later ones go after these.)"""
     drop = _DROP_ALL * _flag("small", small)
     for name, kept, bit in (
         ("hinting", hinting, _DROP_HINTING), ("names", names, _DROP_NAMES),
@@ -600,7 +600,7 @@ def subset(
     `coordinates` are where a variable font is taken: the tags of axes with values in what the axes count, as
     {"wght": 650, "wdth": 87.5}. An axis without a value stays at its default, one past an axis's end is that end, and a tag
     that the font doesn't have is passed over. A value is taken as the nearest number of 65536ths, a half rounded up. Where
-    the font stands at its default, has no axes or has its outlines in `CFF `, it is subset as it is, with its hints; else the
+    the font is at its default, has no axes or has its outlines in `CFF `, it is subset as it is, with its hints; else the
     new font is a static one, each glyph a simple outline without instructions, and `tokens` bounds the steps of a glyph
     (one for each glyph that it leads to, each point, each tuple, and each point again of a tuple that counts). A font with
     outlines in `CFF2`, and neither `glyf` nor `CFF `, is made static at its default too, which is {}: the new font has outlines
@@ -694,7 +694,7 @@ def _letters(tag: Optional[str]) -> Tuple[int, int]:
 
 
 def _characters(text: str) -> array[int]:
-    """The characters of a text; the library refuses a surrogate that stands alone."""
+    """The characters of a text; the library refuses an unpaired surrogate."""
     if not isinstance(text, str):
         raise TypeError(f"a text is a str, and no {type(text).__name__}")
     return array("I", map(ord, text))
@@ -722,7 +722,7 @@ def glyphs_of(data: Buffer, text: str, index: SupportsIndex = 0) -> List[Tuple[i
     that the font doesn't have gets glyph 0. `data` and `index` are as for `subset`.
 
     Raises an `Error` by its name: what comes of opening the font, `MalformedFont` also where it has no Unicode table of the
-    formats 4 and 12, and `InvalidText` for a surrogate that stands alone. `NotImplementedError` is raised where the library is
+    formats 4 and 12, and `InvalidText` for an unpaired surrogate. `NotImplementedError` is raised where the library is
     of an older version, which has no calls for PDF.
     """
     characters, face = _characters(text), _number("index", index, 0, 0xFFFFFFFF)
@@ -741,8 +741,8 @@ def codes_of(shown: Iterable[Tuple[SupportsIndex, str]], codes: Codes = "consecu
     """The code of each entry, in order, as `pdf_font` gives it: it takes no font, so that pages can be written first. Where a list
     goes on, the codes of the entries before stay.
 
-    Raises `OverflowError` for more than 65,535 glyphs, or pairs of a glyph and a text, `InvalidText` for a surrogate that stands
-    alone, and `NotImplementedError` where the library is of an older version.
+    Raises `OverflowError` for more than 65,535 glyphs, or pairs of a glyph and a text, `InvalidText` for an unpaired
+    surrogate, and `NotImplementedError` where the library is of an older version.
     """
     entries, kind = _Entries(shown), _choice("codes", codes, _CODES)
     library, length = _library_with("subsetter_codes_of"), ctypes.c_size_t()
@@ -797,7 +797,7 @@ def _lists(made: _PdfFont) -> Dict[str, Any]:
 
 
 def _numbers(made: _PdfFont) -> array[int]:
-    """The numbers behind them."""
+    """The numbers after them."""
     return array("I", bytes(made)[_PdfFont.kind.offset:_PdfFont.kind.offset + _NUMBERS])
 
 
@@ -1020,7 +1020,7 @@ def pdf_font(
     - `rights`: by `fsType` of the table `OS/2`, "from_font", or "held" by the caller, whatever that says.
 
     Raises an `Error` by its name: those of `embed`, `NotPermitted`, and `InvalidText` for a text of more than 256 UTF-16 units or
-    with a surrogate that stands alone. No value of the font descriptor is a reason: where a table is missing or cut, another
+    with an unpaired surrogate. No value of the font descriptor is a reason: where a table is missing or cut, another
     source of the value is taken. `NotImplementedError` is raised as by `glyphs_of`.
     """
     if rights == "as_said":

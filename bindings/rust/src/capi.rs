@@ -30,7 +30,7 @@ impl Choices {
         Some(Self(proved::Options { limits, extras }))
     }
 
-    /// The same, where the new font may have so many bytes at most.
+    /// The same, with a bound on the bytes of the new font.
     #[must_use]
     pub fn with_bytes(mut self, bytes: u32) -> Self {
         self.0.limits = self.0.limits.with_bytes(bytes);

@@ -148,7 +148,7 @@ fn answer_all<W: Write>(
 }
 
 /// Does the requests of these indexes, which are of one source, so many at a time, and writes the answers as they come. Where
-/// an answer can't be written no request is begun behind those that are under way. Where the system has no thread left, those
+/// an answer can't be written no request is begun after those that are under way. Where the system has no thread left, those
 /// that there are do all.
 fn answer_source<W: Write>(
     rt: &HostRuntime,

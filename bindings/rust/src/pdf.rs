@@ -100,7 +100,7 @@ pub fn glyphs_of<'a>(data: &[u8], index: u32, text: &'a str) -> Result<Vec<Shown
     Ok(shown)
 }
 
-/// The characters of all texts, one behind the other.
+/// The characters of all texts, one after the other.
 fn characters(shown: &[Shown<'_>]) -> Result<Vec<char>, Error> {
     let mut list = with_room(shown.iter().map(|it| it.text.chars().count()).sum())?;
     list.extend(shown.iter().flat_map(|it| it.text.chars()));
