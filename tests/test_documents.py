@@ -76,8 +76,12 @@ def c(room, program, compiler=("cc", "-std=c11", "-xc"), libraries=("-lz",)):
     run(room, "./program")
 
 
-def with_qpdf(room, program):
-    c(room, program, ("c++", "-std=c++17", "-xc++"), ("-lqpdf",))
+def with_qpdf(room, program, libraries=("-lqpdf",)):
+    c(room, program, ("c++", "-std=c++17", "-xc++"), libraries)
+
+
+def with_podofo(room, program):
+    with_qpdf(room, program, ("-lpodofo",))
 
 
 def python(room, program):
@@ -104,7 +108,7 @@ def test_programs_of_documents(tmp_path, how, document, language):
         demand_pdf(tmp_path)
 
 
-EXAMPLES = {"writer.rs": rust, "plain.c": c, "with_qpdf.cc": with_qpdf, "shaped.mjs": js}
+EXAMPLES = {"writer.rs": rust, "plain.c": c, "with_qpdf.cc": with_qpdf, "with_podofo.cc": with_podofo, "shaped.mjs": js}
 
 
 @pytest.mark.parametrize("name", sorted(it for it in os.listdir(os.path.join(ROOT, "examples")) if it != "README.md"))
