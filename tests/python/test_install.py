@@ -56,8 +56,9 @@ def files_of(folder):
     return {path: path.read_bytes() for path in folder.rglob("*") if path.is_file() and "__pycache__" not in path.parts}
 
 
-def check_wheel(path, platform, library, traces):
-    """The files of a wheel, and that the library names no folder of this machine: its bytes."""
+def check_wheel(path, platform, traces):
+    """The files of a wheel, and that the library names no folder of this machine."""
+    library = "libsubsetter.so"
     assert path.name == f"{FRONT}-py3-none-{platform}.whl"
     with zipfile.ZipFile(path) as file:
         parts = {name: file.read(name) for name in file.namelist()}
@@ -77,7 +78,6 @@ def check_wheel(path, platform, library, traces):
     assert parts[f"{INFO}/WHEEL"].decode().split("\n")[2:] == ["Root-Is-Purelib: false", f"Tag: py3-none-{platform}", ""]
     data = parts[f"subsetter/{library}"]
     assert len(data) > 100_000 and not any(str(trace).encode() in data for trace in traces)
-    return data
 
 
 def test_tags(tmp_path):
@@ -129,7 +129,7 @@ def test_wheel_of_the_sdist(room, tmp_path):
     (room / "away").rename(room / "clone")
     assert ran.returncode == 0, ran.stdout
     [wheel] = (tmp_path / "wheel").iterdir()
-    check_wheel(wheel, re.sub(r"\W", "_", sysconfig.get_platform()), "libsubsetter.so", [tmp_path, "/tmp/", ROOT])
+    check_wheel(wheel, re.sub(r"\W", "_", sysconfig.get_platform()), [tmp_path, "/tmp/", ROOT])
 
 
 def test_without_cargo(room, tmp_path):

@@ -61,28 +61,20 @@ def accepted_for_pdf(data: bytes, mapped: mmap.mmap, one: Index) -> None:
     print(whole, lists, angle, columns, kind, value, mapped_texts)
 
 
-def refused(data: bytes, value: Real) -> None:
-    subsetter.subset("text", [1])  # type: ignore[arg-type]
+def refused(data: bytes) -> None:
     subsetter.subset(data, 5)  # type: ignore[arg-type]
     subsetter.subset(data, ["1"])  # type: ignore[list-item]
-    subsetter.subset(data, [value])  # type: ignore[list-item]
-    subsetter.subset(data)  # type: ignore[call-arg]
     subsetter.subset(data, [1], 0, 5)  # type: ignore[misc]
-    subsetter.subset(data, [1], value)  # type: ignore[arg-type]
     subsetter.subset(data, [1], hint=False)  # type: ignore[call-arg]
     subsetter.subset(data, [1], hinting=0)  # type: ignore[arg-type]
-    subsetter.subset(data, [1], tokens=1.5)  # type: ignore[arg-type]
     subsetter.embed(data, [1], coordinates=[("wght", 1)])  # type: ignore[arg-type]
     subsetter.embed(data, [1], coordinates={"wght": "650"})  # type: ignore[dict-item]
     subsetter.glyphs_of(data, b"Hello")  # type: ignore[arg-type]
-    subsetter.pdf_font(data, [36])  # type: ignore[list-item]
     subsetter.pdf_font(data, [(36, b"A")])  # type: ignore[list-item]
     subsetter.pdf_font(data, [], codes="cids")  # type: ignore[arg-type]
     subsetter.pdf_font(data, [], names=False)  # type: ignore[call-arg]
     subsetter.pdf_font(data, []).sheet("page")  # type: ignore[arg-type]
-    subsetter.pdf_font(data, []).objects()  # type: ignore[call-arg]
     subsetter.pdf_font(data, []).parts([1], True)  # type: ignore[misc]
     font: bytes = subsetter.embed(data, [1])  # type: ignore[assignment]
     widths: List[str] = subsetter.embed(data, [1]).widths  # type: ignore[assignment]
-    text: str = subsetter.pdf_font(data, []).program  # type: ignore[assignment]
-    print(font, widths, text, subsetter.no_such_name)  # type: ignore[attr-defined]
+    print(font, widths, subsetter.no_such_name)  # type: ignore[attr-defined]
