@@ -156,12 +156,10 @@ def test_limits(name, value):
 def test_no_numbers(name):
     for call in LIMITED:
         # (Python writes no number of so many digits)
-        for value in (10**5000, -(10**5000)):
-            error = raised(call, TTF, **{name: value})
-            assert type(error) is ValueError and alone(error) and str(error).startswith(f"{name} is ")
-        for value in ("1", 1.0, b"1", [1], 1j, *([None] if name == "index" else [])):
+        error = raised(call, TTF, **{name: 10**5000})
+        assert type(error) is ValueError and alone(error) and str(error).startswith(f"{name} is ")
+        for value in ("1", 1.0, b"1", [1], *([None] if name == "index" else [])):
             assert type(raised(call, TTF, **{name: value})) is TypeError
-    assert type(raised(CALLS["subset"], TTF, **{name: number(index=5)})) in (type(None), subsetter.OverflowError)
 
 
 def test_choices_that_are_true_or_false():
@@ -172,9 +170,9 @@ def test_choices_that_are_true_or_false():
 
 
 def test_choices_are_given_by_name_alone():
-    for call in (subsetter.subset, subsetter.embed, subsetter.pdf_font):
-        assert type(raised(call, TTF, [], 0, 5)) is TypeError
-        assert type(raised(call, TTF, [], hint=False)) is TypeError
+    for call in LIMITED:
+        assert type(raised(call, TTF, hint=False)) is TypeError
+    assert type(raised(subsetter.subset, TTF, [], 0, 5)) is TypeError
 
 
 # ---- coordinates

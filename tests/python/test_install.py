@@ -97,11 +97,9 @@ def test_sdist(tmp_path):
     assert (tmp_path / f"{FRONT}.tar.gz").read_bytes() == whole
     with tarfile.open(tmp_path / f"{FRONT}.tar.gz") as file:
         members = file.getmembers()
-    own = {"PKG-INFO", "LICENSE", "NOTICE", "README.md", "pyproject.toml", "subsetter_build.py", "subsetter/__init__.py", "subsetter/py.typed",
-           "crates/capi/Cargo.toml", "crates/capi/Cargo.lock", "crates/capi/build.rs", "crates/rust/Cargo.toml", "crates/rust/README.md"}
-    for name in ("capi", "rust"):
-        folder = ROOT / "bindings" / name
-        own |= {f"crates/{name}/{path.relative_to(folder)}" for path in (folder / "src").rglob("*") if path.is_file()}
+    own = {path.relative_to(ROOT / "bindings") for name in ("capi", "rust") for path in (ROOT / "bindings" / name / "src").rglob("*") if path.is_file()}
+    own = {f"crates/{path}" for path in own} | {f"crates/{name}/Cargo.toml" for name in ("capi", "rust")} | {"crates/capi/Cargo.lock", "crates/capi/build.rs", "crates/rust/README.md"}
+    own |= {"PKG-INFO", "LICENSE", "NOTICE", "README.md", "pyproject.toml", "subsetter_build.py", "subsetter/__init__.py", "subsetter/py.typed"}
     assert {it.name for it in members} == {f"{FRONT}/{name}" for name in own}
     assert {(it.mtime, it.uid, it.uname, it.mode) for it in members} == {(315532800, 0, "", 0o644)}
 
