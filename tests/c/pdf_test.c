@@ -1,8 +1,7 @@
-/* Each row of pdf_rows.txt by the calls for PDF, field by field, with its objects: pdf_test [--brief] [--undamaged] FOLDER
+/* Each row of pdf_rows.txt by the calls for PDF, with its objects: pdf_test [--brief] FOLDER
  *
- * Then the sheet; options and texts that are refused; each request for memory refused in turn; and damaged fonts, fewer of them with
- * --brief, and none with --undamaged. FOLDER has pdf_rows.txt and its fonts. SUBSETTER_BY_CARGO is for the library of
- * bindings/capi, whose empty lists are null. */
+ * Then the sheet; options and texts that are refused; each request for memory refused in turn; and damaged fonts, without --brief.
+ * FOLDER has pdf_rows.txt and its fonts. SUBSETTER_BY_CARGO is for the library of bindings/capi, whose empty lists are null. */
 #include "subsetter.h"
 
 #include "counted.h"
@@ -151,77 +150,22 @@ static void compare(const struct row *row, const char *name)
     said[0] = 0;
 }
 
-static void compare_bytes(const struct row *row, const char *name, const uint8_t *bytes, size_t size)
-{
-    for (size_t i = 0; i < size; i++)
-        say("%02x", bytes[i]);
-    if (size == 0)
-        say("-");
-    compare(row, name);
-}
-
-static void compare_text(const struct row *row, const char *name, const uint8_t *bytes, size_t size)
-{
-    check(size == 0 || memchr(bytes, 0, size) == NULL, "a zero in a text", row->name);
-    say("%.*s", (int)size, (const char *)bytes);
-    compare(row, name);
-}
-
+/* (The other values of a font are those of its objects.) */
 static void compare_lists(const struct row *row, const subsetter_pdf_font *font)
 {
-#define NUMBERS(NAME, LIST, COUNT)                      \
+#define LIST(NAME, FORMAT, LIST, COUNT)                 \
     for (size_t i = 0; i < font->COUNT; i++)            \
-        say("%u ", (unsigned)font->LIST[i]);            \
+        say(FORMAT, (unsigned)font->LIST[i]);           \
     compare(row, NAME)
-    NUMBERS("cids", cids, cid_count);
-    NUMBERS("codes", codes, code_count);
-    NUMBERS("is_said", is_said, said_count);
-    NUMBERS("widths", widths, width_count);
-    for (size_t i = 0; font->is_vertical && i < font->width_count; i++)
-        if (i < font->column_count)
-            say("%d,%d,%d ", font->columns[i].advance, font->columns[i].x, font->columns[i].y);
-        else
-            say("- ");
-    compare(row, "columns");
+    LIST("program", "%02x", program, program_size);
+    LIST("cids", "%u ", cids, cid_count);
+    LIST("codes", "%u ", codes, code_count);
+    LIST("is_said", "%u ", is_said, said_count);
+    LIST("widths", "%u ", widths, width_count);
+    LIST("name", "%c", font_name, font_name_size);
+    LIST("to_unicode", "%c", to_unicode, to_unicode_size);
+    LIST("encoding", "%c", encoding, encoding_size);
     check(font->is_vertical || font->column_count == 0, "columns of horizontal writing", row->name);
-    compare_bytes(row, "program", font->program, font->program_size);
-    compare_bytes(row, "cid_set", font->cid_set, font->cid_set_size);
-    compare_text(row, "name", font->font_name, font->font_name_size);
-    compare_text(row, "to_unicode", font->to_unicode, font->to_unicode_size);
-    compare_text(row, "encoding", font->encoding, font->encoding_size);
-    say("/CMapName /%.*s def", (int)font->encoding_name_size, (const char *)font->encoding_name);
-    check((font->encoding_size == 0 && font->encoding_name_size == 0) || strstr(value(row, "encoding"), said) != NULL, "the name of the CMap", row->name);
-    said_size = 0;
-}
-
-static void compare_numbers(const struct row *row, const subsetter_pdf_font *font)
-{
-    static const char *const kinds[] = {"TrueType", "CIDFontType0C", "OpenType"};
-    static const char *const usages[] = {"unsaid", "installable", "editable", "preview_and_print", "restricted"};
-    const struct {
-        const char *name;
-        long number;
-    } numbers[] = {
-        {"glyph_count", (long)font->width_count}, {"default_width", font->default_width}, {"flags", font->flags}, {"ascent", font->ascent},
-        {"descent", font->descent}, {"cap_height", font->cap_height}, {"stem_v", font->stem_v}, {"font_weight", font->font_weight},
-    };
-    for (size_t i = 0; i < sizeof numbers / sizeof *numbers; i++) {
-        say("%ld", numbers[i].number);
-        compare(row, numbers[i].name);
-    }
-    say("%s", kinds[font->kind]);
-    compare(row, "kind");
-    if (font->is_vertical)
-        say("%d %d", font->default_column[0], font->default_column[1]);
-    compare(row, "dw2");
-    say("%d %d %d %d", font->bounds[0], font->bounds[1], font->bounds[2], font->bounds[3]);
-    compare(row, "bounds");
-    say("%g", font->italic_angle / 1000.0);
-    compare(row, "angle");
-    say(font->has_x_height ? "%d" : "-", font->x_height);
-    compare(row, "x_height");
-    say("%s subsetting %u outlines %u", usages[font->usage], font->may_subset, font->may_embed_outlines);
-    compare(row, "permission");
 }
 
 /* ---- objects */
@@ -505,7 +449,6 @@ static void answer(const struct row *row)
     if (status != 0)
         return;
     compare_lists(row, &font);
-    compare_numbers(row, &font);
     compare_objects(row, &font);
     compare_sheets(row, &font);
     compare_whole(row, &font);
@@ -973,23 +916,16 @@ int main(int count, char **words)
     static void (*const tries[])(const struct row *) = {
         try_utf8, try_words, try_options, try_texts, try_nulls, try_sheets, try_glyphs, try_faces};
     size_t size, rows = 0;
-    int damaged = 1000;
-    for (int i = 1; i < count; i++) {
-        if (strcmp(words[i], "--brief") == 0)
-            damaged = damaged < 100 ? damaged : 100;
-        else if (strcmp(words[i], "--undamaged") == 0)
-            damaged = 0;
-        else
-            folder = words[i];
-    }
-    if (folder == NULL)
+    if (count < 2)
         return 2;
+    folder = words[count - 1];
     char *whole = (char *)file_of("pdf_rows.txt", &size), *text = whole;
     while ((text = read_row(&row, text)) != NULL) {
         answer(&row);
         if (CAN_REFUSE)
             refuse(&row);
-        damage(&row, damaged);
+        if (count == 2)
+            damage(&row, 1000);
         for (size_t i = 0; rows == 0 && i < sizeof tries / sizeof *tries; i++)
             tries[i](&row);
         __real_free(row.font);
