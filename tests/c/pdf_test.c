@@ -111,12 +111,9 @@ static char *read_row(struct row *row, char *text)
         field->value = blank == NULL ? "" : blank + 1;
         *(blank == NULL ? end : blank) = 0;
         *end = 0;
-        if (strcmp(field->value, "<<") == 0) {
-            field->value = end + 1;
-            end = strstr(end + 1, "\n>>\n") + 3;
-            end[-3] = 0;
-        }
-        text = end + 1;
+        for (; text < end; text++)
+            *text = *text == '~' ? '\n' : *text;
+        text++;
     }
     row->name = value(row, "row");
     row->font = file_of(value(row, "font"), &row->font_size);
@@ -143,7 +140,7 @@ static void say(const char *format, ...)
 static void compare(const struct row *row, const char *name)
 {
     const char *wanted = value(row, name);
-    if (wanted != NULL && said_size > 0 && (said[said_size - 1] == ' ' || said[said_size - 1] == '\n'))
+    if (wanted != NULL && said_size > 0 && said[said_size - 1] == ' ')
         said[said_size - 1] = 0;
     check(strcmp(said, wanted == NULL ? "" : wanted) == 0, name, row->name);
     said_size = 0;
