@@ -71,11 +71,16 @@ test("entries, numbers and layouts", () => {
 });
 
 test("faces", () => {
-    // (a font of two faces, neither of which has `cmap`)
-    const two = fonts.two_faces, opened = [0, 1].map((index) => subsetter.open(two, { index })), options = { rights: "held" };
-    for (const made of [[0, 1].map((index) => subsetter.pdfFont(two, [], { index, ...options })), opened.map((it) => it.pdfFont([], options))]) assert.notDeepEqual(made[0].program, made[1].program);
-    assert.deepEqual(subsetter.glyphsOf(two, "", { index: 1 }), []);
-    for (const call of ["glyphsOf", "pdfFont"]) throws(() => subsetter[call](two, call === "glyphsOf" ? "" : [], { index: 2 }), MalformedFont, call);
+    // (a collection of one font)
+    const one = new Uint8Array(16 + TTF.length), view = new DataView(one.buffer);
+    [0x74746366, 0x10000, 1, 16].forEach((word, i) => view.setUint32(4 * i, word));
+    one.set(TTF, 16);
+    for (let at = 36; at < 28 + 16 * TTF[5]; at += 16) view.setUint32(at, view.getUint32(at) + 16);
+    const calls = [(it) => subsetter.glyphsOf(one, "A", it), (it) => subsetter.open(one, it).glyphsOf("A"), (it) => subsetter.pdfFont(one, SHOWN, it).codes, (it) => subsetter.open(one, it).pdfFont(SHOWN).codes];
+    for (const call of calls) {
+        assert.deepEqual(call(), call({ index: 0 }));
+        throws(() => call({ index: 1 }), MalformedFont, "another face");
+    }
 });
 
 test("permissions, by fsType of OS/2", () => {

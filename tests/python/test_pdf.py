@@ -51,12 +51,14 @@ def test_no_texts_and_no_entries():
 
 
 def test_faces():
-    """(A font of two faces, neither of which has `cmap`.)"""
-    two, calls = FONTS["two_faces"], (lambda *index: subsetter.pdf_font(two, [], *index), lambda *index: subsetter.glyphs_of(two, "", *index))
-    for call in calls:
-        assert raised(call, 1) == raised(call, 0) == raised(call) == None
-        assert type(raised(call, 2)) is subsetter.MalformedFont
-    assert subsetter.pdf_font(two, [], 1).program != subsetter.pdf_font(two, [], 0).program
+    """(A collection of one font.)"""
+    front = bytearray(TTF[:12 + 16 * TTF[5]])
+    for at in range(20, len(front), 16):
+        front[at:at + 4] = (int.from_bytes(front[at:at + 4], "big") + 16).to_bytes(4, "big")
+    one = b"ttcf\0\1\0\0\0\0\0\1\0\0\0\x10" + front + TTF[len(front):]
+    for call in (lambda *index: subsetter.pdf_font(one, SHOWN, *index).program, lambda *index: subsetter.glyphs_of(one, "A", *index)):
+        assert call(0) == call()
+        assert type(raised(call, 1)) is subsetter.MalformedFont
 
 
 def with_fs_type(number):

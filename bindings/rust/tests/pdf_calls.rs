@@ -91,19 +91,17 @@ fn codes_need_no_font() {
 #[test]
 fn the_program_is_the_embedded_font() {
     let font = made("made_variable.ttf");
-    let program = |value, hinting| {
-        let options = FontOptions::new().hinting(hinting);
-        let whole = pdf_font(&font, 0, &[(Tag::new(b"wght"), value)], &SHOWN, &options);
+    let program = |value| {
+        let whole = pdf_font(&font, 0, &[(Tag::new(b"wght"), value)], &SHOWN, &FontOptions::new());
         whole.unwrap().into_program()
     };
     let kept = Options::new().names(false).glyph_names(false);
     let (at, glyphs) = ([(Tag::new(b"wght"), 650.0)], SHOWN.map(|it| it.glyph));
     let embedded = embed_with_variations_and_options(&font, 0, &at, &glyphs, &kept);
-    assert_eq!(program(650.0, true), embedded.unwrap().font);
-    assert_ne!(program(650.0, true), program(650.0, false));
+    assert_eq!(program(650.0), embedded.unwrap().font);
     // A value of NaN is the axis's default.
-    assert_eq!(program(f32::NAN, true), program(400.0, true));
-    assert_ne!(program(f32::NAN, true), program(401.0, true));
+    assert_eq!(program(f32::NAN), program(400.0));
+    assert_ne!(program(f32::NAN), program(401.0));
 }
 
 // ---- choices

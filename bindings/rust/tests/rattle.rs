@@ -5,12 +5,12 @@
 #[macro_use]
 #[allow(dead_code, unused_imports, unused_macros)]
 #[path = "../src/rattle/mod.rs"]
-#[rustfmt::skip]
+#[cfg_attr(rustfmt, rustfmt_skip)]
 mod rattle;
 #[cfg(feature = "program")]
 #[allow(dead_code, unused_imports)]
 #[path = "../src/host/mod.rs"]
-#[rustfmt::skip]
+#[cfg_attr(rustfmt, rustfmt_skip)]
 mod host;
 
 mod heap;
