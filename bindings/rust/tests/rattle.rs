@@ -1,11 +1,13 @@
 //! The stand-in for Rattle's library, by itself: what it answers, and that a refused request for memory is an error which
 //! leaves a list, a text or a map as it was.
 
+#![allow(clippy::deprecated_cfg_attr)]
+
 // The stand-in is no part of the crate's interface; what it has for the sources alone goes unused here.
 #[macro_use]
 #[allow(dead_code, unused_imports, unused_macros)]
 #[path = "../src/rattle/mod.rs"]
-#[cfg_attr(rustfmt, rustfmt_skip)]
+#[cfg_attr(rustfmt, rustfmt_skip)] // (by `rustfmt::skip` its macros would be ambiguous)
 mod rattle;
 #[cfg(feature = "program")]
 #[allow(dead_code, unused_imports)]
