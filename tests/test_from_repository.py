@@ -78,7 +78,7 @@ class Users:
         assert (at / "subset").read_bytes() == self.wanted
         lock = (at / "Cargo.lock").read_text(encoding="utf-8")
         version = (self.room / "tree/VERSION").read_text(encoding="utf-8").split()[1]
-        assert lock.count('name = "subsetter"') == 1 and f'name = "subsetter"\nversion = "{version}"\n' in lock
+        assert lock.count("[[package]]") == 2 + ('name = "writer"' in lock) and f'name = "subsetter"\nversion = "{version}"\n' in lock
         assert not (self.room / "called").exists()
 
 

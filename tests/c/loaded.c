@@ -1,7 +1,6 @@
 /* The shared library in a process that loads it by itself: loaded LIBRARY FONT
  *
- * It is loaded, closed and loaded again; called in forked processes; and called a million times, after which the process has no more
- * memory than before. FONT is made.ttf. */
+ * It is loaded, closed and loaded again, and called in forked processes. FONT is made.ttf. */
 #define _GNU_SOURCE
 #include "subsetter.h"
 
@@ -89,33 +88,6 @@ static void check_forked(const struct library *it)
     }
 }
 
-/* Memory of the process in KiB. */
-static long resident(void)
-{
-    char line[128];
-    long kib = -1;
-    FILE *file = fopen("/proc/self/status", "r");
-    while (file != NULL && fgets(line, sizeof line, file) != NULL)
-        if (strncmp(line, "VmRSS:", 6) == 0)
-            kib = strtol(line + 6, NULL, 10);
-    if (file != NULL)
-        fclose(file);
-    return kib;
-}
-
-/* A million calls, half of which are refused. */
-static void check_million(const struct library *it)
-{
-    long before = 0;
-    for (int i = 0; i < 500000; i++) {
-        failures += !answers(it);
-        if (i == 5000)
-            before = resident();
-    }
-    /* (the C library's own pages come and go; one block in a call of four would be 8,000 KiB) */
-    check(before > 0 && resident() <= before + 1024, "a million calls leave memory");
-}
-
 int main(int argc, char **argv)
 {
     FILE *file = argc == 3 ? fopen(argv[2], "rb") : NULL;
@@ -126,7 +98,6 @@ int main(int argc, char **argv)
     check_again(argv[1]);
     struct library it = opened(argv[1]);
     check_forked(&it);
-    check_million(&it);
     it.free(&wanted);
     dlclose(it.handle);
     printf("loaded: %zu checks, %zu failed\n", checks, failures);

@@ -1,8 +1,7 @@
-/* Each row of pdf_rows.txt by the calls for PDF, field by field, with its objects: pdf_test [--brief] [--undamaged] FOLDER
+/* Each row of pdf_rows.txt by the calls for PDF, with its objects: pdf_test [--brief] FOLDER
  *
- * Then the sheet; options and texts that are refused; each request for memory refused in turn; and damaged fonts, fewer of them with
- * --brief, and none with --undamaged. FOLDER has pdf_rows.txt and its fonts. SUBSETTER_BY_CARGO is for the library of
- * bindings/capi, whose empty lists are null. */
+ * Then the sheet; options and texts that are refused; each request for memory refused in turn; and damaged fonts, without --brief.
+ * FOLDER has pdf_rows.txt and its fonts. SUBSETTER_BY_CARGO is for the library of bindings/capi, whose empty lists are null. */
 #include "subsetter.h"
 
 #include "counted.h"
@@ -112,12 +111,9 @@ static char *read_row(struct row *row, char *text)
         field->value = blank == NULL ? "" : blank + 1;
         *(blank == NULL ? end : blank) = 0;
         *end = 0;
-        if (strcmp(field->value, "<<") == 0) {
-            field->value = end + 1;
-            end = strstr(end + 1, "\n>>\n") + 3;
-            end[-3] = 0;
-        }
-        text = end + 1;
+        for (; text < end; text++)
+            *text = *text == '~' ? '\n' : *text;
+        text++;
     }
     row->name = value(row, "row");
     row->font = file_of(value(row, "font"), &row->font_size);
@@ -144,84 +140,29 @@ static void say(const char *format, ...)
 static void compare(const struct row *row, const char *name)
 {
     const char *wanted = value(row, name);
-    if (wanted != NULL && said_size > 0 && (said[said_size - 1] == ' ' || said[said_size - 1] == '\n'))
+    if (wanted != NULL && said_size > 0 && said[said_size - 1] == ' ')
         said[said_size - 1] = 0;
     check(strcmp(said, wanted == NULL ? "" : wanted) == 0, name, row->name);
     said_size = 0;
     said[0] = 0;
 }
 
-static void compare_bytes(const struct row *row, const char *name, const uint8_t *bytes, size_t size)
-{
-    for (size_t i = 0; i < size; i++)
-        say("%02x", bytes[i]);
-    if (size == 0)
-        say("-");
-    compare(row, name);
-}
-
-static void compare_text(const struct row *row, const char *name, const uint8_t *bytes, size_t size)
-{
-    check(size == 0 || memchr(bytes, 0, size) == NULL, "a zero in a text", row->name);
-    say("%.*s", (int)size, (const char *)bytes);
-    compare(row, name);
-}
-
+/* (The other values of a font are those of its objects.) */
 static void compare_lists(const struct row *row, const subsetter_pdf_font *font)
 {
-#define NUMBERS(NAME, LIST, COUNT)                      \
+#define LIST(NAME, FORMAT, LIST, COUNT)                 \
     for (size_t i = 0; i < font->COUNT; i++)            \
-        say("%u ", (unsigned)font->LIST[i]);            \
+        say(FORMAT, (unsigned)font->LIST[i]);           \
     compare(row, NAME)
-    NUMBERS("cids", cids, cid_count);
-    NUMBERS("codes", codes, code_count);
-    NUMBERS("is_said", is_said, said_count);
-    NUMBERS("widths", widths, width_count);
-    for (size_t i = 0; font->is_vertical && i < font->width_count; i++)
-        if (i < font->column_count)
-            say("%d,%d,%d ", font->columns[i].advance, font->columns[i].x, font->columns[i].y);
-        else
-            say("- ");
-    compare(row, "columns");
+    LIST("program", "%02x", program, program_size);
+    LIST("cids", "%u ", cids, cid_count);
+    LIST("codes", "%u ", codes, code_count);
+    LIST("is_said", "%u ", is_said, said_count);
+    LIST("widths", "%u ", widths, width_count);
+    LIST("name", "%c", font_name, font_name_size);
+    LIST("to_unicode", "%c", to_unicode, to_unicode_size);
+    LIST("encoding", "%c", encoding, encoding_size);
     check(font->is_vertical || font->column_count == 0, "columns of horizontal writing", row->name);
-    compare_bytes(row, "program", font->program, font->program_size);
-    compare_bytes(row, "cid_set", font->cid_set, font->cid_set_size);
-    compare_text(row, "name", font->font_name, font->font_name_size);
-    compare_text(row, "to_unicode", font->to_unicode, font->to_unicode_size);
-    compare_text(row, "encoding", font->encoding, font->encoding_size);
-    say("/CMapName /%.*s def", (int)font->encoding_name_size, (const char *)font->encoding_name);
-    check((font->encoding_size == 0 && font->encoding_name_size == 0) || strstr(value(row, "encoding"), said) != NULL, "the name of the CMap", row->name);
-    said_size = 0;
-}
-
-static void compare_numbers(const struct row *row, const subsetter_pdf_font *font)
-{
-    static const char *const kinds[] = {"TrueType", "CIDFontType0C", "OpenType"};
-    static const char *const usages[] = {"unsaid", "installable", "editable", "preview_and_print", "restricted"};
-    const struct {
-        const char *name;
-        long number;
-    } numbers[] = {
-        {"glyph_count", (long)font->width_count}, {"default_width", font->default_width}, {"flags", font->flags}, {"ascent", font->ascent},
-        {"descent", font->descent}, {"cap_height", font->cap_height}, {"stem_v", font->stem_v}, {"font_weight", font->font_weight},
-    };
-    for (size_t i = 0; i < sizeof numbers / sizeof *numbers; i++) {
-        say("%ld", numbers[i].number);
-        compare(row, numbers[i].name);
-    }
-    say("%s", kinds[font->kind]);
-    compare(row, "kind");
-    if (font->is_vertical)
-        say("%d %d", font->default_column[0], font->default_column[1]);
-    compare(row, "dw2");
-    say("%d %d %d %d", font->bounds[0], font->bounds[1], font->bounds[2], font->bounds[3]);
-    compare(row, "bounds");
-    say("%g", font->italic_angle / 1000.0);
-    compare(row, "angle");
-    say(font->has_x_height ? "%d" : "-", font->x_height);
-    compare(row, "x_height");
-    say("%s subsetting %u outlines %u", usages[font->usage], font->may_subset, font->may_embed_outlines);
-    compare(row, "permission");
 }
 
 /* ---- objects */
@@ -255,53 +196,34 @@ static int are_no_objects(const subsetter_pdf_objects *made)
     return is_empty(made->bytes, made->size) && is_empty(made->offsets, made->offset_count);
 }
 
-/* Objects of a row from number 4 on, with the streams of the font. */
-static void compare_objects(const struct row *row, const subsetter_pdf_font *font)
-{
-    struct {
-        const uint8_t *bytes;
-        size_t size;
-    } streams[4] = {{font->program, font->program_size}, {font->to_unicode, font->to_unicode_size}};
-    size_t stream = 2, count = 0, offsets[8];
-    if (font->cid_set_size > 0) {
-        streams[stream].bytes = font->cid_set;
-        streams[stream++].size = font->cid_set_size;
-    }
-    streams[stream].bytes = font->encoding;
-    streams[stream].size = font->encoding_size;
-    wanted_size = 0;
-    for (size_t i = 0; i < row->count; i++) {
-        if (strcmp(row->fields[i].name, "object") != 0)
-            continue;
-        const char *dictionary = strchr(row->fields[i].value, ' ') + 1;
-        char front[32];
-        offsets[count] = wanted_size;
-        want(front, (size_t)snprintf(front, sizeof front, "%d 0 obj\n", (int)count + 4));
-        want(dictionary, strlen(dictionary));
-        if (count >= 3) {
-            want("\nstream\n", 8);
-            want(streams[count - 3].bytes, streams[count - 3].size);
-            want("\nendstream", 10);
-        }
-        want("\nendobj\n", 8);
-        count++;
-    }
-    subsetter_pdf_objects made;
-    check(subsetter_make_pdf_objects(font, 4, &made) == 0, "objects", row->name);
-    check(is_same(made.bytes, made.size, wanted, wanted_size), "the objects", row->name);
-    check(is_same(made.offsets, made.offset_count * sizeof *offsets, offsets, count * sizeof *offsets), "the offsets", row->name);
-    for (int turn = 0; turn < 2; turn++) {
-        subsetter_free_pdf_objects(&made);
-        check(made.bytes == NULL && made.size == 0 && made.offsets == NULL && made.offset_count == 0, "what is left of objects", row->name);
-    }
-}
-
 static int contains(const subsetter_pdf_objects *file, const void *part, size_t size)
 {
     for (size_t i = 0; i + size <= file->size; i++)
         if (memcmp(file->bytes + i, part, size) == 0)
             return 1;
     return 0;
+}
+
+/* The dictionaries of a row are those of its objects, beside each stream of the font. */
+static void compare_objects(const struct row *row, const subsetter_pdf_font *font)
+{
+    subsetter_pdf_objects made;
+    size_t count = 0;
+    check(subsetter_make_pdf_objects(font, 4, &made) == 0, "objects", row->name);
+    for (size_t i = 0; i < row->count; i++)
+        if (strcmp(row->fields[i].name, "object") == 0) {
+            char front[32];
+            const char *dictionary = strchr(row->fields[i].value, ' ') + 1;
+            snprintf(front, sizeof front, "%d 0 obj\n", (int)count + 4);
+            check(contains(&made, dictionary, strlen(dictionary)), "a dictionary", row->name);
+            check(count < made.offset_count && memcmp(made.bytes + made.offsets[count++], front, strlen(front)) == 0, "an offset", row->name);
+        }
+    check(count == made.offset_count && contains(&made, font->program, font->program_size) && contains(&made, font->to_unicode, font->to_unicode_size)
+        && contains(&made, font->cid_set, font->cid_set_size) && contains(&made, font->encoding, font->encoding_size), "the streams", row->name);
+    for (int turn = 0; turn < 2; turn++) {
+        subsetter_free_pdf_objects(&made);
+        check(made.bytes == NULL && made.size == 0 && made.offsets == NULL && made.offset_count == 0, "what is left of objects", row->name);
+    }
 }
 
 static uint32_t sheet(const struct row *row, const subsetter_pdf_font *font, uint32_t layout, subsetter_pdf_objects *made)
@@ -318,16 +240,7 @@ static void compare_sheets(const struct row *row, const subsetter_pdf_font *font
     check(is_empty(line.offsets, line.offset_count) && is_empty(grid.offsets, grid.offset_count), "offsets of a sheet", name);
     check(memcmp(line.bytes, "%PDF-1.7\n", 9) == 0 && memcmp(line.bytes + line.size - 6, "%%EOF\n", 6) == 0, "a whole file", name);
     check(contains(&line, own.bytes, own.size), "the objects in the sheet", name);
-    size_t points = 0, silent = 0;
-    for (size_t i = 0; i < font->cid_count; i++)
-        points += font->is_vertical ? (size_t)-font->columns[font->cids[i]].advance : font->widths[font->cids[i]];
-    char page[64];
-    snprintf(page, sizeof page, font->is_vertical ? "[0 0 144 %zu]" : "[0 0 %zu 144]", 72 + (36 * points + 999) / 1000);
-    check(contains(&line, page, strlen(page)), "the length of a line", name);
     check(!contains(&line, "[0 0 595 842]", 13) && contains(&grid, "[0 0 595 842]", 13), "the pages", name);
-    for (size_t i = 0; i < font->said_count; i++)
-        silent += !font->is_said[i];
-    check(contains(&line, "/ActualText", 11) == (silent > 0), "texts that codes don't say", name);
     subsetter_free_pdf_objects(&line);
     subsetter_free_pdf_objects(&grid);
     subsetter_free_pdf_objects(&own);
@@ -386,7 +299,6 @@ static int are_same(const subsetter_pdf_font *a, const subsetter_pdf_font *b)
 static int are_same_objects(const subsetter_pdf_objects *a, const subsetter_pdf_objects *b)
 {
     return SAME(bytes, size) && SAME(offsets, offset_count);
-#undef SAME
 }
 
 /* ---- by the newer struct */
@@ -445,14 +357,13 @@ static void compare_parts(const struct row *row, const subsetter_font *font)
         check(parts.parts == NULL && parts.part_count == 0, "what is left of parts", row->name);
     }
     check(make_parts(font, numbers, count - 1, &parts) == 16 && make_parts(font, numbers, count + 1, &parts) == 16, "their count", row->name);
-    for (uint32_t place = 0; place < count; place++)
-        for (uint32_t number = 0; number <= 14; number += number == 0 ? 7 : 1) {
-            uint32_t kept = numbers[place], is_known = number == kept || number > 6 + count;
-            numbers[place] = number;
-            check(make_parts(font, numbers, count, &parts) == (is_known ? 0 : 16), "a number", row->name);
-            subsetter_free_pdf_parts(&parts);
-            numbers[place] = kept;
-        }
+    for (uint32_t place = 0; place < count; place++) {
+        numbers[place] = place == 0 ? 8 : 7;
+        check(make_parts(font, numbers, count, &parts) == 16, "a number twice", row->name);
+        numbers[place] = 0;
+        check(make_parts(font, numbers, count, &parts) == 16, "no number", row->name);
+        numbers[place] = 7 + place;
+    }
 }
 
 /* The same font, what is new of it, and what needs no font. */
@@ -535,7 +446,6 @@ static void answer(const struct row *row)
     if (status != 0)
         return;
     compare_lists(row, &font);
-    compare_numbers(row, &font);
     compare_objects(row, &font);
     compare_sheets(row, &font);
     compare_whole(row, &font);
@@ -678,15 +588,9 @@ static void try_words(const struct row *row)
     static const char name[] = "an option";
     for (size_t word = TOKENS; word < WORDS; word++) {
         check(status_with(row, word, MOST[word]) == 0, "the greatest", name);
-        if (word == TOKENS || word == BYTES)
-            continue;
-        for (uint32_t number = MOST[word] + 1; number < MOST[word] + 300; number++)
-            check(status_with(row, word, number) == 10, "greater than known", name);
-        for (int i = 0; i < HIGHS; i++)
-            check(status_with(row, word, HIGH[i] + MOST[word]) == 10 && status_with(row, word, HIGH[i] + 1) == 10, "a high bit", name);
-        check(status_with(row, word, UINT32_MAX) == 10, "the greatest number", name);
+        for (uint32_t i = 1; word != TOKENS && word != BYTES && i < 300 + 2 * HIGHS; i++)
+            check(status_with(row, word, i < 300 ? MOST[word] + i : HIGH[(i - 300) / 2] + (i % 2 ? 1 : MOST[word])) == 10, "greater than known", name);
     }
-    check(status_with(row, TOKENS, 9) == 0, "few tokens", name);
     for (int i = 1; i < HIGHS; i++)
         check(status_with(row, BYTES, HIGH[i] + 1) == 0, "a large bound", name);
     /* The first word is the size of all. */
@@ -726,148 +630,82 @@ static void try_options(const struct row *row)
     check(status_of(row, &options) == 0, "a bound that is just met", name);
     options.bytes--;
     check(status_of(row, &options) == 5, "a bound that is passed", name);
+    /* Each letter of a tag is a capital, and what is in front of three is 0. */
+    const uint32_t wrong[] = {SUBSETTER_LETTERS('@', 'B', 'C'), SUBSETTER_LETTERS('A', '[', 'C'), SUBSETTER_LETTERS('A', 'B', 'c'), 0x01414243, 0xff414243, 0};
+    for (size_t i = 0; i < 12; i++) {
+        options = defaults();
+        options.tag[i % 2] = wrong[i / 2];
+        options.tag[1 - i % 2] = SUBSETTER_LETTERS('A', 'M', 'Z');
+        check(status_of(row, &options) == 10, "no tag", name);
+    }
 }
 
-/* A tag: each of its letters is a capital, and what is in front of three is 0. */
-static void try_tags(const struct row *row)
-{
-    static const uint8_t letters[] = {'A', 'M', 'Z', '@', '[', 'a', 'z', 1, 255, 0};
-    for (int place = 0; place < 8; place++)
-        for (size_t i = 0; i < sizeof letters; i++) {
-            subsetter_pdf_options options = defaults();
-            subsetter_pdf_font font;
-            options.tag[0] = SUBSETTER_LETTERS('B', 'C', 'D');
-            options.tag[1] = SUBSETTER_LETTERS('E', 'F', 'G');
-            int shift = 24 - 8 * (place % 4), in_name = place % 4 - 1 + 3 * (place / 4);
-            options.tag[place / 4] = (options.tag[place / 4] & ~(255u << shift)) | (uint32_t)letters[i] << shift;
-            int is_known = place % 4 == 0 ? letters[i] == 0 : i < 3;
-            uint32_t status = make(row, &options, &font);
-            check(status == (is_known ? 0 : 10), "status", "a letter of a tag");
-            check(status != 0 || place % 4 == 0 || font.font_name[in_name] == letters[i], "its place in the name", "a letter of a tag");
-            subsetter_free_pdf_font(&font);
-        }
-    for (size_t half = 0; half < 2; half++)
-        check(status_with(row, WORDS + half, SUBSETTER_LETTERS('B', 'C', 'D')) == 10, "status", "half a tag");
-}
-
-/* Each number of tokens is refused, or taken, as by the call that embeds. */
+/* Tokens of a font that needs some: no bit of their number is lost. */
 static void try_limits(void)
 {
     static struct row row;
-    size_t accepted = 0, numbers = 0;
     row.font = file_of("made_version_1.otf", &row.font_size);
     read_shown(&row, "1:0041 2:0042 8:00C1");
-    for (uint32_t tokens = 1; tokens < 150; tokens++, numbers++) {
-        const subsetter_options alone = {sizeof alone, tokens, 0, SUBSETTER_DROP_NAMES | SUBSETTER_DROP_GLYPH_NAMES, 0};
-        subsetter_made made;
-        uint32_t status = subsetter_make_embedded(row.font, row.font_size, 0, row.glyphs, row.glyph_count, &alone, &made);
-        check(status_with(&row, TOKENS, tokens) == status && (status == 0 || status == 6), "status", "tokens");
-        accepted += status == 0;
-        subsetter_free(&made);
-    }
-    check(accepted > 0 && accepted < numbers, "that suffice, and that don't", "tokens");
+    check(status_with(&row, TOKENS, 1) == 6, "too few", "tokens");
     for (int i = 0; i < HIGHS; i++)
         check(status_with(&row, TOKENS, HIGH[i] + 1) == 0, "many", "tokens");
     __real_free(row.font);
 }
 
-/* The font program of a TrueType font is the subset without names, with its hints or without them, at any coordinates. */
-static void try_programs(void)
-{
-    static struct row row;
-    const subsetter_coordinate heavy = {SUBSETTER_TAG('w', 'g', 'h', 't'), 650 << 16}, light = {SUBSETTER_TAG('w', 'g', 'h', 't'), 150 << 16},
-                               slanted = {SUBSETTER_TAG('s', 'l', 'n', 't'), -15 * 32768}, other = {SUBSETTER_TAG('W', 'G', 'H', 'T'), 650 << 16},
-                               last = {SUBSETTER_TAG('w', 'g', 'h', 't'), 0x40000001}, first = {SUBSETTER_TAG('w', 'g', 'h', 't'), 0x40000000};
-    const subsetter_coordinate lists[][3] = {{heavy}, {heavy}, {light, heavy}, {heavy, slanted}, {slanted, heavy, light}, {other, slanted, heavy}, {last}, {first}};
-    const size_t counts[] = {0, 1, 2, 2, 3, 3, 1, 1};
-    row.font = file_of("made_variable.ttf", &row.font_size);
-    read_shown(&row, "1:0041 5:0066,0069 8:00C1");
-    uint8_t *kept = room(1 << 16), *axes = NULL;
-    size_t kept_size = 0, differing = 0;
-    for (uint8_t *record = row.font + 12; record < row.font + 12 + 16 * row.font[5]; record += 16) {
-        uint8_t *table = row.font + (record[10] << 8) + record[11];
-        /* (`maxp` bounds instructions, so that it is another without them) */
-        if (memcmp(record, "maxp", 4) == 0)
-            table[27] = 9;
-        if (memcmp(record, "fvar", 4) == 0)
-            axes = table;
-    }
-    for (size_t place = 0; place < 8; place++) {
-        row.coordinate_count = counts[place];
-        memcpy(row.coordinates, lists[place], sizeof lists[0]);
-        /* (the first axis now goes from 16384 on for one 65536th alone: no bit of a coordinate is lost) */
-        if (place == 6)
-            memcpy(axes + (axes[4] << 8) + axes[5] + 4, (const uint8_t[]){64, 0, 0, 0, 64, 0, 0, 0, 64, 0, 0, 1}, 12);
-        for (uint32_t drop = 0; drop < 8; drop++) {
-            const subsetter_options alone = {sizeof alone, 0, 0, drop | SUBSETTER_DROP_NAMES | SUBSETTER_DROP_GLYPH_NAMES, 0};
-            subsetter_pdf_options options = defaults();
-            subsetter_pdf_font font;
-            subsetter_made made;
-            options.drop = drop;
-            check(subsetter_make_subset_at(row.font, row.font_size, 0, row.coordinates, row.coordinate_count, row.glyphs, row.glyph_count,
-                      &alone, &made) == 0 && make(&row, &options, &font) == 0, "status", "a program");
-            check(is_same(made.font, made.font_size, font.program, font.program_size), "another than the subset", "a program");
-            if (!is_same(made.font, made.font_size, kept, kept_size)) {
-                memcpy(kept, made.font, kept_size = made.font_size);
-                differing++;
-            }
-            subsetter_free(&made);
-            subsetter_free_pdf_font(&font);
-        }
-    }
-    /* (with hints and without them in turn at each default; of several values for an axis the last counts, and another axis moves nothing) */
-    check(differing == 8 + 3 + 1 + 8, "that differ", "programs");
-    __real_free(kept);
-    __real_free(row.font);
-}
-
 /* ---- texts */
 
-static uint32_t status_of_text(const struct row *row, const uint32_t *text, size_t text_count, const size_t *ends, size_t end_count)
-{
-    subsetter_pdf_font font;
-    uint32_t status = subsetter_make_pdf_font(row->font, row->font_size, 0, NULL, 0, row->glyphs, 2, text, text_count, ends, end_count, NULL, &font);
-    check(status == 0 || is_nothing(&font), "what is left", "a text");
-    subsetter_free_pdf_font(&font);
-    return status;
-}
-
-/* The ends of a text, and of a sheet's, for two glyphs and the characters ABC. */
+/* Texts of two glyphs, their ends, and the status of a font and of a sheet of it. */
 static const struct {
-    size_t ends[3], count;
+    uint32_t text[3];
+    size_t text_count, ends[3], count;
     uint32_t status;
-} ENDS[] = {{{1, 2}, 2, 0}, {{0, 3}, 2, 0}, {{2, 1}, 2, 12}, {{1, 4}, 2, 12}, {{4, 4}, 2, 12}, {{1}, 1, 12}, {{1, 2, 3}, 3, 12}};
+} TEXTS[] = {
+    {{'A', 'B', 'C'}, 3, {1, 2}, 2, 0}, {{'A', 'B', 'C'}, 3, {0, 3}, 2, 0}, {{'A', 'B', 'C'}, 3, {2, 1}, 2, 12}, {{'A', 'B', 'C'}, 3, {1, 4}, 2, 12},
+    {{'A', 'B', 'C'}, 3, {4, 4}, 2, 12}, {{'A', 'B', 'C'}, 3, {1}, 1, 12}, {{'A', 'B', 'C'}, 3, {1, 2, 3}, 3, 12},
+    {{0, 0xd7ff}, 2, {1, 2}, 2, 0}, {{0xe000, 0x10ffff}, 2, {1, 2}, 2, 0}, {{'A', 0xd800}, 2, {1, 2}, 2, 12}, {{'A', 0xdfff}, 2, {1, 2}, 2, 12},
+    {{'A', 0x110000}, 2, {1, 2}, 2, 12}, {{'A', 0xffffffff}, 2, {1, 2}, 2, 12},
+};
+
+static void check_text(const struct row *row, const subsetter_pdf_font *made, const uint32_t *text, size_t text_count, const size_t *ends, size_t count,
+    uint32_t status)
+{
+    static const char name[] = "a text";
+    subsetter_pdf_font font;
+    subsetter_pdf_objects page;
+    memset(&page, FILLED, sizeof page);
+    check(subsetter_make_pdf_font(row->font, row->font_size, 0, NULL, 0, row->glyphs, 2, text, text_count, ends, count, NULL, &font) == status, "a font", name);
+    check(status == 0 || is_nothing(&font), "what is left of a font", name);
+    check(subsetter_make_pdf_sheet(made, row->glyphs, 2, text, text_count, ends, count, 0, &page) == status, "a sheet", name);
+    check(status == 0 || are_no_objects(&page), "what is left of a sheet", name);
+    subsetter_free_pdf_font(&font);
+    if (status == 0)
+        subsetter_free_pdf_objects(&page);
+}
 
 static void try_texts(const struct row *row)
 {
     static const char name[] = "a text";
     uint32_t text[600] = {'A', 'B', 'C'};
     const size_t ends[] = {1, 2}, longest[] = {256, 512}, longer[] = {257, 512};
-    for (size_t i = 0; i < sizeof ENDS / sizeof *ENDS; i++)
-        check(status_of_text(row, text, 3, ENDS[i].ends, ENDS[i].count) == ENDS[i].status, "ends", name);
-    for (unsigned bit = 2; bit < 8 * sizeof(size_t); bit++)
-        for (int both = 0; both < 2; both++) {
-            const size_t far[] = {1 + (both ? (size_t)1 << bit : 0), 2 + ((size_t)1 << bit)};
-            check(status_of_text(row, text, 2, far, 2) == 12, "a far end", name);
-        }
-    const uint32_t wrong[] = {0xd800, 0xdfff, 0x110000, 0xffffffff}, right[] = {0, 0xd7ff, 0xe000, 0x10ffff};
-    for (int i = 0; i < 4; i++) {
-        text[1] = right[i];
-        check(status_of_text(row, text, 2, ends, 2) == 0, "a character", name);
-        text[1] = wrong[i];
-        check(status_of_text(row, text, 2, ends, 2) == 12, "no character", name);
-    }
-    /* What comes first: options, texts, opening, permission. */
-    subsetter_pdf_font font;
-    const subsetter_pdf_options unknown = {52, 0, 0, 0, 0, 9, 0, 0, 0, 0, 0, {0, 0}};
     const uint8_t *no_font = (const uint8_t *)"no";
+    const subsetter_pdf_options unknown = {52, 0, 0, 0, 0, 9, 0, 0, 0, 0, 0, {0, 0}};
+    subsetter_pdf_font made, font;
+    check(make(row, NULL, &made) == 0, "a font", name);
+    for (size_t i = 0; i < sizeof TEXTS / sizeof *TEXTS; i++)
+        check_text(row, &made, TEXTS[i].text, TEXTS[i].text_count, TEXTS[i].ends, TEXTS[i].count, TEXTS[i].status);
+    for (unsigned bit = 2; bit < 8 * sizeof(size_t); bit++)
+        for (int both = 0; both < 2; both++)
+            check_text(row, &made, text, 2, (const size_t[]){1 + (both ? (size_t)1 << bit : 0), 2 + ((size_t)1 << bit)}, 2, 12);
+    /* What comes first: options, texts, opening, permission. */
     check(subsetter_make_pdf_font(no_font, 2, 0, NULL, 0, row->glyphs, 2, text, 2, ends, 2, &unknown, &font) == 10, "options come first", name);
-    check(subsetter_make_pdf_font(no_font, 2, 0, NULL, 0, row->glyphs, 2, text, 2, ends, 2, NULL, &font) == 12, "texts before opening", name);
-    check(subsetter_make_pdf_font(no_font, 2, 0, NULL, 0, row->glyphs, 2, text, 1, ends, 0, NULL, &font) == 12, "ends before opening", name);
+    check(subsetter_make_pdf_font(no_font, 2, 0, NULL, 0, row->glyphs, 2, text, 1, ends, 0, NULL, &font) == 12, "texts before opening", name);
     check(subsetter_make_pdf_font(no_font, 2, 0, NULL, 0, NULL, 0, NULL, 0, NULL, 0, NULL, &font) == 1, "opening", name);
     for (int i = 0; i < 600; i++)
         text[i] = 'a';
-    check(status_of_text(row, text, 600, longest, 2) == 0 && status_of_text(row, text, 600, longer, 2) == 12, "256 units", name);
+    check(subsetter_make_pdf_font(row->font, row->font_size, 0, NULL, 0, row->glyphs, 2, text, 600, longest, 2, NULL, &font) == 0, "256 units", name);
+    subsetter_free_pdf_font(&font);
+    check(subsetter_make_pdf_font(row->font, row->font_size, 0, NULL, 0, row->glyphs, 2, text, 600, longer, 2, NULL, &font) == 12, "257 units", name);
+    subsetter_free_pdf_font(&made);
 }
 
 /* ---- sheets and objects */
@@ -877,31 +715,18 @@ static void try_sheets(const struct row *row)
     static const char name[] = "a sheet";
     subsetter_pdf_font font;
     subsetter_pdf_objects made;
-    const uint32_t letters[] = {'A', 'B', 'C'}, wrong[] = {0xd800};
     check(make(row, NULL, &font) == 0, "a font", name);
-#define REFUSED(STATUS, ...)                                                                                         \
-    do {                                                                                                             \
-        memset(&made, FILLED, sizeof made);                                                                          \
-        check(subsetter_make_pdf_sheet(&font, row->glyphs, __VA_ARGS__, &made) == (STATUS) && are_no_objects(&made), #STATUS, name); \
-    } while (0)
-    for (uint32_t layout = 2; layout < 300; layout++)
-        REFUSED(10, 2, letters, 3, ENDS[0].ends, 2, layout);
-    for (int i = 0; i < 2 * HIGHS; i++)
-        REFUSED(10, 2, letters, 3, ENDS[0].ends, 2, HIGH[i / 2] + (uint32_t)i % 2);
-    REFUSED(12, 1, wrong, 1, ENDS[0].ends, 1, 0);
-    for (size_t i = 0; i < sizeof ENDS / sizeof *ENDS; i++)
-        if (ENDS[i].status != 0)
-            REFUSED(12, 2, letters, 3, ENDS[i].ends, ENDS[i].count, 0);
-    for (unsigned bit = 2; bit < 8 * sizeof(size_t); bit++)
-        REFUSED(12, 2, letters, 2, ((const size_t[]){1, 2 + ((size_t)1 << bit)}), 2, 0);
+    for (uint32_t i = 2; i < 300 + 2 * HIGHS; i++) {
+        uint32_t layout = i < 300 ? i : HIGH[(i - 300) / 2] + i % 2;
+        memset(&made, FILLED, sizeof made);
+        check(sheet(row, &font, layout, &made) == 10 && are_no_objects(&made), "a layout", name);
+    }
     for (int i = -1; i < HIGHS; i++) {
+        char front[32];
         uint32_t first = i < 0 ? 1 : HIGH[i] + 1;
-        check(subsetter_make_pdf_objects(&font, first, &made) == 0 && made.offset_count > 4 && made.offsets[0] == 0, "a first number", name);
-        for (uint32_t object = 0; object < 5; object += 4) {
-            char front[32];
-            size_t length = (size_t)snprintf(front, sizeof front, "%u 0 obj\n", (unsigned)(first + object));
-            check(made.offset_count > 4 && memcmp(made.bytes + made.offsets[object], front, length) == 0, "the number of an object", name);
-        }
+        size_t length = (size_t)snprintf(front, sizeof front, "%u 0 obj\n", (unsigned)first + 4);
+        check(subsetter_make_pdf_objects(&font, first, &made) == 0 && made.offset_count > 4 && memcmp(made.bytes + made.offsets[4], front, length) == 0,
+            "the number of an object", name);
         subsetter_free_pdf_objects(&made);
     }
     check(subsetter_make_pdf_objects(&font, UINT32_MAX - 7, &made) == 0, "the last number", name);
@@ -1021,24 +846,19 @@ static void try_nulls(const struct row *row)
     }
 }
 
-/* ---- glyphs of a text, faces and permissions */
+/* ---- glyphs of a text, and faces */
 
 static void try_glyphs(const struct row *row)
 {
     static const uint32_t text[] = {'A', 'H', 0x1f600, 'z'}, wrong[] = {'A', 0xdfff};
-    static const uint8_t no[] = {'n', 'o'};
     const struct {
-        const uint8_t *font;
-        size_t font_size;
         const uint32_t *text;
-        size_t text_count, room;
+        size_t font_size, text_count, room, length;
         uint32_t status;
-        size_t length;
         unsigned long refused;
     } calls[] = {
-        {row->font, row->font_size, text, 4, 5, 0, 4, 0}, {row->font, row->font_size, text, 4, 3, 8, 4, 0}, {row->font, row->font_size, wrong, 2, 5, 12, 0, 0},
-        {row->font, 40, text, 4, 5, 2, 0, 0}, {no, 2, text, 4, 5, 1, 0, 0}, {no, 2, wrong, 2, 5, 12, 0, 0}, {no, 2, text, 4, 0, 1, 0, 0},
-        {row->font, row->font_size, text, 4, 5, 7, 0, 1}, {no, 2, text, 4, 5, 1, 0, 1},
+        {text, row->font_size, 4, 5, 4, 0, 0}, {text, row->font_size, 4, 3, 4, 8, 0}, {wrong, row->font_size, 2, 5, 0, 12, 0}, {text, 40, 4, 5, 0, 2, 0},
+        {text, 2, 4, 0, 0, 1, 0}, {wrong, 2, 2, 5, 0, 12, 0}, {text, row->font_size, 4, 5, 0, 7, 1}, {text, 2, 4, 5, 0, 1, 1},
     };
     for (size_t i = 0; i < sizeof calls / sizeof *calls; i++) {
         uint16_t glyphs[5] = {7, 7, 7, 7, 7};
@@ -1047,7 +867,7 @@ static void try_glyphs(const struct row *row)
             continue;
         requests = 0;
         refused = calls[i].refused;
-        uint32_t status = subsetter_glyphs_of(calls[i].font, calls[i].font_size, 0, calls[i].text, calls[i].text_count, glyphs, calls[i].room, &length);
+        uint32_t status = subsetter_glyphs_of(row->font, calls[i].font_size, 0, calls[i].text, calls[i].text_count, glyphs, calls[i].room, &length);
         refused = 0;
         check(status == calls[i].status && length == calls[i].length, "status", "glyphs of a text");
         check(glyphs[4] == 7 && (status == 0 ? glyphs[0] == 1 && glyphs[1] == 9 && glyphs[2] == 6 && glyphs[3] == 0 : glyphs[0] == 7),
@@ -1055,93 +875,34 @@ static void try_glyphs(const struct row *row)
     }
 }
 
-static void put_number(uint8_t *at, uint32_t number, int bytes)
-{
-    while (bytes-- > 0) {
-        at[bytes] = (uint8_t)number;
-        number >>= 8;
-    }
-}
-
-static uint32_t long_at(const uint8_t *at)
-{
-    return (uint32_t)at[0] << 24 | (uint32_t)at[1] << 16 | (uint32_t)at[2] << 8 | at[3];
-}
-
-/* What a font's maker permits, by `fsType`. */
-static void try_permissions(const struct row *row)
-{
-    static const struct {
-        uint32_t fs_type, usage, may_subset, may_embed_outlines;
-    } permissions[] = {
-        {0, SUBSETTER_USAGE_INSTALLABLE, 1, 1}, {2, SUBSETTER_USAGE_RESTRICTED, 1, 1}, {4, SUBSETTER_USAGE_PREVIEW_AND_PRINT, 1, 1},
-        {8, SUBSETTER_USAGE_EDITABLE, 1, 1}, {0x100, SUBSETTER_USAGE_INSTALLABLE, 0, 1}, {0x200, SUBSETTER_USAGE_INSTALLABLE, 1, 0},
-        {0x104, SUBSETTER_USAGE_PREVIEW_AND_PRINT, 0, 1}, {0x302, SUBSETTER_USAGE_RESTRICTED, 0, 0},
-    };
-    struct row other = *row;
-    other.font = memcpy(room(row->font_size), row->font, row->font_size);
-    uint8_t *record = other.font + 12;
-    while (memcmp(record, "OS/2", 4) != 0)
-        record += 16;
-    uint8_t *table = other.font + long_at(record + 8);
-    put_number(table, 4, 2);
-    for (size_t i = 0; i < sizeof permissions / sizeof *permissions; i++) {
-        subsetter_pdf_options options = defaults();
-        subsetter_pdf_font font;
-        uint32_t usage = permissions[i].usage, subset = permissions[i].may_subset, outlines = permissions[i].may_embed_outlines;
-        put_number(table + 8, permissions[i].fs_type, 2);
-        check(status_of(&other, &options) == (usage != SUBSETTER_USAGE_RESTRICTED && subset && outlines ? 0 : 11), "status", "what is permitted");
-        options.rights = SUBSETTER_RIGHTS_HELD;
-        check(make(&other, &options, &font) == 0 && font.usage == usage && font.may_subset == subset && font.may_embed_outlines == outlines,
-            "numbers", "what is permitted");
-        subsetter_free_pdf_font(&font);
-    }
-    __real_free(other.font);
-}
-
-/* A collection of a font and of the same without `cmap` and `OS/2`: each call takes the face that it is given. */
+/* A collection of one face: of another number of a face no bit is lost, and it is refused as such, whatever memory there is. */
 static void try_faces(const struct row *row)
 {
-    size_t front = 12 + 16 * (size_t)row->font[5], shift = 20 + 2 * front, size = shift + row->font_size, length;
-    uint8_t *bytes = memset(room(size), 0, size);
-    put_number(bytes, 0x74746366, 4);
-    put_number(bytes + 4, 0x10000, 4);
-    put_number(bytes + 8, 2, 4);
-    memcpy(bytes + shift, row->font, row->font_size);
-    for (size_t face = 0; face < 2; face++) {
-        uint8_t *directory = bytes + 20 + face * front;
-        put_number(bytes + 12 + 4 * face, (uint32_t)(20 + face * front), 4);
-        memcpy(directory, row->font, front);
-        for (uint8_t *record = directory + 12; record < directory + front; record += 16) {
-            put_number(record + 8, (uint32_t)shift + long_at(record + 8), 4);
-            if (face == 1 && (memcmp(record, "cmap", 4) == 0 || memcmp(record, "OS/2", 4) == 0))
-                record[3]++;
-        }
-    }
-    const uint32_t text[] = {'A'};
-    const size_t ends[] = {1};
-    subsetter_pdf_font font;
-    for (int i = -2; i < HIGHS; i++) {
-        uint32_t face = i < 0 ? (uint32_t)(i + 2) : HIGH[i];
-        uint16_t glyph[] = {7};
-        uint32_t found = subsetter_glyphs_of(bytes, size, face, text, 1, glyph, 1, &length);
-        check(face == 0 ? found == 0 && glyph[0] == 1 : found == 2 && length == 0 && glyph[0] == 7, "glyphs", "a face");
-        const uint16_t shown[] = {1};
-        found = subsetter_make_pdf_font(bytes, size, face, NULL, 0, shown, 1, text, 1, ends, 1, NULL, &font);
-        check(found == (face < 2 ? 0 : 2) && (face < 2 || is_nothing(&font)), "status", "a face");
-        check(face > 1 || (font.usage == SUBSETTER_USAGE_UNSAID) == (face == 1), "what it permits", "a face");
-        subsetter_free_pdf_font(&font);
-    }
-    /* A face that can't be opened is refused as such, whatever memory there is. */
+    static const uint32_t text[] = {'A'};
+    static const uint16_t shown[] = {1};
+    static const size_t ends[] = {1};
     const subsetter_coordinate place = {SUBSETTER_TAG('w', 'g', 'h', 't'), 650 << 16};
-    for (unsigned long request = 1; CAN_REFUSE && request < 8; request++)
-        for (uint32_t face = 1; face < 3; face++) {
+    size_t size = 16 + row->font_size, length;
+    uint8_t *bytes = memcpy(room(size), "ttcf\0\1\0\0\0\0\0\1\0\0\0\20", 16);
+    memcpy(bytes + 16, row->font, row->font_size);
+    for (uint8_t *record = bytes + 28; record < bytes + 28 + 16 * row->font[5]; record += 16) {
+        uint32_t at = ((uint32_t)record[10] << 8 | record[11]) + 16;
+        record[10] = (uint8_t)(at >> 8);
+        record[11] = (uint8_t)at;
+    }
+    for (int i = -1; i < HIGHS; i++)
+        for (unsigned long request = 0; request < (CAN_REFUSE ? 8 : 1); request++) {
+            uint32_t face = i < 0 ? 0 : HIGH[i], found;
+            uint16_t glyph[] = {7};
+            subsetter_pdf_font font;
             requests = 0;
             refused = request;
-            uint32_t status = subsetter_make_pdf_font(bytes, size, face, &place, 1, row->glyphs, 1, text, 1, ends, 1, NULL, &font);
+            found = subsetter_make_pdf_font(bytes, size, face, &place, 1, shown, 1, text, 1, ends, 1, NULL, &font);
             refused = 0;
-            check(face == 2 ? status == 2 : status == 7 || (status == 0 && request > 1), "without memory", "a face");
+            check(i >= 0 ? found == 2 && is_nothing(&font) : found == 0 || (request > 0 && found == 7), "a font", "a face");
             subsetter_free_pdf_font(&font);
+            found = subsetter_glyphs_of(bytes, size, face, text, 1, glyph, 1, &length);
+            check(i < 0 ? found == 0 && glyph[0] == 1 : found == 2 && length == 0 && glyph[0] == 7, "glyphs", "a face");
         }
     __real_free(bytes);
 }
@@ -1150,25 +911,18 @@ int main(int count, char **words)
 {
     static struct row row;
     static void (*const tries[])(const struct row *) = {
-        try_utf8, try_words, try_options, try_tags, try_texts, try_nulls, try_sheets, try_glyphs, try_permissions, try_faces};
+        try_utf8, try_words, try_options, try_texts, try_nulls, try_sheets, try_glyphs, try_faces};
     size_t size, rows = 0;
-    int damaged = 1000;
-    for (int i = 1; i < count; i++) {
-        if (strcmp(words[i], "--brief") == 0)
-            damaged = damaged < 100 ? damaged : 100;
-        else if (strcmp(words[i], "--undamaged") == 0)
-            damaged = 0;
-        else
-            folder = words[i];
-    }
-    if (folder == NULL)
+    if (count < 2)
         return 2;
+    folder = words[count - 1];
     char *whole = (char *)file_of("pdf_rows.txt", &size), *text = whole;
     while ((text = read_row(&row, text)) != NULL) {
         answer(&row);
         if (CAN_REFUSE)
             refuse(&row);
-        damage(&row, damaged);
+        if (count == 2)
+            damage(&row, 1000);
         for (size_t i = 0; rows == 0 && i < sizeof tries / sizeof *tries; i++)
             tries[i](&row);
         __real_free(row.font);
@@ -1176,7 +930,6 @@ int main(int count, char **words)
     }
     __real_free(whole);
     try_limits();
-    try_programs();
     try_lists_alone();
     try_empty();
     printf("C: %zu rows for PDF, %zu checks, %zu failed\n", rows, checks, failures);

@@ -1,8 +1,11 @@
-/* Each row of a table by the calls that subset and embed: test [--brief] ROWS..
+/* Each row of a table by the calls that subset and embed: test [--brief] ROWS
  *
  * In buffers that are exact, larger, too small and null, and in memory of the library; options of all sizes and as words; numbers
  * of which no bit may be lost; each request for memory refused in turn; and two threads. --brief is for Valgrind and qemu: fonts
- * that take long are subset once. SUBSETTER_BY_CARGO is for the library of bindings/capi, which asks for memory in another way. */
+ * that take long are subset once. SUBSETTER_BY_CARGO is for the library of bindings/capi, which asks for memory in another way.
+ *
+ * Or so many damaged fonts with any glyphs, coordinates, options and buffers: test --damaged COUNT ROWS. The last line has a sum over
+ * all answers: two libraries, or two processors, that print the same one gave the same answers. */
 #include "subsetter.h"
 
 #include "counted.h"
@@ -13,7 +16,9 @@ static int is_brief;
 
 /* ---- rows */
 
-enum { MOST = 1024, WORDS = 14, BEHIND = 8, FILLED = 0xA5 };
+enum { MOST = 1024, WORDS = 14, FILLED = 0xA5 };
+/* So many items behind each buffer are looked at. */
+static size_t behind = 8;
 
 struct row {
     char *words[WORDS];
@@ -22,7 +27,8 @@ struct row {
     const uint16_t *glyphs, *cids;
     const uint32_t *widths;
     const subsetter_coordinate *coordinates;
-    size_t font_size, size, glyph_count, cid_count, width_count, coordinate_count;
+    const uint32_t *list;
+    size_t font_size, size, glyph_count, cid_count, width_count, coordinate_count, list_count;
     uint32_t index, status;
     subsetter_options options;
     int embeds, limits, has_words, varies;
@@ -133,35 +139,27 @@ static void add_row(char **words)
     }
 }
 
-/* The text of a status, by the header and by the library. */
-static void check_text(uint32_t status, const char *digits)
+/* The text of a status, by the header and by the library, in a buffer with room, with none, and one byte short. */
+static void check_text(uint32_t status, const uint8_t *wanted, size_t size)
 {
     uint8_t text[64] = {FILLED};
-    size_t size, length = 99;
-    uint8_t *wanted = hex(digits, &size);
+    size_t length = 99;
     const char *of_header = subsetter_status_text(status);
-    check(strlen(of_header) == size && memcmp(of_header, wanted, size) == 0, "the text of the header", digits);
-    check(subsetter_error_text(status, text, size - 1, &length) == 8 && length == size && text[0] == FILLED, "a text too long", digits);
-    check(subsetter_error_text(status, NULL, 0, &length) == 8 && length == size, "no room for a text", digits);
+    check(strlen(of_header) == size && memcmp(of_header, wanted, size) == 0, "the text of the header", of_header);
+    check(subsetter_error_text(status, text, size - 1, &length) == 8 && length == size && text[0] == FILLED, "a text too long", of_header);
+    check(subsetter_error_text(status, NULL, 0, &length) == 8 && length == size, "no room for a text", of_header);
     text[size] = FILLED;
-    check(subsetter_error_text(status, text, sizeof text, &length) == 0 && length == size, "a text", digits);
-    check(memcmp(text, wanted, size) == 0 && text[size] == FILLED, "its bytes", digits);
-    __real_free(wanted);
+    check(subsetter_error_text(status, text, sizeof text, &length) == 0 && length == size, "a text", of_header);
+    check(memcmp(text, wanted, size) == 0 && text[size] == FILLED, "its bytes", of_header);
 }
 
-/* No bit of a status is lost; and the texts of the header are the library's. */
+/* No bit of a status is lost. */
 static void check_texts(void)
 {
+    static const char unknown[] = "unknown status";
     for (uint32_t status = 0; status < 300; status++)
-        for (int bit = 8; bit < 33; bit++) {
-            uint32_t it = bit < 32 ? status | 1u << bit : status;
-            const char *wanted = it > SUBSETTER_INVALID_TEXT && it != SUBSETTER_INVALID_NUMBERS ? "unknown status" : subsetter_status_text(it);
-            uint8_t text[64];
-            size_t length = 0;
-            check(strcmp(subsetter_status_text(it), wanted) == 0, "the text of the header", "a status");
-            check(subsetter_error_text(it, text, sizeof text, &length) == 0 && length == strlen(wanted) && memcmp(text, wanted, length) == 0,
-                "the text of the library", "a status");
-        }
+        for (int bit = 8; bit < 32; bit++)
+            check_text(status | 1u << bit, (const uint8_t *)unknown, sizeof unknown - 1);
 }
 
 static void read_line(char *line)
@@ -179,7 +177,10 @@ static void read_line(char *line)
         font->name = words[1];
         font->bytes = hex(words[2], &font->size);
     } else if (strcmp(words[0], "text") == 0) {
-        check_text(number(words[1]), words[2]);
+        size_t size;
+        uint8_t *text = hex(words[2], &size);
+        check_text(number(words[1]), text, size);
+        __real_free(text);
     } else if (strstr(kinds, kind) != NULL && row_count < MOST) {
         add_row(words);
     } else {
@@ -218,7 +219,7 @@ static void *filled(size_t size)
 
 static struct answer prepared(size_t size, size_t cids, size_t widths)
 {
-    return (struct answer){filled(size + BEHIND), filled(2 * (cids + BEHIND)), filled(4 * (widths + BEHIND)), size, cids, widths, {77, 77, 77}, 0};
+    return (struct answer){filled(size + behind), filled(2 * (cids + behind)), filled(4 * (widths + behind)), size, cids, widths, {77, 77, 77}, 0};
 }
 
 static struct answer exact(const struct row *row)
@@ -237,6 +238,7 @@ static void give_up(struct answer *a)
 #define PLACE row->coordinates, row->coordinate_count
 #define GLYPHS row->glyphs, row->glyph_count
 #define ALONE a->font, a->room, &a->sizes.font
+#define LIST row->list, row->list_count
 #define WHOLE a->font, a->room, a->cids, a->cid_room, a->widths, a->width_room, &a->sizes
 
 /* By the call that takes these options. */
@@ -284,6 +286,33 @@ static uint32_t make(const struct row *row, const subsetter_options *options, su
     return subsetter_make_subset(FONT, GLYPHS, options, made);
 }
 
+/* By the call that takes a list of words. */
+static void call_by_words(const struct row *row, struct answer *a)
+{
+    if (!row->embeds)
+        a->sizes.cids = a->sizes.widths = 0;
+    if (row->embeds && row->varies)
+        a->status = subsetter_embed_at_by_words(FONT, PLACE, GLYPHS, LIST, WHOLE);
+    else if (row->embeds)
+        a->status = subsetter_embed_by_words(FONT, GLYPHS, LIST, WHOLE);
+    else if (row->varies)
+        a->status = subsetter_subset_at_by_words(FONT, PLACE, GLYPHS, LIST, ALONE);
+    else
+        a->status = subsetter_subset_by_words(FONT, GLYPHS, LIST, ALONE);
+}
+
+static uint32_t make_by_words(const struct row *row, subsetter_made *made)
+{
+    memset(made, FILLED, sizeof *made);
+    if (row->embeds && row->varies)
+        return subsetter_make_embedded_at_by_words(FONT, PLACE, GLYPHS, LIST, made);
+    if (row->embeds)
+        return subsetter_make_embedded_by_words(FONT, GLYPHS, LIST, made);
+    if (row->varies)
+        return subsetter_make_subset_at_by_words(FONT, PLACE, GLYPHS, LIST, made);
+    return subsetter_make_subset_by_words(FONT, GLYPHS, LIST, made);
+}
+
 static int all_are_filled(const void *block, size_t from, size_t to)
 {
     for (size_t i = from; i < to; i++)
@@ -295,8 +324,8 @@ static int all_are_filled(const void *block, size_t from, size_t to)
 /* Nothing is written behind so many items. */
 static int untouched(const struct answer *a, size_t size, size_t cids, size_t widths)
 {
-    return all_are_filled(a->font, size, a->room + BEHIND) && all_are_filled(a->cids, 2 * cids, 2 * (a->cid_room + BEHIND))
-        && all_are_filled(a->widths, 4 * widths, 4 * (a->width_room + BEHIND));
+    return all_are_filled(a->font, size, a->room + behind) && all_are_filled(a->cids, 2 * cids, 2 * (a->cid_room + behind))
+        && all_are_filled(a->widths, 4 * widths, 4 * (a->width_room + behind));
 }
 
 static int has_sizes(const struct answer *a, size_t size, size_t cids, size_t widths)
@@ -439,35 +468,7 @@ static void check_memory(const struct row *row)
     refused = 0;
 }
 
-/* ---- other calls and options that say the same */
-
-static int has_bytes(const struct row *row, const char *tag)
-{
-    for (size_t i = 0; i + 4 <= row->font_size; i++)
-        if (memcmp(row->font + i, tag, 4) == 0)
-            return 1;
-    return 0;
-}
-
-/* A row of defaults by the other calls that can say it, so that each call has each face. */
-static void check_other_calls(const struct row *row)
-{
-    struct row other = *row;
-    if (row->limits || row->varies || row->options.tokens != 0 || row->options.depth != 0 || row->options.drop != 0 || row->options.bytes != 0)
-        return;
-    if (!row->embeds) {
-        other.limits = 1;
-        other.has_words = 0;
-        other.options.tokens = 1000000;
-        other.options.depth = 64;
-        check_whole(&other, 0);
-    }
-    if (has_bytes(row, "fvar") || has_bytes(row, "CFF2"))
-        return;
-    other = *row;
-    other.varies = other.has_words = 1;
-    check_whole(&other, 0);
-}
+/* ---- options that say the same */
 
 /* Options of so many bytes, behind which there is rubbish: they are answered, or the size is unknown. */
 static void check_size(const struct row *row, uint32_t size, int is_known)
@@ -567,37 +568,11 @@ static void check_wide_options(const struct row *row)
     }
 }
 
-/* One of the first requests for memory is refused: a face that isn't there is refused as such by each call, and of the others it is
- * memory that lacks. */
-static void check_opening(const struct row *row, uint32_t face, int kind, unsigned long request)
-{
-    struct row other = *row;
-    struct answer a = exact(row);
-    subsetter_made made;
-    other.index = face;
-    other.varies = kind % 2;
-    other.embeds = kind / 2;
-    for (int call = 0; call < 2; call++) {
-        refused = request;
-        requests = 0;
-        uint32_t status = call == 0 ? (call_with(&other, &row->options, &a), a.status) : make(&other, &row->options, &made);
-        refused = 0;
-        check(face > 1 ? status == 2 : status == 7 || (status == row->status && request > 1), "a face without memory", row->name);
-    }
-    subsetter_free(&made);
-    give_up(&a);
-}
-
-/* The row's font has two faces: a face that isn't there, though it is the row's but for one bit, by each call. */
+/* The row's font has two faces: a face that isn't there, though it is the row's but for one bit, is refused as such by each call, also
+ * where one of the first requests for memory is refused. */
 static void check_faces(const struct row *row)
 {
-    static const uint32_t faces[] = {1, 2, 65537};
-    if (row->status != 0)
-        return;
-    for (unsigned long request = 1; CAN_REFUSE && row->varies && request < 5; request++)
-        for (int i = 0; i < 12; i++)
-            check_opening(row, faces[i % 3], i / 3, request);
-    for (int i = 0; !row->varies && i < HIGHS; i++)
+    for (int i = 0; row->status == 0 && i < HIGHS; i++)
         for (int kind = 0; kind < 7; kind++) {
             struct row other = *row;
             other.index += HIGH[i];
@@ -609,9 +584,15 @@ static void check_faces(const struct row *row)
             other.varies = kind % 3 == 2;
             other.has_words = kind % 3 != 0;
             other.options.depth = (uint32_t)other.limits;
-            check_whole(&other, 0);
-            if (!other.limits)
-                check_made(&other);
+            for (unsigned long request = 0; request < (CAN_REFUSE ? 5 : 1); request++) {
+                subsetter_made made;
+                refused = request;
+                requests = 0;
+                check_whole(&other, 0);
+                requests = 0;
+                check(other.limits || (make(&other, &other.options, &made) == 2 && is_nothing(&made)), "made of another face", row->name);
+            }
+            refused = 0;
         }
 }
 
@@ -648,24 +629,19 @@ static void check_last_bit(const struct row *row)
 /* The row's font has no metrics, so that it can't be embedded; unknown words are refused first. */
 static void check_word_list(const struct row *row, const uint32_t *words, size_t count, uint32_t status)
 {
-    size_t size = status == 0 ? row->size : 0;
     for (int embeds = 0; embeds < 2; embeds++) {
-        struct answer all = exact(row), *a = &all;
+        struct row other = *row;
+        struct answer a = exact(row);
         subsetter_made made;
-        memset(&made, FILLED, sizeof made);
-        if (embeds) {
-            status = status == 0 ? 2 : status;
-            a->status = subsetter_embed_by_words(FONT, GLYPHS, words, count, WHOLE);
-            check(subsetter_make_embedded_by_words(FONT, GLYPHS, words, count, &made) == status && is_nothing(&made), "made by words", row->name);
-        } else {
-            a->sizes.cids = a->sizes.widths = 0;
-            a->status = subsetter_subset_by_words(FONT, GLYPHS, words, count, ALONE);
-            check(subsetter_make_subset_by_words(FONT, GLYPHS, words, count, &made) == status && made.font_size == size
-                && is_same(made.font, row->bytes, size) && made.cid_count == 0 && made.width_count == 0, "made by words", row->name);
-        }
-        check(status == 0 ? is_right(row, a) : is_refusal(a, status), "words", row->name);
+        other.list = words;
+        other.list_count = count;
+        other.embeds = embeds;
+        status = embeds && status == 0 ? 2 : status;
+        call_by_words(&other, &a);
+        check(status == 0 ? is_right(row, &a) : is_refusal(&a, status), "words", row->name);
+        check(make_by_words(&other, &made) == status && (status == 0 ? is_made(row, &made) : is_nothing(&made)), "made by words", row->name);
         subsetter_free(&made);
-        give_up(a);
+        give_up(&a);
     }
 }
 
@@ -684,6 +660,172 @@ static void check_words(const struct row *row)
     };
     for (size_t i = 0; i < sizeof lists / sizeof *lists; i++)
         check_word_list(row, lists[i].words, lists[i].count, lists[i].status);
+}
+
+/* ---- damaged fonts */
+
+static uint64_t state = 88172645463325253u, sum = 14695981039346656037u;
+
+/* A number below the limit. */
+static uint32_t below(uint32_t limit)
+{
+    state ^= state >> 12;
+    state ^= state << 25;
+    state ^= state >> 27;
+    return (uint32_t)((((state * 2685821657736338717u) >> 32) * limit) >> 32);
+}
+
+/* True in one of so many cases. */
+static int once_in(uint32_t cases)
+{
+    return below(cases) == 0;
+}
+
+/* A number at which programs break, or any. */
+static uint32_t edge(void)
+{
+    static const uint32_t edges[] = {0, 1, 2, 3, 4, 127, 128, 255, 256, 32767, 32768, 65535, 65536, 2147483647u, 2147483648u,
+        4294967294u, 4294967295u};
+    return once_in(4) ? below(UINT32_MAX) : edges[below(sizeof edges / sizeof *edges)];
+}
+
+static void add(const void *bytes, size_t size)
+{
+    for (size_t i = 0; i < size; i++)
+        sum = (sum ^ ((const uint8_t *)bytes)[i]) * 1099511628211u;
+}
+
+/* A number as its bytes, the lowest first, on each platform. */
+static void add_number(uint64_t number)
+{
+    for (int i = 0; i < 8; i++, number >>= 8)
+        add(&(uint8_t){(uint8_t)number}, 1);
+}
+
+/* A list in a block of its own; one of no items may be null. */
+static void *list_of(size_t count, size_t size)
+{
+    return count == 0 && once_in(2) ? NULL : filled(count * size);
+}
+
+/* A font of the rows, at times cut or longer, with some numbers at which programs break. */
+static void damage_font(struct row *row, const struct named_font *source)
+{
+    size_t size = once_in(30) ? below((uint32_t)source->size + 1) : source->size + (once_in(12) ? below(64) : 0);
+    uint8_t *font = list_of(size, 1);
+    row->font = font;
+    row->font_size = size;
+    if (size == 0)
+        return;
+    memcpy(font, source->bytes, size < source->size ? size : source->size);
+    for (uint32_t left = once_in(3) ? 0 : below(4); left > 0; left--) {
+        size_t at = below((uint32_t)size), from = below((uint32_t)size), most = size - (from > at ? from : at);
+        uint32_t number = edge(), bytes = 1u << below(3);
+        if (once_in(3))
+            font[at] ^= (uint8_t)(1u << below(8));
+        else if (once_in(5))
+            memmove(font + at, font + from, most < 32 ? most : 32);
+        else
+            for (uint32_t i = 0; i < bytes && at + i < size; i++)
+                font[at + i] = (uint8_t)(number >> 8 * (bytes - 1 - i));
+    }
+}
+
+/* Glyphs, coordinates and words of options: mostly known ones, where the limits keep a call short. */
+static void draw_lists(struct row *row)
+{
+    static const uint32_t tags[] = {SUBSETTER_TAG('w', 'g', 'h', 't'), SUBSETTER_TAG('w', 'd', 't', 'h')};
+    uint32_t start = below(65536), most = once_in(6) ? 65536 : 1 + below(3);
+    row->glyph_count = once_in(2000) ? below(66000) : below(6);
+    uint16_t *glyphs = list_of(row->glyph_count, sizeof *glyphs);
+    for (uint32_t i = 0; i < row->glyph_count; i++)
+        glyphs[i] = (uint16_t)(row->glyph_count > 6 ? start + i : below(most));
+    row->coordinate_count = below(4);
+    subsetter_coordinate *place = list_of(row->coordinate_count, sizeof *place);
+    for (size_t i = 0; i < row->coordinate_count; i++) {
+        place[i].tag = once_in(8) ? edge() : tags[once_in(4)];
+        place[i].value = (int32_t)(once_in(3) ? edge() : below(1000u << 16));
+    }
+    row->list_count = below(once_in(8) ? 7 : 6);
+    uint32_t *list = list_of(row->list_count, sizeof *list);
+    for (size_t i = 0; i < row->list_count; i++) {
+        uint32_t number = below(3000);
+        const uint32_t known[] = {(uint32_t)(4 * row->list_count), 1 + number, number % 70, number % 8, number % 3 == 0 ? number : 0, 0};
+        list[i] = once_in(60) ? edge() : known[i];
+    }
+    if (row->list_count > 1 && list[1] > 3000)
+        list[1] = 3000;
+    row->glyphs = glyphs;
+    row->coordinates = place;
+    row->list = list;
+}
+
+/* Room for so many items, for fewer, or for none. */
+static size_t drawn_room(uint32_t most)
+{
+    return once_in(6) ? 0 : once_in(6) ? below(most) : most;
+}
+
+/* A call: what it answers is what the header says for any font, and the same in memory of the library. Whether it is accepted. */
+static int is_accepted(struct row *row, const struct named_font *source)
+{
+    struct answer a = {.sizes = {77, 77, 77}};
+    subsetter_made made;
+    damage_font(row, source);
+    draw_lists(row);
+    row->index = once_in(6) ? edge() : 0;
+    row->embeds = (int)below(2);
+    row->varies = (int)below(2);
+    a.font = list_of(a.room = drawn_room(800), 1);
+    a.cids = list_of(a.cid_room = drawn_room(10), 2);
+    a.widths = list_of(a.width_room = drawn_room(20), 4);
+    call_by_words(row, &a);
+    int is_done = a.status == 0, fits = a.sizes.font <= a.room && a.sizes.cids <= a.cid_room && a.sizes.widths <= a.width_room;
+    check(a.status <= SUBSETTER_UNKNOWN_OPTION, "a status that isn't known", row->name);
+    check(is_done ? fits && a.sizes.font != 0 : a.status == 8 ? !fits : has_sizes(&a, 0, 0, 0), "sizes beside a status", row->name);
+    check(is_done && fits ? untouched(&a, a.sizes.font, a.sizes.cids, a.sizes.widths) : untouched(&a, 0, 0, 0), "what is behind the answer", row->name);
+    uint32_t status = make_by_words(row, &made);
+    check(status == (a.status == 8 ? 0 : a.status), "another status in memory of the library", row->name);
+    check(has_sizes(&a, made.font_size, made.cid_count, made.width_count), "other sizes there", row->name);
+    check(!is_done || (is_same(made.font, a.font, made.font_size) && is_same(made.cids, a.cids, 2 * made.cid_count)
+        && is_same(made.widths, a.widths, 4 * made.width_count)), "another answer there", row->name);
+    add_number(a.status);
+    add_number(made.font_size);
+    add(made.font, made.font_size);
+    for (size_t i = 0; i < made.cid_count; i++)
+        add_number(made.cids[i]);
+    for (size_t i = 0; i < made.width_count; i++)
+        add_number(made.widths[i]);
+    subsetter_free(&made);
+    give_up(&a);
+    __real_free((void *)row->font);
+    __real_free((void *)row->glyphs);
+    __real_free((void *)row->coordinates);
+    __real_free((void *)row->list);
+    return status == 0;
+}
+
+static int damaged(unsigned long count)
+{
+    static struct named_font small[MOST];
+    size_t small_count = 0, accepted = 0;
+    is_counted = 0;
+    behind = 0;
+    /* (a million tokens, and 262,144 components, take long) */
+    for (size_t i = 0; i < font_count; i++)
+        if (fonts[i].size <= 8000 && strstr(fonts[i].name, "token") == NULL && strstr(fonts[i].name, "doubled") == NULL)
+            small[small_count++] = fonts[i];
+    check(small_count >= 100, "the rows have 100 fonts", "damaged");
+    for (unsigned long turn = 1; turn <= count && failures == 0; turn++) {
+        char name[40];
+        struct row row = {.name = name};
+        snprintf(name, sizeof name, "damaged: call %lu", turn);
+        accepted += is_accepted(&row, &small[below((uint32_t)small_count)]);
+    }
+    check(accepted >= count / 20, "so few are accepted that the answers aren't tested", "damaged");
+    printf("C: %lu damaged fonts, %zu accepted, sum %08lx%08lx, %zu failed\n", count, accepted, (unsigned long)(sum >> 32),
+        (unsigned long)(sum & 4294967295u), failures);
+    return failures != 0;
 }
 
 /* ---- all */
@@ -745,7 +887,6 @@ static void check_row(const struct row *row)
     check_memory(row);
     if (!has_options(row))
         return;
-    check_other_calls(row);
     check_options(row);
 }
 
@@ -764,9 +905,12 @@ static void check_named(int word, const char *name, void (*checked)(const struct
 int main(int argc, char **argv)
 {
     size_t end_count = 0;
-    is_brief = argc > 1 && strcmp(argv[1], "--brief") == 0;
-    for (int i = 1 + is_brief; i < argc; i++)
-        read_rows(argv[i]);
+    is_brief = argc > 2 && strcmp(argv[1], "--brief") == 0;
+    if (argc < 2)
+        return 2;
+    read_rows(argv[argc - 1]);
+    if (argc > 3 && strcmp(argv[1], "--damaged") == 0)
+        return damaged(strtoul(argv[2], NULL, 10));
     for (const struct row *row = rows; row < rows + row_count; row++) {
         check_row(row);
         if (row->coordinate_count == 1 && row->coordinates[0].value == INT32_MAX && row->status == 0) {

@@ -25,13 +25,6 @@ test("the files of the package", () => {
     assert.equal(join(top, manifest.main), join(top, manifest.exports["."].default));
 });
 
-test("a source that is newer than the package makes it anew", () => {
-    for (const source of ["../rust/src/lib.rs", "../rust/src/proved/subsetter/mod.rs", "../capi/src/status.rs", "module/lib.rs", "module/heap.rs", "../../VERSION"]) {
-        assert.ok(read(`bindings/js/${source}`).length > 0);
-        assert.match(execFileSync("make", ["-n", "-W", source, "package"], { cwd: path("bindings/js"), encoding: "utf8" }), /--crate-name subsetter_wasm .*\n(.*\n)*.*npm pack/);
-    }
-});
-
 test("a program that takes the package", () => {
     writeFileSync(join(folder, "program.mjs"), `import { load, UnknownKind } from "subsetter-proved";
         const subsetter = await load(), url = import.meta.resolve("subsetter-proved/subsetter.wasm");

@@ -92,9 +92,9 @@ const words = (text) => text.split(" ").filter((it) => it);
 export function readPdfRows(text) {
     return text.split(/\n\n+/).map((block) => block.replace(/^#.*\n?/gm, "")).filter((block) => block.trim()).map((block) => {
         const row = { object: [] };
-        for (const [, name, lines, value] of block.matchAll(/^(\w+) ?(?:<<\n((?:.*\n)*?)>>|(.*))$/gm)) {
+        for (const [, name, value] of block.matchAll(/^(\w+) ?(.*)$/gm)) {
             if (name === "object") row.object.push(value.replace(/^\d+ /, ""));
-            else row[name] = lines ?? value;
+            else row[name] = value.replaceAll("~", "\n");
         }
         return row;
     });

@@ -82,11 +82,9 @@ def read_rows():
 
 def pdf_rows():
     """The rows for PDF as dicts of fields; `object` has a list of them."""
-    rows, row, lines = [], {}, iter(PDF_ROWS.read_text().split("\n"))
-    for line in lines:
-        name, _, value = line.partition(" ")
-        if value == "<<":
-            value = "".join(it + "\n" for it in iter(lines.__next__, ">>"))
+    rows, row = [], {}
+    for line in PDF_ROWS.read_text().split("\n"):
+        name, _, value = line.replace("~", "\n").partition(" ")
         if not line and row:
             rows.append(row)
             row = {}

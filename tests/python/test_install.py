@@ -56,8 +56,9 @@ def files_of(folder):
     return {path: path.read_bytes() for path in folder.rglob("*") if path.is_file() and "__pycache__" not in path.parts}
 
 
-def check_wheel(path, platform, library, traces):
-    """The files of a wheel, and that the library names no folder of this machine: its bytes."""
+def check_wheel(path, platform, traces):
+    """The files of a wheel, and that the library names no folder of this machine."""
+    library = "libsubsetter.so"
     assert path.name == f"{FRONT}-py3-none-{platform}.whl"
     with zipfile.ZipFile(path) as file:
         parts = {name: file.read(name) for name in file.namelist()}
@@ -77,7 +78,6 @@ def check_wheel(path, platform, library, traces):
     assert parts[f"{INFO}/WHEEL"].decode().split("\n")[2:] == ["Root-Is-Purelib: false", f"Tag: py3-none-{platform}", ""]
     data = parts[f"subsetter/{library}"]
     assert len(data) > 100_000 and not any(str(trace).encode() in data for trace in traces)
-    return data
 
 
 def test_tags(tmp_path):
@@ -97,11 +97,9 @@ def test_sdist(tmp_path):
     assert (tmp_path / f"{FRONT}.tar.gz").read_bytes() == whole
     with tarfile.open(tmp_path / f"{FRONT}.tar.gz") as file:
         members = file.getmembers()
-    own = {"PKG-INFO", "LICENSE", "NOTICE", "README.md", "pyproject.toml", "subsetter_build.py", "subsetter/__init__.py", "subsetter/py.typed",
-           "crates/capi/Cargo.toml", "crates/capi/Cargo.lock", "crates/capi/build.rs", "crates/rust/Cargo.toml", "crates/rust/README.md"}
-    for name in ("capi", "rust"):
-        folder = ROOT / "bindings" / name
-        own |= {f"crates/{name}/{path.relative_to(folder)}" for path in (folder / "src").rglob("*") if path.is_file()}
+    own = {path.relative_to(ROOT / "bindings") for name in ("capi", "rust") for path in (ROOT / "bindings" / name / "src").rglob("*") if path.is_file()}
+    own = {f"crates/{path}" for path in own} | {f"crates/{name}/Cargo.toml" for name in ("capi", "rust")} | {"crates/capi/Cargo.lock", "crates/capi/build.rs", "crates/rust/README.md"}
+    own |= {"PKG-INFO", "LICENSE", "NOTICE", "README.md", "pyproject.toml", "subsetter_build.py", "subsetter/__init__.py", "subsetter/py.typed"}
     assert {it.name for it in members} == {f"{FRONT}/{name}" for name in own}
     assert {(it.mtime, it.uid, it.uname, it.mode) for it in members} == {(315532800, 0, "", 0o644)}
 
@@ -129,7 +127,7 @@ def test_wheel_of_the_sdist(room, tmp_path):
     (room / "away").rename(room / "clone")
     assert ran.returncode == 0, ran.stdout
     [wheel] = (tmp_path / "wheel").iterdir()
-    check_wheel(wheel, re.sub(r"\W", "_", sysconfig.get_platform()), "libsubsetter.so", [tmp_path, "/tmp/", ROOT])
+    check_wheel(wheel, re.sub(r"\W", "_", sysconfig.get_platform()), [tmp_path, "/tmp/", ROOT])
 
 
 def test_without_cargo(room, tmp_path):

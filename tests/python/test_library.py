@@ -1,4 +1,4 @@
-"""Where the library is looked for and what is refused of one; the module in threads and forked processes, and twice."""
+"""Where the library is looked for and what is refused of one; the module in threads and forked processes."""
 
 import os
 import re
@@ -61,7 +61,7 @@ def test_places(places):
     assert f"  {beside}: {beside}: " in loaded() and f"  {built}: {built}: " in loaded()
 
 
-@pytest.mark.parametrize("system, name", [("linux", "libsubsetter.so"), ("freebsd14", "libsubsetter.so"), ("darwin", "libsubsetter.dylib"), ("win32", "subsetter.dll")])
+@pytest.mark.parametrize("system, name", [("freebsd14", "libsubsetter.so"), ("darwin", "libsubsetter.dylib"), ("win32", "subsetter.dll")])
 def test_systems(places, system, name):
     """(A library of this machine loads under each name. Windows has no call for what a fork leaves.)"""
     beside, loaded = places[0][2].parent / name, places[1]
@@ -168,7 +168,7 @@ def test_two_first_calls_at_once():
     """) == "True True\n"
 
 
-# ---- forked processes, the module twice
+# ---- forked processes
 
 def test_forked_processes():
     """What was loaded and made before is there in both, also where another thread was about to load the library."""
@@ -212,21 +212,3 @@ def test_forked_processes():
         other.join()
         print(answers(subsetter) == wanted)
     """) == "0 True 0 True 0 True\n"
-
-
-def test_the_module_twice():
-    """Loaded again beside what was made before, and a copy of it, where another module declares Python's own calls as it likes."""
-    assert child("""
-        import ctypes, importlib, importlib.util
-        from programs import *
-
-        font, error, call = subsetter.pdf_font(made("made.ttf"), [(1, "A"), (5, "fi")]), subsetter.UnknownKind, subsetter.subset
-        before = parts(font)
-        importlib.reload(subsetter)
-        print(answers(subsetter) == wanted, parts(font) == before, subsetter.UnknownKind is not error, call(made("made.ttf"), [1, 5]) == wanted[0])
-        spec = importlib.util.spec_from_file_location("other", subsetter.__file__)
-        other = importlib.util.module_from_spec(spec)
-        spec.loader.exec_module(other)
-        ctypes.pythonapi.PyObject_GetBuffer.argtypes = ctypes.pythonapi.PyBuffer_Release.argtypes = [ctypes.c_int]
-        print(all(answers(it) == wanted for it in (subsetter, other) * 2), parts(other.pdf_font(made("made.ttf"), [(1, "A"), (5, "fi")])) == before)
-    """) == "True True True True\nTrue True\n"

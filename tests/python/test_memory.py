@@ -1,34 +1,8 @@
-"""Memory: what is given back, what isn't copied, and what comes of a refused request."""
+"""Memory: what stays during a call, what isn't copied, what comes of a refused request, and that all is given back."""
 
-import subsetter
-from common import HERE, child, made, raised, read_rows, shared_library
+from common import HERE, child, read_rows, shared_library
 
-FONTS, TTF = read_rows()[1], made("made.ttf")
-
-
-def growth(call):
-    """By how many bytes the process grows in many calls."""
-    def resident():
-        with open("/proc/self/statm") as file:
-            return int(file.read().split()[1]) * 4096
-
-    for _ in range(100):
-        call()
-    before = resident()
-    for _ in range(5000):
-        call()
-    return resident() - before
-
-
-def test_answers_are_given_back():
-    long, many, glyphs = FONTS["long_glyph"], FONTS["many_glyphs"], list(range(1, 300))
-    font = subsetter.pdf_font(TTF, [(1, "A")] * 100)
-    calls = [
-        lambda: subsetter.subset(long, [1]), lambda: subsetter.subset(long, [1], coordinates={"wght": 1}), lambda: subsetter.embed(many, glyphs),
-        lambda: raised(subsetter.embed, many, [300]), lambda: subsetter.pdf_font(TTF, [(1, "A")]), lambda: font.objects(4), font.sheet,
-        lambda: raised(font.objects, 2**32 - 1), lambda: raised(subsetter.pdf_font, TTF, [(60000, "A")]), lambda: subsetter.glyphs_of(TTF, "A" * 300),
-    ]
-    assert [growth(call) < 2_000_000 for call in calls] == [True] * len(calls)
+FONTS = read_rows()[1]
 
 
 def test_lists_are_there_until_the_end_of_a_call():

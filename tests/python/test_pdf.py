@@ -4,13 +4,14 @@ import copy
 import ctypes
 import pickle
 import re
+import types
 import warnings
 from pathlib import Path
 
 import pytest
 import subsetter
 from common import ROOT, made, raised, read_rows, run
-from hypothesis import given, strategies as st
+from hypothesis import example, given, strategies as st
 
 FONTS = read_rows()[1]
 TTF, SHOWN = made("made.ttf"), [(1, "A"), (5, "fi"), (1, "a")]
@@ -26,7 +27,9 @@ def test_glyphs_of_a_text():
     assert type(raised(subsetter.glyphs_of, b"no", "A")) is subsetter.UnknownKind
 
 
-@given(st.text(st.characters(), max_size=300))
+@given(st.text(st.characters(), max_size=300) | st.text("\ud800\udbff\udc00\udfffA", max_size=3))
+@example("a" * 256)
+@example("a" * 257)
 def test_texts(text):
     is_surrogate = any(0xD800 <= ord(it) < 0xE000 for it in text)
     error = raised(subsetter.glyphs_of, TTF, text)
@@ -34,16 +37,6 @@ def test_texts(text):
     units = sum(1 + (ord(it) > 0xFFFF) for it in text)
     error = raised(subsetter.pdf_font, TTF, [(1, text)])
     assert type(error) is (subsetter.InvalidText if is_surrogate or units > 256 else type(None))
-
-
-@given(st.text("\ud800\udbff\udc00\udfffA", min_size=1, max_size=3))
-def test_surrogates(text):
-    assert (type(raised(subsetter.glyphs_of, TTF, text)) is subsetter.InvalidText) == (text.strip("A") != "")
-
-
-def test_the_longest_text():
-    assert raised(subsetter.pdf_font, TTF, [(1, "a" * 256)]) is None
-    assert type(raised(subsetter.pdf_font, TTF, [(1, "a" * 257)])) is subsetter.InvalidText
 
 
 def test_no_texts_and_no_entries():
@@ -57,27 +50,15 @@ def test_no_texts_and_no_entries():
     assert nothing.codes == [] and nothing.objects(1).offsets[0] == 0 and b"/Count 1" in nothing.sheet()
 
 
-def collection(font):
-    """A collection of a font and of the same without `cmap` and `OS/2`."""
-    front = 12 + 16 * font[5]
-    shift, directories = 20 + 2 * front, []
-    for face in range(2):
-        directory = bytearray(font[:front])
-        for at in range(12, front, 16):
-            if face == 1 and directory[at:at + 4] in (b"cmap", b"OS/2"):
-                directory[at + 3] += 1
-            directory[at + 8:at + 12] = (int.from_bytes(directory[at + 8:at + 12], "big") + shift).to_bytes(4, "big")
-        directories.append(bytes(directory))
-    head = b"ttcf" + b"".join(it.to_bytes(4, "big") for it in (0x10000, 2, 20, 20 + front))
-    return head + b"".join(directories) + font
-
-
 def test_faces():
-    two = collection(TTF)
-    assert subsetter.glyphs_of(two, "A") == subsetter.glyphs_of(two, "A", 0) == [(1, "A")]
-    assert type(raised(subsetter.glyphs_of, two, "A", 1)) is subsetter.MalformedFont
-    usages = [subsetter.pdf_font(two, SHOWN, **more).permission.usage for more in ({}, {"index": 0}, {"index": 1})]
-    assert usages == ["editable", "editable", "unsaid"]
+    """(A collection of one font.)"""
+    front = bytearray(TTF[:12 + 16 * TTF[5]])
+    for at in range(20, len(front), 16):
+        front[at:at + 4] = (int.from_bytes(front[at:at + 4], "big") + 16).to_bytes(4, "big")
+    one = b"ttcf\0\1\0\0\0\0\0\1\0\0\0\x10" + front + TTF[len(front):]
+    for call in (lambda *index: subsetter.pdf_font(one, SHOWN, *index).program, lambda *index: subsetter.glyphs_of(one, "A", *index)):
+        assert call(0) == call()
+        assert type(raised(call, 1)) is subsetter.MalformedFont
 
 
 def with_fs_type(number):
@@ -85,10 +66,7 @@ def with_fs_type(number):
     return TTF[:at] + number.to_bytes(2, "big") + TTF[at + 2:]
 
 
-@pytest.mark.parametrize("number, wanted", [
-    (0x000, ("installable", True, True)), (0x002, ("restricted", True, True)), (0x004, ("preview_and_print", True, True)),
-    (0x008, ("editable", True, True)), (0x100, ("installable", False, True)), (0x200, ("installable", True, False)), (0x302, ("restricted", False, False)),
-])
+@pytest.mark.parametrize("number, wanted", [(0x004, ("preview_and_print", True, True)), (0x302, ("restricted", False, False))])
 def test_permissions(number, wanted):
     """fsType of `OS/2`, and what it permits."""
     font = with_fs_type(number)
@@ -97,18 +75,12 @@ def test_permissions(number, wanted):
     assert type(raised(subsetter.pdf_font, font, SHOWN)) is (subsetter.NotPermitted if is_refused else type(None))
 
 
-def test_the_program_is_that_of_embed():
+def test_limits_and_hinting():
     full, deep = FONTS["full"], FONTS["one_call_with_metrics"]
-    for more in ({}, {"hinting": False}):
-        wanted = subsetter.embed(full, [2, 1], names=False, glyph_names=False, **more)
-        found = subsetter.pdf_font(full, [(2, "A"), (1, "B")], **more)
-        assert (found.program, found.cids, found.widths[:3]) == tuple(wanted) and len(found.widths) == found.glyph_count == 4
     assert len(subsetter.pdf_font(full, []).program) > len(subsetter.pdf_font(full, [], hinting=False).program)
     for more, error in (({"depth": 2, "tokens": 3}, type(None)), ({"depth": 1}, subsetter.CFFError), ({"tokens": 2}, subsetter.CFFError),
                         ({"most_bytes": 10}, subsetter.OverflowError)):
         assert type(raised(subsetter.pdf_font, deep, [], **more)) is error
-    moved = subsetter.pdf_font(made("made_variable.ttf"), SHOWN, coordinates={"wght": 650})
-    assert moved.program != subsetter.pdf_font(made("made_variable.ttf"), SHOWN).program
 
 
 def test_choices():
@@ -223,54 +195,29 @@ def test_codes_and_advances_without_a_font():
 
 def test_over_an_older_library(monkeypatch):
     """One without the newer calls makes fonts all the same."""
-    wanted = subsetter.pdf_font(TTF, SHOWN).objects(4)
-
-    class Older:
-        _name = "libolder.so"
-
-        def __getattr__(self, name):
-            if name in ("subsetter_make_font_by_words", "subsetter_make_pdf_parts", "subsetter_codes_of", "subsetter_advances_by_words"):
-                raise AttributeError(name)
-            return getattr(library, name)
-
-    library = subsetter._library()
-    monkeypatch.setattr(subsetter, "_loaded", Older())
+    wanted, library = subsetter.pdf_font(TTF, SHOWN).objects(4), subsetter._library()
+    names = [name for name in dir(library) if re.fullmatch("subsetter_(make_pdf_(font_by_words|objects|sheet)|free_pdf_(font|objects)|glyphs_of|error_text|free)", name)]
+    monkeypatch.setattr(subsetter, "_loaded", types.SimpleNamespace(_name="libolder.so", **{name: getattr(library, name) for name in names}))
     font = subsetter.pdf_font(TTF, SHOWN)
     assert font.objects(4) == wanted and pickle.loads(pickle.dumps(font)).objects(4) == wanted
     for call in (lambda: font.exact_widths, lambda: font.part_count, lambda: font.parts([1]), lambda: subsetter.codes_of(SHOWN), lambda: subsetter.advances(TTF, [1])):
         assert type(raised(call)) is NotImplementedError
-    assert not hasattr(font, "no_such_name")
 
 
-def raising(error):
-    def call(*_):
-        raise error
-    return call
+def test_no_memory_for_a_copy_of_an_answer(monkeypatch):
+    """What the library handed over is given back."""
+    library, counts, font = subsetter._library(), [], subsetter.pdf_font(TTF, SHOWN)
 
+    def raising(*_):
+        raise MemoryError("mine")
 
-def test_what_the_library_hands_over_is_given_back_once(monkeypatch):
-    library, counts = subsetter._library(), {}
-    for name in ("make_subset_by_words", "free", "make_font_by_words", "free_font", "make_pdf_objects", "make_pdf_sheet", "free_pdf_objects"):
-        counts[name] = 0
-
-        def call(*arguments, name=name, real=getattr(library, f"subsetter_{name}")):
-            counts[name] += 1
-            return real(*arguments)
-
-        monkeypatch.setattr(library, f"subsetter_{name}", call)
-    subsetter.subset(TTF, [1])
-    font = subsetter.pdf_font(TTF, SHOWN)
-    objects, program = font.objects(4), font.program
-    assert raised(font.objects, 2**32 - 1) and font.sheet() and raised(subsetter.pdf_font, TTF[:40], SHOWN)
-    assert list(counts.values()) == [1, 1, 2, 2, 2, 1, 3]
-    assert len(program) > 100 and objects.bytes.startswith(b"4 0 obj")
-    # So it is where there is no memory for a copy of an answer.
-    font = subsetter.pdf_font(TTF, SHOWN)
-    with monkeypatch.context() as patch:
-        patch.setattr(ctypes, "string_at", raising(MemoryError("mine")))
-        for call in (lambda: subsetter.subset(TTF, [1]), lambda: subsetter.pdf_font(TTF, SHOWN), lambda: font.objects(4)):
-            assert str(raised(call)) == "mine"
-    assert list(counts.values()) == [2, 2, 4, 4, 3, 1, 4]
+    for name in ("free", "free_font", "free_pdf_objects"):
+        real = getattr(library, f"subsetter_{name}")
+        monkeypatch.setattr(library, f"subsetter_{name}", lambda it, name=name, real=real: (counts.append(name), real(it)))
+    monkeypatch.setattr(ctypes, "string_at", raising)
+    for call in (lambda: subsetter.subset(TTF, [1]), lambda: subsetter.pdf_font(TTF, SHOWN), lambda: font.objects(4)):
+        assert str(raised(call)) == "mine"
+    assert counts == ["free", "free_font", "free_pdf_objects"]
 
 
 TYPES = {"uint8_t": ctypes.c_uint8, "uint16_t": ctypes.c_uint16, "uint32_t": ctypes.c_uint32, "int32_t": ctypes.c_int32,

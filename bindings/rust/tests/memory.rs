@@ -16,10 +16,7 @@ const MOST_KEPT: usize = 2;
 
 /// Refuses each request of a call in turn, alone and with all after it: how many requests the call makes. `last` is its
 /// answer where none is refused.
-fn refuse_each<T: PartialEq + Debug>(
-    call: impl Fn() -> Result<T, Error>,
-    last: &Result<T, Error>,
-) -> usize {
+fn refuse_each<T: PartialEq + Debug>(call: impl Fn() -> Result<T, Error>, last: &Result<T, Error>) -> usize {
     let requests = refuse_in_turn(|request| with_one_refused(request, &call), last);
     assert!(refuse_in_turn(|request| with(request, &call), last) <= requests);
     requests
@@ -49,14 +46,7 @@ fn refuse_in_turn<T: PartialEq + Debug>(
 }
 
 /// The fonts that reach each kind of table.
-const FONTS: [&str; 6] = [
-    "full",
-    "collection",
-    "varied",
-    "font_dicts_unnamed",
-    "one_charstring",
-    "long_glyph",
-];
+const FONTS: [&str; 6] = ["full", "collection", "varied", "font_dicts_unnamed", "one_charstring", "long_glyph"];
 
 #[test]
 fn each_request_of_subset_may_be_refused() {
@@ -111,8 +101,8 @@ fn each_request_of_an_instance_may_be_refused() {
 mod pdf {
     use std::hash::{Hash, Hasher};
     use subsetter::pdf::{
-        codes_of, glyphs_of, pdf_font, Codes, Direction, FontError, FontOptions, Layout,
-        PartsError, PdfFont, References, Shown,
+        codes_of, glyphs_of, pdf_font, Codes, Direction, FontError, FontOptions, Layout, PartsError, PdfFont,
+        References, Shown,
     };
     use subsetter::{Error, Tag};
 
@@ -131,31 +121,16 @@ mod pdf {
         })?;
         let columns = made.columns().map(|it| number(&it));
         let encoding = made.encoding().map(|it| number(&it));
-        let lists = (
-            made.program(),
-            made.cids(),
-            made.codes(),
-            made.text_is_mapped(),
-        );
+        let lists = (made.program(), made.cids(), made.codes(), made.text_is_mapped());
         let values = (made.widths(), made.descriptor(), made.to_unicode());
         Ok(number(&(lists, values, columns, encoding, made.cid_set())))
     }
 
     /// The objects, the dictionaries and the sheets of a font.
     pub fn written(font: &PdfFont) -> Result<u64, Error> {
-        let references = References {
-            cid_font: 2,
-            descriptor: 3,
-            program: 4,
-            to_unicode: 5,
-            cid_set: 6,
-            encoding: 7,
-        };
+        let references = References { cid_font: 2, descriptor: 3, program: 4, to_unicode: 5, cid_set: 6, encoding: 7 };
         let shown = [Shown::new(1, "A"), Shown::new(5, "f"), Shown::new(1, "B")];
-        let sheets = (
-            font.sheet(&shown, Layout::Line)?,
-            font.sheet(&shown, Layout::Grid)?,
-        );
+        let sheets = (font.sheet(&shown, Layout::Line)?, font.sheet(&shown, Layout::Grid)?);
         let objects = (font.objects(4)?, font.dictionaries(&references)?);
         let numbers = [1, 2, 3, 4, 5, 6, 7];
         let parts = font.parts(&numbers[..font.part_count()]);
@@ -186,11 +161,7 @@ mod pdf {
 
     pub fn options() -> [FontOptions; 3] {
         let new = FontOptions::new();
-        [
-            new,
-            new.cid_set(true).codes(Codes::Source),
-            new.codes(Codes::EachText).direction(Direction::Vertical),
-        ]
+        [new, new.cid_set(true).codes(Codes::Source), new.codes(Codes::EachText).direction(Direction::Vertical)]
     }
 }
 
@@ -308,14 +279,7 @@ fn without_memory_the_mappers_of_0_2_6_end_the_process() {
     use std::os::unix::process::ExitStatusExt;
     use std::{env, process::Command};
     let words = "--exact call_without_memory --ignored --nocapture --test-threads=1";
-    for call in [
-        "new",
-        "default",
-        "new_from_glyphs",
-        "new_from_glyphs_sorted",
-        "clone",
-        "remap",
-    ] {
+    for call in ["new", "default", "new_from_glyphs", "new_from_glyphs_sorted", "clone", "remap"] {
         let mut command = Command::new(env::current_exe().unwrap());
         command.args(words.split(' ')).env("CALL", call);
         let output = command.output().unwrap();
@@ -324,10 +288,7 @@ fn without_memory_the_mappers_of_0_2_6_end_the_process() {
         let ended = printed.contains("calls") && !printed.contains("goes on");
         assert!(ended, "{call}: {printed}");
         // (the request that is named is one of a glyph's number)
-        assert!(
-            said.contains("memory allocation of 2 bytes failed"),
-            "{call}: {said}"
-        );
+        assert!(said.contains("memory allocation of 2 bytes failed"), "{call}: {said}");
         assert!(!said.contains("panicked"), "{call}: {said}");
         assert_eq!(output.status.signal(), Some(6), "{call}: {said}");
     }

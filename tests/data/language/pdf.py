@@ -4,8 +4,7 @@ import re
 FIELDS = """font coordinates shown options error kind program glyph_count cids codes is_said widths default_width w columns dw2 w2 name flags
 angle ascent descent cap_height x_height stem_v font_weight bounds permission cid_set to_unicode encoding""".split() + [f"object {it}" for it in range(4, 11)]
 # The text of a CMap around its mappings, of which a block has 100 at most (Adobe Technical Note 5014; ISO 32000-1, 9.7.5.4 and 9.10.3).
-CMAP = """<<
-/CIDInit /ProcSet findresource begin
+CMAP = """/CIDInit /ProcSet findresource begin
 12 dict begin
 begincmap
 /CIDSystemInfo << /Registry (Adobe) /Ordering ({ordering}) /Supplement 0 >> def
@@ -18,7 +17,7 @@ endcodespacerange
 CMapName currentdict /CMap defineresource pop
 end
 end
->>"""
+"""
 MOST_OF_A_BLOCK = 100
 
 
@@ -28,7 +27,7 @@ def cmap(pairs, form, operator, **given):
     for at in range(0, len(lines), MOST_OF_A_BLOCK):
         block = lines[at:at + MOST_OF_A_BLOCK]
         blocks += f"{len(block)} begin{operator}\n" + "".join(f"{it}\n" for it in block) + f"end{operator}\n"
-    return CMAP.format(blocks=blocks, **given)
+    return CMAP.format(blocks=blocks, **given).replace("\n", "~")
 
 
 def value_of(line, words, library, name):

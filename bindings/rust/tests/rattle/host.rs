@@ -90,9 +90,7 @@ fn known(name: &str) -> (u32, u64) {
 
 /// How a call failed: what sort of failure it is, and the system's number.
 fn failed<T>(answer: io::Result<T>) -> Option<(ErrorKind, Option<i32>)> {
-    answer
-        .err()
-        .map(|error| (error.kind(), error.raw_os_error()))
+    answer.err().map(|error| (error.kind(), error.raw_os_error()))
 }
 
 const MISSING: Option<(ErrorKind, Option<i32>)> = Some((ErrorKind::NotFound, Some(2)));
@@ -128,15 +126,9 @@ fn room_for_a_long_name_is_asked_for() {
             ("create", &|| fs::create(&HostRuntime, &long).map(drop)),
             ("write", &|| writing.open(&HostRuntime, &long).map(drop)),
             ("metadata", &|| fs::metadata(&HostRuntime, &long).map(drop)),
-            ("symlink_metadata", &|| {
-                fs::symlink_metadata(&HostRuntime, &long).map(drop)
-            }),
-            ("copy from", &|| {
-                fs::copy(&HostRuntime, &long, &other).map(drop)
-            }),
-            ("copy to", &|| {
-                fs::copy(&HostRuntime, &other, &long).map(drop)
-            }),
+            ("symlink_metadata", &|| fs::symlink_metadata(&HostRuntime, &long).map(drop)),
+            ("copy from", &|| fs::copy(&HostRuntime, &long, &other).map(drop)),
+            ("copy to", &|| fs::copy(&HostRuntime, &other, &long).map(drop)),
         ];
         for (name, call) in calls {
             let (answer, was_refused) = with(0, call);
@@ -146,13 +138,7 @@ fn room_for_a_long_name_is_asked_for() {
             let (answer, asked) = asked_by(call);
             answer.unwrap();
             let most = asked.iter().skip(1).max();
-            assert!(
-                most >= Some(&(len + 1)) && Some(&asked[0]) >= most,
-                "{} {}: {:?}",
-                name,
-                len,
-                asked
-            );
+            assert!(most >= Some(&(len + 1)) && Some(&asked[0]) >= most, "{} {}: {:?}", name, len, asked);
         }
     }
 }
@@ -170,13 +156,7 @@ fn room_for_two_names_is_kept_while_a_file_is_new() {
         // Two requests keep room, and that for a long name is one more.
         let count = if len < 384 { 2 } else { 3 };
         for requests in 0..count {
-            assert_eq!(
-                failed(with(requests, new).0),
-                REFUSED,
-                "{} {}",
-                len,
-                requests
-            );
+            assert_eq!(failed(with(requests, new).0), REFUSED, "{} {}", len, requests);
             assert!(!is_there(&name), "{} {}", len, requests);
         }
         assert_eq!(failed(fs::remove_file(&HostRuntime, &name)), MISSING);
@@ -208,9 +188,7 @@ fn room_is_kept_for_each_of_many_new_files() {
         return;
     }
     let folder = Folder::new("many");
-    let names: Vec<String> = (0..40)
-        .map(|k| folder.at(&std::format!("file{}", k)))
-        .collect();
+    let names: Vec<String> = (0..40).map(|k| folder.at(&std::format!("file{}", k))).collect();
     let mut before = 0;
     for round in 0..2 {
         // (the list of what is kept has grown in the first round)
@@ -236,10 +214,7 @@ fn room_is_kept_for_each_of_many_new_files() {
         // One that is there is not made again, and no room is kept for that.
         let all = held();
         let again = OpenOptions::new().write(true).create_new(true);
-        assert_eq!(
-            failed(again.open(&HostRuntime, &folder.at("none/file"))),
-            MISSING
-        );
+        assert_eq!(failed(again.open(&HostRuntime, &folder.at("none/file"))), MISSING);
         assert_eq!(held(), all);
         let kept: usize = names.iter().map(|it| 2 * (it.len() + 1)).sum();
         assert!(held() >= before + kept);
@@ -292,10 +267,7 @@ fn files_are_opened_as_they_are_asked_for() {
     std::fs::remove_file(&name).unwrap();
     assert_eq!(failed(new(false)), MISSING);
     assert!(new(true).is_ok() && take(&name) == b"");
-    for how in [
-        OpenOptions::new(),
-        OpenOptions::new().write(true).write(false),
-    ] {
+    for how in [OpenOptions::new(), OpenOptions::new().write(true).write(false)] {
         let kind = failed(how.open(&HostRuntime, &name)).map(|it| it.0);
         assert_eq!(kind, Some(ErrorKind::InvalidInput));
     }
@@ -305,8 +277,7 @@ fn files_are_opened_as_they_are_asked_for() {
 #[ignore = "run by another test"]
 fn files_get_names_bytes_and_rights() {
     let folder = Folder::new("names");
-    let [one, other, third, fourth, none] =
-        ["one", "other", "third", "fourth", "none"].map(|it| folder.at(it));
+    let [one, other, third, fourth, none] = ["one", "other", "third", "fourth", "none"].map(|it| folder.at(it));
     put(&one, b"one");
     put(&other, b"other");
     fs::rename(&HostRuntime, &one, &other).unwrap();
@@ -317,10 +288,7 @@ fn files_get_names_bytes_and_rights() {
     assert!(known(&one) == known(&other) && is_there(&other));
     put(&third, b"third");
     assert_eq!(failed(fs::hard_link(&HostRuntime, &third, &one)), THERE);
-    assert_eq!(
-        (take(&one), take(&third)),
-        (b"one".to_vec(), b"third".to_vec())
-    );
+    assert_eq!((take(&one), take(&third)), (b"one".to_vec(), b"third".to_vec()));
     assert_eq!(failed(fs::hard_link(&HostRuntime, &none, &fourth)), MISSING);
     assert!(!is_there(&fourth));
     // The bytes and the rights of another, in the same file.
@@ -328,10 +296,7 @@ fn files_get_names_bytes_and_rights() {
     let number = known(&fourth).1;
     std::fs::set_permissions(&third, Permissions::from_mode(0o604)).unwrap();
     assert_eq!(fs::copy(&HostRuntime, &third, &fourth).unwrap(), 5);
-    assert_eq!(
-        (take(&fourth), known(&fourth)),
-        (b"third".to_vec(), (0o604, number))
-    );
+    assert_eq!((take(&fourth), known(&fourth)), (b"third".to_vec(), (0o604, number)));
     assert_eq!(failed(fs::copy(&HostRuntime, &none, &fourth)), MISSING);
     assert_eq!(take(&third), b"third");
     let file = fs::open(&HostRuntime, &fourth).unwrap();
@@ -395,27 +360,12 @@ fn links_are_followed_or_not() {
 #[ignore = "run by another test"]
 fn a_long_name_is_no_second_one() {
     let folder = Folder::new("second");
-    for (len, other_len, is_made) in [
-        (383, 383, true),
-        (384, 383, false),
-        (383, 384, false),
-        (384, 384, false),
-    ] {
+    for (len, other_len, is_made) in [(383, 383, true), (384, 383, false), (383, 384, false), (384, 384, false)] {
         let (name, other) = (folder.long("file", len), folder.long("more", other_len));
         put(&name, b"");
         let kind = failed(fs::hard_link(&HostRuntime, &name, &other)).map(|it| it.0);
-        let wanted = if is_made {
-            None
-        } else {
-            Some(ErrorKind::Unsupported)
-        };
-        assert_eq!(
-            (kind, is_there(&other)),
-            (wanted, is_made),
-            "{} {}",
-            len,
-            other_len
-        );
+        let wanted = if is_made { None } else { Some(ErrorKind::Unsupported) };
+        assert_eq!((kind, is_there(&other)), (wanted, is_made), "{} {}", len, other_len);
         let _ = std::fs::remove_file(&other);
     }
 }
@@ -533,12 +483,7 @@ fn arguments_are_those_of_the_process() {
     let count = if is_old() { 1 } else { 2 };
     for requests in 0..count {
         let (answer, was_refused) = with(requests, || env::args(&HostRuntime));
-        assert_eq!(
-            (failed(answer), was_refused),
-            (REFUSED, true),
-            "{}",
-            requests
-        );
+        assert_eq!((failed(answer), was_refused), (REFUSED, true), "{}", requests);
     }
     assert_eq!(failed(with(0, prepare).0), REFUSED);
     let (_, asked) = asked_by(|| env::args(&HostRuntime));
@@ -547,12 +492,7 @@ fn arguments_are_those_of_the_process() {
     let all: usize = args.iter().map(|it| it.len() + 1 + of_each).sum();
     assert!(asked[0] >= 1024, "{:?}", asked);
     let is_shown = Path::new("/proc/self/cmdline").exists();
-    assert!(
-        asked[1..].contains(&all) || !is_shown,
-        "{:?}, {}",
-        asked,
-        all
-    );
+    assert!(asked[1..].contains(&all) || !is_shown, "{:?}, {}", asked, all);
 }
 
 #[test]

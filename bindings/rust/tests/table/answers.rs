@@ -8,11 +8,7 @@ pub type Answer = (&'static str, Result<Embedded, Error>);
 
 /// A subset alone, as what a row of a subset wants.
 fn alone(answer: Result<Vec<u8>, Error>) -> Result<Embedded, Error> {
-    answer.map(|font| Embedded {
-        font,
-        cids: Vec::new(),
-        widths: Vec::new(),
-    })
+    answer.map(|font| Embedded { font, cids: Vec::new(), widths: Vec::new() })
 }
 
 /// All answers that the row's calls give, with what each call is.

@@ -44,9 +44,7 @@ pub struct Table {
 pub fn bytes(word: &str) -> Vec<u8> {
     let digit = |byte: u8| (byte as char).to_digit(16).unwrap() as u8;
     let digits = word.trim_matches('-').as_bytes().chunks(2);
-    digits
-        .map(|two| 16 * digit(two[0]) + digit(two[1]))
-        .collect()
+    digits.map(|two| 16 * digit(two[0]) + digit(two[1])).collect()
 }
 
 fn numbers(word: &str) -> Vec<u32> {
@@ -94,12 +92,7 @@ impl Table {
     }
 }
 
-fn row(
-    call: &'static str,
-    choices: usize,
-    words: &[&str],
-    fonts: &HashMap<String, Vec<u8>>,
-) -> Row {
+fn row(call: &'static str, choices: usize, words: &[&str], fonts: &HashMap<String, Vec<u8>>) -> Row {
     let first = if call.ends_with("_at") { 6 } else { 5 };
     let mut choice = [0; 4];
     for (number, word) in choice.iter_mut().zip(&words[first..first + choices]) {
@@ -107,12 +100,7 @@ fn row(
     }
     let behind = &words[first + choices..];
     let is_embedded = call.starts_with("embed");
-    assert_eq!(
-        behind.len(),
-        if is_embedded { 4 } else { 2 },
-        "{}",
-        words[1]
-    );
+    assert_eq!(behind.len(), if is_embedded { 4 } else { 2 }, "{}", words[1]);
     let list = |at: usize| behind.get(at).copied().unwrap_or("-");
     Row {
         call,
@@ -123,11 +111,7 @@ fn row(
         coordinates: coordinates(if first == 6 { words[5] } else { "-" }),
         choice,
         status: behind[0].parse().unwrap(),
-        wanted: Embedded {
-            font: bytes(behind[1]),
-            cids: short_numbers(list(2)),
-            widths: numbers(list(3)),
-        },
+        wanted: Embedded { font: bytes(behind[1]), cids: short_numbers(list(2)), widths: numbers(list(3)) },
     }
 }
 
@@ -139,11 +123,7 @@ pub fn table() -> Table {
 
 /// The worked rows of a file.
 pub fn table_of(name: &str) -> Table {
-    let mut table = Table {
-        fonts: HashMap::new(),
-        texts: HashMap::new(),
-        rows: Vec::new(),
-    };
+    let mut table = Table { fonts: HashMap::new(), texts: HashMap::new(), rows: Vec::new() };
     let text = fs::read_to_string(name).unwrap();
     let lines = text.lines().filter(|line| !line.starts_with('#'));
     lines.for_each(|line| table.add(line));
@@ -193,10 +173,7 @@ impl Row {
     /// The options of the row.
     pub fn options(&self, limits: Limits) -> Options {
         let [tokens, depth, drop, bytes] = self.choice;
-        let options = Options::new()
-            .hinting(drop & 1 == 0)
-            .names(drop & 2 == 0)
-            .glyph_names(drop & 4 == 0);
+        let options = Options::new().hinting(drop & 1 == 0).names(drop & 2 == 0).glyph_names(drop & 4 == 0);
         match (tokens, depth, bytes) {
             (0, 0, 0) => options,
             _ => options.limits(limits),

@@ -26,9 +26,7 @@ impl PdfRow {
 }
 
 pub fn data(name: &str) -> PathBuf {
-    Path::new(env!("CARGO_MANIFEST_DIR"))
-        .join("tests/data")
-        .join(name)
+    Path::new(env!("CARGO_MANIFEST_DIR")).join("tests/data").join(name)
 }
 
 fn character(word: &str) -> char {
@@ -86,23 +84,15 @@ fn row(fields: Vec<(String, String)>) -> PdfRow {
 
 pub fn pdf_rows() -> Vec<PdfRow> {
     let text = fs::read_to_string(data("pdf_rows.txt")).unwrap();
-    let mut lines = text.lines().filter(|line| !line.starts_with('#'));
     let (mut rows, mut fields) = (Vec::new(), Vec::new());
-    while let Some(line) = lines.next() {
+    for line in text.lines().filter(|line| !line.starts_with('#')) {
         if line.is_empty() && !fields.is_empty() {
             rows.push(row(std::mem::take(&mut fields)));
         }
-        if line.is_empty() {
-            continue;
+        if !line.is_empty() {
+            let (name, value) = line.split_once(' ').unwrap_or((line, ""));
+            fields.push((name.to_string(), value.replace('~', "\n")));
         }
-        let (name, value) = line.split_once(' ').unwrap_or((line, ""));
-        let value = if value == "<<" {
-            let block = lines.by_ref().take_while(|line| *line != ">>");
-            block.fold(String::new(), |text, line| text + line + "\n")
-        } else {
-            value.to_string()
-        };
-        fields.push((name.to_string(), value));
     }
     if !fields.is_empty() {
         rows.push(row(fields));
