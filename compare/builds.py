@@ -1,31 +1,22 @@
-#!/usr/bin/python3
-"""Compares two builds of the same sources: the C library over the generated crate, with overflow checks, and LIBRARY (the proved one).
+"""Two builds of the same sources: the C library over the generated crate, with overflow checks, and LIBRARY (the proved one): builds --faces N --copies N
 
-    compare/builds.py [FOLDER ..] [--short] [--faces N] [--copies N] [--seed S] [--jobs J]
+    faces    N faces of the machine's fonts, spread over all, with lists of 0 to 2,000 glyphs, options, CIDs and widths, coordinates, and faces that
+             aren't there: the same answer, and no panic. Of one list also what no proof says: all glyphs of a subset give it back, and each option
+             leaves out what it names and keeps every other table
+    damage   N damaged copies of fonts of all kinds (lib/kinds.py), each by one call, and of a variable one by one at coordinates
+    wasm     80 glyphs of each of the faces by bindings/js/out/subsetter.wasm (`make -C bindings/js`), or WASM; not in the short form
 
-    faces    N faces of the machine's fonts, spread over all, with lists of 0 to 2,000 glyphs, options, CIDs and widths, coordinates, and
-             faces that aren't there: the same answer, and no panic. Of one list also what no proof says: all glyphs of a subset give it
-             back, and each option leaves out what it names and keeps every other table
-    damage   N damaged copies of fonts of all kinds (lib/kinds.py, lib/damaged.py), each by one call, and of a variable one by one at
-             coordinates
-    wasm     80 glyphs of each of the faces by the WebAssembly module bindings/js/out/subsetter.wasm (`make -C bindings/js`), or WASM;
-             not in the short form
-
-Other processors have the rows and numbers of tests/platforms. The library is bindings/c/out/libsubsetter.so, which `make -C bindings/c` proves and
-builds, or the file LIBRARY. The status is 1 where an answer differs, or nothing was compared.
+Other processors have the rows and numbers of tests/platforms. LIBRARY is else what `make -C bindings/c` proves and builds.
 """
 import functools
 import hashlib
 import os
 import random
 import subprocess
-import sys
 import tempfile
 
-sys.path.insert(0, os.path.join(os.path.dirname(os.path.realpath(__file__)), "lib"))
-
 import build
-import damaged
+import damage
 import fonts
 import kinds
 import report as reports
@@ -64,10 +55,6 @@ def places(data, index):
     return [*found, {"zzzz": 3.0, axes[0][0]: (axes[0][1] + 3 * axes[0][2]) / 262144}] if axes else []
 
 
-def tables(font):
-    return {tag: font[at:at + size] for tag, (at, size) in fonts.directory(font).items()}
-
-
 def compare_laws(report, label, call, data, glyphs, index, font):
     """What no proof says of a font, or of options."""
     again = call.answer("subset", font, list(range(fonts.count_in(font, 0))))
@@ -77,8 +64,8 @@ def compare_laws(report, label, call, data, glyphs, index, font):
     for choice, gone in GONE.items():
         made = call.answer("subset", data, glyphs, index, **OPTIONS[choice])
         if not isinstance(made, str):
-            kept, passed = ({tag: table for tag, table in tables(it).items() if tag not in gone | CHANGED[choice]} for it in (made, font))
-            if kept != passed or gone & set(tables(made)):
+            kept, passed = ({tag: table for tag, table in fonts.tables_of(it).items() if tag not in gone | CHANGED[choice]} for it in (made, font))
+            if kept != passed or gone & set(fonts.directory(made)):
                 report.say(label, f"other tables with {OPTIONS[choice]}")
 
 
@@ -103,10 +90,9 @@ def compare_face(paths, path, index):
 
 def compare_piece(paths, found, numbers, seed):
     """Some damaged copies."""
-    report, rng, make = reports.Report("damaged copies"), random.Random(f"{seed} {numbers[0]}"), damaged.by_kinds(found)
+    report, rng, make = reports.Report("damaged copies"), random.Random(f"{seed} {numbers[0]}"), damage.by_kinds(found)
     for number in numbers:
-        _, path, source, index, glyphs, what, data = make(rng, number)
-        glyphs = list(map(int, glyphs.split(",")))
+        path, source, index, glyphs, what, data = make(rng, number)
         label, at = f"{os.path.basename(path)} {index}, copy {number}: {what}", places(source, index if index < fonts.face_count(source) else 0)
         report.counts["copies"] += 1
         for place in [None, *rng.sample(at, min(len(at), 1))]:
@@ -134,7 +120,7 @@ def by_wasm(faces, report, room):
 
 
 def main():
-    words = reports.words(__doc__, faces=(1000, 60), copies=(100000, 6000))
+    words = reports.words(faces=(1000, 60), copies=(100000, 6000))
     os.environ.setdefault("LIBRARY", build.PROVED)
     paths, report = (build.checked_library(), build.library()), reports.Report("builds")
     fonts.install(kinds.PACKAGES)
@@ -149,7 +135,3 @@ def main():
     counts = reports.total([*found, report])
     reports.end([*found, report], counts["calls"] + counts["wasm"],
                 f"{counts['calls']} calls of {len(faces)} faces and {counts['copies']} damaged copies, {counts['fonts']} fonts; {counts['wasm']} faces by WebAssembly")
-
-
-if __name__ == "__main__":
-    main()

@@ -1,20 +1,16 @@
-#!/usr/bin/python3
-"""Has each system call of the program fail in turn, and looks at how it ends and what it leaves.
+"""Has each system call of the program fail in turn, and looks at how it ends and what it leaves: faults --only WORD
 
-    compare/faults.py [--short] [--only WORD] [--jobs J]
-
-The program runs in its main ways (lib/fault_ways.py). strace has one of its system calls fail. What docs/CLI.md promises is demanded of each run: a
+The program runs in its main ways (lib/fault_runs.py). strace has one of its system calls fail. What docs/CLI.md promises is demanded of each run: a
 status of its table, a message that names the file and the system's reason, OUT and the PDF as they were or whole, with their rights, and no other
 file. (tests/test_files.py has standard streams, links, owners and rights.)
 
     calls     each call gives each of its usual errors (also those of a quota, of a disk that is full or read-only, and of a signal),
               and each such call from there on; a write takes no byte
-    signals   at each call the program gets a signal: OUT is as it was or whole, and so it is after another run
+    signals   at each call the program gets a signal: OUT is as it was or whole, and so it is after another run; not in the short form
     sizes     files get no larger than so many bytes
-    disk      OUT is on a disk of so many pages, or of so many files, and on one that may be read alone
+    disk      OUT is on a disk of so many pages, or of so many files, and on one that may be read alone (mounted in a namespace)
 
-The program is as Cargo builds it, or SUBSET_FONT. --only takes what has this word in its name, as `calls:OUT-over-a-file`; `disk` mounts file systems in
-a namespace of its own. Quotas can't be set everywhere: EDQUOT is injected. The status is 1 where a run ended in another way, and where nothing was injected.
+--only takes what has this word in its name, as `calls:OUT-over-a-file`. Quotas can't be set everywhere: EDQUOT is injected.
 """
 import ctypes
 import dataclasses
@@ -27,13 +23,10 @@ import subprocess
 import sys
 import tempfile
 
-sys.path.insert(0, os.path.join(os.path.dirname(os.path.realpath(__file__)), "lib"))
-
 import build
 import fault_rules as rules
 import report as reports
-from fault_runs import Room, Trouble, needs
-from fault_ways import WAYS
+from fault_runs import WAYS, Room, Trouble, needs
 
 
 def demand(report, holds, what, why):
@@ -232,10 +225,10 @@ def check_disk(report, room, way):
 
 # ---- all
 
-# The ways of the short form; and each part, with the ways that it takes. (`disk` is last: its processes can't give files to groups any more.)
+# The ways of the short form; and each part, with the ways that it takes: first those of few runs.
 SHORT = ("a new OUT", "OUT over a file", "OUT over IN", "a PDF and OUT", "OUT to standard output")
-PARTS = {"calls": (check_calls, lambda way: None not in way.groups.values()), "signals": (check_signals, lambda way: way.name in SIGNALLED),
-         "sizes": (check_sizes, lambda way: way.written and not way.in_place and way.status == 0), "disk": (check_disk, lambda way: way.name in ON_DISK)}
+PARTS = {"disk": (check_disk, lambda way: way.name in ON_DISK), "sizes": (check_sizes, lambda way: way.written and not way.in_place and way.status == 0),
+         "signals": (check_signals, lambda way: way.name in SIGNALLED), "calls": (check_calls, lambda way: None not in way.groups.values())}
 
 
 def task(program, part, way):
@@ -256,16 +249,13 @@ def task(program, part, way):
 
 
 def main():
-    words, lacking, program = reports.words(__doc__), needs(), build.program()
+    words, lacking, program = reports.words(), needs(), build.program()
     if lacking:
         sys.exit(f"faults: there is no {lacking}")
     ways = [it for it in WAYS if not words.short or it.name in SHORT]
     tasks = [(program, part, way) for part, (_, takes) in PARTS.items() for way in ways if takes(way) and words.only in f"{part}:{way.name}".replace(" ", "-") and not (words.short and part == "signals")]
-    found = reports.beside(words, task, [it for it in tasks if it[1] != "disk"]) + reports.beside(words, task, [it for it in tasks if it[1] == "disk"])
+    # (processes that have mounted a disk can't give files to groups any more)
+    found = reports.beside(words, task, [it for it in tasks if it[1] == "disk"]) + reports.beside(words, task, [it for it in tasks if it[1] != "disk"])
     counts = reports.total(found)
     ends = {end: sum(number for name, number in counts.items() if name == end or name.startswith(end + " ")) for end in ("whole", "cannot read", "cannot write", "out of memory", "stopped", "ended by a signal")}
     reports.end(found, counts["runs"], f"runs of {len(ways)} ways with a fault of the system, which end as docs/CLI.md has it: {', '.join(f'{end} {number}' for end, number in ends.items())}")
-
-
-if __name__ == "__main__":
-    main()

@@ -1,21 +1,14 @@
-#!/usr/bin/python3
-"""Fonts, lists and batches that ask for as much work as they can: does it grow as input and answer do?
+"""Fonts, lists and batches that ask for as much work as they can: does it grow as input and answer do? hostile --only WORD
 
-    compare/hostile.py [--short] [--only WORD]
-
-Each family is made at half its size, at its size and at twice that: what takes a call, or a run of the program (as Cargo builds it, or
-SUBSET_FONT), of a processor, and what does it hold at most? A family fails where from half to twice the size the time, or the bytes held, for each byte
-of input and answer grow by more than GROWTH, where it takes more than SECONDS and 20 microseconds for each byte, or holds more than HELD and 64 bytes
-for each byte, and where it doesn't end. The families of BOUND run as many tokens or steps as the limits let them; these have to end. --short halves the
-sizes. The status is 1 where one fails.
+Each family is made at half its size, at its size and at twice that (--short halves these): what takes a call, or a run of the program, of a processor, and
+what does it hold at most? A family fails where from half to twice the size the time, or the bytes held, for each byte of input and answer grow by more than
+GROWTH, where it takes more than SECONDS and 20 microseconds for each byte, or holds more than HELD and 64 bytes for each byte, and where it doesn't end. The
+families of BOUND run as many tokens or steps as the limits let them; these have to end.
 """
 import json
 import os
 import subprocess
-import sys
 import tempfile
-
-sys.path.insert(0, os.path.join(os.path.dirname(os.path.realpath(__file__)), "lib"))
 
 import build, made
 import report as reports
@@ -47,8 +40,7 @@ def fvar(axes, instances=b"", count=0):
 
 def store(axes, regions):
     """One region of so many axes, and one item of so many indexes of it."""
-    listed = u16s(axes, 1) + bytes(6 * axes)
-    return u16s(1) + u32s(12) + u16s(1) + u32s(12 + len(listed)) + listed + u16s(1, 0, regions) + bytes(3 * regions)
+    return made.store([[(0, 0, 0)] * axes], [[0] * regions], [[[0] * regions]])
 
 
 def varied(axes, count, **tables):
@@ -58,8 +50,7 @@ def varied(axes, count, **tables):
 
 
 def hvar(axes, regions, count=200):
-    held = store(axes, regions)
-    return varied(axes, count, HVAR=u16s(1, 0) + u32s(20, 20 + len(held), 0, 0) + held + u16s(0, 1) + b"\0")
+    return varied(axes, count, HVAR=made.advances_vary(store(axes, regions), [(0, 0)]))
 
 
 def vvar(size):
@@ -232,7 +223,7 @@ def measure(report, runner, name, make, usual, call):
 
 
 def main():
-    words = reports.words(__doc__)
+    words = reports.words()
     build.preload("refuse.c", to="refuse.so")
     library, program, report = build.library(), build.program(), reports.Report("hostile")
     for families, runner, by in ((CALLS, by_library, library), (RUNS, by_program, program)):
@@ -240,7 +231,3 @@ def main():
             if words.only in name:
                 measure(report, lambda *it: runner(by, *it), name, make, size // (2 if words.short else 1), call)
     reports.end([report], report.counts["families"], f"{report.counts['families']} families at three sizes")
-
-
-if __name__ == "__main__":
-    main()

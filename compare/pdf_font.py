@@ -1,11 +1,8 @@
-#!/usr/bin/python3
-"""Compares what the Python module's `pdf_font` says of random fonts with rules that are written a second time, and shows it to PDF readers.
+"""What the Python module's `pdf_font` says of random fonts, beside rules that are written a second time, and shown to PDF readers: pdf_font --faces N --copies N
 
-    compare/pdf_font.py [--short] [--faces N] [--copies N] [--seed S] [--jobs J]
-
-Of N faces of the machine (Debian's fonts, and a tenth more of variable ones at random coordinates) and of N damaged copies it
-takes up to 40 characters, ligatures, and texts of several characters, with random options. A copy has a table `OS/2`, `post`, `name`,
-`vhea`, `vmtx`, `VORG` or `VVAR` that is missing, cut, changed or another font's, or other numbers in `head` or `hhea`. Of each font
+Of N faces of the machine (and a tenth more of variable ones at random coordinates) and of N damaged copies it takes up to 40 characters, ligatures, and texts
+of several characters, with random options. A copy has a table `OS/2`, `post`, `name`, `vhea`, `vmtx`, `VORG` or `VVAR` that is missing, cut, changed or
+another font's, or other numbers in `head` or `hhea`. Of each font
 
 - codes, widths, columns, descriptor, permission, ToUnicode, CMap and CIDSet, both as the module says them and as qpdf reads them in the
   file that `sheet` writes, are those of lib/pdf_rules.py; the dictionaries have these entries and no others;
@@ -14,13 +11,10 @@ takes up to 40 characters, ligatures, and texts of several characters, with rand
 and of one in 6, in turn:
 
 - `qpdf --check` finds nothing in the line, the grid, and a page made of `objects`, and these have the same values;
-- Poppler reads the text of the grid; MuPDF does where each glyph has one text, which its code says (several characters beyond U+FFFF
-  it doesn't read);
+- Poppler reads the text of the grid; MuPDF does where each glyph has one text, which its code says (several characters beyond U+FFFF it doesn't read);
 - PDFBox's preflight finds the page of `objects` valid as PDF/A-1b (not with an OpenType program, which PDF/A-1 forbids);
 - MuPDF draws the line, and Poppler the grid, as with the whole font, each glyph at the point that the source's own advance gives it: ink lies
   within two pixels, at 100 an inch, of ink (not off a variable font's default, where readers.py draws it).
-
-The library is as Cargo builds it, or LIBRARY. The status is 1 where something differs, or too little was compared.
 """
 import collections
 import functools
@@ -31,8 +25,6 @@ import sys
 import tempfile
 import time
 from concurrent.futures import ThreadPoolExecutor
-
-sys.path.insert(0, os.path.join(os.path.dirname(os.path.realpath(__file__)), "lib"))
 
 import build
 import fonts
@@ -154,7 +146,7 @@ def pieces(given, room):
 
 
 def main():
-    given = reports.words(__doc__, faces=(150, 24), copies=(150, 120))
+    given = reports.words(faces=(150, 24), copies=(150, 120))
     fonts.install(FONTS + readers.PACKAGES + readers.PDFBOX)
     if not readers.has_pdfbox():
         sys.exit("pdf_font: PDFBox isn't there: apt-get install " + " ".join(readers.PDFBOX))
@@ -176,7 +168,3 @@ def main():
         all_.say("fonts", f"{total['fonts'] + total['refused']} of {wanted} compared")
     reports.end([all_], total["fonts"] + total["refused"], f"{total['kind TrueType']} TrueType, {total['moved']} of them off their default, {total['kind CFF']} bare CFF, {total['kind OpenType']} OpenType, "
                 f"{total['vertical']} in columns, {total['refused']} refused as they should be; {total['files']} files read by qpdf, {total['texts']} texts, {total['pictures']} pictures, {total['preflight']} pages judged by PDFBox")
-
-
-if __name__ == "__main__":
-    main()

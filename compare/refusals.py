@@ -1,10 +1,6 @@
-#!/usr/bin/python3
-"""Refuses each request for memory of the C library and the program, one at a time. (Failed calls for files are faults.py's.)
+"""Refuses each request for memory of the C library and the program, one at a time: refusals --only WORD
 
-    compare/refusals.py [--short] [--only WORD]
-
-refuse.c is loaded before the C library of the system. Each run has the next request refused, until one ends in which
-none was. What is demanded:
+refuse.c is loaded before the C library of the system. Each run has the next request refused, until one ends in which none was. What is demanded:
 
     library       `subset` and `embed` (drivers/call.c calls them), as the font is and at coordinates, answer `out of memory` or as ever
     no memory     with every request refused `subset` answers as ever on fonts that are refused by the first checks
@@ -12,25 +8,21 @@ none was. What is demanded:
                   is touched; where no named instance has a name, the line that lists the names is whole or left out
     given back    no block of memory is held at the end that isn't held at the end of a run without a refusal
 
-The fonts are small ones of lib/made.py, and without --short Debian's (lib/fonts.py) and those of lib/kinds.py. The library and the program are as Cargo
-builds them, or LIBRARY and SUBSET_FONT; where Rust's standard library ends the build by Cargo, as its own requests can't fail, nothing may be written.
-The status is 1 where a run ends otherwise, or none was refused.
+The fonts are small ones of lib/made.py, and without --short Debian's (lib/fonts.py) and those of lib/kinds.py. Where Rust's standard library ends the build
+by Cargo, as its own requests can't fail, nothing may be written.
 """
 import itertools
 import os
 import subprocess
-import sys
 import tempfile
 from dataclasses import dataclass
-
-sys.path.insert(0, os.path.join(os.path.dirname(os.path.realpath(__file__)), "lib"))
 
 import build
 import fonts
 import kinds
 import made
 import report as reports
-from fault_ways import CMAP, FONT
+from fault_runs import CMAP, FONT
 
 REFUSE = os.path.join(build.BUILD, "refuse.so")
 NO_MEMORY, OLD = b"error 7\n", b"what stood there before"
@@ -124,8 +116,7 @@ def fixed(*values):
 
 def with_instances(names):
     """The variable font with named instances of these names, at weights of 500, 501 and so on."""
-    data = fonts.content(VARIABLE)
-    tables = {tag: data[at:at + length] for tag, (at, length) in fonts.directory(data).items()}
+    tables = fonts.tables_of(fonts.content(VARIABLE))
     tables["fvar"] = made.u16s(1, 0, 16, 2, 2, 20, len(names), 12) + tables["fvar"][16:56] + b"".join(made.u16s(257 + k, 0) + fixed(500 + k, 0) for k in range(len(names)))
     texts = [name.encode("utf-16-be") for name in names]
     heads = b"".join(made.u16s(3, 1, 0x0409, 257 + k, len(text), sum(map(len, texts[:k]))) for k, text in enumerate(texts))
@@ -156,8 +147,25 @@ def check_program(report, program, name, data, words, room, glyphs=""):
         report.say(f"subset_font {' '.join(words)}, {name}", f"{base.status} {base.err}")
 
 
+def library_task(call, library, which, name, data, glyphs, index, *settings):
+    report = reports.Report("refusals")
+    with tempfile.TemporaryDirectory(prefix="refusals-") as room:
+        if which == "none":
+            check_without_memory(report, [call, library, "subset"], room)
+        else:
+            check_call(report, [call, library, which], name, data, glyphs, room, *settings, index=index)
+    return report
+
+
+def program_task(program, name, data, words, glyphs):
+    report = reports.Report("refusals")
+    with tempfile.TemporaryDirectory(prefix="refusals-") as room:
+        check_program(report, program, name, data, words, room, glyphs)
+    return report
+
+
 def main():
-    words, report = reports.words(__doc__), reports.Report("refusals")
+    words = reports.words()
     build.preload("refuse.c", to="refuse.so")
     program, call, library = build.program(), build.gcc("call.c", "-ldl", to="call"), build.library()
     cases = [(name, data, glyphs, 0) for name, (data, glyphs) in made.WORKED.items()]
@@ -165,26 +173,14 @@ def main():
         fonts.install([*kinds.PACKAGES, *(it[0] for it in fonts.TRUETYPE_FONTS + fonts.CFF_FONTS)])
         for path, index in [it[1:] for it in fonts.TRUETYPE_FONTS + fonts.CFF_FONTS] + [(it[1], 0) for it in kinds.all_fonts() if it[0] not in ("CFF2", "made")]:
             cases.append((fonts.label(path, index), fonts.content(path), fonts.spread(min(fonts.glyph_count(path, index), 65535), 20), index))
-    with tempfile.TemporaryDirectory(prefix="refusals-") as room:
-        for which in ("subset", "embedded"):
-            for name, data, glyphs, index in cases:
-                # (`embed` wants metrics, which most of the small fonts lack)
-                if words.only in name and (which == "subset" or name not in made.WORKED):
-                    check_call(report, [call, library, which], name, data, glyphs, room, index=index)
-            for path, glyphs in ((VARIABLE, "1,2,3"), (CFF2, "0,1")):
-                check_call(report, [call, library, which], os.path.basename(path), fonts.content(path), glyphs, room, "wght", "42598400")
-        check_without_memory(report, [call, library, "subset"], room)
-        for name, data, glyphs, index in cases:
-            if words.only in name:
-                check_program(report, program, name, data, ["in", "out", str(index), glyphs], room)
-        runs = [("a font with cmap", WITH_CMAP, ["--text", "A", "in", "out", "0"]), ("a variable font", INSTANCES, ["--at", "bold", "in", "out", "0", "1"])]
-        runs += [("simple glyphs", made.WORKED["simple glyphs"][0], [*front, "--gids-file", "list", "in", "out", "0"]) for front in (["--json"], ["--quiet", "--no-names"])]
-        runs += [("a variable font", INSTANCES, ["--at", at, *pdf, "in", "out", "0", "1,2"]) for at in ("wght=650", "semi bold") for pdf in ([], ["--pdf", "page"])]
-        runs += [("a font with widths", FONT, [*front, "in", "out", "0"]) for front in WIDE_RUNS]
-        for name, data, more in runs:
-            check_program(report, program, name, data, more, room, "2")
-    reports.end([report], report.counts["refused"], "requests for memory refused of the library and the program")
-
-
-if __name__ == "__main__":
-    main()
+    cases = [it for it in cases if words.only in it[0]]
+    # (`embed` wants metrics, which most of the small fonts lack)
+    calls = [(call, library, which, *case) for which in ("subset", "embedded") for case in cases if which == "subset" or case[0] not in made.WORKED]
+    calls += [(call, library, which, os.path.basename(path), fonts.content(path), glyphs, 0, "wght", "42598400") for which in ("subset", "embedded") for path, glyphs in ((VARIABLE, "1,2,3"), (CFF2, "0,1"))]
+    runs = [(name, data, ["in", "out", str(index), glyphs], "") for name, data, glyphs, index in cases]
+    runs += [("a font with cmap", WITH_CMAP, ["--text", "A", "in", "out", "0"], "2"), ("a variable font", INSTANCES, ["--at", "bold", "in", "out", "0", "1"], "2")]
+    runs += [("simple glyphs", made.WORKED["simple glyphs"][0], [*front, "--gids-file", "list", "in", "out", "0"], "2") for front in (["--json"], ["--quiet", "--no-names"])]
+    runs += [("a variable font", INSTANCES, ["--at", at, *pdf, "in", "out", "0", "1,2"], "2") for at in ("wght=650", "semi bold") for pdf in ([], ["--pdf", "page"])]
+    runs += [("a font with widths", FONT, [*front, "in", "out", "0"], "2") for front in WIDE_RUNS]
+    found = reports.beside(words, library_task, [(call, library, "none", "", b"", "", 0), *calls], 0.5) + reports.beside(words, program_task, [(program, *it) for it in runs[::-1]])
+    reports.end(found, reports.total(found)["refused"], "requests for memory refused of the library and the program")

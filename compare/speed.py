@@ -1,21 +1,14 @@
-#!/usr/bin/python3
-"""What calls take and hold: the generated crate beside HarfBuzz and the Rust crate, by turns.
+"""What calls take and hold: the generated crate beside HarfBuzz and the Rust crate, by turns: speed --runs N --milliseconds N --only WORD
 
-    compare/speed.py [FOLDER ..] [--short] [--runs N] [--milliseconds N] [--only WORD]
-
-A row is a font (lib/fonts.py; of variable ones Debian's Inter, those of lib/cff2_fonts.py and of each FOLDER) with a number of kept glyphs, low ones in
-order or spread over the face, or all in a jumbled order. HarfBuzz's face is preprocessed before the clock starts; at coordinates there is the library
-alone. In each of N runs all programs take their turn, and the median of the runs' least times counts. `Held` are the bytes that a call of the Python
-module holds at most, besides the source, and with the answer twice. A row fails where the crate takes more than its part of another program's time
-(HARFBUZZ, ORIGINAL). The machine has to be quiet. The status is 1 where a row fails.
+A row is a font (lib/fonts.py; of variable ones Debian's Inter, those of lib/cff2_fonts.py and of FONTS) with a number of kept glyphs, low ones in order or
+spread over the face, or all in a jumbled order. HarfBuzz's face is preprocessed before the clock starts; at coordinates there is the library alone. In each
+of N runs all programs take their turn, and the median of the runs' least times counts. `Held` are the bytes that a call of the Python module holds at most,
+besides the source, and with the answer twice. A row fails where the crate takes more than its part of another program's time (HARFBUZZ, ORIGINAL).
 """
 import os
 import statistics
 import subprocess
-import sys
 import tempfile
-
-sys.path.insert(0, os.path.join(os.path.dirname(os.path.realpath(__file__)), "lib"))
 
 import build
 import cff2_fonts
@@ -65,7 +58,7 @@ def measured(programs, row, words, room):
 
 
 def main():
-    words = reports.words(__doc__, runs=(5, 1), milliseconds=(200, 20))
+    words = reports.words(runs=(3, 1), milliseconds=(200, 20))
     fonts.install([it[0] for it in fonts.TRUETYPE_FONTS + fonts.CFF_FONTS] + ["libharfbuzz-dev"] + harfbuzz.PACKAGES)
     build.preload("refuse.c", to="refuse.so")
     words.library = build.library()
@@ -90,7 +83,3 @@ def main():
                         report.say(f"{cells[0]}, {name}", f"{parts[other][-1]:.2f} of {other}'s time, and not {goal}")
     means = ", ".join(f"{statistics.geometric_mean(found):.2f} of {name}'s time in the geometric mean, at most {max(found):.2f}" for name, found in parts.items() if found)
     reports.end([report], report.counts["rows"], means)
-
-
-if __name__ == "__main__":
-    main()

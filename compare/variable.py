@@ -1,37 +1,27 @@
-#!/usr/bin/python3
-"""Instances of variable fonts with outlines in `glyf`, by the C library, beside a second reading, HarfBuzz and fontTools.
+"""Instances of variable fonts with outlines in `glyf`, by the C library, beside a second reading, HarfBuzz and fontTools: variable --places N --glyphs N --copies N
 
-    compare/variable.py [FOLDER ..] [--short] [--places N] [--glyphs N] [--copies N] [--seed S] [--only WORD] [--jobs J]
+The fonts are Debian's Inter and those of FONTS. For each it takes N places, at random and the same in each run by the seed, and N glyphs at each, and
+compares of the instance
 
-The fonts are Debian's Inter and those of each FOLDER. The library is as Cargo builds it, or LIBRARY. For each font it takes N places, at
-random and the same in each run by the seed, and N glyphs at each, and compares of the instance
+    reading      each glyph has the contours, the points, the advance and the bearing that the second reading (lib/reading.py) computes of the source, in
+                 whole numbers, and OVERLAP_SIMPLE on its first flag alone; `head` has their box, `hhea` their extremes, and `hhea` and `post` what
+                 `MVAR` varies
+    HarfBuzz     what the second reading has before rounding is within 0.01 of what HarfBuzz draws at the same normalized coordinates, and the
+                 advance is HarfBuzz's
+    fontTools    the box of `head` and the extremes of `hhea` are those that it computes, and `hhea` and `post` have what its reader of MVAR adds
 
-    reading      each glyph has the contours, the points, the advance and the bearing that the second reading (lib/reading.py) computes
-                 of the source, in whole numbers, and OVERLAP_SIMPLE on its first flag alone; `head` has their box, `hhea` their
-                 extremes, and `hhea` and `post` what `MVAR` varies
-    HarfBuzz     what the second reading has before rounding is within 0.01 of what HarfBuzz draws at the same normalized
-                 coordinates, and the advance is HarfBuzz's
-    fontTools    the box of `head` and the extremes of `hhea` are those that it computes, and `hhea` and `post` have what its reader of MVAR
-                 adds
-
-A glyph that the second reading refuses has to be refused by itself, and at its default a font is subset as it is. N damaged copies are changed in fvar, avar, gvar, HVAR, MVAR or glyf,
-at a random place and for 12 glyphs: each is answered as the second reading has it, or refused where that refuses it, within a second. The
-status is 1 where something differs.
+A glyph that the second reading refuses has to be refused by itself, and at its default a font is subset as it is. N damaged copies are changed in fvar, avar,
+gvar, HVAR, MVAR or glyf, at a random place and for 12 glyphs: each is answered as the second reading has it, or refused where that refuses it, within a second.
 """
 import io
-import os
 import random
-import sys
 import time
-
-sys.path.insert(0, os.path.join(os.path.dirname(os.path.realpath(__file__)), "lib"))
 
 import build
 import damage
 import fonts
 import harfbuzz
 import reading
-import reading_font
 import report as reports
 from made import u16s as unsigned
 from reading import UNIT
@@ -61,7 +51,7 @@ def flags_of(description):
 def headers_of(lines, drawn, count):
     """`hhea` and `post` of an instance, for those at the place: with the extremes of what is drawn, and the count of metrics."""
     hhea, post = bytearray(lines[0]), lines[1]
-    box, sides = reading_font.extremes(drawn.values())
+    box, sides = reading.extremes(drawn.values())
     hhea[10:18], hhea[34:36] = u16s(*sides), u16s(count)
     return u16s(*box), bytes(hhea), post and post[:32]
 
@@ -76,14 +66,14 @@ def is_as_read(data, drawn, lines):
 
 def difference(data, drawn, lines):
     """What is wrong with a new font for what was computed of its glyphs, in their order, and of `hhea` and `post`, if anything is."""
-    font = reading_font.Font(data, [])
+    font = reading.Font(data, [])
     tables = set(font.tables) - {b"name", b"post"}
     if tables != {b"glyf", b"head", b"hhea", b"hmtx", b"loca", b"maxp"}:
         return f"tables {sorted(tables)}"
     if font.count != len(drawn):
         return f"{font.count} glyphs"
     for glyph, (ends, points, advance, bearing) in enumerate(drawn.values()):
-        if reading_font.simple(font.description(glyph)) != (ends, points):
+        if reading.simple(font.description(glyph)) != (ends, points):
             return f"glyph {glyph} has other points"
         if font.metric(glyph) != (advance, bearing):
             return f"glyph {glyph}: {font.metric(glyph)}, and not {(advance, bearing)}"
@@ -156,7 +146,7 @@ def compare_default(report, library, data, glyphs, place):
 
 def compare_place(report, library, data, place, glyphs, source, other):
     """One instance."""
-    font = reading_font.Font(data, place_in(place))
+    font = reading.Font(data, place_in(place))
     if not any(font.at):
         compare_default(report, library, data, sorted(glyphs), place)
         return
@@ -205,17 +195,16 @@ def damaged(rng, data):
     tag = rng.choice([it for it in DAMAGED if it in tables])
     at, size = tables[tag]
     copy, size = bytearray(data), min(size, 4096) if rng.random() < 0.5 else size
-    for _ in range(rng.choice((1, 1, 2))):
-        rng.choice(damage.KINDS)(rng, copy, at, at + size)
+    damage.changed(rng, copy, at, at + size)
     return tag, bytes(copy)
 
 
 def answer_of(data, place, glyphs):
     """What the second reading has: the glyphs as drawn, and `hhea` and `post`; the name of a fault; or nothing at the default."""
     try:
-        if not any(reading.place_of(reading_font.directory(data), place_in(place))):
+        if not any(reading.place_of(reading.directory(data), place_in(place))):
             return None
-        font = reading_font.Font(data, place_in(place))
+        font = reading.Font(data, place_in(place))
         return ({glyph: font.drawn(glyph, STEPS)[:4] for glyph in sorted({0, *glyphs})}, font.lines())
     except reading.Fault as it:
         return it.args[0]
@@ -257,7 +246,7 @@ def judge_copy(report, made, wanted, label):
 # ---- all
 
 def main():
-    words = reports.words(__doc__, places=(20, 4), glyphs=(100, 40), copies=(100000, 2000))
+    words = reports.words(places=(20, 4), glyphs=(100, 40), copies=(100000, 2000))
     fonts.install(harfbuzz.PACKAGES)
     words.library = build.library()
     paths = fonts.variable(words.folders, words.only)
@@ -267,7 +256,3 @@ def main():
     counts = reports.total(found)
     reports.end(found, counts["reading"] + counts["copies"] + counts["at the default"], f"{len(paths)} fonts at {words.places} places, {counts['reading']} glyphs, {counts['refused']} refused; "
                 f"{counts['copies']} damaged copies, {counts['at the default']} at the default, {counts['refused copies']} refused ({counts['another error']} under another name)")
-
-
-if __name__ == "__main__":
-    main()

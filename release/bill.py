@@ -1,7 +1,6 @@
 """A bill of materials for each package, as SPDX 2.3 in JSON: the package with its sum and its files, and what it is made of."""
 import hashlib
 import json
-import re
 
 from packages import DATE_TEXT, sha256, unpacked
 
@@ -19,53 +18,30 @@ PARTS = {
 ORIGINAL = "0.2.6"
 
 
-def identifier(text):
-    """A name as SPDX's identifiers have it."""
-    return "SPDXRef-" + re.sub(r"[^A-Za-z0-9.]+", "-", text).strip("-")
-
-
-def file_entry(number, path, data, licence):
-    sums = [("SHA1", hashlib.sha1(data).hexdigest()), ("SHA256", sha256(data))]
-    return {
-        "SPDXID": f"SPDXRef-File-{number}", "fileName": f"./{path}", "licenseConcluded": licence, "copyrightText": UNKNOWN,
-        "checksums": [{"algorithm": name, "checksumValue": value} for name, value in sums],
-    }
-
-
-def verification(files):
-    """SPDX's code of a package: the sum of its files' sums, in order."""
-    sums = sorted(it["checksums"][0]["checksumValue"] for it in files)
-    return hashlib.sha1("".join(sums).encode()).hexdigest()
-
-
-def part_entry(key, version):
-    name, licence, supplier = PARTS[key]
-    return {
-        "SPDXID": identifier(f"Part-{key}"), "name": name, "versionInfo": version, "supplier": supplier, "filesAnalyzed": False,
-        "downloadLocation": UNKNOWN, "licenseConcluded": licence, "licenseDeclared": licence, "copyrightText": UNKNOWN,
-    }
+def entry(key, name, version, licence, **more):
+    """A package of SPDX."""
+    return {"SPDXID": f"SPDXRef-{key}", "name": name, "versionInfo": version, "downloadLocation": UNKNOWN, "licenseConcluded": licence, "licenseDeclared": licence,
+            "copyrightText": UNKNOWN, **more}
 
 
 def bill(name, data, package, version, licence, parts):
-    """The bill of a package: the name of its file and its bytes, its own name and version, the licence, and what is linked into
-    it, as {part: version}."""
-    files = unpacked(name, data)
-    listed = [file_entry(i, path, files[path], licence) for i, path in enumerate(sorted(files), 1)]
-    own = {
-        "SPDXID": "SPDXRef-Package", "name": package, "versionInfo": version, "packageFileName": name, "filesAnalyzed": True,
-        "downloadLocation": UNKNOWN, "licenseConcluded": licence, "licenseDeclared": licence, "copyrightText": UNKNOWN,
-        "checksums": [{"algorithm": "SHA256", "checksumValue": sha256(data)}],
-        "packageVerificationCode": {"packageVerificationCodeValue": verification(listed)},
-    }
+    """The bill of a package: the name of its file and its bytes, its own name and version, the licence, and what is linked into it, as {part: version}."""
+    sums = {path: [hashlib.sha1(it).hexdigest(), sha256(it)] for path, it in sorted(unpacked(name, data).items())}
+    listed = [{"SPDXID": f"SPDXRef-File-{i}", "fileName": f"./{path}", "licenseConcluded": licence, "copyrightText": UNKNOWN,
+               "checksums": [{"algorithm": kind, "checksumValue": value} for kind, value in zip(("SHA1", "SHA256"), both)]} for i, (path, both) in enumerate(sums.items(), 1)]
+    # (SPDX's code of a package: the sum of its files' sums, in order)
+    code = hashlib.sha1("".join(sorted(both[0] for both in sums.values())).encode()).hexdigest()
+    own = entry("Package", package, version, licence, packageFileName=name, filesAnalyzed=True, checksums=[{"algorithm": "SHA256", "checksumValue": sha256(data)}],
+                packageVerificationCode={"packageVerificationCodeValue": code})
     parts = {**parts, "original": ORIGINAL}
-    related = [("SPDXRef-DOCUMENT", "DESCRIBES", "SPDXRef-Package")]
-    related += [("SPDXRef-Package", "CONTAINS", it["SPDXID"]) for it in listed]
-    related += [("SPDXRef-Package", "DESCENDANT_OF" if it == "original" else "STATIC_LINK", identifier(f"Part-{it}")) for it in parts]
+    made_of = [entry(f"Part-{it}", PARTS[it][0], number, PARTS[it][1], supplier=PARTS[it][2], filesAnalyzed=False) for it, number in parts.items()]
+    related = [("SPDXRef-DOCUMENT", "DESCRIBES", "SPDXRef-Package"), *(("SPDXRef-Package", "CONTAINS", it["SPDXID"]) for it in listed)]
+    related += [("SPDXRef-Package", "DESCENDANT_OF" if it == "original" else "STATIC_LINK", f"SPDXRef-Part-{it}") for it in parts]
     said = {
         "spdxVersion": "SPDX-2.3", "dataLicense": "CC0-1.0", "SPDXID": "SPDXRef-DOCUMENT", "name": name,
         "documentNamespace": f"https://spdx.org/spdxdocs/{name}-{sha256(data)}",
         "creationInfo": {"created": DATE_TEXT, "creators": ["Tool: release/make"]},
-        "packages": [own, *(part_entry(it, number) for it, number in parts.items())], "files": listed,
+        "packages": [own, *made_of], "files": listed,
         "relationships": [{"spdxElementId": one, "relationshipType": kind, "relatedSpdxElement": other} for one, kind, other in related],
     }
     return json.dumps(said, indent=1, ensure_ascii=False).encode() + b"\n"

@@ -6,7 +6,7 @@ import os
 import re
 import shutil
 
-from kit import ROOT, Failed, run
+from kit import ROOT, Failed, run, text_of, write
 
 TARGETS = ["windows", "s390x"]
 # What is linked in beside the crate, by a part of a package's name, with the versions that tests/platforms/targets has of Debian.
@@ -14,16 +14,6 @@ RUST = {"rust": "1.63.0"}
 LINKED = {"s390x": RUST, ".tgz": RUST, **dict.fromkeys(["windows", "win_amd64"], {**RUST, "mingw": "10.0.0", "gcc": "12.2.0"})}
 # A DLL has no date in its head.
 FLAGS = {"windows": " -C link-arg=-Wl,--no-insert-timestamp"}
-
-
-def text_of(*path):
-    with open(os.path.join(*path), encoding="utf-8") as file:
-        return file.read()
-
-
-def write(text, *path):
-    with open(os.path.join(*path), "w", encoding="utf-8") as file:
-        file.write(text)
 
 
 def copied(room):
@@ -39,8 +29,8 @@ def copied(room):
     profile = re.search(r"^\[profile\.release\]\n(?:[a-z-]+ = .*\n)+", manifest, re.M)
     if not profile or manifest.count("\n[workspace]\n") != 1:
         raise Failed("bindings/capi/Cargo.toml has no profile or no workspace")
-    write(manifest.replace(profile[0], "").replace("\n[workspace]\n", "\n"), bindings, "capi", "Cargo.toml")
-    write(f'[workspace]\nmembers = ["capi"]\nexclude = ["rust"]\n\n{profile[0]}', bindings, "Cargo.toml")
+    write(manifest.replace(profile[0], "").replace("\n[workspace]\n", "\n").encode(), bindings, "capi", "Cargo.toml")
+    write(f'[workspace]\nmembers = ["capi"]\nexclude = ["rust"]\n\n{profile[0]}'.encode(), bindings, "Cargo.toml")
     os.rename(os.path.join(bindings, "capi", "Cargo.lock"), os.path.join(bindings, "Cargo.lock"))
     return os.path.join(room, "sources")
 

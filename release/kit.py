@@ -5,11 +5,28 @@ import subprocess
 import sys
 
 ROOT = os.path.dirname(os.path.dirname(os.path.realpath(__file__)))
+sys.path.insert(1, os.path.join(ROOT, "tools"))
+import keep
+
 # The processor that each target is built for: the first of the kit's list, which every processor of the target runs.
 TARGETS = {
     "x86_64": ("x86_64-unknown-linux-gnu", "x86-64"),
     "aarch64": ("aarch64-unknown-linux-gnu", "generic"),
 }
+
+
+def read(*path):
+    with open(os.path.join(*path), "rb") as file:
+        return file.read()
+
+
+def text_of(*path):
+    return read(*path).decode()
+
+
+def write(data, *path):
+    with open(os.path.join(*path), "wb") as file:
+        file.write(data)
 
 
 class Failed(Exception):
@@ -24,65 +41,33 @@ def run(words, cwd=ROOT, env=None):
     return ran.stdout
 
 
-def folder_of(crate):
-    return os.path.join(ROOT, "crates", crate)
-
-
-def rlib_of(crate):
-    return os.path.join(folder_of(crate), "out", "rlib")
-
-
-def crates():
-    """The libraries that each crate names, by the crate's name; in crates.txt's order."""
-    named = {}
-    with open(os.path.join(ROOT, "crates.txt"), encoding="utf-8") as file:
-        for line in file:
-            front, colon, rest = line.partition("#")[0].partition(":")
-            if colon:
-                named[front.split()[0]] = rest.split()
-    return named
-
-
-def below(crate, named):
-    """The repository's libraries below a crate, each after those that it names."""
-    found = []
-    for name in named[crate]:
-        if name in named:
-            found += [it for it in [*below(name, named), name] if it not in found]
-    return found
-
-
 class Kit:
     def __init__(self):
-        self.folder = os.path.dirname(run(["rt", "doc"]).strip())
-        self.line = run(["rt", "version"]).strip()
-        self.named = crates()
+        self.rt = keep.kit()
+        self.folder, self.line = self.rt.KIT, run(["rt", "version"]).strip()
+        self.crates = {it.name: it for it in self.rt.crates_below(ROOT)}
 
-    def check(self, crate):
+    def below(self, *tops):
+        """The repository's libraries below some crates, each after those that it names."""
+        return list(dict.fromkeys(it.name for top in tops for it in self.crates[top].below()))
+
+    def check(self, name):
         """The last line of a check of a crate, which proves whatever isn't proved yet."""
-        said = [it for it in run(["rt", "check"], folder_of(crate)).split("\n") if it.startswith("logic=")]
+        said = [it for it in run(["rt", "check"], self.crates[name].folder).split("\n") if it.startswith("logic=")]
         if not said or not said[-1].startswith("logic=proved "):
-            raise Failed(f"{crate} isn't proved")
+            raise Failed(f"{name} isn't proved")
         return said[-1]
 
-    def compile(self, crate, target, to, cpu=None):
-        """Compiles a proved crate for a target, for every processor of it or for `cpu`, and answers the last line of that."""
-        triple, every = TARGETS[target]
-        is_program = os.path.exists(os.path.join(folder_of(crate), "src", "main.rt"))
-        words = [os.path.join(self.folder, "bin", "rattle"), "build", "--crate-name", crate]
-        words += ["src/main.rt"] if is_program else ["src/lib.rt", "--crate-type", "staticlib"]
-        for name in ["std", *self.named[crate]]:
-            place = rlib_of(name) if name in self.named else os.path.join(self.folder, "rlibs")
-            words += ["--extern", f"{name}={place}/{name}.rlib"]
-        for place in [os.path.join(self.folder, "rlibs"), *map(rlib_of, below(crate, self.named))]:
-            words += ["-L", f"dependency={place}"]
-        words += ["--antt-project", f"{self.folder}/rattle/logic/antt-project.json"]
-        words += ["--logic-built", f"{self.folder}/logic_built", "--incremental", "out/incremental"]
-        words += ["--links", f"{crate}=", "--toolchain", f"{self.folder}/toolchain", "--backend", "llvm"]
-        words += ["--target", triple, "--cpu", cpu or every, "-o", to]
-        said = re.findall(r"^logic=proved .*$", run(words, folder_of(crate)), re.M)
-        if not said or f" target={triple} " not in said[-1] or (" cpu=" in said[-1]) != bool(cpu):
-            raise Failed(f"{crate} isn't proved for {triple}, {cpu or 'each of its processors'}: {said}")
+    def compile(self, name, target, to):
+        """Compiles a crate for every processor of a target, over libraries that are proved, and answers the last line of that: it proves what isn't kept."""
+        crate, (triple, cpu) = self.crates[name], TARGETS[target]
+        if not all(it.is_built() for it in crate.below()):
+            self.check(name)
+        words = crate.words(["--jobs", "2", "--target", triple, "--cpu", cpu]) + self.rt.KEPT
+        said = run([self.rt.RATTLE, "build", *words, "--toolchain", f"{self.folder}/toolchain", "--backend", "llvm", "-o", to], crate.folder)
+        said = re.findall(r"^logic=proved .*$", said, re.M)
+        if not said or f" target={triple} " not in said[-1] or " cpu=" in said[-1]:
+            raise Failed(f"{name} isn't proved for each processor of {triple}: {said}")
         return said[-1]
 
     def link(self, compiled, program):

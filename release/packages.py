@@ -1,18 +1,20 @@
-"""Puts files together into packages, so that the same files always give the same bytes: names in order, one date for
-all, one owner, no name of a machine.
-
-A tree is a dict from a path to a `File`.
-"""
+"""Puts files together into packages, so that the same files always give the same bytes: names in order, one date for all, one owner, no name of a
+machine. A tree is a dict from a path to a `File`."""
 import base64
 import gzip
 import hashlib
 import io
+import re
+import subprocess
 import tarfile
+import tempfile
 import zipfile
 from typing import NamedTuple, Optional
 
 # The date of every file in a package: 1980-01-01, the first that a zip can say.
 DATE, ZIP_DATE, DATE_TEXT = 315532800, (1980, 1, 1, 0, 0, 0), "1980-01-01T00:00:00Z"
+# Of manylinux the tags that have a second, older name. Those before 2.17 are for x86-64 alone.
+OLDER_NAMES = {(2, 5): "manylinux1", (2, 12): "manylinux2010", (2, 17): "manylinux2014"}
 
 
 class File(NamedTuple):
@@ -22,41 +24,18 @@ class File(NamedTuple):
 
     @property
     def mode(self):
-        return 0o755 if self.is_program else 0o644
-
-
-def folders_of(tree):
-    """Every folder that a file of the tree stands in."""
-    found = set()
-    for path in tree:
-        parts = path.split("/")[:-1]
-        found |= {"/".join(parts[:k]) for k in range(1, len(parts) + 1)}
-    return found
-
-
-def entry(path, file):
-    """The head of a file, of a link or, without a file, of a folder."""
-    head = tarfile.TarInfo(path)
-    head.mtime, head.mode = DATE, 0o755
-    if file is None:
-        head.type = tarfile.DIRTYPE
-    elif file.link is not None:
-        head.type, head.linkname, head.mode = tarfile.SYMTYPE, file.link, 0o777
-    else:
-        head.size, head.mode = len(file.data), file.mode
-    return head
+        return 0o777 if self.link is not None else 0o755 if self.is_program else 0o644
 
 
 def tar_gz(tree):
-    """A tar of a tree, compressed; its owner is number 0 without a name."""
-    made, packed = io.BytesIO(), io.BytesIO()
-    with tarfile.open(fileobj=made, mode="w", format=tarfile.USTAR_FORMAT) as tar:
-        for path in sorted([*folders_of(tree), *tree]):
-            file = tree.get(path)
-            tar.addfile(entry(path, file), io.BytesIO(file.data) if file and file.link is None else None)
-    # (no name and no date in gzip's own head)
-    with gzip.GzipFile(filename="", mode="wb", compresslevel=9, fileobj=packed, mtime=0) as out:
-        out.write(made.getvalue())
+    """A tar of a tree, compressed; its owner is number 0 without a name, and gzip's own head has no name and no date."""
+    packed = io.BytesIO()
+    with gzip.GzipFile(filename="", mode="wb", compresslevel=9, fileobj=packed, mtime=0) as out, tarfile.open(fileobj=out, mode="w", format=tarfile.USTAR_FORMAT) as tar:
+        for path, file in sorted(tree.items()):
+            head = tarfile.TarInfo(path)
+            head.mtime, head.mode, head.size = DATE, file.mode, len(file.data)
+            head.type, head.linkname = (tarfile.REGTYPE, "") if file.link is None else (tarfile.SYMTYPE, file.link)
+            tar.addfile(head, io.BytesIO(file.data))
     return packed.getvalue()
 
 
@@ -76,24 +55,14 @@ def sha256(data):
     return hashlib.sha256(data).hexdigest()
 
 
-def recorded(path, data):
-    """A file's line of a wheel's RECORD."""
-    sum_of = base64.urlsafe_b64encode(hashlib.sha256(data).digest()).rstrip(b"=").decode()
-    return f"{path},sha256={sum_of},{len(data)}\n"
-
-
 def wheel(tree, info, metadata, tags, licences):
-    """A wheel of a tree for any Python 3 on the platforms of `tags`; `info` is the name of its folder with METADATA, in which
-    the tree `licences` stands too."""
-    said = "Wheel-Version: 1.0\nGenerator: release/make\nRoot-Is-Purelib: false\n"
-    said += "".join(f"Tag: py3-none-{it}\n" for it in tags)
-    whole = {path: tree[path] for path in sorted(tree)}
-    whole.update({f"{info}/{path}": licences[path] for path in sorted(licences)})
-    whole[f"{info}/METADATA"] = File(metadata.encode())
-    whole[f"{info}/WHEEL"] = File(said.encode())
-    record = "".join(recorded(path, file.data) for path, file in whole.items()) + f"{info}/RECORD,,\n"
-    whole[f"{info}/RECORD"] = File(record.encode())
-    return zipped(whole)
+    """A wheel of a tree for any Python 3 on the platforms of `tags`; `info` is the name of its folder with METADATA, in which the tree `licences` is, too."""
+    said = "Wheel-Version: 1.0\nGenerator: release/make\nRoot-Is-Purelib: false\n" + "".join(f"Tag: py3-none-{it}\n" for it in tags)
+    whole = {**dict(sorted(tree.items())), **{f"{info}/{path}": licences[path] for path in sorted(licences)}}
+    whole.update({f"{info}/METADATA": File(metadata.encode()), f"{info}/WHEEL": File(said.encode())})
+    sums = {path: base64.urlsafe_b64encode(hashlib.sha256(file.data).digest()).rstrip(b"=").decode() for path, file in whole.items()}
+    record = "".join(f"{path},sha256={sums[path]},{len(file.data)}\n" for path, file in whole.items())
+    return zipped({**whole, f"{info}/RECORD": File(f"{record}{info}/RECORD,,\n".encode())})
 
 
 def unpacked(name, data):
@@ -102,4 +71,30 @@ def unpacked(name, data):
         with zipfile.ZipFile(io.BytesIO(data)) as file:
             return {it: file.read(it) for it in file.namelist()}
     with tarfile.open(fileobj=io.BytesIO(data), mode="r:gz") as tar:
-        return {it.name: tar.extractfile(it).read() for it in tar.getmembers() if it.isfile()}
+        return {it.name: tar.extractfile(it).read() for it in tar if it.isfile()}
+
+
+# ---- what a shared library or a program needs of glibc
+
+def needed(data):
+    """The oldest glibc that has each symbol which these bytes need, as (2, 17)."""
+    with tempfile.NamedTemporaryFile(prefix="elf-") as file:
+        file.write(data)
+        file.flush()
+        said = subprocess.run(["readelf", "-WV", file.name], check=True, capture_output=True, text=True).stdout
+    names = set(re.findall(r"Name: (\S+)\s+Flags:", said.partition("Version needs section")[2]))
+    odd = {it for it in names if not re.fullmatch(r"(GLIBC|GCC)_[0-9.]+", it)}
+    if odd:
+        raise ValueError(f"it needs more than glibc: {', '.join(sorted(odd))}")
+    return max((tuple(map(int, it[6:].split(".")[:2])) for it in names if it.startswith("GLIBC_")), default=(2, 0))
+
+
+def glibc(data):
+    return ".".join(map(str, needed(data)))
+
+
+def manylinux(data, processor):
+    """The tags of a wheel's platform: the oldest manylinux that its library runs on."""
+    olds = [it for it in sorted(OLDER_NAMES) if it >= needed(data) and (processor == "x86_64" or it >= (2, 17))]
+    level = olds[0] if olds else needed(data)
+    return [f"manylinux_{level[0]}_{level[1]}_{processor}", *(f"{OLDER_NAMES[it]}_{processor}" for it in olds[:1])]

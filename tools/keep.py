@@ -74,4 +74,5 @@ def main(words):
     print(f"keep.py: {len(found)} libraries of this run are kept")
 
 
-main(sys.argv[1:])
+if __name__ == "__main__":
+    main(sys.argv[1:])

@@ -1,65 +1,52 @@
-/* Refuses requests for memory and fails calls for files, one at a time, and counts them. Loaded before the C library:
- * LD_PRELOAD=refuse.so TOLD=FILE [REFUSE=N | REFUSE=all] [ROOM=BYTES] [SPARE=BYTES] [WITHIN=clock] [FAIL=WHAT:N [ERROR=E]]
- * [INODE=N] PROGRAM WORDS.
+/* Refuses requests for memory one at a time, and counts them. Loaded before the C library, for programs of one thread:
+ * LD_PRELOAD=refuse.so TOLD=FILE [REFUSE=N | REFUSE=all] [ROOM=BYTES] [SPARE=BYTES] [WITHIN=clock] [FAIL=WHAT:N] [INODE=N] PROGRAM WORDS.
  *
  *     REFUSE=N       the Nth request for memory is refused; with `all` each is
  *     ROOM=BYTES     a request is refused where more than so many bytes would be held
- *     SPARE=BYTES    from when a file is made on, a request is refused where more than so many bytes above what is held
- *                    then would be held
+ *     SPARE=BYTES    the same from when a file is made on, with so many bytes above what is held then
  *     WITHIN=clock   requests count from the first reading of the clock to the second: what a program times
- *     FAIL=WHAT:N    the Nth call of WHAT fails: open (of `/` apart), size, read, write, write1 and write2 for the standard
- *                    streams, rename, or sync
- *     ERROR=E        it says the error of that number, and not EIO; with 0 the process is killed there
+ *     FAIL=WHAT:N    the Nth call of WHAT fails: write, and write1 and write2 for the standard streams
  *     INODE=N        each file has the inode number N
- *     TOLD=FILE      gets the counts at the end, where the last refused request stood, and whether it gave back a part of a
- *                    block (`less`) or asked for memory (`more`)
- *
- * For programs of one thread. */
+ *     TOLD=FILE      gets at the end the numbers of requests, of refused ones, and of the blocks and bytes that are held */
 #define _GNU_SOURCE
+#include <errno.h>
 #include <fcntl.h>
-#include <signal.h>
 #include <stdarg.h>
+#include <stdint.h>
 #include <stdio.h>
+#include <stdlib.h>
+#include <string.h>
 #include <sys/stat.h>
 #include <sys/syscall.h>
 #include <time.h>
 #include <unistd.h>
 
-#include "blocks.h"
+extern void *__libc_malloc(size_t);
+extern void __libc_free(void *);
 
-enum call { OPEN, SIZE, READ, WRITE, WRITE1, WRITE2, RENAME, SYNC, CALLS };
-static const char *const names[CALLS] = {"open", "size", "read", "write", "write1", "write2", "rename", "sync"};
+/* In the 16 bytes before each block: what was asked for, and how far before the block its memory begins. */
+struct head {
+    size_t asked, before;
+};
 
-/* Where a program that reads a file and then writes one stands. */
-enum stage { BEFORE, READING, AFTER, WRITING };
-static const char *const stages[] = {"before", "reading", "after", "writing"};
-
-static size_t requests, refused, calls[CALLS], wanted_request, wanted_call, room = SIZE_MAX, spare = SIZE_MAX;
-static int refuses_all, within_clock, clock_readings, is_ready, is_ended, refused_less;
-static enum call wanted = CALLS;
-static int error_said = EIO;
+static size_t held, peak, blocks, requests, refused, writes[3], wanted_request, wanted_write, room = SIZE_MAX, spare = SIZE_MAX;
+static int refuses_all, within_clock, clock_readings, is_ready, is_ended, wanted_stream = -1;
 static unsigned long inode;
-static enum stage stage = BEFORE, refused_in = BEFORE;
 
-static void read_wishes(void) {
-    const char *refuse = getenv("REFUSE"), *within = getenv("WITHIN"), *fail = getenv("FAIL"), *most = getenv("ROOM"),
-               *more = getenv("SPARE"), *error = getenv("ERROR"), *number = getenv("INODE");
-    is_ready = 1;
-    refuses_all = refuse && !strcmp(refuse, "all");
-    wanted_request = refuse && !refuses_all ? strtoul(refuse, NULL, 10) : 0;
-    if (most) room = strtoul(most, NULL, 10);
-    if (more) spare = strtoul(more, NULL, 10);
-    if (error) error_said = atoi(error);
-    if (number) inode = strtoul(number, NULL, 10);
-    within_clock = within && !strcmp(within, "clock");
-    const char *colon = fail ? strchr(fail, ':') : NULL;
-    for (int k = 0; colon && k < CALLS; k++)
-        if (strlen(names[k]) == (size_t)(colon - fail) && !strncmp(fail, names[k], colon - fail)) wanted = k;
-    wanted_call = colon ? strtoul(colon + 1, NULL, 10) : 0;
-}
+static size_t number_of(const char *name, size_t otherwise) { return getenv(name) ? strtoul(getenv(name), NULL, 10) : otherwise; }
 
 /* The C library's own start isn't the program's: what it asks for before this is given. */
-__attribute__((constructor)) static void start(void) { read_wishes(); }
+__attribute__((constructor)) static void start(void) {
+    const char *refuse = getenv("REFUSE"), *fail = getenv("FAIL");
+    refuses_all = refuse && !strcmp(refuse, "all");
+    wanted_request = number_of("REFUSE", 0);
+    room = number_of("ROOM", SIZE_MAX);
+    spare = number_of("SPARE", SIZE_MAX);
+    inode = number_of("INODE", 0);
+    within_clock = getenv("WITHIN") != NULL;
+    if (fail) wanted_stream = fail[5] == ':' ? 0 : fail[5] - '0', wanted_write = strtoul(strchr(fail, ':') + 1, NULL, 10);
+    is_ready = 1;
+}
 
 /* Whether a request for so many bytes is to be refused. */
 static int is_refused(size_t asked) {
@@ -67,40 +54,49 @@ static int is_refused(size_t asked) {
     requests++;
     if (!refuses_all && requests != wanted_request && (asked <= room && held <= room - asked)) return 0;
     refused++;
-    refused_in = stage;
     errno = ENOMEM;
     return 1;
 }
 
-/* Whether a call is to fail. */
-static int fails(enum call what) {
-    if (!is_ready || is_ended || ++calls[what] != wanted_call || what != wanted) return 0;
-    if (!error_said) raise(SIGKILL);
-    errno = error_said;
-    return 1;
+static struct head *head_of(void *block) { return (struct head *)block - 1; }
+
+static void *given(size_t align, size_t asked) {
+    align = align < 16 ? 16 : align;
+    char *memory = asked + align + 16 < asked ? NULL : __libc_malloc(asked + align + 16);
+    if (!memory) return NULL;
+    char *block = (char *)(((uintptr_t)memory + 16 + align - 1) / align * align);
+    *head_of(block) = (struct head){asked, block - memory};
+    held += asked;
+    if (held > peak) peak = held;
+    blocks++;
+    return block;
 }
 
-void *malloc(size_t asked) { return is_refused(asked) ? NULL : given(asked); }
+void free(void *block) {
+    if (!block) return;
+    held -= head_of(block)->asked;
+    blocks--;
+    __libc_free((char *)block - head_of(block)->before);
+}
+
+void *aligned_alloc(size_t align, size_t asked) { return is_refused(asked) ? NULL : given(align, asked); }
+
+void *memalign(size_t align, size_t asked) { return aligned_alloc(align, asked); }
+
+void *malloc(size_t asked) { return aligned_alloc(16, asked); }
+
+int posix_memalign(void **block, size_t align, size_t asked) { return (*block = aligned_alloc(align, asked)) ? 0 : ENOMEM; }
 
 void *calloc(size_t count, size_t size) {
     size_t asked;
-    if (__builtin_mul_overflow(count, size, &asked) || is_refused(asked)) return NULL;
-    void *block = given(asked);
+    void *block = __builtin_mul_overflow(count, size, &asked) ? NULL : aligned_alloc(16, asked);
     return block ? memset(block, 0, asked) : NULL;
 }
 
-void *aligned_alloc(size_t align, size_t asked) { return is_refused(asked) ? NULL : given_aligned(align, asked); }
-
 void *realloc(void *block, size_t asked) {
-    if (!block) return malloc(asked);
-    struct head old = *head_of(block);
-    if (is_refused(asked)) {
-        refused_less = asked <= old.asked;
-        return NULL;
-    }
-    void *fresh = given(asked);
-    if (!fresh) return NULL;
-    memcpy(fresh, block, old.asked < asked ? old.asked : asked);
+    void *fresh = malloc(asked);
+    if (!block || !fresh) return fresh;
+    memcpy(fresh, block, head_of(block)->asked < asked ? head_of(block)->asked : asked);
     free(block);
     return fresh;
 }
@@ -110,65 +106,38 @@ int clock_gettime(clockid_t id, struct timespec *now) {
     return syscall(SYS_clock_gettime, id, now);
 }
 
-static int opened(int folder, const char *name, int how, mode_t rights) {
-    /* (the program opens `/` to hold the numbers of closed standard streams: no file of a request) */
-    if (name[0] == '/' && !name[1]) return syscall(SYS_openat, folder, name, how, rights);
-    if (fails(OPEN)) return -1;
-    int writes = (how & O_ACCMODE) != O_RDONLY;
-    stage = writes ? WRITING : stage == BEFORE ? READING : stage;
+int openat(int folder, const char *name, int how, ...) {
+    va_list more;
+    va_start(more, how);
+    mode_t rights = va_arg(more, mode_t);
+    va_end(more);
     if ((how & O_CREAT) && spare != SIZE_MAX) room = held + spare;
     return syscall(SYS_openat, folder, name, how, rights);
 }
 
-static mode_t rights_of(int how, va_list more) { return how & (O_CREAT | O_TMPFILE) ? va_arg(more, mode_t) : 0; }
-
-int open(const char *name, int how, ...) {
-    va_list more;
-    va_start(more, how);
-    mode_t rights = rights_of(how, more);
-    va_end(more);
-    return opened(AT_FDCWD, name, how, rights);
-}
-
-int open64(const char *name, int how, ...) {
-    va_list more;
-    va_start(more, how);
-    mode_t rights = rights_of(how, more);
-    va_end(more);
-    return opened(AT_FDCWD, name, how, rights);
-}
-
-int openat(int folder, const char *name, int how, ...) {
-    va_list more;
-    va_start(more, how);
-    mode_t rights = rights_of(how, more);
-    va_end(more);
-    return opened(folder, name, how, rights);
-}
+/* (where no rights are passed they aren't used) */
+#define OPEN(NAME)                                            \
+    int NAME(const char *name, int how, ...) {                \
+        va_list more;                                         \
+        va_start(more, how);                                  \
+        mode_t rights = va_arg(more, mode_t);                 \
+        va_end(more);                                         \
+        return openat(AT_FDCWD, name, how, rights);           \
+    }
+OPEN(open)
+OPEN(open64)
 
 int statx(int folder, const char *restrict name, int how, unsigned wanted_parts, struct statx *restrict about) {
-    if (fails(SIZE)) return -1;
     int found = syscall(SYS_statx, folder, name, how, wanted_parts, about);
     if (found == 0 && inode) about->stx_ino = inode;
     return found;
 }
 
-int rename(const char *from, const char *to) {
-    return fails(RENAME) ? -1 : syscall(SYS_renameat2, AT_FDCWD, from, AT_FDCWD, to, 0);
-}
-
-int fdatasync(int file) { return fails(SYNC) ? -1 : syscall(SYS_fdatasync, file); }
-
-ssize_t read(int file, void *bytes, size_t count) {
-    if (fails(READ)) return -1;
-    ssize_t got = syscall(SYS_read, file, bytes, count);
-    if (got == 0 && stage == READING) stage = AFTER;
-    return got;
-}
-
 ssize_t write(int file, const void *bytes, size_t count) {
-    if (fails(file == 1 ? WRITE1 : file == 2 ? WRITE2 : WRITE)) return -1;
-    return syscall(SYS_write, file, bytes, count);
+    int stream = file == 1 || file == 2 ? file : 0;
+    if (!is_ready || is_ended || ++writes[stream] != wanted_write || stream != wanted_stream) return syscall(SYS_write, file, bytes, count);
+    errno = EIO;
+    return -1;
 }
 
 ssize_t __write(int file, const void *bytes, size_t count) { return write(file, bytes, count); }
@@ -181,13 +150,10 @@ size_t most_held(void) {
 }
 
 __attribute__((destructor)) static void tell(void) {
-    const char *name = getenv("TOLD");
-    char text[400];
+    char text[200];
     is_ended = 1;
-    const char *where = stages[refused_in], *what = refused_less ? "less" : "more";
-    int length = snprintf(text, sizeof text, "%zu %zu %zu %zu %s %s", requests, refused, blocks, held, where, what);
-    for (int k = 0; k < CALLS; k++) length += snprintf(text + length, sizeof text - length, " %zu", calls[k]);
-    int file = name ? syscall(SYS_openat, AT_FDCWD, name, O_WRONLY | O_CREAT | O_TRUNC, 0644) : -1;
+    int length = snprintf(text, sizeof text, "%zu %zu %zu %zu", requests, refused, blocks, held);
+    int file = getenv("TOLD") ? syscall(SYS_openat, AT_FDCWD, getenv("TOLD"), O_WRONLY | O_CREAT | O_TRUNC, 0644) : -1;
     if (file < 0) return;
     syscall(SYS_write, file, text, length);
     syscall(SYS_close, file);

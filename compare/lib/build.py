@@ -78,7 +78,6 @@ edition = "2021"
 
 [dependencies]
 %s
-
 [features]
 default = ["std"]
 std = []
@@ -88,17 +87,30 @@ variable-fonts = []
 """
 
 
-def driver(folder):
-    """A driver over the generated crate, or over the Rust crate (ORIGINAL), whose sources are laid out with manifests that name no registry."""
-    found = sorted(glob.glob("/usr/share/cargo/registry/rustc-hash-*"))
-    if folder == "original" and not found:
-        sys.exit(f"{NAME}: no rustc-hash: apt-get install librust-rustc-hash-dev")
-    parts = [("subsetter", "0.2.6", named("ORIGINAL"), 'rustc-hash = { path = "../rustc-hash" }'), ("rustc-hash", found[-1].rpartition("-")[2], found[-1], "")] if folder == "original" else []
-    for name, version, source, needs in parts:
-        shutil.copytree(os.path.join(source, "src"), os.path.join(BUILD, name, "src"), dirs_exist_ok=True)
-        with open(os.path.join(BUILD, name, "Cargo.toml"), "w", encoding="utf-8") as file:
-            file.write(MANIFEST % (name, version, needs))
-    return os.path.join(cargo(f"compare/{folder}", "--release", RUSTFLAGS="-C target-cpu=x86-64-v2"), "release", f"{folder}_bench")
+def package(name, version, needs, source):
+    """Lays out a Rust package whose manifest names no registry: its folder in build/."""
+    folder = os.path.join(BUILD, name)
+    os.makedirs(os.path.join(folder, "src"), exist_ok=True)
+    if os.path.isfile(source):
+        shutil.copy(source, os.path.join(folder, "src", "main.rs"))
+    else:
+        shutil.copytree(source, os.path.join(folder, "src"), dirs_exist_ok=True)
+    with open(os.path.join(folder, "Cargo.toml"), "w", encoding="utf-8") as file:
+        file.write(MANIFEST % (name, version, "".join(f'{it} = {{ path = "{path}" }}\n' for it, path in needs.items())))
+    return folder
+
+
+def driver(name):
+    """drivers/bench.rs over the generated crate, or over the Rust crate (`original`: ORIGINAL)."""
+    crate = os.path.join(ROOT, "bindings", "rust")
+    if name == "original":
+        found = sorted(glob.glob("/usr/share/cargo/registry/rustc-hash-*"))
+        if not found:
+            sys.exit(f"{NAME}: no rustc-hash: apt-get install librust-rustc-hash-dev")
+        rustc_hash = package("rustc-hash", found[-1].rpartition("-")[2], {}, os.path.join(found[-1], "src"))
+        crate = package("subsetter", "0.2.6", {"rustc-hash": rustc_hash}, os.path.join(named("ORIGINAL"), "src"))
+    package(f"{name}_bench", "0.1.0", {"subsetter": crate}, os.path.join(DRIVERS, "bench.rs"))
+    return os.path.join(cargo(f"compare/build/{name}_bench", "--release", RUSTFLAGS="-C target-cpu=x86-64-v2"), "release", f"{name}_bench")
 
 
 def gcc(source, *more, to):

@@ -1,8 +1,8 @@
 """Damaged CFF2 fonts, and what the program may answer of them: what cff2.py takes.
 
 A new font has to draw what HarfBuzz draws of the damaged copy, each coordinate rounded once. Where HarfBuzz draws something else, as it goes on
-where a table is broken and knows other limits, it has to be what fontTools reads, in exact fractions; or where one of them reads nothing, what a third
-reading has (cff2_dicts.py). The advance is HarfBuzz's, or that of the second reading (reading.py).
+where a table is broken and knows other limits, it has to be what the second reading has (cff2_source.py), in exact fractions. The advance is
+HarfBuzz's, or that of the second reading (reading.py).
 A private dict that has an operator without its operand is in the new font as it is in the copy: FreeType has to open neither.
 """
 import os
@@ -10,19 +10,19 @@ import random
 import resource
 import tempfile
 
-import cff2_dicts
+import cff2_source
 import damage
 import fonts
 import harfbuzz
 import reading
-from cff2_source import CLOSED, Face, Source
+from cff2_source import CLOSED, Face
 from cff2_whole import Broken, FreeType, Refused, subset_at
 from harfbuzz import HarfBuzz, contours, half_up
 from report import Report
 
 DAMAGED = ["CFF2", "fvar", "avar", "HVAR"]
 GLYPHS, SECONDS = 12, 1
-THIRD = "a third reading"
+SECOND = "the second reading"
 # HarfBuzz's floats have 24 bits, and a coordinate is a sum of many.
 NEAR, PART = 0.001, 2 ** -19
 # Pieces of so many copies.
@@ -30,23 +30,16 @@ PIECE = 50
 
 
 def ranges(face, glyphs):
-    """The parts of the table CFF2 that a damage is aimed at, as names with their first byte and the one behind the last."""
-    top = face.source.top
-    charstrings, offsets = top.CharStrings.charStringsIndex, []
-    for glyph in glyphs:
-        first, last = (charstrings.offsets[glyph + k] + charstrings.offsetBase for k in (0, 1))
-        offsets += [("charstring", first, last)]
-    found = [("front", 0, 64)] + offsets
-    for it in top.FDArray:
-        size, first = it.rawDict["Private"]
-        found += [("private dict", first, first + size)]
-        if "Subrs" in it.Private.rawDict:
-            first += it.Private.rawDict["Subrs"]
-            found += [("subroutines", first, first + 400)]
-    for name in ("VarStore", "FDSelect", "FDArray", "CharStrings"):
-        if name in top.rawDict:
-            found += [(name, top.rawDict[name], top.rawDict[name] + 300)]
-    size = len(face.tables[b"CFF2"])
+    """The parts of the table CFF2 that a damage is aimed at, as names with their first byte and the one after the last."""
+    source, size = face.source, len(face.tables[b"CFF2"])
+    found = [("front", 0, 64), *(("charstring", *source.charstrings[glyph]) for glyph in glyphs)]
+    for k in range(len(source.dicts)):
+        first, length = source.place(k)
+        found += [("private dict", first, first + length)]
+        first += cff2_source.offset(source.privates(k)[0].get(cff2_source.SUBROUTINES, [0]))
+        found += [("subroutines", first, first + 400)] * (cff2_source.SUBROUTINES in source.privates(k)[0])
+    for name, operator in (("VarStore", cff2_source.STORE), ("FDSelect", cff2_source.SELECT), ("FDArray", cff2_source.DICTS), ("CharStrings", cff2_source.CHARSTRINGS)):
+        found += [(name, at, at + 300) for at in map(int, source.top.get(operator, ()))]
     return [(name, first, min(last, size)) for name, first, last in found if first < min(last, size)]
 
 
@@ -62,8 +55,8 @@ def damaged(rng, data, face, glyphs):
         _, first, last = rng.choice([it for it in found if it[0] == name])
         first, last = at + first, at + last
     copy = bytearray(data)
-    done = [rng.choice(damage.KINDS)(rng, copy, first, last) for _ in range(rng.choice((1, 1, 2)))]
-    return bytes(copy), f"{name}: {', '.join(done)}"
+    done = damage.changed(rng, copy, first, last)
+    return bytes(copy), f"{name}: {done}"
 
 
 # ---- what is drawn
@@ -84,32 +77,23 @@ def agree(ours, theirs):
 
 
 class Copy:
-    """A damaged copy, as HarfBuzz and fontTools read it."""
+    """A damaged copy, as HarfBuzz and the second readings have it."""
 
     def __init__(self, path, face, place):
         self.path, self.index, self.metrics, data = path, face.index, face.metrics, fonts.content(path)
-        self.tables = {tag.encode("latin-1"): data[at:at + size] for tag, (at, size) in fonts.directory(data, face.index).items()}
+        self.tables = {tag.encode("latin-1"): table for tag, table in fonts.tables_of(data, face.index).items()}
         self.at = reading.place_of(self.tables, [(tag.encode("latin-1"), value) for tag, value in place])
         self.harfbuzz = HarfBuzz(path, face.index)
         self.harfbuzz.place(self.at)
 
     def draws(self, glyph, ours):
-        """Who draws this of a glyph: HarfBuzz, fontTools, the third reading where one of them reads nothing, or nobody."""
-        theirs = self.harfbuzz.drawn(glyph)
-        if agree(ours, theirs):
+        """Who draws this of a glyph: HarfBuzz, the second reading, or nobody."""
+        if agree(ours, self.harfbuzz.drawn(glyph)):
             return "HarfBuzz"
-        exact = self.exactly(lambda: Source(self.path, self.index), glyph)
-        if exact is not None and agree(ours, exact):
-            return "fontTools"
-        third = self.exactly(lambda: cff2_dicts.Table(self.tables[b"CFF2"]), glyph) if exact is None or not theirs else None
-        return THIRD if third is not None and agree(ours, third) else "nobody"
-
-    def exactly(self, make, glyph):
-        """What a reading draws, or nothing where it fails."""
         try:
-            return make().drawn(glyph, self.at).path
+            return SECOND if agree(ours, cff2_source.Table(self.tables[b"CFF2"]).drawn(glyph, self.at).path) else "nobody"
         except Exception:
-            return None
+            return "nobody"
 
     def has_advance(self, glyph, advance):
         """Whether an advance is HarfBuzz's, or that of the second reading."""

@@ -6,6 +6,7 @@ import random
 import subprocess
 
 import build
+import cff2_source
 import fonts
 import harfbuzz
 import reading
@@ -85,7 +86,7 @@ def faults_of_headers(face, font, at, advances):
     if post is not None and tables.get("post", b"")[4:32] != post[4:32]:
         found.append("post")
     kept = len(font["name"].names) if "name" in font else 0
-    return found + (["name"] if names_of(font) != names_of(face.source.font) or kept != len(names_of(font)) else [])
+    return found + (["name"] if names_of(font) != names_of(face.font) or kept != len(names_of(font)) else [])
 
 
 def is_near(one, other):
@@ -95,7 +96,7 @@ def is_near(one, other):
 def faults_of_table(face, cff, count):
     """What is wrong with the top dict and the font dicts of the new table."""
     top, units = cff.topDictIndex[0], face.it.units
-    source = face.source.top.rawDict.get("FontMatrix", [1 / units, 0, 0, 1 / units, 0, 0])
+    source = face.source.top.get(cff2_source.MATRIX, [1 / units, 0, 0, 1 / units, 0, 0])
     box = [int.from_bytes(face.tables[b"head"][k:k + 2], "big", signed=True) for k in range(36, 44, 2)]
     charset = [".notdef"] + [f"cid{k:05d}" for k in range(1, count)]
     used = {top.FDSelect[k] for k in range(count)}
@@ -159,11 +160,11 @@ def compare_font(report, face, at, data, old, room):
     if found or len(metrics) != len(old):
         report.say("file", f"at {at}: {', '.join(found or ['the number of glyphs'])}")
     face.harfbuzz.place(at)
-    select, privates = getattr(face.source.top, "FDSelect", None), {}
+    privates = {}
     for number, glyph in enumerate(old[:len(metrics)]):
         private = top.FDArray[top.FDSelect[number]].Private
         compare_glyph(report, face, at, glyph, (top.CharStrings.charStringsIndex[number], private), metrics[number], mine.drawn(number))
-        pair = top.FDSelect[number], select[glyph] if select else 0
+        pair = top.FDSelect[number], face.source.font_dict(glyph)
         if pair not in privates:
             wanted, ours = face.source.private(pair[1], at), {name: value for name, value in private.rawDict.items() if name not in ("defaultWidthX", "nominalWidthX")}
             privates[pair] = "" if ours == wanted else f"{ours}, and not {wanted}"
@@ -263,7 +264,7 @@ def compare_face(words, path, index, room):
             report.say("answer", f"at {harfbuzz.words_at(place) or 'the default'}: {it}")
             continue
         compare_font(report, face, face.at(place), data, old, room)
-    family = face.source.font["name"].getDebugName(1) if "name" in face.source.font else ""
+    family = face.font["name"].getDebugName(1) if "name" in face.font else ""
     few = SELDOM_MADE if (family or "").startswith("Made ") else SELDOM
     if few * (len(report.otherwise) - 1) > report.counts["FreeType"]:
         report.say("FreeType", f"{len(report.otherwise)} of {report.counts['FreeType']} glyphs are hinted otherwise: {report.otherwise[0]}")

@@ -2,6 +2,7 @@
 import struct
 
 import explain
+import fonts
 from fonts import directory, u16, u32
 
 # Words that are often a limit of something.
@@ -51,6 +52,11 @@ def moved(rng, copy, first, last):
 KINDS = (changed_bytes, changed_bytes, changed_word, changed_stretch, moved)
 
 
+def changed(rng, copy, first, last):
+    """One or two damages of a stretch."""
+    return ", ".join([rng.choice(KINDS)(rng, copy, first, last) for _ in range(rng.choice((1, 1, 2)))])
+
+
 # ---- values that are nearly right
 
 def neighbour(rng, copy, first, last):
@@ -87,7 +93,7 @@ def spots(data, index, glyphs):
 
 def spots_of_cff(data, start, length, glyphs):
     table = explain.Table(data[start:start + length], glyphs)
-    found = [("top dict", *table.top_range), ("charset", *[(explain.last(table.top, 15) or [0])[-1] + k for k in (0, 40)])]
+    found = [("top dict", *table.top_range), ("charset", *[(explain.last(table.top, explain.CHARSET) or [0])[-1] + k for k in (0, 40)])]
     for (first, last), _, local in table.privates.values():
         found += [("private dicts", first, last)] + [("subroutines", *local.range(k)) for k in range(min(local.count, 60)) if local.range(k)] if local else [("private dicts", first, last)]
     found += [("subroutines", *table.subroutines.range(k)) for k in range(min(table.subroutines.count, 60)) if table.subroutines.range(k)]
@@ -138,3 +144,19 @@ def damaged(rng, data, index, glyphs, others):
         else:
             done.append(f"{name}: " + (neighbour if draw < 0.65 else rng.choice(KINDS))(rng, copy, first, last))
     return bytes(copy), "; ".join(done)
+
+
+def by_kinds(found):
+    """Makes damaged copies of fonts of all kinds."""
+    contents = {path: fonts.content(path) for _, path in found}
+    others = list(contents.values())
+
+    def make(rng, number):
+        path = found[number % len(found)][1]
+        data, index = contents[path], rng.randrange(fonts.face_count(contents[path]))
+        count = fonts.count_in(data, index)
+        glyphs = [rng.randrange(count) for _ in range(rng.choice((1, 3, 10, 20, 20)))]
+        made, what = damaged(rng, data, index, glyphs, others)
+        glyphs += [count + rng.choice((0, 1, 100))] * (rng.random() < 0.02)
+        return path, data, rng.randrange(4) if rng.random() < 0.02 else index, glyphs, what, made
+    return make

@@ -6,8 +6,8 @@ import struct
 import subprocess
 
 import build
-import fonts
-from pdf_readers import ink_apart, is_blank, picture
+from pdf_file import Pdf, embedded, pages
+from pdf_readers import READERS, drawn, ink_apart, is_blank
 
 PACKAGES = ["mupdf-tools", "poppler-utils", "ghostscript", "python3-pil"]
 CANARY = build.Canary()
@@ -78,32 +78,22 @@ def line_of(face, glyphs):
     return held, places
 
 
-# What each reader is called with, where it draws DPI pixels an inch.
-READERS = {
-    "MuPDF": ["mutool", "draw", "-r", "DPI", "-c", "gray", "-F", "pgm", "-o", "mupdf-%d.pgm", "page.pdf"],
-    "Poppler": ["pdftoppm", "-r", "DPI", "-gray", "page.pdf", "poppler"],
-    "Ghostscript": ["gs", "-q", "-dSAFER", "-dBATCH", "-dNOPAUSE", "-sDEVICE=pgmraw", "-rDPI", "-dTextAlphaBits=4",
-                    "-dGraphicsAlphaBits=4", "-sOutputFile=ghostscript-%d.pgm", "page.pdf"],
-}
-
-
-def drawn(reader, folder, dpi=96):
-    """A reader's pictures of the two pages, and the lines that it says."""
-    words = [word.replace("DPI", str(dpi)) for word in READERS[reader]]
-    said = subprocess.run(words, cwd=folder, capture_output=True, text=True, errors="replace")
-    lines = {line for line in (said.stdout + said.stderr).splitlines() if line and not line.startswith("page page.pdf")}
-    lines |= {f"status {said.returncode}"} if said.returncode else set()
-    paths = [os.path.join(folder, f"{reader.lower()}-{page}.pgm") for page in (1, 2)]
-    return [picture(fonts.content(path)) for path in paths] if all(map(os.path.exists, paths)) else None, lines
+def write(folder, face, program, widths, contents, page=PAGE):
+    """A PDF file that embeds a font, with two pages; its path."""
+    pdf, path = Pdf(), os.path.join(folder, "page.pdf")
+    os.makedirs(folder)
+    with open(path, "wb") as file:
+        file.write(pages(pdf, page, [embedded(pdf, face, program, "AAAAAA+Shown", widths)], contents))
+    return path
 
 
 def differences(ours, theirs, most, dpi=96):
-    """What the readers show otherwise in one folder than in the other: ink that has no ink within so many pixels. With 0 each pixel is the same; but
+    """What the readers show otherwise of one file than of the other: ink that has no ink within so many pixels. With 0 each pixel is the same; but
     of Ghostscript, which hints by letters that it finds by names, ink lies within two."""
     wrong = []
     for reader in READERS:
-        (after, said), (before, usual) = (drawn(reader, folder, dpi) for folder in (ours, theirs))
-        if before is None or after is None:
+        (after, said), (before, usual) = (drawn(reader, path, dpi) for path in (ours, theirs))
+        if not len(before) == len(after) == 2:
             wrong.append(f"{reader} draws nothing")
             continue
         for page, (one, other) in enumerate(zip(after, before), 1):
@@ -116,7 +106,7 @@ def differences(ours, theirs, most, dpi=96):
     return wrong
 
 
-def places_by_trace(folder):
+def places_by_trace(path):
     """Where MuPDF puts each glyph of the second page, in points."""
-    said = subprocess.run(["mutool", "draw", "-F", "trace", "page.pdf", "2"], cwd=folder, capture_output=True, text=True, errors="replace").stdout
+    said = subprocess.run(["mutool", "draw", "-F", "trace", path, "2"], capture_output=True, text=True, errors="replace").stdout
     return [float(x) for x in re.findall(r'<g [^>]*\bx="([-0-9.e]+)"', said)]

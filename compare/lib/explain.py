@@ -1,20 +1,79 @@
-"""Which of the intended differences between both programs (docs/DIFFERENCES.md) stands in a font.
-
-CFF tables are read by cff.py, and charstrings are run by a small machine of Technical Note 5177.
-"""
+"""Which of the intended differences between both programs (docs/DIFFERENCES.md) is in a font. CFF tables are read anew, by Technical Note 5176, and
+charstrings run by a small machine of Technical Note 5177."""
 import re
 import struct
 
-from cff import CHARSTRINGS, ROS, Index, dict_entries, last
 from fonts import directory, u16, u32
 
 TOKENS_AT_MOST, STEMS_AT_MOST, OPERANDS_AT_MOST, DEPTH_AT_MOST = 1000000, 65535, 48, 64
-# Further operators of a dict; one of two bytes, 12 and k, is 1200 + k.
-NOTICE, PRIVATE, SUBRS, COPYRIGHT, FDARRAY, FDSELECT, FONT_NAME = 1, 18, 19, 1200, 1236, 1237, 1238
-STRINGS = (NOTICE, COPYRIGHT, FONT_NAME)
+# Operators of a dict; one of two bytes, 12 and k, is 1200 + k.
+NOTICE, CHARSET, CHARSTRINGS, PRIVATE, SUBRS, COPYRIGHT, ROS, FDARRAY, FDSELECT, FONT_NAME = 1, 15, 17, 18, 19, 1200, 1230, 1236, 1237, 1238
+# What reading a damaged table comes to.
+UNREADABLE = (struct.error, LookupError, ValueError, TypeError, RecursionError)
 
 
-# ---- texts of reals
+class Index:
+    """An INDEX: where it starts, where its offsets count from, and its offsets."""
+
+    def __init__(self, cff, at):
+        self.cff, self.start, self.count = cff, at, u16(cff, at)
+        self.base, self.offsets, self.end = at + 2, [], at + 2
+        if self.count == 0:
+            return
+        size = cff[at + 2]
+        if not 1 <= size <= 4:
+            raise ValueError("an offset size")
+        self.base = at + 2 + (self.count + 1) * size
+        self.offsets = [int.from_bytes(cff[it:it + size], "big") for it in range(at + 3, self.base + 1, size)]
+        self.end = self.base + (self.offsets[-1] or 1)
+
+    def range(self, k):
+        """The first byte of an entry and the one after its last, or None where it can't be read."""
+        if not 0 <= k < self.count or self.offsets[-1] == 0:
+            return None
+        first, last = self.offsets[k], self.offsets[k + 1]
+        return (self.base + first, self.base + last) if 0 < first <= last <= self.offsets[-1] else None
+
+    def item(self, k):
+        place = self.range(k)
+        return None if place is None else self.cff[place[0]:place[1]]
+
+    def has_unreadable(self):
+        return any(self.range(k) is None for k in range(self.count if self.offsets and self.offsets[-1] else 0))
+
+
+def dict_entries(data):
+    """The entries of a dict as (operator, operands): whole numbers, and the texts of reals."""
+    at, operands = 0, []
+    while at < len(data):
+        first, at = data[at], at + 1
+        if first <= 27 or first in (31, 255):
+            if first == 12:
+                first, at = 1200 + (data[at] if at < len(data) else 0), at + 1
+            yield first, operands
+            operands = []
+        elif first in (28, 29):
+            size = 2 if first == 28 else 4
+            operands.append(int.from_bytes(data[at:at + size], "big", signed=True))
+            at += size
+        elif first == 30:
+            end = next((k for k in range(at, len(data)) if 15 in (data[k] >> 4, data[k] & 15)), len(data) - 1) + 1
+            operands.append(data[at:end].hex().partition("f")[0].translate(str.maketrans("abcde", ".EX?-")).replace("X", "E-"))
+            at = end
+        elif first <= 246:
+            operands.append(first - 139)
+        else:
+            high = (first - 247) % 4 * 256 + (data[at] if at < len(data) else 0) + 108
+            operands.append(high if first <= 250 else -high)
+            at += 1
+    if operands:
+        yield -1, operands
+
+
+def last(entries, operator):
+    found = [operands for it, operands in entries if it == operator]
+    return found[-1] if found else None
+
 
 def is_plain(text):
     """Whether a real is the same as an f32 and as a decimal, and written alike: six digits at most, no great exponent."""
@@ -27,13 +86,11 @@ def is_plain(text):
     return bool(digits) and len(digits) <= 6 and abs(int(parts[4] or 0)) <= 30
 
 
-# ---- a table
-
 class Table:
     """The parts of a CFF table that a subset of some glyphs reads. Whatever can't be read is left out."""
 
     def __init__(self, cff, glyphs):
-        self.cff, self.glyphs = cff, glyphs
+        self.cff = cff
         self.names = Index(cff, cff[2])
         self.tops = Index(cff, self.names.end)
         self.strings = Index(cff, self.tops.end)
@@ -45,18 +102,16 @@ class Table:
         self.font_dicts = Index(cff, last(self.top, FDARRAY)[0]) if self.is_keyed else None
         self.select = last(self.top, FDSELECT)[0] if self.is_keyed else None
         self.privates = {}
-        for dict_number in {self.font_dict(glyph) for glyph in glyphs} - {None}:
-            self.read_private(dict_number)
+        for number in {self.font_dict(glyph) for glyph in glyphs} - {None}:
+            self.read_private(number)
 
-    def entries(self, dict_number):
+    def entries(self, number):
         """The entries of a font dict; a SID-keyed font has those of its top dict."""
-        if not self.is_keyed:
-            return self.top
-        return list(dict_entries(self.font_dicts.item(dict_number) or b""))
+        return list(dict_entries(self.font_dicts.item(number) or b"")) if self.is_keyed else self.top
 
-    def read_private(self, dict_number):
+    def read_private(self, number):
         """The range of a private dict, its entries, and its local subroutines."""
-        named = last(self.entries(dict_number), PRIVATE)
+        named = last(self.entries(number), PRIVATE)
         if named is None or len(named) != 2 or sum(named) > len(self.cff) or min(named) < 0:
             return
         length, start = named
@@ -64,9 +119,9 @@ class Table:
         local = next((operands for it, operands in entries if it == SUBRS), None)
         try:
             index = Index(self.cff, start + local[0]) if local else None
-        except (struct.error, IndexError, ValueError, TypeError):
+        except UNREADABLE:
             index = None
-        self.privates[dict_number] = (start, start + length), entries, index
+        self.privates[number] = (start, start + length), entries, index
 
     def font_dict(self, glyph):
         """The number of a glyph's font dict, or None where it has none."""
@@ -75,20 +130,17 @@ class Table:
         at = self.select
         if self.cff[at] == 0:
             return self.cff[at + 1 + glyph] if at + 1 + glyph < len(self.cff) else None
-        for k in range(u16(self.cff, at + 1)):
-            if u16(self.cff, at + 3 + 3 * k) <= glyph < u16(self.cff, at + 6 + 3 * k):
-                return self.cff[at + 5 + 3 * k]
-        return None
+        ranges = range(at + 3, at + 3 + 3 * u16(self.cff, at + 1), 3)
+        return next((self.cff[it + 2] for it in ranges if u16(self.cff, it) <= glyph < u16(self.cff, it + 3)), None)
 
-    def local_of(self, glyph):
-        private = self.privates.get(self.font_dict(glyph))
-        return private[2] if private else None
+    def all_subroutines(self):
+        return [self.subroutines] + [local for _, _, local in self.privates.values() if local]
 
 
 # ---- charstrings
 
 class Fault(Exception):
-    pass
+    """Both programs refuse what is run, or one does."""
 
 
 def charstring_number(code, at):
@@ -108,107 +160,81 @@ class Machine:
     """Runs a charstring, and notes what both programs take differently."""
 
     def __init__(self, table, glyph):
-        self.subroutines, self.local = table.subroutines, table.local_of(glyph)
+        self.shared, self.local = table.subroutines, table.privates.get(table.font_dict(glyph), (None,) * 3)[2]
         self.notes, self.stack, self.stems, self.mask, self.tokens = set(), [], 0, 0, 0
-        self.bytes = table.charstrings.item(glyph)
-
-    def run(self):
         try:
-            self.go(self.bytes or b"", 1)
+            self.go(table.charstrings.item(glyph) or b"", 1)
         except (Fault, IndexError):
             pass
-        return self.notes
 
-    def push(self, value):
-        if len(self.stack) == OPERANDS_AT_MOST:
-            raise Fault
-        self.stack.append(value)
-
-    def count_stems(self):
-        self.stems += len(self.stack) // 2
-        if self.stems > STEMS_AT_MOST:
-            self.notes.add("more than 65535 stems")
+    def need(self, it, note=None):
+        if not it:
+            self.notes |= {note} - {None}
             raise Fault
 
     def called(self, index):
+        self.need(self.stack)
         value = self.stack.pop()
-        if value != int(value):
-            self.notes.add("a call index with a fraction")
-            raise Fault
-        if index is None:
-            raise Fault
-        bias = 107 if index.count < 1240 else 1131 if index.count < 33900 else 32768
-        found = index.item(int(value) + bias)
-        if found is None:
-            raise Fault
+        self.need(value == int(value), "a call index with a fraction")
+        self.need(index)
+        found = index.item(int(value) + (107 if index.count < 1240 else 1131 if index.count < 33900 else 32768))
+        self.need(found is not None)
         return found
 
-    def mask_length(self):
-        """The bytes of a mask, which the stems give when the first mask with a byte comes."""
-        if self.mask == 0:
-            self.count_stems()
-            self.mask = (self.stems + 7) // 8
-        elif self.stack:
-            self.notes.add("operands at a mask after the first")
-        return self.mask
+    def count_stems(self):
+        self.stems += len(self.stack) // 2
+        self.need(self.stems <= STEMS_AT_MOST, "more than 65535 stems")
 
     def draw(self, first):
-        """Takes an operator that neither calls nor ends, and answers its length with its mask."""
-        size = 2 if first == 12 else 1
-        if first in (19, 20):
-            size += self.mask_length()
-        elif first in (1, 3, 18, 23):
+        """Takes an operator that neither calls nor ends, and answers the bytes after its first one."""
+        more = int(first == 12)
+        if first in (1, 3, 18, 23) or first in (19, 20) and not self.mask:
             self.count_stems()
+        elif first in (19, 20) and self.stack:
+            self.notes.add("operands at a mask after the first")
+        if first in (19, 20):
+            # (the stems give a mask's length when the first one with a byte comes)
+            more = self.mask = self.mask or (self.stems + 7) // 8
         self.stack.clear()
-        return size
-
-    def call(self, first, depth):
-        if not self.stack:
-            raise Fault
-        return self.go(self.called(self.local if first == 10 else self.subroutines), depth + 1)
+        return more
 
     def go(self, code, depth):
         """Runs a charstring or a subroutine, and answers whether the run is finished."""
-        if depth > DEPTH_AT_MOST:
-            raise Fault
+        self.need(depth <= DEPTH_AT_MOST)
         at = 0
         while at < len(code):
             self.tokens += 1
-            if self.tokens > TOKENS_AT_MOST:
-                self.notes.add("more than 1,000,000 tokens")
-                raise Fault
+            self.need(self.tokens <= TOKENS_AT_MOST, "more than 1,000,000 tokens")
             first, number = code[at], charstring_number(code, at)
+            at += number[1] if number else 1
             if number:
-                self.push(number[0])
-                at += number[1]
+                self.stack.append(number[0])
+                self.need(len(self.stack) <= OPERANDS_AT_MOST)
             elif first in (10, 29):
-                if self.call(first, depth):
+                if self.go(self.called(self.local if first == 10 else self.shared), depth + 1):
                     return True
-                at += 1
             elif first in (11, 14):
                 return first == 14
             else:
                 at += self.draw(first)
-            if at > len(code):
-                raise Fault
+            self.need(at <= len(code))
         return False
 
 
 # ---- reasons
 
 def note_dict(found, entries):
-    """Notes what stands in a dict."""
+    """Notes what is in a dict."""
     for operator, operands in entries:
-        if operator in STRINGS and operands and isinstance(operands[-1], int) and 0 <= operands[-1] < 391:
+        if operator in (NOTICE, COPYRIGHT, FONT_NAME) and operands and isinstance(operands[-1], int) and 0 <= operands[-1] < 391:
             found.add(("a notice or name is a standard string", operands[-1]))
-        reals = [it for it in operands if isinstance(it, str) and not is_plain(it)]
-        found.update(("a real isn't the same as an f32", it) for it in reals)
+        found.update(("a real isn't the same as an f32", it) for it in operands if isinstance(it, str) and not is_plain(it))
 
 
 def note_table(found, cff, glyphs):
-    """Notes what stands in a CFF table, for the glyphs that are kept. Where a part can't be read, it ends."""
+    """Notes what is in a CFF table, for the glyphs that are kept. Where a part can't be read, it ends."""
     names = Index(cff, cff[2])
-    if names.count and names.is_cut:
+    if names.count and names.end > len(cff):
         found.add(("the data of the Name INDEX is cut", ""))
     # (a dict ends before a real that can't be read, and so may have no charstrings)
     note_dict(found, dict_entries(Index(cff, names.end).item(0) or b""))
@@ -216,11 +242,10 @@ def note_table(found, cff, glyphs):
     for number, (_, entries, _) in table.privates.items():
         note_dict(found, table.entries(number) if table.is_keyed else [])
         note_dict(found, entries)
-    indexes = [table.subroutines] + [local for _, _, local in table.privates.values() if local]
-    if any(it.has_unreadable() for it in indexes):
+    if any(it.has_unreadable() for it in table.all_subroutines()):
         found.add(("a subroutine's entry is unreadable", ""))
     for glyph in glyphs:
-        found.update((note, glyph) for note in Machine(table, glyph).run())
+        found.update((note, glyph) for note in Machine(table, glyph).notes)
 
 
 def note_post(found, post):
@@ -259,12 +284,11 @@ def reasons(data, index, glyphs):
         return data[start:start + length]
 
     found = set()
-    notes = [lambda: note_directory(found, data, index), lambda: note_post(found, body("post")), lambda: note_name(found, body("name")),
-             lambda: "glyf" in directory(data, index) or note_table(found, body("CFF "), glyphs)]
-    for note in notes:
+    for note in (lambda: note_directory(found, data, index), lambda: note_post(found, body("post")), lambda: note_name(found, body("name")),
+                 lambda: "glyf" in directory(data, index) or note_table(found, body("CFF "), glyphs)):
         try:
             note()
-        except (struct.error, LookupError, ValueError, TypeError, RecursionError):
+        except UNREADABLE:
             # (where a part can't be read, what is left of it says nothing)
             pass
     return found
@@ -292,8 +316,7 @@ def mend_offsets(copy, start, index):
         return
     size, least = index.cff[index.start + 2], 1
     for k, offset in enumerate(index.offsets):
-        least = min(max(offset, least), index.offsets[-1])
-        at = start + index.start + 3 + k * size
+        least, at = min(max(offset, least), index.offsets[-1]), start + index.start + 3 + k * size
         copy[at:at + size] = least.to_bytes(size, "big")
 
 
@@ -304,8 +327,8 @@ def mended(data, glyphs, index=0):
         copy = bytearray(mended_directory(data, index))
         start, length = directory(copy, index)["CFF "]
         table = Table(bytes(copy[start:start + length]), glyphs)
-        for each in [table.subroutines] + [local for _, _, local in table.privates.values() if local]:
+        for each in table.all_subroutines():
             mend_offsets(copy, start, each)
-    except (struct.error, LookupError, ValueError, TypeError):
+    except UNREADABLE:
         pass
     return bytes(copy)

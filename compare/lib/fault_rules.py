@@ -19,17 +19,13 @@ NO_ROOM = (errno.EDQUOT, errno.ENOSPC)
 # The other errors that manual pages list, by the call.
 DISK = (errno.EDQUOT, errno.EIO, errno.ENOSPC, errno.EROFS)
 USUAL = {
-    "open": (errno.EACCES, errno.EINTR, errno.EMFILE, errno.ENFILE, errno.ENOMEM, *DISK),
-    "openat": (errno.EACCES, errno.EINTR, errno.EMFILE, errno.ENFILE, errno.ENOMEM, *DISK),
+    **dict.fromkeys(("open", "openat"), (errno.EACCES, errno.EINTR, errno.EMFILE, errno.ENFILE, errno.ENOMEM, *DISK)),
     "read": (errno.EINTR, errno.EIO, errno.ENOMEM),
     "write": (errno.EFBIG, errno.EINTR, errno.EPIPE, *DISK),
-    "fdatasync": (errno.EINTR, errno.EINVAL, *DISK),
-    "fsync": (errno.EINTR, errno.EINVAL, *DISK),
-    "rename": (errno.EACCES, errno.EBUSY, errno.ENOMEM, *DISK),
-    "renameat2": (errno.EACCES, errno.EBUSY, errno.ENOMEM, *DISK),
+    **dict.fromkeys(("fdatasync", "fsync"), (errno.EINTR, errno.EINVAL, *DISK)),
+    **dict.fromkeys(("rename", "renameat2"), (errno.EACCES, errno.EBUSY, errno.ENOMEM, *DISK)),
     "linkat": (errno.EACCES, errno.EMLINK, errno.EPERM, *DISK),
-    "statx": (errno.EACCES, errno.EIO, errno.ENOMEM),
-    "newfstatat": (errno.EACCES, errno.EIO, errno.ENOMEM),
+    **dict.fromkeys(("statx", "newfstatat"), (errno.EACCES, errno.EIO, errno.ENOMEM)),
     "fstat": (errno.EIO, errno.ENOMEM),
     "fchmod": (errno.EINTR, errno.EIO, errno.EPERM, errno.EROFS),
     "copy_file_range": (errno.EFBIG, errno.ENOSYS, errno.EXDEV, *DISK),
@@ -174,48 +170,30 @@ def ended_by_file(way, before, base, got, number, others):
 
 def allowed(roles, at, how, number, is_start):
     """The ends that a run may have where something is done to the step `at`."""
-    step, (role, name) = roles.steps[at], roles.role(at)
+    step, (role, name), way = roles.steps[at], roles.role(at), roles.way
+    # (whether a call about a stream neither reads nor writes it, nor opens it; and whether standard output has the font or the PDF)
+    is_look = step.call == "close" or step.call == "fcntl" and "F_DUPFD" not in step.arguments
+    has_font = "-" in way.words and not way.stdin
     if how == "error" and number == errno.EINTR and step.call in INTERRUPTED:
-        return {"whole"} if not is_start else {"whole", "stopped"}
+        return {"whole", *["stopped"] * is_start}
     if is_start:
         return {"whole", "stopped", "out of memory"}
     if step.call in MEMORY:
-        return {"whole", "out of memory", *(f"cannot read {it}" for it in roles.way.reads())}
-    by_role = {"read": of_reading, "stdin": of_reading, "write": of_writing, "stdout": of_output, "stderr": of_messages}
-    return by_role[role](roles, at, number, name) if role in by_role else {"whole", "out of memory"}
-
-
-def is_look(step):
-    """Whether a call about a stream neither reads nor writes it, nor opens it."""
-    return step.call == "close" or step.call == "fcntl" and "F_DUPFD" not in step.arguments
-
-
-def of_reading(roles, at, number, name):
-    must = roles.steps[at].call in (*READING, "fcntl", "dup") and not is_look(roles.steps[at])
-    return {f"cannot read {name}"} if must else {"whole", f"cannot read {name}"}
-
-
-def of_writing(roles, at, number, name):
-    step = roles.steps[at]
-    whole_at = roles.named.get(roles.way.links.get(name, name), len(roles.steps))
-    is_done_without = "O_EXCL" in step.arguments and number not in NO_ROOM
-    if at > whole_at or is_done_without or (step.call in ("fdatasync", "fsync") and number in NO_SYNC):
-        return {"whole"}
-    if step.call in (*WRITING, *REMOVING, "open", "openat") or at in roles.looks.values():
-        return {f"cannot write {name}"}
-    return {"whole"}
-
-
-def of_output(roles, at, number, name):
-    if is_look(roles.steps[at]):
-        return {"whole"}
-    return {"cannot write -"} if "-" in roles.way.words and not roles.way.stdin else {"cannot write standard output"}
-
-
-def of_messages(roles, at, number, name):
-    """Standard error has messages, or the lines where standard output has the font or the PDF."""
-    must = not is_look(roles.steps[at]) and "-" in roles.way.words and not roles.way.stdin and at < roles.last_message
-    return {"cannot write standard output"} if must else {"whole", "silent"}
+        return {"whole", "out of memory", *(f"cannot read {it}" for it in way.reads())}
+    if role in ("read", "stdin"):
+        must = step.call in (*READING, "fcntl", "dup") and not is_look
+        return {f"cannot read {name}", *["whole"] * (not must)}
+    if role == "write":
+        is_whole = at > roles.named.get(way.links.get(name, name), len(roles.steps))
+        is_done_without = is_whole or "O_EXCL" in step.arguments and number not in NO_ROOM or step.call in ("fdatasync", "fsync") and number in NO_SYNC
+        must = step.call in (*WRITING, *REMOVING, "open", "openat") or at in roles.looks.values()
+        return {f"cannot write {name}"} if must and not is_done_without else {"whole"}
+    if role == "stdout":
+        return {"whole"} if is_look else {"cannot write -" if has_font else "cannot write standard output"}
+    if role == "stderr":
+        # (it has messages, or the lines)
+        return {"cannot write standard output"} if not is_look and has_font and at < roles.last_message else {"whole", "silent"}
+    return {"whole", "out of memory"}
 
 
 def allowed_from(roles, at, number, is_start):

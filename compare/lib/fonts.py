@@ -62,6 +62,11 @@ def directory(data, index=0):
     return {data[r:r + 4].decode("latin-1"): (u32(data, r + 8), u32(data, r + 12)) for r in records}
 
 
+def tables_of(data, index=0):
+    """The bytes of each table by tag."""
+    return {tag: data[at:at + size] for tag, (at, size) in directory(data, index).items()}
+
+
 def content(path):
     with open(path, "rb") as file:
         return file.read()

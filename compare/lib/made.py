@@ -141,13 +141,13 @@ def select(numbers, kind):
 
 def store(regions, data, rows=()):
     """An item variation store: regions as (start, peak, end) in 16384ths of each axis, item variation data as the numbers of their
-    regions, each with as many rows as `rows` has for it."""
+    regions, each with as many rows of bytes as `rows` has for it."""
     axes = len(regions[0]) if regions else 0
     listed = u16s(axes, len(regions)) + b"".join(struct.pack(">hhh", *axis) for region in regions for axis in region)
     parts = []
     for k, held in enumerate(data):
         items = rows[k] if rows else []
-        parts.append(u16s(len(items), len(held), len(held), *held) + b"".join(struct.pack(f">{len(held)}h", *item) for item in items))
+        parts.append(u16s(len(items), 0 if items else len(held), len(held), *held) + b"".join(struct.pack(f"{len(held)}b", *item) for item in items))
     first = 8 + 4 * len(data)
     places, at = [], first + len(listed)
     for part in parts:
@@ -177,71 +177,26 @@ def cff2(charstrings, dicts=((b"", ()),), select=b"", subroutines=(), variation=
     return b"".join(laid(places))
 
 
-# ---- the other tables, by fontTools
-
-class Table:
-    """The bytes of a table where fontTools wants one."""
-
-    def __init__(self, tag, data):
-        self.tableTag, self.data = tag, data
-
-    def compile(self, font):
-        return self.data
+def advances_vary(store_, indexes):
+    """HVAR with a map of indexes: for each glyph the number of its item variation data and of its row, of at most 256 each."""
+    return u16s(1, 0) + u32s(20, 20 + len(store_), 0, 0) + store_ + b"\0\x17" + u16s(len(indexes)) + b"".join(map(bytes, indexes))
 
 
-def table_of(tag, kind, **fields):
-    """A table of fontTools with these fields."""
-    from fontTools.ttLib import newTable
-    from fontTools.ttLib.tables import otTables
-
-    made_table = newTable(tag)
-    made_table.table = getattr(otTables, kind)()
-    for name, value in {"Version": 0x00010000, **fields}.items():
-        setattr(made_table.table, name, value)
-    return made_table
-
-
-def variations(axes, supports, held, rows):
-    """An item variation store of fontTools: regions as dictionaries of tags, the numbers of each item variation data's, and its rows."""
-    from fontTools.varLib import builder
-
-    listed = builder.buildVarRegionList(supports, [axis[0] for axis in axes])
-    return builder.buildVarStore(listed, [builder.buildVarData(regions, items, optimize=False) for regions, items in zip(held, rows)])
-
-
-def advances_vary(axes, supports, held, rows, indexes, names):
-    """HVAR with a map of indexes: for each glyph the number of its item variation data and of its row."""
-    from fontTools.varLib import builder
-
-    numbers = [outer * 65536 + inner for outer, inner in indexes]
-    return table_of("HVAR", "HVAR", VarStore=variations(axes, supports, held, rows), AdvWidthMap=builder.buildVarIdxMap(numbers, names), LsbMap=None, RsbMap=None)
-
-
-def metrics_vary(axes, supports, held, deltas):
-    """MVAR of these metrics, each a tag with its row of deltas."""
-    from fontTools.ttLib.tables import otTables
-
-    records = []
-    for k, tag in enumerate(sorted(deltas)):
-        record = otTables.MetricsValueRecord()
-        record.ValueTag, record.VarIdx = tag, k
-        records.append(record)
-    rows = [[deltas[tag] for tag in sorted(deltas)]]
-    return table_of("MVAR", "MVAR", Reserved=0, ValueRecordSize=8, ValueRecordCount=len(records), ValueRecord=records, VarStore=variations(axes, supports, [held], rows))
+def metrics_vary(store_, tags):
+    """MVAR of these metrics, in the order of the rows of the first item variation data."""
+    records = b"".join(tag.encode() + u16s(0, k) for k, tag in enumerate(tags))
+    return u16s(1, 0, 0, 8, len(tags), 12 + len(records)) + records + store_
 
 
 def bends(maps):
-    """avar of a map for each tag."""
-    from fontTools.ttLib import newTable
-
-    table = newTable("avar")
-    table.segments = maps
-    return table
+    """avar of a map for each axis."""
+    return u16s(1, 0, 0, len(maps)) + b"".join(u16s(len(it)) + b"".join(struct.pack(">hh", *(round(16384 * v) for v in pair)) for pair in it.items()) for it in maps)
 
 
 def cff2_font(name, table, metrics, axes=(), further=(), characters=None, box=(0, -250, 1000, 950)):
-    """A font of fontTools with this CFF2 table, and of each glyph its advance and its bearing."""
+    """A font of fontTools with this CFF2 table, further ones by their tags, and of each glyph its advance and its bearing."""
     from fontTools.fontBuilder import FontBuilder
+    from fontTools.ttLib.tables.DefaultTable import DefaultTable
 
     names = [".notdef"] + [f"g{k}" for k in range(1, len(metrics))]
     builder = FontBuilder(1000, isTTF=False)
@@ -257,9 +212,9 @@ def cff2_font(name, table, metrics, axes=(), further=(), characters=None, box=(0
         builder.setupFvar([(tag, *ends, tag) for tag, *ends in axes], [])
     made_font = builder.font
     made_font.sfntVersion = "OTTO"
-    made_font["CFF2"] = Table("CFF2", table)
-    for it in further:
-        made_font[it.tableTag] = it
+    for tag, data in [("CFF2", table), *further]:
+        made_font[tag] = DefaultTable(tag)
+        made_font[tag].data = data
     head = made_font["head"]
     head.created = head.modified = 3600000000
     head.xMin, head.yMin, head.xMax, head.yMax = box

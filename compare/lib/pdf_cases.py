@@ -2,9 +2,9 @@
 import os
 import struct
 
+import made
 import pdf_rules as rules
-import pdf_rules_codes as codes_by
-from pdf_file import Face
+from pdf_file import FIRST, Face
 
 CHARACTERS = 40
 # Tables of which a rule has a next source where they are missing, and the fields of others that are changed: offsets and sizes.
@@ -12,10 +12,9 @@ LOOSE = ("OS/2", "post", "name", "vhea", "vmtx", "VORG", "VVAR")
 FIELDS = {"head": [(36, 2), (38, 2), (40, 2), (42, 2), (44, 2)], "hhea": [(4, 2), (6, 2)], "post": [(4, 4), (12, 4)], "vhea": [(34, 2)], "VORG": [(4, 2), (6, 2)],
           "OS/2": [(0, 2), (4, 2), (8, 2), (30, 1), (32, 1), (33, 1), (62, 2), (68, 2), (70, 2), (74, 2), (76, 2), (86, 2), (88, 2)]}
 RIGHTS = (0, 2, 4, 6, 8, 10, 0x100, 0x102, 0x104, 0x200, 0x208, 0x302)
-# What the options of a case are for `pdf_font`, and the number of the first object.
+# What the options of a case are for `pdf_font`.
 CHOICES = {"Source": {"codes": "source"}, "EachText": {"codes": "each_text"}, "Held": {"rights": "held"}, "CIDSet": {"cid_set": True}, "Kept": {"bounds": "kept"},
            "unhinted": {"hinting": False}, "Vertical": {"vertical": True}, "QWERTY": {"tag": "QWERTY"}, "OpenType": {"program": "opentype"}}
-FIRST = 7
 EXTREMES = (0, 1, 2, 3, 4, 5, 8, 9, 10, 0x100, 0x102, 0x200, 0x7FFF, 0x8000, 0xFFFF)
 
 
@@ -40,7 +39,7 @@ class Case:
 
     @property
     def codes(self):
-        return codes_by.codes(self.shown, next((it for it in ("Source", "EachText") if self.has(it)), "Consecutive"))
+        return rules.codes(self.shown, next((it for it in ("Source", "EachText") if self.has(it)), "Consecutive"))
 
     def file(self, name):
         return os.path.join(self.folder, name)
@@ -72,7 +71,7 @@ def coordinates_of(source, rng):
 
 def entries(characters, rng):
     """Entries of random characters, of which some are repeated, have a further text, or several characters or none."""
-    plain = sorted(it for it in characters if characters[it] and codes_by.is_plain(it))
+    plain = sorted(it for it in characters if characters[it] and rules.is_plain(it))
     if not plain:
         return []
     shown = [(characters[it], chr(it)) for it in rng.sample(plain, min(len(plain), CHARACTERS))]
@@ -94,13 +93,6 @@ def options_of(source, rng):
     found += ["Vertical"] * (rng.random() < (0.5 if "vmtx" in source.tables else 0.1)) + ["QWERTY"] * (rng.random() < 0.1)
     found += ["OpenType"] * (source.is_cff and rng.random() < 0.1)
     return [it for it in found if it not in ("Consecutive", "AsSaid")]
-
-
-def file_of(kind, tables):
-    """A font of these tables."""
-    face = Face.__new__(Face)
-    face.kind, face.tables = kind, dict(sorted(tables.items()))
-    return face.file_without()
 
 
 def damaged(data, index, others, rng):
@@ -133,4 +125,4 @@ def damaged(data, index, others, rng):
                 table[rng.randrange(len(table))] = rng.randrange(256)
             done.append(f"bytes of {tag}")
         tables[tag] = bytes(table)
-    return file_of(face.kind, tables), ", ".join(done)
+    return made.font(sorted(tables.items()), face.kind), ", ".join(done)

@@ -5,10 +5,8 @@ from fractions import Fraction
 import fonts
 import pdf_readers as readers
 import pdf_rules as rules
-import pdf_rules_codes as codes_by
-from cff import cids as cids_of_cff
-from pdf_cases import FIRST
-from pdf_file import Face, Pdf, embedded, pages
+from pdf_file import Face, Pdf, archival, embedded, pages
+
 
 def outcome(case, made):
     """The error that the rules want, or None; and the one that came."""
@@ -46,11 +44,11 @@ def moved_heights(case):
 
 def wanted_columns(case, widths):
     order = list(dict.fromkeys([0, *(glyph for glyph, _ in case.shown)]))
-    found = [codes_by.column(case.source, glyph, width) for glyph, width in zip(order, widths)]
+    found = [rules.column(case.source, glyph, width) for glyph, width in zip(order, widths)]
     if case.source.is_moved and "VVAR" in case.source.tables:
         shift = moved_heights(case)
         for k, glyph in enumerate(order):
-            height, _ = codes_by.vertical(case.source, glyph)
+            height, _ = rules.vertical(case.source, glyph)
             if height is not None:
                 found[k] = (-rules.thousandths(max(height + shift(glyph), 0), case.source.units), *found[k][1:])
     return found
@@ -67,19 +65,19 @@ class Font:
     def __init__(self, case, made):
         source, self.program = case.source, made.program
         self.kind = "TrueType" if not source.is_cff else "OpenType" if case.has("OpenType") else "CFF"
-        self.tables = {} if self.kind == "CFF" else {tag: self.program[o:o + n] for tag, (o, n) in fonts.directory(self.program).items()}
-        self.cids, self.codes = codes_by.cids(case.shown), case.codes
+        self.tables = {} if self.kind == "CFF" else fonts.tables_of(self.program)
+        self.cids, self.codes = rules.cids(case.shown), case.codes
         self.count = self.glyph_count(case)
         self.widths = wanted_widths(case, self.tables, self.count)
-        self.default = codes_by.most_frequent(self.widths)
+        self.default = rules.most_frequent(self.widths)
         self.values = rules.descriptor(source, self.tables, case.has("Kept"))
         self.name = rules.font_name(source, self.program, "QWERTY" if case.has("QWERTY") else None)
-        self.to_unicode = codes_by.to_unicode(case.shown, self.codes)
-        self.cmap = codes_by.encoding(self.cids, self.codes, case.is_vertical)
+        self.to_unicode = rules.to_unicode(case.shown, self.codes)
+        self.cmap = rules.encoding(self.cids, self.codes, case.is_vertical)
         self.columns = wanted_columns(case, self.widths) if case.is_vertical else None
         self.dw2 = None
         if self.columns:
-            y, down = codes_by.most_frequent([(y, down) for down, _, y in self.columns])
+            y, down = rules.most_frequent([(y, down) for down, _, y in self.columns])
             self.dw2 = [y, down]
 
     def glyph_count(self, case):
@@ -92,9 +90,9 @@ def faults_of_values(case, made, font):
     """What the library's values have otherwise than the rules."""
     wrong = []
     name, text = font.cmap or (None, "")
-    wanted = {"kind": font.kind, "glyph_count": font.count, "cids": font.cids, "codes": font.codes, "is_said": [it == 1 for it in codes_by.is_said(case.shown, font.codes)], "widths": font.widths,
+    wanted = {"kind": font.kind, "glyph_count": font.count, "cids": font.cids, "codes": font.codes, "is_said": [it == 1 for it in rules.is_said(case.shown, font.codes)], "widths": font.widths,
               "default_width": font.default, "columns": font.columns, "default_column": font.dw2 and tuple(font.dw2), "to_unicode": font.to_unicode.encode(), "encoding": text.encode() or None,
-              "encoding_name": name, "cid_set": codes_by.cid_set(font.count) if case.has("CIDSet") else None}
+              "encoding_name": name, "cid_set": rules.cid_set(font.count) if case.has("CIDSet") else None}
     for field, wants in wanted.items():
         compared(wrong, field, getattr(made, field), wants)
     compared(wrong, "permission", made.permission, rules.permission(case.source))
@@ -130,7 +128,7 @@ def faults_of_file(case, font, path):
     compared(wrong, "CIDFont", {it: below[it] for it in below if it not in ("/W", "/W2", "/DW", "/DW2", "/FontDescriptor")},
              {"/Type": "/Font", "/Subtype": "/CIDFontType0" if is_cff else "/CIDFontType2", "/BaseFont": name, "/CIDSystemInfo": identity,
               **({} if is_cff else {"/CIDToGIDMap": "/Identity"})})
-    compared(wrong, "W", (below["/DW"], codes_by.widths_in(below.get("/W", []), below["/DW"], font.count)), (font.default, font.widths))
+    compared(wrong, "W", (below["/DW"], rules.widths_in(below.get("/W", []), below["/DW"], font.count)), (font.default, font.widths))
     wrong += faults_of_columns(font, below)
     program_key = "/FontFile3" if is_cff else "/FontFile2"
     compared(wrong, "descriptor", {it: values[it] for it in values if it not in ("/CIDSet", program_key)}, entries_of_descriptor(font))
@@ -152,7 +150,7 @@ def faults_of_columns(font, below):
     wrong = []
     if font.columns is None:
         return ["W2 in horizontal writing"] if "/W2" in below or "/DW2" in below else []
-    found = codes_by.columns_in(below.get("/W2", []), below.get("/DW2", [880, -1000]), font.widths, len(font.columns))
+    found = rules.columns_in(below.get("/W2", []), below.get("/DW2", [880, -1000]), font.widths, len(font.columns))
     compared(wrong, "DW2", below.get("/DW2", [880, -1000]), font.dw2)
     for cid, (has, wants) in enumerate(zip(found, font.columns)):
         if (has[0], has[2]) != (wants[0], wants[2]) or abs(has[1] - wants[1]) > Fraction(1, 2):
@@ -168,7 +166,7 @@ def faults_of_streams(case, font, objects, values):
     more = {"TrueType": {"/Length1": len(font.program)}, "CFF": {"/Subtype": "/CIDFontType0C"}, "OpenType": {"/Subtype": "/OpenType"}}
     compared(wrong, "its dictionary", kept, more[font.kind])
     compared(wrong, "ToUnicode", stream(objects, top["/ToUnicode"])[0].decode(), font.to_unicode)
-    compared(wrong, "CIDSet", cid_set and stream(objects, cid_set)[0], codes_by.cid_set(font.count) if case.has("CIDSet") else None)
+    compared(wrong, "CIDSet", cid_set and stream(objects, cid_set)[0], rules.cid_set(font.count) if case.has("CIDSet") else None)
     if font.cmap:
         data, entries = stream(objects, top["/Encoding"])
         compared(wrong, "CMap", data.decode(), font.cmap[1])
@@ -181,11 +179,11 @@ def faults_of_streams(case, font, objects, values):
 def faults_of_text(case, font):
     """The grid's text by Poppler and MuPDF; and whether MuPDF was asked."""
     wrong, wants = [], readers.letters("".join(text for _, text in case.shown))
-    is_simple = all(codes_by.is_said(case.shown, font.codes)) and len(set(case.shown)) == len({glyph for glyph, _ in case.shown})
+    is_simple = all(rules.is_said(case.shown, font.codes)) and len(set(case.shown)) == len({glyph for glyph, _ in case.shown})
     is_simple = is_simple and all(len(text) == 1 or max(text) < "\U00010000" for _, text in case.shown)
     for reader, read in (("Poppler", readers.text_by_poppler), ("MuPDF", readers.text_by_mupdf))[:1 + is_simple]:
         has = readers.letters(read(case.file("grid.pdf")))
-        if has != wants and not (codes_by.is_right_to_left(wants) and sorted(has) == sorted(wants)):
+        if has != wants and not (rules.is_right_to_left(wants) and sorted(has) == sorted(wants)):
             compared(wrong, f"the text by {reader}", has, wants)
     return wrong, is_simple
 
@@ -209,7 +207,7 @@ def points(case, font, is_line, extent):
 
 def whole_page(case, font, face, is_line, box):
     """A page with the whole font, whose glyphs are where the source's own numbers put them."""
-    numbers = cids_of_cff(face.tables["CFF "], max(glyph for glyph, _ in case.shown) + 1) if face.is_cff else range(65536)
+    numbers = face.cids(max(glyph for glyph, _ in case.shown) + 1) if face.is_cff else range(65536)
     text = ["BT /F0 36 Tf"]
     for (glyph, _), (x, y) in zip(case.shown, points(case, font, is_line, box[1])):
         text.append(f"1 0 0 1 {float(x):.4f} {float(y):.4f} Tm <{numbers[glyph]:04X}> Tj")
@@ -221,12 +219,12 @@ def whole_page(case, font, face, is_line, box):
 def faults_of_ink(case, font):
     """What MuPDF and Poppler draw otherwise than with the whole font; and how many pictures were compared."""
     wrong, count, face = [], 0, Face(case.data, case.index)
-    for name, reader, draw in (("line", "MuPDF", readers.by_mupdf), ("grid", "Poppler", readers.by_poppler)):
+    for name, reader in (("line", "MuPDF"), ("grid", "Poppler")):
         box = next(it["value"]["/MediaBox"] for it in readers.objects_of(case.file(f"{name}.pdf")).values() if "/MediaBox" in (it.get("value") or ()))
         path = case.file(f"whole-{name}.pdf")
         with open(path, "wb") as file:
             file.write(whole_page(case, font, face, name == "line", box[2:]))
-        has, wants = draw(case.file(f"{name}.pdf")), draw(path)
+        has, wants = (readers.drawn(reader, it)[0][0] for it in (case.file(f"{name}.pdf"), path))
         far = readers.ink_apart(has, wants)
         count += 1
         if far or readers.is_blank(has) != readers.is_blank(wants):
@@ -240,4 +238,4 @@ def archival_page(case, path):
         objects = file.read()
     codes = "".join(f"<{code:04X}> Tj\n" for code in case.codes)
     with open(path, "wb") as file:
-        file.write(readers.archival(objects, case.offsets, FIRST, f"BT /F0 12 Tf 20 50 Td\n{codes}ET", (800, 100)))
+        file.write(archival(objects, case.offsets, f"BT /F0 12 Tf 20 50 Td\n{codes}ET", (800, 100)))

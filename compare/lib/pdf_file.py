@@ -1,8 +1,9 @@
 """A PDF file, written by hand: objects, a page of glyphs, and a font that is embedded as a CID font (ISO 32000-1, 9.7)."""
-import struct
+import io
 import zlib
 
-from fonts import directory, u16, u32
+import made
+from fonts import tables_of, u16, u32
 
 
 class Pdf:
@@ -16,11 +17,10 @@ class Pdf:
         self.objects.append(text.encode("latin-1") if isinstance(text, str) else text)
         return len(self.objects)
 
-    def stream(self, entries, data):
-        """A stream of these bytes, packed; its number."""
-        packed = zlib.compress(data)
-        return self.put(f"<< {entries} /Length {len(packed)} /Filter /FlateDecode >>\nstream\n".encode("latin-1")
-                        + packed + b"\nendstream")
+    def stream(self, entries, data, is_packed=True):
+        """A stream of these bytes; its number."""
+        data, entries = (zlib.compress(data), f"{entries} /Filter /FlateDecode") if is_packed else (data, entries)
+        return self.put(f"<< {entries} /Length {len(data)} >>\nstream\n".encode("latin-1") + data + b"\nendstream")
 
     def room(self):
         """The number of an object that is put in later."""
@@ -30,17 +30,17 @@ class Pdf:
     def fill(self, number, text):
         self.objects[number - 1] = text.encode("latin-1")
 
-    def file(self, root):
-        """The bytes of the file, whose catalog has this number."""
-        out, places = bytearray(b"%PDF-1.6\n%\xe2\xe3\xcf\xd3\n"), []
+    def file(self, root, more=b"", offsets=()):
+        """The bytes of the file, whose catalog has this number. Further objects, numbered from the next on, begin in `more` at these offsets."""
+        out, places = bytearray(b"%PDF-1.4\n%\xe2\xe3\xcf\xd3\n"), []
         for number, text in enumerate(self.objects, 1):
             places.append(len(out))
             out += b"%d 0 obj\n" % number + text + b"\nendobj\n"
-        table = len(out)
-        out += b"xref\n0 %d\n0000000000 65535 f \n" % (len(places) + 1)
-        out += b"".join(b"%010d 00000 n \n" % place for place in places)
-        out += b"trailer\n<< /Size %d /Root %d 0 R >>\nstartxref\n%d\n%%%%EOF\n" % (len(places) + 1, root, table)
-        return bytes(out)
+        places += [len(out) + it for it in offsets]
+        out += more
+        table, size = len(out), len(places) + 1
+        out += b"xref\n0 %d\n0000000000 65535 f \n" % size + b"".join(b"%010d 00000 n \n" % place for place in places)
+        return bytes(out + b"trailer\n<< /Size %d /Root %d 0 R /ID [<00> <00>] >>\nstartxref\n%d\n%%%%EOF\n" % (size, root, table))
 
 
 class Face:
@@ -49,24 +49,10 @@ class Face:
     def __init__(self, data, index=0):
         at = u32(data, 12 + 4 * index) if data[:4] == b"ttcf" else 0
         self.kind = data[at:at + 4]
-        self.tables = {tag: data[o:o + length] for tag, (o, length) in sorted(directory(data, index).items())}
-        self.alone = data if data[:4] != b"ttcf" else self.file_without()
+        self.tables = dict(sorted(tables_of(data, index).items()))
+        self.alone = data if data[:4] != b"ttcf" else made.font(list(self.tables.items()), self.kind)
         self.is_cff = "glyf" not in self.tables
         self.units = u16(self.tables["head"], 18)
-
-    def file_without(self, *left_out):
-        """The face as a font of its own: its tables but for some, each where a new directory says."""
-        records = [(tag, table) for tag, table in self.tables.items() if tag not in left_out]
-        count = len(records)
-        power = count.bit_length() - 1
-        head = self.kind + b"".join(n.to_bytes(2, "big") for n in (count, 16 << power, power, 16 * count - (16 << power)))
-        place, rows, body = 12 + 16 * count, b"", b""
-        for tag, table in records:
-            padded = table + bytes(-len(table) % 4)
-            total = sum(struct.unpack(f">{len(padded) // 4}I", padded)) % 2 ** 32
-            rows += tag.encode("latin-1") + b"".join(n.to_bytes(4, "big") for n in (total, place + len(body), len(table)))
-            body += padded
-        return head + rows + body
 
     def advance(self, glyph):
         """The advance of a glyph in the font's units: past the pairs of `hmtx` the last one's."""
@@ -77,6 +63,15 @@ class Face:
         """The box of all glyphs (`head`), in thousandths."""
         numbers = [int.from_bytes(self.tables["head"][k:k + 2], "big", signed=True) for k in range(36, 44, 2)]
         return [round(n * 1000 / self.units) for n in numbers]
+
+    def cids(self, count):
+        """The CID of each glyph, or its number where the font isn't CID-keyed (ISO 32000-1, 9.7.4.2)."""
+        from fontTools.cffLib import CFFFontSet
+
+        cff = CFFFontSet()
+        cff.decompile(io.BytesIO(self.tables["CFF "]), None)
+        top = cff.topDictIndex[0]
+        return [0, *(int(name[3:]) for name in top.charset[1:count])] if hasattr(top, "ROS") and top.charset else range(count)
 
     def glyphs_drawn(self):
         """The numbers of the glyphs that draw something, as far as `loca` says (of CFF outlines all)."""
@@ -129,3 +124,29 @@ def pages(pdf, size, fonts, contents):
             f" /Resources << /Font << {names} >> >> >>"))
     pdf.fill(tree, f"<< /Type /Pages /Count {len(kids)} /Kids [{' '.join(f'{k} 0 R' for k in kids)}] >>")
     return pdf.file(pdf.put(f"<< /Type /Catalog /Pages {tree} 0 R >>"))
+
+
+# ---- a page as PDF/A-1b wants it
+
+PROFILE = "/usr/share/color/icc/ghostscript/srgb.icc"
+XMP = """<?xpacket begin="\ufeff" id="W5M0MpCehiHzreSzNTczkc9d"?>
+<x:xmpmeta xmlns:x="adobe:ns:meta/"><rdf:RDF xmlns:rdf="http://www.w3.org/1999/02/22-rdf-syntax-ns#">
+<rdf:Description rdf:about="" xmlns:pdfaid="http://www.aiim.org/pdfa/ns/id/"><pdfaid:part>1</pdfaid:part><pdfaid:conformance>B</pdfaid:conformance></rdf:Description>
+</rdf:RDF></x:xmpmeta>
+<?xpacket end="w"?>"""
+# The number of the first object of the font.
+FIRST = 7
+
+
+def archival(objects, offsets, content, box):
+    """A PDF/A-1b file of one page, whose font has these objects."""
+    pdf = Pdf()
+    with open(PROFILE, "rb") as file:
+        profile = file.read()
+    pdf.put("<< /Type /Catalog /Pages 2 0 R /Metadata 5 0 R /OutputIntents [<< /Type /OutputIntent /S /GTS_PDFA1 /OutputConditionIdentifier (sRGB) /DestOutputProfile 6 0 R >>] >>")
+    pdf.put("<< /Type /Pages /Count 1 /Kids [3 0 R] >>")
+    pdf.put(f"<< /Type /Page /Parent 2 0 R /MediaBox [0 0 {box[0]} {box[1]}] /Contents 4 0 R /Resources << /Font << /F0 {FIRST} 0 R >> >> >>")
+    pdf.stream("", content.encode())
+    pdf.stream("/Type /Metadata /Subtype /XML", XMP.encode(), is_packed=False)
+    pdf.stream("/N 3", profile)
+    return pdf.file(1, objects, offsets)

@@ -1,18 +1,20 @@
 """The PDF readers of Debian that the comparisons of PDF fonts ask: whether a file is in order, its text, its picture."""
+import io
 import json
 import os
 import re
 import shutil
 import subprocess
+import tempfile
 import unicodedata
 from fractions import Fraction
 
+import fonts
 
 JAVA = "/usr/share/java"
 JARS = "preflight pdfbox2 pdfbox2-tools fontbox2 xmpbox commons-logging javax.activation jaxb-api".split()
 PACKAGES = ["qpdf", "poppler-utils", "mupdf-tools", "ghostscript", "python3-pil", "python3-fonttools"]
 PDFBOX = ["libpdfbox2-java", "libactivation-java", "libjaxb-api-java"] + ([] if shutil.which("java") else ["default-jre-headless"])
-PROFILE = "/usr/share/color/icc/ghostscript/srgb.icc"
 DPI = 100
 
 
@@ -62,19 +64,27 @@ def text_by_mupdf(path):
 
 def picture(data):
     """A picture in grey, of PGM bytes."""
-    import io
-
     from PIL import Image
 
     return Image.open(io.BytesIO(data)).convert("L")
 
 
-def by_mupdf(path, dpi=DPI):
-    return picture(ran("mutool", "draw", "-q", "-r", str(dpi), "-c", "gray", "-F", "pgm", "-o", "-", path, "1"))
+# What each reader is called with, where it draws DPI pixels an inch.
+READERS = {
+    "MuPDF": ["mutool", "draw", "-r", "DPI", "-c", "gray", "-F", "pgm", "-o", "FOLDER/%d.pgm"],
+    "Poppler": ["pdftoppm", "-r", "DPI", "-gray"],
+    "Ghostscript": ["gs", "-q", "-dSAFER", "-dBATCH", "-dNOPAUSE", "-sDEVICE=pgmraw", "-rDPI", "-dTextAlphaBits=4", "-dGraphicsAlphaBits=4", "-sOutputFile=FOLDER/%d.pgm"],
+}
 
 
-def by_poppler(path, dpi=DPI):
-    return picture(ran("pdftoppm", "-r", str(dpi), "-gray", "-f", "1", "-l", "1", path))
+def drawn(reader, path, dpi=DPI):
+    """A reader's pictures of the pages of a file, and the lines that it says."""
+    with tempfile.TemporaryDirectory(prefix="drawn-") as folder:
+        words = [word.replace("DPI", str(dpi)).replace("FOLDER", folder) for word in READERS[reader]] + [path] + [f"{folder}/"] * (reader == "Poppler")
+        said = subprocess.run(words, stdin=subprocess.DEVNULL, capture_output=True, text=True, errors="replace")
+        lines = {line.replace(path, "") for line in (said.stdout + said.stderr).splitlines() if line and not line.startswith("page ")}
+        found = [os.path.join(folder, it) for it in sorted(os.listdir(folder))]
+        return [picture(fonts.content(it)) for it in found], lines | {f"status {said.returncode}"} - {"status 0"}
 
 
 def ink(it, level):
@@ -137,33 +147,3 @@ def faults_in(report):
         return []
     faults = re.findall(r"<code>(.*?)</code>\s*<details>(.*?)</details>", report, re.S)
     return [f"preflight: {code} {details}" for code, details in faults[:2]] or ["preflight: not valid"]
-
-
-# ---- a page as PDF/A-1b wants it
-
-XMP = """<?xpacket begin="\ufeff" id="W5M0MpCehiHzreSzNTczkc9d"?>
-<x:xmpmeta xmlns:x="adobe:ns:meta/"><rdf:RDF xmlns:rdf="http://www.w3.org/1999/02/22-rdf-syntax-ns#">
-<rdf:Description rdf:about="" xmlns:pdfaid="http://www.aiim.org/pdfa/ns/id/"><pdfaid:part>1</pdfaid:part><pdfaid:conformance>B</pdfaid:conformance></rdf:Description>
-</rdf:RDF></x:xmpmeta>
-<?xpacket end="w"?>"""
-
-
-def archival(objects, offsets, first, content, box):
-    """A PDF/A-1b file of one page, whose font has these objects with numbers from `first` on. Those before it are the file's own."""
-    with open(PROFILE, "rb") as file:
-        profile = file.read()
-    own = ["<< /Type /Catalog /Pages 2 0 R /Metadata 5 0 R /OutputIntents [<< /Type /OutputIntent /S /GTS_PDFA1 /OutputConditionIdentifier (sRGB) /DestOutputProfile 6 0 R >>] >>",
-           "<< /Type /Pages /Count 1 /Kids [3 0 R] >>",
-           f"<< /Type /Page /Parent 2 0 R /MediaBox [0 0 {box[0]} {box[1]}] /Contents 4 0 R /Resources << /Font << /F0 {first} 0 R >> >> >>",
-           ("", content.encode()), ("/Type /Metadata /Subtype /XML ", XMP.encode()), ("/N 3 ", profile)]
-    out, places = bytearray(b"%PDF-1.4\n%\xe2\xe3\xcf\xd3\n"), {}
-    for number, it in enumerate(own, 1):
-        places[number] = len(out)
-        body = it.encode() if isinstance(it, str) else f"<< {it[0]}/Length {len(it[1])} >>\nstream\n".encode() + it[1] + b"\nendstream"
-        out += b"%d 0 obj\n" % number + body + b"\nendobj\n"
-    places.update({first + k: len(out) + offset for k, offset in enumerate(offsets)})
-    out += objects
-    size, start = max(places) + 1, len(out)
-    rows = [b"%010d 00000 n \n" % places[k] if k in places else b"0000000000 65535 f \n" for k in range(size)]
-    out += b"xref\n0 %d\n" % size + b"".join(rows)
-    return bytes(out) + b"trailer\n<< /Size %d /Root 1 0 R /ID [<00> <00>] >>\nstartxref\n%d\n%%%%EOF\n" % (size, start)

@@ -23,21 +23,21 @@ class Report:
         self.wrong.append(f"{self.label}: {kind}: {text}")
 
 
-def words(text, **numbers):
+def words(**numbers):
     """The arguments that all take, and numbers of its own: for each the usual one, and that of --short."""
-    parser = argparse.ArgumentParser(description=text, formatter_class=argparse.RawDescriptionHelpFormatter)
-    parser.add_argument("folders", nargs="*", default=os.environ.get("FONTS", "").split(), metavar="FOLDER", help="folders with further fonts (FONTS)")
-    parser.add_argument("--short", action="store_true", help="fewer fonts and copies")
-    parser.add_argument("--seed", default="1", metavar="S", help="the seed of the random choices")
-    parser.add_argument("--only", default="", metavar="WORD", help="take those whose names have this word")
-    parser.add_argument("--jobs", type=int, default=2, metavar="J", help="so many at a time")
-    parser.add_argument("--minutes", type=float, default=1e6, metavar="M", help="what isn't begun after so many isn't compared")
-    for name, (usual, short) in numbers.items():
-        parser.add_argument(f"--{name}", type=int, metavar="N", help=f"{usual}, with --short {short}")
+    parser = argparse.ArgumentParser()
+    parser.add_argument("--short", action="store_true")
+    parser.add_argument("--seed", default="1")
+    parser.add_argument("--only", default="")
+    parser.add_argument("--jobs", type=int, default=2)
+    parser.add_argument("--minutes", type=float, default=1e6)
+    for name in numbers:
+        parser.add_argument(f"--{name}", type=int)
     given = parser.parse_args()
     for name, pair in numbers.items():
         if getattr(given, name) is None:
             setattr(given, name, pair[given.short])
+    given.folders = os.environ.get("FONTS", "").split()
     given.end = time.monotonic() + 60 * given.minutes
     return given
 
@@ -77,5 +77,5 @@ def end(reports, compared, text):
     wrong = [line for it in reports for line in it.wrong]
     for line in wrong[:LINES]:
         print(line[:400])
-    print(f"{build.NAME.removesuffix('.py')}: {text}; {compared} compared, {len(wrong)} differ", flush=True)
+    print(f"{build.NAME}: {text}; {compared} compared, {len(wrong)} differ", flush=True)
     sys.exit(1 if wrong or not compared else 0)
