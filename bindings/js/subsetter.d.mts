@@ -192,7 +192,7 @@ export interface Part {
     strings: [number, number][];
     /** The bytes of the stream; none where the object is none. */
     stream?: Uint8Array;
-    /** The object, as it is between `N 0 obj` and `endobj`. */
+    /** The object, as it is between `N 0 obj` and `endobj`: of the entries and the stream that are set now. */
     readonly value: Uint8Array;
 }
 
