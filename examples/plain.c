@@ -1,4 +1,4 @@
-/* A PDF of one line, written by hand: the font's objects from the library, compressed by zlib, and the file around them. */
+/* A PDF of one line, written by hand: the font's objects from the library, compressed by zlib (-lz), and the file around them. */
 #include "subsetter.h"
 
 #include <stdio.h>

@@ -1,4 +1,4 @@
-/** A PDF of a line that hb-shape shapes, with kerning and ligatures. Its streams are compressed. */
+/** A PDF of a line that hb-shape shapes, with kerning and ligatures (marks need `dy`, too: by Ts). Its streams are compressed. */
 import { execFileSync } from "node:child_process";
 import { readFileSync, writeFileSync } from "node:fs";
 import { deflateSync } from "node:zlib";
@@ -13,7 +13,7 @@ const starts = glyphs.map(it => it.cl), after = start => Math.min(characters.len
 const textOf = start => met.has(start) ? "" : (met.add(start), characters.slice(start, after(start)).join(""));
 const shown = glyphs.map(it => ({ glyph: it.g, text: textOf(it.cl) }));
 
-const subsetter = await load(), font = subsetter.pdfFont(readFileSync(FONT), shown, { codes: "eachText" });
+const subsetter = await load(), font = subsetter.pdfFont(readFileSync(FONT), shown, { codes: "each_text" });
 // A number in TJ moves back: by what is left of the glyph's width.
 const code = index => font.codes[index].toString(16).padStart(4, "0"), width = index => font.widths[font.cids[index]];
 const line = glyphs.map((it, index) => `${-it.dx} <${code(index)}> ${it.dx + width(index) - it.ax}`).join(" ");

@@ -1,4 +1,4 @@
-"""A PDF of a line that hb-shape shapes, with kerning and ligatures. Its streams are compressed."""
+"""A PDF of a line that hb-shape shapes, with kerning and ligatures (marks need `dy`, too: by Ts). Its streams are compressed."""
 import json
 import subprocess
 import zlib

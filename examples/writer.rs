@@ -47,7 +47,7 @@ fn main() -> Result<(), Box<dyn Error>> {
     let [catalog, pages, page, content] = [(); 4].map(|_| writer.next());
     let numbers: Vec<u32> = (0..font.part_count()).map(|_| writer.next()).collect();
     for part in font.parts(&numbers)? {
-        // (with a crate that deflates, first `part.pack("/FlateDecode", |bytes| deflate(bytes))?`)
+        // (with a crate that deflates: `for mut part`, and first `part.pack("/FlateDecode", |bytes| deflate(bytes))?`)
         writer.put(part.number, part.value()?);
     }
 

@@ -347,7 +347,7 @@ typedef struct subsetter_pdf_font {
     /* The code of each entry, which strings hold in two bytes, the higher first. */
     const uint16_t *codes;
     size_t code_count;
-    /* Of each entry 1 where readers find its text by its code; where it is 0, ActualText says it (14.9.4). */
+    /* Of each entry 1 where readers find its text by its code; where it is 0, the page says it by an ActualText (14.9.4). */
     const uint8_t *is_said;
     size_t said_count;
     /* The width of each CID of the font program. */

@@ -188,11 +188,11 @@ export interface Part {
     number: number;
     /** The entries of its dictionary, without `<<`, `>>` and Length, and without Filter unless the stream is packed. */
     entries: Uint8Array;
-    /** Where strings are in the entries, from and up to: encryption has to cover these too. */
+    /** Where strings are in the entries, with their parentheses, from and up to: encryption has to cover these too. */
     strings: [number, number][];
     /** The bytes of the stream; none where the object is none. */
     stream?: Uint8Array;
-    /** The object, as it is between `N 0 obj` and `endobj`. */
+    /** The object, as it is between `N 0 obj` and `endobj`: of the entries and the stream that are set now. */
     readonly value: Uint8Array;
 }
 
@@ -226,7 +226,7 @@ export interface PdfFont {
     cids: number[];
     /** The code of each entry, which strings hold in two bytes, the higher first. */
     codes: number[];
-    /** Of each entry whether readers find its text by its code; where they don't, ActualText says it (14.9.4). */
+    /** Of each entry whether readers find its text by its code; where they don't, the page says it by an ActualText (14.9.4). */
     textIsMapped: boolean[];
     /** @deprecated The older name of `textIsMapped`. */
     readonly isSaid: boolean[];

@@ -176,18 +176,21 @@ class Advances(NamedTuple):
 
 
 class Part(NamedTuple):
-    """An object of a PDF, as data: a dictionary, or a stream with its dictionary."""
+    """An object of a PDF, as data: a dictionary, or a stream with its dictionary.
+
+    - `role`: "font", "cid_font", "descriptor", "program", "to_unicode", "cid_set" or "encoding".
+    - `number`: as the caller chose it.
+    - `entries`: those of its dictionary, without `<<`, `>>` and Length, and without Filter unless the stream is packed.
+    - `strings`: where strings are in the entries, with their parentheses, from and up to. Encryption has to cover these too:
+      `part._replace(entries=.., stream=..).value` is the object of what comes of it.
+    - `stream`: its bytes; None where the object is none.
+    """
 
     role: Role
-    """What it is."""
     number: int
-    """Its number, as the caller chose it."""
     entries: bytes
-    """The entries of its dictionary, without `<<`, `>>` and Length, and without Filter unless the stream is packed."""
     strings: List[Tuple[int, int]]
-    """Where strings are in the entries, from and up to: encryption has to cover these too."""
     stream: Optional[bytes]
-    """The bytes of the stream; None where the object is none."""
 
     @property
     def value(self) -> bytes:
@@ -817,48 +820,45 @@ class PdfFont:
     """All that a PDF has of a font for the glyphs in use: what `pdf_font` answers.
 
     An entry is a glyph in use with its text. Lengths are in thousandths of the em, and sections those of ISO 32000-1.
+
+    - `program`: the font program, in bytes.
+    - `kind`: "TrueType", a file; "CFF", the bytes of `CFF ` alone; or "OpenType", a file with outlines in `CFF ` (9.9).
+    - `glyph_count`: how many glyphs it has: its CIDs are the numbers below.
+    - `cids`: the CID of each entry.
+    - `codes`: the code of each entry, which strings hold in two bytes, the higher first.
+    - `text_is_mapped`: of each entry whether readers find its text by its code; where they don't, the page says it by an
+      ActualText (14.9.4).
+    - `widths`: the width of each CID.
+    - `default_width`: DW.
+    - `columns`, `default_column`: in vertical writing of each CID from 0 on that a string can show, and DW2 (y and advance).
+    - `descriptor`, `permission`, `to_unicode`: the font descriptor, what the font's maker permits, and ToUnicode (9.10.3).
+    - `encoding`, `encoding_name`: the CMap from codes to CIDs; None where each code is its CID (`Identity-H` or `Identity-V`).
+    - `cid_set`: the bytes of CIDSet, if it was chosen.
+    - `units_per_em`, `exact_widths`: how many units of the font an em has, and the width of each CID in these.
+    - `unknown_axes`: those of the coordinates that the font doesn't have.
+    - `part_count`: how many objects it has.
     """
 
     program: bytes
-    """The font program."""
     kind: Literal["TrueType", "CFF", "OpenType"]
-    """What it is (9.9): a TrueType file, the bytes of `CFF `, or an OpenType file with outlines in `CFF `."""
     glyph_count: int
-    """How many glyphs it has: its CIDs are the numbers below."""
     cids: List[int]
-    """The CID of each entry."""
     codes: List[int]
-    """The code of each entry, which strings hold in two bytes, the higher first."""
     text_is_mapped: List[bool]
-    """Of each entry whether readers find its text by its code; where they don't, ActualText says it (14.9.4)."""
     widths: List[int]
-    """The width of each CID."""
     default_width: int
-    """DW."""
     columns: Optional[List[Column]]
-    """In vertical writing of each CID from 0 on that a string can show; else None."""
     default_column: Optional[Tuple[int, int]]
-    """DW2 (y and advance) in vertical writing; else None."""
     descriptor: Descriptor
-    """The values of the font descriptor."""
     permission: Permission
-    """What the font's maker permits."""
     to_unicode: bytes
-    """The ToUnicode CMap (9.10.3)."""
     encoding: Optional[bytes]
-    """The CMap from codes to CIDs; None where each code is its CID (`Identity-H` or `Identity-V`)."""
     encoding_name: Optional[str]
-    """Its name."""
     cid_set: Optional[bytes]
-    """The bytes of CIDSet, if it was chosen."""
     units_per_em: int
-    """How many units of the font an em has."""
     exact_widths: List[int]
-    """The width of each CID in the font's units."""
     unknown_axes: List[str]
-    """The axes of the coordinates that the font doesn't have."""
     part_count: int
-    """How many objects it has."""
 
     def __init__(self, made: _PdfFont, entries: _Entries, new: Optional[_Font]) -> None:
         # (what is written is written of these copies, which nothing else changes)
