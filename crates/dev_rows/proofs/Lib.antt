@@ -1,3 +1,6 @@
 mod DigitLemmas
+mod Each
+mod Ranges
 mod RowLemmas
 mod ShownLemmas
+mod SignedLemmas

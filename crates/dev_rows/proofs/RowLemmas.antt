@@ -3,8 +3,8 @@ use Rattle.std.proofs.Common.{◌≡◌, ℕ, ◌≤◌, ◌-◌, List, [], ◌�
 use Rattle.std.specs.Prelude.{◌⊎◌}
 use Rattle.std.specs.Option.{option_map, option_and_then}
 use Rattle.std.proofs.lemmas.List.{take_all}
-use Rattle.dev_base.specs.declared.failure.Failure.{Failure}
-use Rattle.dev_base.specs.declared.failure.Failure.TheVariants.{Row, Memory}
+use Rattle.dev_rows.specs.declared.failure.Failure.{Failure}
+use Rattle.dev_rows.specs.declared.failure.Failure.TheVariants.{Row, Memory}
 use Rattle.subsetter_base.specs.declared.tag.Tag.{Tag}
 use Rattle.subsetter_words.specs.Numbers.{number_in_bits}
 use Rattle.subsetter_words.proofs.Numbers.{texts}

@@ -3,7 +3,7 @@ use Rattle.std.specs.Prelude.{ℕ, ◌+◌, ◌-◌, ◌*◌, ◌^◌, ◌&&◌,
 use Rattle.std.specs.List.{slice_split, position_or_len, before_first, after_first}
 use Rattle.std.specs.Option.{option_map, option_and_then}
 use Rattle.std.specs.Str.{bytes_eq}
-use Rattle.dev_base.specs.Ranges.{numbers_between}
+use Rattle.dev_rows.specs.Numbers.{numbers_between}
 use Rattle.subsetter_words.specs.Numbers.{number_in_bits}
 
 -- the value of a digit: `0` to `9` are 48 to 57, `a` to `f` 97 to 102

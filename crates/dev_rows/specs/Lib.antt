@@ -1,7 +1,9 @@
 pub mod Answers
 pub mod Digits
+pub mod Failure
 pub mod Instances
 pub mod Moves
+pub mod Numbers
 pub mod Outlines
 pub mod Rows
 pub mod Shown

@@ -2,7 +2,7 @@
 use Rattle.std.specs.Prelude.{ℕ, ◌==◌, ◌^◌, nat_lt, if◌then◌else◌, List, [], ◌∷◌, length, map, Option, Some, None, ℤ, pos}
 use Rattle.std.specs.List.{slice_split}
 use Rattle.std.specs.Option.{ok_or, option_map, option_and_then}
-use Rattle.dev_base.specs.Numbers.{signed_in_bits, each}
+use Rattle.dev_rows.specs.Numbers.{signed_in_bits, each}
 use Rattle.dev_rows.specs.Shown.{Shown, Numbers, shown_of}
 use Rattle.dev_rows.specs.Words.{numbers_of, coordinates_of, settings_of}
 use Rattle.subsetter_base.specs.declared.error.Error.TheVariants.{MalformedFont}

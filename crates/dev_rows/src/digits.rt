@@ -3,11 +3,11 @@
 ghost use Rattle.std.specs.Prelude.{◌≡◌, ◌==◌, ◌++◌, ◌∷◌, [], ◌⊎◌, Some, None, OnOk, IfOk, IfErr};
 ghost use Rattle.std.specs.List.{slice_split};
 ghost use Rattle.std.specs.Option.{option_map};
-ghost use Rattle.dev_base.specs.Ranges.{numbers_between};
+ghost use Rattle.dev_rows.specs.Numbers.{numbers_between};
 ghost use Rattle.dev_rows.specs.Digits.{digit, byte_of, bytes_of, word_bytes, after_dot, part_numbers, all_numbers, word_numbers, all_short, word_short_numbers};
-ghost use Rattle.dev_base.specs.declared.failure.Failure.TheVariants.{Row, Memory};
+ghost use Rattle.dev_rows.specs.declared.failure.Failure.TheVariants.{Row, Memory};
 
-use dev_base::failure::Failure;
+use crate::failure::Failure;
 use std::alloc::{AllocError, Global};
 use subsetter_words::{parts_of, u32_of};
 

@@ -15,6 +15,7 @@
 #![tactic(auto)]
 
 mod digits;
+mod failure;
 mod instances;
 mod running;
 mod subsets;

@@ -2,8 +2,8 @@
 
 ghost use Rattle.std.specs.Prelude.{◌≤◌};
 
+use crate::failure::{Failure, report};
 use crate::{instances, subsets};
-use dev_base::failure::{Failure, report};
 use std::rt::{Env, Files};
 use std::{env, fs};
 

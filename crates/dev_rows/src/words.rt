@@ -2,15 +2,28 @@
 
 ghost use Rattle.std.specs.Prelude.{◌≡◌, ◌⊎◌, map, Some, None, IfOk, IfErr};
 ghost use Rattle.std.specs.Option.{option_and_then};
-ghost use Rattle.dev_base.specs.Numbers.{signed_in_bits, each};
-ghost use Rattle.dev_base.specs.declared.failure.Failure.TheVariants.{Row, Memory};
+ghost use Rattle.dev_rows.specs.Numbers.{signed_in_bits, each};
+ghost use Rattle.dev_rows.specs.declared.failure.Failure.TheVariants.{Row, Memory};
 ghost use Rattle.dev_rows.specs.Words.{parts_of, numbers_of, coordinates_of, short_of, short_numbers_of, setting_of, settings_of};
 ghost use Rattle.subsetter_words.specs.Numbers.{number_in_bits};
 
-use dev_base::failure::Failure;
-use dev_base::numbers::{i16_of, i32_of};
+use crate::failure::Failure;
 use std::alloc::Global;
 use subsetter_base::Tag;
+
+/// The number that ASCII digits write behind a sign or none, if it fits 32 bits with its sign.
+fn i32_of(word: &str) -> Option<i32>
+    ensures { result ≡ signed_in_bits 31 word.now }
+{
+    word.parse().ok()
+}
+
+/// The number that ASCII digits write behind a sign or none, if it fits 16 bits with its sign.
+fn i16_of(word: &str) -> Option<i16>
+    ensures { result ≡ signed_in_bits 15 word.now }
+{
+    word.parse().ok()
+}
 
 /// A number with a sign; `Row` where the word is none.
 pub fn number(word: &str) -> Result<i32, Failure>

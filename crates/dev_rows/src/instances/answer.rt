@@ -1,10 +1,10 @@
 //! What a call answers, as it is printed.
 
 ghost use Rattle.std.specs.Prelude.{◌≡◌, [], ◌∷◌, IfOk, IfErr};
-ghost use Rattle.dev_base.specs.declared.failure.Failure.TheVariants.{Memory};
+ghost use Rattle.dev_rows.specs.declared.failure.Failure.TheVariants.{Memory};
 ghost use Rattle.dev_rows.specs.Shown.{Numbers, shown};
 
-use dev_base::failure::Failure;
+use crate::failure::Failure;
 use std::alloc::Global;
 use std::fmt;
 use subsetter_base::Error;

@@ -1,14 +1,14 @@
 //! Instances of whole fonts.
 
 ghost use Rattle.std.specs.Prelude.{◌≡◌, ◌⊎◌, ◌∷◌, [], None, IfOk, IfErr};
-ghost use Rattle.dev_base.specs.declared.failure.Failure.TheVariants.{Row, Memory};
+ghost use Rattle.dev_rows.specs.declared.failure.Failure.TheVariants.{Row, Memory};
 ghost use Rattle.dev_rows.specs.Instances.{request_of, IsInstanceRow};
 ghost use Rattle.dev_rows.specs.Shown.{shown};
 ghost use Rattle.subsetter_base.specs.Indexes.{with_glyphs};
 
+use crate::failure::Failure;
 use crate::instances::answer::Answer;
 use crate::words::{count, settings, short_numbers};
-use dev_base::failure::Failure;
 use std::alloc::Global;
 use subsetter_base::GlyphRemapper;
 use subsetter_instance::instance;

@@ -1,7 +1,7 @@
 //! The tuples of a glyph, and its points moved by them.
 
 ghost use Rattle.std.specs.Prelude.{◌≡◌, ◌⊎◌, ◌∷◌, [], true, Some, None, IfOk, IfErr, IfSome, length};
-ghost use Rattle.dev_base.specs.declared.failure.Failure.TheVariants.{Row, Memory};
+ghost use Rattle.dev_rows.specs.declared.failure.Failure.TheVariants.{Row, Memory};
 ghost use Rattle.dev_rows.specs.Shown.{IsAnswer};
 ghost use Rattle.dev_rows.specs.Tuples.{first_tuple, scalars, counts, tuple_shown, tuple_row};
 ghost use Rattle.dev_rows.specs.Moves.{are_ends, is_outline, points_at, moved_shown, moved_row};
@@ -9,11 +9,11 @@ ghost use Rattle.dev_rows.specs.Words.{short_numbers_of};
 ghost use Rattle.subsetter_variation.specs.Glyphs.Movement.{IsOutline};
 ghost use Rattle.subsetter_variation.specs.Glyphs.Varied.{AreEnds};
 
+use crate::failure::Failure;
 use crate::instances::answer::Answer;
 use crate::instances::number::list;
 use crate::instances::tables::listed;
 use crate::words::{coordinates, count, glyph, numbers, short_numbers};
-use dev_base::failure::Failure;
 use std::alloc::Global;
 use std::marker::Model;
 use subsetter_base::Error;

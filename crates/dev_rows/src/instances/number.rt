@@ -1,9 +1,9 @@
 //! Lists of numbers of fewer than 64 bits.
 
 ghost use Rattle.std.specs.Prelude.{◌≡◌, [], ◌∷◌, List, ℤ, pos, map, Some, None, IfOk, IfErr};
-ghost use Rattle.dev_base.specs.declared.failure.Failure.TheVariants.{Memory};
+ghost use Rattle.dev_rows.specs.declared.failure.Failure.TheVariants.{Memory};
 
-use dev_base::failure::Failure;
+use crate::failure::Failure;
 use std::alloc::Global;
 
 /// A number of at most 64 bits.

@@ -1,16 +1,16 @@
 //! Simple outlines, read and written.
 
 ghost use Rattle.std.specs.Prelude.{◌≡◌, ◌⊎◌, Some, None, IfOk, IfErr};
-ghost use Rattle.dev_base.specs.declared.failure.Failure.TheVariants.{Row, Memory};
+ghost use Rattle.dev_rows.specs.declared.failure.Failure.TheVariants.{Row, Memory};
 ghost use Rattle.dev_rows.specs.Outlines.{points_shown, read_row, bytes_shown, written_row, points_of, fits_row};
 ghost use Rattle.dev_rows.specs.Shown.{IsAnswer, shown};
 ghost use Rattle.subsetter_base.specs.declared.error.Error.TheVariants.{OutOfMemory};
 ghost use Rattle.subsetter_points.specs.Simple.{parts};
 
+use crate::failure::Failure;
 use crate::instances::answer::{Answer, one};
 use crate::instances::number::list;
 use crate::words::{coordinates, short_numbers};
-use dev_base::failure::Failure;
 use std::alloc::Global;
 use subsetter_base::Error;
 use subsetter_points::{Outline, Point, fits, read_simple, write_simple};

@@ -1,9 +1,10 @@
 //! A table of rows of what an instance is made of.
 
 ghost use Rattle.std.specs.Prelude.{◌≡◌, ◌⊎◌, IfErr};
-ghost use Rattle.dev_base.specs.declared.failure.Failure.TheVariants.{Row, Memory, Write};
+ghost use Rattle.dev_rows.specs.declared.failure.Failure.TheVariants.{Row, Memory, Write};
 
 use crate::digits::word_bytes;
+use crate::failure::Failure;
 use crate::instances::answer::Answer;
 use crate::instances::fonts::{Instance, instance_by_words};
 use crate::instances::movement::{Moved, moved_by_words, tuple};
@@ -11,7 +12,6 @@ use crate::instances::outlines::{is_fit, read, read_and_written};
 use crate::instances::tables::{
     advance, axis_count, deltas, normalized_settings, point_numbers, quotient, region_scalar,
 };
-use dev_base::failure::Failure;
 use std::alloc::Global;
 
 /// Bytes of the table.

@@ -3,14 +3,14 @@
 ghost use Rattle.std.specs.Prelude.{◌≡◌, ◌⊎◌, ◌==◌, length, map, Some, None, IfOk, IfErr};
 ghost use Rattle.std.specs.List.{slice_split};
 ghost use Rattle.std.specs.Option.{option_copied, option_map};
-ghost use Rattle.dev_base.specs.declared.failure.Failure.TheVariants.{Row, Memory};
+ghost use Rattle.dev_rows.specs.declared.failure.Failure.TheVariants.{Row, Memory};
 ghost use Rattle.dev_rows.specs.Shown.{IsAnswer, shown};
 ghost use Rattle.dev_rows.specs.Tables.{count_of, listed, list_and_rest, quotient_row, axis_count_row, coordinates_row, axis_by, axis_of, region_of, scalar_row, point_numbers_row, deltas_row, advance_row};
 
+use crate::failure::Failure;
 use crate::instances::answer::{Answer, one};
 use crate::instances::number::list;
 use crate::words::{coordinates, count, glyph, number, numbers, settings};
-use dev_base::failure::Failure;
 use std::alloc::Global;
 use subsetter_variation::items::advances::advance_delta;
 use subsetter_variation::locations::{axes, coordinates as normalized};

@@ -1,13 +1,13 @@
 //! A row of the table.
 
 ghost use Rattle.std.specs.Prelude.{◌≡◌, ◌⊎◌, ◌==◌, if◌then◌else◌, map, Some, None, IfOk, IfErr};
-ghost use Rattle.dev_base.specs.declared.failure.Failure.TheVariants.{Row as NoRow, Memory};
+ghost use Rattle.dev_rows.specs.declared.failure.Failure.TheVariants.{Row as NoRow, Memory};
 ghost use Rattle.dev_rows.specs.Rows.{kind_of, embeds, varies, limits_of, extras_of, choice_of, bounded, bounded_choice, limit_words, choice_words, bounded_words, choices, expected_by, expected_of, coordinates_in, row_of, result_map, limits_view, choice_view, expected_view, row_view};
 
 use crate::digits::{word_bytes, word_numbers, word_short_numbers};
+use crate::failure::Failure;
 use crate::subsets::answer::Answer;
 use crate::words::{count, settings};
-use dev_base::failure::Failure;
 use std::alloc::Global;
 use subsetter::{Extras, Limits, Options, Tag};
 

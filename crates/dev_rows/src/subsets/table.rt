@@ -1,13 +1,13 @@
 //! A table of rows of subsets.
 
 ghost use Rattle.std.specs.Prelude.{◌≡◌, ◌≢◌, ◌⊎◌, IfErr};
-ghost use Rattle.dev_base.specs.declared.failure.Failure.TheVariants.{Row, Font, Memory, Write};
+ghost use Rattle.dev_rows.specs.declared.failure.Failure.TheVariants.{Row, Font, Memory, Write};
 
 use crate::digits::word_bytes;
+use crate::failure::Failure;
 use crate::subsets::answer::status_of;
 use crate::subsets::calls::{Miss, miss_at, miss_of};
 use crate::subsets::row::{Kind, kind_of, read_row};
-use dev_base::failure::Failure;
 use std::alloc::Global;
 use std::fmt;
 use subsetter::Error;

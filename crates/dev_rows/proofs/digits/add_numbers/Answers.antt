@@ -1,6 +1,6 @@
 use Rattle.std.proofs.Common.{◌+◌, ◌-◌, ◌++◌, ap, ◌∙◌, arith}
 use Rattle.std.specs.List.{range_with_len}
-use Rattle.dev_base.proofs.Ranges.{next_number}
+use Rattle.dev_rows.proofs.Ranges.{next_number}
 use Rattle.dev_rows.proofs.digits.add_numbers.Goals as goal
 
 pub loop-number-preserved : goal.loop-number-preserved

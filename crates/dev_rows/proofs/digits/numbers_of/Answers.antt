@@ -2,7 +2,7 @@ use Rattle.std.proofs.Common.{◌≡◌, ℕ, ◌+◌, ◌++◌, List, [], Optio
 use Rattle.std.proofs.lemmas.Grind.{common_steps}
 use Rattle.std.proofs.lemmas.List.{drop_more}
 use Rattle.std.specs.Option.{option_map}
-use Rattle.dev_base.specs.Ranges.{numbers_between}
+use Rattle.dev_rows.specs.Numbers.{numbers_between}
 use Rattle.dev_rows.specs.Digits.{part_numbers, all_numbers}
 use Rattle.subsetter_words.proofs.Numbers.{texts}
 use Rattle.dev_rows.proofs.DigitLemmas.{next_part}

@@ -1,6 +1,6 @@
 use Rattle.std.proofs.Common.{◌≡◌, ◌++◌, drop}
 use Rattle.std.specs.Option.{option_map}
-use Rattle.dev_base.specs.Numbers.{each}
+use Rattle.dev_rows.specs.Numbers.{each}
 use Rattle.dev_rows.specs.Words.{short_of}
 use Rattle.dev_rows.proofs.words.all_short.Given as goal
 

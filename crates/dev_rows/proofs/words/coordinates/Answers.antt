@@ -1,8 +1,8 @@
 use Rattle.std.proofs.Common.{◌≡◌, ℕ, List, [], ◌∷◌, ◌++◌, Bor, Some, arith, get_or, sym, ◌∙◌}
 use Rattle.std.proofs.lemmas.Grind.{common_steps}
 use Rattle.std.proofs.lemmas.Int.{to_z-of_z}
-use Rattle.dev_base.specs.Numbers.{signed_in_bits}
-use Rattle.dev_base.proofs.Each.{next_text}
+use Rattle.dev_rows.specs.Numbers.{signed_in_bits}
+use Rattle.dev_rows.proofs.Each.{next_text}
 use Rattle.dev_rows.proofs.words.coordinates.Goals as goal
 
 pub loop-part-preserved : goal.loop-part-preserved

@@ -1,6 +1,6 @@
 use Rattle.std.proofs.Common.{◌≡◌, ◌++◌, drop}
 use Rattle.std.specs.Option.{option_map}
-use Rattle.dev_base.specs.Numbers.{signed_in_bits, each}
+use Rattle.dev_rows.specs.Numbers.{signed_in_bits, each}
 use Rattle.dev_rows.specs.Words.{coordinates_of}
 use Rattle.subsetter_words.proofs.Numbers.{texts}
 use Rattle.dev_rows.proofs.words.coordinates.Given as goal

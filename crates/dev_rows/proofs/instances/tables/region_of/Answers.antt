@@ -1,6 +1,6 @@
 use Rattle.std.proofs.Common.{◌≡◌, ℕ, List, [], ◌∷◌, ◌++◌, Bor, arith}
 use Rattle.std.proofs.lemmas.Grind.{common_steps}
-use Rattle.dev_base.proofs.Each.{next_text}
+use Rattle.dev_rows.proofs.Each.{next_text}
 use Rattle.dev_rows.specs.Tables.{axis_of}
 use Rattle.dev_rows.proofs.instances.tables.region_of.Goals as goal
 

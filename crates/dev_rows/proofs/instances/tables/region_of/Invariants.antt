@@ -1,6 +1,6 @@
 use Rattle.std.proofs.Common.{◌≡◌, ◌++◌, drop}
 use Rattle.std.specs.Option.{option_map}
-use Rattle.dev_base.specs.Numbers.{each}
+use Rattle.dev_rows.specs.Numbers.{each}
 use Rattle.dev_rows.specs.Tables.{axis_of, region_of}
 use Rattle.subsetter_words.proofs.Numbers.{texts}
 use Rattle.dev_rows.proofs.instances.tables.region_of.Given as goal

@@ -1,8 +1,8 @@
-//! Why a run of a developers' program failed.
+//! Why a run failed.
 
 ghost use Rattle.std.specs.Prelude.{◌≡◌, ◌≤◌};
-ghost use Rattle.dev_base.specs.Failure.{status_of, status_of_end};
-ghost use Rattle.dev_base.specs.declared.failure.Failure.TheVariants.{Error as Refused, Memory};
+ghost use Rattle.dev_rows.specs.Failure.{status_of, status_of_end};
+ghost use Rattle.dev_rows.specs.declared.failure.Failure.TheVariants.{Error as Refused, Memory};
 
 use std::alloc::{AllocError, AllocFailed};
 use std::fmt;
@@ -23,15 +23,13 @@ pub enum Failure {
     Read,
     /// A file or the standard output can't be written.
     Write,
-    /// The clock can't be read.
-    Clock,
     /// Memory ran out.
     Memory,
 }
 
 impl fmt::Display for Failure {
     ghost use Rattle.std.specs.Prelude.{Some};
-    ghost use Rattle.dev_base.specs.Failure.{text_of};
+    ghost use Rattle.dev_rows.specs.Failure.{text_of};
 
     ghost output = { λ failure. Some (text_of failure) };
 
@@ -43,7 +41,6 @@ impl fmt::Display for Failure {
             Failure::Usage => f.write_str("wrong arguments"),
             Failure::Read => f.write_str("cannot read"),
             Failure::Write => f.write_str("cannot write"),
-            Failure::Clock => f.write_str("no clock"),
             Failure::Memory => f.write_str("memory allocation failed"),
         }
     }
@@ -82,7 +79,7 @@ impl Failure {
         match self {
             Failure::Usage => 2,
             Failure::Error(_) | Failure::Row | Failure::Font => 1,
-            Failure::Read | Failure::Write | Failure::Clock | Failure::Memory => 1,
+            Failure::Read | Failure::Write | Failure::Memory => 1,
         }
     }
 }

@@ -1,8 +1,8 @@
--- How a run of a developers' program ends that failed.
+-- How a run ends that failed.
 use Rattle.std.specs.Prelude.{ℕ, List, codes, Result, Ok, Err}
 use Rattle.subsetter_base.specs.Texts.{error_text}
-use Rattle.dev_base.specs.declared.failure.Failure.{Failure}
-use Rattle.dev_base.specs.declared.failure.Failure.TheVariants.{Error, Row, Font, Usage, Read, Write, Clock, Memory}
+use Rattle.dev_rows.specs.declared.failure.Failure.{Failure}
+use Rattle.dev_rows.specs.declared.failure.Failure.TheVariants.{Error, Row, Font, Usage, Read, Write, Memory}
 
 -- 2 for wrong arguments, 1 for anything else that failed
 abbrev pub status_of : Failure → ℕ
@@ -12,7 +12,6 @@ status_of Font = 1
 status_of Usage = 2
 status_of Read = 1
 status_of Write = 1
-status_of Clock = 1
 status_of Memory = 1
 
 -- 0 where all is done, else the failure's status
@@ -27,5 +26,4 @@ text_of Font = codes "no font of that name in front of it"
 text_of Usage = codes "wrong arguments"
 text_of Read = codes "cannot read"
 text_of Write = codes "cannot write"
-text_of Clock = codes "no clock"
 text_of Memory = codes "memory allocation failed"

@@ -7,7 +7,7 @@ use Rattle.std.specs.Str.{all_ascii_digits}
 use Rattle.std.specs.Str.Parse.{ParsesSigned, digits_value}
 use Rattle.std.proofs.lemmas.Bool.{cases_Bool}
 use Rattle.std.proofs.lemmas.Str.Parse.{IsNumeralModel, numerals_by_value, tells_all_ascii_digits, parse_signed_minus, parse_signed_plain, parse_signed_plus}
-use Rattle.dev_base.specs.Numbers.{number_up_to, signed_in_bits}
+use Rattle.dev_rows.specs.Numbers.{number_up_to, signed_in_bits}
 use Rattle.subsetter_words.specs.Numbers.{number_in_bits}
 use mir.Syntax.{Width}
 use mir.Val.{hbits}

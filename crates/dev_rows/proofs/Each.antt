@@ -2,7 +2,7 @@
 use Rattle.std.proofs.Common.{◌≡◌, ℕ, ◌+◌, ◌<◌, List, [], ◌∷◌, ◌++◌, length, get_or, drop, Option, Some, None, Bor, refl, sym, ap, ◌∙◌, append_assoc}
 use Rattle.std.proofs.lemmas.List.{drop_more}
 use Rattle.std.specs.Option.{option_map, option_and_then}
-use Rattle.dev_base.specs.Numbers.{each}
+use Rattle.dev_rows.specs.Numbers.{each}
 use Rattle.subsetter_words.proofs.Numbers.{texts}
 
 module _ {X Y : Type 0} (read : X → Option Y) where

@@ -1,6 +1,7 @@
--- Numbers with a sign, and lists, as words write them.
-use Rattle.std.specs.Prelude.{ℕ, ◌&&◌, ◌==◌, ◌^◌, nat_lt, nat_le, if◌then◌else◌, List, [], ◌∷◌, length, drop, slice_index, Option, Some, None, ℤ, pos, neg_ℤ}
+-- Numbers with a sign, lists and ranges, as words write them.
+use Rattle.std.specs.Prelude.{ℕ, ◌+◌, ◌-◌, ◌&&◌, ◌==◌, ◌^◌, nat_lt, nat_le, if◌then◌else◌, List, [], ◌∷◌, length, drop, slice_index, Option, Some, None, ℤ, pos, neg_ℤ}
 use Rattle.std.specs.Option.{option_map, option_and_then}
+use Rattle.std.specs.List.{range_with_len}
 use Rattle.std.specs.Str.{all_ascii_digits}
 use Rattle.std.specs.Str.Parse.{digits_value}
 use Rattle.subsetter_words.specs.Numbers.{number_in_bits}
@@ -20,3 +21,7 @@ signed_in_bits bits word =
 abbrev pub each : {X Y : Type 0} → (X → Option Y) → List X → Option (List Y)
 each read [] = Some []
 each read (x ∷ xs) = option_and_then (λ y. option_map (λ more. y ∷ more) (each read xs)) (read x)
+
+-- the numbers from one to another, none where the first is greater
+abbrev pub numbers_between : ℕ → ℕ → List ℕ
+numbers_between first last = range_with_len first (last + 1 - first)

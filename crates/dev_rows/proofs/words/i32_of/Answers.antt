@@ -1,6 +1,6 @@
 use Rattle.std.specs.Int.{w32}
-use Rattle.dev_base.proofs.SignedLemmas.{signed_of_parse}
-use Rattle.dev_base.proofs.numbers.i32_of.Goals as goal
+use Rattle.dev_rows.proofs.SignedLemmas.{signed_of_parse}
+use Rattle.dev_rows.proofs.words.i32_of.Goals as goal
 
 pub returns : goal.returns
 returns c =

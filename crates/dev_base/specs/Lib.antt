@@ -1,4 +1,0 @@
-pub mod Failure
-pub mod Numbers
-pub mod Ranges
-pub mod Settings
