@@ -6,4 +6,5 @@ mod NewLaws
 mod OneFont
 mod Opening
 mod Refused
+mod ShortNames
 mod Tables

@@ -1,7 +1,7 @@
 -- There is one answer, and its program has its widths.
 use Rattle.std.proofs.Common.{◌≡◌, ℕ, ◌<◌, ◌≤◌, List, [], ◌∷◌, length, map, Option, Some, None, Result, Ok, ℤ, refl, sym, ap, subst, ◌∙◌, inl, inr, arith}
 use Rattle.std.specs.Prelude.{codes, slice_index, IsSome}
-use Rattle.std.specs.Option.{option_map}
+use Rattle.std.specs.Option.{option_map, unwrap_or}
 use Rattle.std.proofs.lemmas.Bool.{cases_lt}
 use Rattle.std.proofs.lemmas.List.{length-map}
 use Rattle.subsetter_base.specs.declared.tag.Tag.{Tag}
@@ -15,7 +15,7 @@ use Rattle.cid_embed.specs.Afresh.{widths_of}
 use Rattle.cid_embed.specs.Embed.{numbering, in_subset, in_widths}
 use Rattle.cid_embed.specs.Width.{units_per_em, width}
 use Rattle.pdf_codes.specs.Codes.{Used, coded, glyphs_of}
-use Rattle.pdf_codes.specs.Cmaps.Leading.{own_cmap, own_name, pairs_with}
+use Rattle.pdf_codes.specs.Cmaps.Leading.{name_of, own_cmap, own_name, pairs_with}
 use Rattle.pdf_codes.specs.Cmaps.Texts.{is_line_found, lines_of_codes}
 use Rattle.pdf_codes.proofs.StayLaws.{codes_are_determined}
 use Rattle.pdf_glyphs.specs.Frequent.{most_frequent}
@@ -23,6 +23,7 @@ use Rattle.pdf_glyphs.specs.HeightVariation.{Variation}
 use Rattle.pdf_glyphs.specs.Vertical.{Vertical}
 use Rattle.pdf_glyphs.specs.declared.columns.Columns.{Columns}
 use Rattle.pdf_text.specs.Cmaps.Cmap.{cmap_text}
+use Rattle.pdf_text.specs.Dictionaries.Fonts.{identity_name}
 use Rattle.pdf_text.specs.SubsetName.{font_name}
 use Rattle.pdf_text.specs.declared.metrics.columns.Column.{Column}
 use Rattle.pdf_text.specs.declared.metrics.columns.DefaultColumn.{DefaultColumn}
@@ -39,7 +40,7 @@ use Rattle.pdf_source.specs.declared.choice.Direction.{Direction}
 use Rattle.pdf_source.specs.declared.choice.Direction.TheVariants.{Horizontal, Vertical as TopToBottom}
 use Rattle.pdf_source.specs.declared.choice.FontOptions.{FontOptions}
 use Rattle.pdf_font.specs.Laws.{AreSame, ColumnsSeen, OneAnswer, WidthsAgree, columns_seen}
-use Rattle.pdf_font.specs.PdfFont.{AreColumns, IsPdfFont}
+use Rattle.pdf_font.specs.PdfFont.{AreColumns, IsPdfFont, cmap_name, name_room, short_name}
 use Rattle.pdf_font.specs.declared.font.PdfFont.{PdfFont}
 use Rattle.pdf_font.proofs.AllWidths.{AreAllWidths, are_all_widths}
 use Rattle.pdf_font.proofs.NewLaws.{MadeCase, made_case}
@@ -226,11 +227,18 @@ module _ (font : Font) (settings : List (Tag × ℤ)) (options : FontOptions) (u
       p.made.values ∙ ap (λ (l : List ℕ). values_in (stored font) (stored (as_font l)) f.glyph_count options.bounds settings) files
       ∙ ap (λ (n : ℕ). values_in (stored font) (stored (as_font theirs)) n options.bounds settings) counts ∙ sym q.made.values
 
-  name : f.descriptor.font_name.items ≡ g.descriptor.font_name.items
-  name = p.made.filled.name ∙ ap (λ (l : List ℕ). font_name (tag_in options.tag l) (name_there (stored font) settings)) programs ∙ sym q.made.filled.name
-
   abbrev same_pairs : pairs_with f.codes.items f.cids.items ≡ pairs_with g.codes.items g.cids.items
   same_pairs = ap (λ (l : List ℕ). pairs_with l f.cids.items) same_codes ∙ ap (pairs_with g.codes.items) cids
+
+  encoding_names : name_of f.encoding ≡ name_of g.encoding
+  encoding_names = p.made.filled.coded.encoding_name ∙ ap (own_name (is_vertical options.direction)) same_pairs ∙ sym q.made.filled.coded.encoding_name
+
+  name : f.descriptor.font_name.items ≡ g.descriptor.font_name.items
+  name =
+      p.made.filled.name ∙ ap (λ (l : List ℕ). short_name (name_room f.kind (cmap_name f.encoding options.direction)) (font_name (tag_in options.tag l) (name_there (stored font) settings))) programs
+      ∙ ap (λ (k : ProgramKind). short_name (name_room k (cmap_name f.encoding options.direction)) (font_name (tag_in options.tag g.program.items) (name_there (stored font) settings))) kinds
+      ∙ ap (λ (o : Option (List ℕ)). short_name (name_room g.kind (unwrap_or o (identity_name (is_vertical options.direction)))) (font_name (tag_in options.tag g.program.items) (name_there (stored font) settings))) encoding_names
+      ∙ sym q.made.filled.name
 
   pub are_same : AreSame f g
   are_same = record {
@@ -251,7 +259,7 @@ module _ (font : Font) (settings : List (Tag × ℤ)) (options : FontOptions) (u
     permission = p.permission ∙ sym q.permission;
     to_unicode = p.made.filled.coded.to_unicode ∙ ap (λ (l : List ℕ). cmap_text (lines_of_codes (coded us l))) same_codes ∙ sym q.made.filled.coded.to_unicode;
     encoding = p.made.filled.coded.encoding ∙ ap (own_cmap (is_vertical options.direction)) same_pairs ∙ sym q.made.filled.coded.encoding;
-    encoding_name = p.made.filled.coded.encoding_name ∙ ap (own_name (is_vertical options.direction)) same_pairs ∙ sym q.made.filled.coded.encoding_name;
+    encoding_name = encoding_names;
   }
 
 pub one_answer : OneAnswer

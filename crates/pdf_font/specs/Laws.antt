@@ -1,5 +1,5 @@
 -- Laws of what a PDF has of a font.
-use Rattle.std.specs.Prelude.{◌≡◌, ◌≢◌, List, ◌++◌, length, take, ℕ, Ok, ℤ}
+use Rattle.std.specs.Prelude.{◌≡◌, ◌≢◌, ◌≤◌, List, ◌++◌, length, take, ℕ, Ok, ℤ}
 use Rattle.std.specs.Option.{option_map}
 use Rattle.subsetter_base.specs.declared.tag.Tag.{Tag}
 use Rattle.subsetter_sfnt.specs.Read.{Font, as_font, stored}
@@ -7,10 +7,11 @@ use Rattle.cid_embed.specs.Afresh.{widths_of}
 use Rattle.pdf_codes.specs.Codes.{AreCodes, Used}
 use Rattle.pdf_codes.specs.Cmaps.Leading.{name_of, text_of}
 use Rattle.pdf_glyphs.specs.declared.columns.Columns.{Columns}
+use Rattle.pdf_text.specs.Dictionaries.Fonts.{name_end}
 use Rattle.pdf_text.specs.declared.metrics.columns.Column.{Column}
 use Rattle.pdf_text.specs.declared.metrics.columns.DefaultColumn.{DefaultColumn}
 use Rattle.pdf_text.specs.declared.values.ProgramKind.TheVariants.{BareCff}
-use Rattle.pdf_font.specs.PdfFont.{HasFontFault, IsPdfFont}
+use Rattle.pdf_font.specs.PdfFont.{HasFontFault, IsPdfFont, cmap_name}
 use Rattle.pdf_source.specs.declared.choice.FontOptions.{FontOptions}
 use Rattle.pdf_font.specs.declared.error.FontError.{FontError}
 use Rattle.pdf_font.specs.declared.font.PdfFont.{PdfFont}
@@ -30,6 +31,10 @@ CodesNeedNoFont = (font : Font) (settings : List (Tag × ℤ)) (options : FontOp
 -- a program with `hmtx` has these widths, read afresh
 abbrev pub WidthsAgree : Type 0
 WidthsAgree = (font : Font) (settings : List (Tag × ℤ)) (options : FontOptions) (us : List Used) (f : PdfFont) → IsPdfFont font settings options us f → f.kind ≢ BareCff → widths_of (stored (as_font f.program.items)) f.glyph_count ≡ Ok f.widths.items
+
+-- the name of the composite font, which a hyphen and the name of its CMap end where outlines are of CFF (9.7.6.1), has at most 127 bytes (Annex C)
+abbrev pub NamesAreShort : Type 0
+NamesAreShort = (font : Font) (settings : List (Tag × ℤ)) (options : FontOptions) (us : List Used) (f : PdfFont) → IsPdfFont font settings options us f → length (f.descriptor.font_name.items ++ name_end f.kind (cmap_name f.encoding options.direction)) ≤ 127
 
 -- ---- there is one answer
 

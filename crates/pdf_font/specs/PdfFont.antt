@@ -1,6 +1,6 @@
 -- What a PDF has of a font for the glyphs in use (ISO 32000-1, 9.6 to 9.10), and why there is none.
-use Rattle.std.specs.Prelude.{◌≡◌, ℕ, Bool, true, false, List, map, length, codes, Option, Some, None, ℤ, IfSome, IsSome}
-use Rattle.std.specs.Option.{option_map}
+use Rattle.std.specs.Prelude.{◌≡◌, ℕ, ◌-◌, nat_le, Bool, true, false, if◌then◌else◌, List, ◌++◌, map, length, take, codes, Option, Some, None, ℤ, IfSome, IsSome}
+use Rattle.std.specs.Option.{option_map, unwrap_or}
 use Rattle.subsetter_base.specs.declared.tag.Tag.{Tag}
 use Rattle.subsetter_base.specs.declared.error.Error.{Error}
 use Rattle.subsetter_base.specs.declared.error.Error.TheVariants.{MalformedFont, OverflowError}
@@ -27,7 +27,10 @@ use Rattle.pdf_glyphs.specs.Vertical.{Vertical, columns_at}
 use Rattle.pdf_glyphs.specs.declared.columns.Columns.{Columns}
 use Rattle.pdf_text.specs.Bits.{IsCidSet}
 use Rattle.pdf_text.specs.Cmaps.Cmap.{cmap_text}
-use Rattle.pdf_text.specs.SubsetName.{font_name}
+use Rattle.pdf_text.specs.Dictionaries.Fonts.{identity_name, name_end}
+use Rattle.pdf_text.specs.SubsetName.{font_name, tag_of}
+use Rattle.pdf_text.specs.declared.cmaps.named.NamedCmap.{NamedCmap}
+use Rattle.pdf_text.specs.declared.values.ProgramKind.{ProgramKind}
 use Rattle.pdf_values.specs.Permission.{is_permitted, permission}
 use Rattle.pdf_source.specs.Chosen.{extras_of, is_vertical}
 use Rattle.pdf_source.specs.Frequent.{IsMostFrequent}
@@ -75,12 +78,31 @@ abbrev pub IsCidSetIf : Bool → ℕ → Option (List ℕ) → Type 0
 IsCidSetIf false count bytes = bytes ≡ None
 IsCidSetIf true count bytes = IsSome bytes × IfSome bytes (IsCidSet count)
 
+-- ---- its name
+
+-- the name of the CMap of the codes: its own, or that of a predefined one
+abbrev pub cmap_name : Option NamedCmap → Direction → List ℕ
+cmap_name encoding direction = unwrap_or (name_of encoding) (identity_name (is_vertical direction))
+
+-- the bytes that the font's name has room for before that: a name has at most 127 (Annex C)
+abbrev pub name_room : ProgramKind → List ℕ → ℕ
+name_room kind cmap = 127 - length (name_end kind cmap)
+
+-- ten bytes less than there is room for, `-`, six letters of the name by the rule of a subset's tag, and `...`
+abbrev pub cut_name : ℕ → List ℕ → List ℕ
+cut_name room name = take (room - 10) name ++ (codes "-" ++ (tag_of name ++ codes "..."))
+
+-- a name of more bytes than there is room for is cut
+abbrev pub short_name : ℕ → List ℕ → List ℕ
+short_name room name = if nat_le (length name) room then name else cut_name room name
+
 -- what isn't read of the new font: of the source by a look-up at coordinates, of the glyphs in use, and of the new font's CIDs, of which those of the glyphs in use have these widths
 pub record IsFilled (find : List ℕ → Option (List ℕ)) (settings : List (Tag × ℤ)) (options : FontOptions) (us : List Used) (widths : List ℕ) (f : PdfFont) : Type 0 where
   pub coded : IsCoded options us f
   pub default_width : IsMostFrequent f.widths.items f.default_width
   pub columns : AreColumns options.direction (vertical_of find) (heights_there find settings) (glyphs_of us) widths f.columns
-  pub name : f.descriptor.font_name.items ≡ font_name (tag_in options.tag f.program.items) (name_there find settings)
+  -- cut where with the name of the CMap it had more than 127 bytes
+  pub name : f.descriptor.font_name.items ≡ short_name (name_room f.kind (cmap_name f.encoding options.direction)) (font_name (tag_in options.tag f.program.items) (name_there find settings))
   pub unknown_axes : f.unknown_axes.items ≡ unknown_axes find settings
   pub cid_set : IsCidSetIf options.cid_set f.glyph_count (option_map (λ v. v.items) f.cid_set)
 

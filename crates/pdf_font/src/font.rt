@@ -1,6 +1,6 @@
 //! What a PDF has of a font.
 
-ghost use Rattle.std.specs.Prelude.{◌≡◌, ◌<◌, ◌^◌, ◌⊎◌, codes, length, IfOk, IfErr};
+ghost use Rattle.std.specs.Prelude.{◌≡◌, ◌<◌, ◌^◌, ◌⊎◌, codes, length, take, IfOk, IfErr};
 ghost use Rattle.std.specs.Option.{option_map};
 ghost use Rattle.subsetter_base.specs.declared.error.Error.TheVariants.{OutOfMemory, OverflowError};
 ghost use Rattle.subsetter_base.specs.Indexes.{HasAllAboveZero};
@@ -8,7 +8,8 @@ ghost use Rattle.subsetter_sfnt.specs.Read.{table_in};
 ghost use Rattle.pdf_codes.specs.Codes.{AreCids, IsOverfull, glyphs_of};
 ghost use Rattle.pdf_codes.specs.Shown.{uses_of};
 ghost use Rattle.pdf_font.specs.Taken.{Takes};
-ghost use Rattle.pdf_font.specs.PdfFont.{AreColumns, IsCidSetIf, IsFilled};
+ghost use Rattle.pdf_text.specs.Dictionaries.Fonts.{identity_name};
+ghost use Rattle.pdf_font.specs.PdfFont.{AreColumns, IsCidSetIf, IsFilled, cmap_name, cut_name, name_room, short_name};
 ghost use Rattle.pdf_source.specs.Moved.{location_seen};
 ghost use Rattle.pdf_source.specs.Named.{heights_by};
 ghost use Rattle.pdf_source.specs.Source.{vertical_of};
@@ -19,7 +20,7 @@ use pdf_source::{
     Descriptor, Direction, FontOptions, Location, NewFont, heights_by, location_in, most_frequent,
     name_in, unknown_axes, vertical_of,
 };
-use pdf_text::{NamedCmap, ProgramKind, cid_set};
+use pdf_text::{NamedCmap, ProgramKind, cid_set, tag_of};
 use pdf_values::Permission;
 use std::alloc::Global;
 use subsetter_base::{Error, Tag};
@@ -94,6 +95,77 @@ fn columns_if(
     }
 }
 
+/// The predefined CMap whose codes are CIDs.
+fn identity_name(vertical: bool) -> &'static [u8]
+    ensures { result.now ≡ identity_name vertical }
+{
+    if vertical {
+        b"Identity-V"
+    } else {
+        b"Identity-H"
+    }
+}
+
+/// The name of the CMap of the codes.
+fn cmap_name<'a>(encoding: &'a Option<NamedCmap>, options: &FontOptions) -> &'a [u8]
+    ensures { result.now ≡ cmap_name encoding.now options.now.direction }
+{
+    match encoding {
+        Some(cmap) => &cmap.name,
+        None => identity_name(options.is_vertical()),
+    }
+}
+
+/// The greatest number of bytes of a name (ISO 32000-1, Annex C).
+const NAME_SIZE: usize = 127;
+
+/// How many bytes the font's name has room for, with which BaseFont, with the name of the CMap, has at most 127.
+fn name_room(kind: ProgramKind, cmap: &[u8]) -> usize
+    ensures { result ≡ name_room kind cmap.now }
+{
+    match kind {
+        ProgramKind::TrueType => NAME_SIZE,
+        ProgramKind::BareCff | ProgramKind::OpenType => NAME_SIZE
+            .saturating_sub(cmap.len())
+            .saturating_sub(1),
+    }
+}
+
+/// The first so many bytes, or all where there are fewer.
+fn front_of(bytes: &[u8], size: usize) -> &[u8]
+    ensures { result.now ≡ take size bytes.now }
+{
+    if bytes.len() <= size {
+        return bytes;
+    }
+    &bytes[..size]
+}
+
+/// The front of a name, and six letters that it determines, in so many bytes.
+#[tactic(auto, using(pdf_text::proofs::Pieces::four_behind_nothing))]
+fn cut_name(alloc: Global, room: usize, name: &[u8]) -> Result<Vec<u8>, Error>
+    ensures ok { IfOk result (λ t. t.items ≡ cut_name room name.now) }
+    ensures err { IfErr result (λ e. e ≡ OutOfMemory) }
+{
+    let mut cut = Vec::new(alloc);
+    cut.extend_from_slice(front_of(name, room.saturating_sub(10)))?;
+    cut.extend_from_slice(b"-")?;
+    cut.extend_from_slice(&tag_of(name))?;
+    cut.extend_from_slice(b"...")?;
+    Ok(cut)
+}
+
+/// A name, cut where it has more bytes than there is room for.
+fn short_name(alloc: Global, room: usize, name: Vec<u8>) -> Result<Vec<u8>, Error>
+    ensures ok { IfOk result (λ t. t.items ≡ short_name room name.items) }
+    ensures err { IfErr result (λ e. e ≡ OutOfMemory) }
+{
+    if name.len() <= room {
+        return Ok(name);
+    }
+    cut_name(alloc, room, &name)
+}
+
 /// What a PDF has of a new font for the glyphs in use: those of the source, of which this is the face, at coordinates. Its CIDs are those
 /// of the entries, and these are the widths of glyph 0 and of the glyphs in use.
 ///
@@ -128,7 +200,9 @@ pub fn filled(
     let columns = columns_if(alloc, options, &location, face, glyphs, widths)?;
     let cid_set = cid_set_if(alloc, options.cid_set, new.profile.count)?;
     let unknown_axes = unknown_axes(alloc, face, settings)?;
-    let font_name = name_in(alloc, &location, face, &new.program, options.tag, settings)?;
+    let room = name_room(new.kind, cmap_name(&encoding, options));
+    let whole = name_in(alloc, &location, face, &new.program, options.tag, settings)?;
+    let font_name = short_name(alloc, room, whole)?;
     Ok(PdfFont {
         program: new.program,
         kind: new.kind,

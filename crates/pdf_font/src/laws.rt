@@ -1,6 +1,6 @@
 //! Laws of what a PDF has of a font, which no code runs.
 
-ghost use Rattle.pdf_font.specs.Laws.{CodesNeedNoFont, CodesStay, HaveNoFault, OneAnswer, WidthsAgree};
+ghost use Rattle.pdf_font.specs.Laws.{CodesNeedNoFont, CodesStay, HaveNoFault, NamesAreShort, OneAnswer, WidthsAgree};
 
 /// What is answered has no fault.
 pub fn answers_have_no_fault()
@@ -25,4 +25,9 @@ pub fn answers_are_determined()
 /// A program with `hmtx` has the widths that are answered, read afresh: program and dictionary agree (ISO 19005-2, 6.2.11.5).
 pub fn widths_agree()
     ensures { WidthsAgree }
+{}
+
+/// The name of the composite font has at most 127 bytes, whatever the name of its CMap is.
+pub fn names_are_short()
+    ensures { NamesAreShort }
 {}

@@ -9,7 +9,7 @@ use crate::proved::pdf_source::{
     heights_by, location_in, most_frequent, name_in, unknown_axes, vertical_of, Descriptor,
     Direction, FontOptions, Location, NewFont,
 };
-use crate::proved::pdf_text::{cid_set, NamedCmap, ProgramKind};
+use crate::proved::pdf_text::{cid_set, tag_of, NamedCmap, ProgramKind};
 use crate::proved::pdf_values::Permission;
 use crate::proved::subsetter_base::{Error, Tag};
 use crate::proved::subsetter_sfnt::face::Face;
@@ -77,6 +77,62 @@ fn columns_if(
     }
 }
 
+/// The predefined CMap whose codes are CIDs.
+fn identity_name(vertical: bool) -> &'static [u8] {
+    if vertical {
+        b"Identity-V"
+    } else {
+        b"Identity-H"
+    }
+}
+
+/// The name of the CMap of the codes.
+fn cmap_name<'a>(encoding: &'a Option<NamedCmap>, options: &FontOptions) -> &'a [u8] {
+    match encoding {
+        Some(cmap) => &cmap.name,
+        None => identity_name(options.is_vertical()),
+    }
+}
+
+/// The greatest number of bytes of a name (ISO 32000-1, Annex C).
+const NAME_SIZE: usize = 127;
+
+/// How many bytes the font's name has room for, with which BaseFont, with the name of the CMap, has at most 127.
+fn name_room(kind: ProgramKind, cmap: &[u8]) -> usize {
+    match kind {
+        ProgramKind::TrueType => NAME_SIZE,
+        ProgramKind::BareCff | ProgramKind::OpenType => {
+            NAME_SIZE.saturating_sub(cmap.len()).saturating_sub(1)
+        }
+    }
+}
+
+/// The first so many bytes, or all where there are fewer.
+fn front_of(bytes: &[u8], size: usize) -> &[u8] {
+    if bytes.len() <= size {
+        return bytes;
+    }
+    &bytes[..size]
+}
+
+/// The front of a name, and six letters that it determines, in so many bytes.
+fn cut_name(alloc: Global, room: usize, name: &[u8]) -> Result<Vec<u8>, Error> {
+    let mut cut = Vec::new(alloc);
+    cut.extend_from_slice(front_of(name, room.saturating_sub(10)))?;
+    cut.extend_from_slice(b"-")?;
+    cut.extend_from_slice(&tag_of(name))?;
+    cut.extend_from_slice(b"...")?;
+    Ok(cut)
+}
+
+/// A name, cut where it has more bytes than there is room for.
+fn short_name(alloc: Global, room: usize, name: Vec<u8>) -> Result<Vec<u8>, Error> {
+    if name.len() <= room {
+        return Ok(name);
+    }
+    cut_name(alloc, room, &name)
+}
+
 /// What a PDF has of a new font for the glyphs in use: those of the source, of which this is the face, at coordinates. Its CIDs are those
 /// of the entries, and these are the widths of glyph 0 and of the glyphs in use.
 ///
@@ -103,7 +159,9 @@ pub fn filled(
     let columns = columns_if(alloc, options, &location, face, glyphs, widths)?;
     let cid_set = cid_set_if(alloc, options.cid_set, new.profile.count)?;
     let unknown_axes = unknown_axes(alloc, face, settings)?;
-    let font_name = name_in(alloc, &location, face, &new.program, options.tag, settings)?;
+    let room = name_room(new.kind, cmap_name(&encoding, options));
+    let whole = name_in(alloc, &location, face, &new.program, options.tag, settings)?;
+    let font_name = short_name(alloc, room, whole)?;
     Ok(PdfFont {
         program: new.program,
         kind: new.kind,
