@@ -1,8 +1,9 @@
 -- What advance heights and the origins of "VORG" vary by off a font's default (OpenType, "VVAR"): its items are found as those of "HVAR" are.
-use Rattle.std.specs.Prelude.{ℕ, ◌^◌, nat_lt, if◌then◌else◌, ◌&&◌, int_le, int_lt, List, ℤ, pos, neg_ℤ, ◌+ℤ◌, unsigned_abs}
+use Rattle.std.specs.Prelude.{◌≡◌, ℕ, ◌^◌, nat_lt, if◌then◌else◌, ◌&&◌, int_le, int_lt, List, map, Option, IfSome, Result, ℤ, pos, neg_ℤ, ◌+ℤ◌, unsigned_abs}
 use Rattle.std.specs.Result.{result_unwrap_or}
+use Rattle.subsetter_base.specs.declared.error.Error.{Error}
 use Rattle.subsetter_variation.specs.Items.ItemVariations.{whole_or_fault}
-use Rattle.subsetter_variation.specs.Items.Advances.{advance_delta, origin_delta}
+use Rattle.subsetter_variation.specs.Items.Advances.{advance_delta, advance_or_fault, origin_delta}
 use Rattle.pdf_glyphs.specs.declared.heights.HeightVariation.{HeightVariation}
 
 -- the normalized coordinates, in 16384ths, and the bytes of "VVAR"
@@ -36,3 +37,13 @@ if_origin sum y = if int_le (neg_ℤ (pos (2 ^ 15))) sum && int_lt sum (pos (2 ^
 -- the y of an origin with what it varies by
 abbrev pub varied_origin : Variation → ℕ → ℤ → ℤ
 varied_origin v g y = if_origin (y +ℤ origin_shift v g) y
+
+-- ---- what is known
+
+-- a delta is that of a glyph's advance height
+abbrev pub IsKnownBy : Option Variation → ℕ → Option (Result ℤ Error) → Type 0
+IsKnownBy v g known = IfSome v (λ it. IfSome known (λ d. d ≡ advance_or_fault it.vvar it.at g))
+
+-- deltas are those of glyphs, one for each
+abbrev pub AreKnownBy : Option Variation → List ℕ → List (Result ℤ Error) → Type 0
+AreKnownBy v glyphs known = IfSome v (λ it. known ≡ map (advance_or_fault it.vvar it.at) glyphs)

@@ -4,7 +4,7 @@ ghost use Rattle.std.specs.Prelude.{◌≡◌, ◌≤◌, ◌<◌, ◌^◌, ◌+
 ghost use Rattle.std.specs.Option.{option_map, option_map_or};
 ghost use Rattle.pdf_values.specs.Rounding.{thousandths};
 ghost use Rattle.pdf_glyphs.specs.Boxes.{outlines_view};
-ghost use Rattle.pdf_glyphs.specs.HeightVariation.{variation_view};
+ghost use Rattle.pdf_glyphs.specs.HeightVariation.{IsKnownBy, variation_view};
 ghost use Rattle.pdf_glyphs.specs.Vertical.{advance_at, advance_of, bearing_of, box_top, half, metric_at, moved_by, origin_of, origin_y_at, pair_count, vertical_view, vorg_y};
 
 use crate::boxes::{OutlineTables, glyph_box};
@@ -12,6 +12,7 @@ use crate::heights::{HeightVariation, varied_height, varied_origin};
 use crate::origins::default_origin;
 use pdf_text::Column;
 use pdf_values::{thousandths, units_per_em};
+use subsetter_base::Error;
 use subsetter_base::fields::signed_in;
 use subsetter_sfnt::fields::hhea::number_of_h_metrics;
 use subsetter_sfnt::fields::hmtx::glyph_advance;
@@ -51,18 +52,20 @@ fn advance_of(tables: VerticalTables<'_>, glyph: u16) -> Option<u16>
     glyph_advance(vmtx, count, glyph)
 }
 
-/// The same with what it varies by, if it does.
+/// The same with what it varies by, if it does, which may be known.
 fn advance_at(
     tables: VerticalTables<'_>,
     variation: Option<HeightVariation<'_>>,
     glyph: u16,
+    known: Option<Result<i64, Error>>,
 ) -> Option<u16>
+    requires { IsKnownBy (option_map variation_view variation) glyph known }
     ensures { result ≡ advance_at (vertical_view tables.entry) (option_map variation_view variation.entry) glyph }
 {
     let advance = advance_of(tables, glyph)?;
     match variation {
         None => Some(advance),
-        Some(variation) => Some(varied_height(variation, glyph, advance)),
+        Some(variation) => Some(varied_height(variation, glyph, known, advance)),
     }
 }
 
@@ -170,18 +173,21 @@ fn scaled_y(y: Option<i32>, units: u16) -> i32
     }
 }
 
-/// The column of a glyph with a width, of which VORG has this y. Its advance and an origin by VORG vary.
+/// The column of a glyph with a width, of which VORG has this y. Its advance varies, by what may be known, and so does an
+/// origin by VORG.
 pub fn metric_at(
     tables: VerticalTables<'_>,
     variation: Option<HeightVariation<'_>>,
     glyph: u16,
     width: u32,
     recorded: Option<i16>,
+    known: Option<Result<i64, Error>>,
 ) -> Column
-    requires { recorded ≡ origin_of (vertical_view tables).vorg glyph }
+    requires recorded { recorded ≡ origin_of (vertical_view tables).vorg glyph }
+    requires known { IsKnownBy (option_map variation_view variation) glyph known }
     ensures { result ≡ metric_at (vertical_view tables.entry) (option_map variation_view variation.entry) glyph width }
 {
-    let Some(advance) = advance_at(tables, variation, glyph) else {
+    let Some(advance) = advance_at(tables, variation, glyph, known) else {
         return Column {
             advance: -1000,
             x: half(width),

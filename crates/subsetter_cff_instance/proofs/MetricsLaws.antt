@@ -1,13 +1,16 @@
 -- Metrics of glyphs, one after another.
-use Rattle.std.proofs.Common.{◌≡◌, ℕ, ◌+◌, List, [], ◌∷◌, ◌++◌, map, Option, Result, Ok, Err, ℤ, refl, sym, ap, ◌∙◌, append_assoc, arith}
+use Rattle.std.proofs.Common.{◌≡◌, ◌<◌, ℕ, ◌+◌, List, [], ◌∷◌, ◌++◌, length, get_or, map, Option, Some, None, Result, Ok, Err, ℤ, refl, sym, ap, ◌∙◌, append_assoc, arith}
+use Rattle.std.specs.Prelude.{IfSome}
 use Rattle.std.specs.List.{range_with_len}
-use Rattle.std.proofs.lemmas.List.{append-nil}
+use Rattle.std.proofs.lemmas.List.{append-nil, get_or-map, length-map}
 use Rattle.std.proofs.lemmas.List.FromFn.{map-range_with_len_more}
 use Rattle.subsetter_base.specs.Bytes.{◌>>=◌}
 use Rattle.subsetter_base.specs.Gives.{Fails}
 use Rattle.subsetter_base.specs.declared.error.Error.{Error}
 use Rattle.subsetter_base.proofs.Results.{with_front}
 use Rattle.subsetter_sfnt.specs.declared.fields.hmtx.LongHorMetric.{LongHorMetric}
+use Rattle.subsetter_variation.specs.Items.Advances.{advance_or_fault}
+use Rattle.subsetter_instance.specs.Glyphs.Known.{AreKnown, IsKnown}
 use Rattle.subsetter_instance.proofs.GlyphsLaws.Points.{fails}
 use Rattle.subsetter_cff_instance.specs.Metrics.{metric_if, varied_metrics, metric_among}
 use Rattle.subsetter_cff_instance.specs.Source.{Source}
@@ -38,6 +41,14 @@ metrics_cut s at front g all rest whole e h same f = fails e whole (sym same ∙
 
 pub metrics_end : (s : Source) (at : List ℤ) (front : List LongHorMetric) (all : List ℕ) → all ≡ [] → with_front front (varied_metrics s at all) ≡ Ok front
 metrics_end s at front all e = ap (λ l. with_front front (varied_metrics s at l)) e ∙ ap (λ l. Ok l) (append-nil front)
+
+-- what is known of a glyph of the list
+pub known_is : (hvar : Option (List ℕ)) (at : List ℤ) (glyphs : List ℕ) (known : List (Result ℤ Error)) (k : ℕ) (o : Option (Result ℤ Error)) → AreKnown hvar at glyphs known → IfSome o (λ d. (k < length known) × (get_or known k d ≡ d)) → IsKnown hvar at (get_or glyphs k 0) o
+known_is None at glyphs known k o a h = tt
+known_is (Some hvar) at glyphs known k None a h = tt
+known_is (Some hvar) at glyphs known k (Some d) a h =
+    let n : length known ≡ length glyphs = ap length a ∙ length-map glyphs (advance_or_fault hvar at) in
+    sym h.1 ∙ ap (λ l. get_or l k d) a ∙ get_or-map (advance_or_fault hvar at) glyphs k 0 d (omega (arith, n, h.0))
 
 -- ---- of all glyphs
 

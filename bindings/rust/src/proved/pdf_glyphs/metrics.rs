@@ -7,6 +7,7 @@ use crate::proved::pdf_glyphs::origins::default_origin;
 use crate::proved::pdf_text::Column;
 use crate::proved::pdf_values::{thousandths, units_per_em};
 use crate::proved::subsetter_base::fields::signed_in;
+use crate::proved::subsetter_base::Error;
 use crate::proved::subsetter_sfnt::fields::hhea::number_of_h_metrics;
 use crate::proved::subsetter_sfnt::fields::hmtx::glyph_advance;
 
@@ -44,16 +45,17 @@ fn advance_of(tables: VerticalTables<'_>, glyph: u16) -> Option<u16> {
     glyph_advance(vmtx, count, glyph)
 }
 
-/// The same with what it varies by, if it does.
+/// The same with what it varies by, if it does, which may be known.
 fn advance_at(
     tables: VerticalTables<'_>,
     variation: Option<HeightVariation<'_>>,
     glyph: u16,
+    known: Option<Result<i64, Error>>,
 ) -> Option<u16> {
     let advance = advance_of(tables, glyph)?;
     match variation {
         None => Some(advance),
-        Some(variation) => Some(varied_height(variation, glyph, advance)),
+        Some(variation) => Some(varied_height(variation, glyph, known, advance)),
     }
 }
 
@@ -135,15 +137,17 @@ fn scaled_y(y: Option<i32>, units: u16) -> i32 {
     }
 }
 
-/// The column of a glyph with a width, of which VORG has this y. Its advance and an origin by VORG vary.
+/// The column of a glyph with a width, of which VORG has this y. Its advance varies, by what may be known, and so does an
+/// origin by VORG.
 pub fn metric_at(
     tables: VerticalTables<'_>,
     variation: Option<HeightVariation<'_>>,
     glyph: u16,
     width: u32,
     recorded: Option<i16>,
+    known: Option<Result<i64, Error>>,
 ) -> Column {
-    let advance = match advance_at(tables, variation, glyph) {
+    let advance = match advance_at(tables, variation, glyph, known) {
         Some(advance) => advance,
         _ => {
             return Column {
