@@ -5,8 +5,9 @@ use Rattle.std.proofs.lemmas.Bool.{lt-ltb, le-ltb, le-leb, lt-leb, cases_lt, cas
 use Rattle.std.proofs.lemmas.Option.{same_Some}
 use Rattle.subsetter_base.specs.Bytes.{number}
 use Rattle.subsetter_cffdata.proofs.Options.{step}
-use Rattle.subsetter_cff2.specs.Selection.Select.{Range, range_by, range_at, width_of, has, in_ranges}
-use Rattle.subsetter_cff2.specs.Selection.SelectSearch.{range_numbered, IsInOrder, AreInOrder}
+use Rattle.subsetter_cff2.specs.Selection.Select.{Range, range_by, range_at, has, in_ranges}
+use Rattle.subsetter_cff2.specs.Selection.SelectSearch.{range_numbered, IsInOrder, IsThere, AreInOrder, AreThere}
+use Rattle.subsetter_cff2.proofs.SelectionLaws.RangeSteps.{Misses, ranges_from, at_start, found, none_from, passed}
 
 pub record InOrder (o : Option Range) : Type 0 where
   pub range : Range
@@ -17,9 +18,9 @@ pub there : (o : Option Range) → IsInOrder o → InOrder o
 there None h = absurd h
 there (Some r) h = record { range = r; is = refl; order = h }
 
--- a range doesn't have the glyph
-abbrev pub Misses : List ℕ → Bool → ℕ → ℕ → ℕ → Type 0
-Misses bytes w at glyph k = (r : Range) → range_numbered bytes w at k ≡ Some r → has r glyph ≡ false
+in_place : (o : Option Range) → IsInOrder o → IsThere o
+in_place None h = h
+in_place (Some r) h = tt
 
 -- ---- where one ends the next one begins
 record Ends (k j : ℕ) (bytes : List ℕ) (at : ℕ) (r : Range) : Type 0 where
@@ -97,36 +98,26 @@ module _ (bytes : List ℕ) (w : Bool) (at count glyph : ℕ) (order : AreInOrde
   all_before middle r within is le k low s h = ends_before s (omega (arith, ordered k middle s r low within h is, le))
 
   -- ---- from the front
+  all : AreThere bytes w at count
+  all i within = in_place (f i) (order i within)
+
   abbrev from : ℕ → ℕ → Option ℕ
-  from n i = in_ranges bytes w glyph n (at + i * width_of w)
-
-  passed : (n i : ℕ) → i < count → Misses bytes w at glyph i → from (suc n) i ≡ from n (i + 1)
-  passed n i within misses =
-      let q = there (f i) (order i within) in
-      let further : at + i * width_of w + width_of w ≡ at + (i + 1) * width_of w = omega arith in
-      rw (q.is, misses q.range q.is) (ap (λ (p : ℕ). in_ranges bytes w glyph n p) further)
-
-  none_from : (n i : ℕ) → i + n ≤ count → ((k : ℕ) → i ≤ k → k < i + n → Misses bytes w at glyph k) → from n i ≡ None
-  none_from zero i within misses = refl
-  none_from (suc n) i within misses = passed n i (omega arith) (misses i (omega arith) (omega arith)) ∙ none_from n (i + 1) (omega arith) (λ k a b. misses k (omega arith) (omega arith))
+  from n i = ranges_from bytes w at glyph n i
 
   found_from : (n i d : ℕ) (r : Range) → i + n ≤ count → d < n → ((k : ℕ) → i ≤ k → k < i + d → Misses bytes w at glyph k) → f (i + d) ≡ Some r → has r glyph ≡ true → from n i ≡ Some r.dict
   found_from zero i d r within less misses is here = absurd (omega arith)
-  found_from (suc n) i zero r within less misses is here = rw (same_place (i + 0) i r (omega arith) is, here) refl
+  found_from (suc n) i zero r within less misses is here = found bytes w at glyph n i r (same_place (i + 0) i r (omega arith) is) here
   found_from (suc n) i (suc d) r within less misses is here =
-      passed n i (omega arith) (misses i (omega arith) (omega arith))
+      passed bytes w at count glyph all n i (omega arith) (misses i (omega arith) (omega arith))
       ∙ found_from n (i + 1) d r (omega arith) (omega arith) (λ k a b. misses k (omega arith) (omega arith)) (same_place (i + suc d) (i + 1 + d) r (omega arith) is) here
 
-  at_start : (n : ℕ) → from n 0 ≡ in_ranges bytes w glyph n at
-  at_start n = ap (λ (p : ℕ). in_ranges bytes w glyph n p) (let e : at + 0 * width_of w ≡ at = omega arith in e)
-
   pub nowhere : ((k : ℕ) → k < count → Misses bytes w at glyph k) → None ≡ in_ranges bytes w glyph count at
-  nowhere misses = sym (none_from count 0 (omega arith) (λ k a b. misses k (omega arith))) ∙ at_start count
+  nowhere misses = sym (none_from bytes w at count glyph all count 0 (omega arith) (λ k a b. misses k (omega arith))) ∙ at_start bytes w at glyph count
 
   pub in_the_middle : (middle : ℕ) (r : Range) → middle < count → f middle ≡ Some r → r.first ≤ glyph → glyph < r.next → Some r.dict ≡ in_ranges bytes w glyph count at
   in_the_middle middle r within is le lt =
       let here : has r glyph ≡ true = rw (le-leb r.first glyph le, lt-ltb glyph r.next lt) refl in
-      sym (found_from count 0 middle r (omega arith) within (λ k a b. all_before middle r within is le k (omega arith)) (same_place middle (0 + middle) r (omega arith) is) here) ∙ at_start count
+      sym (found_from count 0 middle r (omega arith) within (λ k a b. all_before middle r within is le k (omega arith)) (same_place middle (0 + middle) r (omega arith) is) here) ∙ at_start bytes w at glyph count
 
   pub nowhere_left : (low high : ℕ) → high ≤ low → ((k : ℕ) → k < low → Misses bytes w at glyph k) → ((k : ℕ) → high ≤ k → k < count → Misses bytes w at glyph k) → None ≡ in_ranges bytes w glyph count at
   nowhere_left low high le below above = nowhere (λ k within. elim (cases_lt k low) [

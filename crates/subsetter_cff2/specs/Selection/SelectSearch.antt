@@ -1,5 +1,5 @@
--- An FDSelect whose ranges are in order, so that a glyph is looked up by halves.
-use Rattle.std.specs.Prelude.{◌≡◌, ℕ, ◌+◌, ◌*◌, ◌<◌, ◌≤◌, Bool, List, Option, Some, None}
+-- An FDSelect whose ranges are in order, so that a glyph is looked up by halves, or are in blocks, of which those without the glyph are passed.
+use Rattle.std.specs.Prelude.{◌≡◌, ℕ, ◌+◌, ◌*◌, ◌<◌, ◌≤◌, min, Bool, List, slice_index, Option, Some, None, IfSome}
 use Rattle.subsetter_cff2.specs.Selection.Select.{Range, range_at, width_of, in_ranges, selected}
 
 -- the bytes of a table, and where FDSelect stands in them
@@ -11,6 +11,13 @@ pub record SelectSource : Type 0 where
 abbrev pub range_numbered : List ℕ → Bool → ℕ → ℕ → Option Range
 range_numbered bytes is_wide at i = range_at bytes is_wide (at + i * width_of is_wide)
 
+abbrev pub IsThere : Option Range → Type 0
+IsThere None = ⊥
+IsThere (Some r) = Unit {0}
+
+abbrev pub AreThere : List ℕ → Bool → ℕ → ℕ → Type 0
+AreThere bytes is_wide at count = (i : ℕ) → i < count → IsThere (range_numbered bytes is_wide at i)
+
 -- it is there, and doesn't end before it begins
 abbrev pub IsInOrder : Option Range → Type 0
 IsInOrder None = ⊥
@@ -18,6 +25,19 @@ IsInOrder (Some r) = r.first ≤ r.next
 
 abbrev pub AreInOrder : List ℕ → Bool → ℕ → ℕ → Type 0
 AreInOrder bytes is_wide at count = (i : ℕ) → i < count → IsInOrder (range_numbered bytes is_wide at i)
+
+-- it doesn't begin before the least glyph, nor end behind the greatest
+abbrev pub IsWithin : ℕ → ℕ → Range → Type 0
+IsWithin least greatest r = (least ≤ r.first) × (r.next ≤ greatest)
+
+-- the ranges from one on, as far as another
+abbrev pub AreWithin : List ℕ → Bool → ℕ → ℕ → ℕ → ℕ → ℕ → Type 0
+AreWithin bytes is_wide at from to least greatest = (i : ℕ) → from ≤ i → i < to → IfSome (range_numbered bytes is_wide at i) (IsWithin least greatest)
+
+-- those of each of 256 blocks of so many
+abbrev pub AreBounds : List ℕ → Bool → ℕ → ℕ → ℕ → List ℕ → List ℕ → Type 0
+AreBounds bytes is_wide at count size least greatest =
+    (block : ℕ) → block < 256 → AreWithin bytes is_wide at (min (block * size) count) (min (block * size + size) count) (slice_index least block) (slice_index greatest block)
 
 -- a glyph's font dict is looked up in so many ranges from a place on
 abbrev pub IsByRanges : List ℕ → Option ℕ → Bool → ℕ → ℕ → Type 0

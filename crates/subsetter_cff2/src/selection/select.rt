@@ -91,14 +91,20 @@ fn has(range: Range, glyph: u32) -> bool
 pub(crate) fn range_offset(at: usize, i: u32, is_wide: bool) -> usize
     requires { at ≤ 2 ^ 59 }
     ensures value { result ≡ at + i * width_of is_wide }
-    ensures bound { result ≤ 2 ^ 60 }
+    ensures bound { result ≤ at + 2 ^ 35 }
 {
     at + i as usize * (if is_wide { WIDE_RANGE_SIZE } else { RANGE_SIZE })
 }
 
 /// The font dict of the first of so many ranges that has a glyph.
 #[tactic(auto, using(crate::proofs::SelectionLaws::Ranges2::ranges_next, crate::proofs::SelectionLaws::Ranges2::ranges_here, crate::proofs::SelectionLaws::Ranges2::ranges_cut, crate::proofs::SelectionLaws::Ranges2::ranges_end))]
-fn in_ranges(bytes: &[u8], is_wide: bool, at: usize, count: u32, glyph: u16) -> Option<u16>
+pub(crate) fn in_ranges(
+    bytes: &[u8],
+    is_wide: bool,
+    at: usize,
+    count: u32,
+    glyph: u16,
+) -> Option<u16>
     requires { at ≤ 2 ^ 59 }
     ensures { result ≡ in_ranges bytes.now is_wide glyph count at }
 {

@@ -77,7 +77,13 @@ pub(crate) fn range_offset(at: usize, i: u32, is_wide: bool) -> usize {
 }
 
 /// The font dict of the first of so many ranges that has a glyph.
-fn in_ranges(bytes: &[u8], is_wide: bool, at: usize, count: u32, glyph: u16) -> Option<u16> {
+pub(crate) fn in_ranges(
+    bytes: &[u8],
+    is_wide: bool,
+    at: usize,
+    count: u32,
+    glyph: u16,
+) -> Option<u16> {
     for i in 0..count {
         let range = range_at(bytes, is_wide, range_offset(at, i, is_wide))?;
         if has(range, u32::from(glyph)) {

@@ -1,5 +1,5 @@
 use Rattle.std.proofs.Common.{◌-◌, ◌≤◌, ◌<◌, ℕ}
-use Rattle.subsetter_cff2.proofs.SelectionLaws.Halves.{Misses}
+use Rattle.subsetter_cff2.proofs.SelectionLaws.RangeSteps.{Misses}
 use Rattle.subsetter_cff2.proofs.selection.search.find_by_halves.Given as goal
 
 -- what is below low doesn't have the glyph, nor what is from high on
