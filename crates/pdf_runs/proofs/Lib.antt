@@ -5,3 +5,4 @@ pub mod MarkLaws
 pub mod PieceSteps
 pub mod SpreadLaws
 pub mod RunLaws
+pub mod PairLaws

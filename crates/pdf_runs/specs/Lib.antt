@@ -4,3 +4,4 @@ pub mod Marks
 pub mod Shares
 pub mod Pieces
 pub mod Laws
+pub mod Codes

@@ -10,6 +10,7 @@
 #![tactic(auto)]
 
 mod clusters;
+mod codes;
 mod items;
 mod laws;
 mod marks;
@@ -20,6 +21,7 @@ mod tables;
 mod tests;
 
 pub use clusters::clusters_of_run;
+pub use codes::{Pair, codes_of, no_pairs};
 pub use items::{Direction, Item, is_run};
 pub use laws::{
     clusters_are_the_run, clusters_begin_once, glyphs_are_drawn, pen_goes_on, text_is_said,

@@ -1,6 +1,6 @@
 //! Runs, against what an independent layout of the same clusters gives.
 
-use crate::{Direction, Figure, Item, Piece, is_mark, is_run, pieces_of_run};
+use crate::{Direction, Figure, Item, Piece, codes_of, is_mark, is_run, no_pairs, pieces_of_run};
 use std::test::*;
 
 /// Glyph 3 has no ink.
@@ -106,6 +106,23 @@ fn lines_from_right_to_left(rt: HostRuntime) -> Result<(), Fail> {
         blank('\u{64e}'),
     ];
     assert!(rt; pieces.as_slice() == wanted.as_slice());
+    Ok(())
+}
+
+#[test]
+fn codes_are_in_order_of_use(rt: HostRuntime) -> Result<(), Fail> {
+    let mut pairs = no_pairs(rt.alloc())?;
+    let first = [
+        glyph(36, Some('f'), 900),
+        blank('i'),
+        glyph(36, Some('f'), 450),
+        glyph(0, Some('x'), 500),
+    ];
+    let codes = codes_of(rt.alloc(), &mut pairs, &first)?;
+    assert!(rt; codes.as_slice() == [1, 2, 1, 0].as_slice());
+    let second = [blank('i'), glyph(36, Some('e'), 900), glyph(36, None, 900)];
+    let codes = codes_of(rt.alloc(), &mut pairs, &second)?;
+    assert!(rt; codes.as_slice() == [2, 3, 4].as_slice());
     Ok(())
 }
 
