@@ -24,12 +24,14 @@ use Rattle.cid_embed.specs.Width.{width}
 use Rattle.cid_embed.specs.declared.embedding.Embedded.{Embedded}
 use Rattle.cid_embed_at.specs.Embed.{HasEmbedFaultAt, HasNoEmbeddingAt, IsEmbeddingAnswerAt, in_numbering}
 use Rattle.pdf_codes.specs.Codes.{IsOverfull, Used, glyphs_of}
+use Rattle.pdf_text.specs.declared.values.ProgramKind.{ProgramKind}
+use Rattle.pdf_values.specs.declared.looks.bounds.GlyphBox.{GlyphBox}
 use Rattle.pdf_values.specs.declared.permission.Permission.{Permission}
 use Rattle.pdf_source.specs.Made.{Made, made_in, made_seen}
 use Rattle.pdf_font.specs.Taken.{Takes}
 use Rattle.pdf_font.specs.PdfFont.{HasFontFault, HasNoPdfFont, IsEmbeddedFor, IsFilled, in_embedding, no_maxp, overfull}
 use Rattle.pdf_source.specs.Program.{IsProgram}
-use Rattle.pdf_source.specs.Moved.{values_in}
+use Rattle.pdf_source.specs.Moved.{program_box, values_in}
 use Rattle.pdf_source.specs.declared.choice.FontOptions.{FontOptions}
 use Rattle.pdf_font.specs.declared.error.FontError.TheVariants.{Subset}
 use Rattle.pdf_font.specs.declared.font.PdfFont.{PdfFont}
@@ -44,6 +46,13 @@ not_there (Some x) e h = cc
 known_some : (l : List ℕ) → known l 0 ≡ true → 0 < length l
 known_some [] h = absurd cc
 known_some (x ∷ l) h = omega arith
+
+-- the program is taken over
+program_taken : (n : NewFont) (cids : List ℕ) (p : Permission) (f : PdfFont) → Takes n cids p f → (box : ℕ → Option GlyphBox) (file : List ℕ) → IsProgram n.kind (box n.profile.count) file n.program.items → IsProgram f.kind (box f.glyph_count) file f.program.items
+program_taken n cids p f t box file h =
+    let counted = subst (λ (k : ℕ). IsProgram n.kind (box k) file n.program.items) (sym t.count) h in
+    let taken = subst (λ (l : List ℕ). IsProgram n.kind (box f.glyph_count) file l) (sym t.program) counted in
+    subst (λ (k : ProgramKind). IsProgram k (box f.glyph_count) file f.program.items) (sym t.kind) taken
 
 module _ (font : Font) (settings : List (Tag × ℤ)) (options : FontOptions) (us : List Used) where
   abbrev pub IsRefusal : Error → Type 0
@@ -152,7 +161,8 @@ module _ (font : Font) (settings : List (Tag × ℤ)) (options : FontOptions) (u
             drawn = drawn;
             drawn_cff = blended;
             kind = t.kind ∙ read.kind_is;
-            program = subst (λ k. IsProgram k e.font.items f.program.items) (sym t.kind) (subst (λ (b : List ℕ). IsProgram n.kind e.font.items b) (sym t.program) read.program);
+            program = program_taken n e.cids.items f.permission f t (λ (k : ℕ). program_box (stored font) (stored (as_font e.font.items)) k options.bounds) e.font.items
+                (subst (λ (look : List ℕ → Option (List ℕ)). IsProgram n.kind (program_box look (stored (as_font e.font.items)) n.profile.count options.bounds) e.font.items n.program.items) ef read.program);
             maxp = read.maxp;
             cids = t.cids;
             counted = t.count ∙ read.count;

@@ -1,6 +1,7 @@
 mod AllWidths
 mod Answered
 mod Fresh
+mod KeptBoxes
 mod LawProofs
 mod NewLaws
 mod OneFont

@@ -22,10 +22,12 @@ use Rattle.cid_embed.specs.Afresh.{widths_of}
 use Rattle.cid_embed.specs.Embed.{numbering, IsEmbeddingAnswer, in_subset, in_widths}
 use Rattle.cid_embed.specs.Width.{units_per_em, width}
 use Rattle.cid_embed.specs.declared.embedding.Embedded.{Embedded}
+use Rattle.pdf_values.specs.declared.looks.bounds.GlyphBox.{GlyphBox}
+use Rattle.pdf_source.specs.Boxed.{boxed_if}
 use Rattle.pdf_source.specs.Exact.{Exact, exact_of}
 use Rattle.pdf_source.specs.Made.{Made, Profile, made_in, profile_in}
 use Rattle.pdf_source.specs.Program.{IsProgram, bare_cff, count_in, flavor_in, kind_of, program_in}
-use Rattle.pdf_source.specs.Moved.{values_in}
+use Rattle.pdf_source.specs.Moved.{program_box, values_in}
 use Rattle.pdf_source.specs.declared.choice.FontOptions.{FontOptions}
 use Rattle.pdf_source.specs.declared.choice.ProgramChoice.{ProgramChoice}
 use Rattle.pdf_source.specs.declared.choice.ProgramChoice.TheVariants.{Smallest, OpenType}
@@ -41,10 +43,10 @@ module _ (find : List ℕ → Option (List ℕ)) (settings : List (Tag × ℤ)) 
   afresh = stored (as_font file)
 
   abbrev profile_by : Result ℕ Error → Result Profile Error
-  profile_by r = r >>= λ count. (widths_of afresh count >>= λ widths. (exact_of afresh count >>= λ exact. Ok (record { count = count; widths = widths; exact = exact; values = values_in find afresh count options.bounds settings })))
+  profile_by r = r >>= λ count. (widths_of afresh count >>= λ widths. (exact_of afresh count >>= λ exact. Ok (record { count = count; widths = widths; exact = exact; values = values_in find afresh count options.bounds settings; head_box = program_box find afresh count options.bounds })))
 
   abbrev in_directory : (List ℕ → Option (List ℕ)) → FontFlavor → Result Profile Error
-  in_directory look k = count_in k look requested >>= λ count. (widths_of look count >>= λ widths. (exact_of look count >>= λ exact. Ok (record { count = count; widths = widths; exact = exact; values = values_in find look count options.bounds settings })))
+  in_directory look k = count_in k look requested >>= λ count. (widths_of look count >>= λ widths. (exact_of look count >>= λ exact. Ok (record { count = count; widths = widths; exact = exact; values = values_in find look count options.bounds settings; head_box = program_box find look count options.bounds })))
 
   profile_opened : profile_in find settings options requested file ≡ in_directory (table_in file o.directory) (flavor_in file)
   unfolding profile_in
@@ -54,7 +56,7 @@ module _ (find : List ℕ → Option (List ℕ)) (settings : List (Tag × ℤ)) 
   profile_is = profile_opened ∙ ap (λ (look : List ℕ → Option (List ℕ)). in_directory look (flavor_in file)) o.find ∙ ap (in_directory afresh) f
 
   abbrev profile_of : ℕ → List ℕ → Exact → Profile
-  profile_of n ws x = record { count = n; widths = ws; exact = x; values = values_in find afresh n options.bounds settings }
+  profile_of n ws x = record { count = n; widths = ws; exact = x; values = values_in find afresh n options.bounds settings; head_box = program_box find afresh n options.bounds }
 
   profile_read : (n : ℕ) (ws : List ℕ) (x : Exact) → count_in kind afresh requested ≡ Ok n → widths_of afresh n ≡ Ok ws → exact_of afresh n ≡ Ok x → profile_in find settings options requested file ≡ Ok (profile_of n ws x)
   profile_read n ws x c w e =
@@ -65,7 +67,7 @@ module _ (find : List ℕ → Option (List ℕ)) (settings : List (Tag × ℤ)) 
   profile_missing c = profile_is ∙ ap profile_by c
 
   abbrev program_by : FontFlavor → Result Profile Error → Result Made Error
-  program_by k r = r >>= λ profile. (program_in (kind_of k options.program) file >>= λ program. Ok (record { kind = kind_of k options.program; program = program; profile = profile }))
+  program_by k r = r >>= λ profile. (program_in (kind_of k options.program) profile.head_box file >>= λ program. Ok (record { kind = kind_of k options.program; program = program; profile = profile }))
 
   made_by : (r : Result Profile Error) → profile_in find settings options requested file ≡ r → made_in find settings options requested file ≡ program_by kind r
   unfolding made_in
@@ -74,7 +76,7 @@ module _ (find : List ℕ → Option (List ℕ)) (settings : List (Tag × ℤ)) 
   pub made_missing : count_in kind afresh requested ≡ Err MalformedFont → made_in find settings options requested file ≡ Err MalformedFont
   made_missing c = made_by (Err MalformedFont) (profile_missing c)
 
-  pub made_read : (n : ℕ) (ws : List ℕ) (x : Exact) (program : List ℕ) → count_in kind afresh requested ≡ Ok n → widths_of afresh n ≡ Ok ws → exact_of afresh n ≡ Ok x → program_in (kind_of kind options.program) file ≡ Ok program → made_in find settings options requested file ≡ Ok (record { kind = kind_of kind options.program; program = program; profile = profile_of n ws x })
+  pub made_read : (n : ℕ) (ws : List ℕ) (x : Exact) (program : List ℕ) → count_in kind afresh requested ≡ Ok n → widths_of afresh n ≡ Ok ws → exact_of afresh n ≡ Ok x → program_in (kind_of kind options.program) (program_box find afresh n options.bounds) file ≡ Ok program → made_in find settings options requested file ≡ Ok (record { kind = kind_of kind options.program; program = program; profile = profile_of n ws x })
   made_read n ws x program c w e p =
       let profile : Profile = profile_of n ws x in
       made_by (Ok profile) (profile_read n ws x c w e) ∙ ap (λ (r : Result (List ℕ) Error). r >>= λ bytes. Ok (record { kind = kind_of kind options.program; program = bytes; profile = profile })) p
@@ -94,7 +96,7 @@ charstrings tokens depth font order out _ (by_charstrings k) e = k
 -- what is read of a new font of these glyphs
 pub record IsRead (font : Font) (find : List ℕ → Option (List ℕ)) (settings : List (Tag × ℤ)) (options : FontOptions) (order file : List ℕ) (kind : FontFlavor) (m : Made) : Type 0 where
   pub kind_is : m.kind ≡ kind_of kind options.program
-  pub program : IsProgram m.kind file m.program
+  pub program : IsProgram m.kind (program_box find (stored (as_font file)) m.profile.count options.bounds) file m.program
   pub maxp : kind ≡ TrueType → IsSome (table (as_font file) (codes "maxp"))
   pub count : m.profile.count ≡ length order
   pub widths : map Some m.profile.widths ≡ map (width font) order
@@ -136,10 +138,13 @@ module _ (tokens depth : ℕ) (font : Font) (glyphs : List ℕ) (new : Embedded)
     flavor_is : flavor_in file ≡ kind
     flavor_is = same_flavor kind file container.kind_is
 
-    read : (program : List ℕ) → count_in kind (stored (as_font file)) requested ≡ Ok (length order) → program_in (kind_of kind options.program) file ≡ Ok program → IsProgram (kind_of kind options.program) file program → (kind ≡ TrueType → IsSome (table (as_font file) (codes "maxp"))) → MadeCase font find settings options order file kind made
+    abbrev box : Option GlyphBox
+    box = program_box find (stored (as_font file)) (length order) options.bounds
+
+    read : (program : List ℕ) → count_in kind (stored (as_font file)) requested ≡ Ok (length order) → program_in (kind_of kind options.program) box file ≡ Ok program → IsProgram (kind_of kind options.program) box file program → (kind ≡ TrueType → IsSome (table (as_font file) (codes "maxp"))) → MadeCase font find settings options order file kind made
     read program c p is m =
         inl (
-          record { kind = kind_of kind options.program; program = program; profile = record { count = length order; widths = all.widths; exact = all.exact; values = values_in find (stored (as_font file)) (length order) options.bounds settings } },
+          record { kind = kind_of kind options.program; program = program; profile = record { count = length order; widths = all.widths; exact = all.exact; values = values_in find (stored (as_font file)) (length order) options.bounds settings; head_box = box } },
           made_read find settings options requested file kind opens flavor_is (length order) all.widths all.exact program c all.read all.exact_read p,
           record { kind_is = refl; program = is; maxp = m; count = refl; widths = all.are; exact = all.exact_are; units = all.units_are; values = refl },
         )
@@ -153,7 +158,7 @@ module _ (tokens depth : ℕ) (font : Font) (glyphs : List ℕ) (new : Embedded)
       )
   by_maxp same (Some maxp) h =
       let p : IsMaxProfile (table font) a.embedded.subset.keeps.kind (length order) (table (as_font file)) = a.embedded.subset.keeps.shared.max_profile (is_some_of (table font (codes "maxp")) maxp h) in
-      read TrueType same file
+      read TrueType same (boxed_if (box TrueType same) file)
       (ap (λ (x : Option (List ℕ)). ok_or x MalformedFont >>= λ bytes. ok_or (number bytes 4 2) MalformedFont) p.maxp_is ∙ ap (λ (x : Option ℕ). ok_or x MalformedFont) p.count)
       refl refl (λ e. is_some_of (table (as_font file) (codes "maxp")) p.maxp p.maxp_is)
 
@@ -168,12 +173,12 @@ module _ (tokens depth : ℕ) (font : Font) (glyphs : List ℕ) (new : Embedded)
       by : (choice : ProgramChoice) → options.program ≡ choice → count_in Cff (stored (as_font file)) requested ≡ Ok (length order) → KeepsCharStrings tokens depth font order (as_font file) → MadeCase font find settings options order file Cff made
       by Smallest h counted kept =
           read Cff same kept.copy counted
-          (ap (λ (c : ProgramChoice). program_in (kind_of Cff c) file) h ∙ bare_is file kept.copy (opens Cff same) kept.copy_is)
-          (subst (λ (c : ProgramChoice). IsProgram (kind_of Cff c) file kept.copy) (sym h) kept.copy_is) (λ e. absurd cc)
+          (ap (λ (c : ProgramChoice). program_in (kind_of Cff c) (box Cff same) file) h ∙ bare_is file kept.copy (opens Cff same) kept.copy_is)
+          (subst (λ (c : ProgramChoice). IsProgram (kind_of Cff c) (box Cff same) file kept.copy) (sym h) kept.copy_is) (λ e. absurd cc)
       by OpenType h counted kept =
-          read Cff same file counted
-          (ap (λ (c : ProgramChoice). program_in (kind_of Cff c) file) h)
-          (subst (λ (c : ProgramChoice). IsProgram (kind_of Cff c) file file) (sym h) refl) (λ e. absurd cc)
+          read Cff same (boxed_if (box Cff same) file) counted
+          (ap (λ (c : ProgramChoice). program_in (kind_of Cff c) (box Cff same) file) h)
+          (subst (λ (c : ProgramChoice). IsProgram (kind_of Cff c) (box Cff same) file (boxed_if (box Cff same) file)) (sym h) refl) (λ e. absurd cc)
 
   by_kind : (kind : FontFlavor) → a.embedded.subset.keeps.kind ≡ kind → MadeCase font find settings options order file kind made
   by_kind TrueType same = by_maxp same (table font (codes "maxp")) refl

@@ -29,10 +29,11 @@ use Rattle.pdf_text.specs.declared.metrics.columns.Column.{Column}
 use Rattle.pdf_text.specs.declared.metrics.columns.DefaultColumn.{DefaultColumn}
 use Rattle.pdf_text.specs.declared.values.ProgramKind.{ProgramKind}
 use Rattle.pdf_text.specs.declared.values.ProgramKind.TheVariants.{TrueType as TrueTypeFile, BareCff, OpenType as OpenTypeFile}
+use Rattle.pdf_values.specs.declared.looks.bounds.GlyphBox.{GlyphBox}
 use Rattle.pdf_source.specs.Chosen.{is_vertical}
 use Rattle.pdf_source.specs.Frequent.{IsMostFrequent, count_of}
 use Rattle.pdf_source.specs.Made.{Made, made_in}
-use Rattle.pdf_source.specs.Moved.{values_in}
+use Rattle.pdf_source.specs.Moved.{program_box, values_in}
 use Rattle.pdf_source.specs.Program.{IsProgram, kind_of}
 use Rattle.pdf_source.specs.Named.{heights_there, name_there}
 use Rattle.pdf_source.specs.Source.{tag_in, vertical_of}
@@ -43,6 +44,7 @@ use Rattle.pdf_font.specs.Laws.{AreSame, ColumnsSeen, OneAnswer, WidthsAgree, co
 use Rattle.pdf_font.specs.PdfFont.{AreColumns, IsPdfFont, cmap_name, name_room, short_name}
 use Rattle.pdf_font.specs.declared.font.PdfFont.{PdfFont}
 use Rattle.pdf_font.proofs.AllWidths.{AreAllWidths, are_all_widths}
+use Rattle.pdf_font.proofs.KeptBoxes.{is_laid, program_is, same_read}
 use Rattle.pdf_font.proofs.NewLaws.{MadeCase, made_case}
 
 -- ---- what is determined by a part
@@ -58,10 +60,10 @@ same_numbers (x ∷ a) (y ∷ b) e =
     let later : a ≡ b = same_numbers a b rest in
     ap (λ (t : List ℕ). x ∷ t) later ∙ ap (λ (n : ℕ). n ∷ b) one
 
-one_program : (kind : ProgramKind) (file a b : List ℕ) → IsProgram kind file a → IsProgram kind file b → a ≡ b
-one_program TrueTypeFile file a b x y = x ∙ sym y
-one_program BareCff file a b x y = just_is a b (sym x ∙ y)
-one_program OpenTypeFile file a b x y = x ∙ sym y
+one_program : (kind : ProgramKind) (box : Option GlyphBox) (file a b : List ℕ) → IsProgram kind box file a → IsProgram kind box file b → a ≡ b
+one_program TrueTypeFile box file a b x y = x ∙ sym y
+one_program BareCff box file a b x y = just_is a b (sym x ∙ y)
+one_program OpenTypeFile box file a b x y = x ∙ sym y
 
 -- no glyph before the first of the most frequent width has a width as frequent
 rarer_before : (ws : List ℕ) (a b : ℕ) (x : IsMostFrequent ws a) (y : IsMostFrequent ws b) → x.index < y.index → ⊥
@@ -152,13 +154,13 @@ module _ (font : Font) (settings : List (Tag × ℤ)) (options : FontOptions) (u
   read_afresh =
       ap (widths_of (table (as_font file))) p.made.counted ∙ all.read ∙ ap (λ (l : List ℕ). Ok l) (same_numbers all.widths f.widths.items (all.are ∙ sym p.made.widths))
 
-  same_file : (k : ProgramKind) (program : List ℕ) → IsProgram k file program → (k ≡ BareCff → ⊥) → file ≡ program
-  same_file TrueTypeFile program is not = sym is
-  same_file BareCff program is not = absurd (not refl)
-  same_file OpenTypeFile program is not = sym is
+  abbrev box : Option GlyphBox
+  box = program_box (stored font) (stored (as_font file)) f.glyph_count options.bounds
 
   pub agree : (f.kind ≡ BareCff → ⊥) → widths_of (stored (as_font f.program.items)) f.glyph_count ≡ Ok f.widths.items
-  agree not = subst (λ (l : List ℕ). widths_of (table (as_font l)) f.glyph_count ≡ Ok f.widths.items) (same_file f.kind f.program.items p.made.program not) read_afresh
+  agree not =
+      let l = is_laid options.limits.tokens options.limits.depth static wanted file p.made.embedded.answer.embedded.subset in
+      subst (λ (l : List ℕ). widths_of (table (as_font l)) f.glyph_count ≡ Ok f.widths.items) (program_is f.kind box file f.program.items p.made.program not) (same_read file kind l box f.glyph_count ∙ read_afresh)
 
 pub widths_agree : WidthsAgree
 widths_agree font settings options us f p not = agree font settings options us f p not
@@ -184,12 +186,6 @@ module _ (font : Font) (settings : List (Tag × ℤ)) (options : FontOptions) (u
   kinds : f.kind ≡ g.kind
   kinds = p.made.kind ∙ ap (λ (k : FontFlavor). kind_of k options.program) flavors ∙ sym q.made.kind
 
-  programs : f.program.items ≡ g.program.items
-  programs =
-      let theirs_too : IsProgram f.kind theirs f.program.items = subst (λ (l : List ℕ). IsProgram f.kind l f.program.items) files p.made.program in
-      let of_kind : IsProgram g.kind theirs f.program.items = subst (λ (k : ProgramKind). IsProgram k theirs f.program.items) kinds theirs_too in
-      one_program g.kind theirs f.program.items g.program.items of_kind q.made.program
-
   both : (has_made font settings options us f p).it ≡ (has_made font settings options us g q).it
   both =
       let ours_made = has_made font settings options us f p in
@@ -198,6 +194,13 @@ module _ (font : Font) (settings : List (Tag × ℤ)) (options : FontOptions) (u
 
   counts : f.glyph_count ≡ g.glyph_count
   counts = sym (has_made font settings options us f p).count ∙ ap (λ (m : Made). m.profile.count) both ∙ (has_made font settings options us g q).count
+
+  programs : f.program.items ≡ g.program.items
+  programs =
+      let theirs_too = subst (λ (l : List ℕ). IsProgram f.kind (program_box (stored font) (stored (as_font l)) f.glyph_count options.bounds) l f.program.items) files p.made.program in
+      let counted = subst (λ (n : ℕ). IsProgram f.kind (program_box (stored font) (stored (as_font theirs)) n options.bounds) theirs f.program.items) counts theirs_too in
+      let of_kind = subst (λ (k : ProgramKind). IsProgram k (program_box (stored font) (stored (as_font theirs)) g.glyph_count options.bounds) theirs f.program.items) kinds counted in
+      one_program g.kind (program_box (stored font) (stored (as_font theirs)) g.glyph_count options.bounds) theirs f.program.items g.program.items of_kind q.made.program
 
   widths : f.widths.items ≡ g.widths.items
   widths = sym (has_made font settings options us f p).widths ∙ ap (λ (m : Made). m.profile.widths) both ∙ (has_made font settings options us g q).widths

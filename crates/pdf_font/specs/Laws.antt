@@ -1,5 +1,5 @@
 -- Laws of what a PDF has of a font.
-use Rattle.std.specs.Prelude.{◌≡◌, ◌≢◌, ◌≤◌, List, ◌++◌, length, take, ℕ, Ok, ℤ}
+use Rattle.std.specs.Prelude.{◌≡◌, ◌≢◌, ◌≤◌, List, ◌++◌, length, take, ℕ, Ok, Some, ℤ}
 use Rattle.std.specs.Option.{option_map}
 use Rattle.subsetter_base.specs.declared.tag.Tag.{Tag}
 use Rattle.subsetter_sfnt.specs.Read.{Font, as_font, stored}
@@ -11,6 +11,9 @@ use Rattle.pdf_text.specs.Dictionaries.Fonts.{name_end}
 use Rattle.pdf_text.specs.declared.metrics.columns.Column.{Column}
 use Rattle.pdf_text.specs.declared.metrics.columns.DefaultColumn.{DefaultColumn}
 use Rattle.pdf_text.specs.declared.values.ProgramKind.TheVariants.{BareCff}
+use Rattle.pdf_values.specs.declared.looks.bounds.GlyphBox.{GlyphBox}
+use Rattle.pdf_source.specs.Boxed.{IsBoxed}
+use Rattle.pdf_source.specs.Moved.{program_box}
 use Rattle.pdf_font.specs.PdfFont.{HasFontFault, IsPdfFont, cmap_name}
 use Rattle.pdf_source.specs.declared.choice.FontOptions.{FontOptions}
 use Rattle.pdf_font.specs.declared.error.FontError.{FontError}
@@ -35,6 +38,13 @@ WidthsAgree = (font : Font) (settings : List (Tag × ℤ)) (options : FontOption
 -- the name of the composite font, which a hyphen and the name of its CMap end where outlines are of CFF (9.7.6.1), has at most 127 bytes (Annex C)
 abbrev pub NamesAreShort : Type 0
 NamesAreShort = (font : Font) (settings : List (Tag × ℤ)) (options : FontOptions) (us : List Used) (f : PdfFont) → IsPdfFont font settings options us f → length (f.descriptor.font_name.items ++ name_end f.kind (cmap_name f.encoding options.direction)) ≤ 127
+
+-- ---- the kept box
+
+-- where FontBBox is to hold the kept glyphs, the `head` of a program that is a file has their box: all else is the subset
+abbrev pub KeptBoxes : Type 0
+KeptBoxes = (font : Font) (settings : List (Tag × ℤ)) (options : FontOptions) (us : List Used) (f : PdfFont) (p : IsPdfFont font settings options us f) (b : GlyphBox) → f.kind ≢ BareCff
+    → program_box (stored font) (stored (as_font p.made.new.font.items)) f.glyph_count options.bounds ≡ Some b → IsBoxed b p.made.new.font.items f.program.items
 
 -- ---- there is one answer
 

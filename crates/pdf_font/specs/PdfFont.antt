@@ -34,7 +34,7 @@ use Rattle.pdf_text.specs.declared.values.ProgramKind.{ProgramKind}
 use Rattle.pdf_values.specs.Permission.{is_permitted, permission}
 use Rattle.pdf_source.specs.Chosen.{extras_of, is_vertical}
 use Rattle.pdf_source.specs.Frequent.{IsMostFrequent}
-use Rattle.pdf_source.specs.Moved.{values_in}
+use Rattle.pdf_source.specs.Moved.{program_box, values_in}
 use Rattle.pdf_source.specs.Program.{IsProgram, kind_of}
 use Rattle.pdf_source.specs.Named.{heights_there, name_there}
 use Rattle.pdf_source.specs.Source.{tag_in, vertical_of}
@@ -118,9 +118,9 @@ pub record IsEmbeddedFor (font : Font) (settings : List (Tag × ℤ)) (options :
   pub drawn : ¬ (IsAtDefault (whole font) settings) → HasGlyphsDrawn (whole font) settings (numbering (glyphs_of us)) new.font.items
   -- of outlines in CFF2 alone it has each glyph with the outline that it has there, each coordinate and each edge of a stem rounded once
   pub drawn_cff : IsCff2Font (whole font) → HasGlyphsBlended (whole font) settings (numbering (glyphs_of us)) new.font.items
-  -- the program is that font, or its `CFF `; one of TrueType has `maxp` (9.9)
+  -- the program is that font, or its `CFF `; where FontBBox is to hold the kept glyphs, its `head` has their box; one of TrueType has `maxp` (9.9)
   pub kind : f.kind ≡ kind_of embedded.answer.embedded.subset.keeps.kind options.program
-  pub program : IsProgram f.kind new.font.items f.program.items
+  pub program : IsProgram f.kind (program_box (stored font) (stored (as_font new.font.items)) f.glyph_count options.bounds) new.font.items f.program.items
   pub maxp : embedded.answer.embedded.subset.keeps.kind ≡ TrueType → IsSome (table (as_font new.font.items) (codes "maxp"))
   -- each of its glyphs has a CID, and the width of its source, which is also in the font's units
   pub cids : f.cids.items ≡ new.cids.items

@@ -1,6 +1,6 @@
 //! Laws of what a PDF has of a font, which no code runs.
 
-ghost use Rattle.pdf_font.specs.Laws.{CodesNeedNoFont, CodesStay, HaveNoFault, NamesAreShort, OneAnswer, WidthsAgree};
+ghost use Rattle.pdf_font.specs.Laws.{CodesNeedNoFont, CodesStay, HaveNoFault, KeptBoxes, NamesAreShort, OneAnswer, WidthsAgree};
 
 /// What is answered has no fault.
 pub fn answers_have_no_fault()
@@ -30,4 +30,9 @@ pub fn widths_agree()
 /// The name of the composite font has at most 127 bytes, whatever the name of its CMap is.
 pub fn names_are_short()
     ensures { NamesAreShort }
+{}
+
+/// With the box of the kept glyphs a program that is a file is the subset but for this box in `head`, and for the checksums.
+pub fn boxes_are_kept()
+    ensures { KeptBoxes }
 {}

@@ -1,4 +1,5 @@
 mod AxisSteps
+pub mod Boxes
 mod Counting
 mod ExactSteps
 mod Tags

@@ -1,3 +1,4 @@
+pub mod Boxed
 pub mod Cff
 pub mod Chosen
 pub mod Exact

@@ -16,6 +16,7 @@ use Rattle.pdf_values.specs.declared.looks.bounds.GlyphBox.{GlyphBox}
 use Rattle.pdf_glyphs.specs.Boxes.{boxes_from}
 use Rattle.pdf_moved.specs.Movement.{Movement}
 use Rattle.pdf_moved.specs.Values.{values_at}
+use Rattle.pdf_source.specs.Boxed.{head_box}
 use Rattle.pdf_source.specs.Cff.{cff_box, font_stem}
 use Rattle.pdf_source.specs.Source.{bounds_by, known_of, outlines_of, tables_of}
 use Rattle.pdf_source.specs.declared.moved.Location.{Location as GivenLocation}
@@ -61,6 +62,10 @@ kept_by None false new count = None
 
 abbrev pub kept_in : (List ℕ → Option (List ℕ)) → (List ℕ → Option (List ℕ)) → ℕ → Option GlyphBox
 kept_in find new count = kept_by (find (codes "glyf")) (moves find) new count
+
+-- the box that the `head` of the program gets
+abbrev pub program_box : (List ℕ → Option (List ℕ)) → (List ℕ → Option (List ℕ)) → ℕ → Bounds → Option GlyphBox
+program_box find new count choice = head_box (bounds_by (moves find) choice) (kept_in find new count)
 
 -- elsewhere than at its default; none of outlines that don't move
 abbrev pub location_of : Bool → (List ℕ → Option (List ℕ)) → List (Tag × ℤ) → Option Location

@@ -10,6 +10,8 @@ use Rattle.subsetter_sfnt.specs.declared.flavor.FontFlavor.{FontFlavor}
 use Rattle.subsetter_sfnt.specs.declared.flavor.FontFlavor.TheVariants.{TrueType, Cff}
 use Rattle.pdf_text.specs.declared.values.ProgramKind.{ProgramKind}
 use Rattle.pdf_text.specs.declared.values.ProgramKind.TheVariants.{TrueType as TrueTypeFile, BareCff, OpenType as OpenTypeFile}
+use Rattle.pdf_values.specs.declared.looks.bounds.GlyphBox.{GlyphBox}
+use Rattle.pdf_source.specs.Boxed.{boxed_if}
 use Rattle.pdf_source.specs.declared.choice.ProgramChoice.{ProgramChoice}
 use Rattle.pdf_source.specs.declared.choice.ProgramChoice.TheVariants.{Smallest, OpenType}
 
@@ -19,11 +21,11 @@ kind_of TrueType choice = TrueTypeFile
 kind_of Cff Smallest = BareCff
 kind_of Cff OpenType = OpenTypeFile
 
--- the program is the new font, or its `CFF `
-abbrev pub IsProgram : ProgramKind → List ℕ → List ℕ → Type 0
-IsProgram TrueTypeFile file program = program ≡ file
-IsProgram BareCff file program = table (as_font file) (codes "CFF ") ≡ Some program
-IsProgram OpenTypeFile file program = program ≡ file
+-- the program is the new font, whose `head` may get a box, or its `CFF `
+abbrev pub IsProgram : ProgramKind → Option GlyphBox → List ℕ → List ℕ → Type 0
+IsProgram TrueTypeFile box file program = program ≡ boxed_if box file
+IsProgram BareCff box file program = table (as_font file) (codes "CFF ") ≡ Some program
+IsProgram OpenTypeFile box file program = program ≡ boxed_if box file
 
 -- ---- read of a new font
 
@@ -47,7 +49,7 @@ bare_cff file = do
   directory ← opened (as_font file)
   ok_or (table_in file directory (codes "CFF ")) MalformedFont
 
-abbrev pub program_in : ProgramKind → List ℕ → Result (List ℕ) Error
-program_in TrueTypeFile file = Ok file
-program_in BareCff file = bare_cff file
-program_in OpenTypeFile file = Ok file
+abbrev pub program_in : ProgramKind → Option GlyphBox → List ℕ → Result (List ℕ) Error
+program_in TrueTypeFile box file = Ok (boxed_if box file)
+program_in BareCff box file = bare_cff file
+program_in OpenTypeFile box file = Ok (boxed_if box file)

@@ -10,10 +10,12 @@ ghost use Rattle.pdf_glyphs.specs.HeightVariation.{variation_view};
 ghost use Rattle.pdf_glyphs.specs.Vertical.{vertical_view};
 ghost use Rattle.pdf_text.specs.SubsetName.{font_name, IsTag};
 ghost use Rattle.pdf_values.specs.Descriptor.{tables_view};
+ghost use Rattle.pdf_source.specs.Boxed.{head_box};
 ghost use Rattle.pdf_source.specs.Named.{heights_by, name_by};
-ghost use Rattle.pdf_source.specs.Moved.{kept_by, kept_in, location_seen, values_by};
+ghost use Rattle.pdf_source.specs.Moved.{kept_by, kept_in, location_seen, moves, values_by};
 ghost use Rattle.pdf_source.specs.Source.{bounds_by, known_of, outlines_of, source_name, tables_of, tag_in, vertical_of};
 
+use crate::boxed::head_box;
 use crate::cff::{cff_box, cff_values_by};
 use crate::moved::{Location, movement_of, moves};
 use crate::tag::SubsetTag;
@@ -123,6 +125,13 @@ pub fn kept_in(
     ensures err { IfErr result (λ e. e ≡ OutOfMemory) }
 {
     kept_by(alloc, face.stored(Tag::GLYF), moves(face), new, count)
+}
+
+/// The box that the `head` of the program gets: that of the kept glyphs, where FontBBox is to hold these.
+pub fn program_box(face: &Face<'_>, kept: Option<GlyphBox>, choice: Bounds) -> Option<GlyphBox>
+    ensures { result ≡ head_box (bounds_by (moves (table_in face.now.«data».now face.now.records.now)) choice) kept }
+{
+    head_box(bounds_by(moves(face), choice), kept)
 }
 
 /// The values of a font that says this stem, whose kept glyphs have this box, at coordinates that are off its default, if they

@@ -9,6 +9,7 @@
 #![tactic(auto)]
 
 mod axes;
+mod boxed;
 mod cff;
 mod choice;
 mod described;

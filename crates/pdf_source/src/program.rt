@@ -7,14 +7,15 @@ ghost use Rattle.subsetter_sfnt.specs.Read.{table_in};
 ghost use Rattle.pdf_source.specs.Made.{made_in, made_seen, profile_in, profile_seen};
 ghost use Rattle.pdf_source.specs.Program.{bare_cff, count_in, flavor_by, flavor_in, kind_of, program_in};
 
+use crate::boxed::boxed_if;
 use crate::cff::font_stem;
 use crate::choice::{FontOptions, ProgramChoice};
-use crate::described::{kept_in, values_by};
+use crate::described::{kept_in, program_box, values_by};
 use crate::exact::{ExactWidths, exact_of};
 use crate::moved::location_in;
 use crate::widths::widths_of;
 use pdf_text::ProgramKind;
-use pdf_values::Values;
+use pdf_values::{GlyphBox, Values};
 use std::alloc::Global;
 use subsetter_base::read::Reader;
 use subsetter_base::{Error, Tag};
@@ -34,6 +35,8 @@ pub struct Profile {
     /// The same in the font's units.
     pub exact: ExactWidths,
     pub values: Values,
+    /// The box that the `head` of the program gets, if it is another.
+    pub head_box: Option<GlyphBox>,
 }
 
 /// A new font.
@@ -112,11 +115,13 @@ fn profile_of(
     let stem = font_stem(alloc, face, &new)?;
     let kept = kept_in(alloc, face, &new, count)?;
     let values = values_by(&location, stem, kept, face, options.bounds, settings);
+    let head_box = program_box(face, kept, options.bounds);
     Ok(Profile {
         count,
         widths,
         exact,
         values,
+        head_box,
     })
 }
 
@@ -130,14 +135,19 @@ fn bare_cff(alloc: Global, file: &[u8]) -> Result<Vec<u8>, Error>
     Ok(Vec::from_slice(alloc, cff)?)
 }
 
-/// The font program: the file, or its `CFF `.
-fn program_in(alloc: Global, kind: ProgramKind, file: Vec<u8>) -> Result<Vec<u8>, Error>
-    ensures { Gives (λ v. v.items) result (program_in kind file.items) }
+/// The font program: the file, whose `head` may get a box, or its `CFF `.
+fn program_in(
+    alloc: Global,
+    kind: ProgramKind,
+    head_box: Option<GlyphBox>,
+    file: Vec<u8>,
+) -> Result<Vec<u8>, Error>
+    ensures { Gives (λ v. v.items) result (program_in kind head_box file.items) }
 {
     match kind {
-        ProgramKind::TrueType => Ok(file),
+        ProgramKind::TrueType => Ok(boxed_if(file, head_box)),
         ProgramKind::BareCff => bare_cff(alloc, &file),
-        ProgramKind::OpenType => Ok(file),
+        ProgramKind::OpenType => Ok(boxed_if(file, head_box)),
     }
 }
 
@@ -155,7 +165,7 @@ pub fn new_font(
 {
     let profile = profile_of(alloc, face, &file, settings, options, requested)?;
     let kind = kind_of(flavor_in(&file), options.program);
-    let program = program_in(alloc, kind, file)?;
+    let program = program_in(alloc, kind, profile.head_box, file)?;
     Ok(NewFont {
         kind,
         program,

@@ -8,6 +8,7 @@ use crate::proved::pdf_glyphs::{
 };
 use crate::proved::pdf_moved::values_at;
 use crate::proved::pdf_names::name_at;
+use crate::proved::pdf_source::boxed::head_box;
 use crate::proved::pdf_source::cff::{cff_box, cff_values_by};
 use crate::proved::pdf_source::moved::{movement_of, moves, Location};
 use crate::proved::pdf_source::tag::SubsetTag;
@@ -103,6 +104,11 @@ pub fn kept_in(
     count: u16,
 ) -> Result<Option<GlyphBox>, Error> {
     kept_by(alloc, face.stored(Tag::GLYF), moves(face), new, count)
+}
+
+/// The box that the `head` of the program gets: that of the kept glyphs, where FontBBox is to hold these.
+pub fn program_box(face: &Face<'_>, kept: Option<GlyphBox>, choice: Bounds) -> Option<GlyphBox> {
+    head_box(bounds_by(moves(face), choice), kept)
 }
 
 /// The values of a font that says this stem, whose kept glyphs have this box, at coordinates that are off its default, if they

@@ -9,6 +9,7 @@
 //! ```
 
 mod axes;
+mod boxed;
 mod cff;
 mod choice;
 mod described;

@@ -3,14 +3,15 @@
 
 use crate::rattle::prelude::Vec;
 
+use crate::proved::pdf_source::boxed::boxed_if;
 use crate::proved::pdf_source::cff::font_stem;
 use crate::proved::pdf_source::choice::{FontOptions, ProgramChoice};
-use crate::proved::pdf_source::described::{kept_in, values_by};
+use crate::proved::pdf_source::described::{kept_in, program_box, values_by};
 use crate::proved::pdf_source::exact::{exact_of, ExactWidths};
 use crate::proved::pdf_source::moved::location_in;
 use crate::proved::pdf_source::widths::widths_of;
 use crate::proved::pdf_text::ProgramKind;
-use crate::proved::pdf_values::Values;
+use crate::proved::pdf_values::{GlyphBox, Values};
 use crate::proved::subsetter_base::read::Reader;
 use crate::proved::subsetter_base::{Error, Tag};
 use crate::proved::subsetter_sfnt::extras::Extras;
@@ -29,6 +30,8 @@ pub struct Profile {
     /// The same in the font's units.
     pub exact: ExactWidths,
     pub values: Values,
+    /// The box that the `head` of the program gets, if it is another.
+    pub head_box: Option<GlyphBox>,
 }
 
 /// A new font.
@@ -95,11 +98,13 @@ fn profile_of(
     let stem = font_stem(alloc, face, &new)?;
     let kept = kept_in(alloc, face, &new, count)?;
     let values = values_by(&location, stem, kept, face, options.bounds, settings);
+    let head_box = program_box(face, kept, options.bounds);
     Ok(Profile {
         count,
         widths,
         exact,
         values,
+        head_box,
     })
 }
 
@@ -110,12 +115,17 @@ fn bare_cff(alloc: Global, file: &[u8]) -> Result<Vec<u8>, Error> {
     Ok(Vec::from_slice(alloc, cff)?)
 }
 
-/// The font program: the file, or its `CFF `.
-fn program_in(alloc: Global, kind: ProgramKind, file: Vec<u8>) -> Result<Vec<u8>, Error> {
+/// The font program: the file, whose `head` may get a box, or its `CFF `.
+fn program_in(
+    alloc: Global,
+    kind: ProgramKind,
+    head_box: Option<GlyphBox>,
+    file: Vec<u8>,
+) -> Result<Vec<u8>, Error> {
     match kind {
-        ProgramKind::TrueType => Ok(file),
+        ProgramKind::TrueType => Ok(boxed_if(file, head_box)),
         ProgramKind::BareCff => bare_cff(alloc, &file),
-        ProgramKind::OpenType => Ok(file),
+        ProgramKind::OpenType => Ok(boxed_if(file, head_box)),
     }
 }
 
@@ -130,7 +140,7 @@ pub fn new_font(
 ) -> Result<NewFont, Error> {
     let profile = profile_of(alloc, face, &file, settings, options, requested)?;
     let kind = kind_of(flavor_in(&file), options.program);
-    let program = program_in(alloc, kind, file)?;
+    let program = program_in(alloc, kind, profile.head_box, file)?;
     Ok(NewFont {
         kind,
         program,
