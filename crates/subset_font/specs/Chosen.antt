@@ -29,9 +29,9 @@ abbrev pub LimitsAreChosen : Option RunLimits → Limits → Type 0
 LimitsAreChosen (Some said) limits = (limits.tokens ≡ said.tokens) × (limits.depth ≡ said.depth) × (limits.bytes ≡ said.bytes)
 LimitsAreChosen None limits = (limits.tokens ≡ token_limit) × (limits.depth ≡ depth_limit) × (limits.bytes ≡ None)
 
--- all that isn't declined
+-- all that isn't declined; with `--small` none of it
 abbrev pub extras_chosen : Switches → Extras
-extras_chosen s = record { hinting = not s.no_hinting; names = not s.no_names; glyph_names = not s.no_glyph_names }
+extras_chosen s = if s.small then record { hinting = false; names = false; glyph_names = false } else record { hinting = not s.no_hinting; names = not s.no_names; glyph_names = not s.no_glyph_names }
 
 -- `--quiet` goes before `--json`
 abbrev pub form_chosen : Switches → Form
