@@ -1,5 +1,5 @@
 -- What the options in front of IN choose for a task.
-use Rattle.std.specs.Prelude.{◌≡◌, ◌⊎◌, ℕ, ℤ, List, [], not, if◌then◌else◌, Option, Some, None, string_bytes}
+use Rattle.std.specs.Prelude.{◌≡◌, ◌⊎◌, ℕ, ℤ, List, [], not, false, if◌then◌else◌, Option, Some, None, string_bytes}
 use Rattle.std.specs.Option.{option_copied, option_and_then, option_map}
 use Rattle.subsetter.specs.Limits.{token_limit, depth_limit}
 use Rattle.subsetter_sfnt.specs.declared.extras.Extras.{Extras}
