@@ -16,8 +16,8 @@ FOLDER = ROOT / "crates" / "subset_font" / "completions"
 # What is typed, of which the last word is completed, and what is offered.
 OF_OPTIONS = {"--no-": ["--no-glyph-names", "--no-hinting", "--no-names"], "--gids": ["--gids", "--gids-file"], "--ver": ["--verbose", "--version", "--vertical"],
               "in.ttf --pd": ["--pdf"], "--widths --js": ["--json"], "in.ttf --face": ["--face-index"], "--vertical --out": ["--output-file"], "oth": ["other.otf"], "--json li": ["list.txt"]}
-OF_FILES = {f"{it} oth": ["other.otf"] for it in "-o --output-file --pdf --batch --gids-file --text-file --unicodes-file --axes --info --vertical --no-hinting --no-names --no-glyph-names --widths --verbose --json --quiet".split()}
-OF_VALUES = {f"{it} oth": [] for it in "--text --at --limits --face-index --codes --rights --gids --unicodes".split()}
+OF_FILES = {f"{it} oth": ["other.otf"] for it in "-o --output-file --pdf --batch --gids-file --text-file --unicodes-file --axes --info --vertical --no-hinting --no-names --no-glyph-names --small --widths --verbose --json --quiet".split()}
+OF_VALUES = {f"{it} oth": [] for it in "--text --at --limits --most-input --face-index --codes --rights --gids --unicodes".split()}
 TRIES = {**OF_OPTIONS, **OF_FILES, **OF_VALUES}
 # In zsh an option isn't offered again, by its other name neither.
 OF_ZSH = {"-o other.otf --output": [], "-h --he": [], "--json --js": [], "--gids 1 --gids": ["--gids-file"]}

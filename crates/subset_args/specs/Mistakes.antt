@@ -9,7 +9,7 @@ use Rattle.subset_args.specs.Coordinates.{coordinate_in}
 use Rattle.subset_args.specs.Options.{kind_of, looks_like_option, coding_in, holds_rights}
 use Rattle.subset_args.specs.declared.options.names.Kind.TheVariants.{Place}
 use Rattle.subset_args.specs.declared.mistakes.mistake.Wrong.{Wrong}
-use Rattle.subset_args.specs.declared.mistakes.mistake.Wrong.TheVariants.{NoInput, NoOutput, NoIndex, NoGlyphs, Further, BehindShown, Late, ShownLate, NoBatchFile, BehindBatch, BatchLate, Unknown, Twice, NoValue, GlyphsTwice, BesideOption, InputTwice, Index, FaceIndex, Glyph, Limits, Coordinate, Part, Descends, Codes, CodesDescend, TooMany, BesideInput, NoOutputOption, NoSource, Coding, Rights, NoPdf, OutputTwice}
+use Rattle.subset_args.specs.declared.mistakes.mistake.Wrong.TheVariants.{NoInput, NoOutput, NoIndex, NoGlyphs, Further, BehindShown, Late, ShownLate, NoBatchFile, BehindBatch, BatchLate, Unknown, Twice, NoValue, GlyphsTwice, BesideOption, InputTwice, Index, FaceIndex, MostInput, Glyph, Limits, Coordinate, Part, Descends, Codes, CodesDescend, TooMany, BesideInput, NoOutputOption, NoSource, Coding, Rights, NoPdf, OutputTwice}
 
 -- what is said of an argument, or of a value that it lists, is so as far as its own bytes show
 abbrev pub IsWrong : Wrong → List ℕ → Type 0
@@ -32,6 +32,7 @@ IsWrong BesideOption word = Unit {0}
 IsWrong InputTwice word = Unit {0}
 IsWrong Index word = number_in_bits 32 word ≡ None
 IsWrong FaceIndex word = number_in_bits 32 word ≡ None
+IsWrong MostInput word = number_in_bits 32 word ≡ None
 IsWrong Glyph word = number_in_bits 16 word ≡ None
 IsWrong Limits word = Unit {0}
 IsWrong Coordinate word = coordinate_in word ≡ None

@@ -5,9 +5,9 @@ use Rattle.std.specs.Str.{bytes_eq}
 use Rattle.subsetter_words.specs.Numbers.{number_in_bits}
 use Rattle.subset_args.specs.Limits.{Bounds, limits_in}
 use Rattle.subset_args.specs.declared.options.names.Switch.{Switch}
-use Rattle.subset_args.specs.declared.options.names.Switch.TheVariants.{Widths, NoHinting, NoNames, NoGlyphNames, Json, Quiet, Verbose, Vertical}
+use Rattle.subset_args.specs.declared.options.names.Switch.TheVariants.{Widths, NoHinting, NoNames, NoGlyphNames, Small, Json, Quiet, Verbose, Vertical}
 use Rattle.subset_args.specs.declared.options.names.Setting.{Setting}
-use Rattle.subset_args.specs.declared.options.names.Setting.TheVariants.{Limits, GidsFile, Text, At, Gids, FaceIndex, Output, TextFile, Unicodes, UnicodesFile, Pdf, Codes, Rights}
+use Rattle.subset_args.specs.declared.options.names.Setting.TheVariants.{Limits, GidsFile, Text, At, Gids, FaceIndex, Output, TextFile, Unicodes, UnicodesFile, Pdf, Codes, Rights, MostInput}
 use Rattle.subset_args.specs.declared.options.names.Coding.{Coding}
 use Rattle.subset_args.specs.declared.options.names.Coding.TheVariants.{Consecutive, Source as InSource, Text as EachText}
 use Rattle.subset_args.specs.declared.options.names.Kind.{Kind}
@@ -23,6 +23,7 @@ switch_of word =
     else if bytes_eq word (codes "--no-hinting") then Some NoHinting
     else if bytes_eq word (codes "--no-names") then Some NoNames
     else if bytes_eq word (codes "--no-glyph-names") then Some NoGlyphNames
+    else if bytes_eq word (codes "--small") then Some Small
     else if bytes_eq word (codes "--json") then Some Json
     else if bytes_eq word (codes "--quiet") then Some Quiet
     else if bytes_eq word (codes "--verbose") then Some Verbose
@@ -46,6 +47,7 @@ setting_of word =
     else if bytes_eq word (codes "--pdf") then Some Pdf
     else if bytes_eq word (codes "--codes") then Some Codes
     else if bytes_eq word (codes "--rights") then Some Rights
+    else if bytes_eq word (codes "--most-input") then Some MostInput
     else None
 
 -- what an argument that is neither is
@@ -72,6 +74,7 @@ is_on Widths all = all.widths
 is_on NoHinting all = all.no_hinting
 is_on NoNames all = all.no_names
 is_on NoGlyphNames all = all.no_glyph_names
+is_on Small all = all.small
 is_on Json all = all.json
 is_on Quiet all = all.quiet
 is_on Verbose all = all.verbose
@@ -83,6 +86,7 @@ switched_on Widths all = record all { widths = true }
 switched_on NoHinting all = record all { no_hinting = true }
 switched_on NoNames all = record all { no_names = true }
 switched_on NoGlyphNames all = record all { no_glyph_names = true }
+switched_on Small all = record all { small = true }
 switched_on Json all = record all { json = true }
 switched_on Quiet all = record all { quiet = true }
 switched_on Verbose all = record all { verbose = true }
@@ -103,6 +107,7 @@ pub record Choice : Type 0 where
   pub at : Option (List ℕ)
   pub output : Option (List ℕ)
   pub index : Option ℕ
+  pub most_input : Option ℕ
   -- the file of a PDF, how its glyphs get codes, and whether the user holds the rights to embed the font
   pub pdf : Option (List ℕ)
   pub coding : Option Coding
@@ -110,7 +115,7 @@ pub record Choice : Type 0 where
 
 -- nothing
 abbrev pub no_choice : Choice
-no_choice = record { switches = record { widths = false; no_hinting = false; no_names = false; no_glyph_names = false; json = false; quiet = false; verbose = false; vertical = false }; limits = None; source = None; at = None; output = None; index = None; pdf = None; coding = None; is_held = false }
+no_choice = record { switches = record { widths = false; no_hinting = false; no_names = false; no_glyph_names = false; small = false; json = false; quiet = false; verbose = false; vertical = false }; limits = None; source = None; at = None; output = None; index = None; most_input = None; pdf = None; coding = None; is_held = false }
 
 -- with an option without a value; none where it was given before
 abbrev pub with_switch : Switch → Choice → Option Choice
@@ -135,6 +140,10 @@ with_output value choice = if is_some choice.output then None else Some (record 
 -- with INDEX; none where it was given before, or is no number
 abbrev pub with_index : List ℕ → Choice → Option Choice
 with_index value choice = if is_some choice.index then None else option_map (λ index. record choice { index = Some index }) (number_in_bits 32 value)
+
+-- with the most bytes of IN; none where they were given before, or are no number
+abbrev pub with_most_input : List ℕ → Choice → Option Choice
+with_most_input value choice = if is_some choice.most_input then None else option_map (λ most. record choice { most_input = Some most }) (number_in_bits 32 value)
 
 -- with the file of a PDF; none where it was given before
 abbrev pub with_pdf : List ℕ → Choice → Option Choice
@@ -174,6 +183,7 @@ with_setting UnicodesFile value choice = with_source (in_file OfCharacters value
 with_setting Pdf value choice = with_pdf value choice
 with_setting Codes value choice = with_coding value choice
 with_setting Rights value choice = with_rights value choice
+with_setting MostInput value choice = with_most_input value choice
 
 -- what the arguments with options in front say: that help or the version is wanted, or what is chosen, and the arguments behind the options
 pub data Options : Type 0 where

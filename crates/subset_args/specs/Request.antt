@@ -57,6 +57,8 @@ pub record Request : Type 0 where
   -- the file of the new font; it may be missing where a PDF is requested
   pub output : Option (List ℕ)
   pub index : ℕ
+  -- the most bytes of the input, if that is given
+  pub most_input : Option ℕ
   pub glyphs : RequestedGlyphs
   -- where on the axes of a variable font, if that is specified
   pub position : Option Position
@@ -131,7 +133,7 @@ is_same None other = false
 
 -- what is asked for, where standard input isn't to be read twice, and no file written twice
 abbrev pub request_of : Choice → List ℕ → Option (List ℕ) → ℕ → RequestedGlyphs → Option Request
-request_of choice input output index glyphs = if (is_stream input && lists_in_stream glyphs) || is_same output choice.pdf then None else option_and_then (λ pdf. option_map (λ at. record { switches = choice.switches; limits = choice.limits; input = input; output = output; index = index; glyphs = glyphs; position = at; pdf = pdf }) (position_option choice.at)) (pdf_by choice.pdf choice)
+request_of choice input output index glyphs = if (is_stream input && lists_in_stream glyphs) || is_same output choice.pdf then None else option_and_then (λ pdf. option_map (λ at. record { switches = choice.switches; limits = choice.limits; input = input; output = output; index = index; most_input = choice.most_input; glyphs = glyphs; position = at; pdf = pdf }) (position_option choice.at)) (pdf_by choice.pdf choice)
 
 -- what is requested by IN, OUT, INDEX and the arguments behind them
 abbrev pub request_behind : Choice → List ℕ → Option (List ℕ) → ℕ → List (List ℕ) → Option Request

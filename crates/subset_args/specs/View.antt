@@ -26,7 +26,7 @@ source_view (InList text) = in_list text.now
 source_view (InCodes text) = in_codes text.now
 
 abbrev pub chosen_view : Chosen → Choice
-chosen_view c = record { switches = c.switches; limits = option_map limits_view c.limits; source = option_map source_view c.source; at = option_copied c.at; output = option_copied c.output; index = c.index; pdf = option_copied c.pdf; coding = c.coding; is_held = c.is_held }
+chosen_view c = record { switches = c.switches; limits = option_map limits_view c.limits; source = option_map source_view c.source; at = option_copied c.at; output = option_copied c.output; index = c.index; most_input = c.most_input; pdf = option_copied c.pdf; coding = c.coding; is_held = c.is_held }
 
 abbrev pub parsed_view : Parsed → Options
 parsed_view Help = helped
@@ -51,7 +51,7 @@ abbrev pub pdf_view : PdfJob → PdfRequest
 pdf_view pdf = record { file = string_bytes pdf.file; choice = pdf.choice }
 
 abbrev pub job_view : Job → Request
-job_view job = record { switches = job.switches; limits = option_map limits_view job.limits; input = string_bytes job.input; output = option_map (λ name. string_bytes name) job.output; index = job.index; glyphs = requested_view job.glyphs; position = option_map position_view job.position; pdf = option_map pdf_view job.pdf }
+job_view job = record { switches = job.switches; limits = option_map limits_view job.limits; input = string_bytes job.input; output = option_map (λ name. string_bytes name) job.output; index = job.index; most_input = job.most_input; glyphs = requested_view job.glyphs; position = option_map position_view job.position; pdf = option_map pdf_view job.pdf }
 
 abbrev pub command_view : Command → Wanted
 command_view ForHelp = help

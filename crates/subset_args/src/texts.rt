@@ -72,6 +72,7 @@ impl fmt::Display for Mistake<'_> {
             Wrong::InputTwice => write!(f, "{word}: standard input is requested twice"),
             Wrong::Index => write!(f, "INDEX \"{word}\" is not a number"),
             Wrong::FaceIndex => write!(f, "--face-index: \"{word}\" is not a number"),
+            Wrong::MostInput => write!(f, "--most-input: \"{word}\" is not a number"),
             Wrong::Glyph => write!(f, "GID \"{word}\" is not a glyph number"),
             Wrong::Limits => write!(f, "--limits: \"{word}\" is not TOKENS,DEPTH[,BYTES]"),
             Wrong::Coordinate => write!(f, "--at: \"{word}\" is not TAG=VALUE"),
@@ -134,6 +135,7 @@ fn expected(wrong: Wrong) -> &'static str {
             "expected: GID or one of --gids, --text and --unicodes or their -file"
         }
         Wrong::InputTwice => "expected: - for IN or for FILE, not for both",
+        Wrong::MostInput => "expected: a number of bytes to 4294967295",
         Wrong::Glyph => "expected: numbers from 0 to 65535, with commas, as 36,37,38",
         Wrong::Limits => "expected: numbers, as 1000000,64, with DEPTH from 1 to 255",
         Wrong::Coordinate => { "expected: coordinates as wght=650,wdth=87.5, or a name alone" }

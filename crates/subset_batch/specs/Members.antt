@@ -22,6 +22,7 @@ flag_of name =
     else if bytes_eq name (codes "no-hinting") then Some Flag
     else if bytes_eq name (codes "no-names") then Some Flag
     else if bytes_eq name (codes "no-glyph-names") then Some Flag
+    else if bytes_eq name (codes "small") then Some Flag
     else if bytes_eq name (codes "json") then Some Flag
     else if bytes_eq name (codes "quiet") then Some Flag
     else if bytes_eq name (codes "verbose") then Some Flag

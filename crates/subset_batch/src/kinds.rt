@@ -29,6 +29,7 @@ fn flag_of(name: &str) -> Option<Kind>
         "no-hinting" => Some(Kind::Flag),
         "no-names" => Some(Kind::Flag),
         "no-glyph-names" => Some(Kind::Flag),
+        "small" => Some(Kind::Flag),
         "json" => Some(Kind::Flag),
         "quiet" => Some(Kind::Flag),
         "verbose" => Some(Kind::Flag),

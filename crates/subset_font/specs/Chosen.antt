@@ -1,5 +1,5 @@
 -- What the options in front of IN choose for a task.
-use Rattle.std.specs.Prelude.{◌≡◌, ◌⊎◌, ℕ, ℤ, List, [], not, if◌then◌else◌, Option, Some, None, string_bytes}
+use Rattle.std.specs.Prelude.{◌≡◌, ◌⊎◌, ℕ, ℤ, List, [], not, false, if◌then◌else◌, Option, Some, None, string_bytes}
 use Rattle.std.specs.Option.{option_copied, option_and_then, option_map}
 use Rattle.subsetter.specs.Limits.{token_limit, depth_limit}
 use Rattle.subsetter_sfnt.specs.declared.extras.Extras.{Extras}
@@ -29,9 +29,9 @@ abbrev pub LimitsAreChosen : Option RunLimits → Limits → Type 0
 LimitsAreChosen (Some said) limits = (limits.tokens ≡ said.tokens) × (limits.depth ≡ said.depth) × (limits.bytes ≡ said.bytes)
 LimitsAreChosen None limits = (limits.tokens ≡ token_limit) × (limits.depth ≡ depth_limit) × (limits.bytes ≡ None)
 
--- all that isn't declined
+-- all that isn't declined; with `--small` none of it
 abbrev pub extras_chosen : Switches → Extras
-extras_chosen s = record { hinting = not s.no_hinting; names = not s.no_names; glyph_names = not s.no_glyph_names }
+extras_chosen s = if s.small then record { hinting = false; names = false; glyph_names = false } else record { hinting = not s.no_hinting; names = not s.no_names; glyph_names = not s.no_glyph_names }
 
 -- `--quiet` goes before `--json`
 abbrev pub form_chosen : Switches → Form

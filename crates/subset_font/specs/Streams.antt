@@ -1,5 +1,5 @@
 -- What a run reads from and writes to, by the names that it is given.
-use Rattle.std.specs.Prelude.{◌≡◌, ℕ, true, false, Option, Some, None, List}
+use Rattle.std.specs.Prelude.{◌≡◌, ℕ, ◌+◌, true, false, Option, Some, None, List}
 use Rattle.std.specs.Borrow.{Bor}
 use Rattle.std.specs.Option.{option_map}
 use Rattle.subset_args.specs.Request.{is_stream}
@@ -8,10 +8,10 @@ use Rattle.subset_font.specs.declared.streams.Source.TheVariants.{File as FromFi
 use Rattle.subset_font.specs.declared.streams.Target.{Target}
 use Rattle.subset_font.specs.declared.streams.Target.TheVariants.{File as ToFile, Standard as ToStream, Nowhere}
 
--- standard input by the one name that means it, else a file
-abbrev pub IsSource : {F S : Type 0} → List ℕ → Source F S → Type 0
-IsSource name (FromFile file left) = is_stream name ≡ false
-IsSource name (FromStream stream left) = is_stream name ≡ true
+-- standard input by the one name that means it, else a file, of which a byte more is read than so many
+abbrev pub IsSource : {F S : Type 0} → List ℕ → ℕ → Source F S → Type 0
+IsSource name most (FromFile file left) = (is_stream name ≡ false) × (left ≡ most + 1)
+IsSource name most (FromStream stream left) = (is_stream name ≡ true) × (left ≡ most + 1)
 
 -- the bytes that it has left, where those of the file or of the stream are known
 abbrev pub source_left : {F S : Type 0} → (F → Option (List ℕ)) → (S → Option (List ℕ)) → Source F S → Option (List ℕ)

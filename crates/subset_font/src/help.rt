@@ -52,6 +52,8 @@ Which files:
                     the new font
   --face-index INDEX
                     the face, with -o or --pdf (default 0)
+  --most-input BYTES
+                    the most bytes of IN (default 1 GiB)
 
 A PDF that shows the glyphs, also in place of OUT:
   --pdf FILE        the PDF, with their font: the line of
@@ -76,6 +78,7 @@ What the new font has:
                     outlines
   --no-names        leaves out the table name
   --no-glyph-names  leaves out the names of glyphs in post
+  --small           leaves out all three
   --limits TOKENS,DEPTH[,BYTES]
                     the most numbers and operators of a
                     glyph, the greatest depth of its

@@ -14,8 +14,8 @@ use std::rt::Files;
 use std::{fs, io};
 use subset_args::is_stream;
 
-/// The most bytes that are read of a file or a stream.
-pub const MOST_INPUT: u64 = 1 << 30;
+/// The most bytes that are read of a file or a stream where an option doesn't say so.
+pub const MOST_INPUT: u32 = 1 << 30;
 
 /// What the font or a list of glyphs is read from, and how many bytes may still be.
 #[derive(Drop)]
@@ -52,15 +52,20 @@ impl<F: Read + Drop, S: Read + Drop> Read for Source<F, S> {
     }
 }
 
-/// Opens what is read, of which a byte more than may be is read, to see the end.
-pub fn open_source<R: Files + Input>(rt: &R, name: &str) -> io::Result<Source<R::File, R::Reader>>
-    ensures ok { IfOk result (IsSource name.now) }
+/// Opens what is read, so many bytes at most. A byte more than these is read, to see the end.
+pub fn open_source<R: Files + Input>(
+    rt: &R,
+    name: &str,
+    most: u32,
+) -> io::Result<Source<R::File, R::Reader>>
+    ensures ok { IfOk result (IsSource name.now most) }
     ensures err { OnErr result (is_stream name.now ≡ false) }
 {
+    let left = u64::from(most) + 1;
     if is_stream(name) {
-        return Ok(Source::Standard(rt.reader(), MOST_INPUT + 1));
+        return Ok(Source::Standard(rt.reader(), left));
     }
-    Ok(Source::File(fs::open(rt, name)?, MOST_INPUT + 1))
+    Ok(Source::File(fs::open(rt, name)?, left))
 }
 
 /// Opens three descriptors, of a folder: by these nothing can be read or written. Where a standard stream is closed at the

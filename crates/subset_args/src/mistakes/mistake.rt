@@ -44,6 +44,8 @@ pub enum Wrong {
     Index,
     /// The value of `--face-index` isn't a number below 2^32.
     FaceIndex,
+    /// The value of `--most-input` isn't a number below 2^32.
+    MostInput,
     /// GID isn't a number below 2^16.
     Glyph,
     /// It isn't TOKENS,DEPTH[,BYTES].

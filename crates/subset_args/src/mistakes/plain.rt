@@ -8,8 +8,8 @@ ghost use Rattle.subset_args.specs.declared.options.names.Kind.TheVariants.{Plac
 use crate::jobs::reading::{is_batch, topic_of};
 use crate::mistakes::mistake::{Mistake, Wrong, mistake_at};
 use crate::mistakes::values::{
-    wrong_coding, wrong_face_index, wrong_glyph, wrong_index, wrong_rest, wrong_rights,
-    wrong_source,
+    wrong_coding, wrong_face_index, wrong_glyph, wrong_index, wrong_most_input, wrong_rest,
+    wrong_rights, wrong_source,
 };
 use crate::options::chosen::Chosen;
 use crate::options::names::{Kind, Setting, kind_of};
@@ -169,6 +169,7 @@ pub fn wrong_setting<'a>(
     match setting {
         Setting::Limits if chosen.limits.is_none() => mistake_at(Wrong::Limits, value),
         Setting::FaceIndex if chosen.index.is_none() => wrong_face_index(value),
+        Setting::MostInput if chosen.most_input.is_none() => wrong_most_input(value),
         Setting::Codes if chosen.coding.is_none() => wrong_coding(value),
         Setting::Rights if !chosen.is_held => wrong_rights(value),
         Setting::GidsFile

@@ -2,7 +2,7 @@
 
 ghost use Rattle.std.specs.Prelude.{◌≡◌};
 ghost use Rattle.std.specs.Option.{option_map};
-ghost use Rattle.subset_args.specs.Options.{is_on, switched_on, with_switch, with_limits, with_source, with_at, with_output, with_index, with_pdf, with_coding, with_rights, with_setting};
+ghost use Rattle.subset_args.specs.Options.{is_on, switched_on, with_switch, with_limits, with_source, with_at, with_output, with_index, with_most_input, with_pdf, with_coding, with_rights, with_setting};
 ghost use Rattle.subset_args.specs.View.{source_view, chosen_view};
 
 use crate::limits::RunLimits;
@@ -18,6 +18,7 @@ pub struct Switches {
     pub no_hinting: bool,
     pub no_names: bool,
     pub no_glyph_names: bool,
+    pub small: bool,
     pub json: bool,
     pub quiet: bool,
     pub verbose: bool,
@@ -31,6 +32,7 @@ impl Switches {
         no_hinting: false,
         no_names: false,
         no_glyph_names: false,
+        small: false,
         json: false,
         quiet: false,
         verbose: false,
@@ -46,6 +48,7 @@ impl Switches {
             Switch::NoHinting => self.no_hinting,
             Switch::NoNames => self.no_names,
             Switch::NoGlyphNames => self.no_glyph_names,
+            Switch::Small => self.small,
             Switch::Json => self.json,
             Switch::Quiet => self.quiet,
             Switch::Verbose => self.verbose,
@@ -63,6 +66,7 @@ impl Switches {
             Switch::NoHinting => all.no_hinting = true,
             Switch::NoNames => all.no_names = true,
             Switch::NoGlyphNames => all.no_glyph_names = true,
+            Switch::Small => all.small = true,
             Switch::Json => all.json = true,
             Switch::Quiet => all.quiet = true,
             Switch::Verbose => all.verbose = true,
@@ -98,6 +102,8 @@ pub struct Chosen<'a> {
     pub output: Option<&'a str>,
     /// INDEX, if an option gives it.
     pub index: Option<u32>,
+    /// The most bytes of IN, if that is given.
+    pub most_input: Option<u32>,
     /// The file of a PDF, if one is requested.
     pub pdf: Option<&'a str>,
     /// How its glyphs get codes, if that is given.
@@ -115,6 +121,7 @@ impl<'a> Chosen<'a> {
         at: None,
         output: None,
         index: None,
+        most_input: None,
         pdf: None,
         coding: None,
         is_held: false,
@@ -134,6 +141,7 @@ impl<'a> Chosen<'a> {
             at: self.at,
             output: self.output,
             index: self.index,
+            most_input: self.most_input,
             pdf: self.pdf,
             coding: self.coding,
             is_held: self.is_held,
@@ -158,6 +166,7 @@ impl<'a> Chosen<'a> {
             Setting::Pdf => self.with_pdf(value),
             Setting::Codes => self.with_coding(value),
             Setting::Rights => self.with_rights(value),
+            Setting::MostInput => self.with_most_input(value),
         }
     }
 
@@ -175,6 +184,7 @@ impl<'a> Chosen<'a> {
             at: self.at,
             output: self.output,
             index: self.index,
+            most_input: self.most_input,
             pdf: self.pdf,
             coding: self.coding,
             is_held: self.is_held,
@@ -195,6 +205,7 @@ impl<'a> Chosen<'a> {
             at: self.at,
             output: self.output,
             index: self.index,
+            most_input: self.most_input,
             pdf: self.pdf,
             coding: self.coding,
             is_held: self.is_held,
@@ -215,6 +226,7 @@ impl<'a> Chosen<'a> {
             at: Some(value),
             output: self.output,
             index: self.index,
+            most_input: self.most_input,
             pdf: self.pdf,
             coding: self.coding,
             is_held: self.is_held,
@@ -235,6 +247,7 @@ impl<'a> Chosen<'a> {
             at: self.at,
             output: Some(value),
             index: self.index,
+            most_input: self.most_input,
             pdf: self.pdf,
             coding: self.coding,
             is_held: self.is_held,
@@ -255,6 +268,28 @@ impl<'a> Chosen<'a> {
             at: self.at,
             output: self.output,
             index: Some(u32_of(value)?),
+            most_input: self.most_input,
+            pdf: self.pdf,
+            coding: self.coding,
+            is_held: self.is_held,
+        })
+    }
+
+    /// With the most bytes of IN.
+    fn with_most_input(self, value: &str) -> Option<Chosen<'a>>
+        ensures { option_map chosen_view result ≡ with_most_input value.now (chosen_view self.entry) }
+    {
+        if self.most_input.is_some() {
+            return None;
+        }
+        Some(Chosen {
+            switches: self.switches,
+            limits: self.limits,
+            source: self.source,
+            at: self.at,
+            output: self.output,
+            index: self.index,
+            most_input: Some(u32_of(value)?),
             pdf: self.pdf,
             coding: self.coding,
             is_held: self.is_held,
@@ -275,6 +310,7 @@ impl<'a> Chosen<'a> {
             at: self.at,
             output: self.output,
             index: self.index,
+            most_input: self.most_input,
             pdf: Some(value),
             coding: self.coding,
             is_held: self.is_held,
@@ -295,6 +331,7 @@ impl<'a> Chosen<'a> {
             at: self.at,
             output: self.output,
             index: self.index,
+            most_input: self.most_input,
             pdf: self.pdf,
             coding: Some(coding_of(value)?),
             is_held: self.is_held,
@@ -315,6 +352,7 @@ impl<'a> Chosen<'a> {
             at: self.at,
             output: self.output,
             index: self.index,
+            most_input: self.most_input,
             pdf: self.pdf,
             coding: self.coding,
             is_held: true,

@@ -16,6 +16,8 @@ pub enum Switch {
     NoNames,
     /// `--no-glyph-names`
     NoGlyphNames,
+    /// `--small`
+    Small,
     /// `--json`
     Json,
     /// `--quiet`
@@ -55,6 +57,8 @@ pub enum Setting {
     Codes,
     /// `--rights held`
     Rights,
+    /// `--most-input BYTES`
+    MostInput,
 }
 
 /// How the glyphs of a PDF get codes.
@@ -97,7 +101,7 @@ pub enum Kind {
 }
 
 /// The options with a name, in the order of the help.
-pub const OPTIONS: [&str; 26] = [
+pub const OPTIONS: [&str; 28] = [
     "--gids",
     "--gids-file",
     "--text",
@@ -106,6 +110,7 @@ pub const OPTIONS: [&str; 26] = [
     "--unicodes-file",
     "--output-file",
     "--face-index",
+    "--most-input",
     "--pdf",
     "--vertical",
     "--codes",
@@ -114,6 +119,7 @@ pub const OPTIONS: [&str; 26] = [
     "--no-hinting",
     "--no-names",
     "--no-glyph-names",
+    "--small",
     "--limits",
     "--widths",
     "--verbose",
@@ -135,6 +141,7 @@ fn switch_of(word: &str) -> Option<Switch>
         "--no-hinting" => Some(Switch::NoHinting),
         "--no-names" => Some(Switch::NoNames),
         "--no-glyph-names" => Some(Switch::NoGlyphNames),
+        "--small" => Some(Switch::Small),
         "--json" => Some(Switch::Json),
         "--quiet" => Some(Switch::Quiet),
         "--verbose" => Some(Switch::Verbose),
@@ -162,6 +169,7 @@ fn setting_of(word: &str) -> Option<Setting>
         "--pdf" => Some(Setting::Pdf),
         "--codes" => Some(Setting::Codes),
         "--rights" => Some(Setting::Rights),
+        "--most-input" => Some(Setting::MostInput),
         _ => None,
     }
 }

@@ -19,7 +19,7 @@ use crate::output::{write_font, write_numbers, write_page};
 use crate::refusals::failure::{Failure, file_by, given, list_file, pdf_file};
 use crate::run::job::{open_font, room_of};
 use crate::run::request::{list_of, plan_of};
-use crate::streams::{Target, is_to_standard_output};
+use crate::streams::{MOST_INPUT, Target, is_to_standard_output};
 use crate::task::{Form, Plan};
 use std::alloc::{AllocError, Global};
 use std::io::Write;
@@ -36,8 +36,8 @@ pub fn read_source<R: Files + Input + AllocGlobal>(rt: &R, name: &str) -> Result
     ensures { IfErr result (λ e. e ≡ CannotRead) }
 {
     let mut reason = None;
-    let mut source = open_font(rt, name, &mut reason)?;
-    let room = room_of(&source, &mut reason)?;
+    let mut source = open_font(rt, name, MOST_INPUT, &mut reason)?;
+    let room = room_of(&source, MOST_INPUT, &mut reason)?;
     read_whole(rt.alloc(), &mut source, room)
 }
 

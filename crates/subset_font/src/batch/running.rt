@@ -15,7 +15,7 @@ use crate::making::carried::read_whole;
 use crate::refusals::failure::Failure;
 use crate::refusals::reason::{Noted, unread};
 use crate::run::reports::report_refused;
-use crate::streams::{is_shown, open_source};
+use crate::streams::{MOST_INPUT, is_shown, open_source};
 use std::alloc::AllocError;
 use std::io::{BufWriter, ErrorKind, Write};
 use std::rt::Files;
@@ -42,7 +42,7 @@ pub fn read_lines<R: Files + Input + Eprint + AllocGlobal>(
 ) -> Result<Vec<u8>, u8>
     ensures { IfErr result (λ status. status ≡ 2) }
 {
-    let mut file = match open_source(rt, name) {
+    let mut file = match open_source(rt, name, MOST_INPUT) {
         Ok(file) => Noted::new(file),
         Err(error) => return Err(refuse_file(rt, name, Some(error))),
     };

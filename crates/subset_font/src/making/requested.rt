@@ -1,11 +1,9 @@
 //! Which glyphs are kept of the font that was read.
 
-ghost use Rattle.std.specs.Prelude.{◌≡◌, ◌⊎◌, [], map, IfOk, IfErr};
+ghost use Rattle.std.specs.Prelude.{◌≡◌, ◌⊎◌, [], IfOk, IfErr};
 ghost use Rattle.std.specs.Str.{encode_utf8_all};
 ghost use Rattle.subset_args.specs.Listing.Lists.{counting};
 ghost use Rattle.subsetter_sfnt.specs.Extras.{all_extras};
-ghost use Rattle.cmap.specs.Subtable.{glyph_of};
-ghost use Rattle.cmap.specs.View.{mapping_view};
 ghost use Rattle.subset_font.specs.Making.Requested.{IsRequested, IsUnasked};
 ghost use Rattle.subset_font.specs.declared.task.RequestedGlyphs.TheVariants.{Every, ByText, ByCharacters};
 ghost use Rattle.subset_font.specs.declared.refusals.failure.Failure.TheVariants.{Error as Refused};
@@ -14,7 +12,7 @@ ghost use Rattle.subsetter_base.specs.declared.error.Error.TheVariants.{OutOfMem
 use crate::faces::face::{count_glyphs, find_mapping};
 use crate::refusals::failure::Failure;
 use crate::task::RequestedGlyphs;
-use cmap::Subtable;
+use cmap::glyphs_of;
 use std::alloc::{AllocError, Global};
 use subsetter::Error;
 
@@ -30,21 +28,6 @@ fn characters_of(alloc: Global, text: &str) -> Result<Vec<char>, AllocError>
     ensures { IfOk result (λ v. encode_utf8_all v.items ≡ text.now) }
 {
     text.chars().collect(alloc)
-}
-
-/// The glyph of each character.
-fn glyphs_of(
-    alloc: Global,
-    mapping: &Subtable<'_>,
-    characters: &[char],
-) -> Result<Vec<u16>, AllocError>
-    ensures { IfOk result (λ v. v.items ≡ map (glyph_of (mapping_view mapping.now)) characters.now) }
-{
-    let mut glyphs = Vec::new(alloc);
-    for character in characters {
-        glyphs.push(mapping.glyph_of(*character))?;
-    }
-    Ok(glyphs)
 }
 
 /// So many glyphs, from 0 on.

@@ -20,15 +20,16 @@ use std::rt::Files;
 use subset_args::Job;
 use subsetter::Error;
 
-/// Opens the font's file or stream. Why it can't be opened is kept.
+/// Opens the font's file or stream, of so many bytes at most. Why it can't be opened is kept.
 pub fn open_font<R: Files + Input>(
     rt: &R,
     name: &str,
+    most: u32,
     reason: &mut Option<io::Error>,
 ) -> Result<Source<R::File, R::Reader>, Failure>
     ensures { IfErr result (λ e. e ≡ CannotRead) }
 {
-    match open_source(rt, name) {
+    match open_source(rt, name, most) {
         Ok(source) => Ok(source),
         Err(error) => {
             *reason = Some(error);
@@ -41,6 +42,7 @@ pub fn open_font<R: Files + Input>(
 /// the size can't be had, or is too large, is kept.
 pub fn room_of<F: OpenFile + Read + Drop, S: Read + Drop>(
     source: &Source<F, S>,
+    most: u32,
     reason: &mut Option<io::Error>,
 ) -> Result<usize, Failure>
     ensures { IfErr result (λ e. e ≡ CannotRead) }
@@ -49,7 +51,7 @@ pub fn room_of<F: OpenFile + Read + Drop, S: Read + Drop>(
         return Ok(0);
     };
     match file.metadata() {
-        Ok(about) if about.len() > MOST_INPUT => {
+        Ok(about) if about.len() > u64::from(most) => {
             *reason = Some(io::Error::from(ErrorKind::FileTooLarge));
             Err(Failure::Read)
         }
@@ -92,8 +94,9 @@ fn perform<R: Files + Print + Eprint + Input + AllocGlobal>(
 ) -> Result<(), Failure>
     ensures { IfErr result (λ e. e ≢ Usage) }
 {
-    let opened = open_font(rt, job.input.as_str(), reason)?;
-    let room = room_of(&opened, reason)?;
+    let most = job.most_input.unwrap_or(MOST_INPUT);
+    let opened = open_font(rt, job.input.as_str(), most, reason)?;
+    let room = room_of(&opened, most, reason)?;
     let mut input = Noted::new(opened);
     let mut page = Noted::new(Target::new(rt, pdf_file(job)));
     let mut output = Noted::new(Target::new(rt, given(&job.output)));

@@ -9,7 +9,7 @@ ghost use Rattle.subsetter_base.specs.declared.error.Error.TheVariants.{OutOfMem
 use crate::making::carried::read_whole;
 use crate::refusals::failure::Failure;
 use crate::refusals::reason::{Noted, unread};
-use crate::streams::open_source;
+use crate::streams::{MOST_INPUT, open_source};
 use crate::task::{
     Plan, RequestedGlyphs, Task, at_of, extras_of, form_of, instance_of, limits_of, pdf_of,
 };
@@ -52,7 +52,7 @@ fn read_list_file<R: Files + Input + AllocGlobal>(
 ) -> Result<GlyphList, Failure>
     ensures { IfErr result IsUnlisted }
 {
-    let mut file = match open_source(rt, name) {
+    let mut file = match open_source(rt, name, MOST_INPUT) {
         Ok(file) => Noted::new(file),
         Err(error) => {
             *reason = Some(error);

@@ -9,6 +9,7 @@ use crate::refusals::failure::Failure;
 use crate::refusals::reason::{Noted, reason_of};
 use crate::run::job::{open_font, room_of};
 use crate::run::reports::{report_refused, report_shown};
+use crate::streams::MOST_INPUT;
 use std::alloc::Global;
 use std::io;
 use std::io::{BufWriter, Read, Write};
@@ -50,8 +51,8 @@ fn perform_shown<R: Files + Print + Input + AllocGlobal>(
 ) -> Result<(), Failure>
     ensures { IfErr result (λ e. e ≢ Usage) }
 {
-    let opened = open_font(rt, input, reason)?;
-    let room = room_of(&opened, reason)?;
+    let opened = open_font(rt, input, MOST_INPUT, reason)?;
+    let room = room_of(&opened, MOST_INPUT, reason)?;
     let mut input = Noted::new(opened);
     let mut lines = Noted::new(io::writer(rt));
     let ended = show_buffered(

@@ -10,8 +10,8 @@ use crate::rattle::os::unix::fs::MetadataExt;
 use crate::rattle::rt::Files;
 use crate::rattle::{fs, io};
 
-/// The most bytes that are read of a file or a stream.
-pub const MOST_INPUT: u64 = 1 << 30;
+/// The most bytes that are read of a file or a stream where an option doesn't say so.
+pub const MOST_INPUT: u32 = 1 << 30;
 
 /// What the font or a list of glyphs is read from, and how many bytes may still be.
 pub enum Source<F: Read, S: Read> {
@@ -40,12 +40,17 @@ impl<F: Read, S: Read> Read for Source<F, S> {
     }
 }
 
-/// Opens what is read, of which a byte more than may be is read, to see the end.
-pub fn open_source<R: Files + Input>(rt: &R, name: &str) -> io::Result<Source<R::File, R::Reader>> {
+/// Opens what is read, so many bytes at most. A byte more than these is read, to see the end.
+pub fn open_source<R: Files + Input>(
+    rt: &R,
+    name: &str,
+    most: u32,
+) -> io::Result<Source<R::File, R::Reader>> {
+    let left = u64::from(most) + 1;
     if is_stream(name) {
-        return Ok(Source::Standard(rt.reader(), MOST_INPUT + 1));
+        return Ok(Source::Standard(rt.reader(), left));
     }
-    Ok(Source::File(fs::open(rt, name)?, MOST_INPUT + 1))
+    Ok(Source::File(fs::open(rt, name)?, left))
 }
 
 /// Opens three descriptors, of a folder: by these nothing can be read or written. Where a standard stream is closed at the

@@ -77,8 +77,15 @@ pub fn limits_of(limits: Option<RunLimits>) -> Limits {
     }
 }
 
-/// What is kept besides outlines and metrics: all that isn't declined.
+/// What is kept besides outlines and metrics: all that isn't declined, with `--small` none of it.
 pub fn extras_of(switches: Switches) -> Extras {
+    if switches.small {
+        return Extras {
+            hinting: false,
+            names: false,
+            glyph_names: false,
+        };
+    }
     Extras {
         hinting: !switches.no_hinting,
         names: !switches.no_names,

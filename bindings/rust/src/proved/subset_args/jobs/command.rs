@@ -57,6 +57,8 @@ pub struct Job {
     pub output: Option<String>,
     /// The font of a collection, from 0.
     pub index: u32,
+    /// The most bytes of the source font's file, if that is given.
+    pub most_input: Option<u32>,
     /// The glyphs to keep.
     pub glyphs: Glyphs,
     /// How far the charstring of a glyph may run, if that is given.

@@ -30,6 +30,7 @@ fn job_with(
         input: String::from_str(alloc, input)?,
         output: owned(alloc, output)?,
         index,
+        most_input: chosen.most_input,
         glyphs,
         limits: chosen.limits,
         switches: chosen.switches,

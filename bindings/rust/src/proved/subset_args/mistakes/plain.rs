@@ -6,8 +6,8 @@ use crate::rattle::prelude::String;
 use crate::proved::subset_args::jobs::reading::{is_batch, topic_of};
 use crate::proved::subset_args::mistakes::mistake::{mistake_at, Mistake, Wrong};
 use crate::proved::subset_args::mistakes::values::{
-    wrong_coding, wrong_face_index, wrong_glyph, wrong_index, wrong_rest, wrong_rights,
-    wrong_source,
+    wrong_coding, wrong_face_index, wrong_glyph, wrong_index, wrong_most_input, wrong_rest,
+    wrong_rights, wrong_source,
 };
 use crate::proved::subset_args::options::chosen::Chosen;
 use crate::proved::subset_args::options::names::{kind_of, Kind, Setting};
@@ -147,6 +147,7 @@ pub fn wrong_setting<'a>(
     match setting {
         Setting::Limits if chosen.limits.is_none() => mistake_at(Wrong::Limits, value),
         Setting::FaceIndex if chosen.index.is_none() => wrong_face_index(value),
+        Setting::MostInput if chosen.most_input.is_none() => wrong_most_input(value),
         Setting::Codes if chosen.coding.is_none() => wrong_coding(value),
         Setting::Rights if !chosen.is_held => wrong_rights(value),
         Setting::GidsFile

@@ -28,6 +28,14 @@ pub fn wrong_face_index(word: &str) -> Option<Mistake<'_>> {
     }
 }
 
+/// The value of `--most-input` that isn't a number.
+pub fn wrong_most_input(word: &str) -> Option<Mistake<'_>> {
+    match u32_of(word) {
+        Some(_) => None,
+        None => mistake_at(Wrong::MostInput, word),
+    }
+}
+
 /// The first value of a list that isn't a glyph's number.
 pub fn wrong_glyph(list: &str) -> Option<Mistake<'_>> {
     for part in list.split(',') {

@@ -14,6 +14,7 @@ pub struct Switches {
     pub no_hinting: bool,
     pub no_names: bool,
     pub no_glyph_names: bool,
+    pub small: bool,
     pub json: bool,
     pub quiet: bool,
     pub verbose: bool,
@@ -27,6 +28,7 @@ impl Switches {
         no_hinting: false,
         no_names: false,
         no_glyph_names: false,
+        small: false,
         json: false,
         quiet: false,
         verbose: false,
@@ -40,6 +42,7 @@ impl Switches {
             Switch::NoHinting => self.no_hinting,
             Switch::NoNames => self.no_names,
             Switch::NoGlyphNames => self.no_glyph_names,
+            Switch::Small => self.small,
             Switch::Json => self.json,
             Switch::Quiet => self.quiet,
             Switch::Verbose => self.verbose,
@@ -55,6 +58,7 @@ impl Switches {
             Switch::NoHinting => all.no_hinting = true,
             Switch::NoNames => all.no_names = true,
             Switch::NoGlyphNames => all.no_glyph_names = true,
+            Switch::Small => all.small = true,
             Switch::Json => all.json = true,
             Switch::Quiet => all.quiet = true,
             Switch::Verbose => all.verbose = true,
@@ -90,6 +94,8 @@ pub struct Chosen<'a> {
     pub output: Option<&'a str>,
     /// INDEX, if an option gives it.
     pub index: Option<u32>,
+    /// The most bytes of IN, if that is given.
+    pub most_input: Option<u32>,
     /// The file of a PDF, if one is requested.
     pub pdf: Option<&'a str>,
     /// How its glyphs get codes, if that is given.
@@ -107,6 +113,7 @@ impl<'a> Chosen<'a> {
         at: None,
         output: None,
         index: None,
+        most_input: None,
         pdf: None,
         coding: None,
         is_held: false,
@@ -124,6 +131,7 @@ impl<'a> Chosen<'a> {
             at: self.at,
             output: self.output,
             index: self.index,
+            most_input: self.most_input,
             pdf: self.pdf,
             coding: self.coding,
             is_held: self.is_held,
@@ -146,6 +154,7 @@ impl<'a> Chosen<'a> {
             Setting::Pdf => self.with_pdf(value),
             Setting::Codes => self.with_coding(value),
             Setting::Rights => self.with_rights(value),
+            Setting::MostInput => self.with_most_input(value),
         }
     }
 
@@ -161,6 +170,7 @@ impl<'a> Chosen<'a> {
             at: self.at,
             output: self.output,
             index: self.index,
+            most_input: self.most_input,
             pdf: self.pdf,
             coding: self.coding,
             is_held: self.is_held,
@@ -179,6 +189,7 @@ impl<'a> Chosen<'a> {
             at: self.at,
             output: self.output,
             index: self.index,
+            most_input: self.most_input,
             pdf: self.pdf,
             coding: self.coding,
             is_held: self.is_held,
@@ -197,6 +208,7 @@ impl<'a> Chosen<'a> {
             at: Some(value),
             output: self.output,
             index: self.index,
+            most_input: self.most_input,
             pdf: self.pdf,
             coding: self.coding,
             is_held: self.is_held,
@@ -215,6 +227,7 @@ impl<'a> Chosen<'a> {
             at: self.at,
             output: Some(value),
             index: self.index,
+            most_input: self.most_input,
             pdf: self.pdf,
             coding: self.coding,
             is_held: self.is_held,
@@ -233,6 +246,26 @@ impl<'a> Chosen<'a> {
             at: self.at,
             output: self.output,
             index: Some(u32_of(value)?),
+            most_input: self.most_input,
+            pdf: self.pdf,
+            coding: self.coding,
+            is_held: self.is_held,
+        })
+    }
+
+    /// With the most bytes of IN.
+    fn with_most_input(self, value: &str) -> Option<Chosen<'a>> {
+        if self.most_input.is_some() {
+            return None;
+        }
+        Some(Chosen {
+            switches: self.switches,
+            limits: self.limits,
+            source: self.source,
+            at: self.at,
+            output: self.output,
+            index: self.index,
+            most_input: Some(u32_of(value)?),
             pdf: self.pdf,
             coding: self.coding,
             is_held: self.is_held,
@@ -251,6 +284,7 @@ impl<'a> Chosen<'a> {
             at: self.at,
             output: self.output,
             index: self.index,
+            most_input: self.most_input,
             pdf: Some(value),
             coding: self.coding,
             is_held: self.is_held,
@@ -269,6 +303,7 @@ impl<'a> Chosen<'a> {
             at: self.at,
             output: self.output,
             index: self.index,
+            most_input: self.most_input,
             pdf: self.pdf,
             coding: Some(coding_of(value)?),
             is_held: self.is_held,
@@ -287,6 +322,7 @@ impl<'a> Chosen<'a> {
             at: self.at,
             output: self.output,
             index: self.index,
+            most_input: self.most_input,
             pdf: self.pdf,
             coding: self.coding,
             is_held: true,

@@ -14,6 +14,8 @@ pub enum Switch {
     NoNames,
     /// `--no-glyph-names`
     NoGlyphNames,
+    /// `--small`
+    Small,
     /// `--json`
     Json,
     /// `--quiet`
@@ -53,6 +55,8 @@ pub enum Setting {
     Codes,
     /// `--rights held`
     Rights,
+    /// `--most-input BYTES`
+    MostInput,
 }
 
 /// How the glyphs of a PDF get codes.
@@ -95,7 +99,7 @@ pub enum Kind {
 }
 
 /// The options with a name, in the order of the help.
-pub const OPTIONS: [&str; 26] = [
+pub const OPTIONS: [&str; 28] = [
     "--gids",
     "--gids-file",
     "--text",
@@ -104,6 +108,7 @@ pub const OPTIONS: [&str; 26] = [
     "--unicodes-file",
     "--output-file",
     "--face-index",
+    "--most-input",
     "--pdf",
     "--vertical",
     "--codes",
@@ -112,6 +117,7 @@ pub const OPTIONS: [&str; 26] = [
     "--no-hinting",
     "--no-names",
     "--no-glyph-names",
+    "--small",
     "--limits",
     "--widths",
     "--verbose",
@@ -131,6 +137,7 @@ fn switch_of(word: &str) -> Option<Switch> {
         "--no-hinting" => Some(Switch::NoHinting),
         "--no-names" => Some(Switch::NoNames),
         "--no-glyph-names" => Some(Switch::NoGlyphNames),
+        "--small" => Some(Switch::Small),
         "--json" => Some(Switch::Json),
         "--quiet" => Some(Switch::Quiet),
         "--verbose" => Some(Switch::Verbose),
@@ -156,6 +163,7 @@ fn setting_of(word: &str) -> Option<Setting> {
         "--pdf" => Some(Setting::Pdf),
         "--codes" => Some(Setting::Codes),
         "--rights" => Some(Setting::Rights),
+        "--most-input" => Some(Setting::MostInput),
         _ => None,
     }
 }

@@ -11,7 +11,7 @@ use crate::proved::subset_font::output::{write_font, write_numbers, write_page};
 use crate::proved::subset_font::refusals::failure::{file_by, given, list_file, pdf_file, Failure};
 use crate::proved::subset_font::run::job::{open_font, room_of};
 use crate::proved::subset_font::run::request::{list_of, plan_of};
-use crate::proved::subset_font::streams::{is_to_standard_output, Target};
+use crate::proved::subset_font::streams::{is_to_standard_output, Target, MOST_INPUT};
 use crate::proved::subset_font::task::{Form, Plan};
 use crate::proved::subsetter::Error;
 use crate::proved::subsetter_words::plain_text;
@@ -25,8 +25,8 @@ const AMONG_ANSWERS: u8 = 2;
 /// The bytes of a source.
 pub fn read_source<R: Files + Input + AllocGlobal>(rt: &R, name: &str) -> Result<Vec<u8>, Failure> {
     let mut reason = None;
-    let mut source = open_font(rt, name, &mut reason)?;
-    let room = room_of(&source, &mut reason)?;
+    let mut source = open_font(rt, name, MOST_INPUT, &mut reason)?;
+    let room = room_of(&source, MOST_INPUT, &mut reason)?;
     read_whole(rt.alloc(), &mut source, room)
 }
 

@@ -13,7 +13,7 @@ use crate::proved::subset_font::making::carried::read_whole;
 use crate::proved::subset_font::refusals::failure::Failure;
 use crate::proved::subset_font::refusals::reason::{unread, Noted};
 use crate::proved::subset_font::run::reports::report_refused;
-use crate::proved::subset_font::streams::{is_shown, open_source};
+use crate::proved::subset_font::streams::{is_shown, open_source, MOST_INPUT};
 use crate::proved::subsetter::Error;
 use crate::rattle::alloc::AllocError;
 use crate::rattle::io::{BufWriter, ErrorKind, Write};
@@ -36,7 +36,7 @@ pub fn read_lines<R: Files + Input + Eprint + AllocGlobal>(
     rt: &R,
     name: &str,
 ) -> Result<Vec<u8>, u8> {
-    let mut file = match open_source(rt, name) {
+    let mut file = match open_source(rt, name, MOST_INPUT) {
         Ok(file) => Noted::new(file),
         Err(error) => return Err(refuse_file(rt, name, Some(error))),
     };

@@ -3,7 +3,7 @@
 
 use crate::rattle::prelude::{IteratorExt, Vec};
 
-use crate::proved::cmap::Subtable;
+use crate::proved::cmap::glyphs_of;
 use crate::proved::subset_font::faces::face::{count_glyphs, find_mapping};
 use crate::proved::subset_font::refusals::failure::Failure;
 use crate::proved::subset_font::task::RequestedGlyphs;
@@ -19,19 +19,6 @@ pub struct Picked {
 /// The characters of a text.
 fn characters_of(alloc: Global, text: &str) -> Result<Vec<char>, AllocError> {
     text.chars().collect_with(alloc)
-}
-
-/// The glyph of each character.
-fn glyphs_of(
-    alloc: Global,
-    mapping: &Subtable<'_>,
-    characters: &[char],
-) -> Result<Vec<u16>, AllocError> {
-    let mut glyphs = Vec::new(alloc);
-    for character in characters {
-        glyphs.push(mapping.glyph_of(*character))?;
-    }
-    Ok(glyphs)
 }
 
 /// So many glyphs, from 0 on.

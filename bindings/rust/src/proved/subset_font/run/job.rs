@@ -20,13 +20,14 @@ use crate::rattle::io;
 use crate::rattle::io::{BufWriter, ErrorKind, Read, Write};
 use crate::rattle::rt::Files;
 
-/// Opens the font's file or stream. Why it can't be opened is kept.
+/// Opens the font's file or stream, of so many bytes at most. Why it can't be opened is kept.
 pub fn open_font<R: Files + Input>(
     rt: &R,
     name: &str,
+    most: u32,
     reason: &mut Option<io::Error>,
 ) -> Result<Source<R::File, R::Reader>, Failure> {
-    match open_source(rt, name) {
+    match open_source(rt, name, most) {
         Ok(source) => Ok(source),
         Err(error) => {
             *reason = Some(error);
@@ -39,6 +40,7 @@ pub fn open_font<R: Files + Input>(
 /// the size can't be had, or is too large, is kept.
 pub fn room_of<F: OpenFile + Read, S: Read>(
     source: &Source<F, S>,
+    most: u32,
     reason: &mut Option<io::Error>,
 ) -> Result<usize, Failure> {
     let file = match source {
@@ -48,7 +50,7 @@ pub fn room_of<F: OpenFile + Read, S: Read>(
         }
     };
     match file.metadata() {
-        Ok(about) if about.len() > MOST_INPUT => {
+        Ok(about) if about.len() > u64::from(most) => {
             *reason = Some(io::Error::from(ErrorKind::FileTooLarge));
             Err(Failure::Read)
         }
@@ -90,8 +92,9 @@ fn perform<R: Files + Print + Eprint + Input + AllocGlobal>(
     source: &mut Vec<u8>,
     reason: &mut Option<io::Error>,
 ) -> Result<(), Failure> {
-    let opened = open_font(rt, job.input.as_str(), reason)?;
-    let room = room_of(&opened, reason)?;
+    let most = job.most_input.unwrap_or(MOST_INPUT);
+    let opened = open_font(rt, job.input.as_str(), most, reason)?;
+    let room = room_of(&opened, most, reason)?;
     let mut input = Noted::new(opened);
     let mut page = Noted::new(Target::new(rt, pdf_file(job)));
     let mut output = Noted::new(Target::new(rt, given(&job.output)));

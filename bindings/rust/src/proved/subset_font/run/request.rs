@@ -7,7 +7,7 @@ use crate::proved::subset_args::{read_list, ArgsError, FileKind, GlyphList, Glyp
 use crate::proved::subset_font::making::carried::read_whole;
 use crate::proved::subset_font::refusals::failure::Failure;
 use crate::proved::subset_font::refusals::reason::{unread, Noted};
-use crate::proved::subset_font::streams::open_source;
+use crate::proved::subset_font::streams::{open_source, MOST_INPUT};
 use crate::proved::subset_font::task::{
     at_of, extras_of, form_of, instance_of, limits_of, pdf_of, Plan, RequestedGlyphs, Task,
 };
@@ -42,7 +42,7 @@ fn read_list_file<R: Files + Input + AllocGlobal>(
     text: &mut Vec<u8>,
     reason: &mut Option<io::Error>,
 ) -> Result<GlyphList, Failure> {
-    let mut file = match open_source(rt, name) {
+    let mut file = match open_source(rt, name, MOST_INPUT) {
         Ok(file) => Noted::new(file),
         Err(error) => {
             *reason = Some(error);

@@ -10,6 +10,7 @@ use crate::proved::subset_font::refusals::failure::Failure;
 use crate::proved::subset_font::refusals::reason::{reason_of, Noted};
 use crate::proved::subset_font::run::job::{open_font, room_of};
 use crate::proved::subset_font::run::reports::{report_refused, report_shown};
+use crate::proved::subset_font::streams::MOST_INPUT;
 use crate::proved::subsetter::Error;
 use crate::rattle::alloc::Global;
 use crate::rattle::io;
@@ -49,8 +50,8 @@ fn perform_shown<R: Files + Print + Input + AllocGlobal>(
     source: &mut Vec<u8>,
     reason: &mut Option<io::Error>,
 ) -> Result<(), Failure> {
-    let opened = open_font(rt, input, reason)?;
-    let room = room_of(&opened, reason)?;
+    let opened = open_font(rt, input, MOST_INPUT, reason)?;
+    let room = room_of(&opened, MOST_INPUT, reason)?;
     let mut input = Noted::new(opened);
     let mut lines = Noted::new(io::writer(rt));
     let ended = show_buffered(
