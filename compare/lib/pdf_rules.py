@@ -137,6 +137,24 @@ def box_of(tables, glyph):
     return struct.unpack_from(">hhhh", outline, 2) if len(outline) >= 10 else None
 
 
+def kept_box(program):
+    """The box around the outlines of a new TrueType font; None where it has none."""
+    count = len(program["loca"]) // (4 if field(program["head"], 50, "H") else 2) - 1
+    boxes = [it for it in (box_of(program, glyph) for glyph in range(count)) if it]
+    return [pick(it[side] for it in boxes) for side, pick in enumerate((min, min, max, max))] if boxes else None
+
+
+def boxed(data, box):
+    """A file with this box in its `head`, and the checksums of that."""
+    file, total = bytearray(data), lambda part: sum(struct.unpack(f">{(len(part) + 3) // 4}I", part + bytes(-len(part) % 4))) % 2 ** 32
+    at, size = fonts.directory(data, 0)["head"]
+    struct.pack_into(">4h", file, at + 36, *box)
+    struct.pack_into(">I", file, at + 8, 0)
+    struct.pack_into(">I", file, data.index(b"head", 12) + 4, total(file[at:at + size]))
+    struct.pack_into(">I", file, at + 8, (0xB1B0AFBA - total(file)) % 2 ** 32)
+    return bytes(file)
+
+
 # ---- Table 122: the values of the descriptor
 
 def bounds(source, program, is_kept):
@@ -146,9 +164,7 @@ def bounds(source, program, is_kept):
     if source.is_cff:
         box = [0, 0, 0, 0] if is_empty else box
     elif is_kept or source.is_moved or is_empty:
-        count = len(program["loca"]) // (4 if field(program["head"], 50, "H") else 2) - 1
-        boxes = [it for it in (box_of(program, glyph) for glyph in range(count)) if it]
-        box = [pick(it[side] for it in boxes) for side, pick in enumerate((min, min, max, max))] if boxes else [0, 0, 0, 0]
+        box = kept_box(program) or [0, 0, 0, 0]
     low = [1000 * it // source.units for it in box[:2]]
     return low + [-(-1000 * it // source.units) for it in box[2:]]
 
