@@ -26,6 +26,3 @@ pub use fault::{Fault, Unread, Wanted};
 pub use laws::read_again;
 pub use lines::{Line, lines_of};
 pub use request::read_request;
-
-#[cfg(test)]
-mod tests;

@@ -1,7 +1,7 @@
 //! What no clause says: that a line is read, and texts of answers. The faults of lines are rows of tests/data/program.
 
-use crate::{read_request, write_done, write_failed};
 use std::test::Fail;
+use subset_batch::{read_request, write_done, write_failed};
 
 #[test]
 fn requests(rt: HostRuntime) -> Result<(), Fail> {
