@@ -1,4 +1,4 @@
-use Rattle.std.proofs.Common.{◌≡◌, ℕ, List, [], ◌∷◌, map, Option, None, Some, ℤ, Result, Err, length, replicate, refl, sym, ap, subst, ◌∙◌}
+use Rattle.std.proofs.Common.{◌≡◌, ℕ, List, [], ◌∷◌, map, Option, None, Some, ℤ, Result, Err, length, replicate, refl, ap, subst, ◌∙◌}
 use Rattle.std.specs.Prelude.{IfOk}
 use Rattle.std.proofs.lemmas.Simd.{splat_is_map}
 use Rattle.subsetter_base.specs.declared.error.Error.{Error}
@@ -18,7 +18,7 @@ each s at (i ∷ items) = ap (λ d. d ∷ map (listed_delta s at) items) (by_ind
 
 pub returns-in-Some : goal.returns-in-Some
 returns-in-Some c =
-    let same = each c.in-Some.s c.args.at.now c.args.items.now ∙ ap (λ (s : Option Store). map (delta_by s c.args.at.now) c.args.items.now) (sym c.in-Some.ensures) in
+    let same = each c.in-Some.s c.args.at.now c.args.items.now ∙ ap (λ (s : Option Store). map (delta_by s c.args.at.now) c.args.items.now) c.in-Some.ensures in
     subst (λ (l : List (Result ℤ Error)). IfOk c.each_delta.result (λ v. v.items ≡ l)) same c.each_delta.ensures
 
 pub returns-in-None : goal.returns-in-None
