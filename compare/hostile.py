@@ -53,12 +53,6 @@ def hvar(axes, regions, count=200):
     return varied(axes, count, HVAR=made.advances_vary(store(axes, regions), [(0, 0)]))
 
 
-def vvar(size):
-    held = store(size, 6 * size)
-    table = u16s(1, 0) + u32s(24, 24 + len(held), 0, 0, 24 + len(held)) + held + u16s(0, 1) + b"\0"
-    return varied(size, 200, VVAR=table, vhea=u32s(0x10000) + bytes(30) + u16s(1), vmtx=u16s(1000, 0) + bytes(398))
-
-
 def mvar(size):
     tags = sorted([b"hasc", b"hdsc", b"hlgp", b"hcrs", b"hcrn", b"hcof", b"undo", b"unds", b"xhgt", b"cpht"])
     return varied(size, 4, MVAR=u16s(1, 0, 0, 8, len(tags), 12 + 8 * len(tags)) + b"".join(it + bytes(4) for it in tags) + store(size, 6 * size))
@@ -70,9 +64,16 @@ def tuples(size):
     return varied(size, count, gvar=gvar + shared + data)
 
 
-def font2(count, table):
+def font2(count, table, **tables):
     """A font with a table `CFF2` and an axis."""
-    return static(count, fvar=fvar(1), CFF2=table, glyf=None, loca=None).replace(b"\0\1\0\0", b"OTTO", 1)
+    return static(count, **{"fvar": fvar(1), "CFF2": table, "glyf": None, "loca": None, **tables}).replace(b"\0\1\0\0", b"OTTO", 1)
+
+
+def vvar(size):
+    """One item of all advance heights, and of all origins by `VORG`."""
+    held = store(size, 6 * size)
+    table = u16s(1, 0) + u32s(24, 24 + len(held), 0, 0, 24 + len(held)) + held + u16s(0, 1) + b"\0"
+    return font2(200, made.cff2([b""] * 200), fvar=fvar(size), VVAR=table, VORG=u16s(1, 0, 800, 0), vhea=u32s(0x10000) + bytes(30) + u16s(1), vmtx=u16s(1000, 0) + bytes(398))
 
 
 def blends(size):

@@ -4,8 +4,8 @@ The fonts are Debian's Inter and those of FONTS. For each it takes N places, at 
 compares of the instance
 
     reading      each glyph has the contours, the points, the advance and the bearing that the second reading (lib/reading.py) computes of the source, in
-                 whole numbers, and OVERLAP_SIMPLE on its first flag alone; `head` has their box, `hhea` their extremes, and `hhea` and `post` what
-                 `MVAR` varies
+                 whole numbers, and OVERLAP_SIMPLE on its first flag alone; `head` has their box, `hhea` their extremes, `hhea` and `post` what `MVAR`
+                 varies, and `post` the angle of `slnt`
     HarfBuzz     what the second reading has before rounding is within 0.01 of what HarfBuzz draws at the same normalized coordinates, and the
                  advance is HarfBuzz's
     fontTools    the box of `head` and the extremes of `hhea` are those that it computes, and `hhea` and `post` have what its reader of MVAR adds
@@ -33,10 +33,6 @@ DAMAGED = ["fvar", "avar", "gvar", "HVAR", "MVAR", "glyf"]
 
 def u16s(*numbers):
     return unsigned(*[it % 65536 for it in numbers])
-
-
-def place_in(place):
-    return [(tag.encode("latin-1"), value) for tag, value in place]
 
 
 # ---- an instance as the second reading has it
@@ -146,7 +142,7 @@ def compare_default(report, library, data, glyphs, place):
 
 def compare_place(report, library, data, place, glyphs, source, other):
     """One instance."""
-    font = reading.Font(data, place_in(place))
+    font = reading.Font(data, reading.settings_of(place))
     if not any(font.at):
         compare_default(report, library, data, sorted(glyphs), place)
         return
@@ -202,9 +198,9 @@ def damaged(rng, data):
 def answer_of(data, place, glyphs):
     """What the second reading has: the glyphs as drawn, and `hhea` and `post`; the name of a fault; or nothing at the default."""
     try:
-        if not any(reading.place_of(reading.directory(data), place_in(place))):
+        if not any(reading.place_of(reading.directory(data), reading.settings_of(place))):
             return None
-        font = reading.Font(data, place_in(place))
+        font = reading.Font(data, reading.settings_of(place))
         return ({glyph: font.drawn(glyph, STEPS)[:4] for glyph in sorted({0, *glyphs})}, font.lines())
     except reading.Fault as it:
         return it.args[0]

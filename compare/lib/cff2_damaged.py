@@ -82,7 +82,7 @@ class Copy:
     def __init__(self, path, face, place):
         self.path, self.index, self.metrics, data = path, face.index, face.metrics, fonts.content(path)
         self.tables = {tag.encode("latin-1"): table for tag, table in fonts.tables_of(data, face.index).items()}
-        self.at = reading.place_of(self.tables, [(tag.encode("latin-1"), value) for tag, value in place])
+        self.at = reading.place_of(self.tables, reading.settings_of(place))
         self.harfbuzz = HarfBuzz(path, face.index)
         self.harfbuzz.place(self.at)
 

@@ -282,7 +282,7 @@ class Face:
 
     def at(self, place):
         """The normalized coordinates in 16384ths."""
-        return reading.place_of(self.tables, [(tag.encode("latin-1"), value) for tag, value in place])
+        return reading.place_of(self.tables, reading.settings_of(place))
 
     def exact_advance(self, glyph, at):
         """The advance at coordinates before rounding."""

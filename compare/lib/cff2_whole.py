@@ -70,9 +70,9 @@ def names_of(font):
     return sorted((it.nameID, it.platformID, it.platEncID, it.langID, it.string) for it in kept)
 
 
-def faults_of_headers(face, font, at, advances):
-    """What is wrong with head, hhea, maxp, name and post: `hhea` and `post` have what MVAR makes of theirs."""
-    tables, found = {tag: font.reader[tag] for tag in font.reader.keys()}, []
+def faults_of_headers(face, font, place, advances):
+    """What is wrong with head, hhea, maxp, name and post: `hhea` and `post` have what MVAR makes of theirs, and `post` the angle of `slnt`."""
+    tables, found, at = {tag: font.reader[tag] for tag in font.reader.keys()}, [], face.at(place)
     head, mvar = face.tables[b"head"], face.tables.get(b"MVAR")
     if tables["head"][:8] + tables["head"][12:] != head[:8] + head[12:]:
         found.append("head")
@@ -82,7 +82,7 @@ def faults_of_headers(face, font, at, advances):
         found.append(f"hhea {tables['hhea'].hex()}, and not {hhea.hex()}")
     if tables["maxp"] != b"\0\0\x50\0" + len(advances).to_bytes(2, "big"):
         found.append("maxp")
-    post = reading.varied_lines(mvar, at, b"post", face.tables.get(b"post"))
+    post = reading.slanted(face.tables, reading.settings_of(place), at, reading.varied_lines(mvar, at, b"post", face.tables.get(b"post")))
     if post is not None and tables.get("post", b"")[4:32] != post[4:32]:
         found.append("post")
     kept = len(font["name"].names) if "name" in font else 0
@@ -135,11 +135,11 @@ def compare_glyph(report, face, at, glyph, new, metrics, new_path):
         report.say("advance", f"{label}: {metrics[0]}, and by HarfBuzz {face.harfbuzz.advance(glyph)}")
 
 
-def compare_font(report, face, at, data, old, room):
+def compare_font(report, face, place, data, old, room):
     """A new font beside its source at coordinates; `old` has the old number of each glyph."""
     from fontTools.ttLib import TTFont
 
-    path = os.path.join(room, "new.otf")
+    path, at = os.path.join(room, "new.otf"), face.at(place)
     with open(path, "wb") as file:
         file.write(data)
     report.counts["file"] += 1
@@ -156,7 +156,7 @@ def compare_font(report, face, at, data, old, room):
         return
     cff, metrics = font["CFF "].cff, [font["hmtx"].metrics[name] for name in font.getGlyphOrder()]
     top, mine = cff.topDictIndex[0], HarfBuzz(path)
-    found = faults_of_headers(face, font, at, [it[0] for it in metrics]) + faults_of_table(face, cff, len(old))
+    found = faults_of_headers(face, font, place, [it[0] for it in metrics]) + faults_of_table(face, cff, len(old))
     if found or len(metrics) != len(old):
         report.say("file", f"at {at}: {', '.join(found or ['the number of glyphs'])}")
     face.harfbuzz.place(at)
@@ -263,7 +263,7 @@ def compare_face(words, path, index, room):
                 continue
             report.say("answer", f"at {harfbuzz.words_at(place) or 'the default'}: {it}")
             continue
-        compare_font(report, face, face.at(place), data, old, room)
+        compare_font(report, face, place, data, old, room)
     family = face.font["name"].getDebugName(1) if "name" in face.font else ""
     few = SELDOM_MADE if (family or "").startswith("Made ") else SELDOM
     if few * (len(report.otherwise) - 1) > report.counts["FreeType"]:

@@ -85,6 +85,10 @@ def bent(pairs, n):
     return n
 
 
+def settings_of(place):
+    return [(tag.encode("latin-1"), value) for tag, value in place]
+
+
 def place_of(font, settings):
     """The normalized coordinates, in F2Dot14."""
     fvar, avar = font.get(b"fvar"), font.get(b"avar")
@@ -339,6 +343,17 @@ def varied_lines(mvar, at, tag, table):
     return bytes(table)
 
 
+def slanted(font, settings, at, post):
+    """`post`, whose italicAngle is the coordinate on `slnt`, where the font has this axis and is off its default."""
+    axis = next((it for it in axes_of(font[b"fvar"]) if it[0] == b"slnt"), None) if any(at) else None
+    if axis is None or post is None or len(post) < 8:
+        return post
+    _, low, default, high = axis
+    value = ([default] + [value for tag, value in settings if tag == b"slnt"])[-1]
+    angle = max(min(value, max(high, default)), min(low, default))
+    return post[:4] + (angle % (1 << 32)).to_bytes(4, "big") + post[8:]
+
+
 # ---- a font: its outlines, metrics and tables at coordinates
 
 def simple(data):
@@ -410,7 +425,7 @@ class Font:
     def __init__(self, data, settings):
         tables = directory(data)
         need(b"glyf" in tables, "Unimplemented" if b"CFF " in tables else "UnknownKind")
-        self.tables, self.at = tables, place_of(tables, settings)
+        self.tables, self.settings, self.at = tables, settings, place_of(tables, settings)
         for tag in (b"gvar", b"HVAR", b"MVAR"):
             need_version_1(tables.get(tag))
         need(all(tag in tables for tag in (b"loca", b"head", b"maxp", b"hhea", b"hmtx")))
@@ -493,7 +508,8 @@ class Font:
 
     def lines(self):
         """`hhea` and `post` at the place."""
-        return [varied_lines(self.tables.get(b"MVAR"), self.at, tag, self.tables.get(tag)) for tag in (b"hhea", b"post")]
+        hhea, post = (varied_lines(self.tables.get(b"MVAR"), self.at, tag, self.tables.get(tag)) for tag in (b"hhea", b"post"))
+        return [hhea, slanted(self.tables, self.settings, self.at, post)]
 
 
 def extremes(drawn):

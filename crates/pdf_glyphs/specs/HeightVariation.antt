@@ -1,9 +1,13 @@
 -- What advance heights and the origins of "VORG" vary by off a font's default (OpenType, "VVAR"): its items are found as those of "HVAR" are.
-use Rattle.std.specs.Prelude.{◌≡◌, ℕ, ◌^◌, nat_lt, if◌then◌else◌, ◌&&◌, int_le, int_lt, List, map, Option, IfSome, Result, ℤ, pos, neg_ℤ, ◌+ℤ◌, unsigned_abs}
+use Rattle.std.specs.Prelude.{◌≡◌, ℕ, ◌^◌, nat_lt, if◌then◌else◌, ◌&&◌, int_le, int_lt, List, map, Option, IfSome, Result, Err, ℤ, pos, neg_ℤ, ◌+ℤ◌, unsigned_abs}
+use Rattle.std.specs.List.{slice_get}
+use Rattle.std.specs.Option.{unwrap_or}
 use Rattle.std.specs.Result.{result_unwrap_or}
 use Rattle.subsetter_base.specs.declared.error.Error.{Error}
+use Rattle.subsetter_base.specs.declared.error.Error.TheVariants.{MalformedFont}
 use Rattle.subsetter_variation.specs.Items.ItemVariations.{whole_or_fault}
-use Rattle.subsetter_variation.specs.Items.Advances.{advance_delta, advance_or_fault, origin_delta}
+use Rattle.subsetter_variation.specs.Items.Advances.{advance_delta, advance_or_fault, origin_delta, origin_or_fault}
+use Rattle.pdf_glyphs.specs.declared.heights.Deltas.{Deltas}
 use Rattle.pdf_glyphs.specs.declared.heights.HeightVariation.{HeightVariation}
 
 -- the normalized coordinates, in 16384ths, and the bytes of "VVAR"
@@ -41,9 +45,21 @@ varied_origin v g y = if_origin (y +ℤ origin_shift v g) y
 -- ---- what is known
 
 -- a delta is that of a glyph's advance height
-abbrev pub IsKnownBy : Option Variation → ℕ → Option (Result ℤ Error) → Type 0
-IsKnownBy v g known = IfSome v (λ it. IfSome known (λ d. d ≡ advance_or_fault it.vvar it.at g))
+abbrev pub IsHeightBy : Option Variation → ℕ → Result ℤ Error → Type 0
+IsHeightBy v g delta = IfSome v (λ it. delta ≡ advance_or_fault it.vvar it.at g)
 
--- deltas are those of glyphs, one for each
-abbrev pub AreKnownBy : Option Variation → List ℕ → List (Result ℤ Error) → Type 0
-AreKnownBy v glyphs known = IfSome v (λ it. known ≡ map (advance_or_fault it.vvar it.at) glyphs)
+-- a delta is that of the y of a glyph's origin
+abbrev pub IsOriginBy : Option Variation → ℕ → Result ℤ Error → Type 0
+IsOriginBy v g delta = IfSome v (λ it. delta ≡ origin_or_fault it.vvar it.at g)
+
+-- deltas are those of glyphs, one of both kinds for each
+pub record AreDeltas (v : Variation) (glyphs : List ℕ) (deltas : Deltas) : Type 0 where
+  pub heights : deltas.heights.items ≡ map (advance_or_fault v.vvar v.at) glyphs
+  pub origins : deltas.origins.items ≡ map (origin_or_fault v.vvar v.at) glyphs
+
+abbrev pub AreDeltasBy : Option Variation → List ℕ → Deltas → Type 0
+AreDeltasBy v glyphs deltas = IfSome v (λ it. AreDeltas it glyphs deltas)
+
+-- the delta at a place of a list
+abbrev pub known_at : List (Result ℤ Error) → ℕ → Result ℤ Error
+known_at known k = unwrap_or (slice_get known k) (Err MalformedFont)

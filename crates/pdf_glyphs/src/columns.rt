@@ -5,11 +5,11 @@ ghost use Rattle.std.specs.Option.{option_map};
 ghost use Rattle.subsetter_base.specs.Indexes.{HasAllAboveZero, with_glyphs};
 ghost use Rattle.subsetter_base.specs.declared.error.Error.TheVariants.{OutOfMemory, OverflowError};
 ghost use Rattle.pdf_glyphs.specs.Frequent.{most_frequent};
-ghost use Rattle.pdf_glyphs.specs.HeightVariation.{AreKnownBy, variation_view};
+ghost use Rattle.pdf_glyphs.specs.HeightVariation.{AreDeltasBy, variation_view};
 ghost use Rattle.pdf_glyphs.specs.Vertical.{columns_at, columns_of, origin_of, vertical_view};
 
 use crate::frequent::most_frequent;
-use crate::heights::{HeightVariation, height_deltas, known_at};
+use crate::heights::{Deltas, HeightVariation, deltas_of, known_at};
 use crate::metrics::{VerticalTables, metric_at};
 use crate::origins::origins_of;
 use pdf_text::{Column, DefaultColumn};
@@ -33,7 +33,7 @@ fn glyphs_of(alloc: Global, mapper: &GlyphRemapper) -> Result<Vec<u16>, Error>
     Ok(mapper.remapped_gids().collect(alloc)?)
 }
 
-/// The column of each glyph that has a width, by what their advance heights vary by.
+/// The column of each glyph that has a width, by what the glyphs vary by.
 fn each_column(
     alloc: Global,
     tables: VerticalTables<'_>,
@@ -41,10 +41,10 @@ fn each_column(
     glyphs: &[u16],
     origins: &[Option<i16>],
     widths: &[u32],
-    known: &[Result<i64, Error>],
+    deltas: &Deltas,
 ) -> Result<Vec<Column>, Error>
     requires len { length origins.now ≡ length glyphs.now }
-    requires known { AreKnownBy (option_map variation_view variation) glyphs.now known.now }
+    requires deltas { AreDeltasBy (option_map variation_view variation) glyphs.now deltas.now }
     requires are { (k : ℕ) → k < length glyphs.now → slice_index_or origins.now k None ≡ origin_of (vertical_view tables).vorg (slice_index glyphs.now k) }
     ensures ok { IfOk result (λ columns. columns.items ≡ columns_at (vertical_view tables.entry) (option_map variation_view variation.entry) glyphs.now widths.now) }
     ensures few { IfOk result (λ columns. length columns.items ≤ length glyphs.now) }
@@ -58,7 +58,8 @@ fn each_column(
             glyphs[index],
             widths[index],
             origins[index],
-            known_at(known, index),
+            known_at(&deltas.heights, index),
+            known_at(&deltas.origins, index),
         );
         columns.push(column)?;
     }
@@ -91,9 +92,9 @@ pub fn columns_at(
     let origins = origins_of(alloc, tables.vorg, &mapper)?;
     let numbered = glyphs_of(alloc, &mapper)?;
     let _count = mapper.num_gids();
-    let known = height_deltas(alloc, variation, &numbered)?;
+    let deltas = deltas_of(alloc, variation, &numbered)?;
     let each = each_column(
-        alloc, tables, variation, &numbered, &origins, widths, &known,
+        alloc, tables, variation, &numbered, &origins, widths, &deltas,
     )?;
     let default = most_frequent(alloc, &each)?;
     Ok(Columns { each, default })

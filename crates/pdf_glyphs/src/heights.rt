@@ -1,14 +1,13 @@
 //! What advance heights and the origins of `VORG` vary by off a font's default (OpenType, "VVAR").
 
-ghost use Rattle.std.specs.Prelude.{◌≡◌, ◌≤◌, ◌<◌, ◌^◌, IfOk, IfSome, Some, length, pos, slice_index_or, unsigned_abs};
+ghost use Rattle.std.specs.Prelude.{◌≡◌, ◌≤◌, ◌^◌, ◌+ℤ◌, IfOk, pos, unsigned_abs};
 ghost use Rattle.std.specs.Option.{option_map};
 ghost use Rattle.std.specs.Result.{result_unwrap_or};
-ghost use Rattle.subsetter_variation.specs.Items.Advances.{advance_or_fault};
-ghost use Rattle.pdf_glyphs.specs.HeightVariation.{AreKnownBy, IsKnownBy, if_height, if_origin, origin_shift, variation_view, varied_height, varied_origin};
+ghost use Rattle.pdf_glyphs.specs.HeightVariation.{AreDeltasBy, if_height, if_origin, known_at, variation_view};
 
 use std::alloc::{AllocError, Global};
 use subsetter_base::Error;
-use subsetter_variation::items::advances::{advance_delta, advance_deltas, origin_delta};
+use subsetter_variation::items::advances::{advance_deltas, origin_deltas};
 
 /// Where a font is off its default, and what its advance heights and the origins of `VORG` vary by.
 #[derive(Clone, Copy)]
@@ -19,44 +18,40 @@ pub struct HeightVariation<'a> {
     pub vvar: &'a [u8],
 }
 
-/// What the advance heights of glyphs vary by, reckoned for all of them at once; none without a variation.
-pub fn height_deltas(
+/// What the advance heights of glyphs vary by, and the ys of their origins in `VORG`, in whole units: of each glyph one.
+#[derive(Drop)]
+pub struct Deltas {
+    pub heights: Vec<Result<i64, Error>>,
+    pub origins: Vec<Result<i64, Error>>,
+}
+
+/// What glyphs vary by, reckoned for all of them at once; none without a variation.
+pub fn deltas_of(
     alloc: Global,
     variation: Option<HeightVariation<'_>>,
     glyphs: &[u16],
-) -> Result<Vec<Result<i64, Error>>, AllocError>
-    ensures { IfOk result (λ v. AreKnownBy (option_map variation_view variation.entry) glyphs.now v.items) }
+) -> Result<Deltas, AllocError>
+    ensures { IfOk result (λ d. AreDeltasBy (option_map variation_view variation.entry) glyphs.now d) }
 {
-    match variation {
-        Some(variation) => advance_deltas(alloc, variation.vvar, variation.at, glyphs),
-        None => Ok(Vec::new(alloc)),
-    }
+    let Some(variation) = variation else {
+        return Ok(Deltas {
+            heights: Vec::new(alloc),
+            origins: Vec::new(alloc),
+        });
+    };
+    let heights = advance_deltas(alloc, variation.vvar, variation.at, glyphs)?;
+    let origins = origin_deltas(alloc, variation.vvar, variation.at, glyphs)?;
+    Ok(Deltas { heights, origins })
 }
 
-/// What the advance height of a glyph of the list varies by, if that is known.
-pub fn known_at(known: &[Result<i64, Error>], place: usize) -> Option<Result<i64, Error>>
-    ensures { IfSome result (λ d. (place < length known.now) × (slice_index_or known.now place d ≡ d)) }
+/// The delta at a place of a list; past its end nothing is there to be read.
+pub fn known_at(known: &[Result<i64, Error>], place: usize) -> Result<i64, Error>
+    ensures { result ≡ known_at known.now place }
 {
-    if place < known.len() {
-        Some(known[place])
-    } else {
-        None
-    }
-}
-
-/// What a glyph's advance height varies by, which may be known.
-fn height_delta(
-    variation: HeightVariation<'_>,
-    glyph: u16,
-    known: Option<Result<i64, Error>>,
-) -> Result<i64, Error>
-    requires { IsKnownBy (Some (variation_view variation)) glyph known }
-    ensures { result ≡ advance_or_fault (variation_view variation.entry).vvar (variation_view variation.entry).at glyph }
-{
-    match known {
-        Some(delta) => delta,
-        None => advance_delta(variation.vvar, variation.at, glyph),
-    }
+    known
+        .get(place)
+        .copied()
+        .unwrap_or(Err(Error::MalformedFont))
 }
 
 /// Whole units; 0 where nothing is there to be read.
@@ -82,25 +77,12 @@ fn if_height(sum: i128, advance: u16) -> u16
     advance
 }
 
-/// An advance height with what it varies by, which may be known.
-pub fn varied_height(
-    variation: HeightVariation<'_>,
-    glyph: u16,
-    known: Option<Result<i64, Error>>,
-    advance: u16,
-) -> u16
-    requires { IsKnownBy (Some (variation_view variation)) glyph known }
-    ensures { result ≡ varied_height (variation_view variation.entry) glyph advance }
+/// An advance height with what it varies by.
+pub fn varied_height(delta: Result<i64, Error>, advance: u16) -> u16
+    ensures { result ≡ if_height (pos advance +ℤ result_unwrap_or delta (pos 0)) advance }
 {
-    let delta = if_read(height_delta(variation, glyph, known));
-    if_height(i128::from(advance) + i128::from(delta), advance)
-}
-
-/// What the y of a glyph's origin varies by, in whole units; 0 where nothing is there to be read.
-fn origin_shift(variation: HeightVariation<'_>, glyph: u16) -> i64
-    ensures { result ≡ origin_shift (variation_view variation.entry) glyph }
-{
-    if_read(origin_delta(variation.vvar, variation.at, glyph))
+    let by = if_read(delta);
+    if_height(i128::from(advance) + i128::from(by), advance)
 }
 
 /// A sum as the y of an origin; past 16 bits the y stays.
@@ -113,10 +95,10 @@ fn if_origin(sum: i128, y: i16) -> i16
     y
 }
 
-/// The y of a glyph's origin in `VORG` with what it varies by.
-pub fn varied_origin(variation: HeightVariation<'_>, glyph: u16, y: i16) -> i16
-    ensures { result ≡ varied_origin (variation_view variation.entry) glyph y }
+/// The y of an origin in `VORG` with what it varies by.
+pub fn varied_origin(delta: Result<i64, Error>, y: i16) -> i16
+    ensures { result ≡ if_origin (y +ℤ result_unwrap_or delta (pos 0)) y }
 {
-    let shift = origin_shift(variation, glyph);
-    if_origin(i128::from(y) + i128::from(shift), y)
+    let by = if_read(delta);
+    if_origin(i128::from(y) + i128::from(by), y)
 }

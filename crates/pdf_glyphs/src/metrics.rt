@@ -4,7 +4,7 @@ ghost use Rattle.std.specs.Prelude.{◌≡◌, ◌≤◌, ◌<◌, ◌^◌, ◌+
 ghost use Rattle.std.specs.Option.{option_map, option_map_or};
 ghost use Rattle.pdf_values.specs.Rounding.{thousandths};
 ghost use Rattle.pdf_glyphs.specs.Boxes.{outlines_view};
-ghost use Rattle.pdf_glyphs.specs.HeightVariation.{IsKnownBy, variation_view};
+ghost use Rattle.pdf_glyphs.specs.HeightVariation.{IsHeightBy, IsOriginBy, variation_view};
 ghost use Rattle.pdf_glyphs.specs.Vertical.{advance_at, advance_of, bearing_of, box_top, half, metric_at, moved_by, origin_of, origin_y_at, pair_count, vertical_view, vorg_y};
 
 use crate::boxes::{OutlineTables, glyph_box};
@@ -52,20 +52,20 @@ fn advance_of(tables: VerticalTables<'_>, glyph: u16) -> Option<u16>
     glyph_advance(vmtx, count, glyph)
 }
 
-/// The same with what it varies by, if it does, which may be known.
+/// The same with what it varies by, if it does.
 fn advance_at(
     tables: VerticalTables<'_>,
     variation: Option<HeightVariation<'_>>,
     glyph: u16,
-    known: Option<Result<i64, Error>>,
+    delta: Result<i64, Error>,
 ) -> Option<u16>
-    requires { IsKnownBy (option_map variation_view variation) glyph known }
+    requires { IsHeightBy (option_map variation_view variation) glyph delta }
     ensures { result ≡ advance_at (vertical_view tables.entry) (option_map variation_view variation.entry) glyph }
 {
     let advance = advance_of(tables, glyph)?;
     match variation {
         None => Some(advance),
-        Some(variation) => Some(varied_height(variation, glyph, known, advance)),
+        Some(_) => Some(varied_height(delta, advance)),
     }
 }
 
@@ -118,14 +118,16 @@ fn vorg_y_at(
     variation: Option<HeightVariation<'_>>,
     glyph: u16,
     recorded: Option<i16>,
+    delta: Result<i64, Error>,
 ) -> Option<i16>
-    requires { recorded ≡ origin_of (vertical_view tables).vorg glyph }
+    requires recorded { recorded ≡ origin_of (vertical_view tables).vorg glyph }
+    requires delta { IsOriginBy (option_map variation_view variation) glyph delta }
     ensures { result ≡ moved_by (option_map variation_view variation.entry) None glyph (vorg_y (vertical_view tables.entry).vorg glyph) }
 {
     let y = vorg_y(tables, glyph, recorded)?;
     match variation {
         None => Some(y),
-        Some(variation) => Some(varied_origin(variation, glyph, y)),
+        Some(_) => Some(varied_origin(delta, y)),
     }
 }
 
@@ -135,15 +137,18 @@ fn origin_y_at(
     variation: Option<HeightVariation<'_>>,
     glyph: u16,
     recorded: Option<i16>,
+    delta: Result<i64, Error>,
 ) -> Option<i32>
-    requires { recorded ≡ origin_of (vertical_view tables).vorg glyph }
+    requires recorded { recorded ≡ origin_of (vertical_view tables).vorg glyph }
+    requires delta { IsOriginBy (option_map variation_view variation) glyph delta }
     ensures exact { result ≡ origin_y_at (vertical_view tables.entry) (option_map variation_view variation.entry) glyph }
     ensures small { IfSome result (λ v. unsigned_abs v ≤ 2 ^ 16) }
 {
     if tables.outlines.glyf.is_some() {
         return origin_of_box(tables, glyph);
     }
-    Some(i32::from(vorg_y_at(tables, variation, glyph, recorded)?))
+    let y = vorg_y_at(tables, variation, glyph, recorded, delta)?;
+    Some(i32::from(y))
 }
 
 /// Half of a width.
@@ -173,21 +178,23 @@ fn scaled_y(y: Option<i32>, units: u16) -> i32
     }
 }
 
-/// The column of a glyph with a width, of which VORG has this y. Its advance varies, by what may be known, and so does an
-/// origin by VORG.
+/// The column of a glyph with a width, of which VORG has this y. Where the font is off its default, its advance varies by
+/// `height`, and an origin by VORG by `shift`.
 pub fn metric_at(
     tables: VerticalTables<'_>,
     variation: Option<HeightVariation<'_>>,
     glyph: u16,
     width: u32,
     recorded: Option<i16>,
-    known: Option<Result<i64, Error>>,
+    height: Result<i64, Error>,
+    shift: Result<i64, Error>,
 ) -> Column
     requires recorded { recorded ≡ origin_of (vertical_view tables).vorg glyph }
-    requires known { IsKnownBy (option_map variation_view variation) glyph known }
+    requires height { IsHeightBy (option_map variation_view variation) glyph height }
+    requires shift { IsOriginBy (option_map variation_view variation) glyph shift }
     ensures { result ≡ metric_at (vertical_view tables.entry) (option_map variation_view variation.entry) glyph width }
 {
-    let Some(advance) = advance_at(tables, variation, glyph, known) else {
+    let Some(advance) = advance_at(tables, variation, glyph, height) else {
         return Column {
             advance: -1000,
             x: half(width),
@@ -195,9 +202,10 @@ pub fn metric_at(
         };
     };
     let units = units_per_em(tables.outlines.head);
+    let y = origin_y_at(tables, variation, glyph, recorded, shift);
     Column {
         advance: downwards(advance, units),
         x: half(width),
-        y: scaled_y(origin_y_at(tables, variation, glyph, recorded), units),
+        y: scaled_y(y, units),
     }
 }

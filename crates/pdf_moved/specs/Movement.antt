@@ -1,10 +1,9 @@
 -- Where a font is moved to along its axes (OpenType, "fvar", "MVAR").
 use Rattle.std.specs.Prelude.{ℕ, ◌&&◌, if◌then◌else◌, int_le, List, Option, ℤ, pos, neg_ℤ, ◌+ℤ◌}
-use Rattle.std.specs.Int.{int_max, int_min}
 use Rattle.std.specs.Option.{option_copied, option_map, option_map_or}
 use Rattle.std.specs.Result.{result_unwrap_or}
 use Rattle.subsetter_base.specs.declared.tag.Tag.{Tag}
-use Rattle.subsetter_variation.specs.Locations.Axes.{user_coordinate, find_axis}
+use Rattle.subsetter_variation.specs.Locations.Axes.{clamped, find_axis}
 use Rattle.subsetter_variation.specs.Items.FontMetrics.{metric_delta}
 use Rattle.subsetter_variation.specs.Items.ItemVariations.{whole_or_fault}
 use Rattle.subsetter_variation.specs.declared.locations.axes.Axis.{Axis}
@@ -22,15 +21,7 @@ movement_view m = record { at = m.at.now; axes = m.axes.now; settings = m.settin
 
 -- ---- user coordinates
 
--- no greater than one number, and no less than another
-unfoldable pub within : ℤ → ℤ → ℤ → ℤ
-within greatest least c = int_max (int_min c greatest) least
-
--- that on an axis, clamped to it; an axis has nothing on a side where its end isn't past its default
-abbrev pub clamped : Axis → List (Tag × ℤ) → ℤ
-clamped a settings = within (int_max a.maximum a.default) (int_min a.minimum a.default) (user_coordinate a settings)
-
--- that on this axis, if there is one
+-- that on this axis, clamped to it, if there is one
 abbrev pub coordinate_on : List ℕ → Movement → Option ℤ
 coordinate_on tag m = option_map (λ a. clamped a m.settings) (find_axis tag m.axes)
 

@@ -1,12 +1,12 @@
 //! Where a font is moved to along its axes (OpenType, "fvar", "MVAR").
 
 ghost use Rattle.std.specs.Prelude.{◌≡◌, ◌≤◌, ◌^◌, unsigned_abs};
-ghost use Rattle.pdf_moved.specs.Movement.{clamped, coordinate_on, delta_of, if_small, movement_view, varied, within};
+ghost use Rattle.pdf_moved.specs.Movement.{coordinate_on, delta_of, if_small, movement_view, varied};
 ghost use Rattle.subsetter_variation.specs.Locations.Axes.{find_axis};
 
 use subsetter_base::Tag;
 use subsetter_variation::items::font_metrics::metric_delta;
-use subsetter_variation::locations::axes::{Axis, find_axis, user_coordinate};
+use subsetter_variation::locations::axes::{Axis, clamped, find_axis};
 
 /// Where a font is moved to.
 #[derive(Clone, Copy)]
@@ -18,23 +18,6 @@ pub struct Movement<'a> {
     pub settings: &'a [(Tag, i32)],
     /// The table `MVAR`, if there is one.
     pub mvar: Option<&'a [u8]>,
-}
-
-/// A number that is no greater than one and no less than another.
-#[tactic(auto, unfolding(crate::specs::Movement::within))]
-fn within(greatest: i32, least: i32, coordinate: i32) -> i32
-    ensures { result ≡ within greatest least coordinate }
-{
-    coordinate.min(greatest).max(least)
-}
-
-/// The user coordinate on an axis, clamped to it.
-pub fn clamped(axis: Axis, settings: &[(Tag, i32)]) -> i32
-    ensures { result ≡ clamped axis settings.now }
-{
-    let greatest = axis.maximum.max(axis.default);
-    let least = axis.minimum.min(axis.default);
-    within(greatest, least, user_coordinate(&axis, settings))
 }
 
 /// The user coordinate on the first axis of a tag, clamped to it, if there is such an axis.

@@ -2,8 +2,8 @@
 use Rattle.std.specs.Prelude.{ℕ, ℤ, if◌then◌else◌, List, [], ◌∷◌, ◌++◌, codes}
 use Rattle.std.specs.Ordering.{int_eq}
 use Rattle.subsetter_base.specs.declared.tag.Tag.{Tag}
+use Rattle.subsetter_variation.specs.Locations.Axes.{clamped}
 use Rattle.subsetter_variation.specs.declared.locations.axes.Axis.{Axis}
-use Rattle.pdf_moved.specs.Movement.{clamped}
 use Rattle.pdf_names.specs.Decimal.{value_text}
 use Rattle.pdf_names.specs.Letters.{letters_and_digits}
 

@@ -6,8 +6,8 @@ use Rattle.std.specs.Ordering.{int_eq}
 use Rattle.subsetter_base.specs.Bytes.{number, range}
 use Rattle.subsetter_base.specs.declared.tag.Tag.{Tag}
 use Rattle.subsetter_base.specs.Options.{◌>>=◌}
+use Rattle.subsetter_variation.specs.Locations.Axes.{clamped}
 use Rattle.subsetter_variation.specs.declared.locations.axes.Axis.{Axis}
-use Rattle.pdf_moved.specs.Movement.{clamped}
 use Rattle.pdf_names.specs.Letters.{plain_name}
 use Rattle.pdf_values.specs.Name.{table_name}
 use Rattle.subsetter_base.specs.Texts.{or_else}

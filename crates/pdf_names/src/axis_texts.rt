@@ -7,10 +7,9 @@ ghost use Rattle.pdf_names.specs.Letters.{letters_and_digits};
 
 use crate::decimal::write_value;
 use crate::letters::letters_and_digits;
-use pdf_moved::clamped;
 use std::alloc::Global;
 use subsetter_base::{Error, Tag};
-use subsetter_variation::locations::axes::Axis;
+use subsetter_variation::locations::axes::{Axis, clamped};
 
 /// Writes the letters and digits of a tag.
 fn write_tag(alloc: Global, text: &mut Vec<u8>, tag: Tag) -> Result<(), Error>

@@ -7,7 +7,6 @@ ghost use Rattle.subsetter_base.specs.declared.error.Error.TheVariants.{OutOfMem
 ghost use Rattle.pdf_names.specs.Instances.{behind_coordinates, behind_flags, hyphenated, instance_name, is_coordinate, is_own, names_or, own_id, own_name, record_from, record_in, subfamily};
 
 use crate::letters::plain_name;
-use pdf_moved::clamped;
 use pdf_values::table_name;
 use std::alloc::Global;
 use subsetter_base::read::{Reader, after_four};
@@ -15,7 +14,7 @@ use subsetter_base::{Error, Tag};
 use subsetter_variation::fvar::{
     axes_array_offset, axis_count, axis_size, instance_count, instance_size,
 };
-use subsetter_variation::locations::axes::Axis;
+use subsetter_variation::locations::axes::{Axis, clamped};
 
 /// Whether bytes begin with the coordinate of an axis.
 fn is_coordinate(axis: Axis, settings: &[(Tag, i32)], bytes: &[u8]) -> bool

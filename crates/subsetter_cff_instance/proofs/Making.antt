@@ -60,7 +60,7 @@ module _ (find : List ℕ → Option (List ℕ)) (cff2 : List ℕ) (settings : L
     pub lines_long : 36 ≤ length p.lines.hhea
     lines_long =
         let t = prepared_steps find settings glyphs p is in
-        instance.lines_long find p.at p.lines (hhea_read find p.source t.source_is) t.lines_are
+        instance.lines_long find settings p.at p.lines (hhea_read find p.source t.source_is) t.lines_are
 
     drawn_are : charstrings_in find cff2 settings glyphs tokens depth ≡ drawn_of cff2 (request_at glyphs p) tokens depth
     unfolding charstrings_in

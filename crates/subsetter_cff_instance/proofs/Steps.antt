@@ -87,7 +87,7 @@ pub record PreparedSteps (find : List ℕ → Option (List ℕ)) (settings : Lis
   pub known : has_other_version find ≡ false
   pub source_is : source_in find ≡ Some p.source
   pub metrics_are : varied_metrics p.source p.at glyphs ≡ Ok p.metrics
-  pub lines_are : lines_of find p.at ≡ Ok p.lines
+  pub lines_are : lines_of find settings p.at ≡ Ok p.lines
 
 pub prepared_steps : (find : List ℕ → Option (List ℕ)) (settings : List (Tag × ℤ)) (glyphs : List ℕ) (p : Prepared) → prepared find settings glyphs ≡ Ok p → PreparedSteps find settings glyphs p
 unfolding prepared
@@ -96,7 +96,7 @@ prepared_steps find settings glyphs p h =
     let b = bind_ok (source_or_fault find) _ p a.2 in
     let r = source_read find b.0 b.1 in
     let c = bind_ok (varied_metrics b.0 a.0 glyphs) _ p b.2 in
-    let d = bind_ok (lines_of find a.0) _ p c.2 in
+    let d = bind_ok (lines_of find settings a.0) _ p c.2 in
     let made : Prepared = record { at = a.0; source = b.0; metrics = c.0; lines = d.0 } in
     subst (PreparedSteps find settings glyphs) (done_is made p d.2) (record { coordinates_are = a.1; known = r.0; source_is = r.1; metrics_are = c.1; lines_are = d.1 })
 

@@ -32,7 +32,7 @@ pub record IsCffInstance (font : Font) (settings : List (Tag × ℤ)) (glyphs : 
   pub at : List ℤ
   pub coordinates_are : normalized_coordinates (stored font) settings ≡ Ok at
   pub lines : Lines
-  pub lines_are : lines_of (stored font) at ≡ Ok lines
+  pub lines_are : lines_of (stored font) settings at ≡ Ok lines
   -- a file of outlines in `CFF `, its directory, checksums and padding right, with these tables alone
   pub container : IsSoundContainer file (kind_word Cff) (tags_with (with_lines (stored font) lines))
   -- the headers and the metrics that are read of the font

@@ -27,7 +27,7 @@ prepared find settings glyphs = do
   at ← normalized_coordinates find settings
   s ← source_or_fault find
   metrics ← varied_metrics s at glyphs
-  lines ← lines_of find at
+  lines ← lines_of find settings at
   Ok (record { at = at; source = s; metrics = metrics; lines = lines })
 
 -- ---- what is made of that

@@ -21,12 +21,12 @@ use Rattle.subsetter_variation.specs.Nearest.{nearest}
 use Rattle.subsetter_variation.specs.Region.{unit}
 use Rattle.subsetter_variation.proofs.ItemsLaws.Items.{is_item_at_default, is_item_at_master, nearest_is}
 use Rattle.subsetter_instance.specs.Glyphs.Drawn.{advance, advance_or_fault, word_or_fault}
-use Rattle.subsetter_instance.specs.Tables.Lines.{moved_hhea, moved_post, varied, varied_hhea, varied_post, varied_post_if, varied_underline}
+use Rattle.subsetter_instance.specs.Tables.Lines.{moved_hhea, moved_post, slanted, varied, varied_hhea, varied_post, varied_post_if, varied_underline}
 use Rattle.subsetter_instance.specs.MetricLaws.{IsRow, IsMetricRow, IsAdvanceAtMaster, IsAdvanceAtDefault, IsMetricAtMaster, IsMetricAtDefault, AreLinesAtDefault}
 use Rattle.subsetter_instance.proofs.FaultLaws.ItemLaws.Hvar.{advance_in_turn, with_indexes, with_store}
 use Rattle.subsetter_instance.proofs.FaultLaws.ItemLaws.Mvar.{metric_delta_in_turn}
 use Rattle.subsetter_instance.proofs.FaultLaws.Lines.{three_steps, lines, caret, with_caret, with_position}
-use Rattle.subsetter_instance.proofs.FileLaws.Lines.{line_steps}
+use Rattle.subsetter_instance.proofs.FileLaws.Lines.{line_steps, still_slant}
 
 -- ---- whole units
 
@@ -244,17 +244,17 @@ module _ (mvar : List ℕ) (at : List ℤ) (zeros : All (λ c. c ≡ pos 0) at) 
 
 pub are_lines_at_default : AreLinesAtDefault
 unfolding varied_hhea
-are_lines_at_default find at l bytes long zeros bound h =
-    let s = line_steps find at l h in
-    (s.hhea_is ∙ ap (λ (x : List ℕ). Some x) (first (find (codes "MVAR")) refl s.hhea (bytes (codes "hhea") s.hhea s.hhea_is) (long s.hhea s.hhea_is) s.new_is), second (find (codes "MVAR")) (find (codes "post")) refl refl s.post_is)
+are_lines_at_default find settings at l bytes long zeros bound h =
+    let s = line_steps find settings at l h in
+    (s.hhea_is ∙ ap (λ (x : List ℕ). Some x) (first (find (codes "MVAR")) refl s.hhea (bytes (codes "hhea") s.hhea s.hhea_is) (long s.hhea s.hhea_is) s.new_is), sym s.slant_is ∙ ap (λ (angle : Option ℤ). slanted angle s.post) (still_slant find settings at zeros) ∙ second (find (codes "MVAR")) (find (codes "post")) s.post refl refl s.post_is)
   where
     first : (o : Option (List ℕ)) → find (codes "MVAR") ≡ o → (hhea : List ℕ) → IsBytes hhea → 36 ≤ length hhea → varied_hhea o at hhea ≡ Ok l.hhea → hhea ≡ l.hhea
     first None m hhea b le k = done_is hhea l.hhea k
     first (Some mvar) m hhea b le k = hhea_stays mvar at zeros (λ tag s r. bound mvar tag s r m) hhea l.hhea b le k
 
-    second : (o p : Option (List ℕ)) → find (codes "MVAR") ≡ o → find (codes "post") ≡ p → varied_post_if o at p ≡ Ok l.post → l.post ≡ find (codes "post")
-    second o None m p k = sym (done_is None l.post k) ∙ sym p
-    second None (Some post) m p k = sym (done_is (Some post) l.post k) ∙ sym p
-    second (Some mvar) (Some post) m p k =
-        let n = bind_ok (varied_post (Some mvar) at post) (λ new. Ok (Some new)) l.post k in
-        sym (done_is (Some n.0) l.post n.2) ∙ ap (λ (x : List ℕ). Some x) (post_stays mvar at zeros (λ tag s r. bound mvar tag s r m) post n.0 (bytes (codes "post") post p) n.1) ∙ sym p
+    second : (o p q : Option (List ℕ)) → find (codes "MVAR") ≡ o → find (codes "post") ≡ p → varied_post_if o at p ≡ Ok q → q ≡ find (codes "post")
+    second o None q m p k = sym (done_is None q k) ∙ sym p
+    second None (Some post) q m p k = sym (done_is (Some post) q k) ∙ sym p
+    second (Some mvar) (Some post) q m p k =
+        let n = bind_ok (varied_post (Some mvar) at post) (λ new. Ok (Some new)) q k in
+        sym (done_is (Some n.0) q n.2) ∙ ap (λ (x : List ℕ). Some x) (post_stays mvar at zeros (λ tag s r. bound mvar tag s r m) post n.0 (bytes (codes "post") post p) n.1) ∙ sym p

@@ -53,5 +53,5 @@ pub data HasInstanceFault (font : Font) (settings : List (Tag × ℤ)) (glyphs :
   -- a metric of hhea or post, as MVAR varies it
   in_lines : {e : Error} (at : List ℤ) → normalized_coordinates (stored font) settings ≡ Ok at → HasLinesFault (stored font) at e → HasInstanceFault font settings glyphs steps e
   -- a table's place or length doesn't fit 32 bits
-  large_file : (at : List ℤ) (s : Source) (ds : List Drawn) (lines : Lines) (head : List ℕ) → normalized_coordinates (stored font) settings ≡ Ok at → source_in (stored font) (length at) ≡ Some s → drawn_all s at steps glyphs ≡ Ok ds → lines_of (stored font) at ≡ Ok lines → stored font (codes "head") ≡ Some head
+  large_file : (at : List ℤ) (s : Source) (ds : List Drawn) (lines : Lines) (head : List ℕ) → normalized_coordinates (stored font) settings ≡ Ok at → source_in (stored font) (length at) ≡ Some s → drawn_all s at steps glyphs ≡ Ok ds → lines_of (stored font) settings at ≡ Ok lines → stored font (codes "head") ≡ Some head
       → fits (start_of (present (rows (tables (with_lines (stored font) lines) head lines.hhea s.count ds (by_glyph glyphs ds s.count))))) (present (rows (tables (with_lines (stored font) lines) head lines.hhea s.count ds (by_glyph glyphs ds s.count)))) ≡ false → HasInstanceFault font settings glyphs steps OverflowError

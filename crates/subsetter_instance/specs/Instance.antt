@@ -57,7 +57,7 @@ pub record IsInstance (font : Font) (settings : List (Tag × ℤ)) (glyphs : Lis
   pub at : List ℤ
   pub coordinates_are : normalized_coordinates (stored font) settings ≡ Ok at
   pub lines : Lines
-  pub lines_are : lines_of (stored font) at ≡ Ok lines
+  pub lines_are : lines_of (stored font) settings at ≡ Ok lines
   -- a TrueType file, its directory, checksums and padding right, with these tables alone, so that none hints
   pub container : IsSoundContainer file (kind_word TrueType) (tags_with (with_lines (stored font) lines))
   -- the tables that are drawn from

@@ -2,6 +2,7 @@
 -- the default.
 use Rattle.std.specs.Prelude.{◌≡◌, ◌≤◌, ℕ, ◌==◌, ◌&&◌, false, List, length, codes, Option, Some, None, Ok, All, ℤ, pos, ◌+ℤ◌, ◌≤ℤ◌}
 use Rattle.subsetter_base.specs.Bytes.{IsBytes}
+use Rattle.subsetter_base.specs.declared.tag.Tag.{Tag}
 use Rattle.subsetter_variation.specs.Items.FontMetrics.{metric_store, value_of}
 use Rattle.subsetter_variation.specs.Items.ItemLaws.{HasBoundRegions, IsMaster}
 use Rattle.subsetter_variation.specs.Items.ItemVariations.{Row, Store, delta, item_row}
@@ -66,8 +67,8 @@ IsMetricAtDefault = (mvar : List ℕ) (at : List ℤ) (tag : List ℕ) (before v
 
 -- at the default hhea, which isn't cut, and post are as they stand in the source
 abbrev pub AreLinesAtDefault : Type 0
-AreLinesAtDefault = (find : List ℕ → Option (List ℕ)) (at : List ℤ) (l : Lines) → ((tag bytes : List ℕ) → find tag ≡ Some bytes → IsBytes bytes) → ((hhea : List ℕ) → find (codes "hhea") ≡ Some hhea → 36 ≤ length hhea) → All (λ c. c ≡ pos 0) at
-    → ((mvar tag : List ℕ) (s : Store) (r : Row) → find (codes "MVAR") ≡ Some mvar → IsMetricRow mvar (length at) tag s r → HasBoundRegions s r (length at)) → lines_of find at ≡ Ok l → (find (codes "hhea") ≡ Some l.hhea) × (l.post ≡ find (codes "post"))
+AreLinesAtDefault = (find : List ℕ → Option (List ℕ)) (settings : List (Tag × ℤ)) (at : List ℤ) (l : Lines) → ((tag bytes : List ℕ) → find tag ≡ Some bytes → IsBytes bytes) → ((hhea : List ℕ) → find (codes "hhea") ≡ Some hhea → 36 ≤ length hhea) → All (λ c. c ≡ pos 0) at
+    → ((mvar tag : List ℕ) (s : Store) (r : Row) → find (codes "MVAR") ≡ Some mvar → IsMetricRow mvar (length at) tag s r → HasBoundRegions s r (length at)) → lines_of find settings at ≡ Ok l → (find (codes "hhea") ≡ Some l.hhea) × (l.post ≡ find (codes "post"))
 
 -- ---- outlines
 

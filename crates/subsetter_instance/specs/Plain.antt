@@ -43,7 +43,7 @@ instance_in find settings glyphs steps = do
   at ← normalized_coordinates find settings
   s ← source_or_fault find (length at)
   ds ← drawn_all s at steps glyphs
-  lines ← lines_of find at
+  lines ← lines_of find settings at
   laid find lines s glyphs ds
 
 -- outlines in glyf alone are taken

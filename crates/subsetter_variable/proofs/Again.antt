@@ -131,12 +131,12 @@ module _ (font : Font) (settings : List (Tag × ℤ)) (glyphs out again : List �
   same_count : q.source.count ≡ p.source.count
   same_count = ap (λ (s : Source). s.count) own_source ∙ i.count ∙ ap (λ (s : Source). s.count) (sym first_source)
 
-  -- the second instance has no MVAR, so that its hhea and post stay
+  -- the second instance has neither MVAR nor fvar, so that its hhea and post stay
   still_rows : (stored (as_font out) (codes "hhea") ≡ Some q.lines.hhea) × (q.lines.post ≡ stored (as_font out) (codes "post"))
-  still_rows = still_lines (stored (as_font out)) q.at q.lines (back font settings glyphs i.steps out p (codes "MVAR") refl) q.lines_are
+  still_rows = still_lines (stored (as_font out)) [] q.at q.lines (back font settings glyphs i.steps out p (codes "MVAR") refl) (back font settings glyphs i.steps out p (codes "fvar") refl) q.lines_are
 
   first_lines : i.lines ≡ p.lines
-  first_lines = done_is i.lines p.lines (sym i.lines_are ∙ ap (lines_of (stored font)) (sym first_place) ∙ p.lines_are)
+  first_lines = done_is i.lines p.lines (sym i.lines_are ∙ ap (lines_of (stored font) settings) (sym first_place) ∙ p.lines_are)
 
   head_kept : (long : Bool) (ds : List Drawn) → head_bytes long ds q.head ≡ head_bytes long ds p.head
   head_kept long ds =

@@ -67,7 +67,7 @@ module _ (font : Font) (settings : List (Tag × ℤ)) (glyphs : List ℕ) (token
   no_fault e (other_mvar f) = known_version (other_mvar_is (stored font) f)
   no_fault e (in_source f) = tables_clean (stored font) i.p.source (source_steps (stored font) i.p.source i.steps.source_is) f
   no_fault e (in_glyph at s g p h there f) = no_fault_in e at s g (same_place at p) (same_source s h) there f
-  no_fault e (in_lines at p f) = lines_clean (stored font) at i.p.lines e (ap (lines_of (stored font)) (sym (same_place at p)) ∙ i.steps.lines_are) f
+  no_fault e (in_lines at p f) = lines_clean (stored font) at settings i.p.lines e (ap (lines_of (stored font) settings) (sym (same_place at p)) ∙ i.steps.lines_are) f
   no_fault e (in_table cff2 p is prepared_is f) = no_table_fault e cff2 p (same_outlines cff2 is) (same_prepared p prepared_is) f
   no_fault e (large_file cff2 p cff is prepared_is made h) = not_large cff2 p cff (same_outlines cff2 is) (same_prepared p prepared_is) made h
 

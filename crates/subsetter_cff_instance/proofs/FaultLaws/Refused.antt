@@ -50,8 +50,8 @@ module _ (font : Font) (settings : List (Tag × ℤ)) (glyphs : List ℕ) (token
           | inl k ↦ unread k
           | inr s ↦ elim (bind_err (varied_metrics s.0 at.0 glyphs) _ e s.2) [
             | inl k ↦ let u = not_all_varied s.0 at.0 glyphs e k in in_glyph at.0 s.0 u.g at.1 (source_read (stored font) s.0 s.1).1 u.there u.fault
-            | inr m ↦ elim (bind_err (lines_of (stored font) at.0) _ e m.2) [
-              | inl k ↦ let t = source_steps (stored font) s.0 (source_read (stored font) s.0 s.1).1 in in_lines at.0 at.1 (lines_refused (stored font) at.0 t.hhea e t.hhea_is k)
+            | inr m ↦ elim (bind_err (lines_of (stored font) settings at.0) _ e m.2) [
+              | inl k ↦ let t = source_steps (stored font) s.0 (source_read (stored font) s.0 s.1).1 in in_lines at.0 at.1 (lines_refused (stored font) at.0 settings t.hhea e t.hhea_is k)
               | inr l ↦ let z = l.2 in absurd cc
             ]
           ]

@@ -84,7 +84,7 @@ module _ (font : Font) (settings : List (Tag × ℤ)) (glyphs : List ℕ) (token
   long_head = omega (arith, number-fits source.head 18 2 source.units_per_em read.units_are)
 
   long_hhea : 36 ≤ length hhea
-  long_hhea = lines_long (stored font) i.p.at i.p.lines (subst (λ (o : Option (List ℕ)). IfSome o (λ h. 36 ≤ length h)) (sym read.hhea_is) (number-fits read.hhea 34 2 source.number_of_h_metrics read.pairs_are)) i.steps.lines_are
+  long_hhea = lines_long (stored font) settings i.p.at i.p.lines (subst (λ (o : Option (List ℕ)). IfSome o (λ h. 36 ≤ length h)) (sym read.hhea_is) (number-fits read.hhea 34 2 source.number_of_h_metrics read.pairs_are)) i.steps.lines_are
 
   few : count < 2 ^ 16
   few = number-small source.maxp 4 count (stored_bytes font (codes "maxp") source.maxp bytes read.maxp_is) read.count_is

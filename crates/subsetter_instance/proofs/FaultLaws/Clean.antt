@@ -38,12 +38,12 @@ module _ (font : Font) (settings : List (Tag × ℤ)) (glyphs : List ℕ) (steps
       let d = drawn_one i.source i.at steps g m.d m.drawn_is in
       drawn_clean i.source i.at steps g m.d e d.0 d.1 (subst (λ (l : List ℤ). HasGlyphFault i.source l steps g e) (sym a) (subst (λ (x : Source). HasGlyphFault x at steps g e) (sym t) f))
 
-  not_large : (at : List ℤ) (s : Source) (ds : List Drawn) (l : Lines) (head : List ℕ) → i.at ≡ at → i.source ≡ s → drawn_all s at steps glyphs ≡ Ok ds → lines_of (stored font) at ≡ Ok l → stored font (codes "head") ≡ Some head
+  not_large : (at : List ℤ) (s : Source) (ds : List Drawn) (l : Lines) (head : List ℕ) → i.at ≡ at → i.source ≡ s → drawn_all s at steps glyphs ≡ Ok ds → lines_of (stored font) settings at ≡ Ok l → stored font (codes "head") ≡ Some head
       → fits (start_of (laid_tables (stored font) l s glyphs ds head)) (laid_tables (stored font) l s glyphs ds head) ≡ false → ⊥
   not_large at s ds l head a t drawn varies at_head h =
       let same : i.ds ≡ ds = done_is i.ds ds (sym i.drawn_is ∙ ap (λ (l : List ℤ). drawn_all i.source l steps glyphs) a ∙ ap (λ (x : Source). drawn_all x at steps glyphs) t ∙ drawn) in
       let x : i.head ≡ head = just_is i.head head (sym i.head_is ∙ at_head) in
-      let y : i.lines ≡ l = done_is i.lines l (sym i.lines_are ∙ ap (lines_of (stored font)) a ∙ varies) in
+      let y : i.lines ≡ l = done_is i.lines l (sym i.lines_are ∙ ap (lines_of (stored font) settings) a ∙ varies) in
       let fit = λ (l : Lines) (s : Source) (ds : List Drawn) (head : List ℕ). fits (start_of (laid_tables (stored font) l s glyphs ds head)) (laid_tables (stored font) l s glyphs ds head) in
       let clash : true ≡ false = sym i.fit ∙ ap (λ (s : Source). fit i.lines s i.ds i.head) t ∙ ap (λ (d : List Drawn). fit i.lines s d i.head) same ∙ ap (λ (h : List ℕ). fit i.lines s ds h) x ∙ ap (λ (l : Lines). fit l s ds head) y ∙ h in
       cc
@@ -55,7 +55,7 @@ module _ (font : Font) (settings : List (Tag × ℤ)) (glyphs : List ℕ) (steps
   no_fault e opening (in_versions f) = let clash : true ≡ false = sym (other_version_of (stored font) e f) ∙ i.known in cc
   no_fault e opening (in_source at p f) = tables_clean (stored font) (length at) i.source (ap (λ (l : List ℤ). source_in (stored font) (length l)) (sym (same_place at p)) ∙ i.source_is) f
   no_fault e opening (in_glyph at s g p h there f) = no_fault_in e at s g (same_place at p) (same_source at s p h) there f
-  no_fault e opening (in_lines at p f) = lines_clean (stored font) at i.lines e (ap (lines_of (stored font)) (sym (same_place at p)) ∙ i.lines_are) f
+  no_fault e opening (in_lines at p f) = lines_clean (stored font) at settings i.lines e (ap (lines_of (stored font) settings) (sym (same_place at p)) ∙ i.lines_are) f
   no_fault e opening (large_file at s ds l head p h drawn varies at_head f) = not_large at s ds l head (same_place at p) (same_source at s p h) drawn varies at_head f
 
 -- a font that was opened, and whose outlines are of a known kind

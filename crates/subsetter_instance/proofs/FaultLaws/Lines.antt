@@ -7,13 +7,14 @@ use Rattle.std.proofs.lemmas.Bool.{ltb-false, ltb-true}
 use Rattle.subsetter_base.specs.Bytes.{◌>>=◌, signed_at}
 use Rattle.subsetter_base.specs.declared.error.Error.{Error}
 use Rattle.subsetter_base.specs.declared.error.Error.TheVariants.{MalformedFont, OverflowError}
+use Rattle.subsetter_base.specs.declared.tag.Tag.{Tag}
 use Rattle.subsetter_base.proofs.Options.{just_is, some_not_none}
 use Rattle.subsetter_base.proofs.Results.{bind_err, bind_ok, done, done_is, failed_is, named_err, named_ok, ok_not_err}
 use Rattle.subsetter_points.specs.Simple.{has_16_bits}
 use Rattle.subsetter_variation.specs.Items.FontMetrics.{metric_delta}
 use Rattle.subsetter_variation.specs.Items.ItemVariations.{whole_or_fault}
 use Rattle.subsetter_instance.specs.Glyphs.Drawn.{word_or_fault}
-use Rattle.subsetter_instance.specs.Tables.Lines.{Lines, lines_of, moved_hhea, moved_post, three_lines, varied, varied_hhea, varied_post, varied_post_if, varied_underline}
+use Rattle.subsetter_instance.specs.Tables.Lines.{Lines, lines_of, moved_hhea, moved_post, slant, slanted, three_lines, varied, varied_hhea, varied_post, varied_post_if, varied_underline}
 use Rattle.subsetter_instance.specs.Faults.LinesFault.{HasMetricFault, HasLinesFault, IsLineOfHhea, IsLineOfPost, in_mvar, large_delta, wide_metric, in_hhea, in_post, ascender, descender, line_gap, caret_slope_rise, caret_slope_run, caret_offset, underline_position, underline_thickness}
 use Rattle.subsetter_instance.proofs.FaultLaws.ItemLaws.Mvar.{mvar_refused, mvar_clean}
 use Rattle.subsetter_instance.proofs.FaultLaws.Rounded.{large_refused, large_stops}
@@ -218,27 +219,27 @@ module _ (find : List ℕ → Option (List ℕ)) (at : List ℤ) where
       by None m k = absurd cc
       by (Some mvar) m k = let f = hhea_refused mvar at hhea e k in in_hhea mvar hhea f.tag f.offset m is f.line f.fault
 
-  pub lines_refused : (hhea : List ℕ) (e : Error) → find (codes "hhea") ≡ Some hhea → lines_of find at ≡ Err e → HasLinesFault find at e
+  pub lines_refused : (settings : List (Tag × ℤ)) (hhea : List ℕ) (e : Error) → find (codes "hhea") ≡ Some hhea → lines_of find settings at ≡ Err e → HasLinesFault find at e
   unfolding lines_of
-  lines_refused hhea e is h =
-      elim (bind_err (ok_or (find (codes "hhea")) MalformedFont) (λ hhea. varied_hhea (find (codes "MVAR")) at hhea >>= λ new. varied_post_if (find (codes "MVAR")) at (find (codes "post")) >>= λ post. Ok (let l : Lines = record { hhea = new; post = post } in l)) e h) [
+  lines_refused settings hhea e is h =
+      elim (bind_err (ok_or (find (codes "hhea")) MalformedFont) (λ hhea. varied_hhea (find (codes "MVAR")) at hhea >>= λ new. varied_post_if (find (codes "MVAR")) at (find (codes "post")) >>= λ post. Ok (let l : Lines = record { hhea = new; post = slanted (slant find settings at) post } in l)) e h) [
         | inl k ↦ absurd (some_not_none (find (codes "hhea")) hhea is (named_err (find (codes "hhea")) MalformedFont e k).0)
-        | inr x ↦ elim (bind_err (varied_hhea (find (codes "MVAR")) at x.0) (λ new. varied_post_if (find (codes "MVAR")) at (find (codes "post")) >>= λ post. Ok (let l : Lines = record { hhea = new; post = post } in l)) e x.2) [
+        | inr x ↦ elim (bind_err (varied_hhea (find (codes "MVAR")) at x.0) (λ new. varied_post_if (find (codes "MVAR")) at (find (codes "post")) >>= λ post. Ok (let l : Lines = record { hhea = new; post = slanted (slant find settings at) post } in l)) e x.2) [
           | inl k ↦ hhea_if_refused x.0 e (named_ok (find (codes "hhea")) MalformedFont x.0 x.1) k
-          | inr y ↦ elim (bind_err (varied_post_if (find (codes "MVAR")) at (find (codes "post"))) (λ post. Ok (let l : Lines = record { hhea = y.0; post = post } in l)) e y.2) [
+          | inr y ↦ elim (bind_err (varied_post_if (find (codes "MVAR")) at (find (codes "post"))) (λ post. Ok (let l : Lines = record { hhea = y.0; post = slanted (slant find settings at) post } in l)) e y.2) [
             | inl k ↦ post_if_refused e k
             | inr k ↦ let z = k.2 in absurd cc
           ]
         ]
       ]
 
-  pub lines_clean : (l : Lines) (e : Error) → lines_of find at ≡ Ok l → HasLinesFault find at e → ⊥
-  lines_clean l e h (in_hhea mvar hhea tag offset m is line f) =
-      let s = line_steps find at l h in
+  pub lines_clean : (settings : List (Tag × ℤ)) (l : Lines) (e : Error) → lines_of find settings at ≡ Ok l → HasLinesFault find at e → ⊥
+  lines_clean settings l e h (in_hhea mvar hhea tag offset m is line f) =
+      let s = line_steps find settings at l h in
       let same : s.hhea ≡ hhea = just_is s.hhea hhea (sym s.hhea_is ∙ is) in
       hhea_clean mvar at hhea l.hhea tag offset e (ap (λ (x : List ℕ). varied_hhea (Some mvar) at x) (sym same) ∙ ap (λ o. varied_hhea o at s.hhea) (sym m) ∙ s.new_is) line f
-  lines_clean l e h (in_post mvar post tag offset m is long line f) =
-      let s = line_steps find at l h in
-      let k : varied_post_if (Some mvar) at (Some post) ≡ Ok l.post = ap (λ o. varied_post_if o at (Some post)) (sym m) ∙ ap (λ o. varied_post_if (find (codes "MVAR")) at o) (sym is) ∙ s.post_is in
-      let new = bind_ok (varied_post (Some mvar) at post) (λ new. Ok (Some new)) l.post k in
+  lines_clean settings l e h (in_post mvar post tag offset m is long line f) =
+      let s = line_steps find settings at l h in
+      let k : varied_post_if (Some mvar) at (Some post) ≡ Ok s.post = ap (λ o. varied_post_if o at (Some post)) (sym m) ∙ ap (λ o. varied_post_if (find (codes "MVAR")) at o) (sym is) ∙ s.post_is in
+      let new = bind_ok (varied_post (Some mvar) at post) (λ new. Ok (Some new)) s.post k in
       post_clean mvar at post new.0 tag offset e new.1 long line f

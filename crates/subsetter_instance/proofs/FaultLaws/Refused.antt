@@ -44,7 +44,7 @@ module _ (font : Font) (settings : List (Tag × ℤ)) (glyphs : List ℕ) (steps
   Faulty = HasInstanceFault font settings glyphs steps e
 
   module _ (at : List ℤ) (s : Source) (placed : normalized_coordinates (stored font) settings ≡ Ok at) (read : source_in (stored font) (length at) ≡ Some s) where
-    unlaid : (ds : List Drawn) (l : Lines) → drawn_all s at steps glyphs ≡ Ok ds → lines_of (stored font) at ≡ Ok l → laid (stored font) l s glyphs ds ≡ Err e → Faulty
+    unlaid : (ds : List Drawn) (l : Lines) → drawn_all s at steps glyphs ≡ Ok ds → lines_of (stored font) settings at ≡ Ok l → laid (stored font) l s glyphs ds ≡ Err e → Faulty
     unfolding laid
     unlaid ds l drawn varies h =
         let t = source_steps (stored font) (length at) s read in
@@ -55,23 +55,23 @@ module _ (font : Font) (settings : List (Tag × ℤ)) (glyphs : List ℕ) (steps
               subst (HasInstanceFault font settings glyphs steps) n.1 (large_file at s ds l k.0 placed read drawn varies (named_ok (stored font (codes "head")) MalformedFont k.0 k.1) n.0)
         ]
 
-    unvaried : (ds : List Drawn) → drawn_all s at steps glyphs ≡ Ok ds → (lines_of (stored font) at >>= λ l. laid (stored font) l s glyphs ds) ≡ Err e → Faulty
+    unvaried : (ds : List Drawn) → drawn_all s at steps glyphs ≡ Ok ds → (lines_of (stored font) settings at >>= λ l. laid (stored font) l s glyphs ds) ≡ Err e → Faulty
     unvaried ds drawn h =
-        elim (bind_err (lines_of (stored font) at) (λ l. laid (stored font) l s glyphs ds) e h) [
-          | inl k ↦ let t = source_steps (stored font) (length at) s read in in_lines at placed (lines_refused (stored font) at t.hhea e t.hhea_is k)
+        elim (bind_err (lines_of (stored font) settings at) (λ l. laid (stored font) l s glyphs ds) e h) [
+          | inl k ↦ let t = source_steps (stored font) (length at) s read in in_lines at placed (lines_refused (stored font) at settings t.hhea e t.hhea_is k)
           | inr k ↦ unlaid ds k.0 drawn k.1 k.2
         ]
 
-    unmade : (drawn_all s at steps glyphs >>= λ ds. lines_of (stored font) at >>= λ l. laid (stored font) l s glyphs ds) ≡ Err e → Faulty
+    unmade : (drawn_all s at steps glyphs >>= λ ds. lines_of (stored font) settings at >>= λ l. laid (stored font) l s glyphs ds) ≡ Err e → Faulty
     unmade h =
-        elim (bind_err (drawn_all s at steps glyphs) (λ ds. lines_of (stored font) at >>= λ l. laid (stored font) l s glyphs ds) e h) [
+        elim (bind_err (drawn_all s at steps glyphs) (λ ds. lines_of (stored font) settings at >>= λ l. laid (stored font) l s glyphs ds) e h) [
           | inl k ↦ let u = not_all_drawn s at steps glyphs e k in in_glyph at s u.g placed read u.there u.fault
           | inr k ↦ unvaried k.0 k.1 k.2
         ]
 
-  unread : (at : List ℤ) → normalized_coordinates (stored font) settings ≡ Ok at → (source_or_fault (stored font) (length at) >>= λ s. drawn_all s at steps glyphs >>= λ ds. lines_of (stored font) at >>= λ l. laid (stored font) l s glyphs ds) ≡ Err e → Faulty
+  unread : (at : List ℤ) → normalized_coordinates (stored font) settings ≡ Ok at → (source_or_fault (stored font) (length at) >>= λ s. drawn_all s at steps glyphs >>= λ ds. lines_of (stored font) settings at >>= λ l. laid (stored font) l s glyphs ds) ≡ Err e → Faulty
   unread at placed h =
-      elim (bind_err (source_or_fault (stored font) (length at)) (λ s. drawn_all s at steps glyphs >>= λ ds. lines_of (stored font) at >>= λ l. laid (stored font) l s glyphs ds) e h) [
+      elim (bind_err (source_or_fault (stored font) (length at)) (λ s. drawn_all s at steps glyphs >>= λ ds. lines_of (stored font) settings at >>= λ l. laid (stored font) l s glyphs ds) e h) [
         | inl k ↦ elim (source_refused (stored font) (length at) e k) [
           | inl n ↦ subst (HasInstanceFault font settings glyphs steps) n.1 (in_versions (versions_refused (stored font) n.0))
           | inr n ↦ subst (HasInstanceFault font settings glyphs steps) n.1 (in_source at placed (tables_refused (stored font) (length at) n.0))
@@ -82,7 +82,7 @@ module _ (font : Font) (settings : List (Tag × ℤ)) (glyphs : List ℕ) (steps
   in_tables : instance_in (stored font) settings glyphs steps ≡ Err e → Faulty
   unfolding instance_in
   in_tables h =
-      elim (bind_err (normalized_coordinates (stored font) settings) (λ at. source_or_fault (stored font) (length at) >>= λ s. drawn_all s at steps glyphs >>= λ ds. lines_of (stored font) at >>= λ l. laid (stored font) l s glyphs ds) e h) [
+      elim (bind_err (normalized_coordinates (stored font) settings) (λ at. source_or_fault (stored font) (length at) >>= λ s. drawn_all s at steps glyphs >>= λ ds. lines_of (stored font) settings at >>= λ l. laid (stored font) l s glyphs ds) e h) [
         | inl k ↦ in_place (place_refused (stored font) settings e k)
         | inr k ↦ unread k.0 k.1 k.2
       ]

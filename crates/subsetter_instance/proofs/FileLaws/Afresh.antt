@@ -69,7 +69,7 @@ module _ (font : Font) (settings : List (Tag × ℤ)) (glyphs : List ℕ) (steps
   long_head = omega (arith, number-fits read.head 50 2 read.format read.format_is, ap length (just_is read.head i.head (sym read.head_is ∙ i.head_is)))
 
   long_hhea : 36 ≤ length hhea
-  long_hhea = lines_long (stored font) i.at i.lines (subst (λ (o : Option (List ℕ)). IfSome o (λ h. 36 ≤ length h)) (sym read.hhea_is) (number-fits read.hhea 34 2 i.source.number_of_h_metrics read.pairs_is)) i.lines_are
+  long_hhea = lines_long (stored font) settings i.at i.lines (subst (λ (o : Option (List ℕ)). IfSome o (λ h. 36 ≤ length h)) (sym read.hhea_is) (number-fits read.hhea 34 2 i.source.number_of_h_metrics read.pairs_is)) i.lines_are
 
   few : count < 2 ^ 16
   few = number-small read.maxp 4 count (stored_bytes font (codes "maxp") read.maxp bytes read.maxp_is) read.count_is

@@ -163,18 +163,18 @@ pub record InstanceSteps (find : List ℕ → Option (List ℕ)) (settings : Lis
   pub head : List ℕ
   pub head_is : find (codes "head") ≡ Some head
   pub lines : Lines
-  pub lines_are : lines_of find at ≡ Ok lines
+  pub lines_are : lines_of find settings at ≡ Ok lines
   pub fit : fits (start_of (laid_tables find lines source glyphs ds head)) (laid_tables find lines source glyphs ds head) ≡ true
   pub file_is : file (kind_word TrueType) (laid_tables find lines source glyphs ds head) ≡ out
 
 instance_steps : (find : List ℕ → Option (List ℕ)) (settings : List (Tag × ℤ)) (glyphs : List ℕ) (steps : ℕ) (out : List ℕ) → instance_in find settings glyphs steps ≡ Ok out → InstanceSteps find settings glyphs steps out
 unfolding instance_in laid
 instance_steps find settings glyphs steps out h =
-    let a = bind_ok (normalized_coordinates find settings) (λ at. source_or_fault find (length at) >>= λ s. drawn_all s at steps glyphs >>= λ ds. lines_of find at >>= λ lines. laid find lines s glyphs ds) out h in
-    let b = bind_ok (source_or_fault find (length a.0)) (λ s. drawn_all s a.0 steps glyphs >>= λ ds. lines_of find a.0 >>= λ lines. laid find lines s glyphs ds) out a.2 in
+    let a = bind_ok (normalized_coordinates find settings) (λ at. source_or_fault find (length at) >>= λ s. drawn_all s at steps glyphs >>= λ ds. lines_of find settings at >>= λ lines. laid find lines s glyphs ds) out h in
+    let b = bind_ok (source_or_fault find (length a.0)) (λ s. drawn_all s a.0 steps glyphs >>= λ ds. lines_of find settings a.0 >>= λ lines. laid find lines s glyphs ds) out a.2 in
     let r = source_read find (length a.0) b.0 b.1 in
-    let c = bind_ok (drawn_all b.0 a.0 steps glyphs) (λ ds. lines_of find a.0 >>= λ lines. laid find lines b.0 glyphs ds) out b.2 in
-    let l = bind_ok (lines_of find a.0) (λ lines. laid find lines b.0 glyphs c.0) out c.2 in
+    let c = bind_ok (drawn_all b.0 a.0 steps glyphs) (λ ds. lines_of find settings a.0 >>= λ lines. laid find lines b.0 glyphs ds) out b.2 in
+    let l = bind_ok (lines_of find settings a.0) (λ lines. laid find lines b.0 glyphs c.0) out c.2 in
     let d = bind_ok (header find (codes "head")) (λ head. file_of (kind_word TrueType) (laid_tables find l.0 b.0 glyphs c.0 head)) out l.2 in
     let f = file_steps (kind_word TrueType) (laid_tables find l.0 b.0 glyphs c.0 d.0) out d.2 in
     record {

@@ -53,7 +53,7 @@ by_steps find settings glyphs m n x y i j =
     let source : j.source ≡ i.source = just_is j.source i.source (sym j.source_is ∙ ap (λ (l : List ℤ). source_in find (length l)) at ∙ i.source_is) in
     let ds : i.ds ≡ j.ds = all_alike i.source i.at m n glyphs i.ds j.ds i.drawn_is (ap (λ (l : List ℤ). drawn_all i.source l n glyphs) (sym at) ∙ ap (λ (s : Source). drawn_all s j.at n glyphs) (sym source) ∙ j.drawn_is) in
     let head : i.head ≡ j.head = just_is i.head j.head (sym i.head_is ∙ j.head_is) in
-    let lines : i.lines ≡ j.lines = done_is i.lines j.lines (sym i.lines_are ∙ ap (lines_of find) (sym at) ∙ j.lines_are) in
+    let lines : i.lines ≡ j.lines = done_is i.lines j.lines (sym i.lines_are ∙ ap (lines_of find settings) (sym at) ∙ j.lines_are) in
     sym i.file_is
     ∙ ap (λ (s : Source). file (kind_word TrueType) (laid_tables find i.lines s glyphs i.ds i.head)) (sym source) ∙ ap (λ (l : List Drawn). file (kind_word TrueType) (laid_tables find i.lines j.source glyphs l i.head)) ds
     ∙ ap (λ (l : List ℕ). file (kind_word TrueType) (laid_tables find i.lines j.source glyphs j.ds l)) head ∙ ap (λ (l : Lines). file (kind_word TrueType) (laid_tables find l j.source glyphs j.ds j.head)) lines

@@ -1,13 +1,18 @@
--- The metrics of `hhea` and `post` that vary (OpenType, "MVAR", "hhea" and "post").
-use Rattle.std.specs.Prelude.{ℕ, ◌+◌, List, ◌++◌, length, take, drop, slice_range, codes, Option, Some, None, Result, Ok, nat_lt, if◌then◌else◌, ℤ, ◌+ℤ◌}
-use Rattle.std.specs.Option.{ok_or}
+-- The metrics of `hhea` and `post` that vary (OpenType, "MVAR", "hhea" and "post"), and the angle of `post` ("fvar").
+use Rattle.std.specs.Prelude.{ℕ, ◌+◌, List, ◌++◌, length, take, drop, slice_range, codes, Option, Some, None, Result, Ok, nat_lt, if◌then◌else◌, ℤ, pos, ◌+ℤ◌}
+use Rattle.std.specs.Int.{w32, cast_unsigned, to_be_bytes}
+use Rattle.std.specs.List.{list_all}
+use Rattle.std.specs.Option.{ok_or, option_and_then, option_map}
+use Rattle.std.specs.Ordering.{int_eq}
 use Rattle.std.specs.Str.{bytes_eq}
 use Rattle.subsetter_base.specs.Bytes.{◌>>=◌, signed_at}
 use Rattle.subsetter_base.specs.declared.error.Error.{Error}
 use Rattle.subsetter_base.specs.declared.error.Error.TheVariants.{MalformedFont}
+use Rattle.subsetter_base.specs.declared.tag.Tag.{Tag}
 use Rattle.subsetter_points.specs.Simple.{signed_word}
 use Rattle.subsetter_variation.specs.Items.FontMetrics.{metric_delta}
 use Rattle.subsetter_variation.specs.Items.ItemVariations.{whole_or_fault}
+use Rattle.subsetter_variation.specs.Locations.Axes.{axes, clamped, find_axis}
 use Rattle.subsetter_instance.specs.Glyphs.Drawn.{word_or_fault}
 
 -- a number with what MVAR varies the metric of a tag by, which has 16 bits
@@ -59,6 +64,25 @@ abbrev pub varied_post_if : Option (List ℕ) → List ℤ → Option (List ℕ)
 varied_post_if mvar at None = Ok None
 varied_post_if mvar at (Some post) = varied_post mvar at post >>= λ new. Ok (Some new)
 
+-- ---- the slant
+
+-- italicAngle of post is the coordinate on `slnt`, whose scale is that of post.italicAngle (OpenType, "Registered design-variation axis tag:
+-- 'slnt'"), where the font has this axis; in 65536ths of a degree
+abbrev pub slant_by : Option (List ℕ) → List (Tag × ℤ) → Option ℤ
+slant_by fvar settings = option_map (λ a. clamped a settings) (option_and_then (find_axis (codes "slnt")) (option_and_then axes fvar))
+
+-- off the default
+abbrev pub slant : (List ℕ → Option (List ℕ)) → List (Tag × ℤ) → List ℤ → Option ℤ
+slant find settings at = if list_all (λ c. int_eq c (pos 0)) at then None else slant_by (find (codes "fvar")) settings
+
+-- a table that ends before it does stays
+abbrev pub with_angle : ℤ → List ℕ → List ℕ
+with_angle angle post = if nat_lt (length post) 8 then post else take 4 post ++ to_be_bytes w32 (cast_unsigned w32 angle) ++ drop 8 post
+
+abbrev pub slanted : Option ℤ → Option (List ℕ) → Option (List ℕ)
+slanted None post = post
+slanted (Some angle) post = option_map (with_angle angle) post
+
 -- ---- both
 
 pub record Lines : Type 0 where
@@ -66,12 +90,12 @@ pub record Lines : Type 0 where
   pub post : Option (List ℕ)
 
 -- of the tables that a look-up finds
-unfoldable pub lines_of : (List ℕ → Option (List ℕ)) → List ℤ → Result Lines Error
-lines_of find at = do
+unfoldable pub lines_of : (List ℕ → Option (List ℕ)) → List (Tag × ℤ) → List ℤ → Result Lines Error
+lines_of find settings at = do
   hhea ← ok_or (find (codes "hhea")) MalformedFont
   new ← varied_hhea (find (codes "MVAR")) at hhea
   post ← varied_post_if (find (codes "MVAR")) at (find (codes "post"))
-  Ok (record { hhea = new; post = post })
+  Ok (record { hhea = new; post = slanted (slant find settings at) post })
 
 -- the tables, these two as they vary
 abbrev pub with_lines : (List ℕ → Option (List ℕ)) → Lines → List ℕ → Option (List ℕ)

@@ -1,10 +1,11 @@
-//! The metrics of `hhea` and `post` that vary (OpenType, "MVAR", "hhea" and "post").
+//! The metrics of `hhea` and `post` that vary (OpenType, "MVAR", "hhea" and "post"), and the angle of `post` ("fvar").
 
-ghost use Rattle.std.specs.Prelude.{◌≡◌, ◌≤◌, ◌+◌, ◌++◌, IfOk, IfSome, OnOk, codes, length};
+ghost use Rattle.std.specs.Prelude.{◌≡◌, ◌≤◌, ◌+◌, ◌++◌, IfOk, IfSome, Ok, OnOk, codes, length};
 ghost use Rattle.std.specs.Option.{option_copied, option_map, option_or};
 ghost use Rattle.subsetter_base.specs.Gives.{Gives};
 ghost use Rattle.subsetter_sfnt.specs.Read.{table_in};
-ghost use Rattle.subsetter_instance.specs.Tables.Lines.{varied, three_lines, line_bytes, moved_hhea, varied_hhea, moved_post, varied_underline, varied_post_if, lines_of};
+ghost use Rattle.subsetter_instance.specs.Tables.Lines.{varied, three_lines, line_bytes, moved_hhea, varied_hhea, moved_post, varied_underline, varied_post_if, with_angle, slanted, slant_by, slant, lines_of};
+ghost use Rattle.subsetter_variation.specs.Locations.Axes.{clamped, find_axis};
 
 use crate::glyphs::drawn::word_or_fault;
 use std::alloc::{AllocError, Global};
@@ -13,8 +14,11 @@ use subsetter_base::read::signed_at;
 use subsetter_base::{Error, Tag};
 use subsetter_sfnt::face::Face;
 use subsetter_sfnt::fields::hhea::{ADVANCE_WIDTH_MAX, ASCENDER, CARET_SLOPE_RISE, RESERVED};
-use subsetter_sfnt::fields::post::{IS_FIXED_PITCH, UNDERLINE_POSITION, UNDERLINE_THICKNESS};
+use subsetter_sfnt::fields::post::{
+    IS_FIXED_PITCH, ITALIC_ANGLE, UNDERLINE_POSITION, UNDERLINE_THICKNESS,
+};
 use subsetter_variation::items::font_metrics::metric_delta;
+use subsetter_variation::locations::axes::{Axis, axes, clamped, find_axis};
 
 /// `hhea` and `post` with the metrics that vary. `post` is the font's own, with the names of all glyphs, where it has none that does.
 #[derive(Drop)]
@@ -183,17 +187,100 @@ fn varied_post_if(
     Ok(Some(varied_underline(alloc, mvar, at, table)?))
 }
 
+/// `post` with another angle, where it has one.
+fn with_angle(alloc: Global, post: &[u8], angle: i32) -> Result<Vec<u8>, AllocError>
+    ensures { IfOk result (λ v. v.items ≡ with_angle angle post.now) }
+{
+    if post.len() < UNDERLINE_POSITION {
+        return copied(alloc, post);
+    }
+    let mut new = Vec::with_capacity(alloc, post.len())?;
+    new.extend_from_slice(&post[..ITALIC_ANGLE])?;
+    new.extend_from_slice(&angle.to_be_bytes())?;
+    new.extend_from_slice(&post[UNDERLINE_POSITION..])?;
+    Ok(new)
+}
+
+/// `post`, which may have moved, with the angle, if there is one.
+fn slanted(
+    alloc: Global,
+    angle: Option<i32>,
+    moved: Option<Vec<u8>>,
+    post: Option<&[u8]>,
+) -> Result<Option<Vec<u8>>, AllocError>
+    ensures { IfOk result (λ o. option_or (option_map (λ v. v.items) o) (option_copied post.entry) ≡ slanted angle (option_or (option_map (λ v. v.items) moved) (option_copied post.entry))) }
+{
+    let Some(angle) = angle else {
+        return Ok(moved);
+    };
+    if let Some(table) = moved {
+        return Ok(Some(with_angle(alloc, &table, angle)?));
+    }
+    match post {
+        Some(table) => Ok(Some(with_angle(alloc, table, angle)?)),
+        None => Ok(None),
+    }
+}
+
+/// The coordinate on `slnt`, where these axes have it.
+fn coordinate_on_slant(axes: &[Axis], settings: &[(Tag, i32)]) -> Option<i32>
+    ensures { result ≡ option_map (λ a. clamped a settings.now) (find_axis (codes "slnt") axes.now) }
+{
+    let axis = find_axis(axes, Tag::new(b"slnt"))?;
+    Some(clamped(axis, settings))
+}
+
+/// The same of the axes that `fvar` lists.
+fn slant_by(
+    alloc: Global,
+    fvar: Option<&[u8]>,
+    settings: &[(Tag, i32)],
+) -> Result<Option<i32>, Error>
+    ensures { Gives (λ o. o) result (Ok (slant_by (option_copied fvar.entry) settings.now)) }
+{
+    let Some(fvar) = fvar else {
+        return Ok(None);
+    };
+    match axes(alloc, fvar) {
+        Ok(axes) => Ok(coordinate_on_slant(&axes, settings)),
+        Err(Error::OutOfMemory) => Err(Error::OutOfMemory),
+        Err(_) => Ok(None),
+    }
+}
+
+/// The angle of `post` at a location off the default, if it isn't that of the font.
+fn slant(
+    alloc: Global,
+    face: &Face<'_>,
+    settings: &[(Tag, i32)],
+    at: &[i32],
+) -> Result<Option<i32>, Error>
+    ensures { Gives (λ o. o) result (Ok (slant (table_in face.now.«data».now face.now.records.now) settings.now at.now)) }
+{
+    if at.iter().all(|v| *v == 0) {
+        return Ok(None);
+    }
+    slant_by(alloc, face.stored(Tag::new(b"fvar")), settings)
+}
+
 /// `hhea` and `post` of a font at a location. A cut table is `MalformedFont`, a number past 16 bits `OverflowError`.
 #[tactic(auto, unfolding(crate::specs::Tables::Lines::lines_of))]
-pub fn lines_of<'a>(alloc: Global, face: &Face<'a>, at: &[i32]) -> Result<Lines<'a>, Error>
+pub fn lines_of<'a>(
+    alloc: Global,
+    face: &Face<'a>,
+    settings: &[(Tag, i32)],
+    at: &[i32],
+) -> Result<Lines<'a>, Error>
     requires { IfSome (table_in face.now.«data».now face.now.records.now (codes "hhea")) (λ hhea. 36 ≤ length hhea) }
-    ensures { Gives (λ l. l) result (lines_of (table_in face.now.«data».now face.now.records.now) at.now) }
+    ensures { Gives (λ l. l) result (lines_of (table_in face.now.«data».now face.now.records.now) settings.now at.now) }
 {
     let mvar = face.stored(Tag::new(b"MVAR"));
     let hhea = face.stored(Tag::HHEA).ok_or(Error::MalformedFont)?;
     let hhea = varied_hhea(alloc, mvar, at, hhea)?;
     let post = face.stored(Tag::POST);
-    let moved_post = varied_post_if(alloc, mvar, at, post)?;
+    let varied_post = varied_post_if(alloc, mvar, at, post)?;
+    let angle = slant(alloc, face, settings, at)?;
+    let moved_post = slanted(alloc, angle, varied_post, post)?;
     Ok(Lines {
         hhea,
         moved_post,

@@ -54,6 +54,10 @@ advance_delta hvar at g = do
 abbrev pub advance_or_fault : List ℕ → List ℤ → ℕ → Result ℤ Error
 advance_or_fault hvar at g = whole_or_fault (advance_delta hvar at g)
 
+-- the same of an item, by a store, if both are there
+abbrev pub delta_by : Option Store → List ℤ → Option (ℕ × ℕ) → Result ℤ Error
+delta_by store at item = whole_or_fault (store >>= λ s. item >>= λ index. item_delta s at index.0 index.1)
+
 -- the outer and the inner index of a glyph's vertical origin, by vOrgMapping of `VVAR`; without the map there are none
 unfoldable pub origin_index : List ℕ → ℕ → Option (ℕ × ℕ)
 origin_index vvar g = do
@@ -67,3 +71,7 @@ origin_delta vvar at g = do
   s ← store_of vvar (length at)
   index ← origin_index vvar g
   item_delta s at index.0 index.1
+
+-- the same in whole units, or the name of what is wrong
+abbrev pub origin_or_fault : List ℕ → List ℤ → ℕ → Result ℤ Error
+origin_or_fault vvar at g = whole_or_fault (origin_delta vvar at g)

@@ -1,5 +1,6 @@
 -- The axes of a variable font (OpenType, "fvar"), and where a coordinate is on one. Coordinates are in 65536ths.
 use Rattle.std.specs.Prelude.{ℕ, zero, suc, ◌+◌, List, [], ◌∷◌, take, find, Option, Some, None, nat_lt, int_lt, int_le, if◌then◌else◌, ℤ, pos, neg_ℤ, ◌-ℤ◌, unsigned_abs}
+use Rattle.std.specs.Int.{int_max, int_min}
 use Rattle.std.specs.Str.{bytes_eq}
 use Rattle.subsetter_base.specs.Bytes.{range, number, long_signed_at}
 use Rattle.subsetter_base.specs.declared.tag.Tag.{Tag}
@@ -39,6 +40,14 @@ user_coordinate_from value tag (s ∷ settings) = user_coordinate_from (if bytes
 -- the coordinate on an axis: the last setting of its tag, else its default
 abbrev pub user_coordinate : Axis → List (Tag × ℤ) → ℤ
 user_coordinate a settings = user_coordinate_from a.default a.tag.0 settings
+
+-- no greater than one number, and no less than another
+unfoldable pub within : ℤ → ℤ → ℤ → ℤ
+within greatest least c = int_max (int_min c greatest) least
+
+-- the same, clamped to the axis, which has nothing on a side where its end isn't past its default
+abbrev pub clamped : Axis → List (Tag × ℤ) → ℤ
+clamped a settings = within (int_max a.maximum a.default) (int_min a.minimum a.default) (user_coordinate a settings)
 
 -- how far a coordinate is from the default, in 65536ths of the way from it to an end
 unfoldable pub toward : ℤ → ℤ → ℤ → ℤ

@@ -4,11 +4,11 @@
 //! A map of indexes without entries has no reading (FreeType and HarfBuzz take 0 there). The version of `HVAR` and `VVAR`
 //! isn't looked at. Both tables have the store and the map of advances at the same offsets.
 
-ghost use Rattle.std.specs.Prelude.{[], ◌≡◌, ◌+◌, ◌*◌, ◌<◌, ◌≤◌, ◌^◌, Some, IfOk, IfSome, map};
+ghost use Rattle.std.specs.Prelude.{[], ◌≡◌, ◌+◌, ◌*◌, ◌<◌, ◌≤◌, ◌^◌, Err, Some, IfOk, IfSome, length, map, replicate};
 ghost use Rattle.std.specs.Option.{ok_or};
 ghost use Rattle.subsetter_base.specs.declared.error.Error.TheVariants.{MalformedFont};
 ghost use Rattle.subsetter_variation.specs.Items.ItemVariations.{nullable_offset, item_store, item_delta, in_whole_units, whole_or_fault};
-ghost use Rattle.subsetter_variation.specs.Items.Advances.{advance_or_fault, map_head, split_index, mapped_index, advance_index, store_of, advance_delta, entry_index, origin_index, origin_delta};
+ghost use Rattle.subsetter_variation.specs.Items.Advances.{advance_or_fault, map_head, split_index, mapped_index, advance_index, store_of, advance_delta, delta_by, entry_index, origin_index, origin_or_fault};
 
 use crate::items::item_variations::{
     Store, in_whole_units, item_delta, item_store, nullable_offset,
@@ -146,24 +146,34 @@ fn advance_items(
     Ok(items)
 }
 
-/// What the advance of each of these glyphs varies by, one after the other.
-fn advances_one_by_one(
-    alloc: Global,
-    hvar: &[u8],
-    at: &[i32],
-    glyphs: &[u16],
-) -> Result<Vec<Result<i64, Error>>, AllocError>
-    ensures { IfOk result (λ v. v.items ≡ map (advance_or_fault hvar.now at.now) glyphs.now) }
+/// `MalformedFont` for so many items: there is no store.
+fn without_store(alloc: Global, count: usize) -> Result<Vec<Result<i64, Error>>, AllocError>
+    ensures { IfOk result (λ v. v.items ≡ replicate count (Err MalformedFont)) }
 {
-    let mut deltas = Vec::with_capacity(alloc, glyphs.len())?;
-    for glyph in glyphs {
-        deltas.push(advance_delta(hvar, at, *glyph))?;
+    let mut deltas = Vec::with_capacity(alloc, count)?;
+    for index in 0..count {
+        deltas.push(Err(Error::MalformedFont))?;
     }
     Ok(deltas)
 }
 
-/// What the advance of each of these glyphs varies by at a location, each as `advance_delta` says. The scalar of a region is
-/// reckoned once, and so is the sum of an item.
+/// What each of these items varies by at a location, by the store of `HVAR` or `VVAR`. The scalar of a region is reckoned
+/// once, and so is the sum of an item.
+fn deltas_by(
+    alloc: Global,
+    table: &[u8],
+    at: &[i32],
+    items: &[Option<(u32, u32)>],
+) -> Result<Vec<Result<i64, Error>>, AllocError>
+    ensures { IfOk result (λ v. v.items ≡ map (delta_by (store_of table.now (length at.now)) at.now) items.now) }
+{
+    match store_of(table, at.len()) {
+        Some(s) => each_delta(alloc, &s, at, items),
+        None => without_store(alloc, items.len()),
+    }
+}
+
+/// What the advance of each of these glyphs varies by at a location, each as `advance_delta` says.
 pub fn advance_deltas(
     alloc: Global,
     hvar: &[u8],
@@ -172,11 +182,8 @@ pub fn advance_deltas(
 ) -> Result<Vec<Result<i64, Error>>, AllocError>
     ensures { IfOk result (λ v. v.items ≡ map (advance_or_fault hvar.now at.now) glyphs.now) }
 {
-    let Some(s) = store_of(hvar, at.len()) else {
-        return advances_one_by_one(alloc, hvar, at, glyphs);
-    };
     let items = advance_items(alloc, hvar, glyphs)?;
-    each_delta(alloc, &s, at, &items)
+    deltas_by(alloc, hvar, at, &items)
 }
 
 /// The indexes of a glyph's vertical origin: without a map there are none.
@@ -188,20 +195,31 @@ fn origin_index(vvar: &[u8], glyph: u16) -> Option<(u32, u32)>
     mapped_index(from_offset(vvar, at as usize)?, glyph)
 }
 
-/// What the y of a glyph's vertical origin varies by at a place, in parts of 2^30.
-#[tactic(auto, unfolding(crate::specs::Items::Advances::origin_delta))]
-fn varied_origin(vvar: &[u8], at: &[i32], glyph: u16) -> Option<i128>
-    ensures { result ≡ origin_delta vvar.now at.now glyph }
+/// The item of the vertical origin of each of these glyphs.
+fn origin_items(
+    alloc: Global,
+    vvar: &[u8],
+    glyphs: &[u16],
+) -> Result<Vec<Option<(u32, u32)>>, AllocError>
+    ensures { IfOk result (λ v. v.items ≡ map (origin_index vvar.now) glyphs.now) }
 {
-    let s = store_of(vvar, at.len())?;
-    let (outer, inner) = origin_index(vvar, glyph)?;
-    item_delta(&s, at, outer, inner)
+    let mut items = Vec::with_capacity(alloc, glyphs.len())?;
+    for glyph in glyphs {
+        items.push(origin_index(vvar, *glyph))?;
+    }
+    Ok(items)
 }
 
-/// What the y of a glyph's vertical origin in `VORG` varies by at a location, in whole units. A table that is cut, or has no
-/// map of origins or no item for the glyph, is `MalformedFont`, 2^32 units or more `OverflowError`.
-pub fn origin_delta(vvar: &[u8], at: &[i32], glyph: u16) -> Result<i64, Error>
-    ensures { result ≡ whole_or_fault (origin_delta vvar.now at.now glyph) }
+/// What the y of the vertical origin of each of these glyphs in `VORG` varies by at a location, in whole units. A table that
+/// is cut, or has no map of origins or no item for the glyph, is `MalformedFont`, 2^32 units or more `OverflowError`.
+pub fn origin_deltas(
+    alloc: Global,
+    vvar: &[u8],
+    at: &[i32],
+    glyphs: &[u16],
+) -> Result<Vec<Result<i64, Error>>, AllocError>
+    ensures { IfOk result (λ v. v.items ≡ map (origin_or_fault vvar.now at.now) glyphs.now) }
 {
-    in_whole_units(varied_origin(vvar, at, glyph).ok_or(Error::MalformedFont)?)
+    let items = origin_items(alloc, vvar, glyphs)?;
+    deltas_by(alloc, vvar, at, &items)
 }

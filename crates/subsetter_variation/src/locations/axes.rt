@@ -6,7 +6,7 @@ ghost use Rattle.std.specs.Prelude.{◌≡◌, ◌<◌, ◌≤◌, ◌-ℤ◌, �
 ghost use Rattle.std.specs.Option.{ok_or};
 ghost use Rattle.subsetter_base.specs.Gives.{Gives};
 ghost use Rattle.subsetter_base.specs.declared.error.Error.TheVariants.{MalformedFont};
-ghost use Rattle.subsetter_variation.specs.Locations.Axes.{axis_of, find_axis, axes_at, axes, user_coordinate, toward, below_default, above_default, default_normalized};
+ghost use Rattle.subsetter_variation.specs.Locations.Axes.{axis_of, find_axis, axes_at, axes, user_coordinate, within, clamped, toward, below_default, above_default, default_normalized};
 ghost use Rattle.subsetter_base.specs.Bytes.{long_signed_at};
 
 use crate::fvar::{axes_array_offset, axis_count, axis_size};
@@ -101,6 +101,23 @@ pub fn user_coordinate(axis: &Axis, settings: &[(Tag, i32)]) -> i32
         }
     }
     value
+}
+
+/// A number that is no greater than one and no less than another.
+#[tactic(auto, unfolding(crate::specs::Locations::Axes::within))]
+fn within(greatest: i32, least: i32, coordinate: i32) -> i32
+    ensures { result ≡ within greatest least coordinate }
+{
+    coordinate.min(greatest).max(least)
+}
+
+/// The coordinate on an axis, clamped to it.
+pub fn clamped(axis: Axis, settings: &[(Tag, i32)]) -> i32
+    ensures { result ≡ clamped axis settings.now }
+{
+    let greatest = axis.maximum.max(axis.default);
+    let least = axis.minimum.min(axis.default);
+    within(greatest, least, user_coordinate(&axis, settings))
 }
 
 /// How far a coordinate is from the default, in 65536ths of the way from it to an end.

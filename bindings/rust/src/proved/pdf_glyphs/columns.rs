@@ -4,7 +4,7 @@
 use crate::rattle::prelude::{IteratorExt, Vec};
 
 use crate::proved::pdf_glyphs::frequent::most_frequent;
-use crate::proved::pdf_glyphs::heights::{height_deltas, known_at, HeightVariation};
+use crate::proved::pdf_glyphs::heights::{deltas_of, known_at, Deltas, HeightVariation};
 use crate::proved::pdf_glyphs::metrics::{metric_at, VerticalTables};
 use crate::proved::pdf_glyphs::origins::origins_of;
 use crate::proved::pdf_text::{Column, DefaultColumn};
@@ -24,7 +24,7 @@ fn glyphs_of(alloc: Global, mapper: &GlyphRemapper) -> Result<Vec<u16>, Error> {
     Ok(mapper.remapped_gids().collect_with(alloc)?)
 }
 
-/// The column of each glyph that has a width, by what their advance heights vary by.
+/// The column of each glyph that has a width, by what the glyphs vary by.
 fn each_column(
     alloc: Global,
     tables: VerticalTables<'_>,
@@ -32,7 +32,7 @@ fn each_column(
     glyphs: &[u16],
     origins: &[Option<i16>],
     widths: &[u32],
-    known: &[Result<i64, Error>],
+    deltas: &Deltas,
 ) -> Result<Vec<Column>, Error> {
     let mut columns = Vec::with_capacity(alloc, glyphs.len())?;
     for index in 0..glyphs.len().min(widths.len()) {
@@ -42,7 +42,8 @@ fn each_column(
             glyphs[index],
             widths[index],
             origins[index],
-            known_at(known, index),
+            known_at(&deltas.heights, index),
+            known_at(&deltas.origins, index),
         );
         columns.push(column)?;
     }
@@ -70,9 +71,9 @@ pub fn columns_at(
     let origins = origins_of(alloc, tables.vorg, &mapper)?;
     let numbered = glyphs_of(alloc, &mapper)?;
     let _count = mapper.num_gids();
-    let known = height_deltas(alloc, variation, &numbered)?;
+    let deltas = deltas_of(alloc, variation, &numbered)?;
     let each = each_column(
-        alloc, tables, variation, &numbered, &origins, widths, &known,
+        alloc, tables, variation, &numbered, &origins, widths, &deltas,
     )?;
     let default = most_frequent(alloc, &each)?;
     Ok(Columns { each, default })

@@ -4,9 +4,7 @@
 use crate::rattle::prelude::Vec;
 
 use crate::proved::subsetter_base::Error;
-use crate::proved::subsetter_variation::items::advances::{
-    advance_delta, advance_deltas, origin_delta,
-};
+use crate::proved::subsetter_variation::items::advances::{advance_deltas, origin_deltas};
 use crate::rattle::alloc::{AllocError, Global};
 
 /// Where a font is off its default, and what its advance heights and the origins of `VORG` vary by.
@@ -18,37 +16,38 @@ pub struct HeightVariation<'a> {
     pub vvar: &'a [u8],
 }
 
-/// What the advance heights of glyphs vary by, reckoned for all of them at once; none without a variation.
-pub fn height_deltas(
+/// What the advance heights of glyphs vary by, and the ys of their origins in `VORG`, in whole units: of each glyph one.
+pub struct Deltas {
+    pub heights: Vec<Result<i64, Error>>,
+    pub origins: Vec<Result<i64, Error>>,
+}
+
+/// What glyphs vary by, reckoned for all of them at once; none without a variation.
+pub fn deltas_of(
     alloc: Global,
     variation: Option<HeightVariation<'_>>,
     glyphs: &[u16],
-) -> Result<Vec<Result<i64, Error>>, AllocError> {
-    match variation {
-        Some(variation) => advance_deltas(alloc, variation.vvar, variation.at, glyphs),
-        None => Ok(Vec::new(alloc)),
-    }
+) -> Result<Deltas, AllocError> {
+    let variation = match variation {
+        Some(variation) => variation,
+        _ => {
+            return Ok(Deltas {
+                heights: Vec::new(alloc),
+                origins: Vec::new(alloc),
+            });
+        }
+    };
+    let heights = advance_deltas(alloc, variation.vvar, variation.at, glyphs)?;
+    let origins = origin_deltas(alloc, variation.vvar, variation.at, glyphs)?;
+    Ok(Deltas { heights, origins })
 }
 
-/// What the advance height of a glyph of the list varies by, if that is known.
-pub fn known_at(known: &[Result<i64, Error>], place: usize) -> Option<Result<i64, Error>> {
-    if place < known.len() {
-        Some(known[place])
-    } else {
-        None
-    }
-}
-
-/// What a glyph's advance height varies by, which may be known.
-fn height_delta(
-    variation: HeightVariation<'_>,
-    glyph: u16,
-    known: Option<Result<i64, Error>>,
-) -> Result<i64, Error> {
-    match known {
-        Some(delta) => delta,
-        None => advance_delta(variation.vvar, variation.at, glyph),
-    }
+/// The delta at a place of a list; past its end nothing is there to be read.
+pub fn known_at(known: &[Result<i64, Error>], place: usize) -> Result<i64, Error> {
+    known
+        .get(place)
+        .copied()
+        .unwrap_or(Err(Error::MalformedFont))
 }
 
 /// Whole units; 0 where nothing is there to be read.
@@ -70,20 +69,10 @@ fn if_height(sum: i128, advance: u16) -> u16 {
     advance
 }
 
-/// An advance height with what it varies by, which may be known.
-pub fn varied_height(
-    variation: HeightVariation<'_>,
-    glyph: u16,
-    known: Option<Result<i64, Error>>,
-    advance: u16,
-) -> u16 {
-    let delta = if_read(height_delta(variation, glyph, known));
-    if_height(i128::from(advance) + i128::from(delta), advance)
-}
-
-/// What the y of a glyph's origin varies by, in whole units; 0 where nothing is there to be read.
-fn origin_shift(variation: HeightVariation<'_>, glyph: u16) -> i64 {
-    if_read(origin_delta(variation.vvar, variation.at, glyph))
+/// An advance height with what it varies by.
+pub fn varied_height(delta: Result<i64, Error>, advance: u16) -> u16 {
+    let by = if_read(delta);
+    if_height(i128::from(advance) + i128::from(by), advance)
 }
 
 /// A sum as the y of an origin; past 16 bits the y stays.
@@ -94,8 +83,8 @@ fn if_origin(sum: i128, y: i16) -> i16 {
     y
 }
 
-/// The y of a glyph's origin in `VORG` with what it varies by.
-pub fn varied_origin(variation: HeightVariation<'_>, glyph: u16, y: i16) -> i16 {
-    let shift = origin_shift(variation, glyph);
-    if_origin(i128::from(y) + i128::from(shift), y)
+/// The y of an origin in `VORG` with what it varies by.
+pub fn varied_origin(delta: Result<i64, Error>, y: i16) -> i16 {
+    let by = if_read(delta);
+    if_origin(i128::from(y) + i128::from(by), y)
 }

@@ -45,17 +45,17 @@ fn advance_of(tables: VerticalTables<'_>, glyph: u16) -> Option<u16> {
     glyph_advance(vmtx, count, glyph)
 }
 
-/// The same with what it varies by, if it does, which may be known.
+/// The same with what it varies by, if it does.
 fn advance_at(
     tables: VerticalTables<'_>,
     variation: Option<HeightVariation<'_>>,
     glyph: u16,
-    known: Option<Result<i64, Error>>,
+    delta: Result<i64, Error>,
 ) -> Option<u16> {
     let advance = advance_of(tables, glyph)?;
     match variation {
         None => Some(advance),
-        Some(variation) => Some(varied_height(variation, glyph, known, advance)),
+        Some(_) => Some(varied_height(delta, advance)),
     }
 }
 
@@ -98,11 +98,12 @@ fn vorg_y_at(
     variation: Option<HeightVariation<'_>>,
     glyph: u16,
     recorded: Option<i16>,
+    delta: Result<i64, Error>,
 ) -> Option<i16> {
     let y = vorg_y(tables, glyph, recorded)?;
     match variation {
         None => Some(y),
-        Some(variation) => Some(varied_origin(variation, glyph, y)),
+        Some(_) => Some(varied_origin(delta, y)),
     }
 }
 
@@ -112,11 +113,13 @@ fn origin_y_at(
     variation: Option<HeightVariation<'_>>,
     glyph: u16,
     recorded: Option<i16>,
+    delta: Result<i64, Error>,
 ) -> Option<i32> {
     if tables.outlines.glyf.is_some() {
         return origin_of_box(tables, glyph);
     }
-    Some(i32::from(vorg_y_at(tables, variation, glyph, recorded)?))
+    let y = vorg_y_at(tables, variation, glyph, recorded, delta)?;
+    Some(i32::from(y))
 }
 
 /// Half of a width.
@@ -137,17 +140,18 @@ fn scaled_y(y: Option<i32>, units: u16) -> i32 {
     }
 }
 
-/// The column of a glyph with a width, of which VORG has this y. Its advance varies, by what may be known, and so does an
-/// origin by VORG.
+/// The column of a glyph with a width, of which VORG has this y. Where the font is off its default, its advance varies by
+/// `height`, and an origin by VORG by `shift`.
 pub fn metric_at(
     tables: VerticalTables<'_>,
     variation: Option<HeightVariation<'_>>,
     glyph: u16,
     width: u32,
     recorded: Option<i16>,
-    known: Option<Result<i64, Error>>,
+    height: Result<i64, Error>,
+    shift: Result<i64, Error>,
 ) -> Column {
-    let advance = match advance_at(tables, variation, glyph, known) {
+    let advance = match advance_at(tables, variation, glyph, height) {
         Some(advance) => advance,
         _ => {
             return Column {
@@ -158,9 +162,10 @@ pub fn metric_at(
         }
     };
     let units = units_per_em(tables.outlines.head);
+    let y = origin_y_at(tables, variation, glyph, recorded, shift);
     Column {
         advance: downwards(advance, units),
         x: half(width),
-        y: scaled_y(origin_y_at(tables, variation, glyph, recorded), units),
+        y: scaled_y(y, units),
     }
 }

@@ -13,5 +13,5 @@ mod heights;
 mod movement;
 mod values;
 
-pub use movement::{clamped, Movement};
+pub use movement::Movement;
 pub use values::values_at;

@@ -3,7 +3,7 @@
 
 use crate::proved::subsetter_base::Tag;
 use crate::proved::subsetter_variation::items::font_metrics::metric_delta;
-use crate::proved::subsetter_variation::locations::axes::{find_axis, user_coordinate, Axis};
+use crate::proved::subsetter_variation::locations::axes::{clamped, find_axis, Axis};
 
 /// Where a font is moved to.
 #[derive(Clone, Copy)]
@@ -15,18 +15,6 @@ pub struct Movement<'a> {
     pub settings: &'a [(Tag, i32)],
     /// The table `MVAR`, if there is one.
     pub mvar: Option<&'a [u8]>,
-}
-
-/// A number that is no greater than one and no less than another.
-fn within(greatest: i32, least: i32, coordinate: i32) -> i32 {
-    coordinate.min(greatest).max(least)
-}
-
-/// The user coordinate on an axis, clamped to it.
-pub fn clamped(axis: Axis, settings: &[(Tag, i32)]) -> i32 {
-    let greatest = axis.maximum.max(axis.default);
-    let least = axis.minimum.min(axis.default);
-    within(greatest, least, user_coordinate(&axis, settings))
 }
 
 /// The user coordinate on the first axis of a tag, clamped to it, if there is such an axis.

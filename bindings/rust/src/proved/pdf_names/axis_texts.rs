@@ -3,11 +3,10 @@
 
 use crate::rattle::prelude::Vec;
 
-use crate::proved::pdf_moved::clamped;
 use crate::proved::pdf_names::decimal::write_value;
 use crate::proved::pdf_names::letters::letters_and_digits;
 use crate::proved::subsetter_base::{Error, Tag};
-use crate::proved::subsetter_variation::locations::axes::Axis;
+use crate::proved::subsetter_variation::locations::axes::{clamped, Axis};
 use crate::rattle::alloc::Global;
 
 /// Writes the letters and digits of a tag.

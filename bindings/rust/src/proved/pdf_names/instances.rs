@@ -3,7 +3,6 @@
 
 use crate::rattle::prelude::{Cast, Vec};
 
-use crate::proved::pdf_moved::clamped;
 use crate::proved::pdf_names::letters::plain_name;
 use crate::proved::pdf_values::table_name;
 use crate::proved::subsetter_base::read::{after_four, Reader};
@@ -11,7 +10,7 @@ use crate::proved::subsetter_base::{Error, Tag};
 use crate::proved::subsetter_variation::fvar::{
     axes_array_offset, axis_count, axis_size, instance_count, instance_size,
 };
-use crate::proved::subsetter_variation::locations::axes::Axis;
+use crate::proved::subsetter_variation::locations::axes::{clamped, Axis};
 use crate::rattle::alloc::Global;
 
 /// Whether bytes begin with the coordinate of an axis.

@@ -40,7 +40,7 @@ fn prepare<'a>(
     let at = normalized_coordinates(alloc, face, coordinates)?;
     let source = source_or_fault(face)?;
     let metrics = varied_metrics(alloc, &source, &at, mapper)?;
-    let lines = lines_of(alloc, face, &at)?;
+    let lines = lines_of(alloc, face, coordinates, &at)?;
     Ok(Prepared {
         at,
         source,

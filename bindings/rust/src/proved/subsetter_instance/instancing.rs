@@ -36,7 +36,7 @@ fn make(
     let at = normalized_coordinates(alloc, face, coordinates)?;
     let source = source_or_fault(face, at.len())?;
     let drawn = draw_all(alloc, &source, &at, steps, mapper)?;
-    let lines = lines_of(alloc, face, &at)?;
+    let lines = lines_of(alloc, face, coordinates, &at)?;
     laid(alloc, face, &source, mapper, &drawn, &lines)
 }
 

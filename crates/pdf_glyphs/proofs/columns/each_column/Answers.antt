@@ -1,10 +1,19 @@
-use Rattle.std.proofs.Common.{arith}
+use Rattle.std.proofs.Common.{◌∙◌, ap, arith}
 use Rattle.std.specs.Option.{option_map}
-use Rattle.pdf_glyphs.specs.HeightVariation.{variation_view}
+use Rattle.pdf_glyphs.specs.HeightVariation.{known_at, variation_view}
 use Rattle.pdf_glyphs.specs.Vertical.{vertical_view}
 use Rattle.pdf_glyphs.proofs.ColumnSteps.{columns_done}
+use Rattle.pdf_glyphs.proofs.DeltaSteps.{height_known, origin_known}
 use Rattle.pdf_glyphs.proofs.columns.each_column.Goals as goal
 
 pub returns-clause-ok : goal.returns-clause-ok
 returns-clause-ok c =
     columns_done (vertical_view c.args.tables) (option_map variation_view c.args.variation) c.args.glyphs.now c.args.widths.now c.loop-index.index c.loop-index.columns.items _ (omega arith) c.loop-index.invariant.so_far
+
+pub metric_at-requires-clause-height : goal.metric_at-requires-clause-height
+metric_at-requires-clause-height c =
+    height_known (option_map variation_view c.args.variation) c.args.glyphs.now c.args.deltas.now c.loop-index.index _ c.requires.deltas (omega arith) (c.known_at.ensures ∙ ap (λ l. known_at l c.loop-index.index) c.deref.ensures.value)
+
+pub metric_at-requires-clause-shift : goal.metric_at-requires-clause-shift
+metric_at-requires-clause-shift c =
+    origin_known (option_map variation_view c.args.variation) c.args.glyphs.now c.args.deltas.now c.loop-index.index _ c.requires.deltas (omega arith) (c.known_at-2.ensures ∙ ap (λ l. known_at l c.loop-index.index) c.deref-2.ensures.value)

@@ -18,4 +18,4 @@ laid-requires-clause-head c =
 pub laid-requires-clause-hhea : goal.laid-requires-clause-hhea
 laid-requires-clause-hhea c =
     let find = table_in c.args.face.now.«data».now c.args.face.now.records.now in
-    lines_long find _ c.in_ok-lines.lines (hhea_there find c.len.result c.in_ok-source.source (source_read find c.len.result c.in_ok-source.source (sym c.in_ok-source.ensures.value)).1) c.in_ok-lines.ensures
+    lines_long find c.args.coordinates.now _ c.in_ok-lines.lines (hhea_there find c.len.result c.in_ok-source.source (source_read find c.len.result c.in_ok-source.source (sym c.in_ok-source.ensures.value)).1) c.in_ok-lines.ensures

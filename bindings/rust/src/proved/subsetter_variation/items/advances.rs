@@ -117,36 +117,38 @@ fn advance_items(
     Ok(items)
 }
 
-/// What the advance of each of these glyphs varies by, one after the other.
-fn advances_one_by_one(
-    alloc: Global,
-    hvar: &[u8],
-    at: &[i32],
-    glyphs: &[u16],
-) -> Result<Vec<Result<i64, Error>>, AllocError> {
-    let mut deltas = Vec::with_capacity(alloc, glyphs.len())?;
-    for glyph in glyphs {
-        deltas.push(advance_delta(hvar, at, *glyph))?;
+/// `MalformedFont` for so many items: there is no store.
+fn without_store(alloc: Global, count: usize) -> Result<Vec<Result<i64, Error>>, AllocError> {
+    let mut deltas = Vec::with_capacity(alloc, count)?;
+    for _ in 0..count {
+        deltas.push(Err(Error::MalformedFont))?;
     }
     Ok(deltas)
 }
 
-/// What the advance of each of these glyphs varies by at a location, each as `advance_delta` says. The scalar of a region is
-/// reckoned once, and so is the sum of an item.
+/// What each of these items varies by at a location, by the store of `HVAR` or `VVAR`. The scalar of a region is reckoned
+/// once, and so is the sum of an item.
+fn deltas_by(
+    alloc: Global,
+    table: &[u8],
+    at: &[i32],
+    items: &[Option<(u32, u32)>],
+) -> Result<Vec<Result<i64, Error>>, AllocError> {
+    match store_of(table, at.len()) {
+        Some(s) => each_delta(alloc, &s, at, items),
+        None => without_store(alloc, items.len()),
+    }
+}
+
+/// What the advance of each of these glyphs varies by at a location, each as `advance_delta` says.
 pub fn advance_deltas(
     alloc: Global,
     hvar: &[u8],
     at: &[i32],
     glyphs: &[u16],
 ) -> Result<Vec<Result<i64, Error>>, AllocError> {
-    let s = match store_of(hvar, at.len()) {
-        Some(s) => s,
-        _ => {
-            return advances_one_by_one(alloc, hvar, at, glyphs);
-        }
-    };
     let items = advance_items(alloc, hvar, glyphs)?;
-    each_delta(alloc, &s, at, &items)
+    deltas_by(alloc, hvar, at, &items)
 }
 
 /// The indexes of a glyph's vertical origin: without a map there are none.
@@ -155,15 +157,27 @@ fn origin_index(vvar: &[u8], glyph: u16) -> Option<(u32, u32)> {
     mapped_index(from_offset(vvar, at as usize)?, glyph)
 }
 
-/// What the y of a glyph's vertical origin varies by at a place, in parts of 2^30.
-fn varied_origin(vvar: &[u8], at: &[i32], glyph: u16) -> Option<i128> {
-    let s = store_of(vvar, at.len())?;
-    let (outer, inner) = origin_index(vvar, glyph)?;
-    item_delta(&s, at, outer, inner)
+/// The item of the vertical origin of each of these glyphs.
+fn origin_items(
+    alloc: Global,
+    vvar: &[u8],
+    glyphs: &[u16],
+) -> Result<Vec<Option<(u32, u32)>>, AllocError> {
+    let mut items = Vec::with_capacity(alloc, glyphs.len())?;
+    for glyph in glyphs {
+        items.push(origin_index(vvar, *glyph))?;
+    }
+    Ok(items)
 }
 
-/// What the y of a glyph's vertical origin in `VORG` varies by at a location, in whole units. A table that is cut, or has no
-/// map of origins or no item for the glyph, is `MalformedFont`, 2^32 units or more `OverflowError`.
-pub fn origin_delta(vvar: &[u8], at: &[i32], glyph: u16) -> Result<i64, Error> {
-    in_whole_units(varied_origin(vvar, at, glyph).ok_or(Error::MalformedFont)?)
+/// What the y of the vertical origin of each of these glyphs in `VORG` varies by at a location, in whole units. A table that
+/// is cut, or has no map of origins or no item for the glyph, is `MalformedFont`, 2^32 units or more `OverflowError`.
+pub fn origin_deltas(
+    alloc: Global,
+    vvar: &[u8],
+    at: &[i32],
+    glyphs: &[u16],
+) -> Result<Vec<Result<i64, Error>>, AllocError> {
+    let items = origin_items(alloc, vvar, glyphs)?;
+    deltas_by(alloc, vvar, at, &items)
 }

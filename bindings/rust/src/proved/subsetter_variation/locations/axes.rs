@@ -85,6 +85,18 @@ pub fn user_coordinate(axis: &Axis, settings: &[(Tag, i32)]) -> i32 {
     value
 }
 
+/// A number that is no greater than one and no less than another.
+fn within(greatest: i32, least: i32, coordinate: i32) -> i32 {
+    coordinate.min(greatest).max(least)
+}
+
+/// The coordinate on an axis, clamped to it.
+pub fn clamped(axis: Axis, settings: &[(Tag, i32)]) -> i32 {
+    let greatest = axis.maximum.max(axis.default);
+    let least = axis.minimum.min(axis.default);
+    within(greatest, least, user_coordinate(&axis, settings))
+}
+
 /// How far a coordinate is from the default, in 65536ths of the way from it to an end.
 fn toward(end: i32, default: i32, coordinate: i32) -> i64 {
     mul_div_nearest(
