@@ -1,16 +1,14 @@
 /* Each row of a table by the calls that subset and embed: test [--brief] ROWS
  *
  * In buffers that are exact, larger, too small and null, and in memory of the library; options of all sizes and as words; numbers
- * of which no bit may be lost; each request for memory refused in turn; and two threads. --brief is for Valgrind and qemu: fonts
- * that take long are subset once. SUBSETTER_BY_CARGO is for the library of bindings/capi, which asks for memory in another way.
+ * of which no bit may be lost; and each request for memory refused in turn. --brief is for Valgrind and qemu: fonts that take long are
+ * subset once. SUBSETTER_BY_CARGO is for the library of bindings/capi, which asks for memory in another way.
  *
  * Or so many damaged fonts with any glyphs, coordinates, options and buffers: test --damaged COUNT ROWS. The last line has a sum over
  * all answers: two libraries, or two processors, that print the same one gave the same answers. */
 #include "subsetter.h"
 
 #include "counted.h"
-
-#include <pthread.h>
 
 static int is_brief;
 
@@ -241,76 +239,55 @@ static void give_up(struct answer *a)
 #define LIST row->list, row->list_count
 #define WHOLE a->font, a->room, a->cids, a->cid_room, a->widths, a->width_room, &a->sizes
 
-/* By the call that takes these options. */
-static void call_with(const struct row *row, const subsetter_options *options, struct answer *a)
+/* The call for a row of these four. */
+#define OF_ROW(EMBED_AT, EMBED, SUBSET_AT, SUBSET) (row->embeds ? row->varies ? EMBED_AT : EMBED : row->varies ? SUBSET_AT : SUBSET)
+
+/* (a subset answers one size) */
+static void ended(const struct row *row, struct answer *a, uint32_t status)
 {
     if (!row->embeds)
         a->sizes.cids = a->sizes.widths = 0;
-    if (row->embeds && row->varies)
-        a->status = subsetter_embed_at(FONT, PLACE, GLYPHS, options, WHOLE);
-    else if (row->embeds)
-        a->status = subsetter_embed_with_options(FONT, GLYPHS, options, WHOLE);
-    else if (row->varies)
-        a->status = subsetter_subset_at(FONT, PLACE, GLYPHS, options, ALONE);
-    else
-        a->status = subsetter_subset_with_options(FONT, GLYPHS, options, ALONE);
+    a->status = status;
+}
+
+/* By the call that takes these options. */
+static void call_with(const struct row *row, const subsetter_options *options, struct answer *a)
+{
+    ended(row, a, OF_ROW(subsetter_embed_at(FONT, PLACE, GLYPHS, options, WHOLE), subsetter_embed_with_options(FONT, GLYPHS, options, WHOLE),
+        subsetter_subset_at(FONT, PLACE, GLYPHS, options, ALONE), subsetter_subset_with_options(FONT, GLYPHS, options, ALONE)));
 }
 
 /* By the row's own call. */
 static void call(const struct row *row, struct answer *a)
 {
-    if (row->has_words) {
+    if (row->has_words)
         call_with(row, &row->options, a);
-        return;
-    }
-    if (!row->embeds)
-        a->sizes.cids = a->sizes.widths = 0;
-    if (row->embeds)
-        a->status = subsetter_embed(FONT, GLYPHS, WHOLE);
     else if (row->limits)
-        a->status = subsetter_subset_with_limits(FONT, GLYPHS, row->options.tokens, (uint8_t)row->options.depth, ALONE);
+        ended(row, a, subsetter_subset_with_limits(FONT, GLYPHS, row->options.tokens, (uint8_t)row->options.depth, ALONE));
     else
-        a->status = subsetter_subset(FONT, GLYPHS, ALONE);
+        ended(row, a, row->embeds ? subsetter_embed(FONT, GLYPHS, WHOLE) : subsetter_subset(FONT, GLYPHS, ALONE));
 }
 
 /* In memory of the library. */
 static uint32_t make(const struct row *row, const subsetter_options *options, subsetter_made *made)
 {
     memset(made, FILLED, sizeof *made);
-    if (row->embeds && row->varies)
-        return subsetter_make_embedded_at(FONT, PLACE, GLYPHS, options, made);
-    if (row->embeds)
-        return subsetter_make_embedded(FONT, GLYPHS, options, made);
-    if (row->varies)
-        return subsetter_make_subset_at(FONT, PLACE, GLYPHS, options, made);
-    return subsetter_make_subset(FONT, GLYPHS, options, made);
+    return OF_ROW(subsetter_make_embedded_at(FONT, PLACE, GLYPHS, options, made), subsetter_make_embedded(FONT, GLYPHS, options, made),
+        subsetter_make_subset_at(FONT, PLACE, GLYPHS, options, made), subsetter_make_subset(FONT, GLYPHS, options, made));
 }
 
 /* By the call that takes a list of words. */
 static void call_by_words(const struct row *row, struct answer *a)
 {
-    if (!row->embeds)
-        a->sizes.cids = a->sizes.widths = 0;
-    if (row->embeds && row->varies)
-        a->status = subsetter_embed_at_by_words(FONT, PLACE, GLYPHS, LIST, WHOLE);
-    else if (row->embeds)
-        a->status = subsetter_embed_by_words(FONT, GLYPHS, LIST, WHOLE);
-    else if (row->varies)
-        a->status = subsetter_subset_at_by_words(FONT, PLACE, GLYPHS, LIST, ALONE);
-    else
-        a->status = subsetter_subset_by_words(FONT, GLYPHS, LIST, ALONE);
+    ended(row, a, OF_ROW(subsetter_embed_at_by_words(FONT, PLACE, GLYPHS, LIST, WHOLE), subsetter_embed_by_words(FONT, GLYPHS, LIST, WHOLE),
+        subsetter_subset_at_by_words(FONT, PLACE, GLYPHS, LIST, ALONE), subsetter_subset_by_words(FONT, GLYPHS, LIST, ALONE)));
 }
 
 static uint32_t make_by_words(const struct row *row, subsetter_made *made)
 {
     memset(made, FILLED, sizeof *made);
-    if (row->embeds && row->varies)
-        return subsetter_make_embedded_at_by_words(FONT, PLACE, GLYPHS, LIST, made);
-    if (row->embeds)
-        return subsetter_make_embedded_by_words(FONT, GLYPHS, LIST, made);
-    if (row->varies)
-        return subsetter_make_subset_at_by_words(FONT, PLACE, GLYPHS, LIST, made);
-    return subsetter_make_subset_by_words(FONT, GLYPHS, LIST, made);
+    return OF_ROW(subsetter_make_embedded_at_by_words(FONT, PLACE, GLYPHS, LIST, made), subsetter_make_embedded_by_words(FONT, GLYPHS, LIST, made),
+        subsetter_make_subset_at_by_words(FONT, PLACE, GLYPHS, LIST, made), subsetter_make_subset_by_words(FONT, GLYPHS, LIST, made));
 }
 
 static int all_are_filled(const void *block, size_t from, size_t to)
@@ -841,38 +818,6 @@ static int is_once(const struct row *row)
     return is_brief && strncmp(row->words[2], "doubled", 7) == 0;
 }
 
-static void *many_calls(void *wrong)
-{
-    for (int turn = 0; turn < (is_brief ? 1 : 5); turn++)
-        for (const struct row *row = rows; row < rows + row_count; row++) {
-            if (!is_short(row) || is_once(row))
-                continue;
-            struct answer a = exact(row);
-            subsetter_made made;
-            call(row, &a);
-            *(size_t *)wrong += !is_right(row, &a);
-            give_up(&a);
-            if (!has_options(row))
-                continue;
-            *(size_t *)wrong += make(row, &row->options, &made) != row->status || !is_made(row, &made);
-            subsetter_free(&made);
-        }
-    return NULL;
-}
-
-static void check_threads(void)
-{
-    pthread_t threads[2];
-    size_t wrong[2] = {0, 0};
-    is_counted = 0;
-    for (int i = 0; i < 2; i++)
-        if (pthread_create(&threads[i], NULL, many_calls, &wrong[i]) != 0)
-            exit(3);
-    for (int i = 0; i < 2; i++)
-        pthread_join(threads[i], NULL);
-    check(wrong[0] == 0 && wrong[1] == 0, "answer alike", "two threads");
-}
-
 static void check_row(const struct row *row)
 {
     if (is_once(row)) {
@@ -885,9 +830,8 @@ static void check_row(const struct row *row)
     if (!is_short(row))
         return;
     check_memory(row);
-    if (!has_options(row))
-        return;
-    check_options(row);
+    if (has_options(row))
+        check_options(row);
 }
 
 /* Checks of certain rows, by their names or those of their fonts; there has to be one. */
@@ -924,7 +868,6 @@ int main(int argc, char **argv)
     check(end_count > 0, "a row at the end of an axis", "the last bit");
     check_texts();
     check(subsetter_version() == SUBSETTER_VERSION, "the version of the header", "version");
-    check_threads();
     printf("C: %zu rows, %zu checks, %zu failed\n", row_count, checks, failures);
     return failures != 0 || row_count < 447;
 }

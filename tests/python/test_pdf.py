@@ -61,18 +61,12 @@ def test_faces():
         assert type(raised(call, 1)) is subsetter.MalformedFont
 
 
-def with_fs_type(number):
+def test_a_font_that_may_not_be_embedded():
+    """(By fsType of `OS/2`.)"""
     at = int.from_bytes(TTF[TTF.index(b"OS/2") + 8:TTF.index(b"OS/2") + 12], "big") + 8
-    return TTF[:at] + number.to_bytes(2, "big") + TTF[at + 2:]
-
-
-@pytest.mark.parametrize("number, wanted", [(0x004, ("preview_and_print", True, True)), (0x302, ("restricted", False, False))])
-def test_permissions(number, wanted):
-    """fsType of `OS/2`, and what it permits."""
-    font = with_fs_type(number)
-    assert subsetter.pdf_font(font, SHOWN, rights="held").permission == wanted
-    is_refused = wanted[0] == "restricted" or False in wanted
-    assert type(raised(subsetter.pdf_font, font, SHOWN)) is (subsetter.NotPermitted if is_refused else type(None))
+    font = TTF[:at] + b"\x03\x02" + TTF[at + 2:]
+    assert subsetter.pdf_font(font, SHOWN, rights="held").permission == ("restricted", False, False)
+    assert type(raised(subsetter.pdf_font, font, SHOWN)) is subsetter.NotPermitted
 
 
 def test_limits_and_hinting():

@@ -57,19 +57,19 @@ fn answers_at(row: &Row, options: &Options) -> Vec<Answer> {
     use subsetter::{embed_with_variations, embed_with_variations_and_options};
     use subsetter::{subset_with_variations, subset_with_variations_and_options};
     let (font, index, glyphs) = (&row.font[..], row.index, &row.glyphs[..]);
-    let at = match row.variations() {
+    let at = match &row.coordinates {
         Some(at) => at,
         None => return Vec::new(),
     };
     let (chosen, plain) = if row.embeds() {
         (
-            embed_with_variations_and_options(font, index, &at, glyphs, options),
-            embed_with_variations(font, index, &at, glyphs),
+            embed_with_variations_and_options(font, index, at, glyphs, options),
+            embed_with_variations(font, index, at, glyphs),
         )
     } else {
         let mapper = GlyphRemapper::new_from_glyphs(glyphs);
-        let made = subset_with_variations_and_options(font, index, &at, &mapper, options);
-        let plain = subset_with_variations(font, index, &at, &mapper);
+        let made = subset_with_variations_and_options(font, index, at, &mapper, options);
+        let plain = subset_with_variations(font, index, at, &mapper);
         (alone(made), alone(plain))
     };
     let mut found = vec![("options at coordinates", chosen)];
