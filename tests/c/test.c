@@ -407,12 +407,12 @@ static void check_made(const struct row *row)
     }
 }
 
-/* Each request for memory is refused in turn: there is no answer, and status 7. A font that is none is refused as such. Where the
- * request wants a smaller block the call goes on, and at coordinates it may go on. (Rust's lists ask for a smaller block by a copy:
- * at most two requests may be refused without an error.) */
+/* Each request for memory is refused in turn: there is no answer, and status 7. A font that is none, and a face that isn't there, are
+ * refused as such. Where the request wants a smaller block the call goes on, and at coordinates it may go on. (Rust's lists ask for a
+ * smaller block by a copy: at most two requests may be refused without an error.) */
 static void check_memory(const struct row *row)
 {
-    int met = 1, goes_on = 0;
+    int met = 1, goes_on = 0, needs_none = row->status == 1 || (row->status == 2 && row->index >> 31);
     for (refused = 1; met; refused++) {
         struct answer a = exact(row);
         subsetter_made made;
@@ -423,7 +423,7 @@ static void check_memory(const struct row *row)
         met = requests >= refused;
         int is_whole = is_right(row, &a), is_clean = is_refusal(&a, 7);
         check(held == before, "all memory is given back", row->name);
-        check(is_whole || (met && is_clean && row->status != 1), "a refused request", row->name);
+        check(is_whole || (met && is_clean && !needs_none), "a refused request", row->name);
         goes_on += met && is_whole && row->status == 0;
 #ifdef SUBSETTER_BY_CARGO
         check(goes_on <= 2, "how many requests may be refused", row->name);
@@ -437,7 +437,7 @@ static void check_memory(const struct row *row)
         uint32_t status = make(row, &row->options, &made);
         int is_met = requests >= refused;
         met |= is_met;
-        check((status == row->status && is_made(row, &made)) || (is_met && status == 7 && is_nothing(&made) && held == before && row->status != 1),
+        check((status == row->status && is_made(row, &made)) || (is_met && status == 7 && is_nothing(&made) && held == before && !needs_none),
             "a refused request of what is made", row->name);
         subsetter_free(&made);
         check(held == before, "all that was made is given back", row->name);
@@ -498,79 +498,32 @@ static void check_options(const struct row *row)
 
 /* ---- numbers of 32 bits, of which no bit is lost */
 
-/* By each call that takes options: the row's font, or a status. */
-static void check_each_call(const struct row *row, const subsetter_options *options, uint32_t status, const char *what)
+/* An option that isn't known is refused by each call that takes options. */
+static void check_unknown(const struct row *row, int field, uint32_t number)
 {
-    size_t size = status == 0 ? row->size : 0;
     for (int kind = 0; kind < 4; kind++) {
         struct row other = *row;
         struct answer a = exact(row);
         subsetter_made made;
         other.embeds = kind / 2;
         other.varies = kind % 2;
-        call_with(&other, options, &a);
-        check(status != 0 ? is_refusal(&a, status) : a.status == 0 && a.sizes.font == size && is_same(a.font, row->bytes, size), what, row->name);
-        check(make(&other, options, &made) == status && made.font_size == size && is_same(made.font, row->bytes, size), what, row->name);
-        check(status == 0 || is_nothing(&made), what, row->name);
-        subsetter_free(&made);
+        (&other.options.size)[field] = number;
+        call_with(&other, &other.options, &a);
+        check(is_refusal(&a, 10), "an unknown option", row->name);
+        check(make(&other, &other.options, &made) == 10 && is_nothing(&made), "made by an unknown option", row->name);
         give_up(&a);
     }
 }
 
-/* The row needs more than one token and a depth of its own, and its font has more than 255 bytes. */
-static void check_wide_options(const struct row *row)
+static void check_all_unknown(const struct row *row)
 {
-    enum { TOKENS = 1, DEPTH, DROP, BYTES };
-#define WITH(FIELD, NUMBER, STATUS)                                            \
-    do {                                                                       \
-        subsetter_options options = row->options;                              \
-        (&options.size)[FIELD] = NUMBER;                                       \
-        check_each_call(row, &options, STATUS, "a number of " #FIELD);         \
-    } while (0)
+    enum { DEPTH = 2, DROP };
     for (int bit = 3; bit < 32; bit++)
-        WITH(DROP, 1u << bit, 10);
+        check_unknown(row, DROP, 1u << bit);
     for (uint32_t depth = 256; depth < 600; depth++)
-        WITH(DEPTH, depth, 10);
-    WITH(TOKENS, 1, 6);
-    for (int i = 0; i < HIGHS; i++) {
-        WITH(TOKENS, HIGH[i] + 1, 0);
-        WITH(BYTES, HIGH[i] + 1, row->size <= HIGH[i] + 1 ? 0 : 5);
-        WITH(DEPTH, row->options.depth + HIGH[i], 10);
-        struct row other = *row;
-        other.limits = 1;
-        other.embeds = other.has_words = 0;
-        other.options.tokens = HIGH[i] + 1;
-        other.cid_count = other.width_count = 0;
-        check_whole(&other, 0);
-    }
-}
-
-/* The row's font has two faces: a face that isn't there, though it is the row's but for one bit, is refused as such by each call, also
- * where one of the first requests for memory is refused. */
-static void check_faces(const struct row *row)
-{
-    for (int i = 0; row->status == 0 && i < HIGHS; i++)
-        for (int kind = 0; kind < 7; kind++) {
-            struct row other = *row;
-            other.index += HIGH[i];
-            other.status = 2;
-            other.bytes = NULL;
-            other.size = other.cid_count = other.width_count = 0;
-            other.embeds = kind > 3;
-            other.limits = kind == 3;
-            other.varies = kind % 3 == 2;
-            other.has_words = kind % 3 != 0;
-            other.options.depth = (uint32_t)other.limits;
-            for (unsigned long request = 0; request < (CAN_REFUSE ? 5 : 1); request++) {
-                subsetter_made made;
-                refused = request;
-                requests = 0;
-                check_whole(&other, 0);
-                requests = 0;
-                check(other.limits || (make(&other, &other.options, &made) == 2 && is_nothing(&made)), "made of another face", row->name);
-            }
-            refused = 0;
-        }
+        check_unknown(row, DEPTH, depth);
+    for (int i = 0; i < HIGHS; i++)
+        check_unknown(row, DEPTH, row->options.depth + HIGH[i]);
 }
 
 static uint32_t big_endian(const uint8_t *at, int size)
@@ -834,12 +787,12 @@ static void check_row(const struct row *row)
         check_options(row);
 }
 
-/* Checks of certain rows, by their names or those of their fonts; there has to be one. */
-static void check_named(int word, const char *name, void (*checked)(const struct row *))
+/* Checks of a certain row, which has to be there. */
+static void check_named(const char *name, void (*checked)(const struct row *))
 {
     int met = 0;
     for (size_t i = 0; i < row_count; i++)
-        if (strcmp(rows[i].words[word], name) == 0) {
+        if (strcmp(rows[i].name, name) == 0) {
             checked(&rows[i]);
             met = 1;
         }
@@ -862,9 +815,8 @@ int main(int argc, char **argv)
             end_count++;
         }
     }
-    check_named(1, "sid_keyed", check_words);
-    check_named(1, "embedded_within", check_wide_options);
-    check_named(2, "two_faces", check_faces);
+    check_named("sid_keyed", check_words);
+    check_named("embedded_within", check_all_unknown);
     check(end_count > 0, "a row at the end of an axis", "the last bit");
     check_texts();
     check(subsetter_version() == SUBSETTER_VERSION, "the version of the header", "version");
