@@ -1,19 +1,15 @@
 //! What the rows don't say of the calls in `subsetter::pdf`: faces, numbers of 32 bits, each choice.
 #![cfg(feature = "variable-fonts")]
 
-#[path = "table/pdf.rs"]
-mod table;
-
 use std::fs;
 use subsetter::pdf::{
     codes_of, glyphs_of, pdf_font, Bounds, Codes, Direction, FontError, FontOptions, Layout, PartsError, PdfFont,
     ProgramChoice, Rights, Shown, SubsetTag,
 };
 use subsetter::{embed_with_variations_and_options, Error, Limits, Options, Tag};
-use table::data;
 
 fn made(name: &str) -> Vec<u8> {
-    fs::read(data(name)).unwrap()
+    fs::read(concat!(env!("CARGO_MANIFEST_DIR"), "/tests/data/").to_string() + name).unwrap()
 }
 
 /// The font without the table of a tag.
