@@ -2,7 +2,6 @@
 
 #![allow(dead_code)] // (each test takes a part of it)
 
-pub mod answers;
 pub mod words;
 
 use std::collections::HashMap;
