@@ -27,7 +27,7 @@ def driven(program, path, index, glyphs, room):
     with open(name, "w", encoding="utf-8") as file:
         file.write(f"{path} {index} {glyphs} {CALLS}\n")
     said = subprocess.run([program, "--list", name], stdout=subprocess.PIPE, text=True, check=True).stdout.split()
-    return int(said[2]) if said[:1] == ["ok"] else None
+    return int(said[1]) if said[:1] == ["ok"] else None
 
 
 def rows(words):

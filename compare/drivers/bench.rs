@@ -1,6 +1,6 @@
 //! Subsets of lists of tasks by a crate, and their times: `original_bench --list FILE`, with lines FONT INDEX GLYPHS COUNT.
 //!
-//! For each line it prints `ok MEDIAN LEAST LENGTH HASH` of so many calls (nanoseconds), `error` and its text, or `panic`. The font is read and the
+//! For each line it prints `ok LEAST LENGTH HASH` of so many calls (nanoseconds), `error` and its text, or `panic`. The font is read and the
 //! mapper made once, and the clock runs round each call of `subset` alone.
 
 use std::time::Instant;
@@ -29,19 +29,17 @@ fn perform(line: &str) -> String {
     let font = std::fs::read(font).expect(line);
     let index = index.parse().expect(line);
     let mapper = GlyphRemapper::new_from_glyphs(&glyphs_of(glyphs));
-    let (mut times, mut last) = (Vec::new(), Vec::new());
+    let (mut least, mut last) = (u128::MAX, Vec::new());
     for _ in 0..count.parse::<u32>().expect(line) {
         let start = Instant::now();
         let answer = subset(&font, index, &mapper);
-        times.push(start.elapsed().as_nanos());
+        least = least.min(start.elapsed().as_nanos());
         match answer {
             Ok(output) => last = output,
             Err(error) => return format!("error {error}"),
         }
     }
-    times.sort_unstable();
-    let (median, least) = (times[times.len() / 2], times[0]);
-    format!("ok {median} {least} {} {:016x}", last.len(), digest(&last))
+    format!("ok {least} {} {:016x}", last.len(), digest(&last))
 }
 
 fn main() {

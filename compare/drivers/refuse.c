@@ -7,6 +7,7 @@
  *     WITHIN=clock   requests count from the first reading of the clock to the second: what a program times
  *     FAIL=WHAT:N    the Nth call of WHAT fails: write, and write1 and write2 for the standard streams
  *     INODE=N        each file has the inode number N
+ *     WATCH=1        requests and blocks count that come from a part of the program's memory, which it names by `watch`
  *     TOLD=FILE      gets at the end the numbers of requests, of refused ones, and of the blocks and bytes that are held */
 #define _GNU_SOURCE
 #include <errno.h>
@@ -24,7 +25,7 @@
 extern void *__libc_malloc(size_t);
 extern void __libc_free(void *);
 
-/* In the 16 bytes before each block: what was asked for, and how far before the block its memory begins. */
+/* In the 16 bytes before each block: what was asked for, and twice how far before the block its memory begins, one more where it counts. */
 struct head {
     size_t asked, before;
 };
@@ -32,6 +33,10 @@ struct head {
 static size_t held, peak, blocks, requests, refused, writes[3], wanted_request, wanted_write, room = SIZE_MAX, spare = SIZE_MAX;
 static int refuses_all, within_clock, clock_readings, is_ready, is_ended, wanted_stream = -1;
 static unsigned long inode;
+static uintptr_t watched, watched_end = UINTPTR_MAX;
+
+/* Where a call comes from. (Not for `free`: the last call of a function may be a jump.) */
+#define HERE ((uintptr_t)__builtin_return_address(0))
 
 static size_t number_of(const char *name, size_t otherwise) { return getenv(name) ? strtoul(getenv(name), NULL, 10) : otherwise; }
 
@@ -44,13 +49,16 @@ __attribute__((constructor)) static void start(void) {
     spare = number_of("SPARE", SIZE_MAX);
     inode = number_of("INODE", 0);
     within_clock = getenv("WITHIN") != NULL;
+    if (getenv("WATCH")) watched_end = 0;
     if (fail) wanted_stream = fail[5] == ':' ? 0 : fail[5] - '0', wanted_write = strtoul(strchr(fail, ':') + 1, NULL, 10);
     is_ready = 1;
 }
 
+static int is_watched(uintptr_t at) { return is_ready && watched <= at && at < watched_end; }
+
 /* Whether a request for so many bytes is to be refused. */
-static int is_refused(size_t asked) {
-    if (!is_ready || is_ended || (within_clock && clock_readings != 1)) return 0;
+static int is_refused(size_t asked, uintptr_t at) {
+    if (!is_watched(at) || is_ended || (within_clock && clock_readings != 1)) return 0;
     requests++;
     if (!refuses_all && requests != wanted_request && (asked <= room && held <= room - asked)) return 0;
     refused++;
@@ -60,41 +68,42 @@ static int is_refused(size_t asked) {
 
 static struct head *head_of(void *block) { return (struct head *)block - 1; }
 
-static void *given(size_t align, size_t asked) {
+static void *given(size_t align, size_t asked, uintptr_t at) {
+    if (is_refused(asked, at)) return NULL;
     align = align < 16 ? 16 : align;
     char *memory = asked + align + 16 < asked ? NULL : __libc_malloc(asked + align + 16);
     if (!memory) return NULL;
     char *block = (char *)(((uintptr_t)memory + 16 + align - 1) / align * align);
-    *head_of(block) = (struct head){asked, block - memory};
+    *head_of(block) = (struct head){asked, (size_t)(block - memory) << 1 | is_watched(at)};
     held += asked;
     if (held > peak) peak = held;
-    blocks++;
+    blocks += is_watched(at);
     return block;
 }
 
 void free(void *block) {
     if (!block) return;
     held -= head_of(block)->asked;
-    blocks--;
-    __libc_free((char *)block - head_of(block)->before);
+    blocks -= head_of(block)->before & 1;
+    __libc_free((char *)block - (head_of(block)->before >> 1));
 }
 
-void *aligned_alloc(size_t align, size_t asked) { return is_refused(asked) ? NULL : given(align, asked); }
+void *aligned_alloc(size_t align, size_t asked) { return given(align, asked, HERE); }
 
-void *memalign(size_t align, size_t asked) { return aligned_alloc(align, asked); }
+void *memalign(size_t align, size_t asked) { return given(align, asked, HERE); }
 
-void *malloc(size_t asked) { return aligned_alloc(16, asked); }
+void *malloc(size_t asked) { return given(16, asked, HERE); }
 
-int posix_memalign(void **block, size_t align, size_t asked) { return (*block = aligned_alloc(align, asked)) ? 0 : ENOMEM; }
+int posix_memalign(void **block, size_t align, size_t asked) { return (*block = given(align, asked, HERE)) ? 0 : ENOMEM; }
 
 void *calloc(size_t count, size_t size) {
     size_t asked;
-    void *block = __builtin_mul_overflow(count, size, &asked) ? NULL : aligned_alloc(16, asked);
+    void *block = __builtin_mul_overflow(count, size, &asked) ? NULL : given(16, asked, HERE);
     return block ? memset(block, 0, asked) : NULL;
 }
 
 void *realloc(void *block, size_t asked) {
-    void *fresh = malloc(asked);
+    void *fresh = given(16, asked, HERE);
     if (!block || !fresh) return fresh;
     memcpy(fresh, block, head_of(block)->asked < asked ? head_of(block)->asked : asked);
     free(block);
@@ -141,6 +150,12 @@ ssize_t write(int file, const void *bytes, size_t count) {
 }
 
 ssize_t __write(int file, const void *bytes, size_t count) { return write(file, bytes, count); }
+
+/* For tests/python/test_memory.py: whose requests and blocks count, which request from now on is refused, and how many there were. */
+void watch(uintptr_t from, uintptr_t end) { watched = from, watched_end = end; }
+void refuse(size_t number) { wanted_request = number, requests = 0; }
+size_t met(void) { return requests; }
+size_t watched_blocks(void) { return blocks; }
 
 /* For lib/cost.py: the most bytes that were held since this was last asked. */
 size_t most_held(void) {

@@ -19,7 +19,7 @@ static unsigned long refused, requests;
 static long held;
 /* Whether the refused request wanted a smaller block. */
 static int gave_back;
-/* Whether requests are counted: not while several threads run. */
+/* Whether requests are counted. */
 static int is_counted = 1;
 
 #ifdef SUBSETTER_SHARED

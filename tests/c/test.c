@@ -1,16 +1,14 @@
 /* Each row of a table by the calls that subset and embed: test [--brief] ROWS
  *
  * In buffers that are exact, larger, too small and null, and in memory of the library; options of all sizes and as words; numbers
- * of which no bit may be lost; each request for memory refused in turn; and two threads. --brief is for Valgrind and qemu: fonts
- * that take long are subset once. SUBSETTER_BY_CARGO is for the library of bindings/capi, which asks for memory in another way.
+ * of which no bit may be lost; and each request for memory refused in turn. --brief is for Valgrind and qemu: fonts that take long are
+ * subset once. SUBSETTER_BY_CARGO is for the library of bindings/capi, which asks for memory in another way.
  *
  * Or so many damaged fonts with any glyphs, coordinates, options and buffers: test --damaged COUNT ROWS. The last line has a sum over
  * all answers: two libraries, or two processors, that print the same one gave the same answers. */
 #include "subsetter.h"
 
 #include "counted.h"
-
-#include <pthread.h>
 
 static int is_brief;
 
@@ -241,76 +239,55 @@ static void give_up(struct answer *a)
 #define LIST row->list, row->list_count
 #define WHOLE a->font, a->room, a->cids, a->cid_room, a->widths, a->width_room, &a->sizes
 
-/* By the call that takes these options. */
-static void call_with(const struct row *row, const subsetter_options *options, struct answer *a)
+/* The call for a row of these four. */
+#define OF_ROW(EMBED_AT, EMBED, SUBSET_AT, SUBSET) (row->embeds ? row->varies ? EMBED_AT : EMBED : row->varies ? SUBSET_AT : SUBSET)
+
+/* (a subset answers one size) */
+static void ended(const struct row *row, struct answer *a, uint32_t status)
 {
     if (!row->embeds)
         a->sizes.cids = a->sizes.widths = 0;
-    if (row->embeds && row->varies)
-        a->status = subsetter_embed_at(FONT, PLACE, GLYPHS, options, WHOLE);
-    else if (row->embeds)
-        a->status = subsetter_embed_with_options(FONT, GLYPHS, options, WHOLE);
-    else if (row->varies)
-        a->status = subsetter_subset_at(FONT, PLACE, GLYPHS, options, ALONE);
-    else
-        a->status = subsetter_subset_with_options(FONT, GLYPHS, options, ALONE);
+    a->status = status;
+}
+
+/* By the call that takes these options. */
+static void call_with(const struct row *row, const subsetter_options *options, struct answer *a)
+{
+    ended(row, a, OF_ROW(subsetter_embed_at(FONT, PLACE, GLYPHS, options, WHOLE), subsetter_embed_with_options(FONT, GLYPHS, options, WHOLE),
+        subsetter_subset_at(FONT, PLACE, GLYPHS, options, ALONE), subsetter_subset_with_options(FONT, GLYPHS, options, ALONE)));
 }
 
 /* By the row's own call. */
 static void call(const struct row *row, struct answer *a)
 {
-    if (row->has_words) {
+    if (row->has_words)
         call_with(row, &row->options, a);
-        return;
-    }
-    if (!row->embeds)
-        a->sizes.cids = a->sizes.widths = 0;
-    if (row->embeds)
-        a->status = subsetter_embed(FONT, GLYPHS, WHOLE);
     else if (row->limits)
-        a->status = subsetter_subset_with_limits(FONT, GLYPHS, row->options.tokens, (uint8_t)row->options.depth, ALONE);
+        ended(row, a, subsetter_subset_with_limits(FONT, GLYPHS, row->options.tokens, (uint8_t)row->options.depth, ALONE));
     else
-        a->status = subsetter_subset(FONT, GLYPHS, ALONE);
+        ended(row, a, row->embeds ? subsetter_embed(FONT, GLYPHS, WHOLE) : subsetter_subset(FONT, GLYPHS, ALONE));
 }
 
 /* In memory of the library. */
 static uint32_t make(const struct row *row, const subsetter_options *options, subsetter_made *made)
 {
     memset(made, FILLED, sizeof *made);
-    if (row->embeds && row->varies)
-        return subsetter_make_embedded_at(FONT, PLACE, GLYPHS, options, made);
-    if (row->embeds)
-        return subsetter_make_embedded(FONT, GLYPHS, options, made);
-    if (row->varies)
-        return subsetter_make_subset_at(FONT, PLACE, GLYPHS, options, made);
-    return subsetter_make_subset(FONT, GLYPHS, options, made);
+    return OF_ROW(subsetter_make_embedded_at(FONT, PLACE, GLYPHS, options, made), subsetter_make_embedded(FONT, GLYPHS, options, made),
+        subsetter_make_subset_at(FONT, PLACE, GLYPHS, options, made), subsetter_make_subset(FONT, GLYPHS, options, made));
 }
 
 /* By the call that takes a list of words. */
 static void call_by_words(const struct row *row, struct answer *a)
 {
-    if (!row->embeds)
-        a->sizes.cids = a->sizes.widths = 0;
-    if (row->embeds && row->varies)
-        a->status = subsetter_embed_at_by_words(FONT, PLACE, GLYPHS, LIST, WHOLE);
-    else if (row->embeds)
-        a->status = subsetter_embed_by_words(FONT, GLYPHS, LIST, WHOLE);
-    else if (row->varies)
-        a->status = subsetter_subset_at_by_words(FONT, PLACE, GLYPHS, LIST, ALONE);
-    else
-        a->status = subsetter_subset_by_words(FONT, GLYPHS, LIST, ALONE);
+    ended(row, a, OF_ROW(subsetter_embed_at_by_words(FONT, PLACE, GLYPHS, LIST, WHOLE), subsetter_embed_by_words(FONT, GLYPHS, LIST, WHOLE),
+        subsetter_subset_at_by_words(FONT, PLACE, GLYPHS, LIST, ALONE), subsetter_subset_by_words(FONT, GLYPHS, LIST, ALONE)));
 }
 
 static uint32_t make_by_words(const struct row *row, subsetter_made *made)
 {
     memset(made, FILLED, sizeof *made);
-    if (row->embeds && row->varies)
-        return subsetter_make_embedded_at_by_words(FONT, PLACE, GLYPHS, LIST, made);
-    if (row->embeds)
-        return subsetter_make_embedded_by_words(FONT, GLYPHS, LIST, made);
-    if (row->varies)
-        return subsetter_make_subset_at_by_words(FONT, PLACE, GLYPHS, LIST, made);
-    return subsetter_make_subset_by_words(FONT, GLYPHS, LIST, made);
+    return OF_ROW(subsetter_make_embedded_at_by_words(FONT, PLACE, GLYPHS, LIST, made), subsetter_make_embedded_by_words(FONT, GLYPHS, LIST, made),
+        subsetter_make_subset_at_by_words(FONT, PLACE, GLYPHS, LIST, made), subsetter_make_subset_by_words(FONT, GLYPHS, LIST, made));
 }
 
 static int all_are_filled(const void *block, size_t from, size_t to)
@@ -430,12 +407,12 @@ static void check_made(const struct row *row)
     }
 }
 
-/* Each request for memory is refused in turn: there is no answer, and status 7. A font that is none is refused as such. Where the
- * request wants a smaller block the call goes on, and at coordinates it may go on. (Rust's lists ask for a smaller block by a copy:
- * at most two requests may be refused without an error.) */
+/* Each request for memory is refused in turn: there is no answer, and status 7. A font that is none, and a face that isn't there, are
+ * refused as such. Where the request wants a smaller block the call goes on, and at coordinates it may go on. (Rust's lists ask for a
+ * smaller block by a copy: at most two requests may be refused without an error.) */
 static void check_memory(const struct row *row)
 {
-    int met = 1, goes_on = 0;
+    int met = 1, goes_on = 0, needs_none = row->status == 1 || (row->status == 2 && row->index >> 31);
     for (refused = 1; met; refused++) {
         struct answer a = exact(row);
         subsetter_made made;
@@ -446,7 +423,7 @@ static void check_memory(const struct row *row)
         met = requests >= refused;
         int is_whole = is_right(row, &a), is_clean = is_refusal(&a, 7);
         check(held == before, "all memory is given back", row->name);
-        check(is_whole || (met && is_clean && row->status != 1), "a refused request", row->name);
+        check(is_whole || (met && is_clean && !needs_none), "a refused request", row->name);
         goes_on += met && is_whole && row->status == 0;
 #ifdef SUBSETTER_BY_CARGO
         check(goes_on <= 2, "how many requests may be refused", row->name);
@@ -460,7 +437,7 @@ static void check_memory(const struct row *row)
         uint32_t status = make(row, &row->options, &made);
         int is_met = requests >= refused;
         met |= is_met;
-        check((status == row->status && is_made(row, &made)) || (is_met && status == 7 && is_nothing(&made) && held == before && row->status != 1),
+        check((status == row->status && is_made(row, &made)) || (is_met && status == 7 && is_nothing(&made) && held == before && !needs_none),
             "a refused request of what is made", row->name);
         subsetter_free(&made);
         check(held == before, "all that was made is given back", row->name);
@@ -521,107 +498,32 @@ static void check_options(const struct row *row)
 
 /* ---- numbers of 32 bits, of which no bit is lost */
 
-/* By each call that takes options: the row's font, or a status. */
-static void check_each_call(const struct row *row, const subsetter_options *options, uint32_t status, const char *what)
+/* An option that isn't known is refused by each call that takes options. */
+static void check_unknown(const struct row *row, int field, uint32_t number)
 {
-    size_t size = status == 0 ? row->size : 0;
     for (int kind = 0; kind < 4; kind++) {
         struct row other = *row;
         struct answer a = exact(row);
         subsetter_made made;
         other.embeds = kind / 2;
         other.varies = kind % 2;
-        call_with(&other, options, &a);
-        check(status != 0 ? is_refusal(&a, status) : a.status == 0 && a.sizes.font == size && is_same(a.font, row->bytes, size), what, row->name);
-        check(make(&other, options, &made) == status && made.font_size == size && is_same(made.font, row->bytes, size), what, row->name);
-        check(status == 0 || is_nothing(&made), what, row->name);
-        subsetter_free(&made);
+        (&other.options.size)[field] = number;
+        call_with(&other, &other.options, &a);
+        check(is_refusal(&a, 10), "an unknown option", row->name);
+        check(make(&other, &other.options, &made) == 10 && is_nothing(&made), "made by an unknown option", row->name);
         give_up(&a);
     }
 }
 
-/* The row needs more than one token and a depth of its own, and its font has more than 255 bytes. */
-static void check_wide_options(const struct row *row)
+static void check_all_unknown(const struct row *row)
 {
-    enum { TOKENS = 1, DEPTH, DROP, BYTES };
-#define WITH(FIELD, NUMBER, STATUS)                                            \
-    do {                                                                       \
-        subsetter_options options = row->options;                              \
-        (&options.size)[FIELD] = NUMBER;                                       \
-        check_each_call(row, &options, STATUS, "a number of " #FIELD);         \
-    } while (0)
+    enum { DEPTH = 2, DROP };
     for (int bit = 3; bit < 32; bit++)
-        WITH(DROP, 1u << bit, 10);
+        check_unknown(row, DROP, 1u << bit);
     for (uint32_t depth = 256; depth < 600; depth++)
-        WITH(DEPTH, depth, 10);
-    WITH(TOKENS, 1, 6);
-    for (int i = 0; i < HIGHS; i++) {
-        WITH(TOKENS, HIGH[i] + 1, 0);
-        WITH(BYTES, HIGH[i] + 1, row->size <= HIGH[i] + 1 ? 0 : 5);
-        WITH(DEPTH, row->options.depth + HIGH[i], 10);
-        struct row other = *row;
-        other.limits = 1;
-        other.embeds = other.has_words = 0;
-        other.options.tokens = HIGH[i] + 1;
-        other.cid_count = other.width_count = 0;
-        check_whole(&other, 0);
-    }
-}
-
-/* The row's font has two faces: a face that isn't there, though it is the row's but for one bit, is refused as such by each call, also
- * where one of the first requests for memory is refused. */
-static void check_faces(const struct row *row)
-{
-    for (int i = 0; row->status == 0 && i < HIGHS; i++)
-        for (int kind = 0; kind < 7; kind++) {
-            struct row other = *row;
-            other.index += HIGH[i];
-            other.status = 2;
-            other.bytes = NULL;
-            other.size = other.cid_count = other.width_count = 0;
-            other.embeds = kind > 3;
-            other.limits = kind == 3;
-            other.varies = kind % 3 == 2;
-            other.has_words = kind % 3 != 0;
-            other.options.depth = (uint32_t)other.limits;
-            for (unsigned long request = 0; request < (CAN_REFUSE ? 5 : 1); request++) {
-                subsetter_made made;
-                refused = request;
-                requests = 0;
-                check_whole(&other, 0);
-                requests = 0;
-                check(other.limits || (make(&other, &other.options, &made) == 2 && is_nothing(&made)), "made of another face", row->name);
-            }
-            refused = 0;
-        }
-}
-
-static uint32_t big_endian(const uint8_t *at, int size)
-{
-    uint32_t value = 0;
-    for (int i = 0; i < size; i++)
-        value = value << 8 | at[i];
-    return value;
-}
-
-/* A row at the end of an axis, from an axis that goes from 16384 on for one 65536th alone: no bit of a coordinate is lost. */
-static void check_last_bit(const struct row *row)
-{
-    static const uint8_t ends[] = {64, 0, 0, 0, 64, 0, 0, 0, 64, 0, 0, 1};
-    struct row precise = *row;
-    subsetter_coordinate at = {row->coordinates[0].tag, 0x40000001};
-    uint8_t *font = room(row->font_size), *record = font + 12;
-    memcpy(font, row->font, row->font_size);
-    while (memcmp(record, "fvar", 4) != 0)
-        record += 16;
-    uint8_t *axes = font + big_endian(record + 8, 4), *axis = axes + big_endian(axes + 4, 2);
-    while (big_endian(axis, 4) != at.tag)
-        axis += big_endian(axes + 10, 2);
-    memcpy(axis + 4, ends, sizeof ends);
-    precise.font = font;
-    precise.coordinates = &at;
-    check_whole(&precise, 0);
-    __real_free(font);
+        check_unknown(row, DEPTH, depth);
+    for (int i = 0; i < HIGHS; i++)
+        check_unknown(row, DEPTH, row->options.depth + HIGH[i]);
 }
 
 /* ---- lists of words, as another binding hands them over */
@@ -841,38 +743,6 @@ static int is_once(const struct row *row)
     return is_brief && strncmp(row->words[2], "doubled", 7) == 0;
 }
 
-static void *many_calls(void *wrong)
-{
-    for (int turn = 0; turn < (is_brief ? 1 : 5); turn++)
-        for (const struct row *row = rows; row < rows + row_count; row++) {
-            if (!is_short(row) || is_once(row))
-                continue;
-            struct answer a = exact(row);
-            subsetter_made made;
-            call(row, &a);
-            *(size_t *)wrong += !is_right(row, &a);
-            give_up(&a);
-            if (!has_options(row))
-                continue;
-            *(size_t *)wrong += make(row, &row->options, &made) != row->status || !is_made(row, &made);
-            subsetter_free(&made);
-        }
-    return NULL;
-}
-
-static void check_threads(void)
-{
-    pthread_t threads[2];
-    size_t wrong[2] = {0, 0};
-    is_counted = 0;
-    for (int i = 0; i < 2; i++)
-        if (pthread_create(&threads[i], NULL, many_calls, &wrong[i]) != 0)
-            exit(3);
-    for (int i = 0; i < 2; i++)
-        pthread_join(threads[i], NULL);
-    check(wrong[0] == 0 && wrong[1] == 0, "answer alike", "two threads");
-}
-
 static void check_row(const struct row *row)
 {
     if (is_once(row)) {
@@ -885,17 +755,16 @@ static void check_row(const struct row *row)
     if (!is_short(row))
         return;
     check_memory(row);
-    if (!has_options(row))
-        return;
-    check_options(row);
+    if (has_options(row))
+        check_options(row);
 }
 
-/* Checks of certain rows, by their names or those of their fonts; there has to be one. */
-static void check_named(int word, const char *name, void (*checked)(const struct row *))
+/* Checks of a certain row, which has to be there. */
+static void check_named(const char *name, void (*checked)(const struct row *))
 {
     int met = 0;
     for (size_t i = 0; i < row_count; i++)
-        if (strcmp(rows[i].words[word], name) == 0) {
+        if (strcmp(rows[i].name, name) == 0) {
             checked(&rows[i]);
             met = 1;
         }
@@ -904,27 +773,18 @@ static void check_named(int word, const char *name, void (*checked)(const struct
 
 int main(int argc, char **argv)
 {
-    size_t end_count = 0;
     is_brief = argc > 2 && strcmp(argv[1], "--brief") == 0;
     if (argc < 2)
         return 2;
     read_rows(argv[argc - 1]);
     if (argc > 3 && strcmp(argv[1], "--damaged") == 0)
         return damaged(strtoul(argv[2], NULL, 10));
-    for (const struct row *row = rows; row < rows + row_count; row++) {
+    for (const struct row *row = rows; row < rows + row_count; row++)
         check_row(row);
-        if (row->coordinate_count == 1 && row->coordinates[0].value == INT32_MAX && row->status == 0) {
-            check_last_bit(row);
-            end_count++;
-        }
-    }
-    check_named(1, "sid_keyed", check_words);
-    check_named(1, "embedded_within", check_wide_options);
-    check_named(2, "two_faces", check_faces);
-    check(end_count > 0, "a row at the end of an axis", "the last bit");
+    check_named("sid_keyed", check_words);
+    check_named("embedded_within", check_all_unknown);
     check_texts();
     check(subsetter_version() == SUBSETTER_VERSION, "the version of the header", "version");
-    check_threads();
     printf("C: %zu rows, %zu checks, %zu failed\n", row_count, checks, failures);
-    return failures != 0 || row_count < 447;
+    return failures != 0 || row_count < 490;
 }

@@ -71,15 +71,11 @@ test("entries, numbers and layouts", () => {
 });
 
 test("faces", () => {
-    // (a collection of one font)
-    const one = new Uint8Array(16 + TTF.length), view = new DataView(one.buffer);
-    [0x74746366, 0x10000, 1, 16].forEach((word, i) => view.setUint32(4 * i, word));
-    one.set(TTF, 16);
-    for (let at = 36; at < 28 + 16 * TTF[5]; at += 16) view.setUint32(at, view.getUint32(at) + 16);
+    const one = made("made.ttc");
     const calls = [(it) => subsetter.glyphsOf(one, "A", it), (it) => subsetter.open(one, it).glyphsOf("A"), (it) => subsetter.pdfFont(one, SHOWN, it).codes, (it) => subsetter.open(one, it).pdfFont(SHOWN).codes];
     for (const call of calls) {
         assert.deepEqual(call(), call({ index: 0 }));
-        throws(() => call({ index: 1 }), MalformedFont, "another face");
+        for (const index of [1, 2 ** 31]) throws(() => call({ index }), MalformedFont, "another face");
     }
 });
 

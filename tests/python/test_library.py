@@ -1,17 +1,16 @@
 """Where the library is looked for and what is refused of one; the module in threads and forked processes."""
 
+import ctypes
 import os
 import re
 import shutil
-import sys
 import threading
-import time
 
 import pytest
 import subsetter
 from common import MODULE, child, made, read_rows, shared_library
 
-ROWS, FONTS, _ = read_rows()
+ROWS = read_rows()[0]
 
 # Says which library is loaded, or why none is.
 LOADED = """
@@ -121,27 +120,8 @@ def test_threads_answer_alike():
 
 
 def test_other_threads_go_on_while_a_call_runs():
-    """(Python itself lets no thread go on for another meanwhile, however slow the machine is: a call alone does.)"""
-    stamps, ends = [], threading.Event()
-
-    def stamp():
-        while not ends.is_set():
-            stamps.append(time.monotonic())
-            time.sleep(0.001)
-
-    thread, interval = threading.Thread(target=stamp), sys.getswitchinterval()
-    sys.setswitchinterval(1000)
-    thread.start()
-    goes_on, end = False, time.monotonic() + 60
-    while not goes_on and time.monotonic() < end:
-        start = time.monotonic()
-        subsetter.subset(FONTS["most_tokens"], [])
-        took = time.monotonic() - start
-        goes_on = any(start + took / 4 < it < start + took * 3 / 4 for it in stamps[-10000:])
-    sys.setswitchinterval(interval)
-    ends.set()
-    thread.join()
-    assert goes_on
+    """(Python's lock is held by a PyDLL alone.)"""
+    assert not isinstance(subsetter._library(), ctypes.PyDLL)
 
 
 def test_two_first_calls_at_once():
@@ -168,7 +148,18 @@ def test_two_first_calls_at_once():
     """) == "True True\n"
 
 
-# ---- forked processes
+# ---- loaded again, and forked processes
+
+def test_loaded_again():
+    assert child("""
+        import _ctypes
+        from programs import *
+        for _ in range(20):
+            _ctypes.dlclose(subsetter._loaded._handle)
+            subsetter._loaded = None
+            print("subsetter.so" in open("/proc/self/maps").read(), answers(subsetter) == wanted, end=" ")
+    """) == "False True " * 20
+
 
 def test_forked_processes():
     """What was loaded and made before is there in both, also where another thread was about to load the library."""

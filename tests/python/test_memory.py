@@ -1,6 +1,6 @@
 """Memory: what stays during a call, what isn't copied, what comes of a refused request, and that all is given back."""
 
-from common import HERE, child, read_rows, shared_library
+from common import ROOT, child, read_rows, shared_library
 
 FONTS = read_rows()[1]
 
@@ -53,14 +53,14 @@ REFUSED = """
     import ctypes
     from programs import *
     shim = ctypes.CDLL(None)
-    shim.watch.argtypes, shim.refuse.argtypes = [ctypes.c_size_t] * 2, [ctypes.c_ulong]
-    shim.met.restype, shim.held.restype = ctypes.c_ulong, ctypes.c_long
+    shim.watch.argtypes, shim.refuse.argtypes = [ctypes.c_size_t] * 2, [ctypes.c_size_t]
+    shim.met.restype = shim.watched_blocks.restype = ctypes.c_size_t
     path = os.path.realpath(subsetter._library()._name)
     with open("/proc/self/maps") as file:
         ends = [line.split()[0].split("-") for line in file if os.path.realpath(line.split()[-1]) == path]
     shim.watch(min(int(it, 16) for it, _ in ends), max(int(it, 16) for _, it in ends))
     for (name, call), answer in zip(calls(subsetter).items(), wanted):
-        refused, number, held = 0, 0, shim.held()
+        refused, number, held = 0, 0, shim.watched_blocks()
         while True:
             number += 1
             shim.refuse(number)
@@ -71,8 +71,8 @@ REFUSED = """
                 refused += type(error) is subsetter.OutOfMemory and str(error) == "out of memory"
             is_met = shim.met() >= number
             shim.refuse(0)
-            if found not in (None, answer) or shim.held() != held:
-                print(f"{name}: request {number} gives {str(found)[:40]}, and {shim.held() - held} blocks are held")
+            if found not in (None, answer) or shim.watched_blocks() != held:
+                print(f"{name}: request {number} gives {str(found)[:40]}, and {shim.watched_blocks() - held} blocks are held")
             if not is_met:
                 break
         print(f"{name}: {refused > 0} {number > 1} {found == answer == call()}")
@@ -83,7 +83,7 @@ REFUSED = """
 def test_each_request_that_is_refused(tmp_path):
     """`OutOfMemory`, or the whole answer; nothing is held afterwards, and the next call is as good as any."""
     shim = tmp_path / "refuse.so"
-    shared_library(HERE / "refuse.c", shim)
-    *lines, last = child(REFUSED, LD_PRELOAD=shim).splitlines()
+    shared_library(ROOT / "compare/drivers/refuse.c", shim)
+    *lines, last = child(REFUSED, LD_PRELOAD=shim, WATCH=1).splitlines()
     assert len(lines) > 7 and {line.partition(": ")[2] for line in lines} == {"True True True"}, lines
     assert last == "True"

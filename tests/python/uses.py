@@ -28,8 +28,7 @@ def accepted(data: bytes, mapped: mmap.mmap, one: Index, value: Real) -> None:
     font, cids, widths = embedded
     lists: List[List[int]] = [cids, widths, embedded.cids, embedded.widths]
     memory: Type[MemoryError] = subsetter.OutOfMemory
-    errors: List[Type[subsetter.Error]] = [subsetter.CFFError, subsetter.NotPermitted]
-    print(lists, embedded.font, subsetter.__version__, memory, errors)
+    print(lists, embedded.font, subsetter.__version__, memory)
 
 
 def accepted_for_pdf(data: bytes, mapped: mmap.mmap, one: Index) -> None:
@@ -52,18 +51,11 @@ def accepted_for_pdf(data: bytes, mapped: mmap.mmap, one: Index) -> None:
 
 def refused(data: bytes) -> None:
     subsetter.subset(data, 5)  # type: ignore[arg-type]
-    subsetter.subset(data, ["1"])  # type: ignore[list-item]
-    subsetter.subset(data, [1], 0, 5)  # type: ignore[misc]
     subsetter.subset(data, [1], hint=False)  # type: ignore[call-arg]
     subsetter.subset(data, [1], hinting=0)  # type: ignore[arg-type]
-    subsetter.embed(data, [1], coordinates=[("wght", 1)])  # type: ignore[arg-type]
     subsetter.embed(data, [1], coordinates={"wght": "650"})  # type: ignore[dict-item]
-    subsetter.glyphs_of(data, b"Hello")  # type: ignore[arg-type]
     subsetter.pdf_font(data, [(36, b"A")])  # type: ignore[list-item]
     subsetter.pdf_font(data, [], codes="cids")  # type: ignore[arg-type]
-    subsetter.pdf_font(data, [], names=False)  # type: ignore[call-arg]
-    subsetter.pdf_font(data, []).sheet("page")  # type: ignore[arg-type]
     subsetter.pdf_font(data, []).parts([1], True)  # type: ignore[misc]
     font: bytes = subsetter.embed(data, [1])  # type: ignore[assignment]
-    widths: List[str] = subsetter.embed(data, [1]).widths  # type: ignore[assignment]
-    print(font, widths, subsetter.no_such_name)  # type: ignore[attr-defined]
+    print(font, subsetter.no_such_name)  # type: ignore[attr-defined]

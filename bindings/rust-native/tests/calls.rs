@@ -1,41 +1,13 @@
 //! The worked rows by the native library, a font for a PDF, and errors.
 
+#[path = "../../rust/tests/table/words.rs"]
+mod words;
+
 use std::collections::HashMap;
 use std::fs;
 use subsetter_native::{embed, glyphs_of, pdf_font, subset, Codes, Direction, Error, Layout, Options};
 use subsetter_native::{Embedded, PdfFont, PdfOptions, Rights};
-
-fn bytes(word: &str) -> Vec<u8> {
-    let digits = word.trim_matches('-').as_bytes().chunks(2);
-    digits.map(|two| u8::from_str_radix(std::str::from_utf8(two).unwrap(), 16).unwrap()).collect()
-}
-
-/// Numbers of a list as `1,4..7`.
-fn numbers(word: &str) -> Vec<u32> {
-    let parts = word.split(',').filter(|part| *part != "-");
-    let range = |part: &str| {
-        let (first, last) = part.split_once("..").unwrap_or((part, part));
-        first.parse::<u32>().unwrap()..=last.parse().unwrap()
-    };
-    parts.flat_map(range).collect()
-}
-
-fn glyphs(word: &str) -> Vec<u16> {
-    numbers(word).into_iter().map(|it| it as u16).collect()
-}
-
-/// The coordinates of a list as `wght=42598400`, in 65536ths; none where one has no such number.
-fn coordinates(word: &str) -> Option<Vec<([u8; 4], f32)>> {
-    let parts = word.split(',').filter(|part| *part != "-");
-    let coordinate = |part: &str| {
-        let (tag, value) = part.split_once('=').unwrap();
-        let value: i32 = value.parse().unwrap();
-        let number = (f64::from(value) / 65536.0) as f32;
-        let is_exact = f64::from(number) * 65536.0 == f64::from(value);
-        is_exact.then(|| (tag.as_bytes().try_into().unwrap(), number))
-    };
-    parts.map(coordinate).collect()
-}
+use words::{bytes, coordinates, numbers, short_numbers};
 
 #[test]
 fn each_row_is_answered() {
@@ -51,7 +23,7 @@ fn each_row_is_answered() {
         if !varies && !kind.ends_with("bounded_options") {
             continue;
         }
-        let (font, index, list) = (&fonts[words[2]], words[3].parse().unwrap(), glyphs(words[4]));
+        let (font, index, list) = (&fonts[words[2]], words[3].parse().unwrap(), short_numbers(words[4]));
         let mut at = match coordinates(if varies { words[5] } else { "-" }) {
             Some(at) => at,
             None => continue,
@@ -71,7 +43,7 @@ fn each_row_is_answered() {
         };
         let list = |at: usize| behind.get(at).copied().unwrap_or("-");
         let wanted = match behind[0].parse().unwrap() {
-            0 => Ok(Embedded { font: bytes(behind[1]), cids: glyphs(list(2)), widths: numbers(list(3)) }),
+            0 => Ok(Embedded { font: bytes(behind[1]), cids: short_numbers(list(2)), widths: numbers(list(3)) }),
             status => Err(ERRORS[status - 1]),
         };
         assert!(found == wanted, "{line}");

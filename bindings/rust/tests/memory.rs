@@ -49,7 +49,7 @@ fn refuse_in_turn<T: PartialEq + Debug>(
 const FONTS: [&str; 6] = ["full", "collection", "varied", "font_dicts_unnamed", "one_charstring", "long_glyph"];
 
 #[test]
-fn each_request_of_subset_may_be_refused() {
+fn each_request_of_subset_and_embed_may_be_refused() {
     let (fonts, limits, options) = (table().fonts, Limits::default(), Options::new());
     for name in FONTS {
         let (font, mapper) = (&fonts[name], GlyphRemapper::new_from_glyphs(&[0, 1]));
@@ -58,14 +58,6 @@ fn each_request_of_subset_may_be_refused() {
         assert!(answer.is_err() || requests > 3, "{name}: {requests}");
         refuse_each(|| subset_with_limits(font, 0, &mapper, &limits), &answer);
         refuse_each(|| subset_with_options(font, 0, &mapper, &options), &answer);
-    }
-}
-
-#[test]
-fn each_request_of_embed_may_be_refused() {
-    let (fonts, limits, options) = (table().fonts, Limits::default(), Options::new());
-    for name in FONTS {
-        let font = &fonts[name];
         let answer = embed(font, 0, &[1, 1]);
         refuse_each(|| embed(font, 0, &[1, 1]), &answer);
         refuse_each(|| embed_with_limits(font, 0, &[1, 1], &limits), &answer);

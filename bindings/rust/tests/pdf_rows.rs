@@ -1,20 +1,101 @@
 //! Each row of `tests/data/pdf_rows.txt`, field by field.
 #![cfg(feature = "variable-fonts")]
 
-#[path = "table/pdf.rs"]
-mod table;
+use std::fs;
+use subsetter::pdf::{pdf_font, FontError, FontOptions, Objects, Part, PdfFont, Permission, ProgramKind, References};
+use subsetter::pdf::{Bounds, Codes, Direction, ProgramChoice, Rights, Shown, Usage};
+use subsetter::Tag;
 
-use subsetter::pdf::{pdf_font, FontError, PdfFont, Permission, ProgramKind, Shown, Usage};
-use subsetter::pdf::{Objects, Part, References};
-use table::{pdf_rows, PdfRow};
+const DATA: &str = concat!(env!("CARGO_MANIFEST_DIR"), "/tests/data/");
 
-fn shown(row: &PdfRow) -> Vec<Shown<'_>> {
-    let shown = row.shown.iter();
-    shown.map(|(glyph, text)| Shown::new(*glyph, text)).collect()
+/// A row: what is asked, and the fields of the answer with their values.
+struct PdfRow {
+    name: String,
+    font: Vec<u8>,
+    coordinates: Vec<(Tag, f32)>,
+    shown: Vec<(u16, String)>,
+    options: FontOptions,
+    fields: Vec<(String, String)>,
+}
+
+impl PdfRow {
+    /// The value of a field.
+    fn wanted(&self, field: &str) -> Option<&str> {
+        let mut found = self.fields.iter().filter(|(name, _)| name == field);
+        found.next().map(|(_, value)| value.as_str())
+    }
+}
+
+fn character(word: &str) -> char {
+    char::from_u32(u32::from_str_radix(word, 16).unwrap()).unwrap()
+}
+
+fn shown(words: &str) -> Vec<(u16, String)> {
+    let one = |word: &str| {
+        let (glyph, text) = word.split_once(':').unwrap();
+        let text = text.split(',').filter(|it| !it.is_empty());
+        (glyph.parse().unwrap(), text.map(character).collect())
+    };
+    words.split_whitespace().map(one).collect()
+}
+
+fn coordinates(words: &str) -> Vec<(Tag, f32)> {
+    let one = |word: &str| {
+        let (tag, value) = word.split_once('=').unwrap();
+        (tag.parse().unwrap(), value.parse().unwrap())
+    };
+    let words = words.split(',').filter(|it| *it != "-");
+    words.map(one).collect()
+}
+
+fn chosen(options: FontOptions, word: &str) -> FontOptions {
+    match word {
+        "direction=Vertical" => options.direction(Direction::Vertical),
+        "codes=Source" => options.codes(Codes::Source),
+        "codes=EachText" => options.codes(Codes::EachText),
+        "bounds=Kept" => options.bounds(Bounds::Kept),
+        "program=OpenType" => options.program(ProgramChoice::OpenType),
+        "rights=Held" => options.rights(Rights::Held),
+        "cid_set" => options.cid_set(true),
+        _ => panic!("no option: {word}"),
+    }
+}
+
+/// The fields of a row, whose name is first.
+fn row(fields: Vec<(String, String)>) -> PdfRow {
+    let value = |name: &str| {
+        let found = fields.iter().find(|(field, _)| field == name);
+        found.unwrap_or_else(|| panic!("no {name}")).1.as_str()
+    };
+    let without_hinting = FontOptions::new().hinting(false);
+    let words = value("options").split_whitespace();
+    PdfRow {
+        name: value("row").to_string(),
+        font: fs::read(DATA.to_string() + value("font")).unwrap(),
+        coordinates: coordinates(value("coordinates")),
+        shown: shown(value("shown")),
+        options: words.fold(without_hinting, chosen),
+        fields: fields[5..].to_vec(),
+    }
+}
+
+fn pdf_rows() -> Vec<PdfRow> {
+    let text = fs::read_to_string(DATA.to_string() + "pdf_rows.txt").unwrap();
+    let field = |line: &str| {
+        let (name, value) = line.split_once(' ').unwrap_or((line, ""));
+        (name.to_string(), value.replace('~', "\n"))
+    };
+    let fields = |block: &str| -> Vec<(String, String)> {
+        let lines = block.lines().filter(|it| !it.is_empty() && !it.starts_with('#'));
+        lines.map(field).collect()
+    };
+    let blocks = text.split("\n\n").map(fields);
+    blocks.filter(|it| !it.is_empty()).map(row).collect()
 }
 
 fn answer(row: &PdfRow) -> Result<PdfFont, FontError> {
-    pdf_font(&row.font, 0, &row.coordinates, &shown(row), &row.options)
+    let shown: Vec<Shown> = row.shown.iter().map(|(glyph, text)| Shown::new(*glyph, text)).collect();
+    pdf_font(&row.font, 0, &row.coordinates, &shown, &row.options)
 }
 
 fn hexadecimal(bytes: &[u8]) -> String {

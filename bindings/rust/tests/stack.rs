@@ -1,12 +1,12 @@
 //! The stack that a call takes, in a build that isn't optimized: what the crate's documentation says.
 #![cfg(feature = "variable-fonts")]
 
+#[path = "table/made.rs"]
+mod made;
+
+use made::{file, words};
 use std::thread;
 use subsetter::{subset_with_variations, Error, GlyphRemapper, Tag};
-
-fn words(numbers: &[u16]) -> Vec<u8> {
-    numbers.iter().flat_map(|it| it.to_be_bytes()).collect()
-}
 
 /// A font of so many glyphs with an axis. Each is a composite of the next one, but for the last, which is empty.
 fn nested(count: u16) -> Vec<u8> {
@@ -14,7 +14,7 @@ fn nested(count: u16) -> Vec<u8> {
     let composites = (1..count).map(|next| words(&[0xffff, 0, 0, 0, 0, 2, next, 0]));
     let offsets = (0..=count).flat_map(|it| (16 * u32::from(it).min(end as u32)).to_be_bytes());
     let fvar = [1, 0, 16, 2, 1, 20, 0, 8, 0x7767, 0x6874, 100, 0, 400, 0, 900, 0, 0, 256];
-    let tables: [(&[u8; 4], Vec<u8>); 7] = [
+    file(&[
         (b"fvar", words(&fvar)),
         (b"glyf", composites.flatten().collect()),
         (b"head", [vec![0; 18], words(&[1000]), vec![0; 30], words(&[1, 0])].concat()),
@@ -22,17 +22,7 @@ fn nested(count: u16) -> Vec<u8> {
         (b"hmtx", [words(&[500]), zeros].concat()),
         (b"loca", offsets.collect()),
         (b"maxp", [words(&[1, 0, count]), vec![0; 26]].concat()),
-    ];
-    let (mut font, mut bodies) = (words(&[1, 0, 7, 0, 0, 0]), vec![]);
-    for (tag, body) in tables {
-        let from = (12 + 16 * 7 + bodies.len()) as u32;
-        font.extend_from_slice(tag);
-        for number in [0, from, body.len() as u32] {
-            font.extend_from_slice(&number.to_be_bytes());
-        }
-        bodies.extend(body);
-    }
-    [font, bodies].concat()
+    ])
 }
 
 /// Glyph 0 at coordinates, in a thread with so much stack.

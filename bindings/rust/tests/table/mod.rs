@@ -2,11 +2,12 @@
 
 #![allow(dead_code)] // (each test takes a part of it)
 
-pub mod answers;
+pub mod words;
 
 use std::collections::HashMap;
 use std::fs;
 use subsetter::{Embedded, Error, Limits, Options, Tag};
+use words::{bytes, numbers, short_numbers};
 
 /// The calls of rows, each with how many numbers of options its rows have.
 const CALLS: [(&str, usize); 9] = [
@@ -27,8 +28,8 @@ pub struct Row {
     pub font: Vec<u8>,
     pub index: u32,
     pub glyphs: Vec<u16>,
-    /// Tags with values in 65536ths, of `subset_at` and `embed_at` alone.
-    pub coordinates: Vec<(Tag, i32)>,
+    /// Of `subset_at` and `embed_at` alone; None where Rust has no such number.
+    pub coordinates: Option<Vec<(Tag, f32)>>,
     /// Tokens, depth, what is dropped, and bytes; 0 is the library's default but for `limits`.
     pub choice: [u32; 4],
     pub status: u32,
@@ -37,51 +38,33 @@ pub struct Row {
 
 pub struct Table {
     pub fonts: HashMap<String, Vec<u8>>,
-    pub texts: HashMap<u32, String>,
     pub rows: Vec<Row>,
 }
 
-pub fn bytes(word: &str) -> Vec<u8> {
-    let digit = |byte: u8| (byte as char).to_digit(16).unwrap() as u8;
-    let digits = word.trim_matches('-').as_bytes().chunks(2);
-    digits.map(|two| 16 * digit(two[0]) + digit(two[1])).collect()
-}
+/// The errors of the statuses from 1 on.
+pub const ERRORS: [Error; 7] = [
+    Error::UnknownKind,
+    Error::MalformedFont,
+    Error::Unimplemented,
+    Error::SubsetError,
+    Error::OverflowError,
+    Error::CFFError,
+    Error::OutOfMemory,
+];
 
-fn numbers(word: &str) -> Vec<u32> {
-    let parts = word.split(',').filter(|part| *part != "-");
-    let range = |part: &str| {
-        let (first, last) = part.split_once("..").unwrap_or((part, part));
-        first.parse::<u32>().unwrap()..=last.parse().unwrap()
-    };
-    parts.flat_map(range).collect()
-}
-
-fn short_numbers(word: &str) -> Vec<u16> {
-    let narrow = |number: u32| u16::try_from(number).unwrap();
-    numbers(word).into_iter().map(narrow).collect()
-}
-
-/// The coordinates of a list as `wght=42598400`.
-fn coordinates(word: &str) -> Vec<(Tag, i32)> {
-    let parts = word.split(',').filter(|part| *part != "-");
-    let one = |part: &str| {
-        let (tag, value) = part.split_once('=').unwrap();
-        (tag.parse().unwrap(), value.parse().unwrap())
-    };
-    parts.map(one).collect()
+/// The coordinates of a list, as far as Rust has such numbers.
+pub fn variations(word: &str) -> Option<Vec<(Tag, f32)>> {
+    let of_tag = |(tag, value): ([u8; 4], f32)| (Tag::new(&tag), value);
+    words::coordinates(word).map(|it| it.into_iter().map(of_tag).collect())
 }
 
 impl Table {
     fn add(&mut self, line: &str) {
         let words: Vec<&str> = line.split_whitespace().collect();
         match words[..] {
-            [] => {}
+            [] | ["text", ..] => {}
             ["font", name, digits] => {
                 self.fonts.insert(name.to_string(), bytes(digits));
-            }
-            ["text", status, digits] => {
-                let text = String::from_utf8(bytes(digits)).unwrap();
-                self.texts.insert(status.parse().unwrap(), text);
             }
             _ => {
                 let call = CALLS.iter().find(|it| it.0 == words[0]);
@@ -108,7 +91,7 @@ fn row(call: &'static str, choices: usize, words: &[&str], fonts: &HashMap<Strin
         font: fonts[words[2]].clone(),
         index: words[3].parse().unwrap(),
         glyphs: short_numbers(words[4]),
-        coordinates: coordinates(if first == 6 { words[5] } else { "-" }),
+        coordinates: variations(if first == 6 { words[5] } else { "-" }),
         choice,
         status: behind[0].parse().unwrap(),
         wanted: Embedded { font: bytes(behind[1]), cids: short_numbers(list(2)), widths: numbers(list(3)) },
@@ -117,13 +100,8 @@ fn row(call: &'static str, choices: usize, words: &[&str], fonts: &HashMap<Strin
 
 /// The worked rows.
 pub fn table() -> Table {
-    let folder = env!("CARGO_MANIFEST_DIR");
-    table_of(&format!("{folder}/../../crates/dev_rows/data/subset.txt"))
-}
-
-/// The worked rows of a file.
-pub fn table_of(name: &str) -> Table {
-    let mut table = Table { fonts: HashMap::new(), texts: HashMap::new(), rows: Vec::new() };
+    let mut table = Table { fonts: HashMap::new(), rows: Vec::new() };
+    let name = concat!(env!("CARGO_MANIFEST_DIR"), "/../../crates/dev_rows/data/subset.txt");
     let text = fs::read_to_string(name).unwrap();
     let lines = text.lines().filter(|line| !line.starts_with('#'));
     lines.for_each(|line| table.add(line));
@@ -145,15 +123,6 @@ impl Row {
     /// Whether the row has coordinates.
     pub fn varies(&self) -> bool {
         self.call.ends_with("_at")
-    }
-
-    /// The coordinates as numbers of Rust; None where one has no such number.
-    pub fn variations(&self) -> Option<Vec<(Tag, f32)>> {
-        let of = |(tag, value): &(Tag, i32)| {
-            let number = (f64::from(*value) / 65536.0) as f32;
-            (f64::from(number) * 65536.0 == f64::from(*value)).then_some((*tag, number))
-        };
-        self.coordinates.iter().map(of).collect()
     }
 
     /// The limits of the row: None where they are no limits.
@@ -183,13 +152,7 @@ impl Row {
     pub fn wanted(&self) -> Result<Embedded, Error> {
         match self.status {
             0 => Ok(self.wanted.clone()),
-            1 => Err(Error::UnknownKind),
-            2 => Err(Error::MalformedFont),
-            3 => Err(Error::Unimplemented),
-            4 => Err(Error::SubsetError),
-            5 => Err(Error::OverflowError),
-            6 => Err(Error::CFFError),
-            status => panic!("status {status}"),
+            status => Err(ERRORS[status as usize - 1]),
         }
     }
 }
