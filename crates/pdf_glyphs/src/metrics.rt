@@ -1,11 +1,11 @@
 //! Vertical metrics of a glyph (OpenType, "vhea", "vmtx"), as a PDF has them (ISO 32000-1, 9.7.4.3).
 
 ghost use Rattle.std.specs.Prelude.{◌≡◌, ◌≤◌, ◌<◌, ◌^◌, ◌+ℤ◌, IfSome, None, neg_ℤ, pos, unsigned_abs};
-ghost use Rattle.std.specs.Option.{option_map, option_map_or};
+ghost use Rattle.std.specs.Option.{option_and_then, option_map, option_map_or};
 ghost use Rattle.pdf_values.specs.Rounding.{thousandths};
 ghost use Rattle.pdf_glyphs.specs.Boxes.{outlines_view};
 ghost use Rattle.pdf_glyphs.specs.HeightVariation.{IsKnownBy, variation_view};
-ghost use Rattle.pdf_glyphs.specs.Vertical.{advance_at, advance_of, bearing_of, box_top, half, metric_at, moved_by, origin_of, origin_y_at, pair_count, vertical_view, vorg_y};
+ghost use Rattle.pdf_glyphs.specs.Vertical.{advance_at, advance_of, bearing_of, box_top, by_top, half, metric_at, origin_of, origin_y_at, pair_count, vertical_view, vorg_y, vorg_y_at};
 
 use crate::boxes::{OutlineTables, glyph_box};
 use crate::heights::{HeightVariation, varied_height, varied_origin};
@@ -93,12 +93,20 @@ fn box_top(tables: OutlineTables<'_>, glyph: u16) -> i16
 }
 
 /// The sum of a glyph's top and its top side bearing.
-fn origin_of_box(tables: VerticalTables<'_>, glyph: u16) -> Option<i32>
-    ensures exact { result ≡ option_map (λ b. box_top (vertical_view tables.entry).outlines glyph +ℤ b) (bearing_of (vertical_view tables.entry) glyph) }
+fn by_top(tables: VerticalTables<'_>, glyph: u16, top: i16) -> Option<i32>
+    ensures exact { result ≡ by_top (vertical_view tables.entry) glyph top }
     ensures small { IfSome result (λ v. unsigned_abs v ≤ 2 ^ 16) }
 {
     let bearing = bearing_of(tables, glyph)?;
-    Some(i32::from(box_top(tables.outlines, glyph)) + i32::from(bearing))
+    Some(i32::from(top) + i32::from(bearing))
+}
+
+/// The same of a top that may be given.
+fn by_given_top(tables: VerticalTables<'_>, glyph: u16, top: Option<i16>) -> Option<i32>
+    ensures exact { result ≡ option_and_then (by_top (vertical_view tables.entry) glyph) top }
+    ensures small { IfSome result (λ v. unsigned_abs v ≤ 2 ^ 16) }
+{
+    by_top(tables, glyph, top?)
 }
 
 /// The y of the origin that VORG has: its record's, else the default one.
@@ -120,7 +128,7 @@ fn vorg_y_at(
     recorded: Option<i16>,
 ) -> Option<i16>
     requires { recorded ≡ origin_of (vertical_view tables).vorg glyph }
-    ensures { result ≡ moved_by (option_map variation_view variation.entry) None glyph (vorg_y (vertical_view tables.entry).vorg glyph) }
+    ensures { result ≡ vorg_y_at (vertical_view tables.entry).vorg (option_map variation_view variation.entry) glyph }
 {
     let y = vorg_y(tables, glyph, recorded)?;
     match variation {
@@ -129,21 +137,26 @@ fn vorg_y_at(
     }
 }
 
-/// The y of the origin: of TrueType outlines by box and bearing, else by VORG with what it varies by.
+/// The y of the origin: of TrueType outlines by box and bearing, else by VORG with what it varies by, else by the top that may
+/// be given and the bearing.
 fn origin_y_at(
     tables: VerticalTables<'_>,
     variation: Option<HeightVariation<'_>>,
     glyph: u16,
     recorded: Option<i16>,
+    top: Option<i16>,
 ) -> Option<i32>
     requires { recorded ≡ origin_of (vertical_view tables).vorg glyph }
-    ensures exact { result ≡ origin_y_at (vertical_view tables.entry) (option_map variation_view variation.entry) glyph }
+    ensures exact { result ≡ origin_y_at (vertical_view tables.entry) (option_map variation_view variation.entry) top glyph }
     ensures small { IfSome result (λ v. unsigned_abs v ≤ 2 ^ 16) }
 {
     if tables.outlines.glyf.is_some() {
-        return origin_of_box(tables, glyph);
+        return by_top(tables, glyph, box_top(tables.outlines, glyph));
     }
-    Some(i32::from(vorg_y_at(tables, variation, glyph, recorded)?))
+    match vorg_y_at(tables, variation, glyph, recorded) {
+        Some(y) => Some(i32::from(y)),
+        None => by_given_top(tables, glyph, top),
+    }
 }
 
 /// Half of a width.
@@ -173,8 +186,8 @@ fn scaled_y(y: Option<i32>, units: u16) -> i32
     }
 }
 
-/// The column of a glyph with a width, of which VORG has this y. Its advance varies, by what may be known, and so does an
-/// origin by VORG.
+/// The column of a glyph with a width, of which VORG has this y, and whose top may be given. Its advance varies, by what may be
+/// known, and so does an origin by VORG.
 pub fn metric_at(
     tables: VerticalTables<'_>,
     variation: Option<HeightVariation<'_>>,
@@ -182,10 +195,11 @@ pub fn metric_at(
     width: u32,
     recorded: Option<i16>,
     known: Option<Result<i64, Error>>,
+    top: Option<i16>,
 ) -> Column
     requires recorded { recorded ≡ origin_of (vertical_view tables).vorg glyph }
     requires known { IsKnownBy (option_map variation_view variation) glyph known }
-    ensures { result ≡ metric_at (vertical_view tables.entry) (option_map variation_view variation.entry) glyph width }
+    ensures { result ≡ metric_at (vertical_view tables.entry) (option_map variation_view variation.entry) top glyph width }
 {
     let Some(advance) = advance_at(tables, variation, glyph, known) else {
         return Column {
@@ -195,9 +209,10 @@ pub fn metric_at(
         };
     };
     let units = units_per_em(tables.outlines.head);
+    let y = origin_y_at(tables, variation, glyph, recorded, top);
     Column {
         advance: downwards(advance, units),
         x: half(width),
-        y: scaled_y(origin_y_at(tables, variation, glyph, recorded), units),
+        y: scaled_y(y, units),
     }
 }
