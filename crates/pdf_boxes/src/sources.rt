@@ -1,6 +1,6 @@
 //! The boxes of glyphs whose charstrings may call subroutines (Technical Note 5176, section 14; Technical Note 5177).
 
-ghost use Rattle.std.specs.Prelude.{◌≡◌, Some, Ok, IfOk, IfErr};
+ghost use Rattle.std.specs.Prelude.{◌≡◌, None, Some, Ok, IfOk, IfErr};
 ghost use Rattle.std.specs.Option.{option_copied, option_map};
 ghost use Rattle.std.specs.Result.{result_ok};
 ghost use Rattle.subsetter_base.specs.Gives.{Gives};
@@ -43,7 +43,22 @@ fn flat_box(flat: &[u8]) -> Result<Option<GlyphBox>, Error>
     }
 }
 
-/// A charstring without its subroutines; none where it can't be run within these limits on a run.
+/// A charstring without its subroutines, of any size.
+#[tactic(auto, using(crate::proofs::Sources::unbounded))]
+fn flattened<'a>(
+    alloc: Global,
+    global: SubroutineHandler<'a>,
+    local: SubroutineHandler<'a>,
+    limits: Limits,
+    charstring: &'a [u8],
+) -> Result<Vec<u8>, Error>
+    requires { limits.bytes ≡ None }
+    ensures { Gives (λ v. v.items) result (flat_form (record { global = global.entry; local = local.entry }) limits.tokens limits.depth charstring.now) }
+{
+    Decompiler::with_limits(global, local, limits).flatten(alloc, charstring)
+}
+
+/// The same within these limits on a run; none where it can't be run.
 fn flat_of<'a>(
     alloc: Global,
     table: &Table<'a>,
@@ -54,12 +69,12 @@ fn flat_of<'a>(
     ensures value { Gives (λ flat. option_map (λ v. v.items) flat) result (Ok (result_ok (flat_form (library (cff_of table.now) (private_view private)) limits.now.tokens limits.now.depth charstring.now))) }
     ensures err { IfErr result (λ e. e ≡ OutOfMemory) }
 {
-    let Some(unbounded) = Limits::new(limits.tokens(), limits.depth()) else {
+    let Some(own) = Limits::new(limits.tokens(), limits.depth()) else {
         return Ok(None);
     };
     let global = SubroutineHandler::new(table.front.subroutines);
     let local = SubroutineHandler::new(private.subroutines);
-    match Decompiler::with_limits(global, local, unbounded).flatten(alloc, charstring) {
+    match flattened(alloc, global, local, own, charstring) {
         Ok(flat) => Ok(Some(flat)),
         Err(error) => {
             unless_memory(error)?;
