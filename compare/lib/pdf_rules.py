@@ -112,12 +112,22 @@ class Source:
         return {}
 
     def top_of(self, character):
-        """The top of a character's glyph, by the header of its outline in `glyf`."""
-        if self.is_cff or "cmap" not in self.tables:
+        """The top of a character's glyph, by the header of its outline in `glyf`, or by its charstring in `CFF `."""
+        glyph = self.cmap().get(ord(character), 0) if "cmap" in self.tables else 0
+        return self.top(glyph) if glyph else None
+
+    def top(self, glyph):
+        """The top of a glyph's box, which has the control points of a charstring; None where it has no outline or is one of `CFF2`."""
+        if not self.is_cff:
+            box = box_of(self.tables, glyph)
+            return box and box[3]
+        if "CFF " not in self.tables:
             return None
-        glyph = self.cmap().get(ord(character), 0)
-        box = box_of(self.tables, glyph) if glyph else None
-        return box and box[3]
+        from fontTools.pens.boundsPen import ControlBoundsPen
+
+        pen = ControlBoundsPen(None)
+        self.font["CFF "].cff.topDictIndex[0].CharStrings.charStringsIndex[glyph].draw(pen)
+        return pen.bounds and int(half_up(pen.bounds[3]))
 
     def advance(self, glyph):
         """The advance width of the default, in units: past the pairs of `hmtx` the last one's."""
@@ -468,13 +478,10 @@ def columns_in(array, default, widths, count):
 
 def origin(source, glyph):
     """The y of a glyph's origin in columns, in thousandths."""
-    if not source.is_cff:
-        bearing = vertical(source, glyph)[1]
-        if bearing is None:
-            return 880
-        box = box_of(source.tables, glyph)
-        return thousandths((box[3] if box else 0) + bearing, source.units)
     table = source["VORG"]
+    if not source.is_cff or table is None and "CFF " in source.tables:
+        bearing = vertical(source, glyph)[1]
+        return 880 if bearing is None else thousandths((source.top(glyph) or 0) + bearing, source.units)
     count = field(table, 6, "H")
     for k in range(count or 0):
         if field(table, 8 + 4 * k, "H") == glyph and field(table, 10 + 4 * k, "h") is not None:

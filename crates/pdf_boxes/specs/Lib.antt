@@ -1,3 +1,4 @@
 pub mod CharstringBox
 pub mod Kept
+pub mod SourceBox
 pub mod Traced

@@ -42,7 +42,7 @@ impl Regions for Unvaried {
 }
 
 /// What is behind the first number.
-fn behind_width(charstring: &[u8]) -> Option<&[u8]>
+pub fn behind_width(charstring: &[u8]) -> Option<&[u8]>
     ensures { option_copied result ≡ behind_width charstring.now }
 {
     let read = read_number(charstring)?;
@@ -50,7 +50,7 @@ fn behind_width(charstring: &[u8]) -> Option<&[u8]>
 }
 
 /// What is in front of endchar, the last operator.
-fn before_endchar(bytes: &[u8]) -> Option<&[u8]>
+pub fn before_endchar(bytes: &[u8]) -> Option<&[u8]>
     ensures { option_copied result ≡ before_endchar bytes.now }
 {
     if bytes.len() == 0 {
@@ -72,7 +72,7 @@ fn no_subroutines<'a>() -> SubroutineHandler<'a>
 
 /// The box of the outline of a charstring of `CFF2` that calls no subroutines and doesn't vary.
 #[tactic(auto, unfolding(crate::specs::CharstringBox::outline_box))]
-fn outline_box(charstring: &[u8]) -> Result<Option<GlyphBox>, Error>
+pub fn outline_box(charstring: &[u8]) -> Result<Option<GlyphBox>, Error>
     ensures value { Gives (λ b. b) result (Ok (outline_box charstring.now)) }
     ensures err { IfErr result (λ e. e ≡ OutOfMemory) }
 {

@@ -169,7 +169,7 @@ module _ (font : Font) (settings : List (Tag × ℤ)) (options : FontOptions) (u
             widths = ap (map Some) t.widths ∙ read.widths;
             exact = ap (map Some) t.exact ∙ read.exact;
             units = read.units ∙ ap (λ (n : ℕ). Some n) (sym t.units);
-            values = t.values ∙ read.values ∙ ap (λ (k : ℕ). values_in find (stored (as_font e.font.items)) k options.bounds settings) (sym t.count) ∙ ap (λ (look : List ℕ → Option (List ℕ)). values_in look (stored (as_font e.font.items)) f.glyph_count options.bounds settings) ef;
+            values = t.values ∙ read.values ∙ ap (λ (k : ℕ). values_in find (stored (as_font e.font.items)) k options settings) (sym t.count) ∙ ap (λ (look : List ℕ → Option (List ℕ)). values_in look (stored (as_font e.font.items)) f.glyph_count options settings) ef;
             filled = subst (λ (look : List ℕ → Option (List ℕ)). IsFilled look settings options us e.widths.items f) ef filled;
           }
 

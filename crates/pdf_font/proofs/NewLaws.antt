@@ -43,10 +43,10 @@ module _ (find : List ℕ → Option (List ℕ)) (settings : List (Tag × ℤ)) 
   afresh = stored (as_font file)
 
   abbrev profile_by : Result ℕ Error → Result Profile Error
-  profile_by r = r >>= λ count. (widths_of afresh count >>= λ widths. (exact_of afresh count >>= λ exact. Ok (record { count = count; widths = widths; exact = exact; values = values_in find afresh count options.bounds settings; head_box = program_box find afresh count options.bounds })))
+  profile_by r = r >>= λ count. (widths_of afresh count >>= λ widths. (exact_of afresh count >>= λ exact. Ok (record { count = count; widths = widths; exact = exact; values = values_in find afresh count options settings; head_box = program_box find afresh count options.bounds })))
 
   abbrev in_directory : (List ℕ → Option (List ℕ)) → FontFlavor → Result Profile Error
-  in_directory look k = count_in k look requested >>= λ count. (widths_of look count >>= λ widths. (exact_of look count >>= λ exact. Ok (record { count = count; widths = widths; exact = exact; values = values_in find look count options.bounds settings; head_box = program_box find look count options.bounds })))
+  in_directory look k = count_in k look requested >>= λ count. (widths_of look count >>= λ widths. (exact_of look count >>= λ exact. Ok (record { count = count; widths = widths; exact = exact; values = values_in find look count options settings; head_box = program_box find look count options.bounds })))
 
   profile_opened : profile_in find settings options requested file ≡ in_directory (table_in file o.directory) (flavor_in file)
   unfolding profile_in
@@ -56,7 +56,7 @@ module _ (find : List ℕ → Option (List ℕ)) (settings : List (Tag × ℤ)) 
   profile_is = profile_opened ∙ ap (λ (look : List ℕ → Option (List ℕ)). in_directory look (flavor_in file)) o.find ∙ ap (in_directory afresh) f
 
   abbrev profile_of : ℕ → List ℕ → Exact → Profile
-  profile_of n ws x = record { count = n; widths = ws; exact = x; values = values_in find afresh n options.bounds settings; head_box = program_box find afresh n options.bounds }
+  profile_of n ws x = record { count = n; widths = ws; exact = x; values = values_in find afresh n options settings; head_box = program_box find afresh n options.bounds }
 
   profile_read : (n : ℕ) (ws : List ℕ) (x : Exact) → count_in kind afresh requested ≡ Ok n → widths_of afresh n ≡ Ok ws → exact_of afresh n ≡ Ok x → profile_in find settings options requested file ≡ Ok (profile_of n ws x)
   profile_read n ws x c w e =
@@ -102,7 +102,7 @@ pub record IsRead (font : Font) (find : List ℕ → Option (List ℕ)) (setting
   pub widths : map Some m.profile.widths ≡ map (width font) order
   pub exact : map Some m.profile.exact.widths ≡ map (exact_width font) order
   pub units : units_per_em font ≡ Some m.profile.exact.units_per_em
-  pub values : m.profile.values ≡ values_in find (stored (as_font file)) m.profile.count options.bounds settings
+  pub values : m.profile.values ≡ values_in find (stored (as_font file)) m.profile.count options settings
 
 pub record LacksMaxp (font : Font) (file : List ℕ) (kind : FontFlavor) : Type 0 where
   pub kind_is : kind ≡ TrueType
@@ -144,7 +144,7 @@ module _ (tokens depth : ℕ) (font : Font) (glyphs : List ℕ) (new : Embedded)
     read : (program : List ℕ) → count_in kind (stored (as_font file)) requested ≡ Ok (length order) → program_in (kind_of kind options.program) box file ≡ Ok program → IsProgram (kind_of kind options.program) box file program → (kind ≡ TrueType → IsSome (table (as_font file) (codes "maxp"))) → MadeCase font find settings options order file kind made
     read program c p is m =
         inl (
-          record { kind = kind_of kind options.program; program = program; profile = record { count = length order; widths = all.widths; exact = all.exact; values = values_in find (stored (as_font file)) (length order) options.bounds settings; head_box = box } },
+          record { kind = kind_of kind options.program; program = program; profile = record { count = length order; widths = all.widths; exact = all.exact; values = values_in find (stored (as_font file)) (length order) options settings; head_box = box } },
           made_read find settings options requested file kind opens flavor_is (length order) all.widths all.exact program c all.read all.exact_read p,
           record { kind_is = refl; program = is; maxp = m; count = refl; widths = all.are; exact = all.exact_are; units = all.units_are; values = refl },
         )

@@ -37,6 +37,7 @@ use Rattle.pdf_source.specs.Moved.{program_box, values_in}
 use Rattle.pdf_source.specs.Program.{IsProgram, kind_of}
 use Rattle.pdf_source.specs.Named.{heights_there, name_there}
 use Rattle.pdf_source.specs.Source.{tag_in, vertical_of}
+use Rattle.pdf_source.specs.Tops.{tops_of}
 use Rattle.pdf_source.specs.declared.choice.Direction.{Direction}
 use Rattle.pdf_source.specs.declared.choice.Direction.TheVariants.{Horizontal, Vertical as TopToBottom}
 use Rattle.pdf_source.specs.declared.choice.FontOptions.{FontOptions}
@@ -91,11 +92,11 @@ same_seen a b e d =
     let first : columns_seen a ≡ record { each = b.each.items; default = a.default } = ap (λ (l : List Column). let s : ColumnsSeen = record { each = l; default = a.default } in s) e in
     first ∙ ap (λ (x : DefaultColumn). let s : ColumnsSeen = record { each = b.each.items; default = x } in s) d
 
-one_columns : (d : Direction) (t : Vertical) (v : Option Variation) (glyphs ws : List ℕ) (a b : Option Columns) → AreColumns d t v glyphs ws a → AreColumns d t v glyphs ws b → option_map columns_seen a ≡ option_map columns_seen b
-one_columns Horizontal t v glyphs ws a b x y = ap (option_map columns_seen) (x ∙ sym y)
-one_columns TopToBottom t v glyphs ws None b x y = absurd (let no = x.0 in cc)
-one_columns TopToBottom t v glyphs ws (Some a) None x y = absurd (let no = y.0 in cc)
-one_columns TopToBottom t v glyphs ws (Some a) (Some b) x y =
+one_columns : (d : Direction) (t : Vertical) (v : Option Variation) (tops : List ℤ) (glyphs ws : List ℕ) (a b : Option Columns) → AreColumns d t v tops glyphs ws a → AreColumns d t v tops glyphs ws b → option_map columns_seen a ≡ option_map columns_seen b
+one_columns Horizontal t v tops glyphs ws a b x y = ap (option_map columns_seen) (x ∙ sym y)
+one_columns TopToBottom t v tops glyphs ws None b x y = absurd (let no = x.0 in cc)
+one_columns TopToBottom t v tops glyphs ws (Some a) None x y = absurd (let no = y.0 in cc)
+one_columns TopToBottom t v tops glyphs ws (Some a) (Some b) x y =
     let each : a.each.items ≡ b.each.items = x.1.0 ∙ sym y.1.0 in
     let default : a.default ≡ b.default = x.1.1 ∙ ap most_frequent each ∙ sym y.1.1 in
     ap (λ (s : ColumnsSeen). Some s) (same_seen a b each default)
@@ -222,13 +223,14 @@ module _ (font : Font) (settings : List (Tag × ℤ)) (options : FontOptions) (u
 
   columns : option_map columns_seen f.columns ≡ option_map columns_seen g.columns
   columns =
-      let of_widths = subst (λ (l : List ℕ). AreColumns options.direction (vertical_of (stored font)) (heights_there (stored font) settings) (glyphs_of us) l f.columns) requested_widths p.made.filled.columns in
-      one_columns options.direction (vertical_of (stored font)) (heights_there (stored font) settings) (glyphs_of us) q.made.new.widths.items f.columns g.columns of_widths q.made.filled.columns
+      let tops : List ℤ = tops_of (stored font) options.limits (numbering (glyphs_of us)) in
+      let of_widths = subst (λ (l : List ℕ). AreColumns options.direction (vertical_of (stored font)) (heights_there (stored font) settings) tops (glyphs_of us) l f.columns) requested_widths p.made.filled.columns in
+      one_columns options.direction (vertical_of (stored font)) (heights_there (stored font) settings) tops (glyphs_of us) q.made.new.widths.items f.columns g.columns of_widths q.made.filled.columns
 
   values : f.descriptor.values ≡ g.descriptor.values
   values =
-      p.made.values ∙ ap (λ (l : List ℕ). values_in (stored font) (stored (as_font l)) f.glyph_count options.bounds settings) files
-      ∙ ap (λ (n : ℕ). values_in (stored font) (stored (as_font theirs)) n options.bounds settings) counts ∙ sym q.made.values
+      p.made.values ∙ ap (λ (l : List ℕ). values_in (stored font) (stored (as_font l)) f.glyph_count options settings) files
+      ∙ ap (λ (n : ℕ). values_in (stored font) (stored (as_font theirs)) n options settings) counts ∙ sym q.made.values
 
   abbrev same_pairs : pairs_with f.codes.items f.cids.items ≡ pairs_with g.codes.items g.cids.items
   same_pairs = ap (λ (l : List ℕ). pairs_with l f.cids.items) same_codes ∙ ap (pairs_with g.codes.items) cids

@@ -38,6 +38,7 @@ use Rattle.pdf_source.specs.Moved.{program_box, values_in}
 use Rattle.pdf_source.specs.Program.{IsProgram, kind_of}
 use Rattle.pdf_source.specs.Named.{heights_there, name_there}
 use Rattle.pdf_source.specs.Source.{tag_in, vertical_of}
+use Rattle.pdf_source.specs.Tops.{tops_of}
 use Rattle.pdf_source.specs.UnknownAxes.{unknown_axes}
 use Rattle.pdf_source.specs.declared.choice.Direction.{Direction}
 use Rattle.pdf_source.specs.declared.choice.Direction.TheVariants.{Horizontal, Vertical as TopToBottom}
@@ -68,10 +69,10 @@ pub record IsCoded (options : FontOptions) (us : List Used) (f : PdfFont) : Type
   pub to_unicode : f.to_unicode.items ≡ cmap_text (lines_of_codes (coded us f.codes.items))
   pub said : f.is_said.items ≡ map (is_line_found (coded us f.codes.items)) (coded us f.codes.items)
 
--- columns of the CIDs that a string can show, in vertical writing alone
-abbrev pub AreColumns : Direction → Vertical → Option Variation → List ℕ → List ℕ → Option Columns → Type 0
-AreColumns Horizontal tables heights glyphs widths columns = columns ≡ None
-AreColumns TopToBottom tables heights glyphs widths columns = IsSome columns × IfSome columns (λ c. (c.each.items ≡ columns_at tables heights (numbering glyphs) widths) × (c.default ≡ most_frequent c.each.items))
+-- columns of the CIDs that a string can show, in vertical writing alone; the tops of their glyphs may say origins
+abbrev pub AreColumns : Direction → Vertical → Option Variation → List ℤ → List ℕ → List ℕ → Option Columns → Type 0
+AreColumns Horizontal tables heights tops glyphs widths columns = columns ≡ None
+AreColumns TopToBottom tables heights tops glyphs widths columns = IsSome columns × IfSome columns (λ c. (c.each.items ≡ columns_at tables heights tops (numbering glyphs) widths) × (c.default ≡ most_frequent c.each.items))
 
 -- a CIDSet for so many CIDs, where it is requested
 abbrev pub IsCidSetIf : Bool → ℕ → Option (List ℕ) → Type 0
@@ -100,7 +101,7 @@ short_name room name = if nat_le (length name) room then name else cut_name room
 pub record IsFilled (find : List ℕ → Option (List ℕ)) (settings : List (Tag × ℤ)) (options : FontOptions) (us : List Used) (widths : List ℕ) (f : PdfFont) : Type 0 where
   pub coded : IsCoded options us f
   pub default_width : IsMostFrequent f.widths.items f.default_width
-  pub columns : AreColumns options.direction (vertical_of find) (heights_there find settings) (glyphs_of us) widths f.columns
+  pub columns : AreColumns options.direction (vertical_of find) (heights_there find settings) (tops_of find options.limits (numbering (glyphs_of us))) (glyphs_of us) widths f.columns
   -- cut where with the name of the CMap it had more than 127 bytes
   pub name : f.descriptor.font_name.items ≡ short_name (name_room f.kind (cmap_name f.encoding options.direction)) (font_name (tag_in options.tag f.program.items) (name_there find settings))
   pub unknown_axes : f.unknown_axes.items ≡ unknown_axes find settings
@@ -129,7 +130,7 @@ pub record IsEmbeddedFor (font : Font) (settings : List (Tag × ℤ)) (options :
   pub exact : map Some f.exact_widths.items ≡ map (exact_width embedded.static) embedded.answer.embedded.subset.keeps.order
   pub units : units_per_em embedded.static ≡ Some f.units_per_em
   -- the values of the descriptor, of the source at these coordinates
-  pub values : f.descriptor.values ≡ values_in (stored font) (stored (as_font new.font.items)) f.glyph_count options.bounds settings
+  pub values : f.descriptor.values ≡ values_in (stored font) (stored (as_font new.font.items)) f.glyph_count options settings
   pub filled : IsFilled (stored font) settings options us new.widths.items f
 
 pub record IsPdfFont (font : Font) (settings : List (Tag × ℤ)) (options : FontOptions) (us : List Used) (f : PdfFont) : Type 0 where

@@ -5,6 +5,7 @@ ghost use Rattle.std.specs.Option.{option_map};
 ghost use Rattle.subsetter_base.specs.declared.error.Error.TheVariants.{OutOfMemory, OverflowError};
 ghost use Rattle.subsetter_base.specs.Indexes.{HasAllAboveZero};
 ghost use Rattle.subsetter_sfnt.specs.Read.{table_in};
+ghost use Rattle.cid_embed.specs.Embed.{numbering};
 ghost use Rattle.pdf_codes.specs.Codes.{AreCids, IsOverfull, glyphs_of};
 ghost use Rattle.pdf_codes.specs.Shown.{uses_of};
 ghost use Rattle.pdf_font.specs.Taken.{Takes};
@@ -13,12 +14,13 @@ ghost use Rattle.pdf_font.specs.PdfFont.{AreColumns, IsCidSetIf, IsFilled, cmap_
 ghost use Rattle.pdf_source.specs.Moved.{location_seen};
 ghost use Rattle.pdf_source.specs.Named.{heights_by};
 ghost use Rattle.pdf_source.specs.Source.{vertical_of};
+ghost use Rattle.pdf_source.specs.Tops.{tops_of};
 
 use pdf_codes::{Shown, codes_and_texts, encoding_of};
 use pdf_glyphs::{Columns, columns_at};
 use pdf_source::{
     Descriptor, Direction, FontOptions, Location, NewFont, heights_by, location_in, most_frequent,
-    name_in, unknown_axes, vertical_of,
+    name_in, tops_of, unknown_axes, vertical_of,
 };
 use pdf_text::{NamedCmap, ProgramKind, cid_set, tag_of};
 use pdf_values::Permission;
@@ -82,14 +84,16 @@ fn columns_if(
     glyphs: &[u16],
     widths: &[u32],
 ) -> Result<Option<Columns>, Error>
-    ensures ok { IfOk result (λ columns. AreColumns options.now.direction (vertical_of (table_in face.now.«data».now face.now.records.now)) (heights_by (option_map location_seen location.now) (table_in face.now.«data».now face.now.records.now (codes "VVAR"))) glyphs.now widths.now columns) }
+    ensures ok { IfOk result (λ columns. AreColumns options.now.direction (vertical_of (table_in face.now.«data».now face.now.records.now)) (heights_by (option_map location_seen location.now) (table_in face.now.«data».now face.now.records.now (codes "VVAR"))) (tops_of (table_in face.now.«data».now face.now.records.now) options.now.limits (numbering glyphs.now)) glyphs.now widths.now columns) }
     ensures err { IfErr result (λ e. (e ≡ OutOfMemory) ⊎ ((e ≡ OverflowError) × HasAllAboveZero glyphs.now)) }
 {
     match options.direction {
         Direction::Horizontal => Ok(None),
         Direction::Vertical => {
             let tables = vertical_of(face);
-            let columns = columns_at(alloc, tables, heights_by(face, location), glyphs, widths)?;
+            let tops = tops_of(alloc, face, &options.limits, glyphs)?;
+            let heights = heights_by(face, location);
+            let columns = columns_at(alloc, tables, heights, glyphs, widths, &tops)?;
             Ok(Some(columns))
         }
     }

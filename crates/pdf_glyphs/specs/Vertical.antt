@@ -1,5 +1,5 @@
 -- Vertical metrics of glyphs (OpenType, "vhea", "vmtx", "VORG"), as a PDF has them (ISO 32000-1, 9.7.4.3).
-use Rattle.std.specs.Prelude.{ℕ, zero, suc, ◌+◌, ◌-◌, ◌*◌, ◌/◌, ◌^◌, ◌==◌, min, nat_lt, if◌then◌else◌, List, [], ◌∷◌, Option, Some, None, ℤ, pos, neg_ℤ, ◌+ℤ◌}
+use Rattle.std.specs.Prelude.{ℕ, zero, suc, ◌+◌, ◌-◌, ◌*◌, ◌/◌, ◌^◌, ◌==◌, min, nat_lt, if◌then◌else◌, List, [], ◌∷◌, slice_get, Option, Some, None, ℤ, pos, neg_ℤ, ◌+ℤ◌}
 use Rattle.std.specs.Option.{option_and_then, option_copied, option_map, option_map_or, option_or, unwrap_or}
 use Rattle.pdf_text.specs.declared.metrics.columns.Column.{Column}
 use Rattle.subsetter_base.specs.Bytes.{field, signed_field}
@@ -72,13 +72,23 @@ vorg_y vorg g = option_or (origin_of vorg g) (signed_field vorg 4)
 abbrev pub box_top : Outlines → ℕ → ℤ
 box_top t g = option_map_or (λ b. b.y_max) (glyph_box t g) (pos 0)
 
--- the y of the origin, in the font's units: of TrueType outlines the top of the box and the top side bearing, else by "VORG"
-abbrev pub origin_by : Option (List ℕ) → Vertical → ℕ → Option ℤ
-origin_by None t g = vorg_y t.vorg g
-origin_by (Some glyf) t g = option_map (λ b. box_top t.outlines g +ℤ b) (bearing_of t g)
+-- a glyph's top and its top side bearing
+abbrev pub by_top : Vertical → ℕ → ℤ → Option ℤ
+by_top t g top = option_map (λ b. top +ℤ b) (bearing_of t g)
 
-abbrev pub origin_y : Vertical → ℕ → Option ℤ
-origin_y t g = origin_by t.outlines.glyf t g
+-- the y by "VORG", with what it varies by, if it does
+abbrev pub vorg_y_at : Option (List ℕ) → Option Variation → ℕ → Option ℤ
+vorg_y_at vorg None g = vorg_y vorg g
+vorg_y_at vorg (Some v) g = option_map (varied_origin v g) (vorg_y vorg g)
+
+-- the y of the origin, in the font's units: of TrueType outlines the top of the box and the top side bearing, those of the default; else by
+-- "VORG"; else by the top that is given, if one is
+abbrev pub origin_by : Option (List ℕ) → Vertical → Option Variation → Option ℤ → ℕ → Option ℤ
+origin_by (Some glyf) t v top g = by_top t g (box_top t.outlines g)
+origin_by None t v top g = option_or (vorg_y_at t.vorg v g) (option_and_then (by_top t g) top)
+
+abbrev pub origin_y_at : Vertical → Option Variation → Option ℤ → ℕ → Option ℤ
+origin_y_at t v top g = origin_by t.outlines.glyf t v top g
 
 -- half of a width, to the nearest, halves up; as much as 32 bits with a sign hold
 abbrev pub half : ℕ → ℤ
@@ -92,36 +102,19 @@ column units w a y = record { advance = neg_ℤ (thousandths (pos a) units); x =
 abbrev pub own_column : ℕ → Column
 own_column w = record { advance = neg_ℤ (pos 1000); x = half w; y = pos 880 }
 
--- the column of a glyph that has a width; PDF's own where it has no advance height
-abbrev pub vertical_metric : Vertical → ℕ → ℕ → Column
-vertical_metric t g w = option_map_or (λ a. column (units_per_em t.outlines.head) w a (origin_y t g)) (advance_of t g) (own_column w)
-
--- of each glyph
-abbrev pub columns_of : Vertical → List ℕ → List ℕ → List Column
-columns_of t (g ∷ gs) (w ∷ ws) = vertical_metric t g w ∷ columns_of t gs ws
-columns_of t _ _ = []
-
--- ---- off the default
-
--- the advance height with what it varies by, if it does
+-- the advance height with what it varies by, off the default
 abbrev pub advance_at : Vertical → Option Variation → ℕ → Option ℕ
 advance_at t None g = advance_of t g
 advance_at t (Some v) g = option_map (varied_height v g) (advance_of t g)
 
--- the y of an origin with what it varies by: one by "VORG"; of TrueType outlines it is that of the default
-abbrev pub moved_by : Option Variation → Option (List ℕ) → ℕ → Option ℤ → Option ℤ
-moved_by None glyf g y = y
-moved_by (Some v) None g y = option_map (varied_origin v g) y
-moved_by (Some v) (Some glyf) g y = y
+-- the column of a glyph that has a width, whose top may be given; PDF's own where it has no advance height
+abbrev pub metric_at : Vertical → Option Variation → Option ℤ → ℕ → ℕ → Column
+metric_at t v top g w = option_map_or (λ a. column (units_per_em t.outlines.head) w a (origin_y_at t v top g)) (advance_at t v g) (own_column w)
 
-abbrev pub origin_y_at : Vertical → Option Variation → ℕ → Option ℤ
-origin_y_at t v g = moved_by v t.outlines.glyf g (origin_y t g)
+-- of each glyph, whose tops are these from a place on, if they are given
+abbrev pub columns_from : Vertical → Option Variation → List ℤ → ℕ → List ℕ → List ℕ → List Column
+columns_from t v tops k (g ∷ gs) (w ∷ ws) = metric_at t v (slice_get tops k) g w ∷ columns_from t v tops (k + 1) gs ws
+columns_from t v tops k _ _ = []
 
--- the column
-abbrev pub metric_at : Vertical → Option Variation → ℕ → ℕ → Column
-metric_at t v g w = option_map_or (λ a. column (units_per_em t.outlines.head) w a (origin_y_at t v g)) (advance_at t v g) (own_column w)
-
--- of each glyph
-abbrev pub columns_at : Vertical → Option Variation → List ℕ → List ℕ → List Column
-columns_at t v (g ∷ gs) (w ∷ ws) = metric_at t v g w ∷ columns_at t v gs ws
-columns_at t v _ _ = []
+abbrev pub columns_at : Vertical → Option Variation → List ℤ → List ℕ → List ℕ → List Column
+columns_at t v tops gs ws = columns_from t v tops 0 gs ws

@@ -1,12 +1,12 @@
 //! The columns of the CIDs that strings can show (ISO 32000-1, 9.7.4.3).
 
-ghost use Rattle.std.specs.Prelude.{◌≡◌, ◌<◌, ◌≤◌, ◌⊎◌, ℕ, [], ◌∷◌, length, IfErr, IfOk, None, OnOk, slice_index, slice_index_or};
+ghost use Rattle.std.specs.Prelude.{◌≡◌, ◌<◌, ◌≤◌, ◌⊎◌, ℕ, [], ◌∷◌, length, IfErr, IfOk, None, OnOk, slice_get, slice_index, slice_index_or};
 ghost use Rattle.std.specs.Option.{option_map};
 ghost use Rattle.subsetter_base.specs.Indexes.{HasAllAboveZero, with_glyphs};
 ghost use Rattle.subsetter_base.specs.declared.error.Error.TheVariants.{OutOfMemory, OverflowError};
 ghost use Rattle.pdf_glyphs.specs.Frequent.{most_frequent};
 ghost use Rattle.pdf_glyphs.specs.HeightVariation.{AreDeltasBy, variation_view};
-ghost use Rattle.pdf_glyphs.specs.Vertical.{columns_at, columns_of, origin_of, vertical_view};
+ghost use Rattle.pdf_glyphs.specs.Vertical.{columns_at, origin_of, vertical_view};
 
 use crate::frequent::most_frequent;
 use crate::heights::{Deltas, HeightVariation, deltas_of, known_at};
@@ -33,7 +33,14 @@ fn glyphs_of(alloc: Global, mapper: &GlyphRemapper) -> Result<Vec<u16>, Error>
     Ok(mapper.remapped_gids().collect(alloc)?)
 }
 
-/// The column of each glyph that has a width, by what the glyphs vary by.
+/// The top of the glyph at an index, if the tops are given.
+fn top_at(tops: &[i16], index: usize) -> Option<i16>
+    ensures { result ≡ slice_get tops.now index }
+{
+    tops.get(index).copied()
+}
+
+/// The column of each glyph that has a width, by what the glyphs vary by; their tops may be given.
 fn each_column(
     alloc: Global,
     tables: VerticalTables<'_>,
@@ -42,11 +49,12 @@ fn each_column(
     origins: &[Option<i16>],
     widths: &[u32],
     deltas: &Deltas,
+    tops: &[i16],
 ) -> Result<Vec<Column>, Error>
     requires len { length origins.now ≡ length glyphs.now }
     requires deltas { AreDeltasBy (option_map variation_view variation) glyphs.now deltas.now }
     requires are { (k : ℕ) → k < length glyphs.now → slice_index_or origins.now k None ≡ origin_of (vertical_view tables).vorg (slice_index glyphs.now k) }
-    ensures ok { IfOk result (λ columns. columns.items ≡ columns_at (vertical_view tables.entry) (option_map variation_view variation.entry) glyphs.now widths.now) }
+    ensures ok { IfOk result (λ columns. columns.items ≡ columns_at (vertical_view tables.entry) (option_map variation_view variation.entry) tops.now glyphs.now widths.now) }
     ensures few { IfOk result (λ columns. length columns.items ≤ length glyphs.now) }
     ensures err { IfErr result (λ e. e ≡ OutOfMemory) }
 {
@@ -60,6 +68,7 @@ fn each_column(
             origins[index],
             known_at(&deltas.heights, index),
             known_at(&deltas.origins, index),
+            top_at(tops, index),
         );
         columns.push(column)?;
     }
@@ -69,8 +78,9 @@ fn each_column(
 /// The columns of a font for the glyphs in use, in order of use, whose CIDs have these widths.
 ///
 /// `variation` is where the font is off its default, if it is and has `VVAR`: advance heights vary as that says, and so do
-/// origins by `VORG`; those of TrueType outlines are the default's. Where the font has no advance height of a glyph its
-/// column is PDF's own: 880 and -1000.
+/// origins by `VORG`; those of TrueType outlines are the default's. `tops` are the tops of glyph 0 and of these glyphs, each once,
+/// in the font's units, or none: by these and the top side bearings outlines in `CFF ` have their origins where there is no
+/// `VORG`. Where the font has no advance height of a glyph its column is PDF's own: 880 and -1000.
 ///
 /// # Errors
 ///
@@ -82,8 +92,9 @@ pub fn columns_at(
     variation: Option<HeightVariation<'_>>,
     glyphs: &[u16],
     widths: &[u32],
+    tops: &[i16],
 ) -> Result<Columns, Error>
-    ensures each { IfOk result (λ c. c.each.items ≡ columns_at (vertical_view tables.entry) (option_map variation_view variation.entry) (with_glyphs (0 ∷ []) glyphs.now) widths.now) }
+    ensures each { IfOk result (λ c. c.each.items ≡ columns_at (vertical_view tables.entry) (option_map variation_view variation.entry) tops.now (with_glyphs (0 ∷ []) glyphs.now) widths.now) }
     ensures default { IfOk result (λ c. c.default ≡ most_frequent c.each.items) }
     ensures room { OnOk result (HasAllAboveZero glyphs.now → ⊥) }
     ensures err { IfErr result (λ e. (e ≡ OutOfMemory) ⊎ ((e ≡ OverflowError) × HasAllAboveZero glyphs.now)) }
@@ -94,27 +105,8 @@ pub fn columns_at(
     let _count = mapper.num_gids();
     let deltas = deltas_of(alloc, variation, &numbered)?;
     let each = each_column(
-        alloc, tables, variation, &numbered, &origins, widths, &deltas,
+        alloc, tables, variation, &numbered, &origins, widths, &deltas, tops,
     )?;
     let default = most_frequent(alloc, &each)?;
     Ok(Columns { each, default })
-}
-
-/// The same of a font that isn't moved along its axes.
-///
-/// # Errors
-///
-/// As of `columns_at`.
-pub fn columns_of(
-    alloc: Global,
-    tables: VerticalTables<'_>,
-    glyphs: &[u16],
-    widths: &[u32],
-) -> Result<Columns, Error>
-    ensures each { IfOk result (λ c. c.each.items ≡ columns_of (vertical_view tables.entry) (with_glyphs (0 ∷ []) glyphs.now) widths.now) }
-    ensures default { IfOk result (λ c. c.default ≡ most_frequent c.each.items) }
-    ensures room { OnOk result (HasAllAboveZero glyphs.now → ⊥) }
-    ensures err { IfErr result (λ e. (e ≡ OutOfMemory) ⊎ ((e ≡ OverflowError) × HasAllAboveZero glyphs.now)) }
-{
-    columns_at(alloc, tables, None, glyphs, widths)
 }

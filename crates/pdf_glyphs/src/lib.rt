@@ -3,7 +3,7 @@
 //! ```text
 //! let top = top_of(outlines, cmap, 'H');                          // of "H", in the font's units
 //! let kept = box_around(outlines, count);                         // the least box around the first glyphs
-//! let columns = columns_of(alloc, vertical, &glyphs, &widths)?;   // of each CID advance and origin, and DW2
+//! let columns = columns_at(alloc, vertical, None, &glyphs, &widths, &[])?;   // of each CID advance and origin, and DW2
 //! ```
 #![tactic(auto)]
 
@@ -16,8 +16,8 @@ mod origins;
 mod tops;
 
 pub use boxes::{OutlineTables, box_around, glyph_box, joined};
-pub use columns::{Columns, columns_at, columns_of};
+pub use columns::{Columns, columns_at};
 pub use frequent::is_most_of_all;
 pub use heights::HeightVariation;
 pub use metrics::VerticalTables;
-pub use tops::top_of;
+pub use tops::{glyph_by, top_of};

@@ -1,11 +1,11 @@
 //! Vertical metrics of a glyph (OpenType, "vhea", "vmtx"), as a PDF has them (ISO 32000-1, 9.7.4.3).
 
 ghost use Rattle.std.specs.Prelude.{◌≡◌, ◌≤◌, ◌<◌, ◌^◌, ◌+ℤ◌, IfSome, None, neg_ℤ, pos, unsigned_abs};
-ghost use Rattle.std.specs.Option.{option_map, option_map_or};
+ghost use Rattle.std.specs.Option.{option_and_then, option_map, option_map_or};
 ghost use Rattle.pdf_values.specs.Rounding.{thousandths};
 ghost use Rattle.pdf_glyphs.specs.Boxes.{outlines_view};
 ghost use Rattle.pdf_glyphs.specs.HeightVariation.{IsHeightBy, IsOriginBy, variation_view};
-ghost use Rattle.pdf_glyphs.specs.Vertical.{advance_at, advance_of, bearing_of, box_top, half, metric_at, moved_by, origin_of, origin_y_at, pair_count, vertical_view, vorg_y};
+ghost use Rattle.pdf_glyphs.specs.Vertical.{advance_at, advance_of, bearing_of, box_top, by_top, half, metric_at, origin_of, origin_y_at, pair_count, vertical_view, vorg_y, vorg_y_at};
 
 use crate::boxes::{OutlineTables, glyph_box};
 use crate::heights::{HeightVariation, varied_height, varied_origin};
@@ -93,12 +93,20 @@ fn box_top(tables: OutlineTables<'_>, glyph: u16) -> i16
 }
 
 /// The sum of a glyph's top and its top side bearing.
-fn origin_of_box(tables: VerticalTables<'_>, glyph: u16) -> Option<i32>
-    ensures exact { result ≡ option_map (λ b. box_top (vertical_view tables.entry).outlines glyph +ℤ b) (bearing_of (vertical_view tables.entry) glyph) }
+fn by_top(tables: VerticalTables<'_>, glyph: u16, top: i16) -> Option<i32>
+    ensures exact { result ≡ by_top (vertical_view tables.entry) glyph top }
     ensures small { IfSome result (λ v. unsigned_abs v ≤ 2 ^ 16) }
 {
     let bearing = bearing_of(tables, glyph)?;
-    Some(i32::from(box_top(tables.outlines, glyph)) + i32::from(bearing))
+    Some(i32::from(top) + i32::from(bearing))
+}
+
+/// The same of a top that may be given.
+fn by_given_top(tables: VerticalTables<'_>, glyph: u16, top: Option<i16>) -> Option<i32>
+    ensures exact { result ≡ option_and_then (by_top (vertical_view tables.entry) glyph) top }
+    ensures small { IfSome result (λ v. unsigned_abs v ≤ 2 ^ 16) }
+{
+    by_top(tables, glyph, top?)
 }
 
 /// The y of the origin that VORG has: its record's, else the default one.
@@ -122,7 +130,7 @@ fn vorg_y_at(
 ) -> Option<i16>
     requires recorded { recorded ≡ origin_of (vertical_view tables).vorg glyph }
     requires delta { IsOriginBy (option_map variation_view variation) glyph delta }
-    ensures { result ≡ moved_by (option_map variation_view variation.entry) None glyph (vorg_y (vertical_view tables.entry).vorg glyph) }
+    ensures { result ≡ vorg_y_at (vertical_view tables.entry).vorg (option_map variation_view variation.entry) glyph }
 {
     let y = vorg_y(tables, glyph, recorded)?;
     match variation {
@@ -131,24 +139,28 @@ fn vorg_y_at(
     }
 }
 
-/// The y of the origin: of TrueType outlines by box and bearing, else by VORG with what it varies by.
+/// The y of the origin: of TrueType outlines by box and bearing, else by VORG with what it varies by, else by the top that may
+/// be given and the bearing.
 fn origin_y_at(
     tables: VerticalTables<'_>,
     variation: Option<HeightVariation<'_>>,
     glyph: u16,
     recorded: Option<i16>,
     delta: Result<i64, Error>,
+    top: Option<i16>,
 ) -> Option<i32>
     requires recorded { recorded ≡ origin_of (vertical_view tables).vorg glyph }
     requires delta { IsOriginBy (option_map variation_view variation) glyph delta }
-    ensures exact { result ≡ origin_y_at (vertical_view tables.entry) (option_map variation_view variation.entry) glyph }
+    ensures exact { result ≡ origin_y_at (vertical_view tables.entry) (option_map variation_view variation.entry) top glyph }
     ensures small { IfSome result (λ v. unsigned_abs v ≤ 2 ^ 16) }
 {
     if tables.outlines.glyf.is_some() {
-        return origin_of_box(tables, glyph);
+        return by_top(tables, glyph, box_top(tables.outlines, glyph));
     }
-    let y = vorg_y_at(tables, variation, glyph, recorded, delta)?;
-    Some(i32::from(y))
+    match vorg_y_at(tables, variation, glyph, recorded, delta) {
+        Some(y) => Some(i32::from(y)),
+        None => by_given_top(tables, glyph, top),
+    }
 }
 
 /// Half of a width.
@@ -178,8 +190,8 @@ fn scaled_y(y: Option<i32>, units: u16) -> i32
     }
 }
 
-/// The column of a glyph with a width, of which VORG has this y. Where the font is off its default, its advance varies by
-/// `height`, and an origin by VORG by `shift`.
+/// The column of a glyph with a width, of which VORG has this y, and whose top may be given. Where the font is off its default, its
+/// advance varies by `height`, and an origin by VORG by `shift`.
 pub fn metric_at(
     tables: VerticalTables<'_>,
     variation: Option<HeightVariation<'_>>,
@@ -188,11 +200,12 @@ pub fn metric_at(
     recorded: Option<i16>,
     height: Result<i64, Error>,
     shift: Result<i64, Error>,
+    top: Option<i16>,
 ) -> Column
     requires recorded { recorded ≡ origin_of (vertical_view tables).vorg glyph }
     requires height { IsHeightBy (option_map variation_view variation) glyph height }
     requires shift { IsOriginBy (option_map variation_view variation) glyph shift }
-    ensures { result ≡ metric_at (vertical_view tables.entry) (option_map variation_view variation.entry) glyph width }
+    ensures { result ≡ metric_at (vertical_view tables.entry) (option_map variation_view variation.entry) top glyph width }
 {
     let Some(advance) = advance_at(tables, variation, glyph, height) else {
         return Column {
@@ -202,7 +215,7 @@ pub fn metric_at(
         };
     };
     let units = units_per_em(tables.outlines.head);
-    let y = origin_y_at(tables, variation, glyph, recorded, shift);
+    let y = origin_y_at(tables, variation, glyph, recorded, shift, top);
     Column {
         advance: downwards(advance, units),
         x: half(width),

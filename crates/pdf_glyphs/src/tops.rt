@@ -9,7 +9,7 @@ use crate::boxes::{OutlineTables, glyph_box};
 use cmap::find_subtable;
 
 /// The glyph of a character by `cmap`, which has 0 for one that the font lacks.
-fn glyph_by(cmap: Option<&[u8]>, character: char) -> Option<u16>
+pub fn glyph_by(cmap: Option<&[u8]>, character: char) -> Option<u16>
     ensures { result ≡ glyph_by (option_copied cmap.entry) character }
 {
     let bytes = cmap?;

@@ -9,4 +9,5 @@ pub mod Moved
 pub mod Named
 pub mod Program
 pub mod Source
+pub mod Tops
 pub mod UnknownAxes

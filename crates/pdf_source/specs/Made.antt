@@ -34,7 +34,7 @@ profile_in find settings options requested file = do
   count ← count_in (flavor_in file) (table_in file directory) requested
   widths ← widths_of (table_in file directory) count
   exact ← exact_of (table_in file directory) count
-  Ok (record { count = count; widths = widths; exact = exact; values = values_in find (table_in file directory) count options.bounds settings; head_box = program_box find (table_in file directory) count options.bounds })
+  Ok (record { count = count; widths = widths; exact = exact; values = values_in find (table_in file directory) count options settings; head_box = program_box find (table_in file directory) count options.bounds })
 
 -- and the program
 pub record Made : Type 0 where

@@ -11,6 +11,7 @@ use Rattle.subsetter_instance.specs.Source.{normalized_coordinates}
 use Rattle.pdf_values.specs.Descriptor.{values_of}
 use Rattle.pdf_values.specs.declared.looks.bounds.Bounds.{Bounds}
 use Rattle.pdf_values.specs.declared.looks.bounds.Bounds.TheVariants.{Kept}
+use Rattle.pdf_values.specs.declared.descriptor.Known.{Known}
 use Rattle.pdf_values.specs.declared.descriptor.Values.{Values}
 use Rattle.pdf_values.specs.declared.looks.bounds.GlyphBox.{GlyphBox}
 use Rattle.pdf_glyphs.specs.Boxes.{boxes_from}
@@ -18,7 +19,9 @@ use Rattle.pdf_moved.specs.Movement.{Movement}
 use Rattle.pdf_moved.specs.Values.{values_at}
 use Rattle.pdf_source.specs.Boxed.{head_box}
 use Rattle.pdf_source.specs.Cff.{cff_box, font_stem}
-use Rattle.pdf_source.specs.Source.{bounds_by, known_of, outlines_of, tables_of}
+use Rattle.pdf_source.specs.Source.{bounds_by, outlines_of, tables_of}
+use Rattle.pdf_source.specs.Tops.{known_of}
+use Rattle.pdf_source.specs.declared.choice.FontOptions.{FontOptions}
 use Rattle.pdf_source.specs.declared.moved.Location.{Location as GivenLocation}
 
 -- the normalized coordinates, in 16384ths, and the axes
@@ -79,10 +82,10 @@ abbrev pub movement_of : (List ℕ → Option (List ℕ)) → List (Tag × ℤ) 
 movement_of find settings p = record { at = p.at; axes = p.axes; settings = settings; mvar = find (codes "MVAR") }
 
 -- off its default FontBBox holds the kept glyphs, where their boxes are known
-abbrev pub values_by : Option Location → Option ℕ → Option GlyphBox → (List ℕ → Option (List ℕ)) → Bounds → List (Tag × ℤ) → Values
-values_by None stem kept find choice settings = values_of (tables_of find) (known_of stem kept find) (bounds_by (moves find) choice)
-values_by (Some p) stem kept find choice settings = values_at (tables_of find) (known_of stem kept find) (movement_of find settings p) (bounds_by (moves find) Kept)
+abbrev pub values_by : Option Location → Known → (List ℕ → Option (List ℕ)) → Bounds → List (Tag × ℤ) → Values
+values_by None known find choice settings = values_of (tables_of find) known (bounds_by (moves find) choice)
+values_by (Some p) known find choice settings = values_at (tables_of find) known (movement_of find settings p) (bounds_by (moves find) Kept)
 
 -- the values of the descriptor, of the tables that look-ups find in the source and in the new font
-abbrev pub values_in : (List ℕ → Option (List ℕ)) → (List ℕ → Option (List ℕ)) → ℕ → Bounds → List (Tag × ℤ) → Values
-values_in find new count choice settings = values_by (location_in find settings) (font_stem find new) (kept_in find new count) find choice settings
+abbrev pub values_in : (List ℕ → Option (List ℕ)) → (List ℕ → Option (List ℕ)) → ℕ → FontOptions → List (Tag × ℤ) → Values
+values_in find new count options settings = values_by (location_in find settings) (known_of find options.limits (font_stem find new) (kept_in find new count)) find options.bounds settings

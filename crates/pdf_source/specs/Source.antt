@@ -1,15 +1,12 @@
 -- The values of the descriptor, of the tables that look-ups find in the source and in the new font.
 use Rattle.std.specs.Prelude.{ℕ, Bool, true, false, List, Option, Some, None, codes}
 use Rattle.pdf_glyphs.specs.Boxes.{Outlines}
-use Rattle.pdf_glyphs.specs.Tops.{top_of}
 use Rattle.pdf_glyphs.specs.Vertical.{Vertical}
 use Rattle.pdf_text.specs.SubsetName.{tag_of}
 use Rattle.pdf_values.specs.Descriptor.{SourceTables}
 use Rattle.pdf_values.specs.Name.{postscript_name}
 use Rattle.pdf_values.specs.declared.looks.bounds.Bounds.{Bounds}
 use Rattle.pdf_values.specs.declared.looks.bounds.Bounds.TheVariants.{Font}
-use Rattle.pdf_values.specs.declared.looks.bounds.GlyphBox.{GlyphBox}
-use Rattle.pdf_values.specs.declared.descriptor.Known.{Known}
 use Rattle.pdf_source.specs.Cff.{cff_values_by}
 use Rattle.pdf_source.specs.declared.tag.SubsetTag.{SubsetTag}
 
@@ -21,15 +18,6 @@ outlines_of find = record { head = find (codes "head"); loca = find (codes "loca
 
 abbrev pub vertical_of : (List ℕ → Option (List ℕ)) → Vertical
 vertical_of find = record { vhea = find (codes "vhea"); vmtx = find (codes "vmtx"); vorg = find (codes "VORG"); outlines = outlines_of find }
-
--- the tops of "H" (72) and "x" (120), a stem, and the box around the kept glyphs
-abbrev pub known_of : Option ℕ → Option GlyphBox → (List ℕ → Option (List ℕ)) → Known
-known_of stem kept find = record {
-  cap_top = top_of (outlines_of find) (find (codes "cmap")) 72;
-  x_top = top_of (outlines_of find) (find (codes "cmap")) 120;
-  kept = kept;
-  stem = stem;
-}
 
 -- boxes are known of outlines that may move: of others that of `head` is taken
 abbrev pub bounds_by : Bool → Bounds → Bounds

@@ -13,13 +13,13 @@ ghost use Rattle.pdf_values.specs.Descriptor.{tables_view};
 ghost use Rattle.pdf_source.specs.Boxed.{head_box};
 ghost use Rattle.pdf_source.specs.Named.{heights_by, name_by};
 ghost use Rattle.pdf_source.specs.Moved.{kept_by, kept_in, location_seen, moves, values_by};
-ghost use Rattle.pdf_source.specs.Source.{bounds_by, known_of, outlines_of, source_name, tables_of, tag_in, vertical_of};
+ghost use Rattle.pdf_source.specs.Source.{bounds_by, outlines_of, source_name, tables_of, tag_in, vertical_of};
 
 use crate::boxed::head_box;
 use crate::cff::{cff_box, cff_values_by};
 use crate::moved::{Location, movement_of, moves};
 use crate::tag::SubsetTag;
-use pdf_glyphs::{HeightVariation, OutlineTables, VerticalTables, box_around, top_of};
+use pdf_glyphs::{HeightVariation, OutlineTables, VerticalTables, box_around};
 use pdf_moved::values_at;
 use pdf_names::name_at;
 use pdf_text::{font_name, tag_of};
@@ -37,7 +37,7 @@ pub struct Descriptor {
 }
 
 /// The tables that outlines are found by.
-fn outlines_of<'a>(face: &Face<'a>) -> OutlineTables<'a>
+pub(crate) fn outlines_of<'a>(face: &Face<'a>) -> OutlineTables<'a>
     ensures { outlines_view result ≡ outlines_of (table_in face.now.«data».now face.now.records.now) }
 {
     OutlineTables {
@@ -68,20 +68,6 @@ fn tables_of<'a>(face: &Face<'a>) -> Tables<'a>
         hhea: face.stored(Tag::HHEA),
         os2: face.stored(Tag::new(b"OS/2")),
         post: face.stored(Tag::POST),
-    }
-}
-
-/// What is known of glyphs of the source: the tops of two, and the stem and the box of the kept ones, which are given.
-fn known_of(stem: Option<u32>, kept: Option<GlyphBox>, face: &Face<'_>) -> Known
-    ensures { result ≡ known_of stem kept (table_in face.now.«data».now face.now.records.now) }
-{
-    let outlines = outlines_of(face);
-    let cmap = face.stored(Tag::new(b"cmap"));
-    Known {
-        cap_top: top_of(outlines, cmap, 'H'),
-        x_top: top_of(outlines, cmap, 'x'),
-        kept,
-        stem,
     }
 }
 
@@ -134,20 +120,18 @@ pub fn program_box(face: &Face<'_>, kept: Option<GlyphBox>, choice: Bounds) -> O
     head_box(bounds_by(moves(face), choice), kept)
 }
 
-/// The values of a font that says this stem, whose kept glyphs have this box, at coordinates that are off its default, if they
-/// are. There FontBBox holds the kept glyphs, where their boxes are known.
+/// The values of a font of whose glyphs this is known, at coordinates that are off its default, if they are. There FontBBox holds
+/// the kept glyphs, where their boxes are known.
 pub fn values_by(
     location: &Option<Location>,
-    stem: Option<u32>,
-    kept: Option<GlyphBox>,
+    known: Known,
     face: &Face<'_>,
     choice: Bounds,
     settings: &[(Tag, i32)],
 ) -> Values
-    ensures { result ≡ values_by (option_map location_seen location.now) stem kept (table_in face.now.«data».now face.now.records.now) choice settings.now }
+    ensures { result ≡ values_by (option_map location_seen location.now) known (table_in face.now.«data».now face.now.records.now) choice settings.now }
 {
     let tables = tables_of(face);
-    let known = known_of(stem, kept, face);
     let moving = moves(face);
     match location {
         None => values_of(tables, known, bounds_by(moving, choice)),

@@ -17,6 +17,7 @@ mod exact;
 mod moved;
 mod program;
 mod tag;
+mod tops;
 mod widths;
 
 pub use axes::unknown_axes;
@@ -26,4 +27,5 @@ pub use exact::{ExactWidths, exact_of};
 pub use moved::{Location, location_in};
 pub use program::{NewFont, Profile, new_font};
 pub use tag::SubsetTag;
+pub use tops::tops_of;
 pub use widths::most_frequent;

@@ -13,6 +13,7 @@ use crate::choice::{FontOptions, ProgramChoice};
 use crate::described::{kept_in, program_box, values_by};
 use crate::exact::{ExactWidths, exact_of};
 use crate::moved::location_in;
+use crate::tops::known_of;
 use crate::widths::widths_of;
 use pdf_text::ProgramKind;
 use pdf_values::{GlyphBox, Values};
@@ -114,7 +115,8 @@ fn profile_of(
     let location = location_in(alloc, face, settings)?;
     let stem = font_stem(alloc, face, &new)?;
     let kept = kept_in(alloc, face, &new, count)?;
-    let values = values_by(&location, stem, kept, face, options.bounds, settings);
+    let known = known_of(alloc, face, &options.limits, stem, kept)?;
+    let values = values_by(&location, known, face, options.bounds, settings);
     let head_box = program_box(face, kept, options.bounds);
     Ok(Profile {
         count,

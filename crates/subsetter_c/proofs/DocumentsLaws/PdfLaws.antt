@@ -19,6 +19,7 @@ use Rattle.pdf_source.specs.Chosen.{is_vertical}
 use Rattle.pdf_source.specs.Cff.{font_stem}
 use Rattle.pdf_source.specs.Moved.{Location, kept_in, location_in, movement_of, values_by}
 use Rattle.pdf_source.specs.Source.{tables_of}
+use Rattle.pdf_source.specs.Tops.{known_of}
 use Rattle.pdf_source.specs.declared.choice.FontOptions.{FontOptions}
 use Rattle.pdf_text.specs.Cmaps.CmapName.{code_lines, name_back, name_front, name_of_codes}
 use Rattle.pdf_text.specs.Cmaps.Encoding.{Pair}
@@ -30,7 +31,7 @@ use Rattle.pdf_text.specs.declared.values.ProgramKind.{ProgramKind}
 use Rattle.pdf_text.specs.declared.values.ProgramKind.TheVariants.{TrueType, BareCff, OpenType}
 use Rattle.pdf_values.specs.Looks.Weight.{font_weight, weight_of as weight_said}
 use Rattle.pdf_values.specs.declared.looks.bounds.Bounds.{Bounds}
-use Rattle.pdf_values.specs.declared.looks.bounds.GlyphBox.{GlyphBox}
+use Rattle.pdf_values.specs.declared.descriptor.Known.{Known}
 use Rattle.subsetter_pdf_c.specs.Made.{IsDescriptorOf, IsViewOf, kind_of, unless_empty, unless_zero, weight_of}
 use Rattle.subsetter_pdf_c.specs.declared.made.PdfMade.{PdfMade}
 use Rattle.subsetter_c.specs.Documents.PdfFonts.{IsLaidOut, bytes_of, cmap_name, cmap_text, columns_of, default_column, is_there, kind_number, or_zero, vertical_number}
@@ -50,9 +51,9 @@ weight_fits : (w : ℕ) → min (font_weight w) 1000 ≡ font_weight w
 weight_fits w = omega arith
 
 -- FontWeight is at most 1000
-weight_back : (p : Option Location) (stem : Option ℕ) (kept : Option GlyphBox) (find : List ℕ → Option (List ℕ)) (choice : Bounds) (settings : List (Tag × ℤ)) → weight_of (values_by p stem kept find choice settings).font_weight ≡ (values_by p stem kept find choice settings).font_weight
-weight_back None stem kept find choice settings = weight_fits (weight_said (tables_of find).os2 (tables_of find).head)
-weight_back (Some p) stem kept find choice settings = weight_fits (weight_at (movement_of find settings p) (tables_of find).os2 (tables_of find).head)
+weight_back : (p : Option Location) (known : Known) (find : List ℕ → Option (List ℕ)) (choice : Bounds) (settings : List (Tag × ℤ)) → weight_of (values_by p known find choice settings).font_weight ≡ (values_by p known find choice settings).font_weight
+weight_back None known find choice settings = weight_fits (weight_said (tables_of find).os2 (tables_of find).head)
+weight_back (Some p) known find choice settings = weight_fits (weight_at (movement_of find settings p) (tables_of find).os2 (tables_of find).head)
 
 -- ---- columns
 
@@ -160,7 +161,7 @@ some_cid font settings options us f p =
     omega arith
 
 weight_is : (font : Font) (settings : List (Tag × ℤ)) (options : FontOptions) (us : List Used) (f : PdfFont) → IsPdfFont font settings options us f → weight_of f.descriptor.values.font_weight ≡ f.descriptor.values.font_weight
-weight_is font settings options us f p = rw p.made.values (weight_back (location_in (stored font) settings) (font_stem (stored font) (stored (as_font p.made.new.font.items))) (kept_in (stored font) (stored (as_font p.made.new.font.items)) f.glyph_count) (stored font) options.bounds settings)
+weight_is font settings options us f p = rw p.made.values (weight_back (location_in (stored font) settings) (known_of (stored font) options.limits (font_stem (stored font) (stored (as_font p.made.new.font.items))) (kept_in (stored font) (stored (as_font p.made.new.font.items)) f.glyph_count)) (stored font) options.bounds settings)
 
 pub views_are_of_the_font : (font : Font) (settings : List (Tag × ℤ)) (options : FontOptions) (us : List Used) (f : PdfFont) (made : PdfMade) → IsPdfFont font settings options us f → IsLaidOut f made → (w : FontView) → IsViewOf made w → IsViewOfFont f w
 views_are_of_the_font font settings options us f made p laid w h =

@@ -31,13 +31,13 @@ impl Regions for Unvaried {
 }
 
 /// What is behind the first number.
-fn behind_width(charstring: &[u8]) -> Option<&[u8]> {
+pub fn behind_width(charstring: &[u8]) -> Option<&[u8]> {
     let read = read_number(charstring)?;
     Some(read.rest)
 }
 
 /// What is in front of endchar, the last operator.
-fn before_endchar(bytes: &[u8]) -> Option<&[u8]> {
+pub fn before_endchar(bytes: &[u8]) -> Option<&[u8]> {
     if bytes.len() == 0 {
         return None;
     }
@@ -54,7 +54,7 @@ fn no_subroutines<'a>() -> SubroutineHandler<'a> {
 }
 
 /// The box of the outline of a charstring of `CFF2` that calls no subroutines and doesn't vary.
-fn outline_box(charstring: &[u8]) -> Result<Option<GlyphBox>, Error> {
+pub fn outline_box(charstring: &[u8]) -> Result<Option<GlyphBox>, Error> {
     let limits = match Limits::new(u32::MAX, 1) {
         Some(limits) => limits,
         _ => {

@@ -6,8 +6,8 @@ use crate::rattle::prelude::Vec;
 use crate::proved::pdf_codes::{codes_and_texts, encoding_of, Shown};
 use crate::proved::pdf_glyphs::{columns_at, Columns};
 use crate::proved::pdf_source::{
-    heights_by, location_in, most_frequent, name_in, unknown_axes, vertical_of, Descriptor,
-    Direction, FontOptions, Location, NewFont,
+    heights_by, location_in, most_frequent, name_in, tops_of, unknown_axes, vertical_of,
+    Descriptor, Direction, FontOptions, Location, NewFont,
 };
 use crate::proved::pdf_text::{cid_set, tag_of, NamedCmap, ProgramKind};
 use crate::proved::pdf_values::Permission;
@@ -71,7 +71,9 @@ fn columns_if(
         Direction::Horizontal => Ok(None),
         Direction::Vertical => {
             let tables = vertical_of(face);
-            let columns = columns_at(alloc, tables, heights_by(face, location), glyphs, widths)?;
+            let tops = tops_of(alloc, face, &options.limits, glyphs)?;
+            let heights = heights_by(face, location);
+            let columns = columns_at(alloc, tables, heights, glyphs, widths, &tops)?;
             Ok(Some(columns))
         }
     }

@@ -24,7 +24,12 @@ fn glyphs_of(alloc: Global, mapper: &GlyphRemapper) -> Result<Vec<u16>, Error> {
     Ok(mapper.remapped_gids().collect_with(alloc)?)
 }
 
-/// The column of each glyph that has a width, by what the glyphs vary by.
+/// The top of the glyph at an index, if the tops are given.
+fn top_at(tops: &[i16], index: usize) -> Option<i16> {
+    tops.get(index).copied()
+}
+
+/// The column of each glyph that has a width, by what the glyphs vary by; their tops may be given.
 fn each_column(
     alloc: Global,
     tables: VerticalTables<'_>,
@@ -33,6 +38,7 @@ fn each_column(
     origins: &[Option<i16>],
     widths: &[u32],
     deltas: &Deltas,
+    tops: &[i16],
 ) -> Result<Vec<Column>, Error> {
     let mut columns = Vec::with_capacity(alloc, glyphs.len())?;
     for index in 0..glyphs.len().min(widths.len()) {
@@ -44,6 +50,7 @@ fn each_column(
             origins[index],
             known_at(&deltas.heights, index),
             known_at(&deltas.origins, index),
+            top_at(tops, index),
         );
         columns.push(column)?;
     }
@@ -53,8 +60,9 @@ fn each_column(
 /// The columns of a font for the glyphs in use, in order of use, whose CIDs have these widths.
 ///
 /// `variation` is where the font is off its default, if it is and has `VVAR`: advance heights vary as that says, and so do
-/// origins by `VORG`; those of TrueType outlines are the default's. Where the font has no advance height of a glyph its
-/// column is PDF's own: 880 and -1000.
+/// origins by `VORG`; those of TrueType outlines are the default's. `tops` are the tops of glyph 0 and of these glyphs, each once,
+/// in the font's units, or none: by these and the top side bearings outlines in `CFF ` have their origins where there is no
+/// `VORG`. Where the font has no advance height of a glyph its column is PDF's own: 880 and -1000.
 ///
 /// # Errors
 ///
@@ -66,6 +74,7 @@ pub fn columns_at(
     variation: Option<HeightVariation<'_>>,
     glyphs: &[u16],
     widths: &[u32],
+    tops: &[i16],
 ) -> Result<Columns, Error> {
     let mapper = GlyphRemapper::new_from_glyphs(alloc, glyphs)?;
     let origins = origins_of(alloc, tables.vorg, &mapper)?;
@@ -73,7 +82,7 @@ pub fn columns_at(
     let _count = mapper.num_gids();
     let deltas = deltas_of(alloc, variation, &numbered)?;
     let each = each_column(
-        alloc, tables, variation, &numbered, &origins, widths, &deltas,
+        alloc, tables, variation, &numbered, &origins, widths, &deltas, tops,
     )?;
     let default = most_frequent(alloc, &each)?;
     Ok(Columns { each, default })

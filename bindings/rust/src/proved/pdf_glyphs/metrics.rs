@@ -79,9 +79,14 @@ fn box_top(tables: OutlineTables<'_>, glyph: u16) -> i16 {
 }
 
 /// The sum of a glyph's top and its top side bearing.
-fn origin_of_box(tables: VerticalTables<'_>, glyph: u16) -> Option<i32> {
+fn by_top(tables: VerticalTables<'_>, glyph: u16, top: i16) -> Option<i32> {
     let bearing = bearing_of(tables, glyph)?;
-    Some(i32::from(box_top(tables.outlines, glyph)) + i32::from(bearing))
+    Some(i32::from(top) + i32::from(bearing))
+}
+
+/// The same of a top that may be given.
+fn by_given_top(tables: VerticalTables<'_>, glyph: u16, top: Option<i16>) -> Option<i32> {
+    by_top(tables, glyph, top?)
 }
 
 /// The y of the origin that VORG has: its record's, else the default one.
@@ -107,19 +112,23 @@ fn vorg_y_at(
     }
 }
 
-/// The y of the origin: of TrueType outlines by box and bearing, else by VORG with what it varies by.
+/// The y of the origin: of TrueType outlines by box and bearing, else by VORG with what it varies by, else by the top that may
+/// be given and the bearing.
 fn origin_y_at(
     tables: VerticalTables<'_>,
     variation: Option<HeightVariation<'_>>,
     glyph: u16,
     recorded: Option<i16>,
     delta: Result<i64, Error>,
+    top: Option<i16>,
 ) -> Option<i32> {
     if tables.outlines.glyf.is_some() {
-        return origin_of_box(tables, glyph);
+        return by_top(tables, glyph, box_top(tables.outlines, glyph));
     }
-    let y = vorg_y_at(tables, variation, glyph, recorded, delta)?;
-    Some(i32::from(y))
+    match vorg_y_at(tables, variation, glyph, recorded, delta) {
+        Some(y) => Some(i32::from(y)),
+        None => by_given_top(tables, glyph, top),
+    }
 }
 
 /// Half of a width.
@@ -140,8 +149,8 @@ fn scaled_y(y: Option<i32>, units: u16) -> i32 {
     }
 }
 
-/// The column of a glyph with a width, of which VORG has this y. Where the font is off its default, its advance varies by
-/// `height`, and an origin by VORG by `shift`.
+/// The column of a glyph with a width, of which VORG has this y, and whose top may be given. Where the font is off its default, its
+/// advance varies by `height`, and an origin by VORG by `shift`.
 pub fn metric_at(
     tables: VerticalTables<'_>,
     variation: Option<HeightVariation<'_>>,
@@ -150,6 +159,7 @@ pub fn metric_at(
     recorded: Option<i16>,
     height: Result<i64, Error>,
     shift: Result<i64, Error>,
+    top: Option<i16>,
 ) -> Column {
     let advance = match advance_at(tables, variation, glyph, height) {
         Some(advance) => advance,
@@ -162,7 +172,7 @@ pub fn metric_at(
         }
     };
     let units = units_per_em(tables.outlines.head);
-    let y = origin_y_at(tables, variation, glyph, recorded, shift);
+    let y = origin_y_at(tables, variation, glyph, recorded, shift, top);
     Column {
         advance: downwards(advance, units),
         x: half(width),

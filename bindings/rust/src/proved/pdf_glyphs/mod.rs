@@ -4,7 +4,7 @@
 //! ```text
 //! let top = top_of(outlines, cmap, 'H');                          // of "H", in the font's units
 //! let kept = box_around(outlines, count);                         // the least box around the first glyphs
-//! let columns = columns_of(alloc, vertical, &glyphs, &widths)?;   // of each CID advance and origin, and DW2
+//! let columns = columns_at(alloc, vertical, None, &glyphs, &widths, &[])?;   // of each CID advance and origin, and DW2
 //! ```
 
 mod boxes;
@@ -19,4 +19,4 @@ pub use boxes::{box_around, joined, OutlineTables};
 pub use columns::{columns_at, Columns};
 pub use heights::HeightVariation;
 pub use metrics::VerticalTables;
-pub use tops::top_of;
+pub use tops::{glyph_by, top_of};

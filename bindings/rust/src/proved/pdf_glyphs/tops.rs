@@ -5,7 +5,7 @@ use crate::proved::cmap::find_subtable;
 use crate::proved::pdf_glyphs::boxes::{glyph_box, OutlineTables};
 
 /// The glyph of a character by `cmap`, which has 0 for one that the font lacks.
-fn glyph_by(cmap: Option<&[u8]>, character: char) -> Option<u16> {
+pub fn glyph_by(cmap: Option<&[u8]>, character: char) -> Option<u16> {
     let bytes = cmap?;
     let subtable = find_subtable(bytes)?;
     Some(subtable.glyph_of(character))

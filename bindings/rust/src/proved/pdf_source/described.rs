@@ -3,9 +3,7 @@
 
 use crate::rattle::prelude::Vec;
 
-use crate::proved::pdf_glyphs::{
-    box_around, top_of, HeightVariation, OutlineTables, VerticalTables,
-};
+use crate::proved::pdf_glyphs::{box_around, HeightVariation, OutlineTables, VerticalTables};
 use crate::proved::pdf_moved::values_at;
 use crate::proved::pdf_names::name_at;
 use crate::proved::pdf_source::boxed::head_box;
@@ -28,7 +26,7 @@ pub struct Descriptor {
 }
 
 /// The tables that outlines are found by.
-fn outlines_of<'a>(face: &Face<'a>) -> OutlineTables<'a> {
+pub(crate) fn outlines_of<'a>(face: &Face<'a>) -> OutlineTables<'a> {
     OutlineTables {
         head: face.stored(Tag::HEAD),
         loca: face.stored(Tag::LOCA),
@@ -53,18 +51,6 @@ fn tables_of<'a>(face: &Face<'a>) -> Tables<'a> {
         hhea: face.stored(Tag::HHEA),
         os2: face.stored(Tag::new(b"OS/2")),
         post: face.stored(Tag::POST),
-    }
-}
-
-/// What is known of glyphs of the source: the tops of two, and the stem and the box of the kept ones, which are given.
-fn known_of(stem: Option<u32>, kept: Option<GlyphBox>, face: &Face<'_>) -> Known {
-    let outlines = outlines_of(face);
-    let cmap = face.stored(Tag::new(b"cmap"));
-    Known {
-        cap_top: top_of(outlines, cmap, 'H'),
-        x_top: top_of(outlines, cmap, 'x'),
-        kept,
-        stem,
     }
 }
 
@@ -111,18 +97,16 @@ pub fn program_box(face: &Face<'_>, kept: Option<GlyphBox>, choice: Bounds) -> O
     head_box(bounds_by(moves(face), choice), kept)
 }
 
-/// The values of a font that says this stem, whose kept glyphs have this box, at coordinates that are off its default, if they
-/// are. There FontBBox holds the kept glyphs, where their boxes are known.
+/// The values of a font of whose glyphs this is known, at coordinates that are off its default, if they are. There FontBBox holds
+/// the kept glyphs, where their boxes are known.
 pub fn values_by(
     location: &Option<Location>,
-    stem: Option<u32>,
-    kept: Option<GlyphBox>,
+    known: Known,
     face: &Face<'_>,
     choice: Bounds,
     settings: &[(Tag, i32)],
 ) -> Values {
     let tables = tables_of(face);
-    let known = known_of(stem, kept, face);
     let moving = moves(face);
     match location {
         None => values_of(tables, known, bounds_by(moving, choice)),

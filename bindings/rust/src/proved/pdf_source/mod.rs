@@ -17,6 +17,7 @@ mod exact;
 mod moved;
 mod program;
 mod tag;
+mod tops;
 mod widths;
 
 pub use axes::unknown_axes;
@@ -25,4 +26,5 @@ pub use described::{heights_by, name_in, vertical_of, Descriptor};
 pub use moved::{location_in, Location};
 pub use program::{new_font, NewFont};
 pub use tag::SubsetTag;
+pub use tops::tops_of;
 pub use widths::most_frequent;

@@ -9,6 +9,7 @@ use crate::proved::pdf_source::choice::{FontOptions, ProgramChoice};
 use crate::proved::pdf_source::described::{kept_in, program_box, values_by};
 use crate::proved::pdf_source::exact::{exact_of, ExactWidths};
 use crate::proved::pdf_source::moved::location_in;
+use crate::proved::pdf_source::tops::known_of;
 use crate::proved::pdf_source::widths::widths_of;
 use crate::proved::pdf_text::ProgramKind;
 use crate::proved::pdf_values::{GlyphBox, Values};
@@ -97,7 +98,8 @@ fn profile_of(
     let location = location_in(alloc, face, settings)?;
     let stem = font_stem(alloc, face, &new)?;
     let kept = kept_in(alloc, face, &new, count)?;
-    let values = values_by(&location, stem, kept, face, options.bounds, settings);
+    let known = known_of(alloc, face, &options.limits, stem, kept)?;
+    let values = values_by(&location, known, face, options.bounds, settings);
     let head_box = program_box(face, kept, options.bounds);
     Ok(Profile {
         count,

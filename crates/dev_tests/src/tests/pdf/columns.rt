@@ -39,7 +39,7 @@ fn moved_are(
     };
     let variation = Some(HeightVariation { at, vvar });
     let widths = [500, 667, 667, 244, 488];
-    let made = columns_at(alloc, tables, variation, &[1, 2, 3, 4], &widths)?;
+    let made = columns_at(alloc, tables, variation, &[1, 2, 3, 4], &widths, &[])?;
     let [a, b, c, d, e] = advances;
     let wanted = [
         [a, 250, 880],
@@ -101,7 +101,7 @@ fn origins_are(
     };
     let variation = Some(HeightVariation { at: &[at], vvar });
     let widths = [500, 667, 667, 244, 488];
-    let made = columns_at(alloc, tables, variation, &[1, 2, 3, 4], &widths)?;
+    let made = columns_at(alloc, tables, variation, &[1, 2, 3, 4], &widths, &[])?;
     let [a, b, c, d, e] = origins;
     let wanted = [
         [-1000, 250, a],

@@ -9,7 +9,7 @@ use Rattle.pdf_glyphs.proofs.columns.each_column.Goals as goal
 
 pub returns-clause-ok : goal.returns-clause-ok
 returns-clause-ok c =
-    columns_done (vertical_view c.args.tables) (option_map variation_view c.args.variation) c.args.glyphs.now c.args.widths.now c.loop-index.index c.loop-index.columns.items _ (omega arith) c.loop-index.invariant.so_far
+    columns_done (vertical_view c.args.tables) (option_map variation_view c.args.variation) c.args.tops.now c.args.glyphs.now c.args.widths.now c.loop-index.index c.loop-index.columns.items _ (omega arith) c.loop-index.invariant.so_far
 
 pub metric_at-column-requires-clause-height : goal.metric_at-column-requires-clause-height
 metric_at-column-requires-clause-height c =

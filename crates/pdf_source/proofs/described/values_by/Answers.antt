@@ -4,11 +4,10 @@ use Rattle.subsetter_sfnt.specs.Read.{table_in}
 use Rattle.pdf_values.specs.Descriptor.{SourceTables, values_of}
 use Rattle.pdf_values.specs.declared.looks.bounds.Bounds.{Bounds}
 use Rattle.pdf_values.specs.declared.looks.bounds.Bounds.TheVariants.{Kept}
-use Rattle.pdf_values.specs.declared.descriptor.Known.{Known}
 use Rattle.pdf_moved.specs.Movement.{Movement, movement_view}
 use Rattle.pdf_moved.specs.Values.{values_at}
 use Rattle.pdf_source.specs.Moved.{Location, location_seen, movement_of, values_by}
-use Rattle.pdf_source.specs.Source.{bounds_by, known_of, tables_of}
+use Rattle.pdf_source.specs.Source.{bounds_by, tables_of}
 use Rattle.pdf_source.proofs.described.values_by.Goals as goal
 
 pub returns-in-None : goal.returns-in-None
@@ -16,10 +15,9 @@ returns-in-None c =
     let find = table_in c.args.face.now.«data».now c.args.face.now.records.now in
     let bounds = c.bounds_by.ensures ∙ ap (λ (moving : Bool). bounds_by moving c.args.choice) c.moves-moving.ensures in
     c.values_of.ensures.value
-    ∙ ap (λ (t : SourceTables). values_of t c.known_of-known.result c.bounds_by.result) c.tables_of-tables.ensures
-    ∙ ap (λ (known : Known). values_of (tables_of find) known c.bounds_by.result) c.known_of-known.ensures
-    ∙ ap (λ (b : Bounds). values_of (tables_of find) (known_of c.args.stem c.args.kept find) b) bounds
-    ∙ ap (λ (location : Option Location). values_by location c.args.stem c.args.kept find c.args.choice c.args.settings.now) (sym (ap (option_map location_seen) c.in-None.is))
+    ∙ ap (λ (t : SourceTables). values_of t c.args.known c.bounds_by.result) c.tables_of-tables.ensures
+    ∙ ap (λ (b : Bounds). values_of (tables_of find) c.args.known b) bounds
+    ∙ ap (λ (location : Option Location). values_by location c.args.known find c.args.choice c.args.settings.now) (sym (ap (option_map location_seen) c.in-None.is))
 
 pub returns-in-Some : goal.returns-in-Some
 returns-in-Some c =
@@ -28,8 +26,7 @@ returns-in-Some c =
     let is : c.args.location.now ≡ Some c.in-Some.location = c.in-Some.is in
     let movement : movement_view c.movement_of.result ≡ movement_of find c.args.settings.now (location_seen c.in-Some.location) = c.movement_of.ensures in
     c.values_at.ensures
-    ∙ ap (λ (t : SourceTables). values_at t c.known_of-known.result (movement_view c.movement_of.result) c.bounds_by-in-Some.result) c.tables_of-tables.ensures
-    ∙ ap (λ (known : Known). values_at (tables_of find) known (movement_view c.movement_of.result) c.bounds_by-in-Some.result) c.known_of-known.ensures
-    ∙ ap (λ (m : Movement). values_at (tables_of find) (known_of c.args.stem c.args.kept find) m c.bounds_by-in-Some.result) movement
-    ∙ ap (λ (b : Bounds). values_at (tables_of find) (known_of c.args.stem c.args.kept find) (movement_of find c.args.settings.now (location_seen c.in-Some.location)) b) bounds
-    ∙ ap (λ (location : Option Location). values_by location c.args.stem c.args.kept find c.args.choice c.args.settings.now) (sym (ap (option_map location_seen) is))
+    ∙ ap (λ (t : SourceTables). values_at t c.args.known (movement_view c.movement_of.result) c.bounds_by-in-Some.result) c.tables_of-tables.ensures
+    ∙ ap (λ (m : Movement). values_at (tables_of find) c.args.known m c.bounds_by-in-Some.result) movement
+    ∙ ap (λ (b : Bounds). values_at (tables_of find) c.args.known (movement_of find c.args.settings.now (location_seen c.in-Some.location)) b) bounds
+    ∙ ap (λ (location : Option Location). values_by location c.args.known find c.args.choice c.args.settings.now) (sym (ap (option_map location_seen) is))

@@ -1,0 +1,51 @@
+-- The boxes of glyphs of a `CFF ` table whose charstrings may call subroutines (Technical Note 5176, section 14; Technical Note 5177).
+use Rattle.std.specs.Prelude.{ℕ, List, [], map, Option, option_map, ℤ, pos}
+use Rattle.std.specs.Option.{option_and_then, option_map_or, option_or, unwrap_or}
+use Rattle.std.specs.Result.{result_ok}
+use Rattle.subsetter_base.specs.Options.{◌>>=◌}
+use Rattle.subsetter_type2.specs.Flat.{flat_form}
+use Rattle.subsetter_type2.specs.declared.limits.Limits.{Limits}
+use Rattle.subsetter_cff.specs.Read.Cff.{Cff, char_string}
+use Rattle.subsetter_cff.specs.Read.FdArray.Private.{Private, private_of}
+use Rattle.subsetter_cff.specs.Read.GlyphTrace.{library}
+use Rattle.subsetter_cff.specs.Read.Opened.{opened}
+use Rattle.pdf_values.specs.declared.looks.bounds.GlyphBox.{GlyphBox}
+use Rattle.pdf_boxes.specs.CharstringBox.{before_endchar, behind_width, outline_box}
+
+-- Of a charstring without subroutines, which ends by endchar. A width in front is the operand more than its first operator takes (Technical
+-- Note 5177, section 4): with it there is no charstring of CFF2, without it and without endchar there is one, which draws the same.
+unfoldable pub flat_box : List ℕ → Option GlyphBox
+flat_box flat = do
+  body ← before_endchar flat
+  option_or (outline_box body) (option_and_then outline_box (behind_width body))
+
+-- of a charstring under a private dict, run within these limits; none where it can't be
+unfoldable pub run_box : Cff → Limits → Private → List ℕ → Option GlyphBox
+run_box cff limits private charstring = result_ok (flat_form (library cff private) limits.tokens limits.depth charstring) >>= flat_box
+
+-- of a glyph
+unfoldable pub drawn_box : Cff → Limits → ℕ → Option GlyphBox
+drawn_box cff limits glyph = do
+  charstring ← char_string cff glyph
+  private ← private_of cff glyph
+  run_box cff limits private charstring
+
+-- the top of a glyph's box
+abbrev pub top_in : Cff → Limits → ℕ → Option ℤ
+top_in cff limits glyph = option_map (λ b. b.y_max) (drawn_box cff limits glyph)
+
+-- none of a table that can't be opened
+abbrev pub glyph_top : List ℕ → Limits → ℕ → Option ℤ
+glyph_top bytes limits glyph = result_ok (opened bytes) >>= λ cff. top_in cff limits glyph
+
+-- 0 of a glyph without a box
+abbrev pub top_or_zero : Cff → Limits → ℕ → ℤ
+top_or_zero cff limits glyph = unwrap_or (top_in cff limits glyph) (pos 0)
+
+-- of glyphs
+abbrev pub tops_in : Cff → Limits → List ℕ → List ℤ
+tops_in cff limits glyphs = map (top_or_zero cff limits) glyphs
+
+-- no list of a table that can't be opened
+abbrev pub glyph_tops : List ℕ → Limits → List ℕ → List ℤ
+glyph_tops bytes limits glyphs = option_map_or (λ cff. tops_in cff limits glyphs) (result_ok (opened bytes)) []
