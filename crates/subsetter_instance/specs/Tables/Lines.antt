@@ -1,5 +1,5 @@
 -- The metrics of `hhea` and `post` that vary (OpenType, "MVAR", "hhea" and "post"), and the angle of `post` ("fvar").
-use Rattle.std.specs.Prelude.{ℕ, ◌+◌, List, ◌++◌, length, take, drop, slice_range, codes, Option, Some, None, Result, Ok, nat_lt, if◌then◌else◌, ℤ, pos, ◌+ℤ◌}
+use Rattle.std.specs.Prelude.{ℕ, Bool, ◌+◌, List, ◌++◌, length, take, drop, slice_range, codes, Option, Some, None, Result, Ok, nat_lt, if◌then◌else◌, ℤ, pos, ◌+ℤ◌}
 use Rattle.std.specs.Int.{w32, cast_unsigned, to_be_bytes}
 use Rattle.std.specs.List.{list_all}
 use Rattle.std.specs.Option.{ok_or, option_and_then, option_map}
@@ -71,9 +71,13 @@ varied_post_if mvar at (Some post) = varied_post mvar at post >>= λ new. Ok (So
 abbrev pub slant_by : Option (List ℕ) → List (Tag × ℤ) → Option ℤ
 slant_by fvar settings = option_map (λ a. clamped a settings) (option_and_then (find_axis (codes "slnt")) (option_and_then axes fvar))
 
+-- the default: each coordinate is 0
+abbrev pub is_default : List ℤ → Bool
+is_default at = list_all (λ c. int_eq c (pos 0)) at
+
 -- off the default
 abbrev pub slant : (List ℕ → Option (List ℕ)) → List (Tag × ℤ) → List ℤ → Option ℤ
-slant find settings at = if list_all (λ c. int_eq c (pos 0)) at then None else slant_by (find (codes "fvar")) settings
+slant find settings at = if is_default at then None else slant_by (find (codes "fvar")) settings
 
 -- a table that ends before it does stays
 abbrev pub with_angle : ℤ → List ℕ → List ℕ

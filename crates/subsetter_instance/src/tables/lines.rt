@@ -4,7 +4,7 @@ ghost use Rattle.std.specs.Prelude.{◌≡◌, ◌≤◌, ◌+◌, ◌++◌, IfO
 ghost use Rattle.std.specs.Option.{option_copied, option_map, option_or};
 ghost use Rattle.subsetter_base.specs.Gives.{Gives};
 ghost use Rattle.subsetter_sfnt.specs.Read.{table_in};
-ghost use Rattle.subsetter_instance.specs.Tables.Lines.{varied, three_lines, line_bytes, moved_hhea, varied_hhea, moved_post, varied_underline, varied_post_if, with_angle, slanted, slant_by, slant, lines_of};
+ghost use Rattle.subsetter_instance.specs.Tables.Lines.{varied, three_lines, line_bytes, moved_hhea, varied_hhea, moved_post, varied_underline, varied_post_if, with_angle, slanted, slant_by, is_default, slant, lines_of};
 ghost use Rattle.subsetter_variation.specs.Locations.Axes.{clamped, find_axis};
 
 use crate::glyphs::drawn::word_or_fault;
@@ -248,6 +248,13 @@ fn slant_by(
     }
 }
 
+/// Whether each coordinate is 0.
+fn is_default(at: &[i32]) -> bool
+    ensures { result ≡ is_default at.now }
+{
+    at.iter().all(|v| *v == 0)
+}
+
 /// The angle of `post` at a location off the default, if it isn't that of the font.
 fn slant(
     alloc: Global,
@@ -257,7 +264,7 @@ fn slant(
 ) -> Result<Option<i32>, Error>
     ensures { Gives (λ o. o) result (Ok (slant (table_in face.now.«data».now face.now.records.now) settings.now at.now)) }
 {
-    if at.iter().all(|v| *v == 0) {
+    if is_default(at) {
         return Ok(None);
     }
     slant_by(alloc, face.stored(Tag::new(b"fvar")), settings)

@@ -216,6 +216,11 @@ fn slant_by(
     }
 }
 
+/// Whether each coordinate is 0.
+fn is_default(at: &[i32]) -> bool {
+    at.iter().all(|v| *v == 0)
+}
+
 /// The angle of `post` at a location off the default, if it isn't that of the font.
 fn slant(
     alloc: Global,
@@ -223,7 +228,7 @@ fn slant(
     settings: &[(Tag, i32)],
     at: &[i32],
 ) -> Result<Option<i32>, Error> {
-    if at.iter().all(|v| *v == 0) {
+    if is_default(at) {
         return Ok(None);
     }
     slant_by(alloc, face.stored(Tag::new(b"fvar")), settings)
