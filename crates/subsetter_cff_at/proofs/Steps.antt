@@ -7,6 +7,7 @@ use Rattle.subsetter_base.specs.Bytes.{◌>>=◌}
 use Rattle.subsetter_base.specs.Gives.{Fails}
 use Rattle.subsetter_base.specs.Within.{FailsWithin}
 use Rattle.subsetter_base.specs.declared.error.Error.{Error}
+use Rattle.subsetter_base.specs.declared.error.Error.TheVariants.{UnknownKind, MalformedFont, Unimplemented, SubsetError, OverflowError, CFFError, OutOfMemory}
 use Rattle.subsetter_cffdata.specs.Indexes.Index.{offsets}
 use Rattle.subsetter_cff.proofs.ReadLaws.Failing.{fails_on}
 use Rattle.subsetter_cff.proofs.ReadLaws.Results.{bind_ok, same_Ok}
@@ -35,6 +36,15 @@ pub number_fails : (cff : Cff2) (glyph : ℕ) (a : Option ℕ) (more : List (Opt
 number_fails cff glyph a more front e whole same h =
     fails_on (numbers_from cff glyph (a ∷ more)) (λ rest. Ok (front ++ rest)) whole e same
     (fails_on (number_if cff glyph a) (λ first. numbers_from cff (glyph + 1) more >>= λ rest. Ok (first ∷ rest)) (numbers_from cff glyph (a ∷ more)) e refl h)
+
+pub as_fails : {Y : Type 0} (e : Error) (r : Result Y Error) → Err e ≡ r → Fails e r
+as_fails OutOfMemory r h = tt
+as_fails UnknownKind r h = sym h
+as_fails MalformedFont r h = sym h
+as_fails Unimplemented r h = sym h
+as_fails SubsetError r h = sym h
+as_fails OverflowError r h = sym h
+as_fails CFFError r h = sym h
 
 pub last_number : (cff : Cff2) (glyph : ℕ) (front : List (Option ℕ)) (whole : Result (List (Option ℕ)) Error) → with_numbers front (numbers_from cff glyph []) ≡ whole → whole ≡ Ok front
 last_number cff glyph front whole same = sym same ∙ ap (λ (l : List (Option ℕ)). Ok l) (append-nil front)

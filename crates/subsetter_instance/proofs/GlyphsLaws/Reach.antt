@@ -1,10 +1,10 @@
 -- What is unfolded, and within what bounds.
-use Rattle.std.proofs.Common.{◌≡◌, ◌≤◌, ◌<◌, ◌^◌, ◌+◌, ◌++◌, ℕ, ℤ, List, length, map, unsigned_abs, get_or, drop, pos, w64, ap, false, to_z, of_z, [], ◌∷◌, append_assoc, sym, subst, arith, ◌+ℤ◌, ◌∙◌, true, Ok, refl, Bool}
+use Rattle.std.proofs.Common.{◌≡◌, ◌≤◌, ◌<◌, ◌^◌, ◌+◌, ◌++◌, ℕ, ℤ, List, length, map, unsigned_abs, get_or, drop, take, pos, w64, ap, false, to_z, of_z, [], ◌∷◌, append_assoc, sym, subst, arith, ◌+ℤ◌, ◌∙◌, true, Ok, refl, Bool}
 use Rattle.std.specs.Prelude.{All, nat_le, zip, ◌&&◌, if◌then◌else◌}
 use Rattle.std.proofs.lemmas.Bool.{leb-true, lt-ltb}
 use Rattle.std.proofs.lemmas.List.Sums.{AllPass-from_list_all}
 use Rattle.std.proofs.lemmas.Int.{to_z-of_z, fits_signed_from_abs}
-use Rattle.std.proofs.lemmas.List.{append-nil, drop_all, drop_more, length-append, length-map, map-append}
+use Rattle.std.proofs.lemmas.List.{append-nil, drop_all, drop_more, length-append, length-map, map-append, take_more}
 use Rattle.std.proofs.lemmas.List.Elements.{All-append, All-cons, All-map, All-nil, All-weaker}
 use Rattle.subsetter_base.specs.Bytes.{has_flag}
 use Rattle.subsetter_instance.specs.Glyphs.Unfolded.{Unfolded, IsInReach, are_near, joined_moved, joined_parts, moved_part, on_curve, shifted, with_metrics}
@@ -60,6 +60,13 @@ kept z h = to_z-of_z w64 z (fits_signed_from_abs w64 z (omega arith))
 
 pub one_more : (n : ℕ) (xs ys : List ℤ) (z : ℤ) → ys ≡ xs ++ z ∷ [] → unsigned_abs z ≤ n → All (λ x. unsigned_abs x ≤ n) xs → All (λ x. unsigned_abs x ≤ n) ys
 one_more n xs ys z e h a = subst (All (λ x. unsigned_abs x ≤ n)) (sym e) (All-append (λ x. unsigned_abs x ≤ n) xs (z ∷ []) a (All-cons (λ x. unsigned_abs x ≤ n) z [] h (All-nil (λ x. unsigned_abs x ≤ n))))
+
+-- one coordinate more is moved
+pub moved_more : (out before : List ℤ) (by z : ℤ) (vs : List ℤ) (i : ℕ) → i < length vs → z ≡ get_or vs i (pos 0) +ℤ by → out ≡ before ++ shifted by (take i vs) → out ++ z ∷ [] ≡ before ++ shifted by (take (i + 1) vs)
+moved_more out before by z vs i less h same =
+    let x = get_or vs i (pos 0) in
+    ap (λ (l : List ℤ). l ++ z ∷ []) same ∙ append_assoc before (shifted by (take i vs)) (z ∷ [])
+    ∙ ap (λ (l : List ℤ). before ++ l) (ap (λ (w : ℤ). shifted by (take i vs) ++ w ∷ []) h ∙ sym (map-append (λ v. v +ℤ by) (take i vs) (x ∷ [])) ∙ ap (shifted by) (sym (take_more vs i (pos 0) less)))
 
 -- coordinates that are near
 pub near_all : (xs : List ℤ) → are_near xs ≡ true → All (λ x. unsigned_abs x ≤ 2 ^ 45) xs

@@ -51,48 +51,51 @@ impl fmt::Display for Plain<'_> {
     }
 }
 
+/// What a mistake's line has in front of the argument, and behind it; none where it doesn't have the argument.
+fn around(wrong: Wrong) -> (&'static str, Option<&'static str>) {
+    match wrong {
+        Wrong::NoInput => ("IN is missing", None),
+        Wrong::NoOutput => ("OUT is missing", None),
+        Wrong::NoIndex => ("INDEX is missing", None),
+        Wrong::NoGlyphs => ("GID is missing", None),
+        Wrong::NoBatchFile => ("FILE is missing", None),
+        Wrong::NoOutputOption => ("-o OUT is missing", None),
+        Wrong::NoSource => ("no option requests glyphs", None),
+        Wrong::Further | Wrong::BehindShown | Wrong::BehindBatch | Wrong::BesideInput => {
+            ("\"", Some("\" is one argument too many"))
+        }
+        Wrong::Late => ("", Some(" is after IN")),
+        Wrong::ShownLate | Wrong::BatchLate => ("", Some(" isn't the first argument")),
+        Wrong::Unknown => ("", Some(" is no option")),
+        Wrong::Twice => ("", Some(" is given twice")),
+        Wrong::NoValue => ("", Some(": its value is missing")),
+        Wrong::GlyphsTwice => ("", Some(" is a second option that requests glyphs")),
+        Wrong::BesideOption => ("GID \"", Some("\": an option requests the glyphs")),
+        Wrong::InputTwice => ("", Some(": standard input is requested twice")),
+        Wrong::Index => ("INDEX \"", Some("\" is not a number")),
+        Wrong::FaceIndex => ("--face-index: \"", Some("\" is not a number")),
+        Wrong::MostInput => ("--most-input: \"", Some("\" is not a number")),
+        Wrong::Glyph => ("GID \"", Some("\" is not a glyph number")),
+        Wrong::Limits => ("--limits: \"", Some("\" is not TOKENS,DEPTH[,BYTES]")),
+        Wrong::Coordinate => ("--at: \"", Some("\" is not TAG=VALUE")),
+        Wrong::Codes => ("--unicodes: \"", Some("\" is not a character number")),
+        Wrong::CodesDescend => ("--unicodes: the range \"", Some("\" descends")),
+        Wrong::TooMany => ("", Some(": more than 2000000 numbers")),
+        Wrong::Descends => ("--gids: the range \"", Some("\" descends")),
+        Wrong::Part => ("--gids: \"", Some("\" is not a glyph number")),
+        Wrong::Coding => ("--codes: \"", Some("\" is no kind of codes")),
+        Wrong::Rights => ("--rights: \"", Some("\" is not held")),
+        Wrong::NoPdf => ("", Some(": no PDF is requested")),
+        Wrong::OutputTwice => ("--pdf: \"", Some("\" is OUT, too")),
+    }
+}
+
 impl fmt::Display for Mistake<'_> {
     fn fmt(&self, f: &mut fmt::Formatter<'_>) -> fmt::Result {
-        let word = Shown(self.word);
-        match self.wrong {
-            Wrong::NoInput => write!(f, "IN is missing"),
-            Wrong::NoOutput => write!(f, "OUT is missing"),
-            Wrong::NoIndex => write!(f, "INDEX is missing"),
-            Wrong::NoGlyphs => write!(f, "GID is missing"),
-            Wrong::Further | Wrong::BehindShown | Wrong::BehindBatch => {
-                write!(f, "\"{word}\" is one argument too many")
-            }
-            Wrong::Late => write!(f, "{word} is after IN"),
-            Wrong::ShownLate | Wrong::BatchLate => {
-                write!(f, "{word} isn't the first argument")
-            }
-            Wrong::NoBatchFile => write!(f, "FILE is missing"),
-            Wrong::Unknown => write!(f, "{word} is no option"),
-            Wrong::Twice => write!(f, "{word} is given twice"),
-            Wrong::NoValue => write!(f, "{word}: its value is missing"),
-            Wrong::GlyphsTwice => write!(f, "{word} is a second option that requests glyphs"),
-            Wrong::BesideOption => {
-                write!(f, "GID \"{word}\": an option requests the glyphs")
-            }
-            Wrong::InputTwice => write!(f, "{word}: standard input is requested twice"),
-            Wrong::Index => write!(f, "INDEX \"{word}\" is not a number"),
-            Wrong::FaceIndex => write!(f, "--face-index: \"{word}\" is not a number"),
-            Wrong::MostInput => write!(f, "--most-input: \"{word}\" is not a number"),
-            Wrong::Glyph => write!(f, "GID \"{word}\" is not a glyph number"),
-            Wrong::Limits => write!(f, "--limits: \"{word}\" is not TOKENS,DEPTH[,BYTES]"),
-            Wrong::Coordinate => write!(f, "--at: \"{word}\" is not TAG=VALUE"),
-            Wrong::Codes => write!(f, "--unicodes: \"{word}\" is not a character number"),
-            Wrong::CodesDescend => write!(f, "--unicodes: the range \"{word}\" descends"),
-            Wrong::TooMany => write!(f, "{word}: more than 2000000 numbers"),
-            Wrong::Descends => write!(f, "--gids: the range \"{word}\" descends"),
-            Wrong::Part => write!(f, "--gids: \"{word}\" is not a glyph number"),
-            Wrong::BesideInput => write!(f, "\"{word}\" is one argument too many"),
-            Wrong::NoOutputOption => write!(f, "-o OUT is missing"),
-            Wrong::NoSource => write!(f, "no option requests glyphs"),
-            Wrong::Coding => write!(f, "--codes: \"{word}\" is no kind of codes"),
-            Wrong::Rights => write!(f, "--rights: \"{word}\" is not held"),
-            Wrong::NoPdf => write!(f, "{word}: no PDF is requested"),
-            Wrong::OutputTwice => write!(f, "--pdf: \"{word}\" is OUT, too"),
+        let (before, behind) = around(self.wrong);
+        match behind {
+            None => write!(f, "{before}"),
+            Some(behind) => write!(f, "{before}{}{behind}", Shown(self.word)),
         }
     }
 }
