@@ -6,3 +6,4 @@ pub mod PieceSteps
 pub mod SpreadLaws
 pub mod RunLaws
 pub mod PairLaws
+pub mod NewPairs

@@ -103,7 +103,7 @@ index_same (y ∷ xs) x =
     ap (λ (b : Bool). cond b (Some 0) (option_map (λ i. i + 1) (index_by equal xs x))) (equal_is_same y x)
     ∙ ap (λ (o : Option ℕ). cond (same y x) (Some 0) (option_map (λ i. i + 1) o)) (index_same xs x)
 
-put_same : (xs : List Pair) (x : Pair) → with_value equal xs x ≡ with_value same xs x
+pub put_same : (xs : List Pair) (x : Pair) → with_value equal xs x ≡ with_value same xs x
 put_same xs x = ap (λ (o : Option ℕ). cond (is_some o) xs (xs ++ x ∷ [])) (index_same xs x)
 
 pub room_same : (xs : List Pair) (x : Pair) → (IsSome (index_by same xs x)) ⊎ (length xs + 1 < 65536) → (IsSome (index_by equal xs x)) ⊎ (length xs + 1 < 65536)
@@ -137,6 +137,38 @@ all_refused ps k d was total q e l is all (inr full) =
     let long : 65535 < length next = full.1 in
     inr (full.0, omega (arith, ap length whole))
 
--- a pair that has no code, where all are taken, is one too many
-pub one_too_many : (xs : List Pair) (q : Pair) → is_some (index_by same xs q) ≡ false → length xs ≡ 65535 → 65535 < length (with_value same xs q)
-one_too_many xs q e l = rw e (omega (arith, length-append xs (q ∷ [])))
+-- pieces bring no more pairs than they are
+one_at_most : (b : Bool) (xs : List Pair) (x : Pair) → length (cond b xs (xs ++ x ∷ [])) ≤ length xs + 1
+one_at_most true xs x = omega arith
+one_at_most false xs x = omega (arith, length-append xs (x ∷ []))
+
+few_more : (ps : List Piece) (xs : List Pair) → length (with_pairs xs ps) ≤ length xs + length ps
+few_more [] xs = omega arith
+few_more (p ∷ ps) xs =
+    let one : length (with_value same xs (pair_of p)) ≤ length xs + 1 = one_at_most (is_some (index_by same xs (pair_of p))) xs (pair_of p) in
+    let more : length (with_pairs (with_value same xs (pair_of p)) ps) ≤ length (with_value same xs (pair_of p)) + length ps = few_more ps (with_value same xs (pair_of p)) in
+    omega arith
+
+pub few_pairs : (xs : List Pair) (ps : List Piece) → length xs + length ps ≤ 65535 → length (with_pairs xs ps) ≤ 65535
+few_pairs xs ps l = let most : length (with_pairs xs ps) ≤ length xs + length ps = few_more ps xs in omega arith
+
+-- where all pairs have room, so has the next
+room_by : (o : Option ℕ) (xs : List Pair) (q : Pair) (n : ℕ) → index_by same xs q ≡ o → length (with_value same xs q) ≤ n → (IsSome o) ⊎ (length xs + 1 ≤ n)
+room_by (Some k) xs q n e l = inl refl
+room_by None xs q n e l =
+    let put : with_value same xs q ≡ xs ++ q ∷ [] = rw e refl in
+    let long : length (xs ++ q ∷ []) ≤ n = rw put at l in
+    inr (omega (arith, length-append xs (q ∷ [])))
+
+few_or : (o : Option ℕ) (n : ℕ) → (IsSome o) ⊎ (n + 1 ≤ 65535) → (IsSome o) ⊎ (n + 1 < 65536)
+few_or o n (inl h) = inl h
+few_or o n (inr l) = inr (omega arith)
+
+pub has_room : (ps : List Piece) (k : ℕ) (d : Piece) (was total : List Pair) (q : Pair) → k < length ps → q ≡ pair_of (get_or ps k d) → with_pairs was (drop k ps) ≡ total → length total ≤ 65535
+    → (IsSome (index_by same was q)) ⊎ (length was + 1 < 65536)
+has_room ps k d was total q l is all few =
+    let next : List Pair = with_value same was q in
+    let rest : List Piece = drop (k + 1) ps in
+    let whole : with_pairs next rest ≡ total = all_more ps k d was next total q l is refl all in
+    let more : length next ≤ length (with_pairs next rest) = grows rest next in
+    few_or (index_by same was q) (length was) (room_by (index_by same was q) was q 65535 refl (omega (arith, ap length whole)))

@@ -1,5 +1,7 @@
 -- The codes of what is drawn and said: each pair of a figure and a character has one, and its CID is the code (ISO 32000-1, 9.7.6.2).
-use Rattle.std.specs.Prelude.{◌≡◌, ◌<◌, ℕ, ◌==◌, ◌&&◌, Bool, true, false, if◌then◌else◌, List, [], ◌∷◌, map, length, Option, Some, None}
+use Rattle.std.specs.Prelude.{◌≡◌, ◌<◌, ◌⊎◌, is_some, ℕ, ◌==◌, ◌&&◌, Bool, true, false, if◌then◌else◌, List, [], ◌∷◌, map, length, Option, Some, None}
+use Rattle.subsetter_base.specs.declared.error.Error.{Error}
+use Rattle.subsetter_base.specs.declared.error.Error.TheVariants.{OutOfMemory, OverflowError}
 use Rattle.subsetter_base.specs.Remap.{index_by, with_value}
 use Rattle.pdf_runs.specs.declared.codes.Pair.{Pair}
 use Rattle.pdf_runs.specs.declared.pieces.Figure.{Figure}
@@ -44,6 +46,14 @@ AreCodes pairs ps codes = map Some codes ≡ map (λ (p : Piece). index_by same 
 -- no code is left
 abbrev pub IsOverfull : List Pair → List Piece → Type 0
 IsOverfull pairs ps = 65535 < length (with_pairs pairs ps)
+
+-- why pieces have no codes; where there are too many, the pairs stay
+abbrev pub IsUncoded : List Pair → List Pair → List Piece → Error → Type 0
+IsUncoded pairs new ps e = (e ≡ OutOfMemory) ⊎ ((e ≡ OverflowError) × IsOverfull pairs ps × (new ≡ pairs))
+
+-- values that others don't have, with one more
+abbrev pub with_new : {A : Type 0} → (A → A → Bool) → List A → List A → A → List A
+with_new eq xs new x = if is_some (index_by eq xs x) then new else with_value eq new x
 
 -- a code of fewer pairs is the code of more
 abbrev pub KeepsCodes : List Pair → List Pair → Type 0

@@ -3,7 +3,7 @@
 ghost use Rattle.std.specs.Prelude.{◌≡◌, ◌<◌, ◌≤◌, ◌+◌, ◌⊎◌, ◌↔◌, length, is_some, IsTrue, IfOk, IfErr, IsSome, OnOk, Some, [], ◌∷◌};
 ghost use Rattle.subsetter_base.specs.Remap.{index_by, with_value};
 ghost use Rattle.subsetter_base.specs.declared.error.Error.TheVariants.{OutOfMemory, OverflowError};
-ghost use Rattle.pdf_runs.specs.Codes.{AreCodes, IsOverfull, KeepsCodes, is_zeroth, pair_of, same, with_pairs, zeroth};
+ghost use Rattle.pdf_runs.specs.Codes.{AreCodes, IsOverfull, IsUncoded, KeepsCodes, is_zeroth, pair_of, same, with_new, with_pairs, zeroth};
 
 use crate::pieces::{Figure, Piece};
 use std::alloc::Global;
@@ -83,47 +83,93 @@ fn code_of(pairs: &mut Remapper<u16, Pair>, pair: Pair) -> Result<u16, Error>
     pairs.remap(pair)
 }
 
-/// Whether all codes are taken.
-fn is_full(pairs: &Remapper<u16, Pair>) -> bool
-    ensures full { IsTrue result ↔ (length pairs.now ≡ 65535) }
-    ensures few { length pairs.now ≤ 65535 }
-{
-    pairs.len() == u16::MAX
-}
-
-/// The code of a pair where all codes are taken.
-#[tactic(auto, using(crate::proofs::PairLaws::one_too_many))]
-fn known_code(pairs: &mut Remapper<u16, Pair>, pair: Pair) -> Result<u16, Error>
-    requires { length pairs.old ≡ 65535 }
-    ensures list { OnOk result (pairs.new ≡ with_value same pairs.old pair) }
-    ensures number { IfOk result (λ n. index_by same pairs.new pair ≡ Some n) }
-    ensures stay { KeepsCodes pairs.old pairs.new }
-    ensures err { IfErr result (λ e. (e ≡ OutOfMemory) ⊎ ((e ≡ OverflowError) × (65535 < length (with_value same pairs.old pair)))) }
+/// Puts a pair behind new ones, if neither they nor others have it.
+#[tactic(auto, using(crate::proofs::NewPairs::known_new, crate::proofs::NewPairs::new_put))]
+fn add_new(
+    pairs: &Remapper<u16, Pair>,
+    new: &mut Remapper<u32, Pair>,
+    pair: Pair,
+) -> Result<(), Error>
+    requires { length new.old < 65536 }
+    ensures ok { OnOk result (new.new ≡ with_new same pairs.now new.old pair) }
+    ensures err { IfErr result (λ e. e ≡ OutOfMemory) }
 {
     if is_known(pairs, pair) {
-        return code_of(pairs, pair);
+        return Ok(());
     }
-    Err(Error::OverflowError)
+    new.remap(pair)?;
+    Ok(())
 }
 
-/// The code of a pair, if there is one.
-fn number_of(pairs: &mut Remapper<u16, Pair>, pair: Pair) -> Result<u16, Error>
-    ensures list { OnOk result (pairs.new ≡ with_value same pairs.old pair) }
-    ensures number { IfOk result (λ n. index_by same pairs.new pair ≡ Some n) }
-    ensures stay { KeepsCodes pairs.old pairs.new }
-    ensures err { IfErr result (λ e. (e ≡ OutOfMemory) ⊎ ((e ≡ OverflowError) × (65535 < length (with_value same pairs.old pair)))) }
+/// Whether there is room for so many pairs more.
+fn has_room(pairs: &Remapper<u16, Pair>, count: usize) -> bool
+    ensures { IsTrue result ↔ (length pairs.now + count ≤ 65535) }
 {
-    if is_full(pairs) {
-        return known_code(pairs, pair);
+    count <= usize::from(u16::MAX - pairs.len())
+}
+
+/// Whether new pairs are too many.
+fn is_overfull(pairs: &Remapper<u16, Pair>, new: &Remapper<u32, Pair>) -> bool
+    ensures { IsTrue result ↔ (65535 < length pairs.now + length new.now) }
+{
+    u32::from(u16::MAX - pairs.len()) < new.len()
+}
+
+/// Counts the pairs that pieces bring.
+fn count_new(alloc: Global, pairs: &Remapper<u16, Pair>, pieces: &[Piece]) -> Result<(), Error>
+    ensures ok { OnOk result (length (with_pairs pairs.now pieces.now) ≤ 65535) }
+    ensures err { IfErr result (λ e. (e ≡ OutOfMemory) ⊎ ((e ≡ OverflowError) × IsOverfull pairs.now pieces.now)) }
+{
+    let mut new = Remapper::new(alloc);
+    for piece in pieces {
+        if is_overfull(pairs, &new) {
+            return Err(Error::OverflowError);
+        }
+        add_new(pairs, &mut new, pair_of(*piece))?;
     }
-    code_of(pairs, pair)
+    if is_overfull(pairs, &new) {
+        return Err(Error::OverflowError);
+    }
+    Ok(())
+}
+
+/// Whether there is room for the pairs of pieces.
+#[tactic(auto, using(crate::proofs::PairLaws::few_pairs))]
+fn check_room(alloc: Global, pairs: &Remapper<u16, Pair>, pieces: &[Piece]) -> Result<(), Error>
+    ensures ok { OnOk result (length (with_pairs pairs.now pieces.now) ≤ 65535) }
+    ensures err { IfErr result (λ e. (e ≡ OutOfMemory) ⊎ ((e ≡ OverflowError) × IsOverfull pairs.now pieces.now)) }
+{
+    if has_room(pairs, pieces.len()) {
+        return Ok(());
+    }
+    count_new(alloc, pairs, pieces)
+}
+
+/// The codes of pieces, where there is room for their pairs.
+fn codes_with_room(
+    alloc: Global,
+    pairs: &mut Remapper<u16, Pair>,
+    pieces: &[Piece],
+) -> Result<Vec<u16>, Error>
+    requires { length (with_pairs pairs.old pieces.now) ≤ 65535 }
+    ensures pairs { OnOk result (pairs.new ≡ with_pairs pairs.old pieces.now) }
+    ensures codes { IfOk result (λ codes. AreCodes pairs.new pieces.now codes.items) }
+    ensures few { OnOk result (length pairs.new ≤ 65535) }
+    ensures stay { KeepsCodes pairs.old pairs.new }
+    ensures err { IfErr result (λ e. e ≡ OutOfMemory) }
+{
+    let mut codes = Vec::with_capacity(alloc, pieces.len())?;
+    for piece in pieces {
+        codes.push(code_of(pairs, pair_of(*piece))?)?;
+    }
+    Ok(codes)
 }
 
 /// The codes of pieces, whose pairs go behind the earlier ones. The codes of earlier pieces stay, after an error too.
 ///
 /// # Errors
 ///
-/// - `OverflowError`: there would be more than 65,535 pairs, glyph 0 among them. Some of the new pairs are there.
+/// - `OverflowError`: there would be more than 65,535 pairs, glyph 0 among them. The pairs are as they were.
 /// - `OutOfMemory`: a request for memory was refused. Some of the new pairs may be there.
 pub fn codes_of(
     alloc: Global,
@@ -132,12 +178,10 @@ pub fn codes_of(
 ) -> Result<Vec<u16>, Error>
     ensures pairs { OnOk result (pairs.new ≡ with_pairs pairs.old pieces.now) }
     ensures codes { IfOk result (λ codes. AreCodes pairs.new pieces.now codes.items) }
+    ensures few { OnOk result (length pairs.new ≤ 65535) }
     ensures stay { KeepsCodes pairs.old pairs.new }
-    ensures err { IfErr result (λ e. (e ≡ OutOfMemory) ⊎ ((e ≡ OverflowError) × IsOverfull pairs.old pieces.now)) }
+    ensures err { IfErr result (λ e. IsUncoded pairs.old pairs.new pieces.now e) }
 {
-    let mut codes = Vec::with_capacity(alloc, pieces.len())?;
-    for piece in pieces {
-        codes.push(number_of(pairs, pair_of(*piece))?)?;
-    }
-    Ok(codes)
+    check_room(alloc, pairs, pieces)?;
+    codes_with_room(alloc, pairs, pieces)
 }

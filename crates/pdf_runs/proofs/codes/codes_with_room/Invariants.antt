@@ -2,7 +2,7 @@ use Rattle.std.proofs.Common.{◌≡◌, ◌++◌, map, drop, Some}
 use Rattle.subsetter_base.specs.Remap.{index_by}
 use Rattle.pdf_runs.specs.declared.pieces.Piece.{Piece}
 use Rattle.pdf_runs.specs.Codes.{KeepsCodes, pair_of, same, with_pairs}
-use Rattle.pdf_runs.proofs.codes.codes_of.Given as goal
+use Rattle.pdf_runs.proofs.codes.codes_with_room.Given as goal
 
 abbrev pub invariant-loop-piece : goal.invariant-loop-piece
 invariant-loop-piece l = record {
