@@ -1,4 +1,4 @@
--- What is flattened without a bound on bytes, and the tops of glyphs one after the other.
+-- What is flattened without a bound on bytes.
 use Rattle.std.proofs.Common.{◌≡◌, ℕ, List, length, None, Option, Some, Result, Ok, Err, refl, subst, inl, inr}
 use Rattle.subsetter_base.specs.declared.error.Error.{Error}
 use Rattle.subsetter_base.specs.Gives.{Gives}
