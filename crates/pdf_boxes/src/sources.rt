@@ -121,8 +121,10 @@ fn private_of<'a>(table: &Table<'a>, glyph: u16) -> Option<SIDMetadata<'a>>
     requires { IsSource table.now }
     ensures { option_map private_view result ≡ private_of (cff_of table.now) glyph }
 {
-    let number = source_number(table, glyph)?;
-    private_by(table, glyph, number)
+    match source_number(table, glyph) {
+        Some(number) => private_by(table, glyph, number),
+        None => None,
+    }
 }
 
 /// The charstring of a glyph.
