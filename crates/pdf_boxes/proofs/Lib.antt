@@ -5,6 +5,6 @@ mod Fronts
 mod Glyphs
 mod Runs
 mod Shapes
-mod Sources
 mod Turns
+mod Unbounded
 mod Walks

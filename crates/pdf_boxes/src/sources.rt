@@ -44,7 +44,7 @@ fn flat_box(flat: &[u8]) -> Result<Option<GlyphBox>, Error>
 }
 
 /// A charstring without its subroutines, of any size.
-#[tactic(auto, using(crate::proofs::Sources::unbounded))]
+#[tactic(auto, using(crate::proofs::Unbounded::unbounded))]
 fn flattened<'a>(
     alloc: Global,
     global: SubroutineHandler<'a>,
@@ -66,7 +66,7 @@ fn flat_of<'a>(
     private: SIDMetadata<'a>,
     charstring: &'a [u8],
 ) -> Result<Option<Vec<u8>>, Error>
-    ensures value { Gives (λ flat. option_map (λ v. v.items) flat) result (Ok (result_ok (flat_form (library (cff_of table.now) (private_view private)) limits.now.tokens limits.now.depth charstring.now))) }
+    ensures value { Gives (λ flat. option_map (λ v. v.items) flat) result (Ok (result_ok (flat_form (library (cff_of table.now) (private_view private.entry)) limits.now.tokens limits.now.depth charstring.now))) }
     ensures err { IfErr result (λ e. e ≡ OutOfMemory) }
 {
     let Some(own) = Limits::new(limits.tokens(), limits.depth()) else {
@@ -92,7 +92,7 @@ fn run_box<'a>(
     private: SIDMetadata<'a>,
     charstring: &'a [u8],
 ) -> Result<Option<GlyphBox>, Error>
-    ensures value { Gives (λ b. b) result (Ok (run_box (cff_of table.now) limits.now (private_view private) charstring.now)) }
+    ensures value { Gives (λ b. b) result (Ok (run_box (cff_of table.now) limits.now (private_view private.entry) charstring.now)) }
     ensures err { IfErr result (λ e. e ≡ OutOfMemory) }
 {
     match flat_of(alloc, table, limits, private, charstring)? {
@@ -121,8 +121,10 @@ fn private_of<'a>(table: &Table<'a>, glyph: u16) -> Option<SIDMetadata<'a>>
     requires { IsSource table.now }
     ensures { option_map private_view result ≡ private_of (cff_of table.now) glyph }
 {
-    let number = source_number(table, glyph)?;
-    private_by(table, glyph, number)
+    match source_number(table, glyph) {
+        Some(number) => private_by(table, glyph, number),
+        None => None,
+    }
 }
 
 /// The charstring of a glyph.
