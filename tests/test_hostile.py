@@ -6,6 +6,7 @@ import io
 import json
 import os
 import pathlib
+import struct
 import subprocess
 
 import pytest
@@ -177,6 +178,16 @@ def test_a_list_of_too_many_numbers_is_refused_while_it_is_read(room, option):
     assert not (room / "out").exists()
 
 
+@pytest.mark.parametrize("jobs", [(), ("--jobs", "3")])
+def test_the_lists_of_a_batch_have_two_million_numbers_in_sum(room, jobs):
+    many = [{"in": "in", "out": str(it), "gids": "0-9999," * 100, "quiet": True} for it in range(500)]
+    lines = [{"in": "in", "out": "first", "unicodes": "41-60,D800-DFFF", "quiet": True}, *many, {"in": "in", "out": "last", "gids": "1", "quiet": True}]
+    got = batch(lines, room, 1, jobs, preexec_fn=megabytes(900))
+    said = "the lists of all lines have more than 2000000 numbers"
+    # (the first line takes 32 of them, the second a million, and the last one)
+    assert [it.get("error") for it in got] == [None, "malformed font", *[said] * 499, None]
+
+
 def test_two_million_numbers_are_few_enough(room):
     most = "1," * 1_950_000 + "0-19," * 2500
     (room / "list").write_text(most)
@@ -214,6 +225,25 @@ def test_in_that_has_no_end_is_refused(room):
         file.truncate((1 << 30) + 1)
     got = run("long", "out", "0", "1", cwd=room, status=3, preexec_fn=megabytes(100))
     assert got.stderr == b"cannot read long\nfile too large\n"
+
+
+def test_most_input_bounds_in(room):
+    size = (room / "in").stat().st_size
+    for most, status, said in ((size - 1, 3, b"cannot read in\nfile too large\n"), (size, 0, b""), (0xffffffff, 0, b"")):
+        assert run("--most-input", most, "in", "out", "0", "1", cwd=room, status=status).stderr == said
+        got = run("--most-input", most, "-", "out", "0", "1", cwd=room, status=status, stdin=open(room / "in", "rb"))
+        assert got.stderr == said.replace(b" in", b" -")
+    with open(room / "long", "wb") as file:
+        file.truncate((1 << 30) + 1)
+    got = run("--most-input", (1 << 30) + 1, "--quiet", "long", "out", "0", "1", cwd=room, status=1)
+    assert got.stderr.startswith(b"unknown font kind\n")
+
+
+@pytest.mark.parametrize("jobs", [(), ("--jobs", "2")])
+def test_each_line_has_its_most_input(room, jobs):
+    size = (room / "in").stat().st_size
+    lines = [{"in": "in", "out": str(it), "gids": 1, "quiet": True, "most-input": most} for it, most in enumerate([size, size - 1, size, None, size - 1])]
+    assert [it.get("error") for it in batch(lines, room, 1, jobs)] == [None, "cannot read in", None, None, "cannot read in"]
 
 
 # ---- limits
@@ -271,3 +301,81 @@ def test_a_message_lists_twenty_instances(room):
     (room / "in").write_bytes(font(axes=[("wght", 100, 400, 900, "Weight")], instances=names[:20]))
     assert run("--at", "None", "in", "out", "0", "1", cwd=room, status=1).stderr.decode().endswith(f"{listed}\n")
     run("--at", "style 19", "in", "out", "0", "1", cwd=room)
+
+
+def with_tables(data, **new):
+    """A font with other tables in the place of its own."""
+    from fontTools.ttLib import TTFont, newTable
+    made = TTFont(io.BytesIO(data), lazy=True, recalcBBoxes=False)
+    for tag, content in new.items():
+        made[tag] = newTable(tag)
+        made[tag].compile = lambda font, content=content: content
+    file = io.BytesIO()
+    made.save(file)
+    return file.getvalue()
+
+
+def many_instances(count, records, text):
+    """A variable font of so many instances, each with the name 300, which is the last of so many records of Unicode."""
+    head = struct.pack(">HHHHHHHH", 1, 0, 16, 2, 1, 20, count, 8)
+    axis = struct.pack(">4siiiHH", b"wght", 100 << 16, 400 << 16, 900 << 16, 0, 256)
+    fvar = head + axis + struct.pack(">HHi", 300, 0, 500 << 16) * count
+    other = struct.pack(">HHHHHH", 0, 3, 0, 299, 2, 0) * (records - 1)
+    # (the storage begins in the records where they have no offset for it)
+    at = min(6 + 12 * records, 65535)
+    name = struct.pack(">HHH", 0, records, at) + other + struct.pack(">HHHHHH", 0, 3, 0, 300, len(text), 6 + 12 * records - at) + text
+    return with_tables(font(), fvar=fvar, name=name)
+
+
+def test_names_are_found_by_an_index(room):
+    (room / "in").write_bytes(many_instances(20000, 5000, "Bold".encode("utf-16-be")))
+    lines = run("--axes", "in", cwd=room, preexec_fn=seconds_of_processor(2)).stdout.splitlines()
+    assert lines[2:] == [b"instance wght=500 Bold"] * 20000
+    run("--at", "Bolder", "in", "out", "0", "1", cwd=room, status=1, preexec_fn=seconds_of_processor(2))
+
+
+def test_a_name_is_compared_without_its_text(room):
+    (room / "in").write_bytes(many_instances(20000, 1, "x".encode("utf-16-be") * 30000))
+    run("--at", "Bold", "in", "out", "0", "1", cwd=room, status=1, preexec_fn=seconds_of_processor(2))
+    for name, status in (("Straße É", 0), ("sTRAßE É", 0), ("Straße é", 1), ("Straße ", 1), ("Straße ÉX", 1), ("Strasse É", 1)):
+        (room / "in").write_bytes(many_instances(2, 1, "Straße É".encode("utf-16-be")))
+        run("--at", name, "in", "out", "0", "1", cwd=room, status=status)
+
+
+def long_names(glyphs, size):
+    """A font of CFF outlines whose glyphs have one name of so many bytes."""
+    from fontTools.ttLib import TTFont
+
+    def index(items):
+        ends = [1]
+        for it in items:
+            ends.append(ends[-1] + len(it))
+        return struct.pack(">HB", len(items), 4) + b"".join(struct.pack(">I", it) for it in ends) + b"".join(items)
+
+    def table(charset, outlines, private):
+        top = b"".join(b"\x1d" + struct.pack(">i", value) + operator for value, operator in ((charset, b"\x0f"), (outlines, b"\x11"), (0, b""), (private, b"\x12")))
+        front = bytes([1, 0, 4, 4]) + index([b"A"]) + index([top]) + index([b"N" * size]) + b"\0\0"
+        charset_is = b"\0" + struct.pack(">H", 391) * (glyphs - 1)
+        outlines_are = index([b"\x0e"] * glyphs)
+        return front + charset_is + outlines_are, len(front), len(front) + len(charset_is), len(front) + len(charset_is) + len(outlines_are)
+
+    cff = table(*table(0, 0, 0)[1:])[0]
+    assert len(TTFont(io.BytesIO(with_tables(cff_font(glyphs, 100), **{"CFF ": cff})))["CFF "].cff[0].CharStrings) == glyphs
+    return with_tables(cff_font(glyphs, 100), **{"CFF ": cff})
+
+
+def test_names_of_glyphs_are_written_as_they_are_found(room):
+    (room / "in").write_bytes(long_names(2000, 60000))
+    with subprocess.Popen([PROGRAM, "--json", "--gids", "*", "in", "out", "0"], cwd=room, stdout=subprocess.PIPE, preexec_fn=megabytes(60)) as ran:
+        size = sum(len(it) for it in iter(lambda: ran.stdout.read(1 << 20), b""))
+    assert ran.returncode == 0 and size > 1999 * 60000
+
+
+@pytest.mark.parametrize("jobs", [(), ("--jobs", "2")])
+def test_an_answer_of_a_batch_has_64_mib_at_most(room, jobs):
+    (room / "in").write_bytes(long_names(2000, 60000))
+    lines = [{"in": "in", "out": "a", "gids": "*"}, {"in": "in", "out": "b", "gids": "1-1000"}, {"in": "in", "out": "c", "gids": "*", "quiet": True}]
+    got = batch(lines, room, 1, jobs)
+    assert got[0] == {"line": 1, "status": 1, "error": "out of memory"} and got[2] == {"line": 3, "status": 0}
+    assert len(got[1]["glyphs"]) == 1000 and got[1]["glyphs"][0]["name"] == "N" * 60000
+    assert sorted(os.listdir(room)) == ["b", "c", "in", "requests"]

@@ -12,7 +12,7 @@ pub struct Numbering<'a> {
     /// The characters that the glyphs stand for, as far as there are any.
     pub characters: &'a [char],
     /// The names of the glyphs, as far as there are any; an empty one is none.
-    pub names: &'a [Vec<u8>],
+    pub names: &'a [&'a [u8]],
     /// The old numbers.
     pub glyphs: &'a [u16],
     /// What knows the new numbers.
@@ -35,12 +35,12 @@ pub fn take_first(characters: &[char]) -> (Option<char>, &[char])
 }
 
 /// The first name, an empty one where there is none, and the others.
-pub fn take_name(names: &[Vec<u8>]) -> (&[u8], &[Vec<u8>])
-    ensures first { result.0.now ≡ first_name (map (λ name. name.items) names.now) }
-    ensures others { map (λ name. name.items) result.1.now ≡ drop 1 (map (λ name. name.items) names.now) }
+pub fn take_name<'a>(names: &'a [&'a [u8]]) -> (&'a [u8], &'a [&'a [u8]])
+    ensures first { result.0.now ≡ first_name (map (λ name. name.now) names.now) }
+    ensures others { map (λ name. name.now) result.1.now ≡ drop 1 (map (λ name. name.now) names.now) }
 {
     match names {
         [] => (&[], names),
-        [name, others @ ..] => (name.as_slice(), others),
+        [name, others @ ..] => (name, others),
     }
 }

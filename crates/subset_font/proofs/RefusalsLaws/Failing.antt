@@ -55,13 +55,11 @@ known_of None items bytes P h b p = tt
 known_of (Some all) items bytes P h b p = subst P h (subst P b p)
 
 -- what is made of the bytes that were read is made of those that the reader had, where these are known
-pub made_of_read : (plan : Plan) (known : Option (List ℕ)) (items bytes : List ℕ) (result : Result Outcome Failure) → IfSome known (λ all. items ≡ all) → bytes ≡ items → IfOk result (IsOutcome plan bytes) → IfOk result (λ outcome. IfSome known (λ all. IsOutcome plan all outcome))
-made_of_read plan known items bytes (Ok outcome) h b m = known_of known items bytes (λ all. IsOutcome plan all outcome) h b m
-made_of_read plan known items bytes (Err e) h b m = tt
+pub made_by_known : (plan : Plan) (known : Option (List ℕ)) (items bytes : List ℕ) (outcome : Outcome) → IfSome known (λ all. items ≡ all) → bytes ≡ items → IsOutcome plan bytes outcome → IfSome known (λ all. IsOutcome plan all outcome)
+made_by_known plan known items bytes outcome h b m = known_of known items bytes (λ all. IsOutcome plan all outcome) h b m
 
-pub unmade_of_read : (plan : Plan) (known : Option (List ℕ)) (items bytes : List ℕ) (result : Result Outcome Failure) → IfSome known (λ all. items ≡ all) → bytes ≡ items → IfErr result (IsNoOutcome plan bytes) → IfErr result (IsFailureOf plan known)
-unmade_of_read plan known items bytes (Ok outcome) h b m = tt
-unmade_of_read plan known items bytes (Err e) h b m = inr (no_outcome_kind plan bytes e m, known_of known items bytes (λ all. IsNoOutcome plan all e) h b m)
+pub unmade_by_known : (plan : Plan) (known : Option (List ℕ)) (items bytes : List ℕ) (failure : Failure) → IfSome known (λ all. items ≡ all) → bytes ≡ items → IsNoOutcome plan bytes failure → IsFailureOf plan known failure
+unmade_by_known plan known items bytes failure h b m = inr (no_outcome_kind plan bytes failure m, known_of known items bytes (λ all. IsNoOutcome plan all failure) h b m)
 
 -- nothing is made of known bytes
 pub unmade : (plan : Plan) (bytes : List ℕ) (failure : Failure) → IsNoOutcome plan bytes failure → IsFailureOf plan (Some bytes) failure

@@ -11,6 +11,7 @@ use crate::plain::flush;
 use crate::text::write_text;
 use std::alloc::Global;
 use std::io::Write;
+use subsetter_base::GlyphRemapper;
 
 /// Writes the member that has a character's number, if there is a character.
 fn write_character<W: Write>(character: Option<char>, out: &mut W) -> Result<(), Unwritten>
@@ -82,16 +83,21 @@ fn write_object<W: Write>(
     write_text(b"}", out)
 }
 
-/// Writes the objects of the glyphs.
+/// Writes the objects of glyphs, by characters and names as far as there are any.
 #[tactic(auto, using(crate::proofs::Written::at_first, crate::proofs::Written::after_part, crate::proofs::Written::at_last))]
-fn write_entries<W: Write>(numbering: &Numbering<'_>, out: &mut W) -> Result<(), Unwritten>
-    ensures { OnOk result (Appends (W.contents out.old) (W.contents out.new) (objects [] numbering.now.mapper.now numbering.now.characters.now (map (λ name. name.items) numbering.now.names.now) numbering.now.glyphs.now)) }
+fn write_each<'a, W: Write>(
+    mapper: &GlyphRemapper,
+    characters: &[char],
+    names: &'a [&'a [u8]],
+    glyphs: &[u16],
+    out: &mut W,
+) -> Result<(), Unwritten>
+    ensures { OnOk result (Appends (W.contents out.old) (W.contents out.new) (objects [] mapper.now characters.now (map (λ name. name.now) names.now) glyphs.now)) }
 {
-    let mapper = numbering.mapper;
-    let mut characters = numbering.characters;
-    let mut names = numbering.names;
+    let mut characters = characters;
+    let mut names = names;
     let mut before = b"".as_slice();
-    for glyph in numbering.glyphs {
+    for glyph in glyphs {
         let (character, others) = take_first(characters);
         let (name, more) = take_name(names);
         write_object(before, character, name, *glyph, mapper.get(*glyph), out)?;
@@ -100,6 +106,19 @@ fn write_entries<W: Write>(numbering: &Numbering<'_>, out: &mut W) -> Result<(),
         before = b",".as_slice();
     }
     Ok(())
+}
+
+/// Writes the objects of the glyphs.
+fn write_entries<W: Write>(numbering: &Numbering<'_>, out: &mut W) -> Result<(), Unwritten>
+    ensures { OnOk result (Appends (W.contents out.old) (W.contents out.new) (objects [] numbering.now.mapper.now numbering.now.characters.now (map (λ name. name.now) numbering.now.names.now) numbering.now.glyphs.now)) }
+{
+    write_each(
+        numbering.mapper,
+        numbering.characters,
+        numbering.names,
+        numbering.glyphs,
+        out,
+    )
 }
 
 /// Writes the member that has the widths, unless their text is empty.
@@ -122,7 +141,7 @@ fn write_between<W: Write>(
     behind: &[u8],
     out: &mut W,
 ) -> Result<(), Unwritten>
-    ensures { OnOk result (Appends (W.contents out.old) (W.contents out.new) (front.now ++ objects [] numbering.now.mapper.now numbering.now.characters.now (map (λ name. name.items) numbering.now.names.now) numbering.now.glyphs.now ++ behind.now)) }
+    ensures { OnOk result (Appends (W.contents out.old) (W.contents out.new) (front.now ++ objects [] numbering.now.mapper.now numbering.now.characters.now (map (λ name. name.now) numbering.now.names.now) numbering.now.glyphs.now ++ behind.now)) }
 {
     write_text(front, out)?;
     write_entries(numbering, out)?;
