@@ -227,25 +227,6 @@ def test_in_that_has_no_end_is_refused(room):
     assert got.stderr == b"cannot read long\nfile too large\n"
 
 
-def test_most_input_bounds_in(room):
-    size = (room / "in").stat().st_size
-    for most, status, said in ((size - 1, 3, b"cannot read in\nfile too large\n"), (size, 0, b""), (0xffffffff, 0, b"")):
-        assert run("--most-input", most, "in", "out", "0", "1", cwd=room, status=status).stderr == said
-        got = run("--most-input", most, "-", "out", "0", "1", cwd=room, status=status, stdin=open(room / "in", "rb"))
-        assert got.stderr == said.replace(b" in", b" -")
-    with open(room / "long", "wb") as file:
-        file.truncate((1 << 30) + 1)
-    got = run("--most-input", (1 << 30) + 1, "--quiet", "long", "out", "0", "1", cwd=room, status=1)
-    assert got.stderr.startswith(b"unknown font kind\n")
-
-
-@pytest.mark.parametrize("jobs", [(), ("--jobs", "2")])
-def test_each_line_has_its_most_input(room, jobs):
-    size = (room / "in").stat().st_size
-    lines = [{"in": "in", "out": str(it), "gids": 1, "quiet": True, "most-input": most} for it, most in enumerate([size, size - 1, size, None, size - 1])]
-    assert [it.get("error") for it in batch(lines, room, 1, jobs)] == [None, "cannot read in", None, None, "cannot read in"]
-
-
 # ---- limits
 
 def cff_font(glyphs, tokens):
@@ -376,6 +357,6 @@ def test_an_answer_of_a_batch_has_64_mib_at_most(room, jobs):
     (room / "in").write_bytes(long_names(2000, 60000))
     lines = [{"in": "in", "out": "a", "gids": "*"}, {"in": "in", "out": "b", "gids": "1-1000"}, {"in": "in", "out": "c", "gids": "*", "quiet": True}]
     got = batch(lines, room, 1, jobs)
-    assert got[0] == {"line": 1, "status": 1, "error": "out of memory"} and got[2] == {"line": 3, "status": 0}
+    assert got[0] == {"line": 1, "status": 1, "error": "the answer has more than 64 MiB"} and got[2] == {"line": 3, "status": 0}
     assert len(got[1]["glyphs"]) == 1000 and got[1]["glyphs"][0]["name"] == "N" * 60000
     assert sorted(os.listdir(room)) == ["b", "c", "in", "requests"]

@@ -34,7 +34,7 @@ use Rattle.subset_font.specs.declared.batch.requests.Request.{Request}
 use Rattle.subset_font.specs.declared.batch.requests.State.{State}
 use Rattle.subset_font.specs.declared.batch.requests.State.TheVariants.{Answered}
 use Rattle.subset_font.specs.declared.refusals.failure.Failure.{Failure}
-use Rattle.subset_font.specs.declared.refusals.failure.Failure.TheVariants.{Error, NoMapping, NoInstance, NotPermitted, Usage, List as WrongList, Read, ReadList, Write, WritePdf, Output}
+use Rattle.subset_font.specs.declared.refusals.failure.Failure.TheVariants.{Error, NoMapping, NoInstance, NotPermitted, Usage, List as WrongList, Read, ReadList, Write, WritePdf, Output, LongAnswer}
 use Rattle.subset_font.specs.declared.task.Plan.{Plan}
 use Rattle.subset_font.proofs.RefusalsLaws.Failing.{unmade}
 
@@ -71,11 +71,11 @@ pub done_of : (bytes : List ℕ) (job : Job) (list : Option GlyphList) (plan : P
 done_of bytes job list plan (Ok object) page_old page_new old new p w = record { list = list; plan = plan; is_plan = p; outcome = w.outcome; is_made = w.is_made; is_printed = w.is_reported }
 done_of bytes job list plan (Err failure) page_old page_new old new p w = tt
 
-undone : (bytes : List ℕ) (job : Job) (list : Option GlyphList) (plan : Plan) (failure : Failure) → IsPlanOf job list plan → IsFailureOf plan (Some bytes) failure ⊎ ((failure ≡ WritePdf) ⊎ (failure ≡ Write)) → IsUndone bytes job failure
+undone : (bytes : List ℕ) (job : Job) (list : Option GlyphList) (plan : Plan) (failure : Failure) → IsPlanOf job list plan → IsFailureOf plan (Some bytes) failure ⊎ ((failure ≡ LongAnswer) ⊎ ((failure ≡ WritePdf) ⊎ (failure ≡ Write))) → IsUndone bytes job failure
 undone bytes job list plan failure p (inl why) = inr (inl (record { list = list; plan = plan; is_plan = p; why = why }))
 undone bytes job list plan failure p (inr unwritten) = inr (inr unwritten)
 
-pub undone_of : (bytes : List ℕ) (job : Job) (list : Option GlyphList) (plan : Plan) (result : Result (Vec ℕ Global) Failure) → IsPlanOf job list plan → IfErr result (λ e. IsFailureOf plan (Some bytes) e ⊎ ((e ≡ WritePdf) ⊎ (e ≡ Write))) → IfErr result (IsUndone bytes job)
+pub undone_of : (bytes : List ℕ) (job : Job) (list : Option GlyphList) (plan : Plan) (result : Result (Vec ℕ Global) Failure) → IsPlanOf job list plan → IfErr result (λ e. IsFailureOf plan (Some bytes) e ⊎ ((e ≡ LongAnswer) ⊎ ((e ≡ WritePdf) ⊎ (e ≡ Write)))) → IfErr result (IsUndone bytes job)
 undone_of bytes job list plan (Ok object) p why = tt
 undone_of bytes job list plan (Err failure) p why = undone bytes job list plan failure p why
 
@@ -88,7 +88,7 @@ pub all_made : (result : Result (Vec ℕ Global) Failure) (A B : Type 0) (C D : 
 all_made (Ok object) A B C D f a b c = f object a b c
 all_made (Err e) A B C D f a b c = tt
 
-pub why_made : (plan : Plan) (bytes : List ℕ) (result : Result (Vec ℕ Global) Failure) → IfErr result (λ e. (e ≡ Error OutOfMemory) ⊎ ((e ≡ WritePdf) ⊎ (e ≡ Write))) → IfErr result (λ e. IsFailureOf plan (Some bytes) e ⊎ ((e ≡ WritePdf) ⊎ (e ≡ Write)))
+pub why_made : (plan : Plan) (bytes : List ℕ) (result : Result (Vec ℕ Global) Failure) → IfErr result (λ e. (e ≡ Error OutOfMemory) ⊎ ((e ≡ LongAnswer) ⊎ ((e ≡ WritePdf) ⊎ (e ≡ Write)))) → IfErr result (λ e. IsFailureOf plan (Some bytes) e ⊎ ((e ≡ LongAnswer) ⊎ ((e ≡ WritePdf) ⊎ (e ≡ Write))))
 why_made plan bytes (Ok object) h = tt
 why_made plan bytes (Err e) (inl memory) = inl (no_memory plan bytes e memory)
 why_made plan bytes (Err e) (inr unwritten) = inr unwritten
@@ -111,6 +111,7 @@ message_is ReadList job h = refl
 message_is Write job h = refl
 message_is WritePdf job h = refl
 message_is Output job h = refl
+message_is LongAnswer job h = refl
 
 failed_answer : (bytes : List ℕ) (job : Job) (failure : Failure) (answer : Answer) → IsUndone bytes job failure → IsFailedWith (status_of failure) (message_of failure job) answer → IsAnswer bytes job answer
 failed_answer bytes job failure (Done object) why h = elim h [ ]

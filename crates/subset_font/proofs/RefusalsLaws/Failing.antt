@@ -18,7 +18,7 @@ use Rattle.subset_font.specs.declared.making.subset.Made.{Made}
 use Rattle.subset_font.specs.declared.making.outcome.Outcome.{Outcome}
 use Rattle.subset_font.specs.declared.task.Plan.{Plan}
 use Rattle.subset_font.specs.declared.refusals.failure.Failure.{Failure}
-use Rattle.subset_font.specs.declared.refusals.failure.Failure.TheVariants.{Error, NoMapping, NoInstance, NotPermitted, Usage, List as WrongList, Read, ReadList, Write, WritePdf, Output}
+use Rattle.subset_font.specs.declared.refusals.failure.Failure.TheVariants.{Error, NoMapping, NoInstance, NotPermitted, Usage, List as WrongList, Read, ReadList, Write, WritePdf, Output, LongAnswer}
 
 unasked_kind : (font : Font) (asked : RequestedGlyphs) (failure : Failure) → IsUnasked font asked failure → IsOfMaking failure
 unasked_kind font (These given) failure u = elim u [ ]
@@ -77,6 +77,7 @@ making_before ReadList h = elim h [ ]
 making_before Write h = elim h [ ]
 making_before WritePdf h = elim h [ ]
 making_before Output h = elim h [ ]
+making_before LongAnswer h = tt
 
 before : (plan : Plan) (known : Option (List ℕ)) (failure : Failure) → IsFailureOf plan known failure → IsBeforeWriting failure
 before plan known failure (inl read) = subst IsBeforeWriting (sym read) tt
@@ -103,6 +104,7 @@ IsElse ReadList = Unit {0}
 IsElse Write = Unit {0}
 IsElse WritePdf = Unit {0}
 IsElse Output = Unit {0}
+IsElse LongAnswer = Unit {0}
 
 making_else : (failure : Failure) → IsOfMaking failure → IsElse failure
 making_else (Error e) h = tt
@@ -116,6 +118,7 @@ making_else ReadList h = tt
 making_else Write h = tt
 making_else WritePdf h = tt
 making_else Output h = tt
+making_else LongAnswer h = tt
 
 carried_else : (plan : Plan) (known : Option (List ℕ)) (failure : Failure) → IsFailureOf plan known failure ⊎ ((failure ≡ WritePdf) ⊎ ((failure ≡ Write) ⊎ (failure ≡ Output))) → IsElse failure
 carried_else plan known failure (inl (inl read)) = subst IsElse (sym read) tt

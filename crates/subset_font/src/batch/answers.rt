@@ -33,6 +33,8 @@ const MOST: usize = 1 << 26;
 #[derive(Drop)]
 pub struct Object {
     text: Vec<u8>,
+    // Whether more was to be written.
+    is_long: bool,
     ghost within: { length text.items ≤ 2 ^ 26 },
 }
 
@@ -43,7 +45,13 @@ impl Object {
     {
         Object {
             text: Vec::new(alloc),
+            is_long: false,
         }
+    }
+
+    /// Whether more was to be written than it has room for.
+    pub fn is_long(&self) -> bool {
+        self.is_long
     }
 
     /// Its bytes.
@@ -51,7 +59,7 @@ impl Object {
         ensures text { result ≡ self.text }
         ensures within { length result.items ≤ 2 ^ 26 }
     {
-        let Object { text } = self;
+        let Object { text, is_long: _ } = self;
         text
     }
 }
@@ -61,7 +69,8 @@ impl Write for Object {
 
     fn write(&mut self, buf: &[u8]) -> io::Result<usize> {
         if buf.len() > MOST - self.text.len() {
-            return Err(io::Error::from(ErrorKind::OutOfMemory));
+            self.is_long = true;
+            return Err(io::Error::from(ErrorKind::FileTooLarge));
         }
         self.text.extend_from_slice(buf)?;
         Ok(buf.len())

@@ -9,7 +9,7 @@ ghost use Rattle.subset_font.specs.Refusals.Failure.{status_of};
 ghost use Rattle.subset_font.specs.Report.{report_of};
 ghost use Rattle.subset_font.specs.Batch.Answers.{IsFailedBy, IsFailedWith, IsWithinMost};
 ghost use Rattle.subset_font.specs.Batch.Making.{IsDone, IsUndone, named_text, message_of, IsAnswerTo};
-ghost use Rattle.subset_font.specs.declared.refusals.failure.Failure.TheVariants.{Error as Refused, Read as CannotRead, Write as CannotWrite, WritePdf as CannotWritePdf};
+ghost use Rattle.subset_font.specs.declared.refusals.failure.Failure.TheVariants.{Error as Refused, Read as CannotRead, Write as CannotWrite, WritePdf as CannotWritePdf, LongAnswer};
 ghost use Rattle.subsetter_base.specs.declared.error.Error.TheVariants.{OutOfMemory};
 
 use crate::batch::answers::{Answer, Object, failed};
@@ -45,11 +45,12 @@ pub fn read_source<R: Files + Input + AllocGlobal>(rt: &R, name: &str) -> Result
 fn printed(alloc: Global, outcome: &Outcome<'_>, form: Form) -> Result<Vec<u8>, Failure>
     ensures ok { IfOk result (λ object. object.items ≡ report_of form outcome.now) }
     ensures within { IfOk result (λ object. length object.items ≤ 2 ^ 26) }
-    ensures err { IfErr result (λ e. e ≡ Refused OutOfMemory) }
+    ensures err { IfErr result (λ e. (e ≡ Refused OutOfMemory) ⊎ (e ≡ LongAnswer)) }
 {
     let mut object = Object::new(alloc);
     match write_numbers(outcome, form, &mut object) {
         Ok(()) => Ok(object.into_text()),
+        Err(_) if object.is_long() => Err(Failure::LongAnswer),
         Err(_) => Err(Failure::Error(Error::OutOfMemory)),
     }
 }
@@ -85,7 +86,7 @@ fn carry_made<P: Write, W: Write>(
     ensures page_kept { IfErr result (λ e. IsBeforeWriting e → page.new ≡ page.old) }
     ensures output_kept { IfErr result (λ e. IsBeforeWriting e → output.new ≡ output.old) }
     ensures no_font { IsErrOf result Failure.WritePdf → output.new ≡ output.old }
-    ensures err { IfErr result (λ e. (e ≡ Refused OutOfMemory) ⊎ ((e ≡ CannotWritePdf) ⊎ (e ≡ CannotWrite))) }
+    ensures err { IfErr result (λ e. (e ≡ Refused OutOfMemory) ⊎ ((e ≡ LongAnswer) ⊎ ((e ≡ CannotWritePdf) ⊎ (e ≡ CannotWrite)))) }
 {
     let object = printed(alloc, outcome, form)?;
     match write_files(outcome, page, output) {
@@ -98,7 +99,7 @@ fn carry_made<P: Write, W: Write>(
 /// requested, and its subset to another. What is answered and written is what `carry_out` prints and writes between a reader
 /// of these bytes and three writers.
 ///
-/// It fails as `carry_out` does, and as for want of memory where more than 64 MiB would be printed.
+/// It fails as `carry_out` does, and by `LongAnswer`, before anything is written, where more than 64 MiB would be printed.
 pub fn carry_answer<P: Write, W: Write>(
     alloc: Global,
     font: &[u8],
@@ -114,7 +115,7 @@ pub fn carry_answer<P: Write, W: Write>(
     // The font isn't written before the whole PDF.
     ensures no_font { IsErrOf result Failure.WritePdf → output.new ≡ output.old }
     // Why nothing is written.
-    ensures err { IfErr result (λ e. IsFailureOf plan.now (Some font.now) e ⊎ ((e ≡ CannotWritePdf) ⊎ (e ≡ CannotWrite))) }
+    ensures err { IfErr result (λ e. IsFailureOf plan.now (Some font.now) e ⊎ ((e ≡ LongAnswer) ⊎ ((e ≡ CannotWritePdf) ⊎ (e ≡ CannotWrite)))) }
 {
     match make_planned(alloc, font, plan) {
         Ok(outcome) => carry_made(alloc, &outcome, plan.task.form, page, output),

@@ -7,6 +7,7 @@ use crate::proved::subset_lines::entry::{take_first, take_name, Numbering, Unwri
 use crate::proved::subset_lines::objects::quoted::write_shown;
 use crate::proved::subset_lines::plain::flush;
 use crate::proved::subset_lines::text::write_text;
+use crate::proved::subsetter_base::GlyphRemapper;
 use crate::rattle::alloc::Global;
 use crate::rattle::io::Write;
 
@@ -73,13 +74,18 @@ fn write_object<W: Write>(
     write_text(b"}", out)
 }
 
-/// Writes the objects of the glyphs.
-fn write_entries<W: Write>(numbering: &Numbering<'_>, out: &mut W) -> Result<(), Unwritten> {
-    let mapper = numbering.mapper;
-    let mut characters = numbering.characters;
-    let mut names = numbering.names;
+/// Writes the objects of glyphs, by characters and names as far as there are any.
+fn write_each<'a, W: Write>(
+    mapper: &GlyphRemapper,
+    characters: &[char],
+    names: &'a [&'a [u8]],
+    glyphs: &[u16],
+    out: &mut W,
+) -> Result<(), Unwritten> {
+    let mut characters = characters;
+    let mut names = names;
     let mut before = b"".as_slice();
-    for glyph in numbering.glyphs {
+    for glyph in glyphs {
         let (character, others) = take_first(characters);
         let (name, more) = take_name(names);
         write_object(before, character, name, *glyph, mapper.get(*glyph), out)?;
@@ -88,6 +94,17 @@ fn write_entries<W: Write>(numbering: &Numbering<'_>, out: &mut W) -> Result<(),
         before = b",".as_slice();
     }
     Ok(())
+}
+
+/// Writes the objects of the glyphs.
+fn write_entries<W: Write>(numbering: &Numbering<'_>, out: &mut W) -> Result<(), Unwritten> {
+    write_each(
+        numbering.mapper,
+        numbering.characters,
+        numbering.names,
+        numbering.glyphs,
+        out,
+    )
 }
 
 /// Writes the member that has the widths, unless their text is empty.
