@@ -1,7 +1,6 @@
 //! What is printed.
 
-ghost use Rattle.std.specs.Prelude.{◌≡◌, drop, map};
-ghost use Rattle.subset_lines.specs.Text.{first_name};
+ghost use Rattle.std.specs.Prelude.{◌≡◌, [], drop, map, get_or};
 ghost use Rattle.subsetter_base.specs.Bytes.{first_number};
 
 use subsetter_base::GlyphRemapper;
@@ -34,13 +33,12 @@ pub fn take_first(characters: &[char]) -> (Option<char>, &[char])
     }
 }
 
-/// The first name, an empty one where there is none, and the others.
-pub fn take_name<'a>(names: &'a [&'a [u8]]) -> (&'a [u8], &'a [&'a [u8]])
-    ensures first { result.0.now ≡ first_name (map (λ name. name.now) names.now) }
-    ensures others { map (λ name. name.now) result.1.now ≡ drop 1 (map (λ name. name.now) names.now) }
+/// The name at an index, an empty one where there is none.
+pub fn name_at<'a>(names: &[&'a [u8]], index: usize) -> &'a [u8]
+    ensures { result.now ≡ get_or (map (λ name. name.now) names.now) index [] }
 {
-    match names {
-        [] => (&[], names),
-        [name, others @ ..] => (name, others),
+    match names.get(index) {
+        Some(name) => name,
+        None => &[],
     }
 }

@@ -1,7 +1,9 @@
 -- A name is compared with a text character by character.
-use Rattle.std.proofs.Common.{◌≡◌, ℕ, List, [], ◌∷◌, ◌++◌, ◌+◌, ◌*◌, Bool, true, false, ◌&&◌, if◌then◌else◌, ◌==◌, Option, Some, None, refl, sym, ap, ◌∙◌}
+use Rattle.std.proofs.Common.{◌≡◌, ℕ, List, [], ◌∷◌, ◌++◌, ◌+◌, ◌*◌, Bool, true, false, ◌&&◌, if◌then◌else◌, ◌==◌, Option, Some, None, refl, sym, ap, ◌∙◌, cc}
 use Rattle.std.specs.Char.{to_ascii_lowercase, encode_utf8}
-use Rattle.std.specs.Option.{option_map_or}
+use Rattle.std.specs.Option.{option_map_or, option_eq}
+use Rattle.std.specs.Prelude.{nat_eq}
+use Rattle.std.proofs.lemmas.Bool.{eqb-true}
 use Rattle.subsetter_base.specs.Bytes.{number}
 use Rattle.subset_lines.specs.Faces.Names.{text_of_units, character_of, name_of}
 use Rattle.subset_font.specs.Faces.Named.{is_same_name, behind_same, is_name_of, has_name}
@@ -28,6 +30,14 @@ pub same_not : (high low : ℕ) (more front left : List ℕ) (total : Bool) → 
 same_not high low more front left total f h t =
     sym (ap (λ (o : Option (List ℕ)). option_map_or (is_same_name (text_of_units more)) o false) h) ∙ (sym (compared high low more front left f) ∙ t)
 
--- the name of one number is another, too
-pub known_other : (names name bytes : List ℕ) (other : Option ℕ) → number bytes 0 2 ≡ other → is_name_of name (name_of names other) ≡ false → false ≡ has_name names name bytes
-known_other names name bytes other same is = sym (ap (λ (id : Option ℕ). is_name_of name (name_of names id)) same ∙ is)
+same_number : (one other : Option ℕ) → option_eq nat_eq one other ≡ true → one ≡ other
+same_number None None h = refl
+same_number None (Some n) h = absurd (let both : false ≡ true = h in cc)
+same_number (Some m) None h = absurd (let both : false ≡ true = h in cc)
+same_number (Some m) (Some n) h = ap (λ (k : ℕ). Some k) (eqb-true m n h)
+
+-- the name of a number is known to be another
+pub known_other : (names name bytes : List ℕ) (id other : Option ℕ) (same : Bool) → id ≡ number bytes 0 2 → same ≡ option_eq nat_eq id other → same ≡ true → is_name_of name (name_of names other) ≡ false → false ≡ has_name names name bytes
+known_other names name bytes id other same read is true_is not =
+    let equal : number bytes 0 2 ≡ other = sym read ∙ same_number id other (sym is ∙ true_is) in
+    sym (ap (λ (n : Option ℕ). is_name_of name (name_of names n)) equal ∙ not)

@@ -5,7 +5,7 @@ ghost use Rattle.std.specs.Io.KnownBytes.{Appends};
 ghost use Rattle.subset_lines.specs.Objects.Json.{character_member, number_or_null, name_member, object_of, objects, widths_member, glyphs_member, json_of, numbers_from, array_of};
 ghost use Rattle.subset_lines.specs.View.{numbers_view};
 
-use crate::entry::{Numbering, Unwritten, take_first, take_name};
+use crate::entry::{Numbering, Unwritten, name_at, take_first};
 use crate::objects::quoted::write_shown;
 use crate::plain::flush;
 use crate::text::write_text;
@@ -85,24 +85,22 @@ fn write_object<W: Write>(
 
 /// Writes the objects of glyphs, by characters and names as far as there are any.
 #[tactic(auto, using(crate::proofs::Written::at_first, crate::proofs::Written::after_part, crate::proofs::Written::at_last))]
-fn write_each<'a, W: Write>(
+fn write_each<W: Write>(
     mapper: &GlyphRemapper,
     characters: &[char],
-    names: &'a [&'a [u8]],
+    names: &[&[u8]],
     glyphs: &[u16],
     out: &mut W,
 ) -> Result<(), Unwritten>
     ensures { OnOk result (Appends (W.contents out.old) (W.contents out.new) (objects [] mapper.now characters.now (map (λ name. name.now) names.now) glyphs.now)) }
 {
     let mut characters = characters;
-    let mut names = names;
     let mut before = b"".as_slice();
-    for glyph in glyphs {
+    for index in 0..glyphs.len() {
         let (character, others) = take_first(characters);
-        let (name, more) = take_name(names);
-        write_object(before, character, name, *glyph, mapper.get(*glyph), out)?;
+        let (name, glyph) = (name_at(names, index), glyphs[index]);
+        write_object(before, character, name, glyph, mapper.get(glyph), out)?;
         characters = others;
-        names = more;
         before = b",".as_slice();
     }
     Ok(())

@@ -28,10 +28,10 @@ pub fn take_first(characters: &[char]) -> (Option<char>, &[char]) {
     }
 }
 
-/// The first name, an empty one where there is none, and the others.
-pub fn take_name<'a>(names: &'a [&'a [u8]]) -> (&'a [u8], &'a [&'a [u8]]) {
-    match names {
-        [] => (&[], names),
-        [name, others @ ..] => (name, others),
+/// The first of the names from an index on, an empty one where there is none.
+pub fn name_at<'a>(names: &[&'a [u8]], index: usize) -> &'a [u8] {
+    match names.get(index) {
+        Some(name) => name,
+        None => &[],
     }
 }

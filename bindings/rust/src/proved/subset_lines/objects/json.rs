@@ -3,7 +3,7 @@
 
 use crate::rattle::prelude::Vec;
 
-use crate::proved::subset_lines::entry::{take_first, take_name, Numbering, Unwritten};
+use crate::proved::subset_lines::entry::{name_at, take_first, Numbering, Unwritten};
 use crate::proved::subset_lines::objects::quoted::write_shown;
 use crate::proved::subset_lines::plain::flush;
 use crate::proved::subset_lines::text::write_text;
@@ -75,22 +75,20 @@ fn write_object<W: Write>(
 }
 
 /// Writes the objects of glyphs, by characters and names as far as there are any.
-fn write_each<'a, W: Write>(
+fn write_each<W: Write>(
     mapper: &GlyphRemapper,
     characters: &[char],
-    names: &'a [&'a [u8]],
+    names: &[&[u8]],
     glyphs: &[u16],
     out: &mut W,
 ) -> Result<(), Unwritten> {
     let mut characters = characters;
-    let mut names = names;
     let mut before = b"".as_slice();
-    for glyph in glyphs {
+    for index in 0..glyphs.len() {
         let (character, others) = take_first(characters);
-        let (name, more) = take_name(names);
-        write_object(before, character, name, *glyph, mapper.get(*glyph), out)?;
+        let (name, glyph) = (name_at(names, index), glyphs[index]);
+        write_object(before, character, name, glyph, mapper.get(glyph), out)?;
         characters = others;
-        names = more;
         before = b",".as_slice();
     }
     Ok(())

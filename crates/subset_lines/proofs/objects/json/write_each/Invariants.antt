@@ -3,5 +3,5 @@ use Rattle.subset_lines.specs.Objects.Json.{objects}
 use Rattle.subset_lines.proofs.Written.{Reaches}
 use Rattle.subset_lines.proofs.objects.json.write_each.Given as goal
 
-abbrev pub invariant-loop-glyph : goal.invariant-loop-glyph
-invariant-loop-glyph g l = Reaches (g.W.Write.contents l.fn.out) (g.W.Write.contents l.out) (objects l.before l.mapper l.characters (map (λ name. name.now) l.names) (drop l.glyph-index l.glyphs)) (objects [] l.fn.mapper l.fn.characters (map (λ name. name.now) l.fn.names) l.fn.glyphs)
+abbrev pub invariant-loop-index : goal.invariant-loop-index
+invariant-loop-index g l = Reaches (g.W.Write.contents l.fn.out) (g.W.Write.contents l.out) (objects l.before l.mapper l.characters (drop l.index (map (λ name. name.now) l.names)) (drop l.index l.glyphs)) (objects [] l.mapper l.fn.characters (map (λ name. name.now) l.names) l.glyphs)
