@@ -3,7 +3,7 @@
 Each family is made at half its size, at its size and at twice that (--short halves these): what takes a call, or a run of the program, of a processor, and
 what does it hold at most? A family fails where from half to twice the size the time, or the bytes held, for each byte of input and answer grow by more than
 GROWTH, where it takes more than SECONDS and 20 microseconds for each byte, or holds more than HELD and 64 bytes for each byte, and where it doesn't end. The
-families of BOUND run as many tokens or steps as the limits let them, or are known to grow; these have to end.
+families of BOUND run as many tokens or steps as the limits let them; these have to end.
 """
 import json
 import os
@@ -18,8 +18,8 @@ from made import number, u16s, u32s
 GROWTH, LEAST_SECONDS, LEAST_HELD = 2.5, 0.03, 2 ** 26
 SECONDS, HELD, ENDLESS = 2, 2 ** 28, 60
 LIMITS = "1000000,64,67108864"
-# What these cost goes by tokens or steps; that of the last two is quadratic still (docs/EVIDENCE.md).
-BOUND = {"tree of subroutines", "numbers of five bytes", "masks of stems", "one outline of composites", "instances of one long name", "instances and records of names"}
+# What these cost goes by tokens or steps.
+BOUND = {"tree of subroutines", "numbers of five bytes", "masks of stems", "one outline of composites"}
 
 
 # ---- what fonts are made of

@@ -6,10 +6,13 @@ import io
 import json
 import os
 import pathlib
+import struct
 import subprocess
 
 import pytest
 from fontTools.fontBuilder import FontBuilder
+from fontTools.ttLib import TTFont
+from fontTools.ttLib.tables.DefaultTable import DefaultTable
 from fontTools.ttLib.tables._g_l_y_f import Glyph
 
 ROOT = pathlib.Path(__file__).resolve().parent.parent
@@ -177,6 +180,16 @@ def test_a_list_of_too_many_numbers_is_refused_while_it_is_read(room, option):
     assert not (room / "out").exists()
 
 
+@pytest.mark.parametrize("jobs", [(), ("--jobs", "3")])
+def test_the_lists_of_a_batch_have_two_million_numbers_in_sum(room, jobs):
+    many = [{"in": "in", "out": str(it), "gids": "0-9999," * 100, "quiet": True} for it in range(500)]
+    lines = [{"in": "in", "out": "first", "unicodes": "41-60,D800-DFFF", "quiet": True}, *many, {"in": "in", "out": "last", "gids": "1", "quiet": True}]
+    got = batch(lines, room, 1, jobs, preexec_fn=megabytes(900))
+    said = "the lists of all lines have more than 2000000 numbers"
+    # (the first line takes 32 of them, the second a million, and the last one)
+    assert [it.get("error") for it in got] == [None, "malformed font", *[said] * 499, None]
+
+
 def test_two_million_numbers_are_few_enough(room):
     most = "1," * 1_950_000 + "0-19," * 2500
     (room / "list").write_text(most)
@@ -271,3 +284,46 @@ def test_a_message_lists_twenty_instances(room):
     (room / "in").write_bytes(font(axes=[("wght", 100, 400, 900, "Weight")], instances=names[:20]))
     assert run("--at", "None", "in", "out", "0", "1", cwd=room, status=1).stderr.decode().endswith(f"{listed}\n")
     run("--at", "style 19", "in", "out", "0", "1", cwd=room)
+
+
+def with_tables(data, **new):
+    """A font with other tables in the place of its own."""
+    made = TTFont(io.BytesIO(data))
+    for tag, content in new.items():
+        made[tag] = DefaultTable(tag)
+        made[tag].data = content
+    file = io.BytesIO()
+    made.save(file)
+    return file.getvalue()
+
+
+def many_instances(count, records, text):
+    """A variable font of so many instances, each with the name 300, which is the last of so many records of Unicode."""
+    axis = struct.pack(">4siiiHH", b"wght", 100 << 16, 400 << 16, 900 << 16, 0, 256)
+    fvar = struct.pack(">HHHHHHHH", 1, 0, 16, 2, 1, 20, count, 8) + axis + struct.pack(">HHi", 300, 0, 500 << 16) * count
+    heads = struct.pack(">HHHHHH", 0, 3, 0, 299, 2, 0) * (records - 1) + struct.pack(">HHHHHH", 0, 3, 0, 300, len(text), 0)
+    return with_tables(font(), fvar=fvar, name=struct.pack(">HHH", 0, records, 6 + 12 * records) + heads + text)
+
+
+def test_names_are_found_by_an_index_and_compared_without_a_text(room):
+    (room / "in").write_bytes(many_instances(20000, 5000, "Bold".encode("utf-16-be")))
+    lines = run("--axes", "in", cwd=room, preexec_fn=seconds_of_processor(2)).stdout.splitlines()
+    assert lines[2:] == [b"instance wght=500 Bold"] * 20000
+    (room / "in").write_bytes(many_instances(20000, 1, "x".encode("utf-16-be") * 30000))
+    for name in ("Bold", "x" * 30001):
+        run("--at", name, "in", "out", "0", "1", cwd=room, status=1, preexec_fn=seconds_of_processor(2))
+    (room / "in").write_bytes(many_instances(2, 1, "Stra\u00dfe \u00c9".encode("utf-16-be")))
+    for name, status in (("Stra\u00dfe \u00c9", 0), ("sTRA\u00dfE \u00c9", 0), ("Stra\u00dfe \u00e9", 1), ("Stra\u00dfe ", 1), ("Stra\u00dfe \u00c9X", 1), ("Strasse \u00c9", 1)):
+        run("--at", name, "in", "out", "0", "1", cwd=room, status=status)
+
+
+@pytest.mark.parametrize("jobs", [(), ("--jobs", "2")])
+def test_long_names_of_glyphs_are_written_as_they_are_found_but_64_mib_of_an_answer(room, jobs):
+    post = struct.pack(">I28xH", 0x20000, 20) + struct.pack(">H", 258) * 20 + b"\xff" + b"N" * 255
+    (room / "in").write_bytes(with_tables(font(), post=post))
+    many, few = "1-19," * 14000, "1-19," * 12000
+    said = json.loads(run("--json", "--gids", many, "in", "out", "0", cwd=room, preexec_fn=megabytes(60)).stdout)
+    assert len(said["glyphs"]) == 19 * 14000 and said["glyphs"][-1]["name"] == "N" * 255
+    got = batch([{"in": "in", "out": "a", "gids": many}, {"in": "in", "out": "b", "gids": few}, {"in": "in", "out": "c", "gids": many, "quiet": True}], room, 1, jobs)
+    assert got[0] == {"line": 1, "status": 1, "error": "the answer has more than 64 MiB"} and got[2] == {"line": 3, "status": 0}
+    assert len(got[1]["glyphs"]) == 19 * 12000 and not (room / "a").exists() and (room / "b").exists()

@@ -52,19 +52,19 @@ fn name_of<'a>(post: &'a [u8], cff: &[u8], sources: &Sources<'a>, glyph: u16) ->
 }
 
 /// The names of glyphs, by the tables `post` and `CFF ` of their font, each of no bytes where the font hasn't got it: the name
-/// in `post`, or else the one in `CFF `. A name is empty where neither has one.
-pub fn glyph_names(
+/// in `post`, or else the one in `CFF `. A name is empty where neither has one. None is copied.
+pub fn glyph_names<'a>(
     alloc: Global,
-    post: &[u8],
-    cff: &[u8],
+    post: &'a [u8],
+    cff: &'a [u8],
     glyphs: &[u16],
-) -> Result<Vec<Vec<u8>>, AllocError>
-    ensures { IfOk result (λ v. map (λ name. name.items) v.items ≡ map (glyph_name post.now cff.now) glyphs.now) }
+) -> Result<Vec<&'a [u8]>, AllocError>
+    ensures { IfOk result (λ v. map (λ name. name.now) v.items ≡ map (glyph_name post.now cff.now) glyphs.now) }
 {
     let sources = read_sources(alloc, post, cff)?;
     let mut names = Vec::new(alloc);
     for glyph in glyphs {
-        names.push(Vec::from_slice(alloc, name_of(post, cff, &sources, *glyph))?)?;
+        names.push(name_of(post, cff, &sources, *glyph))?;
     }
     Ok(names)
 }

@@ -1,5 +1,5 @@
 -- The answers of a batch, and the requests of the lines so far.
-use Rattle.std.proofs.Common.{◌≡◌, ◌⊎◌, inl, inr, Bool, true, false, ◌||◌, cond, ℕ, ◌-◌, ◌≤◌, List, [], ◌∷◌, ◌++◌, Option, Some, None, Result, Ok, Err, refl, sym, ap, subst, ◌∙◌, append_assoc, append-nil, length, get_or, take, drop, arith}
+use Rattle.std.proofs.Common.{◌≡◌, ◌⊎◌, inl, inr, Bool, true, false, ◌||◌, cond, ℕ, ◌+◌, ◌-◌, ◌≤◌, ◌<◌, List, [], ◌∷◌, ◌++◌, Option, Some, None, Result, Ok, Err, refl, sym, ap, subst, ◌∙◌, append_assoc, append-nil, length, get_or, take, drop, arith}
 use Rattle.std.proofs.lemmas.List.{take_rest}
 use Rattle.std.specs.Prelude.{IfOk, IfErr, Vec, String, is_some, map, string_bytes}
 use Rattle.std.specs.Global.{Global}
@@ -15,13 +15,13 @@ use Rattle.subset_batch.specs.Reading.{Fault, request_of}
 use Rattle.subset_batch.specs.View.{line_view, lines_view}
 use Rattle.subset_batch.specs.declared.lines.Line.{Line}
 use Rattle.subsetter_base.specs.declared.error.Error.TheVariants.{OutOfMemory}
-use Rattle.subset_font.specs.Batch.Answers.{IsFailedWith}
+use Rattle.subset_font.specs.Batch.Answers.{IsFailedBy, IsFailedWith, IsWithinMost}
 use Rattle.subset_font.specs.Batch.Making.{IsDone, IsUndone, named_text, message_of, IsAnswer, IsAnswerTo}
 use Rattle.subset_font.specs.Batch.Orders.{is_given_stream, order_by, order_of, words_in, IsNoOrder}
 use Rattle.std.specs.HashMap.{HashMap, get_by_text}
 use Rattle.std.specs.Map.{update}
 use Rattle.std.specs.Str.{bytes_eq}
-use Rattle.subset_font.specs.Batch.Requests.{writes_if, is_written, AreNames, IsBegun, AddsLine, AreBegun, none, one_more}
+use Rattle.subset_font.specs.Batch.Requests.{writes_if, is_written, is_named_before, numbers_by, numbers_if, numbers_in, left_behind, AreNames, IsFirst, IsTooLong, IsBegun, AddsLine, AreBegun, none, one_more}
 use Rattle.subset_font.specs.Chosen.{IsPlanOf}
 use Rattle.subset_font.specs.Files.{list_name, name_by}
 use Rattle.subset_font.specs.Making.Carried.{IsBeforeWriting, IsFailureOf, WritesAll}
@@ -32,8 +32,9 @@ use Rattle.subset_font.specs.declared.batch.answers.Answer.TheVariants.{Done, Fa
 use Rattle.subset_font.specs.declared.batch.requests.Batch.{Batch}
 use Rattle.subset_font.specs.declared.batch.requests.Request.{Request}
 use Rattle.subset_font.specs.declared.batch.requests.State.{State}
+use Rattle.subset_font.specs.declared.batch.requests.State.TheVariants.{Answered}
 use Rattle.subset_font.specs.declared.refusals.failure.Failure.{Failure}
-use Rattle.subset_font.specs.declared.refusals.failure.Failure.TheVariants.{Error, NoMapping, NoInstance, NotPermitted, Usage, List as WrongList, Read, ReadList, Write, WritePdf, Output}
+use Rattle.subset_font.specs.declared.refusals.failure.Failure.TheVariants.{Error, NoMapping, NoInstance, NotPermitted, Usage, List as WrongList, Read, ReadList, Write, WritePdf, Output, LongAnswer}
 use Rattle.subset_font.specs.declared.task.Plan.{Plan}
 use Rattle.subset_font.proofs.RefusalsLaws.Failing.{unmade}
 
@@ -70,11 +71,11 @@ pub done_of : (bytes : List ℕ) (job : Job) (list : Option GlyphList) (plan : P
 done_of bytes job list plan (Ok object) page_old page_new old new p w = record { list = list; plan = plan; is_plan = p; outcome = w.outcome; is_made = w.is_made; is_printed = w.is_reported }
 done_of bytes job list plan (Err failure) page_old page_new old new p w = tt
 
-undone : (bytes : List ℕ) (job : Job) (list : Option GlyphList) (plan : Plan) (failure : Failure) → IsPlanOf job list plan → IsFailureOf plan (Some bytes) failure ⊎ ((failure ≡ WritePdf) ⊎ (failure ≡ Write)) → IsUndone bytes job failure
+undone : (bytes : List ℕ) (job : Job) (list : Option GlyphList) (plan : Plan) (failure : Failure) → IsPlanOf job list plan → IsFailureOf plan (Some bytes) failure ⊎ ((failure ≡ LongAnswer) ⊎ ((failure ≡ WritePdf) ⊎ (failure ≡ Write))) → IsUndone bytes job failure
 undone bytes job list plan failure p (inl why) = inr (inl (record { list = list; plan = plan; is_plan = p; why = why }))
 undone bytes job list plan failure p (inr unwritten) = inr (inr unwritten)
 
-pub undone_of : (bytes : List ℕ) (job : Job) (list : Option GlyphList) (plan : Plan) (result : Result (Vec ℕ Global) Failure) → IsPlanOf job list plan → IfErr result (λ e. IsFailureOf plan (Some bytes) e ⊎ ((e ≡ WritePdf) ⊎ (e ≡ Write))) → IfErr result (IsUndone bytes job)
+pub undone_of : (bytes : List ℕ) (job : Job) (list : Option GlyphList) (plan : Plan) (result : Result (Vec ℕ Global) Failure) → IsPlanOf job list plan → IfErr result (λ e. IsFailureOf plan (Some bytes) e ⊎ ((e ≡ LongAnswer) ⊎ ((e ≡ WritePdf) ⊎ (e ≡ Write)))) → IfErr result (IsUndone bytes job)
 undone_of bytes job list plan (Ok object) p why = tt
 undone_of bytes job list plan (Err failure) p why = undone bytes job list plan failure p why
 
@@ -87,7 +88,7 @@ pub all_made : (result : Result (Vec ℕ Global) Failure) (A B : Type 0) (C D : 
 all_made (Ok object) A B C D f a b c = f object a b c
 all_made (Err e) A B C D f a b c = tt
 
-pub why_made : (plan : Plan) (bytes : List ℕ) (result : Result (Vec ℕ Global) Failure) → IfErr result (λ e. (e ≡ Error OutOfMemory) ⊎ ((e ≡ WritePdf) ⊎ (e ≡ Write))) → IfErr result (λ e. IsFailureOf plan (Some bytes) e ⊎ ((e ≡ WritePdf) ⊎ (e ≡ Write)))
+pub why_made : (plan : Plan) (bytes : List ℕ) (result : Result (Vec ℕ Global) Failure) → IfErr result (λ e. (e ≡ Error OutOfMemory) ⊎ ((e ≡ LongAnswer) ⊎ ((e ≡ WritePdf) ⊎ (e ≡ Write)))) → IfErr result (λ e. IsFailureOf plan (Some bytes) e ⊎ ((e ≡ LongAnswer) ⊎ ((e ≡ WritePdf) ⊎ (e ≡ Write))))
 why_made plan bytes (Ok object) h = tt
 why_made plan bytes (Err e) (inl memory) = inl (no_memory plan bytes e memory)
 why_made plan bytes (Err e) (inr unwritten) = inr unwritten
@@ -110,6 +111,7 @@ message_is ReadList job h = refl
 message_is Write job h = refl
 message_is WritePdf job h = refl
 message_is Output job h = refl
+message_is LongAnswer job h = refl
 
 failed_answer : (bytes : List ℕ) (job : Job) (failure : Failure) (answer : Answer) → IsUndone bytes job failure → IsFailedWith (status_of failure) (message_of failure job) answer → IsAnswer bytes job answer
 failed_answer bytes job failure (Done object) why h = elim h [ ]
@@ -118,6 +120,17 @@ failed_answer bytes job failure NoMemory why h = tt
 
 pub failed_answer_to : (source : Result (Vec ℕ Global) Failure) (font : Vec ℕ Global) (bytes : List ℕ) (job : Job) (failure : Failure) (answer : Answer) → source ≡ Ok font → bytes ≡ font.items → IsUndone bytes job failure → IsFailedWith (status_of failure) (message_of failure job) answer → IsAnswerTo source job answer
 failed_answer_to source font bytes job failure answer is value why h = subst (λ (source : Result (Vec ℕ Global) Failure). IsAnswerTo source job answer) (sym is) (failed_answer font.items job failure answer (subst (λ (bytes : List ℕ). IsUndone bytes job failure) value why) h)
+
+-- a request that failed is answered by no object
+pub failed_within : (status : ℕ) (why : List ℕ) (answer : Answer) → IsFailedWith status why answer → IsWithinMost answer
+failed_within status why (Done object) h = elim h [ ]
+failed_within status why (Failed given text) h = tt
+failed_within status why NoMemory h = tt
+
+pub refused_within : (status : ℕ) (answer : Answer) → IsFailedBy status answer → IsWithinMost answer
+refused_within status (Done object) h = elim h [ ]
+refused_within status (Failed given text) h = tt
+refused_within status NoMemory h = tt
 
 -- ---- requests
 
@@ -143,6 +156,31 @@ one_more_name old new key name same sets q = ap is_some (sets q) ∙ (some_or (b
 -- the names of all are those of the last one and those before
 pub named_last : {S : Type 0} (requests : List Request) (r : Request) (old new : HashMap (String Global) (Unit {0}) S) → AreNames requests old → ((name : List ℕ) → is_some (get_by_text new name) ≡ (writes_if r.job name || is_some (get_by_text old name))) → AreNames (requests ++ r ∷ []) new
 named_last requests r old new before added = λ (name : List ℕ). added name ∙ (ap (λ (b : Bool). writes_if r.job name || b) (before name) ∙ sym (written_last requests r name))
+
+-- how many more numbers lists may have behind the last request
+numbers_last : (requests : List Request) (r : Request) → numbers_in (requests ++ r ∷ []) ≡ numbers_in requests + numbers_if r.job
+numbers_last [] r = omega arith
+numbers_last (first ∷ requests) r =
+    let more = numbers_last requests r in
+    omega (arith, more)
+
+pub left_last : (requests : List Request) (r : Request) (left after : ℕ) → left ≡ left_behind requests → after ≡ left - numbers_if r.job → after ≡ left_behind (requests ++ r ∷ [])
+left_last requests r left after before is =
+    let all = numbers_last requests r in
+    omega (arith, all, before, is)
+
+-- a line behind others: nothing is requested, too many numbers, or few enough
+pub begun_by_nothing : (before : List Request) (line : List ℕ) (answer : Answer) → IsNoOrder (order_of line) answer → IsBegun before line None (Answered answer)
+begun_by_nothing before line answer h = inl h
+
+pub begun_too_long : (before : List Request) (line : List ℕ) (job : Job) (left numbers : ℕ) (answer : Answer) → order_of line ≡ Some (job_view job) → left ≡ left_behind before → numbers ≡ numbers_by job.glyphs → left < numbers → IsFailedBy 2 answer → IsBegun before line None (Answered answer)
+begun_too_long before line job left numbers answer is l n more refused =
+    let long : left_behind before < numbers_by job.glyphs = subst (λ (k : ℕ). left_behind before < k) n (subst (λ (k : ℕ). k < numbers) l more) in
+    inr (record { job = job; is_requested = is; is_too_long = long; is_refused = refused })
+
+pub begun_few : (before : List Request) (line : List ℕ) (job : Job) (left numbers : ℕ) (state : State) → order_of line ≡ Some (job_view job) → left ≡ left_behind before → numbers ≡ numbers_by job.glyphs → numbers ≤ left → IsFirst (is_named_before before job) state → IsBegun before line (Some job) state
+begun_few before line job left numbers state is l n few first =
+    (is, (subst (λ (k : ℕ). k ≤ left_behind before) n (subst (λ (k : ℕ). numbers ≤ k) l few), first))
 
 pub adds_line : (line : ℕ × List ℕ) (old new : Batch) (job : Option Job) (state : State) → IsBegun old.requests.items line.1 job state → new.requests.items ≡ old.requests.items ++ (record { line = line.0; job = job }) ∷ [] → new.states.items ≡ old.states.items ++ state ∷ [] → AddsLine line old new
 adds_line line old new job state begun requests states = record { job = job; state = state; is_begun = begun; requests = requests; states = states }

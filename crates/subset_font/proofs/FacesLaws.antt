@@ -1,3 +1,4 @@
 -- What the font that is read has: its directory, its tables, its axes and its characters.
 pub mod Directory
 pub mod Showing
+pub mod Naming

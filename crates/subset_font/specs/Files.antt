@@ -8,7 +8,7 @@ use Rattle.subset_args.specs.declared.jobs.command.Glyphs.{Glyphs}
 use Rattle.subset_args.specs.declared.jobs.command.Glyphs.TheVariants.{Listed, Characters, InFile, ByText, Every}
 use Rattle.subset_args.specs.declared.jobs.command.Job.{Job}
 use Rattle.subset_font.specs.declared.refusals.failure.Failure.{Failure}
-use Rattle.subset_font.specs.declared.refusals.failure.Failure.TheVariants.{Error, NoMapping, NoInstance, NotPermitted, Usage, List as WrongList, Read, ReadList, Write, WritePdf, Output}
+use Rattle.subset_font.specs.declared.refusals.failure.Failure.TheVariants.{Error, NoMapping, NoInstance, NotPermitted, Usage, List as WrongList, Read, ReadList, Write, WritePdf, Output, LongAnswer}
 
 -- the name of the PDF's file
 abbrev pub pdf_name : Job → Option (List ℕ)
@@ -39,6 +39,7 @@ name_by ReadList job = list_name job.glyphs
 name_by Write job = output_name job
 name_by WritePdf job = pdf_name job
 name_by Output job = None
+name_by LongAnswer job = None
 
 abbrev pub failed_name : Result (Unit {0}) Failure → Job → Option (List ℕ)
 failed_name (Ok done) job = None
@@ -69,6 +70,7 @@ IsReasonBy ReadList kept reason = reason ≡ None
 IsReasonBy Write kept reason = reason ≡ kept.output
 IsReasonBy WritePdf kept reason = reason ≡ kept.page
 IsReasonBy Output kept reason = reason ≡ kept.lines
+IsReasonBy LongAnswer kept reason = reason ≡ None
 
 abbrev pub IsReason : Result (Unit {0}) Failure → Kept → Option IoError → Type 0
 IsReason (Ok done) kept reason = reason ≡ None

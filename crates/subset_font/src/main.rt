@@ -22,7 +22,8 @@ mod task;
 pub use batch::making::{answer_apart, answer_of, carry_answer, read_source};
 pub use batch::orders::order_of;
 pub use batch::requests::{
-    Batch, Request, State, add_names, due, due_of, first_state, next_of_source, set_answer,
+    Batch, MOST_NUMBERS, Request, State, due, due_of, next_of_source, numbers_of, push_order,
+    set_answer,
 };
 pub use batch::running::{
     AnswerLines, batch_or_status, read_lines, refuse_memory, status_of_batch,

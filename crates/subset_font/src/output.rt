@@ -17,7 +17,7 @@ use subset_pdf::Sheet;
 ///
 /// `WritePdf` where the first writer fails, `Write` where the second does, and `Output` where the third does.
 pub fn emit<P: Write, W: Write, L: Write>(
-    outcome: &Outcome,
+    outcome: &Outcome<'_>,
     form: Form,
     page: &mut P,
     output: &mut W,
@@ -65,7 +65,11 @@ pub fn write_font<W: Write>(font: &[u8], output: &mut W) -> Result<(), Failure>
 }
 
 /// Writes the new numbers.
-pub fn write_numbers<L: Write>(outcome: &Outcome, form: Form, lines: &mut L) -> Result<(), Failure>
+pub fn write_numbers<L: Write>(
+    outcome: &Outcome<'_>,
+    form: Form,
+    lines: &mut L,
+) -> Result<(), Failure>
     ensures bytes { OnOk result (Appends (L.contents lines.old) (L.contents lines.new) (report_of form outcome.now)) }
     ensures err { IfErr result (λ e. e ≡ Output) }
 {

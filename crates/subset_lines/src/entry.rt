@@ -1,7 +1,6 @@
 //! What is printed.
 
-ghost use Rattle.std.specs.Prelude.{◌≡◌, drop, map};
-ghost use Rattle.subset_lines.specs.Text.{first_name};
+ghost use Rattle.std.specs.Prelude.{◌≡◌, [], drop, map, get_or};
 ghost use Rattle.subsetter_base.specs.Bytes.{first_number};
 
 use subsetter_base::GlyphRemapper;
@@ -12,7 +11,7 @@ pub struct Numbering<'a> {
     /// The characters that the glyphs stand for, as far as there are any.
     pub characters: &'a [char],
     /// The names of the glyphs, as far as there are any; an empty one is none.
-    pub names: &'a [Vec<u8>],
+    pub names: &'a [&'a [u8]],
     /// The old numbers.
     pub glyphs: &'a [u16],
     /// What knows the new numbers.
@@ -34,13 +33,12 @@ pub fn take_first(characters: &[char]) -> (Option<char>, &[char])
     }
 }
 
-/// The first name, an empty one where there is none, and the others.
-pub fn take_name(names: &[Vec<u8>]) -> (&[u8], &[Vec<u8>])
-    ensures first { result.0.now ≡ first_name (map (λ name. name.items) names.now) }
-    ensures others { map (λ name. name.items) result.1.now ≡ drop 1 (map (λ name. name.items) names.now) }
+/// The name at an index, an empty one where there is none.
+pub fn name_at<'a>(names: &[&'a [u8]], index: usize) -> &'a [u8]
+    ensures { result.now ≡ get_or (map (λ name. name.now) names.now) index [] }
 {
-    match names {
-        [] => (&[], names),
-        [name, others @ ..] => (name.as_slice(), others),
+    match names.get(index) {
+        Some(name) => name,
+        None => &[],
     }
 }

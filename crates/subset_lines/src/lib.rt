@@ -19,10 +19,11 @@ mod plain;
 mod text;
 
 pub use entry::{Numbering, Unwritten, take_first};
-pub use faces::axes::{FontAxes, name_of, read_axes, write_axes};
+pub use faces::axes::{FontAxes, read_axes, write_axes};
 pub use faces::info::face::Info;
 pub use faces::info::json::write_info_json;
 pub use faces::info::lines::write_info;
+pub use faces::names::{NameTable, encoded};
 pub use faces::outlines::Outlines;
 pub use faces::sizes::{TableSize, size_lines};
 pub use notes::{Note, note_lines};

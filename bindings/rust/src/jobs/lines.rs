@@ -2,7 +2,7 @@
 //! calls that find it without threads, so that the requests are the same for each N.
 
 use crate::proved::subset_batch::{lines_of, Line};
-use crate::proved::subset_font::{add_names, first_state, order_of, Batch, Request, State};
+use crate::proved::subset_font::{numbers_of, order_of, push_order, Batch, MOST_NUMBERS};
 use crate::rattle::alloc::{AllocError, Global};
 use crate::rattle::collections::HashMap;
 use crate::rattle::prelude;
@@ -17,36 +17,30 @@ const AT_ONCE: usize = 16;
 /// The requests of a file, and how far each is, found in so many threads.
 pub fn requests_in(alloc: Global, file: &[u8], count: usize) -> Result<Batch, AllocError> {
     let lines = lines_of(alloc, file)?;
-    let orders = in_threads(&lines, count, |line: &Line<'_>| order_of(alloc, line.bytes));
-    let mut requests = prelude::Vec::with_capacity(alloc, lines.len())?;
-    let mut states = prelude::Vec::with_capacity(alloc, lines.len())?;
-    for (line, order) in lines.iter().zip(orders) {
-        let (job, state) = match order {
-            Ok(job) => (Some(job), State::Due),
-            Err(answer) => (None, State::Answered(answer)),
-        };
-        let line = line.number;
-        requests.push(Request { line, job })?;
-        states.push(state)?;
-    }
-    find_named_twice(alloc, &requests, &mut states)?;
-    Ok(Batch { requests, states })
-}
-
-/// Sets how far each request is that isn't wrong: it is to be done, unless one before writes its OUT or PDF, too.
-fn find_named_twice(
-    alloc: Global,
-    requests: &[Request],
-    states: &mut [State],
-) -> Result<(), AllocError> {
-    let mut names = HashMap::new(alloc);
-    for (index, (request, state)) in requests.iter().zip(states).enumerate() {
-        if let Some(job) = &request.job {
-            *state = first_state(alloc, &requests[..index], &names, job);
-            add_names(alloc, &mut names, job)?;
+    let kept = AtomicUsize::new(0);
+    // Lists that may be too long in sum aren't kept.
+    let read = |line: &Line<'_>| {
+        let order = order_of(alloc, line.bytes);
+        let numbers = order.as_ref().map_or(0, numbers_of);
+        let before = kept.fetch_add(numbers, Ordering::Relaxed);
+        if numbers > 0 && before + numbers > MOST_NUMBERS {
+            kept.fetch_sub(numbers, Ordering::Relaxed);
+            return None;
         }
+        Some(order)
+    };
+    let orders = in_threads(&lines, count, read);
+    let mut batch = Batch {
+        requests: prelude::Vec::with_capacity(alloc, lines.len())?,
+        states: prelude::Vec::with_capacity(alloc, lines.len())?,
+    };
+    let mut names = HashMap::new(alloc);
+    let mut left = MOST_NUMBERS;
+    for (line, order) in lines.iter().zip(orders) {
+        let order = order.unwrap_or_else(|| order_of(alloc, line.bytes));
+        push_order(alloc, &mut batch, &mut names, &mut left, *line, order)?;
     }
-    Ok(())
+    Ok(batch)
 }
 
 /// What a call makes of each item, in the order of the items. So many threads, of which this is one, take some

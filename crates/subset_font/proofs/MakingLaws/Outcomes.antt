@@ -15,7 +15,7 @@ use Rattle.subset_font.specs.declared.refusals.failure.Failure.{Failure}
 use Rattle.subset_font.specs.declared.refusals.failure.Failure.TheVariants.{Error, NoInstance}
 
 module _ (plan : Plan) (bytes : List ℕ) where
-  pub outcome_of : (task : Task) → IsTaskOfPlan plan bytes task → (made : Made) → IsMade task bytes made → (r : Result Outcome Failure) → IfOk r (λ o. o.made ≡ made) → IfOk r (λ o. IsSheetIf plan.pdf task bytes made o.sheet) → IfOk r (λ o. o.more.items ≡ more_text plan bytes made o.sheet) → IfOk r (λ o. map (λ name. name.items) o.names.items ≡ names_for plan bytes made.picked.glyphs.items) → IfOk r (IsOutcome plan bytes)
+  pub outcome_of : (task : Task) → IsTaskOfPlan plan bytes task → (made : Made) → IsMade task bytes made → (r : Result Outcome Failure) → IfOk r (λ o. o.made ≡ made) → IfOk r (λ o. IsSheetIf plan.pdf task bytes made o.sheet) → IfOk r (λ o. o.more.items ≡ more_text plan bytes made o.sheet) → IfOk r (λ o. map (λ name. name.now) o.names.items ≡ names_for plan bytes made.picked.glyphs.items) → IfOk r (IsOutcome plan bytes)
   outcome_of task placed made is (Ok o) kept sheet more names = record {
     task = task;
     is_placed = placed;

@@ -18,7 +18,7 @@ use Rattle.subset_font.specs.declared.making.subset.Made.{Made}
 use Rattle.subset_font.specs.declared.making.outcome.Outcome.{Outcome}
 use Rattle.subset_font.specs.declared.task.Plan.{Plan}
 use Rattle.subset_font.specs.declared.refusals.failure.Failure.{Failure}
-use Rattle.subset_font.specs.declared.refusals.failure.Failure.TheVariants.{Error, NoMapping, NoInstance, NotPermitted, Usage, List as WrongList, Read, ReadList, Write, WritePdf, Output}
+use Rattle.subset_font.specs.declared.refusals.failure.Failure.TheVariants.{Error, NoMapping, NoInstance, NotPermitted, Usage, List as WrongList, Read, ReadList, Write, WritePdf, Output, LongAnswer}
 
 unasked_kind : (font : Font) (asked : RequestedGlyphs) (failure : Failure) → IsUnasked font asked failure → IsOfMaking failure
 unasked_kind font (These given) failure u = elim u [ ]
@@ -55,13 +55,11 @@ known_of None items bytes P h b p = tt
 known_of (Some all) items bytes P h b p = subst P h (subst P b p)
 
 -- what is made of the bytes that were read is made of those that the reader had, where these are known
-pub made_of_read : (plan : Plan) (known : Option (List ℕ)) (items bytes : List ℕ) (result : Result Outcome Failure) → IfSome known (λ all. items ≡ all) → bytes ≡ items → IfOk result (IsOutcome plan bytes) → IfOk result (λ outcome. IfSome known (λ all. IsOutcome plan all outcome))
-made_of_read plan known items bytes (Ok outcome) h b m = known_of known items bytes (λ all. IsOutcome plan all outcome) h b m
-made_of_read plan known items bytes (Err e) h b m = tt
+pub made_by_known : (plan : Plan) (known : Option (List ℕ)) (items bytes : List ℕ) (outcome : Outcome) → IfSome known (λ all. items ≡ all) → bytes ≡ items → IsOutcome plan bytes outcome → IfSome known (λ all. IsOutcome plan all outcome)
+made_by_known plan known items bytes outcome h b m = known_of known items bytes (λ all. IsOutcome plan all outcome) h b m
 
-pub unmade_of_read : (plan : Plan) (known : Option (List ℕ)) (items bytes : List ℕ) (result : Result Outcome Failure) → IfSome known (λ all. items ≡ all) → bytes ≡ items → IfErr result (IsNoOutcome plan bytes) → IfErr result (IsFailureOf plan known)
-unmade_of_read plan known items bytes (Ok outcome) h b m = tt
-unmade_of_read plan known items bytes (Err e) h b m = inr (no_outcome_kind plan bytes e m, known_of known items bytes (λ all. IsNoOutcome plan all e) h b m)
+pub unmade_by_known : (plan : Plan) (known : Option (List ℕ)) (items bytes : List ℕ) (failure : Failure) → IfSome known (λ all. items ≡ all) → bytes ≡ items → IsNoOutcome plan bytes failure → IsFailureOf plan known failure
+unmade_by_known plan known items bytes failure h b m = inr (no_outcome_kind plan bytes failure m, known_of known items bytes (λ all. IsNoOutcome plan all failure) h b m)
 
 -- nothing is made of known bytes
 pub unmade : (plan : Plan) (bytes : List ℕ) (failure : Failure) → IsNoOutcome plan bytes failure → IsFailureOf plan (Some bytes) failure
@@ -79,6 +77,7 @@ making_before ReadList h = elim h [ ]
 making_before Write h = elim h [ ]
 making_before WritePdf h = elim h [ ]
 making_before Output h = elim h [ ]
+making_before LongAnswer h = tt
 
 before : (plan : Plan) (known : Option (List ℕ)) (failure : Failure) → IsFailureOf plan known failure → IsBeforeWriting failure
 before plan known failure (inl read) = subst IsBeforeWriting (sym read) tt
@@ -105,6 +104,7 @@ IsElse ReadList = Unit {0}
 IsElse Write = Unit {0}
 IsElse WritePdf = Unit {0}
 IsElse Output = Unit {0}
+IsElse LongAnswer = Unit {0}
 
 making_else : (failure : Failure) → IsOfMaking failure → IsElse failure
 making_else (Error e) h = tt
@@ -118,6 +118,7 @@ making_else ReadList h = tt
 making_else Write h = tt
 making_else WritePdf h = tt
 making_else Output h = tt
+making_else LongAnswer h = tt
 
 carried_else : (plan : Plan) (known : Option (List ℕ)) (failure : Failure) → IsFailureOf plan known failure ⊎ ((failure ≡ WritePdf) ⊎ ((failure ≡ Write) ⊎ (failure ≡ Output))) → IsElse failure
 carried_else plan known failure (inl (inl read)) = subst IsElse (sym read) tt

@@ -1,5 +1,5 @@
 -- The answers to the requests of a batch, and their lines.
-use Rattle.std.specs.Prelude.{◌≡◌, ℕ, Bool, true, false, List, codes, string_bytes}
+use Rattle.std.specs.Prelude.{◌≡◌, ◌≤◌, ◌^◌, length, ℕ, Bool, true, false, List, codes, string_bytes}
 use Rattle.subset_batch.specs.Answers.{done_line, failed_line}
 use Rattle.subset_font.specs.declared.batch.answers.Answer.{Answer}
 use Rattle.subset_font.specs.declared.batch.answers.Answer.TheVariants.{Done, Failed, NoMemory}
@@ -26,3 +26,9 @@ abbrev pub IsFailedWith : ℕ → List ℕ → Answer → Type 0
 IsFailedWith status why (Done object) = ⊥
 IsFailedWith status why (Failed given text) = (given ≡ status) × (string_bytes text ≡ why)
 IsFailedWith status why NoMemory = Unit {0}
+
+-- an object that is answered has 64 MiB at most
+abbrev pub IsWithinMost : Answer → Type 0
+IsWithinMost (Done object) = length object.items ≤ 2 ^ 26
+IsWithinMost (Failed status text) = Unit {0}
+IsWithinMost NoMemory = Unit {0}

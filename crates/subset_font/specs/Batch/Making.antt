@@ -16,7 +16,7 @@ use Rattle.subset_font.specs.Batch.Answers.{IsFailedWith}
 use Rattle.subset_font.specs.declared.task.Plan.{Plan}
 use Rattle.subset_font.specs.declared.making.outcome.Outcome.{Outcome}
 use Rattle.subset_font.specs.declared.refusals.failure.Failure.{Failure}
-use Rattle.subset_font.specs.declared.refusals.failure.Failure.TheVariants.{Error, NoMapping, NoInstance, NotPermitted, Usage, List as WrongList, Read, ReadList, Write, WritePdf, Output}
+use Rattle.subset_font.specs.declared.refusals.failure.Failure.TheVariants.{Error, NoMapping, NoInstance, NotPermitted, Usage, List as WrongList, Read, ReadList, Write, WritePdf, Output, LongAnswer}
 use Rattle.subset_font.specs.declared.batch.answers.Answer.{Answer}
 use Rattle.subset_font.specs.declared.batch.answers.Answer.TheVariants.{Done, Failed, NoMemory}
 
@@ -38,9 +38,9 @@ pub record IsRefusedJob (bytes : List ℕ) (job : Job) (failure : Failure) : Typ
   pub is_plan : IsPlanOf job list plan
   pub why : IsFailureOf plan (Some bytes) failure
 
--- or it has no list of glyphs, or a file can't be written
+-- or it has no list of glyphs, or more than 64 MiB would be answered, or a file can't be written
 abbrev pub IsUndone : List ℕ → Job → Failure → Type 0
-IsUndone bytes job failure = IsUnlisted failure ⊎ (IsRefusedJob bytes job failure ⊎ ((failure ≡ WritePdf) ⊎ (failure ≡ Write)))
+IsUndone bytes job failure = IsUnlisted failure ⊎ (IsRefusedJob bytes job failure ⊎ ((failure ≡ LongAnswer) ⊎ ((failure ≡ WritePdf) ⊎ (failure ≡ Write))))
 
 -- ---- the answer
 
@@ -62,6 +62,7 @@ message_of ReadList job = named_text (failure_text ReadList) (name_by ReadList j
 message_of Write job = named_text (failure_text Write) (name_by Write job)
 message_of WritePdf job = named_text (failure_text WritePdf) (name_by WritePdf job)
 message_of Output job = failure_text Output
+message_of LongAnswer job = failure_text LongAnswer
 
 pub record HasFailed (bytes : List ℕ) (job : Job) (status : ℕ) (text : List ℕ) : Type 0 where
   pub failure : Failure

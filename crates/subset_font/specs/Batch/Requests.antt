@@ -1,9 +1,11 @@
 -- The requests of a batch, and how far each is.
-use Rattle.std.specs.Prelude.{◌≡◌, ℕ, Bool, true, false, ◌||◌, if◌then◌else◌, List, [], ◌∷◌, ◌++◌, Option, Some, None, String, is_some, slice_get, string_bytes}
+use Rattle.std.specs.Prelude.{◌≡◌, ◌⊎◌, ◌≤◌, ◌<◌, ◌+◌, ◌-◌, length, ℕ, Bool, true, false, ◌||◌, if◌then◌else◌, List, [], ◌∷◌, ◌++◌, Option, Some, None, String, is_some, slice_get, string_bytes}
 use Rattle.std.specs.Global.{Global}
 use Rattle.std.specs.HashMap.{HashMap, get_by_text}
 use Rattle.std.specs.Str.{bytes_eq}
 use Rattle.subset_args.specs.View.{job_view}
+use Rattle.subset_args.specs.declared.jobs.command.Glyphs.{Glyphs}
+use Rattle.subset_args.specs.declared.jobs.command.Glyphs.TheVariants.{Listed, Characters, InFile, ByText, Every}
 use Rattle.subset_args.specs.declared.jobs.command.Job.{Job}
 use Rattle.subset_font.specs.Files.{output_name, pdf_name}
 use Rattle.subset_font.specs.Batch.Answers.{IsFailedBy}
@@ -45,6 +47,29 @@ is_named_before before job = is_written_if before (output_name job) || is_writte
 abbrev pub AreNames : {S : Type 0} → List Request → HashMap (String Global) (Unit {0}) S → Type 0
 AreNames requests names = (name : List ℕ) → is_some (get_by_text names name) ≡ is_written requests name
 
+-- ---- lists of numbers
+
+-- how many numbers the list of a request has
+abbrev pub numbers_by : Glyphs → ℕ
+numbers_by (Listed glyphs) = length glyphs.items
+numbers_by (Characters found) = length found.items
+numbers_by (InFile kind name) = 0
+numbers_by (ByText text) = 0
+numbers_by Every = 0
+
+abbrev pub numbers_if : Option Job → ℕ
+numbers_if None = 0
+numbers_if (Some job) = numbers_by job.glyphs
+
+-- and those of all
+abbrev pub numbers_in : List Request → ℕ
+numbers_in [] = 0
+numbers_in (r ∷ requests) = numbers_if r.job + numbers_in requests
+
+-- how many more a request may have behind others
+abbrev pub left_behind : List Request → ℕ
+left_behind before = 2000000 - numbers_in before
+
 -- ---- how far requests are before anything is made
 
 -- a request is to be done, unless one before writes its file, too
@@ -53,10 +78,17 @@ IsFirst named Due = named ≡ false
 IsFirst named (Answered answer) = (named ≡ true) × IsFailedBy 2 answer
 IsFirst named Written = ⊥
 
+-- a line requests more numbers than the lists of all may have
+pub record IsTooLong (before : List Request) (line : List ℕ) (answer : Answer) : Type 0 where
+  pub job : Job
+  pub is_requested : order_of line ≡ Some (job_view job)
+  pub is_too_long : left_behind before < numbers_by job.glyphs
+  pub is_refused : IsFailedBy 2 answer
+
 -- the request of a line behind others
 abbrev pub IsBegun : List Request → List ℕ → Option Job → State → Type 0
-IsBegun before line (Some job) state = (order_of line ≡ Some (job_view job)) × IsFirst (is_named_before before job) state
-IsBegun before line None (Answered answer) = IsNoOrder (order_of line) answer
+IsBegun before line (Some job) state = (order_of line ≡ Some (job_view job)) × ((numbers_by job.glyphs ≤ left_behind before) × IsFirst (is_named_before before job) state)
+IsBegun before line None (Answered answer) = IsNoOrder (order_of line) answer ⊎ IsTooLong before line answer
 IsBegun before line None Due = ⊥
 IsBegun before line None Written = ⊥
 

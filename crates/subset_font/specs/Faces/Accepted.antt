@@ -18,7 +18,7 @@ use Rattle.subset_font.specs.declared.task.RequestedGlyphs.TheVariants.{These, E
 use Rattle.subset_font.specs.declared.task.Task.{Task}
 use Rattle.subset_font.specs.declared.making.subset.Made.{Made}
 use Rattle.subset_font.specs.declared.refusals.failure.Failure.{Failure}
-use Rattle.subset_font.specs.declared.refusals.failure.Failure.TheVariants.{Error, NoMapping, NoInstance, NotPermitted, Usage, List as WrongList, Read, ReadList, Write, WritePdf, Output}
+use Rattle.subset_font.specs.declared.refusals.failure.Failure.TheVariants.{Error, NoMapping, NoInstance, NotPermitted, Usage, List as WrongList, Read, ReadList, Write, WritePdf, Output, LongAnswer}
 
 -- its task: the font as it is given, with all extras, within limits, and without widths
 abbrev pub IsPlain : ℕ → Limits → RequestedGlyphs → Task → Type 0
@@ -79,6 +79,7 @@ is_of_memory ReadList = false
 is_of_memory Write = false
 is_of_memory WritePdf = false
 is_of_memory Output = false
+is_of_memory LongAnswer = false
 
 -- the text of the failure, and what is known of its cause
 pub record IsRefusedAs (font : Font) (refusal : List ℕ) (reason : Option (List ℕ)) : Type 0 where

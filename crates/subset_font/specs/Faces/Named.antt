@@ -17,6 +17,12 @@ use Rattle.subset_font.specs.Faces.Tables.{bytes_or_none}
 abbrev pub is_same_name : List ℕ → List ℕ → Bool
 is_same_name one other = bytes_eq (map to_ascii_lowercase one) (map to_ascii_lowercase other)
 
+-- what a name has behind a text, if it begins so but for the case
+abbrev pub behind_same : List ℕ → List ℕ → Option (List ℕ)
+behind_same [] name = Some name
+behind_same (a ∷ text) [] = None
+behind_same (a ∷ text) (b ∷ name) = if to_ascii_lowercase a == to_ascii_lowercase b then behind_same text name else None
+
 abbrev pub is_name_of : List ℕ → Option (List ℕ) → Bool
 is_name_of name None = false
 is_name_of name (Some units) = is_same_name (text_of_units units) name

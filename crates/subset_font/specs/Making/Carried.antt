@@ -7,7 +7,7 @@ use Rattle.subset_font.specs.Report.{report_of}
 use Rattle.subset_font.specs.declared.task.Plan.{Plan}
 use Rattle.subset_font.specs.declared.making.outcome.Outcome.{Outcome}
 use Rattle.subset_font.specs.declared.refusals.failure.Failure.{Failure}
-use Rattle.subset_font.specs.declared.refusals.failure.Failure.TheVariants.{Error, NoMapping, NoInstance, NotPermitted, Usage, List as WrongList, Read, ReadList, Write, WritePdf, Output}
+use Rattle.subset_font.specs.declared.refusals.failure.Failure.TheVariants.{Error, NoMapping, NoInstance, NotPermitted, Usage, List as WrongList, Read, ReadList, Write, WritePdf, Output, LongAnswer}
 
 -- a font was written: what the plan makes of the bytes that were read, where these are known
 pub record WritesFont (plan : Plan) (source old new : Option (List ℕ)) : Type 0 where
@@ -36,6 +36,7 @@ IsOfMaking ReadList = ⊥
 IsOfMaking Write = ⊥
 IsOfMaking WritePdf = ⊥
 IsOfMaking Output = ⊥
+IsOfMaking LongAnswer = ⊥
 
 -- why nothing is made: the reader failed, or what was read is refused
 abbrev pub IsFailureOf : Plan → Option (List ℕ) → Failure → Type 0
@@ -54,3 +55,4 @@ IsBeforeWriting ReadList = Unit {0}
 IsBeforeWriting Write = ⊥
 IsBeforeWriting WritePdf = ⊥
 IsBeforeWriting Output = ⊥
+IsBeforeWriting LongAnswer = Unit {0}

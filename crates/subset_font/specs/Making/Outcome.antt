@@ -75,7 +75,7 @@ pub record IsOutcome (plan : Plan) (bytes : List ℕ) (outcome : Outcome) : Type
   -- with the PDF, if one is requested
   pub sheet_is : IsSheetIf plan.pdf task bytes outcome.made outcome.sheet
   pub more_is : outcome.more.items ≡ more_text plan bytes outcome.made outcome.sheet
-  pub names_are : map (λ name. name.items) outcome.names.items ≡ names_for plan bytes outcome.made.picked.glyphs.items
+  pub names_are : map (λ name. name.now) outcome.names.items ≡ names_for plan bytes outcome.made.picked.glyphs.items
 
 -- the font has no such instance, or its `fvar` can't be read
 pub record IsUnplaced (plan : Plan) (bytes : List ℕ) (failure : Failure) : Type 0 where

@@ -1,7 +1,7 @@
 -- How a run of the program ends that has no subset.
 use Rattle.std.specs.Prelude.{ℕ, Result, Ok, Err}
 use Rattle.subset_font.specs.declared.refusals.failure.Failure.{Failure}
-use Rattle.subset_font.specs.declared.refusals.failure.Failure.TheVariants.{Error, NoMapping, NoInstance, NotPermitted, Usage, List, Read, ReadList, Write, WritePdf, Output}
+use Rattle.subset_font.specs.declared.refusals.failure.Failure.TheVariants.{Error, NoMapping, NoInstance, NotPermitted, Usage, List, Read, ReadList, Write, WritePdf, Output, LongAnswer}
 
 -- 1 for a refusal, 2 for wrong arguments, 3 for a file that failed
 abbrev pub status_of : Failure → ℕ
@@ -16,6 +16,7 @@ status_of ReadList = 3
 status_of Write = 3
 status_of WritePdf = 3
 status_of Output = 3
+status_of LongAnswer = 1
 
 -- 0 where all is done, else the failure's status
 abbrev pub status_of_end : Result (Unit {0}) Failure → ℕ

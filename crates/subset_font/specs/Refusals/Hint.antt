@@ -22,7 +22,7 @@ use Rattle.subset_font.specs.declared.task.Task.{Task}
 use Rattle.pdf_values.specs.Permission.{is_usable}
 use Rattle.pdf_values.specs.declared.permission.Permission.{Permission}
 use Rattle.subset_font.specs.declared.refusals.failure.Failure.{Failure}
-use Rattle.subset_font.specs.declared.refusals.failure.Failure.TheVariants.{Error, NoMapping, NoInstance, NotPermitted, Usage, List as WrongList, Read, ReadList, Write, WritePdf, Output}
+use Rattle.subset_font.specs.declared.refusals.failure.Failure.TheVariants.{Error, NoMapping, NoInstance, NotPermitted, Usage, List as WrongList, Read, ReadList, Write, WritePdf, Output, LongAnswer}
 use Rattle.subset_font.specs.declared.refusals.hint.text.Hint.{Hint}
 use Rattle.subset_font.specs.declared.refusals.hint.text.Hint.TheVariants.{NoGlyph, NoEntries, Descends, Outside, Cff2, NoUnicode, WrongAxes, NoAxes, NoOutlines, NoMetrics, FewMetrics, Forbidden}
 
@@ -216,6 +216,7 @@ axes_hint ReadList bytes index = None
 axes_hint Write bytes index = None
 axes_hint WritePdf bytes index = None
 axes_hint Output bytes index = None
+axes_hint LongAnswer bytes index = None
 
 -- the bit of fsType (OpenType, "OS/2") that forbids to embed a subset: restricted, no subsetting, or bitmaps alone
 abbrev pub forbidden_bit : Permission → ℕ
@@ -234,3 +235,4 @@ hint_of ReadList task bytes = None
 hint_of Write task bytes = None
 hint_of WritePdf task bytes = None
 hint_of Output task bytes = None
+hint_of LongAnswer task bytes = None

@@ -3,7 +3,7 @@ use Rattle.std.specs.Prelude.{ℕ, ◌-◌, ◌==◌, if◌then◌else◌, List,
 use Rattle.subsetter_base.specs.Texts.{error_text, tag_text}
 use Rattle.subsetter_base.specs.declared.tag.Tag.{Tag}
 use Rattle.subset_font.specs.declared.refusals.failure.Failure.{Failure}
-use Rattle.subset_font.specs.declared.refusals.failure.Failure.TheVariants.{Error, NoMapping, NoInstance, NotPermitted, Usage, List as WrongList, Read, ReadList, Write, WritePdf, Output}
+use Rattle.subset_font.specs.declared.refusals.failure.Failure.TheVariants.{Error, NoMapping, NoInstance, NotPermitted, Usage, List as WrongList, Read, ReadList, Write, WritePdf, Output, LongAnswer}
 use Rattle.subset_font.specs.declared.refusals.hint.text.Hint.{Hint}
 use Rattle.subset_font.specs.declared.refusals.hint.text.Hint.TheVariants.{Woff, Woff2, NotFont, Empty, NoFace, NoHeader, CutDirectory, Cut, NoOutlines, NoGlyph, NoTable, NoEntries, Descends, Outside, Cff2, NoUnicode, WrongAxes, NoAxes, NoMetrics, FewMetrics, MoreBytes, LittleLimits, GivenLimits, Forbidden}
 
@@ -19,6 +19,7 @@ failure_text ReadList = codes "cannot read"
 failure_text Write = codes "cannot write"
 failure_text WritePdf = codes "cannot write"
 failure_text Output = codes "cannot write standard output"
+failure_text LongAnswer = codes "the answer has more than 64 MiB"
 
 -- a number between two texts
 abbrev pub between : List ℕ → ℕ → List ℕ → List ℕ

@@ -1,11 +1,12 @@
 //! What is answered to a request of a batch.
 
-ghost use Rattle.std.specs.Prelude.{◌≡◌, OnOk};
+ghost use Rattle.std.specs.Prelude.{◌≡◌, ◌≤◌, ◌^◌, [], length, Some, OnOk};
 ghost use Rattle.std.specs.Io.KnownBytes.{Appends};
 ghost use Rattle.subset_font.specs.Batch.Answers.{answer_line, has_failed, IsFailedBy};
 
-use std::alloc::AllocError;
-use std::io::Write;
+use std::alloc::{AllocError, Global};
+use std::io;
+use std::io::{ErrorKind, Write};
 use subset_batch::{write_done, write_failed};
 use subset_lines::Unwritten;
 
@@ -24,6 +25,61 @@ pub enum Answer {
 const NO_MEMORY_STATUS: u8 = 1;
 
 const NO_MEMORY: &str = "out of memory";
+
+/// The most bytes of an object that is answered.
+const MOST: usize = 1 << 26;
+
+/// An object that is written, of 64 MiB at most.
+#[derive(Drop)]
+pub struct Object {
+    text: Vec<u8>,
+    // Whether more was to be written.
+    is_long: bool,
+    ghost within: { length text.items ≤ 2 ^ 26 },
+}
+
+impl Object {
+    /// One without bytes.
+    pub fn new(alloc: Global) -> Self
+        ensures { result.text.items ≡ [] }
+    {
+        Object {
+            text: Vec::new(alloc),
+            is_long: false,
+        }
+    }
+
+    /// Whether more was to be written than it has room for.
+    pub fn is_long(&self) -> bool {
+        self.is_long
+    }
+
+    /// Its bytes.
+    pub fn into_text(self) -> Vec<u8>
+        ensures text { result ≡ self.text }
+        ensures within { length result.items ≤ 2 ^ 26 }
+    {
+        let Object { text, is_long: _ } = self;
+        text
+    }
+}
+
+impl Write for Object {
+    ghost contents = { λ object. Some object.text.items };
+
+    fn write(&mut self, buf: &[u8]) -> io::Result<usize> {
+        if buf.len() > MOST - self.text.len() {
+            self.is_long = true;
+            return Err(io::Error::from(ErrorKind::FileTooLarge));
+        }
+        self.text.extend_from_slice(buf)?;
+        Ok(buf.len())
+    }
+
+    fn flush(&mut self) -> io::Result<()> {
+        Ok(())
+    }
+}
 
 /// The answer to a request that failed, by a text that memory may not have sufficed for.
 pub fn failed(status: u8, text: Result<String, AllocError>) -> Answer

@@ -1,18 +1,18 @@
 //! What a request of a batch makes of its source.
 
-ghost use Rattle.std.specs.Prelude.{◌≡◌, ◌⊎◌, Some, [], OnOk, IfOk, IfErr, IsErrOf, string_bytes};
+ghost use Rattle.std.specs.Prelude.{◌≡◌, ◌⊎◌, ◌≤◌, ◌^◌, Some, [], length, OnOk, IfOk, IfErr, IsErrOf, string_bytes};
 ghost use Rattle.std.specs.Option.{option_copied};
 ghost use Rattle.std.specs.Io.KnownBytes.{Appends};
 ghost use Rattle.subset_font.specs.Making.Sheet.{page_of};
 ghost use Rattle.subset_font.specs.Making.Carried.{IsBeforeWriting, IsFailureOf, WritesAll};
 ghost use Rattle.subset_font.specs.Refusals.Failure.{status_of};
 ghost use Rattle.subset_font.specs.Report.{report_of};
-ghost use Rattle.subset_font.specs.Batch.Answers.{IsFailedBy, IsFailedWith};
+ghost use Rattle.subset_font.specs.Batch.Answers.{IsFailedBy, IsFailedWith, IsWithinMost};
 ghost use Rattle.subset_font.specs.Batch.Making.{IsDone, IsUndone, named_text, message_of, IsAnswerTo};
-ghost use Rattle.subset_font.specs.declared.refusals.failure.Failure.TheVariants.{Error as Refused, Read as CannotRead, Write as CannotWrite, WritePdf as CannotWritePdf};
+ghost use Rattle.subset_font.specs.declared.refusals.failure.Failure.TheVariants.{Error as Refused, Read as CannotRead, Write as CannotWrite, WritePdf as CannotWritePdf, LongAnswer};
 ghost use Rattle.subsetter_base.specs.declared.error.Error.TheVariants.{OutOfMemory};
 
-use crate::batch::answers::{Answer, failed};
+use crate::batch::answers::{Answer, Object, failed};
 use crate::making::carried::read_whole;
 use crate::making::outcome::{Outcome, make_planned};
 use crate::output::{write_font, write_numbers, write_page};
@@ -41,21 +41,23 @@ pub fn read_source<R: Files + Input + AllocGlobal>(rt: &R, name: &str) -> Result
     read_whole(rt.alloc(), &mut source, room)
 }
 
-/// What is printed of what was made.
-fn printed(alloc: Global, outcome: &Outcome, form: Form) -> Result<Vec<u8>, Failure>
+/// What is printed of what was made, if that has 64 MiB at most.
+fn printed(alloc: Global, outcome: &Outcome<'_>, form: Form) -> Result<Vec<u8>, Failure>
     ensures ok { IfOk result (λ object. object.items ≡ report_of form outcome.now) }
-    ensures err { IfErr result (λ e. e ≡ Refused OutOfMemory) }
+    ensures within { IfOk result (λ object. length object.items ≤ 2 ^ 26) }
+    ensures err { IfErr result (λ e. (e ≡ Refused OutOfMemory) ⊎ (e ≡ LongAnswer)) }
 {
-    let mut object = Vec::new(alloc);
+    let mut object = Object::new(alloc);
     match write_numbers(outcome, form, &mut object) {
-        Ok(()) => Ok(object),
+        Ok(()) => Ok(object.into_text()),
+        Err(_) if object.is_long() => Err(Failure::LongAnswer),
         Err(_) => Err(Failure::Error(Error::OutOfMemory)),
     }
 }
 
 /// Writes the PDF, if there is one, to one writer, and then the font to another.
 fn write_files<P: Write, W: Write>(
-    outcome: &Outcome,
+    outcome: &Outcome<'_>,
     page: &mut P,
     output: &mut W,
 ) -> Result<(), Failure>
@@ -72,7 +74,7 @@ fn write_files<P: Write, W: Write>(
 /// subset to another.
 fn carry_made<P: Write, W: Write>(
     alloc: Global,
-    outcome: &Outcome,
+    outcome: &Outcome<'_>,
     form: Form,
     page: &mut P,
     output: &mut W,
@@ -80,10 +82,11 @@ fn carry_made<P: Write, W: Write>(
     ensures page { IfOk result (λ object. Appends (P.contents page.old) (P.contents page.new) (page_of outcome.now.sheet)) }
     ensures font { IfOk result (λ object. Appends (W.contents output.old) (W.contents output.new) outcome.now.made.font.items) }
     ensures object { IfOk result (λ object. object.items ≡ report_of form outcome.now) }
+    ensures within { IfOk result (λ object. length object.items ≤ 2 ^ 26) }
     ensures page_kept { IfErr result (λ e. IsBeforeWriting e → page.new ≡ page.old) }
     ensures output_kept { IfErr result (λ e. IsBeforeWriting e → output.new ≡ output.old) }
     ensures no_font { IsErrOf result Failure.WritePdf → output.new ≡ output.old }
-    ensures err { IfErr result (λ e. (e ≡ Refused OutOfMemory) ⊎ ((e ≡ CannotWritePdf) ⊎ (e ≡ CannotWrite))) }
+    ensures err { IfErr result (λ e. (e ≡ Refused OutOfMemory) ⊎ ((e ≡ LongAnswer) ⊎ ((e ≡ CannotWritePdf) ⊎ (e ≡ CannotWrite)))) }
 {
     let object = printed(alloc, outcome, form)?;
     match write_files(outcome, page, output) {
@@ -96,7 +99,7 @@ fn carry_made<P: Write, W: Write>(
 /// requested, and its subset to another. What is answered and written is what `carry_out` prints and writes between a reader
 /// of these bytes and three writers.
 ///
-/// It fails as `carry_out` does.
+/// It fails as `carry_out` does, and by `LongAnswer`, before anything is written, where more than 64 MiB would be printed.
 pub fn carry_answer<P: Write, W: Write>(
     alloc: Global,
     font: &[u8],
@@ -105,13 +108,14 @@ pub fn carry_answer<P: Write, W: Write>(
     output: &mut W,
 ) -> Result<Vec<u8>, Failure>
     ensures ok { IfOk result (λ object. WritesAll plan.now (Some font.now) (P.contents page.old) (P.contents page.new) (W.contents output.old) (W.contents output.new) (Some []) (Some object.items)) }
+    ensures within { IfOk result (λ object. length object.items ≤ 2 ^ 26) }
     // Both writers are as they were where the font is refused.
     ensures page_kept { IfErr result (λ e. IsBeforeWriting e → page.new ≡ page.old) }
     ensures output_kept { IfErr result (λ e. IsBeforeWriting e → output.new ≡ output.old) }
     // The font isn't written before the whole PDF.
     ensures no_font { IsErrOf result Failure.WritePdf → output.new ≡ output.old }
     // Why nothing is written.
-    ensures err { IfErr result (λ e. IsFailureOf plan.now (Some font.now) e ⊎ ((e ≡ CannotWritePdf) ⊎ (e ≡ CannotWrite))) }
+    ensures err { IfErr result (λ e. IsFailureOf plan.now (Some font.now) e ⊎ ((e ≡ LongAnswer) ⊎ ((e ≡ CannotWritePdf) ⊎ (e ≡ CannotWrite)))) }
 {
     match make_planned(alloc, font, plan) {
         Ok(outcome) => carry_made(alloc, &outcome, plan.task.form, page, output),
@@ -126,6 +130,7 @@ fn perform<R: Files + Print + Input + AllocGlobal>(
     job: &Job,
 ) -> Result<Vec<u8>, Failure>
     ensures ok { IfOk result (λ object. IsDone font.now job.now object.items) }
+    ensures within { IfOk result (λ object. length object.items ≤ 2 ^ 26) }
     ensures err { IfErr result (IsUndone font.now job.now) }
 {
     let mut text = Vec::new(rt.alloc());
@@ -176,12 +181,14 @@ fn answer_failed(alloc: Global, failure: &Failure, job: &Job) -> Answer
 }
 
 /// Does a request on the bytes of its source, or on why these can't be read, and answers it.
+#[tactic(auto, using(crate::proofs::BatchLaws::failed_within))]
 pub fn answer_of<R: Files + Print + Input + AllocGlobal>(
     rt: &R,
     source: &Result<Vec<u8>, Failure>,
     job: &Job,
 ) -> Answer
-    ensures { IsAnswerTo source.now job.now result }
+    ensures answer { IsAnswerTo source.now job.now result }
+    ensures within { IsWithinMost result }
 {
     let font = match source {
         Ok(font) => font,
@@ -207,12 +214,14 @@ fn answers_file<'a, R: Files>(rt: &R, job: &'a Job) -> Option<&'a str> {
 }
 
 /// Does a request as `answer_of` does, but for one that would write among the answers.
+#[tactic(auto, using(crate::proofs::BatchLaws::refused_within))]
 pub fn answer_apart<R: Files + Print + Input + AllocGlobal>(
     rt: &R,
     source: &Result<Vec<u8>, Failure>,
     job: &Job,
 ) -> Answer
-    ensures { IsFailedBy 2 result ⊎ IsAnswerTo source.now job.now result }
+    ensures answer { IsFailedBy 2 result ⊎ IsAnswerTo source.now job.now result }
+    ensures within { IsWithinMost result }
 {
     match answers_file(rt, job) {
         Some(name) => {

@@ -1,22 +1,30 @@
 //! The requests of a batch, and the answers to them.
 
-ghost use Rattle.std.specs.Prelude.{◌≡◌, ◌||◌, ℕ, List, OnOk, IfOk, is_some, slice_get, slice_set};
+ghost use Rattle.std.specs.Prelude.{◌≡◌, ◌||◌, ℕ, List, Some, OnOk, IfOk, IfErr, is_some, slice_get, slice_set};
 ghost use Rattle.std.specs.HashMap.{get_by_text};
 ghost use Rattle.std.specs.Option.{option_copied};
 ghost use Rattle.subset_batch.specs.Lines.{request_lines};
+ghost use Rattle.subset_args.specs.View.{job_view};
 ghost use Rattle.subset_batch.specs.View.{line_view};
-ghost use Rattle.subset_font.specs.Batch.Requests.{is_of_name, writes, writes_if, is_written, is_written_if, is_named_before, AreNames, IsFirst, IsBegun, AddsLine, AreBegun, due, of_source, answer_in};
+ghost use Rattle.subset_font.specs.Batch.Answers.{IsFailedBy};
+ghost use Rattle.subset_font.specs.Batch.Orders.{order_of, IsNoOrder};
+ghost use Rattle.subset_font.specs.Batch.Requests.{numbers_by, numbers_if, left_behind, is_of_name, writes, writes_if, is_written, is_written_if, is_named_before, AreNames, IsFirst, IsBegun, AddsLine, AreBegun, due, of_source, answer_in};
 
 use crate::batch::answers::{Answer, failed};
 use crate::batch::orders::order_of;
 use crate::refusals::failure::{given, pdf_file};
 use std::alloc::{AllocError, Global};
 use std::collections::HashMap;
-use subset_args::{Job, Plain};
+use subset_args::{Glyphs, Job, Plain};
 use subset_batch::{Line, lines_of};
 
-/// The status of a request whose OUT a line before has named, as of wrong arguments.
+/// The status of a request whose OUT a line before has named, or whose list is too long, as of wrong arguments.
 const NAMED_TWICE: u8 = 2;
+
+const TOO_LONG: u8 = 2;
+
+/// The most numbers that the lists of all requests may have.
+pub const MOST_NUMBERS: usize = 2_000_000;
 
 /// A request of a batch.
 #[derive(Drop)]
@@ -85,12 +93,7 @@ fn named_before<'a>(
 }
 
 /// How far a request is before anything is made: that it fails is known where it writes a file which one before writes, too.
-pub fn first_state(
-    alloc: Global,
-    before: &[Request],
-    names: &HashMap<String, ()>,
-    job: &Job,
-) -> State
+fn first_state(alloc: Global, before: &[Request], names: &HashMap<String, ()>, job: &Job) -> State
     requires { AreNames before.now names.now }
     ensures { IsFirst (is_named_before before.now job.now) result }
 {
@@ -103,21 +106,67 @@ pub fn first_state(
     }
 }
 
-/// The request of a line behind others, and how far it is.
+/// How many numbers the list of a request has.
+pub fn numbers_of(job: &Job) -> usize
+    ensures { result ≡ numbers_by job.now.glyphs }
+{
+    match &job.glyphs {
+        Glyphs::Listed(glyphs) => glyphs.len(),
+        Glyphs::Characters(found) => found.len(),
+        Glyphs::InFile(_, _) => 0,
+        Glyphs::ByText(_) => 0,
+        Glyphs::Every => 0,
+    }
+}
+
+/// The answer to a request whose list is too long.
+fn too_long(alloc: Global) -> Answer
+    ensures { IsFailedBy 2 result }
+{
+    let text = "the lists of all lines have more than 2000000 numbers";
+    failed(TOO_LONG, String::from_str(alloc, text))
+}
+
+/// A request behind others, and how far it is, where lists may have so many more numbers.
+#[tactic(auto, using(crate::proofs::BatchLaws::begun_too_long, crate::proofs::BatchLaws::begun_few))]
+fn admit(
+    alloc: Global,
+    before: &[Request],
+    names: &HashMap<String, ()>,
+    left: usize,
+    line: &[u8],
+    job: Job,
+) -> (Option<Job>, State)
+    requires names { AreNames before.now names.now }
+    requires left { left ≡ left_behind before.now }
+    requires job { order_of line.now ≡ Some (job_view job) }
+    ensures { IsBegun before.now line.now result.0 result.1 }
+{
+    if numbers_of(&job) > left {
+        return (None, State::Answered(too_long(alloc)));
+    }
+    let state = first_state(alloc, before, names, &job);
+    (Some(job), state)
+}
+
+/// The request of a line behind others by what the line requests, and how far it is, where lists may have so many more numbers.
+#[tactic(auto, using(crate::proofs::BatchLaws::begun_by_nothing))]
 fn begin(
     alloc: Global,
     before: &[Request],
     names: &HashMap<String, ()>,
+    left: usize,
     line: &[u8],
+    order: Result<Job, Answer>,
 ) -> (Option<Job>, State)
-    requires { AreNames before.now names.now }
+    requires names { AreNames before.now names.now }
+    requires left { left ≡ left_behind before.now }
+    requires order { IfOk order (λ job. order_of line.now ≡ Some (job_view job)) }
+    requires no_order { IfErr order (IsNoOrder (order_of line.now)) }
     ensures { IsBegun before.now line.now result.0 result.1 }
 {
-    match order_of(alloc, line) {
-        Ok(job) => {
-            let state = first_state(alloc, before, names, &job);
-            (Some(job), state)
-        }
+    match order {
+        Ok(job) => admit(alloc, before, names, left, line, job),
         Err(answer) => (None, State::Answered(answer)),
     }
 }
@@ -138,11 +187,7 @@ fn add_name(
 }
 
 /// Adds the names of the files that a request writes.
-pub fn add_names(
-    alloc: Global,
-    names: &mut HashMap<String, ()>,
-    job: &Job,
-) -> Result<(), AllocError>
+fn add_names(alloc: Global, names: &mut HashMap<String, ()>, job: &Job) -> Result<(), AllocError>
     ensures { OnOk result ((q : List ℕ) → is_some (get_by_text names.new q) ≡ (writes job.now q || is_some (get_by_text names.old q))) }
 {
     add_name(alloc, names, given(&job.output))?;
@@ -163,28 +208,45 @@ fn add_names_if(
     }
 }
 
-/// Adds the request of a line, and the names of the files that it writes.
+/// How many numbers the list of a request has that may be wrong.
+fn numbers_if(job: &Option<Job>) -> usize
+    ensures { result ≡ numbers_if job.now }
+{
+    match job {
+        Some(job) => numbers_of(job),
+        None => 0,
+    }
+}
+
+/// Adds the request of a line by what it requests, and the names of the files that it writes, and counts the numbers of its list.
 #[tactic(auto, using(crate::proofs::BatchLaws::adds_line, crate::proofs::BatchLaws::named_last))]
-fn push_line(
+pub fn push_order(
     alloc: Global,
     batch: &mut Batch,
     names: &mut HashMap<String, ()>,
+    left: &mut usize,
     line: Line<'_>,
+    order: Result<Job, Answer>,
 ) -> Result<(), AllocError>
-    requires { AreNames batch.old.requests.items names.old }
+    requires names { AreNames batch.old.requests.items names.old }
+    requires left { left.old ≡ left_behind batch.old.requests.items }
+    requires order { IfOk order (λ job. order_of line.bytes.now ≡ Some (job_view job)) }
+    requires no_order { IfErr order (IsNoOrder (order_of line.bytes.now)) }
     ensures line { OnOk result (AddsLine (line_view line.entry) batch.old batch.new) }
     ensures names { OnOk result (AreNames batch.new.requests.items names.new) }
+    ensures left { OnOk result (left.new ≡ left_behind batch.new.requests.items) }
 {
-    let (job, state) = begin(alloc, &batch.requests, names, line.bytes);
+    let (job, state) = begin(alloc, &batch.requests, names, *left, line.bytes, order);
     add_names_if(alloc, names, &job)?;
+    *left = left.saturating_sub(numbers_if(&job));
     let line = line.number;
     batch.requests.push(Request { line, job })?;
     batch.states.push(state)?;
     Ok(())
 }
 
-/// The requests of a file: one for each line that isn't blank, and how far it is: it is to be done unless it is wrong, or a
-/// line before it writes its file, too.
+/// The requests of a file: one for each line that isn't blank, and how far it is: it is to be done unless it is wrong, a line
+/// before it writes its file, too, or its list and those before it have more than 2,000,000 numbers.
 #[tactic(auto, using(crate::proofs::BatchLaws::so_far_first, crate::proofs::BatchLaws::so_far_last))]
 pub fn requests_of(alloc: Global, file: &[u8]) -> Result<Batch, AllocError>
     ensures { IfOk result (λ b. AreBegun (request_lines file.now) b.requests.items b.states.items) }
@@ -194,10 +256,12 @@ pub fn requests_of(alloc: Global, file: &[u8]) -> Result<Batch, AllocError>
         states: Vec::new(alloc),
     };
     let mut names = HashMap::new(alloc);
+    let mut left = MOST_NUMBERS;
     let lines = lines_of(alloc, file)?;
     let mut rest = lines.as_slice();
     while let [line, behind @ ..] = rest {
-        push_line(alloc, &mut batch, &mut names, *line)?;
+        let order = order_of(alloc, line.bytes);
+        push_order(alloc, &mut batch, &mut names, &mut left, *line, order)?;
         rest = behind;
     }
     Ok(batch)

@@ -14,7 +14,7 @@ use crate::making::carried::read_whole;
 use crate::refusals::failure::Failure;
 use std::alloc::Global;
 use std::io::{Read, Write};
-use subset_lines::{FontAxes, Outlines, read_axes, write_axes, write_axes_json};
+use subset_lines::{FontAxes, NameTable, Outlines, read_axes, write_axes, write_axes_json};
 use subsetter::{Error, Tag};
 use subsetter_sfnt::directory::{header_offset, table};
 use subsetter_variation::locations::axes::{Axis, axes};
@@ -28,7 +28,7 @@ fn write_shown<L: Write>(
     json: bool,
     lines: &mut L,
 ) -> Result<(), Failure>
-    ensures ok { OnOk result (Appends (L.contents lines.old) (L.contents lines.new) (axes_shown json outlines is_variable all.now.axes.items all.now.names.now (map (λ bytes. bytes.now) all.now.instances.items))) }
+    ensures ok { OnOk result (Appends (L.contents lines.old) (L.contents lines.new) (axes_shown json outlines is_variable all.now.axes.items all.now.names (map (λ bytes. bytes.now) all.now.instances.items))) }
     ensures err { IfErr result (λ e. e ≡ Output) }
 {
     let written = if json {
@@ -69,8 +69,11 @@ fn report_none<L: Write>(
     lines: &mut L,
 ) -> Result<(), Failure>
     ensures ok { OnOk result (Appends (L.contents lines.old) (L.contents lines.new) (axes_shown json outlines false [] names.now [])) }
-    ensures err { IfErr result (λ e. e ≡ Output) }
+    ensures err { IfErr result (λ e. (e ≡ Output) ⊎ (e ≡ Refused OutOfMemory)) }
 {
+    let Ok(names) = NameTable::new(alloc, names) else {
+        return Err(Failure::Error(Error::OutOfMemory));
+    };
     let none = FontAxes {
         axes: Vec::new(alloc),
         instances: Vec::new(alloc),

@@ -1,61 +1,107 @@
 //! The coordinates of a named instance.
 
-ghost use Rattle.std.specs.Prelude.{◌≡◌, ◌⊎◌, ◌++◌, map, drop, take, IfOk, IfErr, OnOk, Some, None, codes, is_some};
+ghost use Rattle.std.specs.Prelude.{◌≡◌, ◌⊎◌, ◌++◌, false, map, drop, take, IfOk, IfErr, OnOk, Some, None, codes, is_some};
 ghost use Rattle.std.specs.Option.{option_copied, option_map};
 ghost use Rattle.subsetter_base.specs.Bytes.{number};
 ghost use Rattle.subsetter_base.specs.declared.error.Error.TheVariants.{OutOfMemory, UnknownKind, MalformedFont};
 ghost use Rattle.subsetter_sfnt.specs.Extras.{all_extras};
 ghost use Rattle.subsetter_sfnt.specs.Read.{header_offset, stored};
-ghost use Rattle.subset_font.specs.Faces.Named.{is_same_name, has_name, find_named, coordinate_in, settings_of, instance_settings, face_settings, name_behind, before_next, names_behind, line_of_names, records_of, with_more, few_names, names_line, face_names};
-ghost use Rattle.subset_lines.specs.Faces.Names.{name_of};
+ghost use Rattle.subset_font.specs.Faces.Named.{is_same_name, behind_same, is_name_of, has_name, find_named, coordinate_in, settings_of, instance_settings, face_settings, name_behind, before_next, names_behind, line_of_names, records_of, with_more, few_names, names_line, face_names};
+ghost use Rattle.subset_lines.specs.Faces.Names.{name_of, text_of_units};
 ghost use Rattle.subset_font.specs.Faces.Tables.{bytes_or_none};
 ghost use Rattle.subset_font.specs.declared.refusals.failure.Failure.TheVariants.{Error as Refused, NoInstance};
 
 use crate::faces::axes::names_of;
 use crate::refusals::failure::Failure;
 use std::alloc::{AllocError, Global};
-use subset_lines::{FontAxes, name_of, read_axes, text_of_name};
+use subset_lines::{FontAxes, NameTable, encoded, read_axes, text_of_name};
 use subsetter::{Error, Tag};
 use subsetter_base::fields::long_signed_in;
-use subsetter_base::read::after_four;
+use subsetter_base::read::{Reader, after_four};
 use subsetter_sfnt::directory::{header_offset, table};
 use subsetter_variation::locations::axes::Axis;
 
-/// Whether two names are the same but for the case of ASCII letters.
-fn is_same_name(one: &[u8], other: &[u8]) -> bool
-    ensures { result ≡ is_same_name one.now other.now }
+/// What a name has behind a text, which may differ from it in the case of ASCII letters. None where it doesn't begin so.
+fn behind_same<'a>(text: &[u8], name: &'a [u8]) -> Option<&'a [u8]>
+    ensures { option_copied result ≡ behind_same text.now name.now }
 {
-    one.eq_ignore_ascii_case(other)
+    let mut rest = name;
+    for byte in text {
+        let [first, behind @ ..] = rest else {
+            return None;
+        };
+        if !byte.eq_ignore_ascii_case(first) {
+            return None;
+        }
+        rest = behind;
+    }
+    Some(rest)
+}
+
+/// Whether the text of code units is a name, but for the case of ASCII letters. One character after another is compared.
+#[tactic(auto, using(crate::proofs::FacesLaws::Naming::same_later, crate::proofs::FacesLaws::Naming::same_not))]
+fn is_text_of(units: &[u8], name: &[u8]) -> bool
+    ensures { result ≡ is_same_name (text_of_units units.now) name.now }
+{
+    let mut left = name;
+    let mut rest = units;
+    while let [high, low, more @ ..] = rest {
+        let mut room = [0; 4];
+        match behind_same(encoded(*high, *low, &mut room), left) {
+            Some(behind) => left = behind,
+            None => return false,
+        }
+        rest = more;
+    }
+    left.is_empty()
 }
 
 /// Whether the instance of a record has a name.
-fn has_name(alloc: Global, names: &[u8], bytes: &[u8], name: &str) -> Result<bool, AllocError>
-    ensures { IfOk result (λ b. b ≡ has_name names.now name.now bytes.now) }
+fn has_name(names: &NameTable<'_>, bytes: &[u8], name: &str) -> bool
+    ensures { result ≡ has_name names.now name.now bytes.now }
 {
-    let Some(found) = name_of(names, bytes) else {
-        return Ok(false);
-    };
-    match text_of_name(alloc, found) {
-        Ok(text) => Ok(is_same_name(&text, name.as_bytes())),
-        Err(_) => Err(AllocError),
+    match names.of_instance(bytes) {
+        Some(units) => is_text_of(units, name.as_bytes()),
+        None => false,
     }
 }
 
-/// The first of the records whose instance has a name.
-fn find_named<'a>(
-    alloc: Global,
-    names: &[u8],
-    records: &[&'a [u8]],
-    name: &str,
-) -> Result<Option<&'a [u8]>, AllocError>
-    ensures { IfOk result (λ found. option_copied found ≡ find_named names.now name.now (map (λ bytes. bytes.now) records.now)) }
+/// The number of the name of the instance of a record.
+fn number_of(bytes: &[u8]) -> Option<u16>
+    ensures { result ≡ number bytes.now 0 2 }
 {
-    for bytes in records {
-        if has_name(alloc, names, bytes, name)? {
-            return Ok(Some(*bytes));
-        }
+    Reader::new(bytes).read::<u16>()
+}
+
+/// Whether the instance of a record has a name, where the name of a number is known to be another.
+#[tactic(auto, using(crate::proofs::FacesLaws::Naming::known_other))]
+fn has_name_beside(
+    other: Option<u16>,
+    names: &NameTable<'_>,
+    bytes: &[u8],
+    name: &str,
+) -> bool
+    requires { is_name_of name.now (name_of names.now other) ≡ false }
+    ensures { result ≡ has_name names.now name.now bytes.now }
+{
+    if number_of(bytes) == other {
+        return false;
     }
-    Ok(None)
+    has_name(names, bytes, name)
+}
+
+/// The first of the records whose instance has a name. Of records in a row that have a name of one number the first is compared.
+fn find_named<'a>(names: &NameTable<'_>, records: &[&'a [u8]], name: &str) -> Option<&'a [u8]>
+    ensures { option_copied result ≡ find_named names.now name.now (map (λ bytes. bytes.now) records.now) }
+{
+    let mut other = None;
+    for bytes in records {
+        if has_name_beside(other, names, bytes, name) {
+            return Some(*bytes);
+        }
+        other = number_of(bytes);
+    }
+    None
 }
 
 /// The coordinate of four bytes, in 65536ths, and 0 where they aren't there.
@@ -87,16 +133,15 @@ fn instance_settings(
     all: &FontAxes<'_>,
     name: &str,
 ) -> Result<Vec<(Tag, i32)>, Failure>
-    ensures ok { IfOk result (λ v. option_map (λ bytes. settings_of all.now.axes.items (drop 4 bytes)) (find_named all.now.names.now name.now (map (λ bytes. bytes.now) all.now.instances.items)) ≡ Some v.items) }
-    ensures err { IfErr result (λ e. (e ≡ Refused OutOfMemory) ⊎ ((e ≡ NoInstance) × (find_named all.now.names.now name.now (map (λ bytes. bytes.now) all.now.instances.items) ≡ None))) }
+    ensures ok { IfOk result (λ v. option_map (λ bytes. settings_of all.now.axes.items (drop 4 bytes)) (find_named all.now.names name.now (map (λ bytes. bytes.now) all.now.instances.items)) ≡ Some v.items) }
+    ensures err { IfErr result (λ e. (e ≡ Refused OutOfMemory) ⊎ ((e ≡ NoInstance) × (find_named all.now.names name.now (map (λ bytes. bytes.now) all.now.instances.items) ≡ None))) }
 {
-    match find_named(alloc, all.names, &all.instances, name) {
-        Ok(Some(bytes)) => match settings_of(alloc, &all.axes, after_four(bytes)) {
+    match find_named(&all.names, &all.instances, name) {
+        Some(bytes) => match settings_of(alloc, &all.axes, after_four(bytes)) {
             Ok(settings) => Ok(settings),
             Err(_) => Err(Failure::Error(Error::OutOfMemory)),
         },
-        Ok(None) => Err(Failure::NoInstance),
-        Err(_) => Err(Failure::Error(Error::OutOfMemory)),
+        None => Err(Failure::NoInstance),
     }
 }
 
@@ -130,13 +175,13 @@ fn push_name(
     text: &mut Vec<u8>,
     alloc: Global,
     before: &[u8],
-    names: &[u8],
+    names: &NameTable<'_>,
     bytes: &[u8],
 ) -> Result<bool, AllocError>
     ensures text { OnOk result (text.new.items ≡ text.old.items ++ name_behind before.now (name_of names.now (number bytes.now 0 2))) }
     ensures found { IfOk result (λ b. b ≡ is_some (name_of names.now (number bytes.now 0 2))) }
 {
-    let Some(found) = name_of(names, bytes) else {
+    let Some(found) = names.of_instance(bytes) else {
         return Ok(false);
     };
     let Ok(name) = text_of_name(alloc, found) else {
@@ -159,7 +204,7 @@ fn before_next(before: &[u8], found: bool) -> &[u8]
 fn names_behind(
     alloc: Global,
     front: &[u8],
-    names: &[u8],
+    names: &NameTable<'_>,
     records: &[&[u8]],
 ) -> Result<Vec<u8>, AllocError>
     ensures { IfOk result (λ text. text.items ≡ names_behind front.now names.now (map (λ bytes. bytes.now) records.now)) }
@@ -205,7 +250,7 @@ fn with_more(alloc: Global, mut text: Vec<u8>, more: usize) -> Result<Vec<u8>, A
 }
 
 /// The line of the names of the first instances, and how many more there are.
-fn few_names(alloc: Global, names: &[u8], records: &[&[u8]]) -> Result<Vec<u8>, AllocError>
+fn few_names(alloc: Global, names: &NameTable<'_>, records: &[&[u8]]) -> Result<Vec<u8>, AllocError>
     ensures { IfOk result (λ line. line.items ≡ few_names names.now (map (λ bytes. bytes.now) records.now)) }
 {
     let text = names_behind(alloc, b"named instances: ", names, few_records(records))?;
@@ -218,7 +263,7 @@ fn names_of_fvar(alloc: Global, fvar: &[u8], names: &[u8]) -> Result<Vec<u8>, Al
     ensures { IfOk result (λ line. line.items ≡ names_line names.now (records_of fvar.now)) }
 {
     match read_axes(alloc, fvar, names) {
-        Ok(all) => few_names(alloc, names, &all.instances),
+        Ok(all) => few_names(alloc, &all.names, &all.instances),
         Err(Error::OutOfMemory) => Err(AllocError),
         Err(_) => line_of_names(Vec::new(alloc)),
     }

@@ -2,11 +2,10 @@
 
 ghost use Rattle.std.specs.Prelude.{◌≡◌, ◌⊎◌, IfOk, IfErr, IfSome, OnOk, IsErrOf};
 ghost use Rattle.std.specs.Io.KnownBytes.{IsAtEnd};
-ghost use Rattle.subset_font.specs.Making.Outcome.{IsOutcome, IsNoOutcome};
 ghost use Rattle.subset_font.specs.Making.Carried.{IsBeforeWriting, IsFailureOf, WritesFont, WritesAll};
 ghost use Rattle.subset_font.specs.declared.refusals.failure.Failure.TheVariants.{Read as CannotRead, Write as CannotWrite, WritePdf as CannotWritePdf, Output};
 
-use crate::making::outcome::{Outcome, make_planned};
+use crate::making::outcome::make_planned;
 use crate::output::emit;
 use crate::refusals::failure::Failure;
 use crate::task::Plan;
@@ -27,23 +26,6 @@ pub fn read_whole<R: Read>(alloc: Global, reader: &mut R, room: usize) -> Result
         return Err(Failure::Read);
     }
     Ok(font)
-}
-
-/// What a plan makes of the font from a reader, whose bytes are kept. Room for so many bytes of the font is taken at once.
-fn make_from<R: Read>(
-    alloc: Global,
-    plan: &Plan<'_>,
-    reader: &mut R,
-    room: usize,
-    source: &mut Vec<u8>,
-) -> Result<Outcome, Failure>
-    ensures ok { IfOk result (λ outcome. IfSome (R.remaining reader.old) (λ bytes. IsOutcome plan.now bytes outcome)) }
-    ensures err { IfErr result (IsFailureOf plan.now (R.remaining reader.old)) }
-{
-    let font = read_whole(alloc, reader, room)?;
-    let outcome = make_planned(alloc, &font, plan);
-    *source = font;
-    outcome
 }
 
 /// Reads the font from the reader, writes the PDF of its glyphs to one writer, if one is requested, its subset to another, and
@@ -76,7 +58,9 @@ pub fn carry_out<R: Read, P: Write, W: Write, L: Write>(
     // Why nothing is written.
     ensures err { IfErr result (λ e. IsFailureOf plan.now (R.remaining reader.old) e ⊎ ((e ≡ CannotWritePdf) ⊎ ((e ≡ CannotWrite) ⊎ (e ≡ Output)))) }
 {
-    match make_from(alloc, plan, reader, room, source) {
+    let font = read_whole(alloc, reader, room)?;
+    *source = font;
+    match make_planned(alloc, source, plan) {
         Ok(outcome) => emit(&outcome, plan.task.form, page, output, lines),
         Err(failure) => Err(failure),
     }

@@ -30,13 +30,13 @@ use subsetter_sfnt::directory::table;
 
 /// What a plan makes of a font.
 #[derive(Drop)]
-pub struct Outcome {
+pub struct Outcome<'a> {
     /// The subset and its numbers.
     pub made: Made,
     /// What is printed behind the numbers: further lines, or further members of the JSON object.
     pub more: Vec<u8>,
-    /// The names of the requested glyphs, as far as they are printed; an empty one is none.
-    pub names: Vec<Vec<u8>>,
+    /// The names of the requested glyphs in the font that is read, as far as they are printed; an empty one is none.
+    pub names: Vec<&'a [u8]>,
     /// The PDF, if one is requested.
     pub sheet: Option<Sheet>,
 }
@@ -148,13 +148,13 @@ fn bytes_of(font: &[u8], index: u32, tag: Tag) -> &[u8]
 }
 
 /// The names of glyphs in a face.
-fn names_of(
+fn names_of<'a>(
     alloc: Global,
-    font: &[u8],
+    font: &'a [u8],
     index: u32,
     glyphs: &[u16],
-) -> Result<Vec<Vec<u8>>, AllocError>
-    ensures { IfOk result (λ v. map (λ name. name.items) v.items ≡ names_of (record { bytes = font.now; index = index; extras = all_extras }) glyphs.now) }
+) -> Result<Vec<&'a [u8]>, AllocError>
+    ensures { IfOk result (λ v. map (λ name. name.now) v.items ≡ names_of (record { bytes = font.now; index = index; extras = all_extras }) glyphs.now) }
 {
     let post = bytes_of(font, index, Tag::POST);
     let cff = bytes_of(font, index, Tag::CFF);
@@ -162,13 +162,13 @@ fn names_of(
 }
 
 /// The names of glyphs, if they are printed.
-fn names_for(
+fn names_for<'a>(
     alloc: Global,
-    font: &[u8],
+    font: &'a [u8],
     plan: &Plan<'_>,
     glyphs: &[u16],
-) -> Result<Vec<Vec<u8>>, AllocError>
-    ensures { IfOk result (λ v. map (λ name. name.items) v.items ≡ names_for plan.now font.now glyphs.now) }
+) -> Result<Vec<&'a [u8]>, AllocError>
+    ensures { IfOk result (λ v. map (λ name. name.now) v.items ≡ names_for plan.now font.now glyphs.now) }
 {
     match plan.task.form {
         Form::Json => names_of(alloc, font, plan.task.index, glyphs),
@@ -178,17 +178,17 @@ fn names_for(
 }
 
 /// The same for what was made by a task, which is kept, with the names of its glyphs, and the PDF, if one is requested.
-fn with_more(
+fn with_more<'a>(
     alloc: Global,
-    font: &[u8],
+    font: &'a [u8],
     plan: &Plan<'_>,
     task: &Task<'_>,
     made: Made,
-) -> Result<Outcome, Failure>
+) -> Result<Outcome<'a>, Failure>
     ensures made { IfOk result (λ o. o.made ≡ made) }
     ensures sheet { IfOk result (λ o. IsSheetIf plan.now.pdf task.now font.now made o.sheet) }
     ensures more { IfOk result (λ o. o.more.items ≡ more_text plan.now font.now made o.sheet) }
-    ensures names { IfOk result (λ o. map (λ name. name.items) o.names.items ≡ names_for plan.now font.now made.picked.glyphs.items) }
+    ensures names { IfOk result (λ o. map (λ name. name.now) o.names.items ≡ names_for plan.now font.now made.picked.glyphs.items) }
     ensures err { IfErr result (λ e. (e ≡ Refused OutOfMemory) ⊎ IsUnshownIf plan.now.pdf task.now font.now made e) }
 {
     let sheet = sheet_if(alloc, font, plan.pdf, task, &made)?;
@@ -221,13 +221,13 @@ fn task_at<'a>(task: &Task<'a>, at: &'a [(Tag, i32)]) -> Task<'a>
 }
 
 /// What a plan makes of a font at the coordinates of the named instance.
-fn make_instance(
+fn make_instance<'a>(
     alloc: Global,
-    font: &[u8],
+    font: &'a [u8],
     plan: &Plan<'_>,
     name: &str,
     at: &[(Tag, i32)],
-) -> Result<Outcome, Failure>
+) -> Result<Outcome<'a>, Failure>
     requires name { option_copied plan.now.instance ≡ Some name.now }
     requires at { face_settings (face_of plan.now.task font.now) name.now ≡ Some at.now }
     ensures ok { IfOk result (IsOutcome plan.now font.now) }
@@ -241,12 +241,12 @@ fn make_instance(
 }
 
 /// What a plan makes of a font at the named instance of a name.
-fn make_at_instance(
+fn make_at_instance<'a>(
     alloc: Global,
-    font: &[u8],
+    font: &'a [u8],
     plan: &Plan<'_>,
     name: &str,
-) -> Result<Outcome, Failure>
+) -> Result<Outcome<'a>, Failure>
     requires { option_copied plan.now.instance ≡ Some name.now }
     ensures ok { IfOk result (IsOutcome plan.now font.now) }
     ensures err { IfErr result (IsNoOutcome plan.now font.now) }
@@ -258,7 +258,7 @@ fn make_at_instance(
 }
 
 /// What a plan makes of a font that is taken as it is, or at given coordinates.
-fn make_as_given(alloc: Global, font: &[u8], plan: &Plan<'_>) -> Result<Outcome, Failure>
+fn make_as_given<'a>(alloc: Global, font: &'a [u8], plan: &Plan<'_>) -> Result<Outcome<'a>, Failure>
     requires { option_copied plan.now.instance ≡ None }
     ensures ok { IfOk result (IsOutcome plan.now font.now) }
     ensures err { IfErr result (IsNoOutcome plan.now font.now) }
@@ -270,7 +270,11 @@ fn make_as_given(alloc: Global, font: &[u8], plan: &Plan<'_>) -> Result<Outcome,
 }
 
 /// What a plan makes of the bytes of a font.
-pub fn make_planned(alloc: Global, font: &[u8], plan: &Plan<'_>) -> Result<Outcome, Failure>
+pub fn make_planned<'a>(
+    alloc: Global,
+    font: &'a [u8],
+    plan: &Plan<'_>,
+) -> Result<Outcome<'a>, Failure>
     ensures ok { IfOk result (IsOutcome plan.now font.now) }
     ensures err { IfErr result (IsNoOutcome plan.now font.now) }
 {

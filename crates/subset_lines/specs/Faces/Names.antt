@@ -1,10 +1,13 @@
 -- The name of a named instance (OpenType, "name").
-use Rattle.std.specs.Prelude.{ℕ, zero, suc, ◌+◌, ◌*◌, ◌==◌, ◌&&◌, ◌||◌, nat_le, nat_lt, Bool, if◌then◌else◌, List, [], ◌∷◌, ◌++◌, take, drop, Option, Some, None, codes}
-use Rattle.std.specs.Option.{option_and_then}
+use Rattle.std.specs.Prelude.{◌≡◌, ℕ, zero, suc, nat_eq, ◌+◌, ◌*◌, ◌==◌, ◌&&◌, ◌||◌, nat_le, nat_lt, Bool, if◌then◌else◌, List, [], ◌∷◌, ◌++◌, take, drop, Option, Some, None, codes}
+use Rattle.std.specs.HashMap.{HashMap, get}
+use Rattle.std.specs.Option.{option_map, option_and_then, unwrap_or}
 use Rattle.std.specs.Char.{encode_utf8}
 use Rattle.subsetter_base.specs.Bytes.{be, range, number}
 use Rattle.subset_lines.specs.declared.faces.names.Kind.{Kind}
 use Rattle.subset_lines.specs.declared.faces.names.Kind.TheVariants.{English, Windows, Unicode}
+use Rattle.subsetter_sfnt.specs.Fields.Name.{name_record_of}
+use Rattle.subsetter_sfnt.specs.declared.fields.name.NameRecord.{NameRecord}
 use Rattle.subsetter_base.specs.Options.{first_of}
 use Rattle.subsetter_words.specs.Plain.{is_plain}
 
@@ -36,15 +39,31 @@ first_name kind id (suc n) table at = option_and_then (λ bytes. if is_name kind
 abbrev pub best_name : ℕ → ℕ → List ℕ → Option (List ℕ)
 best_name id count table = first_of (first_name English id count table 6) (first_of (first_name Windows id count table 6) (first_name Unicode id count table 6))
 
+-- how many records a table says that it has
+abbrev pub count_in : List ℕ → ℕ
+count_in table = unwrap_or (number table 2 2) 0
+
+-- a record, if it has a name of a kind
+abbrev pub record_if : Kind → ℕ → List ℕ → Option NameRecord
+record_if kind id bytes = if is_name kind id bytes then Some (name_record_of bytes) else None
+
+-- a map has the first record of each name of a kind
+abbrev pub AreFirst : {S : Type 0} → Kind → ℕ → List ℕ → HashMap ℕ NameRecord S → Type 0
+AreFirst kind count table records = (id : ℕ) → get nat_eq records id ≡ option_map name_record_of (first_name kind id count table 6)
+
 -- ---- its text
 
 -- the string of a record, in the storage
 abbrev pub string_of : List ℕ → ℕ → List ℕ → Option (List ℕ)
 string_of table storage bytes = range table (storage + word bytes 10) (word bytes 8)
 
+-- the same by what was read of the record
+abbrev pub string_by : List ℕ → ℕ → NameRecord → Option (List ℕ)
+string_by table storage record_read = range table (storage + record_read.string_offset) record_read.length
+
 -- a name, if the table has it
 unfoldable pub string_for : List ℕ → ℕ → Option (List ℕ)
-string_for table id = option_and_then (λ count. option_and_then (λ storage. option_and_then (string_of table storage) (best_name id count table)) (number table 4 2)) (number table 2 2)
+string_for table id = option_and_then (λ storage. option_and_then (string_of table storage) (best_name id (count_in table) table)) (number table 4 2)
 
 -- the name of a number, if there is one
 abbrev pub name_of : List ℕ → Option ℕ → Option (List ℕ)

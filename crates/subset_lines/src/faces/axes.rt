@@ -2,8 +2,7 @@
 
 ghost use Rattle.std.specs.Prelude.{◌≡◌, ◌⊎◌, ◌++◌, [], map, OnOk, IfOk, IfErr, Some, None};
 ghost use Rattle.std.specs.Io.KnownBytes.{Appends};
-ghost use Rattle.std.specs.Option.{ok_or, option_copied};
-ghost use Rattle.subset_lines.specs.Faces.Names.{name_of};
+ghost use Rattle.std.specs.Option.{ok_or};
 ghost use Rattle.subsetter_base.specs.Gives.{Gives};
 ghost use Rattle.subsetter_base.specs.declared.error.Error.TheVariants.{MalformedFont, OutOfMemory};
 ghost use Rattle.subsetter_variation.specs.Locations.Axes.{axes};
@@ -12,7 +11,7 @@ ghost use Rattle.subset_lines.specs.Fixed.{fixed_text};
 ghost use Rattle.subsetter_base.specs.Bytes.{number};
 
 use crate::entry::Unwritten;
-use crate::faces::names::{string_for, write_behind};
+use crate::faces::names::{NameTable, write_behind};
 use crate::faces::outlines::{Outlines, write_outlines};
 use crate::faces::settings::{SettingForm, write_each};
 use crate::fixed::write_fixed;
@@ -94,18 +93,19 @@ fn instances(alloc: Global, fvar: &[u8]) -> Result<Vec<&[u8]>, Error>
 pub struct FontAxes<'a> {
     pub axes: Vec<Axis>,
     pub instances: Vec<&'a [u8]>,
-    pub names: &'a [u8],
+    pub names: NameTable<'a>,
 }
 
 /// The axes and the named instances that `fvar` lists, whose names are in another table. A cut `fvar` is `MalformedFont`.
 pub fn read_axes<'a>(alloc: Global, fvar: &'a [u8], names: &'a [u8]) -> Result<FontAxes<'a>, Error>
     ensures axes { IfOk result (λ a. axes fvar.now ≡ Some a.axes.items) }
     ensures instances { IfOk result (λ a. instances fvar.now ≡ Some (map (λ bytes. bytes.now) a.instances.items)) }
-    ensures names { IfOk result (λ a. a.names.now ≡ names.now) }
+    ensures names { IfOk result (λ a. a.names ≡ names.now) }
     ensures err { IfErr result (λ e. (e ≡ OutOfMemory) ⊎ ((e ≡ MalformedFont) × ((axes fvar.now ≡ None) ⊎ (instances fvar.now ≡ None)))) }
 {
     let axes = axes(alloc, fvar)?;
     let instances = instances(alloc, fvar)?;
+    let names = NameTable::new(alloc, names)?;
     Ok(FontAxes {
         axes,
         instances,
@@ -196,18 +196,11 @@ fn write_settings<W: Write>(axes: &[Axis], bytes: &[u8], out: &mut W) -> Result<
     write_each(SettingForm::Line, axes, bytes, out)
 }
 
-/// The name of a named instance, if there is one.
-pub fn name_of<'a>(names: &'a [u8], bytes: &[u8]) -> Option<&'a [u8]>
-    ensures { option_copied result ≡ name_of names.now (number bytes.now 0 2) }
-{
-    string_for(names, Reader::new(bytes).read::<u16>()?)
-}
-
 /// Writes the line of a named instance.
 #[tactic(auto, using(crate::proofs::Written::both))]
 fn write_instance<W: Write>(
     axes: &[Axis],
-    names: &[u8],
+    names: &NameTable<'_>,
     bytes: &[u8],
     out: &mut W,
 ) -> Result<(), Unwritten>
@@ -215,7 +208,7 @@ fn write_instance<W: Write>(
 {
     write_text(b"instance ", out)?;
     write_settings(axes, after_four(bytes), out)?;
-    write_behind(name_of(names, bytes), out)?;
+    write_behind(names.of_instance(bytes), out)?;
     write_text(b"\n", out)
 }
 
@@ -223,7 +216,7 @@ fn write_instance<W: Write>(
 #[tactic(auto, using(crate::proofs::Written::at_first, crate::proofs::Written::after_part, crate::proofs::Written::at_last))]
 fn write_instance_lines<W: Write>(
     axes: &[Axis],
-    names: &[u8],
+    names: &NameTable<'_>,
     records: &[&[u8]],
     out: &mut W,
 ) -> Result<(), Unwritten>
@@ -245,10 +238,10 @@ pub fn write_axes<W: Write>(
     all: &FontAxes<'_>,
     out: &mut W,
 ) -> Result<(), Unwritten>
-    ensures { OnOk result (Appends (W.contents out.old) (W.contents out.new) (text_of outlines is_variable all.now.axes.items all.now.names.now (map (λ bytes. bytes.now) all.now.instances.items))) }
+    ensures { OnOk result (Appends (W.contents out.old) (W.contents out.new) (text_of outlines is_variable all.now.axes.items all.now.names (map (λ bytes. bytes.now) all.now.instances.items))) }
 {
     write_outlines(outlines, is_variable, out)?;
     write_axis_lines(&all.axes, out)?;
-    write_instance_lines(&all.axes, all.names, &all.instances, out)?;
+    write_instance_lines(&all.axes, &all.names, &all.instances, out)?;
     flush(out)
 }

@@ -10,7 +10,7 @@ ghost use Rattle.subset_lines.specs.Objects.Quoted.{quoted};
 ghost use Rattle.subsetter_base.specs.Bytes.{number};
 
 use crate::entry::Unwritten;
-use crate::faces::axes::{FontAxes, name_of, tag_bytes};
+use crate::faces::axes::{FontAxes, tag_bytes};
 use crate::faces::names::write_units;
 use crate::faces::outlines::{Outlines, write_outlines_members};
 use crate::faces::settings::{SettingForm, write_each};
@@ -147,9 +147,9 @@ fn write_instance_object<W: Write>(
     bytes: &[u8],
     out: &mut W,
 ) -> Result<(), Unwritten>
-    ensures { OnOk result (Appends (W.contents out.old) (W.contents out.new) (instance_object all.now.axes.items all.now.names.now bytes.now)) }
+    ensures { OnOk result (Appends (W.contents out.old) (W.contents out.new) (instance_object all.now.axes.items all.now.names bytes.now)) }
 {
-    write_instance_name(alloc, name_of(all.names, bytes), out)?;
+    write_instance_name(alloc, all.names.of_instance(bytes), out)?;
     write_instance_settings(&all.axes, after_four(bytes), out)
 }
 
@@ -162,7 +162,7 @@ fn write_instance<W: Write>(
     bytes: &[u8],
     out: &mut W,
 ) -> Result<(), Unwritten>
-    ensures { OnOk result (Appends (W.contents out.old) (W.contents out.new) (before.now ++ instance_object all.now.axes.items all.now.names.now bytes.now)) }
+    ensures { OnOk result (Appends (W.contents out.old) (W.contents out.new) (before.now ++ instance_object all.now.axes.items all.now.names bytes.now)) }
 {
     write_text(before, out)?;
     write_instance_object(alloc, all, bytes, out)
@@ -176,7 +176,7 @@ fn write_instances<W: Write>(
     records: &[&[u8]],
     out: &mut W,
 ) -> Result<(), Unwritten>
-    ensures { OnOk result (Appends (W.contents out.old) (W.contents out.new) (instance_objects [] all.now.axes.items all.now.names.now (map (λ bytes. bytes.now) records.now))) }
+    ensures { OnOk result (Appends (W.contents out.old) (W.contents out.new) (instance_objects [] all.now.axes.items all.now.names (map (λ bytes. bytes.now) records.now))) }
 {
     let mut before = b"".as_slice();
     for bytes in records {
@@ -203,7 +203,7 @@ fn write_instances_member<W: Write>(
     all: &FontAxes<'_>,
     out: &mut W,
 ) -> Result<(), Unwritten>
-    ensures { OnOk result (Appends (W.contents out.old) (W.contents out.new) (instances_member all.now.axes.items all.now.names.now (map (λ bytes. bytes.now) all.now.instances.items))) }
+    ensures { OnOk result (Appends (W.contents out.old) (W.contents out.new) (instances_member all.now.axes.items all.now.names (map (λ bytes. bytes.now) all.now.instances.items))) }
 {
     write_text(b"\"instances\":[", out)?;
     write_instances(alloc, all, &all.instances, out)?;
@@ -219,7 +219,7 @@ pub fn write_axes_json<W: Write>(
     all: &FontAxes<'_>,
     out: &mut W,
 ) -> Result<(), Unwritten>
-    ensures { OnOk result (Appends (W.contents out.old) (W.contents out.new) (axes_json outlines is_variable all.now.axes.items all.now.names.now (map (λ bytes. bytes.now) all.now.instances.items))) }
+    ensures { OnOk result (Appends (W.contents out.old) (W.contents out.new) (axes_json outlines is_variable all.now.axes.items all.now.names (map (λ bytes. bytes.now) all.now.instances.items))) }
 {
     write_outlines_members(outlines, is_variable, out)?;
     write_axes_member(&all.axes, out)?;

@@ -5,12 +5,13 @@ ghost use Rattle.std.specs.Io.KnownBytes.{Appends};
 ghost use Rattle.subset_lines.specs.Objects.Json.{character_member, number_or_null, name_member, object_of, objects, widths_member, glyphs_member, json_of, numbers_from, array_of};
 ghost use Rattle.subset_lines.specs.View.{numbers_view};
 
-use crate::entry::{Numbering, Unwritten, take_first, take_name};
+use crate::entry::{Numbering, Unwritten, name_at, take_first};
 use crate::objects::quoted::write_shown;
 use crate::plain::flush;
 use crate::text::write_text;
 use std::alloc::Global;
 use std::io::Write;
+use subsetter_base::GlyphRemapper;
 
 /// Writes the member that has a character's number, if there is a character.
 fn write_character<W: Write>(character: Option<char>, out: &mut W) -> Result<(), Unwritten>
@@ -82,24 +83,40 @@ fn write_object<W: Write>(
     write_text(b"}", out)
 }
 
-/// Writes the objects of the glyphs.
+/// Writes the objects of glyphs, by characters and names as far as there are any.
 #[tactic(auto, using(crate::proofs::Written::at_first, crate::proofs::Written::after_part, crate::proofs::Written::at_last))]
-fn write_entries<W: Write>(numbering: &Numbering<'_>, out: &mut W) -> Result<(), Unwritten>
-    ensures { OnOk result (Appends (W.contents out.old) (W.contents out.new) (objects [] numbering.now.mapper.now numbering.now.characters.now (map (λ name. name.items) numbering.now.names.now) numbering.now.glyphs.now)) }
+fn write_each<W: Write>(
+    mapper: &GlyphRemapper,
+    characters: &[char],
+    names: &[&[u8]],
+    glyphs: &[u16],
+    out: &mut W,
+) -> Result<(), Unwritten>
+    ensures { OnOk result (Appends (W.contents out.old) (W.contents out.new) (objects [] mapper.now characters.now (map (λ name. name.now) names.now) glyphs.now)) }
 {
-    let mapper = numbering.mapper;
-    let mut characters = numbering.characters;
-    let mut names = numbering.names;
+    let mut characters = characters;
     let mut before = b"".as_slice();
-    for glyph in numbering.glyphs {
+    for index in 0..glyphs.len() {
         let (character, others) = take_first(characters);
-        let (name, more) = take_name(names);
-        write_object(before, character, name, *glyph, mapper.get(*glyph), out)?;
+        let (name, glyph) = (name_at(names, index), glyphs[index]);
+        write_object(before, character, name, glyph, mapper.get(glyph), out)?;
         characters = others;
-        names = more;
         before = b",".as_slice();
     }
     Ok(())
+}
+
+/// Writes the objects of the glyphs.
+fn write_entries<W: Write>(numbering: &Numbering<'_>, out: &mut W) -> Result<(), Unwritten>
+    ensures { OnOk result (Appends (W.contents out.old) (W.contents out.new) (objects [] numbering.now.mapper.now numbering.now.characters.now (map (λ name. name.now) numbering.now.names.now) numbering.now.glyphs.now)) }
+{
+    write_each(
+        numbering.mapper,
+        numbering.characters,
+        numbering.names,
+        numbering.glyphs,
+        out,
+    )
 }
 
 /// Writes the member that has the widths, unless their text is empty.
@@ -122,7 +139,7 @@ fn write_between<W: Write>(
     behind: &[u8],
     out: &mut W,
 ) -> Result<(), Unwritten>
-    ensures { OnOk result (Appends (W.contents out.old) (W.contents out.new) (front.now ++ objects [] numbering.now.mapper.now numbering.now.characters.now (map (λ name. name.items) numbering.now.names.now) numbering.now.glyphs.now ++ behind.now)) }
+    ensures { OnOk result (Appends (W.contents out.old) (W.contents out.new) (front.now ++ objects [] numbering.now.mapper.now numbering.now.characters.now (map (λ name. name.now) numbering.now.names.now) numbering.now.glyphs.now ++ behind.now)) }
 {
     write_text(front, out)?;
     write_entries(numbering, out)?;

@@ -19,7 +19,8 @@ mod task;
 pub use batch::making::{answer_apart, read_source};
 pub use batch::orders::order_of;
 pub use batch::requests::{
-    add_names, due, due_of, first_state, next_of_source, set_answer, Batch, Request, State,
+    due, due_of, next_of_source, numbers_of, push_order, set_answer, Batch, Request, State,
+    MOST_NUMBERS,
 };
 pub use batch::running::{
     batch_or_status, read_lines, refuse_memory, status_of_batch, AnswerLines,

@@ -12,7 +12,7 @@ use crate::rattle::io::Write;
 ///
 /// `WritePdf` where the first writer fails, `Write` where the second does, and `Output` where the third does.
 pub fn emit<P: Write, W: Write, L: Write>(
-    outcome: &Outcome,
+    outcome: &Outcome<'_>,
     form: Form,
     page: &mut P,
     output: &mut W,
@@ -47,7 +47,7 @@ pub fn write_font<W: Write>(font: &[u8], output: &mut W) -> Result<(), Failure> 
 
 /// Writes the new numbers.
 pub fn write_numbers<L: Write>(
-    outcome: &Outcome,
+    outcome: &Outcome<'_>,
     form: Form,
     lines: &mut L,
 ) -> Result<(), Failure> {

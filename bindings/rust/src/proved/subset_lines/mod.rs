@@ -19,10 +19,11 @@ mod plain;
 mod text;
 
 pub use entry::{take_first, Numbering, Unwritten};
-pub use faces::axes::{name_of, read_axes, write_axes, FontAxes};
+pub use faces::axes::{read_axes, write_axes, FontAxes};
 pub use faces::info::face::Info;
 pub use faces::info::json::write_info_json;
 pub use faces::info::lines::write_info;
+pub use faces::names::{encoded, NameTable};
 pub use faces::outlines::Outlines;
 pub use faces::sizes::{size_lines, TableSize};
 pub use notes::{note_lines, Note};

@@ -5,8 +5,9 @@ use crate::rattle::prelude::{String, Vec};
 
 use crate::proved::subset_batch::{write_done, write_failed};
 use crate::proved::subset_lines::Unwritten;
-use crate::rattle::alloc::AllocError;
-use crate::rattle::io::Write;
+use crate::rattle::alloc::{AllocError, Global};
+use crate::rattle::io;
+use crate::rattle::io::{ErrorKind, Write};
 
 /// What is answered to a request of a batch.
 pub enum Answer {
@@ -22,6 +23,52 @@ pub enum Answer {
 const NO_MEMORY_STATUS: u8 = 1;
 
 const NO_MEMORY: &str = "out of memory";
+
+/// The most bytes of an object that is answered.
+const MOST: usize = 1 << 26;
+
+/// An object that is written, of 64 MiB at most.
+pub struct Object {
+    text: Vec<u8>,
+    // Whether more was to be written.
+    is_long: bool,
+}
+
+impl Object {
+    /// One without bytes.
+    pub fn new(alloc: Global) -> Self {
+        Object {
+            text: Vec::new(alloc),
+            is_long: false,
+        }
+    }
+
+    /// Whether more was to be written than it has room for.
+    pub fn is_long(&self) -> bool {
+        self.is_long
+    }
+
+    /// Its bytes.
+    pub fn into_text(self) -> Vec<u8> {
+        let Object { text, is_long: _ } = self;
+        text
+    }
+}
+
+impl Write for Object {
+    fn write(&mut self, buf: &[u8]) -> io::Result<usize> {
+        if buf.len() > MOST - self.text.len() {
+            self.is_long = true;
+            return Err(io::Error::from(ErrorKind::FileTooLarge));
+        }
+        self.text.extend_from_slice(buf)?;
+        Ok(buf.len())
+    }
+
+    fn flush(&mut self) -> io::Result<()> {
+        Ok(())
+    }
+}
 
 /// The answer to a request that failed, by a text that memory may not have sufficed for.
 pub fn failed(status: u8, text: Result<String, AllocError>) -> Answer {

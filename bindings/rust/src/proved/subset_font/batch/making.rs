@@ -4,7 +4,7 @@
 use crate::rattle::prelude::{AllocGlobal, Input, Print, String, Vec};
 
 use crate::proved::subset_args::{Job, Plain};
-use crate::proved::subset_font::batch::answers::{failed, Answer};
+use crate::proved::subset_font::batch::answers::{failed, Answer, Object};
 use crate::proved::subset_font::making::carried::read_whole;
 use crate::proved::subset_font::making::outcome::{make_planned, Outcome};
 use crate::proved::subset_font::output::{write_font, write_numbers, write_page};
@@ -30,18 +30,19 @@ pub fn read_source<R: Files + Input + AllocGlobal>(rt: &R, name: &str) -> Result
     read_whole(rt.alloc(), &mut source, room)
 }
 
-/// What is printed of what was made.
-fn printed(alloc: Global, outcome: &Outcome, form: Form) -> Result<Vec<u8>, Failure> {
-    let mut object = Vec::new(alloc);
+/// What is printed of what was made, if that has 64 MiB at most.
+fn printed(alloc: Global, outcome: &Outcome<'_>, form: Form) -> Result<Vec<u8>, Failure> {
+    let mut object = Object::new(alloc);
     match write_numbers(outcome, form, &mut object) {
-        Ok(()) => Ok(object),
+        Ok(()) => Ok(object.into_text()),
+        Err(_) if object.is_long() => Err(Failure::LongAnswer),
         Err(_) => Err(Failure::Error(Error::OutOfMemory)),
     }
 }
 
 /// Writes the PDF, if there is one, to one writer, and then the font to another.
 fn write_files<P: Write, W: Write>(
-    outcome: &Outcome,
+    outcome: &Outcome<'_>,
     page: &mut P,
     output: &mut W,
 ) -> Result<(), Failure> {
@@ -53,7 +54,7 @@ fn write_files<P: Write, W: Write>(
 /// subset to another.
 fn carry_made<P: Write, W: Write>(
     alloc: Global,
-    outcome: &Outcome,
+    outcome: &Outcome<'_>,
     form: Form,
     page: &mut P,
     output: &mut W,
@@ -69,7 +70,7 @@ fn carry_made<P: Write, W: Write>(
 /// requested, and its subset to another. What is answered and written is what `carry_out` prints and writes between a reader
 /// of these bytes and three writers.
 ///
-/// It fails as `carry_out` does.
+/// It fails as `carry_out` does, and by `LongAnswer`, before anything is written, where more than 64 MiB would be printed.
 pub fn carry_answer<P: Write, W: Write>(
     alloc: Global,
     font: &[u8],

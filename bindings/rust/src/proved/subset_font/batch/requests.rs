@@ -3,7 +3,7 @@
 
 use crate::rattle::prelude::{String, Vec};
 
-use crate::proved::subset_args::{Job, Plain};
+use crate::proved::subset_args::{Glyphs, Job, Plain};
 use crate::proved::subset_batch::{lines_of, Line};
 use crate::proved::subset_font::batch::answers::{failed, Answer};
 use crate::proved::subset_font::batch::orders::order_of;
@@ -11,8 +11,13 @@ use crate::proved::subset_font::refusals::failure::{given, pdf_file};
 use crate::rattle::alloc::{AllocError, Global};
 use crate::rattle::collections::HashMap;
 
-/// The status of a request whose OUT a line before has named, as of wrong arguments.
+/// The status of a request whose OUT a line before has named, or whose list is too long, as of wrong arguments.
 const NAMED_TWICE: u8 = 2;
+
+const TOO_LONG: u8 = 2;
+
+/// The most numbers that the lists of all requests may have.
+pub const MOST_NUMBERS: usize = 2_000_000;
 
 /// A request of a batch.
 pub struct Request {
@@ -69,12 +74,7 @@ fn named_before<'a>(
 }
 
 /// How far a request is before anything is made: that it fails is known where it writes a file which one before writes, too.
-pub fn first_state(
-    alloc: Global,
-    before: &[Request],
-    names: &HashMap<String, ()>,
-    job: &Job,
-) -> State {
+fn first_state(alloc: Global, before: &[Request], names: &HashMap<String, ()>, job: &Job) -> State {
     match named_before(before, names, job) {
         Some(name) => {
             let text = format!(in alloc; "a line before names {}, too", Plain(name));
@@ -84,18 +84,50 @@ pub fn first_state(
     }
 }
 
-/// The request of a line behind others, and how far it is.
+/// How many numbers the list of a request has.
+pub fn numbers_of(job: &Job) -> usize {
+    match &job.glyphs {
+        Glyphs::Listed(glyphs) => glyphs.len(),
+        Glyphs::Characters(found) => found.len(),
+        Glyphs::InFile(_, _) => 0,
+        Glyphs::ByText(_) => 0,
+        Glyphs::Every => 0,
+    }
+}
+
+/// The answer to a request whose list is too long.
+fn too_long(alloc: Global) -> Answer {
+    let text = "the lists of all lines have more than 2000000 numbers";
+    failed(TOO_LONG, String::from_str(alloc, text))
+}
+
+/// A request behind others, and how far it is, where lists may have so many more numbers.
+fn admit(
+    alloc: Global,
+    before: &[Request],
+    names: &HashMap<String, ()>,
+    left: usize,
+    _line: &[u8],
+    job: Job,
+) -> (Option<Job>, State) {
+    if numbers_of(&job) > left {
+        return (None, State::Answered(too_long(alloc)));
+    }
+    let state = first_state(alloc, before, names, &job);
+    (Some(job), state)
+}
+
+/// The request of a line behind others by what the line requests, and how far it is, where lists may have so many more numbers.
 fn begin(
     alloc: Global,
     before: &[Request],
     names: &HashMap<String, ()>,
+    left: usize,
     line: &[u8],
+    order: Result<Job, Answer>,
 ) -> (Option<Job>, State) {
-    match order_of(alloc, line) {
-        Ok(job) => {
-            let state = first_state(alloc, before, names, &job);
-            (Some(job), state)
-        }
+    match order {
+        Ok(job) => admit(alloc, before, names, left, line, job),
         Err(answer) => (None, State::Answered(answer)),
     }
 }
@@ -114,11 +146,7 @@ fn add_name(
 }
 
 /// Adds the names of the files that a request writes.
-pub fn add_names(
-    alloc: Global,
-    names: &mut HashMap<String, ()>,
-    job: &Job,
-) -> Result<(), AllocError> {
+fn add_names(alloc: Global, names: &mut HashMap<String, ()>, job: &Job) -> Result<(), AllocError> {
     add_name(alloc, names, given(&job.output))?;
     add_name(alloc, names, pdf_file(job))
 }
@@ -135,33 +163,46 @@ fn add_names_if(
     }
 }
 
-/// Adds the request of a line, and the names of the files that it writes.
-fn push_line(
+/// How many numbers the list of a request has that may be wrong.
+fn numbers_if(job: &Option<Job>) -> usize {
+    match job {
+        Some(job) => numbers_of(job),
+        None => 0,
+    }
+}
+
+/// Adds the request of a line by what it requests, and the names of the files that it writes, and counts the numbers of its list.
+pub fn push_order(
     alloc: Global,
     batch: &mut Batch,
     names: &mut HashMap<String, ()>,
+    left: &mut usize,
     line: Line<'_>,
+    order: Result<Job, Answer>,
 ) -> Result<(), AllocError> {
-    let (job, state) = begin(alloc, &batch.requests, names, line.bytes);
+    let (job, state) = begin(alloc, &batch.requests, names, *left, line.bytes, order);
     add_names_if(alloc, names, &job)?;
+    *left = left.saturating_sub(numbers_if(&job));
     let line = line.number;
     batch.requests.push(Request { line, job })?;
     batch.states.push(state)?;
     Ok(())
 }
 
-/// The requests of a file: one for each line that isn't blank, and how far it is: it is to be done unless it is wrong, or a
-/// line before it writes its file, too.
+/// The requests of a file: one for each line that isn't blank, and how far it is: it is to be done unless it is wrong, a line
+/// before it writes its file, too, or its list and those before it have more than 2,000,000 numbers.
 pub fn requests_of(alloc: Global, file: &[u8]) -> Result<Batch, AllocError> {
     let mut batch = Batch {
         requests: Vec::new(alloc),
         states: Vec::new(alloc),
     };
     let mut names = HashMap::new(alloc);
+    let mut left = MOST_NUMBERS;
     let lines = lines_of(alloc, file)?;
     let mut rest = lines.as_slice();
     while let [line, behind @ ..] = rest {
-        push_line(alloc, &mut batch, &mut names, *line)?;
+        let order = order_of(alloc, line.bytes);
+        push_order(alloc, &mut batch, &mut names, &mut left, *line, order)?;
         rest = behind;
     }
     Ok(batch)

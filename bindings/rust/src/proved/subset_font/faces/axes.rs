@@ -6,7 +6,9 @@ use crate::rattle::prelude::Vec;
 use crate::proved::subset_font::faces::outlines::outlines_of;
 use crate::proved::subset_font::making::carried::read_whole;
 use crate::proved::subset_font::refusals::failure::Failure;
-use crate::proved::subset_lines::{read_axes, write_axes, write_axes_json, FontAxes, Outlines};
+use crate::proved::subset_lines::{
+    read_axes, write_axes, write_axes_json, FontAxes, NameTable, Outlines,
+};
 use crate::proved::subsetter::{Error, Tag};
 use crate::proved::subsetter_sfnt::directory::{header_offset, table};
 use crate::proved::subsetter_variation::locations::axes::{axes, Axis};
@@ -54,6 +56,12 @@ fn report_none<L: Write>(
     json: bool,
     lines: &mut L,
 ) -> Result<(), Failure> {
+    let names = match NameTable::new(alloc, names) {
+        Ok(names) => names,
+        _ => {
+            return Err(Failure::Error(Error::OutOfMemory));
+        }
+    };
     let none = FontAxes {
         axes: Vec::new(alloc),
         instances: Vec::new(alloc),

@@ -5,46 +5,78 @@ use crate::rattle::prelude::Vec;
 
 use crate::proved::subset_font::faces::axes::names_of;
 use crate::proved::subset_font::refusals::failure::Failure;
-use crate::proved::subset_lines::{name_of, read_axes, text_of_name, FontAxes};
+use crate::proved::subset_lines::{encoded, read_axes, text_of_name, FontAxes, NameTable};
 use crate::proved::subsetter::{Error, Tag};
 use crate::proved::subsetter_base::fields::long_signed_in;
-use crate::proved::subsetter_base::read::after_four;
+use crate::proved::subsetter_base::read::{after_four, Reader};
 use crate::proved::subsetter_sfnt::directory::{header_offset, table};
 use crate::proved::subsetter_variation::locations::axes::Axis;
 use crate::rattle::alloc::{AllocError, Global};
 
-/// Whether two names are the same but for the case of ASCII letters.
-fn is_same_name(one: &[u8], other: &[u8]) -> bool {
-    one.eq_ignore_ascii_case(other)
+/// What a name has behind a text, which may differ from it in the case of ASCII letters. None where it doesn't begin so.
+fn behind_same<'a>(text: &[u8], name: &'a [u8]) -> Option<&'a [u8]> {
+    let mut rest = name;
+    for byte in text {
+        let (first, behind) = match rest {
+            [first, behind @ ..] => (first, behind),
+            _ => {
+                return None;
+            }
+        };
+        if !byte.eq_ignore_ascii_case(first) {
+            return None;
+        }
+        rest = behind;
+    }
+    Some(rest)
+}
+
+/// Whether the text of code units is a name, but for the case of ASCII letters. One character after another is compared.
+fn is_text_of(units: &[u8], name: &[u8]) -> bool {
+    let mut left = name;
+    let mut rest = units;
+    while let [high, low, more @ ..] = rest {
+        let mut room = [0; 4];
+        match behind_same(encoded(*high, *low, &mut room), left) {
+            Some(behind) => left = behind,
+            None => return false,
+        }
+        rest = more;
+    }
+    left.is_empty()
 }
 
 /// Whether the instance of a record has a name.
-fn has_name(alloc: Global, names: &[u8], bytes: &[u8], name: &str) -> Result<bool, AllocError> {
-    let found = match name_of(names, bytes) {
-        Some(found) => found,
-        _ => {
-            return Ok(false);
-        }
-    };
-    match text_of_name(alloc, found) {
-        Ok(text) => Ok(is_same_name(&text, name.as_bytes())),
-        Err(_) => Err(AllocError),
+fn has_name(names: &NameTable<'_>, bytes: &[u8], name: &str) -> bool {
+    match names.of_instance(bytes) {
+        Some(units) => is_text_of(units, name.as_bytes()),
+        None => false,
     }
 }
 
-/// The first of the records whose instance has a name.
-fn find_named<'a>(
-    alloc: Global,
-    names: &[u8],
-    records: &[&'a [u8]],
-    name: &str,
-) -> Result<Option<&'a [u8]>, AllocError> {
-    for bytes in records {
-        if has_name(alloc, names, bytes, name)? {
-            return Ok(Some(*bytes));
-        }
+/// The number of the name of the instance of a record.
+fn number_of(bytes: &[u8]) -> Option<u16> {
+    Reader::new(bytes).read::<u16>()
+}
+
+/// Whether the instance of a record has a name, where the name of a number is known to be another.
+fn has_name_beside(other: Option<u16>, names: &NameTable<'_>, bytes: &[u8], name: &str) -> bool {
+    if number_of(bytes) == other {
+        return false;
     }
-    Ok(None)
+    has_name(names, bytes, name)
+}
+
+/// The first of the records whose instance has a name. Of records in a row that have a name of one number the first is compared.
+fn find_named<'a>(names: &NameTable<'_>, records: &[&'a [u8]], name: &str) -> Option<&'a [u8]> {
+    let mut other = None;
+    for bytes in records {
+        if has_name_beside(other, names, bytes, name) {
+            return Some(*bytes);
+        }
+        other = number_of(bytes);
+    }
+    None
 }
 
 /// The coordinate of four bytes, in 65536ths, and 0 where they aren't there.
@@ -72,13 +104,12 @@ fn instance_settings(
     all: &FontAxes<'_>,
     name: &str,
 ) -> Result<Vec<(Tag, i32)>, Failure> {
-    match find_named(alloc, all.names, &all.instances, name) {
-        Ok(Some(bytes)) => match settings_of(alloc, &all.axes, after_four(bytes)) {
+    match find_named(&all.names, &all.instances, name) {
+        Some(bytes) => match settings_of(alloc, &all.axes, after_four(bytes)) {
             Ok(settings) => Ok(settings),
             Err(_) => Err(Failure::Error(Error::OutOfMemory)),
         },
-        Ok(None) => Err(Failure::NoInstance),
-        Err(_) => Err(Failure::Error(Error::OutOfMemory)),
+        None => Err(Failure::NoInstance),
     }
 }
 
@@ -112,10 +143,10 @@ fn push_name(
     text: &mut Vec<u8>,
     alloc: Global,
     before: &[u8],
-    names: &[u8],
+    names: &NameTable<'_>,
     bytes: &[u8],
 ) -> Result<bool, AllocError> {
-    let found = match name_of(names, bytes) {
+    let found = match names.of_instance(bytes) {
         Some(found) => found,
         _ => {
             return Ok(false);
@@ -145,7 +176,7 @@ fn before_next(before: &[u8], found: bool) -> &[u8] {
 fn names_behind(
     alloc: Global,
     front: &[u8],
-    names: &[u8],
+    names: &NameTable<'_>,
     records: &[&[u8]],
 ) -> Result<Vec<u8>, AllocError> {
     let mut text = Vec::new(alloc);
@@ -183,7 +214,11 @@ fn with_more(alloc: Global, mut text: Vec<u8>, more: usize) -> Result<Vec<u8>, A
 }
 
 /// The line of the names of the first instances, and how many more there are.
-fn few_names(alloc: Global, names: &[u8], records: &[&[u8]]) -> Result<Vec<u8>, AllocError> {
+fn few_names(
+    alloc: Global,
+    names: &NameTable<'_>,
+    records: &[&[u8]],
+) -> Result<Vec<u8>, AllocError> {
     let text = names_behind(alloc, b"named instances: ", names, few_records(records))?;
     let text = with_more(alloc, text, records.len().saturating_sub(MOST_NAMES))?;
     line_of_names(text)
@@ -192,7 +227,7 @@ fn few_names(alloc: Global, names: &[u8], records: &[&[u8]]) -> Result<Vec<u8>, 
 /// The line of the names of the instances in `fvar`.
 fn names_of_fvar(alloc: Global, fvar: &[u8], names: &[u8]) -> Result<Vec<u8>, AllocError> {
     match read_axes(alloc, fvar, names) {
-        Ok(all) => few_names(alloc, names, &all.instances),
+        Ok(all) => few_names(alloc, &all.names, &all.instances),
         Err(Error::OutOfMemory) => Err(AllocError),
         Err(_) => line_of_names(Vec::new(alloc)),
     }

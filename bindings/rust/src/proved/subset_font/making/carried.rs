@@ -3,7 +3,7 @@
 
 use crate::rattle::prelude::Vec;
 
-use crate::proved::subset_font::making::outcome::{make_planned, Outcome};
+use crate::proved::subset_font::making::outcome::make_planned;
 use crate::proved::subset_font::output::emit;
 use crate::proved::subset_font::refusals::failure::Failure;
 use crate::proved::subset_font::task::Plan;
@@ -22,20 +22,6 @@ pub fn read_whole<R: Read>(alloc: Global, reader: &mut R, room: usize) -> Result
     Ok(font)
 }
 
-/// What a plan makes of the font from a reader, whose bytes are kept. Room for so many bytes of the font is taken at once.
-fn make_from<R: Read>(
-    alloc: Global,
-    plan: &Plan<'_>,
-    reader: &mut R,
-    room: usize,
-    source: &mut Vec<u8>,
-) -> Result<Outcome, Failure> {
-    let font = read_whole(alloc, reader, room)?;
-    let outcome = make_planned(alloc, &font, plan);
-    *source = font;
-    outcome
-}
-
 /// Reads the font from the reader, writes the PDF of its glyphs to one writer, if one is requested, its subset to another, and
 /// the new numbers to the third. The bytes that were read are kept. Room for so many of them is taken at once.
 ///
@@ -52,7 +38,9 @@ pub fn carry_out<R: Read, P: Write, W: Write, L: Write>(
     output: &mut W,
     lines: &mut L,
 ) -> Result<(), Failure> {
-    match make_from(alloc, plan, reader, room, source) {
+    let font = read_whole(alloc, reader, room)?;
+    *source = font;
+    match make_planned(alloc, source, plan) {
         Ok(outcome) => emit(&outcome, plan.task.form, page, output, lines),
         Err(failure) => Err(failure),
     }

@@ -19,13 +19,13 @@ use crate::proved::subsetter_sfnt::directory::table;
 use crate::rattle::alloc::{AllocError, Global};
 
 /// What a plan makes of a font.
-pub struct Outcome {
+pub struct Outcome<'a> {
     /// The subset and its numbers.
     pub made: Made,
     /// What is printed behind the numbers: further lines, or further members of the JSON object.
     pub more: Vec<u8>,
-    /// The names of the requested glyphs, as far as they are printed; an empty one is none.
-    pub names: Vec<Vec<u8>>,
+    /// The names of the requested glyphs in the font that is read, as far as they are printed; an empty one is none.
+    pub names: Vec<&'a [u8]>,
     /// The PDF, if one is requested.
     pub sheet: Option<Sheet>,
 }
@@ -128,24 +128,24 @@ fn bytes_of(font: &[u8], index: u32, tag: Tag) -> &[u8] {
 }
 
 /// The names of glyphs in a face.
-fn names_of(
+fn names_of<'a>(
     alloc: Global,
-    font: &[u8],
+    font: &'a [u8],
     index: u32,
     glyphs: &[u16],
-) -> Result<Vec<Vec<u8>>, AllocError> {
+) -> Result<Vec<&'a [u8]>, AllocError> {
     let post = bytes_of(font, index, Tag::POST);
     let cff = bytes_of(font, index, Tag::CFF);
     glyph_names(alloc, post, cff, glyphs)
 }
 
 /// The names of glyphs, if they are printed.
-fn names_for(
+fn names_for<'a>(
     alloc: Global,
-    font: &[u8],
+    font: &'a [u8],
     plan: &Plan<'_>,
     glyphs: &[u16],
-) -> Result<Vec<Vec<u8>>, AllocError> {
+) -> Result<Vec<&'a [u8]>, AllocError> {
     match plan.task.form {
         Form::Json => names_of(alloc, font, plan.task.index, glyphs),
         Form::Lines => Ok(Vec::new(alloc)),
@@ -154,13 +154,13 @@ fn names_for(
 }
 
 /// The same for what was made by a task, which is kept, with the names of its glyphs, and the PDF, if one is requested.
-fn with_more(
+fn with_more<'a>(
     alloc: Global,
-    font: &[u8],
+    font: &'a [u8],
     plan: &Plan<'_>,
     task: &Task<'_>,
     made: Made,
-) -> Result<Outcome, Failure> {
+) -> Result<Outcome<'a>, Failure> {
     let sheet = sheet_if(alloc, font, plan.pdf, task, &made)?;
     let more = match more_of(alloc, font, plan, &made, &sheet) {
         Ok(more) => more,
@@ -192,13 +192,13 @@ fn task_at<'a>(task: &Task<'a>, at: &'a [(Tag, i32)]) -> Task<'a> {
 }
 
 /// What a plan makes of a font at the coordinates of the named instance.
-fn make_instance(
+fn make_instance<'a>(
     alloc: Global,
-    font: &[u8],
+    font: &'a [u8],
     plan: &Plan<'_>,
     _name: &str,
     at: &[(Tag, i32)],
-) -> Result<Outcome, Failure> {
+) -> Result<Outcome<'a>, Failure> {
     let task = task_at(&plan.task, at);
     match make_of(alloc, font, &task) {
         Ok(made) => with_more(alloc, font, plan, &task, made),
@@ -207,12 +207,12 @@ fn make_instance(
 }
 
 /// What a plan makes of a font at the named instance of a name.
-fn make_at_instance(
+fn make_at_instance<'a>(
     alloc: Global,
-    font: &[u8],
+    font: &'a [u8],
     plan: &Plan<'_>,
     name: &str,
-) -> Result<Outcome, Failure> {
+) -> Result<Outcome<'a>, Failure> {
     match face_settings(alloc, font, plan.task.index, name) {
         Ok(at) => make_instance(alloc, font, plan, name, &at),
         Err(failure) => Err(failure),
@@ -220,7 +220,11 @@ fn make_at_instance(
 }
 
 /// What a plan makes of a font that is taken as it is, or at given coordinates.
-fn make_as_given(alloc: Global, font: &[u8], plan: &Plan<'_>) -> Result<Outcome, Failure> {
+fn make_as_given<'a>(
+    alloc: Global,
+    font: &'a [u8],
+    plan: &Plan<'_>,
+) -> Result<Outcome<'a>, Failure> {
     match make_of(alloc, font, &plan.task) {
         Ok(made) => with_more(alloc, font, plan, &plan.task, made),
         Err(failure) => Err(failure),
@@ -228,7 +232,11 @@ fn make_as_given(alloc: Global, font: &[u8], plan: &Plan<'_>) -> Result<Outcome,
 }
 
 /// What a plan makes of the bytes of a font.
-pub fn make_planned(alloc: Global, font: &[u8], plan: &Plan<'_>) -> Result<Outcome, Failure> {
+pub fn make_planned<'a>(
+    alloc: Global,
+    font: &'a [u8],
+    plan: &Plan<'_>,
+) -> Result<Outcome<'a>, Failure> {
     match plan.instance {
         Some(name) => make_at_instance(alloc, font, plan, name),
         None => make_as_given(alloc, font, plan),

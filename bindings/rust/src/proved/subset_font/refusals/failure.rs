@@ -33,6 +33,8 @@ pub enum Failure {
     WritePdf,
     /// The lines can't be written.
     Output,
+    /// A batch would answer more than 64 MiB to one request.
+    LongAnswer,
 }
 
 impl fmt::Display for Failure {
@@ -48,6 +50,7 @@ impl fmt::Display for Failure {
             Failure::Read | Failure::ReadList => f.write_str("cannot read"),
             Failure::Write | Failure::WritePdf => f.write_str("cannot write"),
             Failure::Output => f.write_str("cannot write standard output"),
+            Failure::LongAnswer => f.write_str("the answer has more than 64 MiB"),
         }
     }
 }
@@ -66,6 +69,7 @@ impl Failure {
         match self {
             Failure::Error(_) => 1,
             Failure::NoMapping | Failure::NoInstance | Failure::NotPermitted(_) => 1,
+            Failure::LongAnswer => 1,
             Failure::Usage | Failure::List => 2,
             Failure::Read | Failure::ReadList => 3,
             Failure::Write | Failure::WritePdf | Failure::Output => 3,

@@ -4,7 +4,7 @@
 use crate::rattle::prelude::{Cast, Vec};
 
 use crate::proved::subset_lines::entry::Unwritten;
-use crate::proved::subset_lines::faces::names::{string_for, write_behind};
+use crate::proved::subset_lines::faces::names::{write_behind, NameTable};
 use crate::proved::subset_lines::faces::outlines::{write_outlines, Outlines};
 use crate::proved::subset_lines::faces::settings::{write_each, SettingForm};
 use crate::proved::subset_lines::fixed::write_fixed;
@@ -77,7 +77,7 @@ fn instances(alloc: Global, fvar: &[u8]) -> Result<Vec<&[u8]>, Error> {
 pub struct FontAxes<'a> {
     pub axes: Vec<Axis>,
     pub instances: Vec<&'a [u8]>,
-    pub names: &'a [u8],
+    pub names: NameTable<'a>,
 }
 
 /// The axes and the named instances that `fvar` lists, whose names are in another table. A cut `fvar` is `MalformedFont`.
@@ -88,6 +88,7 @@ pub fn read_axes<'a>(
 ) -> Result<FontAxes<'a>, Error> {
     let axes = axes(alloc, fvar)?;
     let instances = instances(alloc, fvar)?;
+    let names = NameTable::new(alloc, names)?;
     Ok(FontAxes {
         axes,
         instances,
@@ -159,28 +160,23 @@ fn write_settings<W: Write>(axes: &[Axis], bytes: &[u8], out: &mut W) -> Result<
     write_each(SettingForm::Line, axes, bytes, out)
 }
 
-/// The name of a named instance, if there is one.
-pub fn name_of<'a>(names: &'a [u8], bytes: &[u8]) -> Option<&'a [u8]> {
-    string_for(names, Reader::new(bytes).read::<u16>()?)
-}
-
 /// Writes the line of a named instance.
 fn write_instance<W: Write>(
     axes: &[Axis],
-    names: &[u8],
+    names: &NameTable<'_>,
     bytes: &[u8],
     out: &mut W,
 ) -> Result<(), Unwritten> {
     write_text(b"instance ", out)?;
     write_settings(axes, after_four(bytes), out)?;
-    write_behind(name_of(names, bytes), out)?;
+    write_behind(names.of_instance(bytes), out)?;
     write_text(b"\n", out)
 }
 
 /// Writes a line for each named instance.
 fn write_instance_lines<W: Write>(
     axes: &[Axis],
-    names: &[u8],
+    names: &NameTable<'_>,
     records: &[&[u8]],
     out: &mut W,
 ) -> Result<(), Unwritten> {
@@ -201,6 +197,6 @@ pub fn write_axes<W: Write>(
 ) -> Result<(), Unwritten> {
     write_outlines(outlines, is_variable, out)?;
     write_axis_lines(&all.axes, out)?;
-    write_instance_lines(&all.axes, all.names, &all.instances, out)?;
+    write_instance_lines(&all.axes, &all.names, &all.instances, out)?;
     flush(out)
 }

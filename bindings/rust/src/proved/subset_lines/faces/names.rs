@@ -8,6 +8,8 @@ use crate::proved::subsetter_sfnt::fields::name::{
     NameRecord, COUNT, HEADER_SIZE, NAME_RECORD_SIZE, STORAGE_OFFSET,
 };
 use crate::proved::subsetter_words::is_plain;
+use crate::rattle::alloc::{AllocError, Global};
+use crate::rattle::collections::HashMap;
 use crate::rattle::io::Write;
 
 /// Which records serve.
@@ -43,47 +45,105 @@ fn serves(kind: Kind, bytes: &[u8]) -> bool {
     }
 }
 
-/// Whether a record has a name of a kind.
-fn is_name(kind: Kind, id: u16, bytes: &[u8]) -> bool {
-    record_of(bytes).name_id == id && serves(kind, bytes)
+/// Adds a record, unless its name has one.
+fn add_first(records: &mut HashMap<u16, NameRecord>, added: NameRecord) -> Result<(), AllocError> {
+    if records.get(&added.name_id).is_none() {
+        records.insert(added.name_id, added)?;
+    }
+    Ok(())
 }
 
-/// The first of so many records that has a name of a kind.
-fn first_name(kind: Kind, id: u16, count: u16, table: &[u8]) -> Option<&[u8]> {
+/// Adds a record, if it is of a kind, unless its name has one.
+fn add_record(
+    records: &mut HashMap<u16, NameRecord>,
+    kind: Kind,
+    bytes: &[u8],
+) -> Result<(), AllocError> {
+    if serves(kind, bytes) {
+        add_first(records, record_of(bytes))?;
+    }
+    Ok(())
+}
+
+/// The first of so many records for each name of a kind.
+fn first_records(
+    alloc: Global,
+    kind: Kind,
+    count: u16,
+    table: &[u8],
+) -> Result<HashMap<u16, NameRecord>, AllocError> {
+    let mut records = HashMap::new(alloc);
     let mut r = Reader::new_at(table, HEADER_SIZE);
     for _ in 0..count {
-        let bytes = r.read_bytes(NAME_RECORD_SIZE)?;
-        if is_name(kind, id, bytes) {
-            return Some(bytes);
-        }
+        let bytes = match r.read_bytes(NAME_RECORD_SIZE) {
+            Some(bytes) => bytes,
+            _ => {
+                return Ok(records);
+            }
+        };
+        add_record(&mut records, kind, bytes)?;
     }
-    None
+    Ok(records)
 }
 
-/// The record of a name of the best kind that there is.
-fn best_name(id: u16, count: u16, table: &[u8]) -> Option<&[u8]> {
-    if let Some(bytes) = first_name(Kind::English, id, count, table) {
-        return Some(bytes);
+/// How many records a table has.
+fn count_in(table: &[u8]) -> u16 {
+    match Reader::new_at(table, COUNT).read::<u16>() {
+        Some(count) => count,
+        None => 0,
     }
-    if let Some(bytes) = first_name(Kind::Windows, id, count, table) {
-        return Some(bytes);
+}
+
+/// The record of a name.
+fn record_for(records: &HashMap<u16, NameRecord>, id: u16) -> Option<NameRecord> {
+    match records.get(&id) {
+        Some(record) => Some(*record),
+        None => None,
     }
-    first_name(Kind::Unicode, id, count, table)
 }
 
 /// The string of a record, in the storage.
-fn string_of<'a>(table: &'a [u8], storage: u16, bytes: &[u8]) -> Option<&'a [u8]> {
-    let record = record_of(bytes);
-    let at = storage as usize + record.string_offset as usize;
-    Reader::new_at(table, at).read_bytes(record.length as usize)
+fn string_of(table: &[u8], storage: u16, read: NameRecord) -> Option<&[u8]> {
+    let at = storage as usize + read.string_offset as usize;
+    Reader::new_at(table, at).read_bytes(read.length as usize)
 }
 
-/// A name, if the table has it.
-pub fn string_for(table: &[u8], id: u16) -> Option<&[u8]> {
-    let count = Reader::new_at(table, COUNT).read::<u16>()?;
-    let storage = Reader::new_at(table, STORAGE_OFFSET).read::<u16>()?;
-    let bytes = best_name(id, count, table)?;
-    string_of(table, storage, bytes)
+/// A table `name`, with the first record of each name of each kind, so that a name is found without a look at all records.
+pub struct NameTable<'a> {
+    table: &'a [u8],
+    english: HashMap<u16, NameRecord>,
+    windows: HashMap<u16, NameRecord>,
+    unicode: HashMap<u16, NameRecord>,
+}
+
+impl<'a> NameTable<'a> {
+    /// Finds the records of a table.
+    pub fn new(alloc: Global, table: &'a [u8]) -> Result<Self, AllocError> {
+        let count = count_in(table);
+        Ok(NameTable {
+            table,
+            english: first_records(alloc, Kind::English, count, table)?,
+            windows: first_records(alloc, Kind::Windows, count, table)?,
+            unicode: first_records(alloc, Kind::Unicode, count, table)?,
+        })
+    }
+
+    /// The record of a name of the best kind that there is.
+    fn best_record(&self, id: u16) -> Option<NameRecord> {
+        let other = record_for(&self.windows, id).or(record_for(&self.unicode, id));
+        record_for(&self.english, id).or(other)
+    }
+
+    /// A name, if the table has it.
+    fn string_for(&self, id: u16) -> Option<&'a [u8]> {
+        let storage = Reader::new_at(self.table, STORAGE_OFFSET).read::<u16>()?;
+        string_of(self.table, storage, self.best_record(id)?)
+    }
+
+    /// The name of the named instance of a record, if there is one.
+    pub fn of_instance(&self, bytes: &[u8]) -> Option<&'a [u8]> {
+        self.string_for(Reader::new(bytes).read::<u16>()?)
+    }
 }
 
 /// Whether a code unit is a character that a line may have.
@@ -100,6 +160,12 @@ fn character_of(unit: u16) -> char {
         Some(character) => character,
         None => '\u{FFFD}',
     }
+}
+
+/// The character of a code unit in UTF-8, which is put into the room.
+pub fn encoded(high: u8, low: u8, room: &mut [u8; 4]) -> &[u8] {
+    let character = character_of(u16::from(high) * 256 + u16::from(low));
+    character.encode_utf8(room).as_bytes()
 }
 
 /// Writes the character of a code unit.

@@ -4,7 +4,7 @@
 use crate::rattle::prelude::Vec;
 
 use crate::proved::subset_lines::entry::Unwritten;
-use crate::proved::subset_lines::faces::axes::{name_of, tag_bytes, FontAxes};
+use crate::proved::subset_lines::faces::axes::{tag_bytes, FontAxes};
 use crate::proved::subset_lines::faces::names::write_units;
 use crate::proved::subset_lines::faces::outlines::{write_outlines_members, Outlines};
 use crate::proved::subset_lines::faces::settings::{write_each, SettingForm};
@@ -111,7 +111,7 @@ fn write_instance_object<W: Write>(
     bytes: &[u8],
     out: &mut W,
 ) -> Result<(), Unwritten> {
-    write_instance_name(alloc, name_of(all.names, bytes), out)?;
+    write_instance_name(alloc, all.names.of_instance(bytes), out)?;
     write_instance_settings(&all.axes, after_four(bytes), out)
 }
 

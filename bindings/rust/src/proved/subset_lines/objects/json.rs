@@ -3,10 +3,11 @@
 
 use crate::rattle::prelude::Vec;
 
-use crate::proved::subset_lines::entry::{take_first, take_name, Numbering, Unwritten};
+use crate::proved::subset_lines::entry::{name_at, take_first, Numbering, Unwritten};
 use crate::proved::subset_lines::objects::quoted::write_shown;
 use crate::proved::subset_lines::plain::flush;
 use crate::proved::subset_lines::text::write_text;
+use crate::proved::subsetter_base::GlyphRemapper;
 use crate::rattle::alloc::Global;
 use crate::rattle::io::Write;
 
@@ -73,21 +74,35 @@ fn write_object<W: Write>(
     write_text(b"}", out)
 }
 
-/// Writes the objects of the glyphs.
-fn write_entries<W: Write>(numbering: &Numbering<'_>, out: &mut W) -> Result<(), Unwritten> {
-    let mapper = numbering.mapper;
-    let mut characters = numbering.characters;
-    let mut names = numbering.names;
+/// Writes the objects of glyphs, by characters and names as far as there are any.
+fn write_each<W: Write>(
+    mapper: &GlyphRemapper,
+    characters: &[char],
+    names: &[&[u8]],
+    glyphs: &[u16],
+    out: &mut W,
+) -> Result<(), Unwritten> {
+    let mut characters = characters;
     let mut before = b"".as_slice();
-    for glyph in numbering.glyphs {
+    for index in 0..glyphs.len() {
         let (character, others) = take_first(characters);
-        let (name, more) = take_name(names);
-        write_object(before, character, name, *glyph, mapper.get(*glyph), out)?;
+        let (name, glyph) = (name_at(names, index), glyphs[index]);
+        write_object(before, character, name, glyph, mapper.get(glyph), out)?;
         characters = others;
-        names = more;
         before = b",".as_slice();
     }
     Ok(())
+}
+
+/// Writes the objects of the glyphs.
+fn write_entries<W: Write>(numbering: &Numbering<'_>, out: &mut W) -> Result<(), Unwritten> {
+    write_each(
+        numbering.mapper,
+        numbering.characters,
+        numbering.names,
+        numbering.glyphs,
+        out,
+    )
 }
 
 /// Writes the member that has the widths, unless their text is empty.

@@ -9,5 +9,5 @@ pub returns : goal.returns
 returns g c =
     let axes = subst (λ l. Appends (g.W.Write.contents c.write_outlines_members.new.out) (g.W.Write.contents c.write_axes_member.new.out) (axes_member l)) c.deref.ensures.value c.in_ok-write_axes_member.ensures in
     let front = both (g.W.Write.contents c.args.out.now) (g.W.Write.contents c.write_outlines_members.new.out) (g.W.Write.contents c.write_axes_member.new.out) (outlines_members c.args.outlines c.args.is_variable) (axes_member c.args.all.now.axes.items) c.in_ok-write_outlines_members.ensures axes in
-    let said = both (g.W.Write.contents c.args.out.now) (g.W.Write.contents c.write_axes_member.new.out) (g.W.Write.contents c.write_instances_member.new.out) (outlines_members c.args.outlines c.args.is_variable ++ axes_member c.args.all.now.axes.items) (instances_member c.args.all.now.axes.items c.args.all.now.names.now (map (λ bytes. bytes.now) c.args.all.now.instances.items)) front c.in_ok-write_instances_member.ensures in
-    ended c.flush.result (g.W.Write.contents c.args.out.now) (g.W.Write.contents c.write_instances_member.new.out) (g.W.Write.contents c.flush.new.lines) (axes_json c.args.outlines c.args.is_variable c.args.all.now.axes.items c.args.all.now.names.now (map (λ bytes. bytes.now) c.args.all.now.instances.items)) said c.flush.ensures
+    let said = both (g.W.Write.contents c.args.out.now) (g.W.Write.contents c.write_axes_member.new.out) (g.W.Write.contents c.write_instances_member.new.out) (outlines_members c.args.outlines c.args.is_variable ++ axes_member c.args.all.now.axes.items) (instances_member c.args.all.now.axes.items c.args.all.now.names (map (λ bytes. bytes.now) c.args.all.now.instances.items)) front c.in_ok-write_instances_member.ensures in
+    ended c.flush.result (g.W.Write.contents c.args.out.now) (g.W.Write.contents c.write_instances_member.new.out) (g.W.Write.contents c.flush.new.lines) (axes_json c.args.outlines c.args.is_variable c.args.all.now.axes.items c.args.all.now.names (map (λ bytes. bytes.now) c.args.all.now.instances.items)) said c.flush.ensures
