@@ -94,8 +94,10 @@ fn private_by<'a>(table: &Table<'a>, _glyph: u16, number: u8) -> Option<SIDMetad
 
 /// The private dict of a glyph.
 fn private_of<'a>(table: &Table<'a>, glyph: u16) -> Option<SIDMetadata<'a>> {
-    let number = source_number(table, glyph)?;
-    private_by(table, glyph, number)
+    match source_number(table, glyph) {
+        Some(number) => private_by(table, glyph, number),
+        None => None,
+    }
 }
 
 /// The charstring of a glyph.
