@@ -50,7 +50,9 @@ impl Object {
     }
 
     /// Whether more was to be written than it has room for.
-    pub fn is_long(&self) -> bool {
+    pub fn is_long(&self) -> bool
+        ensures { result ≡ self.now.is_long }
+    {
         self.is_long
     }
 
