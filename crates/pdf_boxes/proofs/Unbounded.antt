@@ -1,5 +1,5 @@
 -- What is flattened without a bound on bytes, and a glyph without a font dict.
-use Rattle.std.proofs.Common.{◌≡◌, ℕ, Bool, true, false, List, length, None, Some, Result, Ok, Err, refl, sym, subst, inl, inr}
+use Rattle.std.proofs.Common.{◌≡◌, ℕ, Bool, true, false, List, length, None, Option, Some, Result, Ok, Err, refl, sym, subst, inl, inr}
 use Rattle.subsetter_base.specs.declared.error.Error.{Error}
 use Rattle.subsetter_base.specs.Gives.{Gives}
 use Rattle.subsetter_base.specs.Within.{GivesWithin}
