@@ -1,9 +1,10 @@
 -- A name is compared with a text character by character.
-use Rattle.std.proofs.Common.{◌≡◌, ℕ, List, [], ◌∷◌, ◌++◌, ◌+◌, ◌*◌, Bool, true, false, ◌&&◌, if◌then◌else◌, ◌==◌, Option, Some, None, refl, sym, ap, ◌∙◌, cc}
+use Rattle.std.proofs.Common.{◌≡◌, ℕ, List, [], ◌∷◌, ◌++◌, ◌+◌, ◌*◌, Bool, true, false, ◌&&◌, if◌then◌else◌, ◌==◌, Option, Some, None, ◌<◌, length, drop, refl, sym, ap, ◌∙◌, cc, arith}
 use Rattle.std.specs.Char.{to_ascii_lowercase, encode_utf8}
 use Rattle.std.specs.Option.{option_map_or, option_eq}
 use Rattle.std.specs.Prelude.{nat_eq}
 use Rattle.std.proofs.lemmas.Bool.{eqb-true}
+use Rattle.std.proofs.lemmas.List.{drop_more}
 use Rattle.subsetter_base.specs.Bytes.{number}
 use Rattle.subset_lines.specs.Faces.Names.{text_of_units, character_of, name_of}
 use Rattle.subset_font.specs.Faces.Named.{is_same_name, behind_same, is_name_of, has_name}
@@ -11,6 +12,11 @@ use Rattle.subset_font.specs.Faces.Named.{is_same_name, behind_same, is_name_of,
 step : (same rest : Bool) (text : List ℕ) (left : Option (List ℕ)) → rest ≡ option_map_or (is_same_name text) left false → (same && rest) ≡ option_map_or (is_same_name text) (if same then left else None) false
 step true rest text left h = h
 step false rest text left h = refl
+
+-- nothing is left of a name behind which more of the text is
+pub same_cut : (text rest : List ℕ) (i : ℕ) (total : Option (List ℕ)) → i < length text → length rest < 1 → behind_same (drop i text) rest ≡ total → None ≡ total
+same_cut text [] i total lt none h = ap (λ (l : List ℕ). behind_same l []) (sym (drop_more text i 0 lt)) ∙ h
+same_cut text (b ∷ rest) i total lt none h = absurd (omega arith)
 
 -- the same name, behind the same front
 same_behind : (front text name : List ℕ) → is_same_name (front ++ text) name ≡ option_map_or (is_same_name text) (behind_same front name) false
