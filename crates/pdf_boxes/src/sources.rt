@@ -174,12 +174,7 @@ fn top_in(
 }
 
 /// The same, 0 where the glyph has no box.
-fn top_or_zero(
-    alloc: Global,
-    table: &Table<'_>,
-    limits: &Limits,
-    glyph: u16,
-) -> Result<i16, Error>
+fn top_or_zero(alloc: Global, table: &Table<'_>, limits: &Limits, glyph: u16) -> Result<i16, Error>
     requires { IsSource table.now }
     ensures value { Gives (λ top. top) result (Ok (top_or_zero (cff_of table.now) limits.now glyph)) }
     ensures err { IfErr result (λ e. e ≡ OutOfMemory) }

@@ -84,8 +84,7 @@ fn are_wanted(face: &Face<'_>) -> bool
     ensures { result ≡ are_wanted (table_in face.now.«data».now face.now.records.now) }
 {
     face.stored(Tag::GLYF).is_none()
-        && (face.stored(Tag::new(b"vmtx")).is_some()
-            && face.stored(Tag::new(b"VORG")).is_none())
+        && (face.stored(Tag::new(b"vmtx")).is_some() && face.stored(Tag::new(b"VORG")).is_none())
 }
 
 /// The tops of glyphs of `CFF `, where they are wanted.
