@@ -28,7 +28,7 @@ pub fn take_first(characters: &[char]) -> (Option<char>, &[char]) {
     }
 }
 
-/// The first of the names from an index on, an empty one where there is none.
+/// The name at an index, an empty one where there is none.
 pub fn name_at<'a>(names: &[&'a [u8]], index: usize) -> &'a [u8] {
     match names.get(index) {
         Some(name) => name,
