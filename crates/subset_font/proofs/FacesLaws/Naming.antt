@@ -1,10 +1,10 @@
 -- A name is compared with a text character by character.
-use Rattle.std.proofs.Common.{◌≡◌, ℕ, List, [], ◌∷◌, ◌++◌, ◌+◌, ◌*◌, Bool, true, false, ◌&&◌, if◌then◌else◌, ◌==◌, Option, Some, None, ◌<◌, length, drop, refl, sym, ap, ◌∙◌, cc, arith}
+use Rattle.std.proofs.Common.{◌≡◌, ℕ, List, [], ◌∷◌, ◌++◌, ◌+◌, ◌*◌, Bool, true, false, ◌&&◌, if◌then◌else◌, ◌==◌, Option, Some, None, ◌-◌, ◌<◌, ◌≤◌, length, take, drop, get_or, refl, sym, ap, subst, ◌∙◌, arith}
 use Rattle.std.specs.Char.{to_ascii_lowercase, encode_utf8}
 use Rattle.std.specs.Option.{option_map_or, option_eq}
 use Rattle.std.specs.Prelude.{nat_eq}
 use Rattle.std.proofs.lemmas.Bool.{eqb-true}
-use Rattle.std.proofs.lemmas.List.{drop_more}
+use Rattle.std.proofs.lemmas.List.{drop_more, take_rest}
 use Rattle.subsetter_base.specs.Bytes.{number}
 use Rattle.subset_lines.specs.Faces.Names.{text_of_units, character_of, name_of}
 use Rattle.subset_font.specs.Faces.Named.{is_same_name, behind_same, is_name_of, has_name}
@@ -28,12 +28,18 @@ compared : (high low : ℕ) (more front left : List ℕ) → front ≡ encode_ut
 compared high low more front left f =
     ap (λ (l : List ℕ). is_same_name (l ++ text_of_units more) left) (sym f) ∙ same_behind front (text_of_units more) left
 
-pub same_later : (high low : ℕ) (more front left behind : List ℕ) (total : Bool) → front ≡ encode_utf8 (character_of (high * 256 + low)) → behind_same front left ≡ Some behind → is_same_name (text_of_units (high ∷ low ∷ more)) left ≡ total → is_same_name (text_of_units more) behind ≡ total
-same_later high low more front left behind total f h t =
-    sym (ap (λ (o : Option (List ℕ)). option_map_or (is_same_name (text_of_units more)) o false) h) ∙ (sym (compared high low more front left f) ∙ t)
+-- as a loop goes on behind the first of its characters
+pub same_later : (rest front left behind : List ℕ) (other : ℕ) (total : Bool) → 2 ≤ length rest → front ≡ encode_utf8 (character_of (get_or rest 0 other * 256 + get_or rest 1 other)) → behind_same front left ≡ Some behind → is_same_name (text_of_units rest) left ≡ total → is_same_name (text_of_units (take (length rest - 2) (drop 2 rest))) behind ≡ total
+same_later [] front left behind other total two f h t = absurd (omega arith)
+same_later (high ∷ []) front left behind other total two f h t = absurd (omega arith)
+same_later (high ∷ low ∷ more) front left behind other total two f h t =
+    let later : is_same_name (text_of_units more) behind ≡ total = sym (ap (λ (o : Option (List ℕ)). option_map_or (is_same_name (text_of_units more)) o false) h) ∙ (sym (compared high low more front left f) ∙ t) in
+    subst (λ (l : List ℕ). is_same_name (text_of_units l) behind ≡ total) (sym (take_rest (high ∷ low ∷ more) 2)) later
 
-pub same_not : (high low : ℕ) (more front left : List ℕ) (total : Bool) → front ≡ encode_utf8 (character_of (high * 256 + low)) → behind_same front left ≡ None → is_same_name (text_of_units (high ∷ low ∷ more)) left ≡ total → false ≡ total
-same_not high low more front left total f h t =
+pub same_not : (rest front left : List ℕ) (other : ℕ) (total : Bool) → 2 ≤ length rest → front ≡ encode_utf8 (character_of (get_or rest 0 other * 256 + get_or rest 1 other)) → behind_same front left ≡ None → is_same_name (text_of_units rest) left ≡ total → false ≡ total
+same_not [] front left other total two f h t = absurd (omega arith)
+same_not (high ∷ []) front left other total two f h t = absurd (omega arith)
+same_not (high ∷ low ∷ more) front left other total two f h t =
     sym (ap (λ (o : Option (List ℕ)). option_map_or (is_same_name (text_of_units more)) o false) h) ∙ (sym (compared high low more front left f) ∙ t)
 
 same_number : (one other : Option ℕ) → option_eq nat_eq one other ≡ true → one ≡ other

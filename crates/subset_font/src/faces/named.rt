@@ -39,7 +39,6 @@ fn behind_same<'a>(text: &[u8], name: &'a [u8]) -> Option<&'a [u8]>
 }
 
 /// Whether the text of code units is a name, but for the case of ASCII letters. One character after another is compared.
-#[tactic(auto, using(crate::proofs::FacesLaws::Naming::same_later, crate::proofs::FacesLaws::Naming::same_not))]
 fn is_text_of(units: &[u8], name: &[u8]) -> bool
     ensures { result ≡ is_same_name (text_of_units units.now) name.now }
 {

@@ -5,6 +5,5 @@ use Rattle.subset_font.proofs.faces.named.behind_same.Goals as goal
 
 pub returns-in_default : goal.returns-in_default
 returns-in_default c =
-    let none : length c.loop-byte.rest.now < 1 = omega arith in
     let more : c.loop-byte.byte-index < length c.args.text.now = omega arith in
-    same_cut c.args.text.now c.loop-byte.rest.now c.loop-byte.byte-index (behind_same c.args.text.now c.args.name.now) more none c.loop-byte.invariant
+    same_cut c.args.text.now c.loop-byte.rest.now c.loop-byte.byte-index (behind_same c.args.text.now c.args.name.now) more c.in_default.len_below c.loop-byte.invariant
