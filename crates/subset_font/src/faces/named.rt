@@ -74,12 +74,7 @@ fn number_of(bytes: &[u8]) -> Option<u16>
 
 /// Whether the instance of a record has a name, where the name of a number is known to be another.
 #[tactic(auto, using(crate::proofs::FacesLaws::Naming::known_other))]
-fn has_name_beside(
-    other: Option<u16>,
-    names: &NameTable<'_>,
-    bytes: &[u8],
-    name: &str,
-) -> bool
+fn has_name_beside(other: Option<u16>, names: &NameTable<'_>, bytes: &[u8], name: &str) -> bool
     requires { is_name_of name.now (name_of names.now other) ≡ false }
     ensures { result ≡ has_name names.now name.now bytes.now }
 {
