@@ -4,7 +4,7 @@
              aren't there: the same answer, and no panic. Of one list also what no proof says: all glyphs of a subset give it back, and each option
              leaves out what it names and keeps every other table
     damage   N damaged copies of fonts of all kinds (lib/kinds.py), each by one call, and of a variable one by one at coordinates
-    wasm     80 glyphs of each of the faces by bindings/js/out/subsetter.wasm (`make -C bindings/js`), or WASM; not in the short form
+    wasm     80 glyphs of each of the faces by the module that `make -C bindings/js` builds, or WASM; not in the short form
 
 Other processors have the rows and numbers of tests/platforms. LIBRARY is else what `make -C bindings/c` proves and builds.
 """
@@ -100,9 +100,17 @@ def compare_piece(paths, found, numbers, seed):
     return report
 
 
-def by_wasm(faces, report, room):
+def wasm():
+    """The WebAssembly module: WASM, or as `make -C bindings/js` builds it."""
+    if "WASM" in os.environ:
+        return build.named("WASM")
+    folder = os.path.join(build.ROOT, "bindings", "js")
+    subprocess.run(["make", "-s", "-C", folder], check=True)
+    return os.path.join(folder, "out", "subsetter.wasm")
+
+
+def by_wasm(module, faces, report, room):
     """Compares the WebAssembly module's answers with the library's."""
-    module = os.environ.get("WASM", os.path.join(build.ROOT, "bindings", "js", "out", "subsetter.wasm"))
     calls, name = build.Calls(), os.path.join(room, "wasm")
     lists = [(path, index, sorted({count * k // 80 for k in range(80)})) for path, index in faces for count in [fonts.glyph_count(path, index)]]
     with open(name, "w", encoding="utf-8") as file:
@@ -122,16 +130,16 @@ def by_wasm(faces, report, room):
 def main():
     words = reports.words(faces=(1000, 60), copies=(100000, 6000))
     os.environ.setdefault("LIBRARY", build.PROVED)
-    paths, report = (build.checked_library(), build.library()), reports.Report("builds")
+    paths, report, module = (build.checked_library(), build.library()), reports.Report("builds"), None if words.short else wasm()
     fonts.install(kinds.PACKAGES)
     faces = fonts.part_of([it for it in fonts.faces() if words.only in it[0]], words.faces)
     found = reports.beside(words, compare_face, [(paths, *it) for it in faces], 0.6)
     known = [it for it in kinds.all_fonts(words.folders) if words.only in it[1]]
     pieces = [(paths, known, range(first, min(first + PIECE, words.copies)), words.seed) for first in range(0, words.copies, PIECE)]
     found += reports.beside(words, compare_piece, pieces, 0.8)
-    if not words.short:
+    if module:
         with tempfile.TemporaryDirectory(prefix="builds-") as room:
-            by_wasm(faces, report, room)
+            by_wasm(module, faces, report, room)
     counts = reports.total([*found, report])
     reports.end([*found, report], counts["calls"] + counts["wasm"],
                 f"{counts['calls']} calls of {len(faces)} faces and {counts['copies']} damaged copies, {counts['fonts']} fonts; {counts['wasm']} faces by WebAssembly")
