@@ -101,8 +101,8 @@ class Table:
         self.is_keyed = last(self.top, ROS) is not None
         self.font_dicts = Index(cff, last(self.top, FDARRAY)[0]) if self.is_keyed else None
         self.select = last(self.top, FDSELECT)[0] if self.is_keyed else None
-        self.privates = {}
-        for number in {self.font_dict(glyph) for glyph in glyphs} - {None}:
+        self.privates, self.used = {}, {self.font_dict(glyph) for glyph in glyphs} - {None}
+        for number in self.used:
             self.read_private(number)
 
     def entries(self, number):
@@ -223,12 +223,12 @@ class Machine:
 
 # ---- reasons
 
-def note_dict(found, entries):
+def note_dict(found, entries, name):
     """Notes what is in a dict."""
     for operator, operands in entries:
         if operator in (NOTICE, COPYRIGHT, FONT_NAME) and operands and isinstance(operands[-1], int) and 0 <= operands[-1] < 391:
-            found.add(("a notice or name is a standard string", operands[-1]))
-        found.update(("a real isn't the same as an f32", it) for it in operands if isinstance(it, str) and not is_plain(it))
+            found.add(("a notice or name is a standard string", (name, operands[-1])))
+        found.update(("a real isn't the same as an f32", (name, it)) for it in operands if isinstance(it, str) and not is_plain(it))
 
 
 def note_table(found, cff, glyphs):
@@ -237,11 +237,11 @@ def note_table(found, cff, glyphs):
     if names.count and names.end > len(cff):
         found.add(("the data of the Name INDEX is cut", ""))
     # (a dict ends before a real that can't be read, and so may have no charstrings)
-    note_dict(found, dict_entries(Index(cff, names.end).item(0) or b""))
+    note_dict(found, dict_entries(Index(cff, names.end).item(0) or b""), "top")
     table = Table(cff, glyphs)
-    for number, (_, entries, _) in table.privates.items():
-        note_dict(found, table.entries(number) if table.is_keyed else [])
-        note_dict(found, entries)
+    for number in table.used:
+        note_dict(found, table.entries(number) if table.is_keyed else [], number)
+        note_dict(found, table.privates[number][1] if number in table.privates else [], ("private", number))
     if any(it.has_unreadable() for it in table.all_subroutines()):
         found.add(("a subroutine's entry is unreadable", ""))
     for glyph in glyphs:
