@@ -3,7 +3,7 @@
 
 use crate::rattle::prelude::String;
 
-use crate::proved::subset_font::faces::face::count_glyphs;
+use crate::proved::font_reasons::count_glyphs;
 use crate::proved::subset_font::making::requested::first_glyphs;
 use crate::proved::subset_font::making::subset::make_of;
 use crate::proved::subset_font::refusals::failure::Failure;
