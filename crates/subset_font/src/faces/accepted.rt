@@ -25,7 +25,7 @@ const TOKENS_OF_A_BYTE: u64 = 8;
 
 const MOST_BYTES: u32 = 64 << 20;
 
-/// The tokens that each of so many glyphs of a file of so many bytes may take: no more than by default.
+/// The tokens that each glyph may take, where a file has this many glyphs and bytes: no more than by default.
 fn tokens_for(glyphs: u16, bytes: usize) -> u32
     ensures { result ≤ 1000000 }
 {
