@@ -1,8 +1,6 @@
 -- What the font that is read has: its directory, its tables, its axes and its characters.
 pub mod Accepted
 pub mod Axes
-pub mod Broken
-pub mod FaceView
 pub mod Info
 pub mod Missing
 pub mod Named

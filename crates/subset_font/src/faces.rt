@@ -2,8 +2,6 @@
 
 pub(crate) mod accepted;
 pub(crate) mod axes;
-pub(crate) mod broken;
-pub(crate) mod face;
 pub(crate) mod info;
 pub(crate) mod missing;
 pub(crate) mod named;

@@ -34,6 +34,8 @@ pub mod cmap;
 #[cfg(feature = "variable-fonts")]
 pub mod font_advances;
 #[cfg(feature = "program")]
+pub mod font_reasons;
+#[cfg(feature = "program")]
 pub mod glyph_names;
 #[cfg(feature = "program")]
 pub mod late_file;

@@ -10,7 +10,7 @@ use Rattle.subsetter_sfnt.specs.Read.{Font, header_offset}
 use Rattle.subsetter_sfnt.specs.Extras.{all_extras}
 use Rattle.subsetter_type2.specs.declared.limits.Limits.{Limits}
 use Rattle.subset_font.specs.Chosen.{LimitsAreChosen}
-use Rattle.subset_font.specs.Making.Requested.{face_glyphs}
+use Rattle.font_reasons.specs.Parts.{face_glyphs}
 use Rattle.subset_font.specs.Refusals.Hint.{hint_of}
 use Rattle.subset_font.specs.Faces.Accepted.{IsPlain, listed_or_every, IsCause, IsAnswer}
 use Rattle.subset_font.specs.Faces.Info.{IsInfo, info_text, ShowsInfo, IsInfoFault}

@@ -10,7 +10,7 @@ use Rattle.subset_args.specs.Listing.Lists.{counting}
 use Rattle.subsetter_type2.specs.declared.limits.Limits.{Limits}
 use Rattle.subset_font.specs.Chosen.{LimitsAreChosen}
 use Rattle.subset_font.specs.Making.Made.{IsMade, IsUnmade}
-use Rattle.subset_font.specs.Making.Requested.{face_glyphs}
+use Rattle.font_reasons.specs.Parts.{face_glyphs}
 use Rattle.subset_font.specs.Refusals.Hint.{hint_of}
 use Rattle.subset_font.specs.Refusals.Texts.{failure_text, hint_text}
 use Rattle.subset_font.specs.declared.task.RequestedGlyphs.{RequestedGlyphs}

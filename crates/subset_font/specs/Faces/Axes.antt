@@ -12,7 +12,7 @@ use Rattle.subset_lines.specs.Faces.Axes.{instances, text_of}
 use Rattle.subset_lines.specs.Objects.AxesJson.{axes_json}
 use Rattle.subset_lines.specs.declared.faces.outlines.Outlines.{Outlines}
 use Rattle.subset_font.specs.Faces.Outlines.{outlines_of}
-use Rattle.subset_font.specs.Faces.Tables.{bytes_or_none}
+use Rattle.font_reasons.specs.Directory.{bytes_or_none}
 use Rattle.subset_font.specs.declared.refusals.failure.Failure.{Failure}
 use Rattle.subset_font.specs.declared.refusals.failure.Failure.TheVariants.{Error}
 

@@ -8,10 +8,11 @@ use Rattle.subsetter_sfnt.specs.Read.{Font, header_offset, records, stored}
 use Rattle.subset_lines.specs.Faces.Info.{info_lines, info_json}
 use Rattle.subset_lines.specs.declared.faces.info.face.Info.{Info}
 use Rattle.subset_font.specs.Faces.Accepted.{IsAnswer}
-use Rattle.subset_font.specs.Faces.Broken.{face_count}
+use Rattle.font_reasons.specs.File.{face_count}
 use Rattle.subset_font.specs.Faces.Outlines.{outlines_of}
-use Rattle.subset_font.specs.Faces.Tables.{bytes_or_none, records_in, tables_of}
-use Rattle.subset_font.specs.Making.Requested.{face_glyphs}
+use Rattle.font_reasons.specs.Directory.{bytes_or_none, records_in}
+use Rattle.subset_font.specs.Faces.Tables.{tables_of}
+use Rattle.font_reasons.specs.Parts.{face_glyphs}
 use Rattle.subset_font.specs.declared.refusals.failure.Failure.{Failure}
 use Rattle.subset_font.specs.declared.refusals.failure.Failure.TheVariants.{Error}
 

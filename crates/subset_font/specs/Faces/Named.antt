@@ -11,7 +11,7 @@ use Rattle.subsetter_variation.specs.Locations.Axes.{axes}
 use Rattle.subsetter_variation.specs.declared.locations.axes.Axis.{Axis}
 use Rattle.subset_lines.specs.Faces.Axes.{instances}
 use Rattle.subset_lines.specs.Faces.Names.{name_of, text_of_units}
-use Rattle.subset_font.specs.Faces.Tables.{bytes_or_none}
+use Rattle.font_reasons.specs.Directory.{bytes_or_none}
 
 -- the same name but for the case of ASCII letters
 abbrev pub is_same_name : List ℕ → List ℕ → Bool

@@ -16,7 +16,8 @@ use Rattle.subset_font.specs.Faces.Named.{face_settings}
 use Rattle.subset_font.specs.Notes.{notes_for}
 use Rattle.subset_font.specs.Making.Sheet.{pdf_text, IsSheetIf, IsUnshownIf}
 use Rattle.subset_pdf.specs.declared.sheet.Sheet.{Sheet}
-use Rattle.subset_font.specs.Faces.Tables.{bytes_or_none, records_in, table_sizes}
+use Rattle.font_reasons.specs.Directory.{bytes_or_none, records_in}
+use Rattle.subset_font.specs.Faces.Tables.{table_sizes}
 use Rattle.subset_font.specs.declared.task.Task.{Task}
 use Rattle.subset_font.specs.declared.task.Plan.{Plan}
 use Rattle.subset_font.specs.declared.task.Form.{Form}

@@ -1,10 +1,10 @@
 -- Which glyphs a task asks for of a font.
-use Rattle.std.specs.Prelude.{◌≡◌, ℕ, List, [], map, Option, Some, None, codes}
-use Rattle.std.specs.Option.{option_map, option_and_then}
+use Rattle.std.specs.Prelude.{◌≡◌, ℕ, List, [], map, Option, Some, None}
+use Rattle.std.specs.Option.{option_map}
 use Rattle.std.specs.Str.{encode_utf8_all}
 use Rattle.subsetter_base.specs.declared.error.Error.TheVariants.{MalformedFont}
-use Rattle.subsetter_sfnt.specs.Read.{Font, stored}
-use Rattle.subsetter_sfnt.specs.Fields.Maxp.{num_glyphs}
+use Rattle.subsetter_sfnt.specs.Read.{Font}
+use Rattle.font_reasons.specs.Parts.{face_glyphs}
 use Rattle.cmap.specs.Faces.{face_mapping}
 use Rattle.cmap.specs.Subtable.{glyph_of}
 use Rattle.subset_args.specs.Listing.Lists.{counting}
@@ -12,10 +12,6 @@ use Rattle.subset_font.specs.declared.task.RequestedGlyphs.{RequestedGlyphs}
 use Rattle.subset_font.specs.declared.task.RequestedGlyphs.TheVariants.{These, Every, ByText, ByCharacters}
 use Rattle.subset_font.specs.declared.refusals.failure.Failure.{Failure}
 use Rattle.subset_font.specs.declared.refusals.failure.Failure.TheVariants.{Error, NoMapping}
-
--- how many glyphs a face has, as its `maxp` says
-abbrev pub face_glyphs : Font → Option ℕ
-face_glyphs font = option_and_then num_glyphs (stored font (codes "maxp"))
 
 -- these glyphs are asked for, with the characters that they stand for, where a text or characters are given
 abbrev pub IsRequested : Font → RequestedGlyphs → List ℕ → List ℕ → Type 0

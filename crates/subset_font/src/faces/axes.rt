@@ -5,7 +5,7 @@ ghost use Rattle.subsetter_base.specs.declared.error.Error.TheVariants.{OutOfMem
 ghost use Rattle.subsetter_sfnt.specs.Extras.{all_extras};
 ghost use Rattle.subsetter_sfnt.specs.Read.{stored};
 ghost use Rattle.subset_font.specs.Faces.Axes.{axes_shown, text_of_axes, IsAxesReport, IsAxesFault, axes_or_none};
-ghost use Rattle.subset_font.specs.Faces.Tables.{bytes_or_none};
+ghost use Rattle.font_reasons.specs.Directory.{bytes_or_none};
 ghost use Rattle.subset_font.specs.declared.refusals.failure.Failure.TheVariants.{Error as Refused, Read as CannotRead, Output, Usage};
 ghost use Rattle.std.specs.Io.KnownBytes.{Appends};
 

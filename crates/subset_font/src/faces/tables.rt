@@ -1,27 +1,15 @@
 //! The tables of faces, with their sizes in bytes.
 
-ghost use Rattle.std.specs.Prelude.{◌≡◌, ◌++◌, map, OnOk, IfOk, length, ◌/◌};
-ghost use Rattle.std.specs.Option.{option_copied, option_map};
-ghost use Rattle.subsetter_sfnt.specs.Extras.{all_extras};
-ghost use Rattle.subsetter_sfnt.specs.Read.{records};
-ghost use Rattle.subset_font.specs.Faces.Tables.{bytes_or_none, records_in, size_among, old_row, new_row, new_rows, table_sizes, tag_and_size, tables_of};
+ghost use Rattle.std.specs.Prelude.{◌≡◌, ◌++◌, map, OnOk, IfOk};
+ghost use Rattle.font_reasons.specs.Directory.{records_in};
+ghost use Rattle.subset_font.specs.Faces.Tables.{size_among, old_row, new_row, new_rows, table_sizes, tag_and_size, tables_of};
 
 use std::alloc::{AllocError, Global};
 use subset_lines::TableSize;
 use subsetter::Tag;
 use subsetter_base::read::Reader;
-use subsetter_sfnt::directory::{find_record, records};
+use subsetter_sfnt::directory::find_record;
 use subsetter_sfnt::face::TableRecord;
-
-/// The records of a face's directory, no bytes where it has none.
-pub fn directory_of(font: &[u8], index: u32) -> &[u8]
-    ensures { result.now ≡ bytes_or_none (records (record { bytes = font.now; index = index; extras = all_extras })) }
-{
-    match records(font, index) {
-        Some(bytes) => bytes,
-        None => &[],
-    }
-}
 
 /// The size of a table of a directory, if it has the table.
 fn size_among(records: &[u8], tag: Tag) -> Option<u32>

@@ -1,7 +1,10 @@
 //! Which glyphs are kept of the font that was read.
 
 ghost use Rattle.std.specs.Prelude.{◌≡◌, ◌⊎◌, [], IfOk, IfErr};
+ghost use Rattle.std.specs.Option.{option_map};
 ghost use Rattle.std.specs.Str.{encode_utf8_all};
+ghost use Rattle.cmap.specs.Faces.{face_mapping};
+ghost use Rattle.cmap.specs.View.{mapping_view};
 ghost use Rattle.subset_args.specs.Listing.Lists.{counting};
 ghost use Rattle.subsetter_sfnt.specs.Extras.{all_extras};
 ghost use Rattle.subset_font.specs.Making.Requested.{IsRequested, IsUnasked};
@@ -9,18 +12,27 @@ ghost use Rattle.subset_font.specs.declared.task.RequestedGlyphs.TheVariants.{Ev
 ghost use Rattle.subset_font.specs.declared.refusals.failure.Failure.TheVariants.{Error as Refused};
 ghost use Rattle.subsetter_base.specs.declared.error.Error.TheVariants.{OutOfMemory};
 
-use crate::faces::face::{count_glyphs, find_mapping};
 use crate::refusals::failure::Failure;
 use crate::task::RequestedGlyphs;
-use cmap::glyphs_of;
+use cmap::{Subtable, find_subtable, glyphs_of};
+use font_reasons::count_glyphs;
 use std::alloc::{AllocError, Global};
-use subsetter::Error;
+use subsetter::{Error, Tag};
+use subsetter_sfnt::directory::table;
 
 /// The glyphs to keep, and the characters that they stand for, where a text or characters are given.
 #[derive(Drop)]
 pub struct Picked {
     pub characters: Vec<char>,
     pub glyphs: Vec<u16>,
+}
+
+/// The table of a face's `cmap` by which Unicode characters have glyphs.
+fn find_mapping(file: &[u8], index: u32) -> Option<Subtable<'_>>
+    ensures { option_map mapping_view result ≡ face_mapping (record { bytes = file.now; index = index; extras = all_extras }) }
+{
+    let cmap = table(file, index, Tag::new(b"cmap"))?;
+    find_subtable(cmap)
 }
 
 /// The characters of a text.

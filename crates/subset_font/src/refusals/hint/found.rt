@@ -1,72 +1,92 @@
 //! What is known of a refusal by its error.
 
 ghost use Rattle.std.specs.Prelude.{◌≡◌};
+ghost use Rattle.std.specs.Option.{option_map};
 ghost use Rattle.subsetter_sfnt.specs.Extras.{all_extras};
-ghost use Rattle.subset_font.specs.Refusals.Hint.{no_font_or_glyph, no_part, wrong_table, wrong_outlines, hint_of_malformed, cut_or_bare, hint_of_unknown, hint_of_error, no_mapping, hint_of_mapping, no_axes, axes_hint_of_error, axes_hint, forbidden_bit, hint_of};
+ghost use Rattle.subset_font.specs.declared.refusals.hint.text.Hint.TheVariants.{Font};
+ghost use Rattle.subset_font.specs.Refusals.Hint.{listed, for_widths, needed_table, reason_in, is_cff2, no_coordinates, hint_of_error, no_mapping, hint_of_mapping, no_axes, axes_hint_of_error, axes_hint, forbidden_bit, hint_of};
 
-use crate::faces::broken::{cut_table, missing_table, no_font};
-use crate::faces::face::range_of;
-use crate::faces::tables::directory_of;
+use crate::faces::outlines::outlines_of;
 use crate::refusals::failure::Failure;
-use crate::refusals::hint::parts::{
-    no_coordinates, no_glyph, no_outline, no_outlines, no_table, no_table_for, wrong_metrics,
-};
 use crate::refusals::hint::text::Hint;
-use crate::task::Task;
+use crate::task::{RequestedGlyphs, Task};
+use font_reasons::{Reason, Request, directory_of, find_reason, missing_table, no_font, no_table};
+use subset_lines::Outlines;
 use subset_pdf::{Permission, Usage};
 use subsetter::{Error, Tag};
-use subsetter_base::read::Reader;
 use subsetter_sfnt::directory::{find_record, table};
 
-/// What isn't there of a face: the face itself, or a listed glyph.
-fn no_font_or_glyph(font: &[u8], task: &Task<'_>) -> Option<Hint>
-    ensures { result ≡ no_font_or_glyph task.now font.now }
+/// What the tables of the font show, if they show anything.
+fn shown(reason: Option<Reason>) -> Option<Hint>
+    ensures { result ≡ option_map Font reason }
 {
-    no_font(font, task.index).or(no_glyph(font, task))
+    match reason {
+        Some(reason) => Some(Hint::Font(reason)),
+        None => None,
+    }
 }
 
-/// What isn't there of a face: the same, or a table.
-fn no_part(font: &[u8], task: &Task<'_>) -> Option<Hint>
-    ensures { result ≡ no_part task.now font.now }
+/// The glyphs that are listed.
+fn listed<'a>(asked: &RequestedGlyphs<'a>) -> &'a [u16]
+    ensures { result.now ≡ listed asked.now }
 {
-    no_font_or_glyph(font, task).or(no_table_for(font, task))
+    match *asked {
+        RequestedGlyphs::These(glyphs) => glyphs,
+        RequestedGlyphs::Every => &[],
+        RequestedGlyphs::ByText(_) => &[],
+        RequestedGlyphs::ByCharacters(_) => &[],
+    }
 }
 
-/// What is wrong with a table that ends behind the file, or else with metrics.
-#[tactic(auto, unfolding(crate::specs::Refusals::Hint::wrong_table))]
-fn wrong_table(font: &[u8], index: u32) -> Option<Hint>
-    ensures { result ≡ wrong_table (record { bytes = font.now; index = index; extras = all_extras }) }
+/// The table of the widths, where they are requested.
+fn for_widths(widths: bool) -> Option<Tag>
+    ensures { result ≡ for_widths widths }
 {
-    cut_table(font, index).or(wrong_metrics(font, index))
+    if widths { Some(Tag::HMTX) } else { None }
 }
 
-/// What is wrong with outlines, with a table that ends behind the file, or with metrics.
-fn wrong_outlines(font: &[u8], task: &Task<'_>) -> Option<Hint>
-    ensures { result ≡ wrong_outlines task.now font.now }
+/// The table that only this task needs, if there is one: that of its widths, or of the count of its glyphs.
+fn needed_table(asked: &RequestedGlyphs<'_>, widths: bool) -> Option<Tag>
+    ensures { result ≡ needed_table asked.now widths }
 {
-    no_outline(font, task).or(wrong_table(font, task.index))
+    match *asked {
+        RequestedGlyphs::Every => Some(Tag::MAXP),
+        RequestedGlyphs::These(_) => for_widths(widths),
+        RequestedGlyphs::ByText(_) => for_widths(widths),
+        RequestedGlyphs::ByCharacters(_) => for_widths(widths),
+    }
 }
 
-/// What more is known of a face that is malformed.
-fn hint_of_malformed(font: &[u8], task: &Task<'_>) -> Option<Hint>
-    ensures { result ≡ hint_of_malformed task.now font.now }
+/// What the tables show of a font that is refused by an error.
+fn reason_in(error: Error, font: &[u8], task: &Task<'_>) -> Option<Hint>
+    ensures { result ≡ reason_in error task.now font.now }
 {
-    no_part(font, task).or(wrong_outlines(font, task))
+    let request = Request {
+        index: task.index,
+        glyphs: listed(&task.requested),
+        needs: needed_table(&task.requested, task.widths),
+    };
+    shown(find_reason(error, font, request))
 }
 
-/// What is wrong with a table that ends behind the file, or else that there are no outlines.
-#[tactic(auto, unfolding(crate::specs::Refusals::Hint::cut_or_bare))]
-fn cut_or_bare(font: &[u8], index: u32) -> Option<Hint>
-    ensures { result ≡ cut_or_bare (record { bytes = font.now; index = index; extras = all_extras }) }
+/// Whether a face has outlines of `CFF2`.
+fn is_cff2(font: &[u8], index: u32) -> Option<Hint>
+    ensures { result ≡ is_cff2 (record { bytes = font.now; index = index; extras = all_extras }) }
 {
-    cut_table(font, index).or(no_outlines(font, index))
+    match outlines_of(font, index) {
+        Outlines::Cff2 => Some(Hint::Cff2),
+        _ => None,
+    }
 }
 
-/// What more is known of a file that is of no known kind.
-fn hint_of_unknown(font: &[u8], index: u32) -> Option<Hint>
-    ensures { result ≡ hint_of_unknown (record { bytes = font.now; index = index; extras = all_extras }) }
+/// Whether a face has outlines of `CFF2`, where no coordinates are given.
+fn no_coordinates(font: &[u8], task: &Task<'_>) -> Option<Hint>
+    ensures { result ≡ no_coordinates task.now font.now }
 {
-    no_font(font, index).or(cut_or_bare(font, index))
+    match task.at {
+        Some(_) => None,
+        None => is_cff2(font, task.index),
+    }
 }
 
 /// What more is known of a font that is refused by an error.
@@ -74,11 +94,8 @@ fn hint_of_error(error: Error, font: &[u8], task: &Task<'_>) -> Option<Hint>
     ensures { result ≡ hint_of_error error task.now font.now }
 {
     match error {
-        Error::UnknownKind => hint_of_unknown(font, task.index),
-        Error::MalformedFont => hint_of_malformed(font, task),
         Error::Unimplemented => no_coordinates(font, task),
-        Error::OverflowError => wrong_metrics(font, task.index),
-        _ => None,
+        _ => reason_in(error, font, task),
     }
 }
 
@@ -87,14 +104,14 @@ fn hint_of_error(error: Error, font: &[u8], task: &Task<'_>) -> Option<Hint>
 fn no_mapping(font: &[u8], index: u32) -> Option<Hint>
     ensures { result ≡ no_mapping (record { bytes = font.now; index = index; extras = all_extras }) }
 {
-    no_table(font, index, Tag::new(b"cmap")).or(Some(Hint::NoUnicode))
+    shown(no_table(font, index, Tag::new(b"cmap"))).or(Some(Hint::NoUnicode))
 }
 
 /// What more is known of a font without a mapping of Unicode characters.
 fn hint_of_mapping(font: &[u8], index: u32) -> Option<Hint>
     ensures { result ≡ hint_of_mapping (record { bytes = font.now; index = index; extras = all_extras }) }
 {
-    no_font(font, index).or(no_mapping(font, index))
+    shown(no_font(font, index)).or(no_mapping(font, index))
 }
 
 /// What more is known of a font whose axes can't be printed, by an error.
@@ -102,7 +119,7 @@ fn axes_hint_of_error(error: Error, font: &[u8], index: u32) -> Option<Hint>
     ensures { result ≡ axes_hint_of_error error font.now index }
 {
     match error {
-        Error::UnknownKind => no_font(font, index),
+        Error::UnknownKind => shown(no_font(font, index)),
         Error::MalformedFont => Some(Hint::WrongAxes),
         _ => None,
     }
@@ -117,7 +134,7 @@ pub fn no_axes(font: &[u8], index: u32) -> Option<Hint>
     match (table(font, index, tag), place) {
         (Some(_), _) => None,
         (None, None) => Some(Hint::NoAxes),
-        (None, Some(_)) => Some(missing_table(font, index, tag)),
+        (None, Some(_)) => Some(Hint::Font(missing_table(font, index, tag))),
     }
 }
 

@@ -3,7 +3,7 @@
 
 use crate::rattle::prelude::String;
 
-use crate::proved::subset_font::faces::face::count_glyphs;
+use crate::proved::font_reasons::count_glyphs;
 use crate::proved::subset_font::making::requested::first_glyphs;
 use crate::proved::subset_font::making::subset::make_of;
 use crate::proved::subset_font::refusals::failure::Failure;
@@ -14,19 +14,26 @@ use crate::proved::subsetter::{Error, Extras, Limits, Options, Tag};
 use crate::proved::subsetter_sfnt::directory::table;
 use crate::rattle::alloc::{AllocError, Global};
 
-/// The most tokens that all glyphs together may take, and the most bytes of the new font: about a second.
-const MOST_TOKENS: u32 = 200_000_000;
+/// The tokens that all glyphs of a face together may take: so many, and so many more for each byte of the file. With the bytes
+/// that the new font may have it is about a second, or what a large file takes to read.
+const TOKENS: u64 = 24_000_000;
+
+const TOKENS_OF_A_BYTE: u64 = 8;
 
 const MOST_BYTES: u32 = 64 << 20;
 
-/// The tokens that each of so many glyphs may take: no more than by default.
-fn tokens_for(glyphs: u16) -> u32 {
-    (MOST_TOKENS / u32::from(glyphs.max(1))).min(Limits::default().tokens())
+/// The tokens that each of so many glyphs of a file of so many bytes may take: no more than by default.
+fn tokens_for(glyphs: u16, bytes: usize) -> u32 {
+    let all = TOKENS.saturating_add((bytes as u64).saturating_mul(TOKENS_OF_A_BYTE));
+    let each = all / u64::from(glyphs.max(1));
+    u32::try_from(each)
+        .unwrap_or(u32::MAX)
+        .min(Limits::default().tokens())
 }
 
 /// The limits within which all glyphs of a face are tried.
 fn limits_for(font: &[u8], index: u32) -> Limits {
-    let tokens = tokens_for(count_glyphs(font, index).unwrap_or(u16::MAX));
+    let tokens = tokens_for(count_glyphs(font, index).unwrap_or(u16::MAX), font.len());
     Limits::new(tokens, Limits::default().depth())
         .unwrap_or(Limits::default())
         .with_bytes(MOST_BYTES)

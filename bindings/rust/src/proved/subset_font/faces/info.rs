@@ -3,11 +3,10 @@
 
 use crate::rattle::prelude::{String, Vec};
 
+use crate::proved::font_reasons::{count_glyphs, directory_of, face_count};
 use crate::proved::subset_font::faces::accepted::{try_all, InfoParts};
-use crate::proved::subset_font::faces::broken::face_count;
-use crate::proved::subset_font::faces::face::count_glyphs;
 use crate::proved::subset_font::faces::outlines::outlines_of;
-use crate::proved::subset_font::faces::tables::{directory_of, tables_of};
+use crate::proved::subset_font::faces::tables::tables_of;
 use crate::proved::subset_font::making::carried::read_whole;
 use crate::proved::subset_font::refusals::failure::Failure;
 use crate::proved::subset_lines::{write_info, write_info_json, Info};

@@ -6,17 +6,9 @@ use crate::rattle::prelude::Vec;
 use crate::proved::subset_lines::TableSize;
 use crate::proved::subsetter::Tag;
 use crate::proved::subsetter_base::read::Reader;
-use crate::proved::subsetter_sfnt::directory::{find_record, records};
+use crate::proved::subsetter_sfnt::directory::find_record;
 use crate::proved::subsetter_sfnt::face::TableRecord;
 use crate::rattle::alloc::{AllocError, Global};
-
-/// The records of a face's directory, no bytes where it has none.
-pub fn directory_of(font: &[u8], index: u32) -> &[u8] {
-    match records(font, index) {
-        Some(bytes) => bytes,
-        None => &[],
-    }
-}
 
 /// The size of a table of a directory, if it has the table.
 fn size_among(records: &[u8], tag: Tag) -> Option<u32> {

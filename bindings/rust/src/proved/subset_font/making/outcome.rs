@@ -3,10 +3,11 @@
 
 use crate::rattle::prelude::Vec;
 
+use crate::proved::font_reasons::directory_of;
 use crate::proved::glyph_names::glyph_names;
 use crate::proved::subset_font::faces::missing::missing;
 use crate::proved::subset_font::faces::named::face_settings;
-use crate::proved::subset_font::faces::tables::{directory_of, table_sizes};
+use crate::proved::subset_font::faces::tables::table_sizes;
 use crate::proved::subset_font::making::sheet::{sheet_if, with_pdf};
 use crate::proved::subset_font::making::subset::{make_of, Made};
 use crate::proved::subset_font::notes::{known_axes, notes_for};

@@ -3,17 +3,24 @@
 
 use crate::rattle::prelude::{IteratorExt, Vec};
 
-use crate::proved::cmap::glyphs_of;
-use crate::proved::subset_font::faces::face::{count_glyphs, find_mapping};
+use crate::proved::cmap::{find_subtable, glyphs_of, Subtable};
+use crate::proved::font_reasons::count_glyphs;
 use crate::proved::subset_font::refusals::failure::Failure;
 use crate::proved::subset_font::task::RequestedGlyphs;
-use crate::proved::subsetter::Error;
+use crate::proved::subsetter::{Error, Tag};
+use crate::proved::subsetter_sfnt::directory::table;
 use crate::rattle::alloc::{AllocError, Global};
 
 /// The glyphs to keep, and the characters that they stand for, where a text or characters are given.
 pub struct Picked {
     pub characters: Vec<char>,
     pub glyphs: Vec<u16>,
+}
+
+/// The table of a face's `cmap` by which Unicode characters have glyphs.
+fn find_mapping(file: &[u8], index: u32) -> Option<Subtable<'_>> {
+    let cmap = table(file, index, Tag::new(b"cmap"))?;
+    find_subtable(cmap)
 }
 
 /// The characters of a text.

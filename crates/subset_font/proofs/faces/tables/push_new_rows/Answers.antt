@@ -2,8 +2,9 @@ use Rattle.std.proofs.Common.{ℕ, List, Some, sym, ap, ◌∙◌}
 use Rattle.std.specs.Option.{option_and_then}
 use Rattle.subsetter_base.specs.Bytes.{range}
 use Rattle.subsetter_sfnt.specs.Read.{record_of}
-use Rattle.subset_font.specs.Faces.Tables.{records_in}
-use Rattle.subset_font.proofs.FacesLaws.Directory.{reads_record, news_later}
+use Rattle.font_reasons.specs.Directory.{records_in}
+use Rattle.font_reasons.proofs.Directory.{reads_record}
+use Rattle.subset_font.proofs.FacesLaws.Directory.{news_later}
 use Rattle.subset_font.proofs.faces.tables.push_new_rows.Goals as goal
 
 pub loop-one-preserved : goal.loop-one-preserved

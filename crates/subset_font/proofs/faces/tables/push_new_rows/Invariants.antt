@@ -1,6 +1,7 @@
 use Rattle.std.proofs.Common.{◌≡◌, ◌-◌, ◌≤◌, ◌++◌, length}
-use Rattle.subset_font.specs.Faces.Tables.{new_rows, records_in}
-use Rattle.subset_font.proofs.FacesLaws.Directory.{records_from}
+use Rattle.font_reasons.specs.Directory.{records_in}
+use Rattle.subset_font.specs.Faces.Tables.{new_rows}
+use Rattle.font_reasons.proofs.Directory.{records_from}
 use Rattle.subset_font.proofs.faces.tables.push_new_rows.Given as goal
 
 abbrev pub invariant-loop-one : goal.invariant-loop-one

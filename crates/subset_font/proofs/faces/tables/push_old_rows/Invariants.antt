@@ -1,6 +1,7 @@
 use Rattle.std.proofs.Common.{◌≡◌, ◌-◌, ◌≤◌, ◌++◌, map, length}
-use Rattle.subset_font.specs.Faces.Tables.{old_row, records_in}
-use Rattle.subset_font.proofs.FacesLaws.Directory.{records_from}
+use Rattle.font_reasons.specs.Directory.{records_in}
+use Rattle.subset_font.specs.Faces.Tables.{old_row}
+use Rattle.font_reasons.proofs.Directory.{records_from}
 use Rattle.subset_font.proofs.faces.tables.push_old_rows.Given as goal
 
 abbrev pub invariant-loop-one : goal.invariant-loop-one

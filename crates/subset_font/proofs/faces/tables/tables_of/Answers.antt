@@ -3,7 +3,8 @@ use Rattle.std.specs.Option.{option_and_then}
 use Rattle.subsetter_base.specs.Bytes.{range}
 use Rattle.subsetter_sfnt.specs.Read.{record_of}
 use Rattle.subset_font.specs.Faces.Tables.{tag_and_size}
-use Rattle.subset_font.proofs.FacesLaws.Directory.{reads_record, rows_later}
+use Rattle.font_reasons.proofs.Directory.{reads_record}
+use Rattle.subset_font.proofs.FacesLaws.Directory.{rows_later}
 use Rattle.subset_font.proofs.faces.tables.tables_of.Goals as goal
 
 pub loop-one-preserved : goal.loop-one-preserved

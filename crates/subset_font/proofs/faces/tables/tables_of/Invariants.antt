@@ -1,6 +1,7 @@
 use Rattle.std.proofs.Common.{◌≡◌, ◌-◌, ◌≤◌, ◌++◌, map, length}
-use Rattle.subset_font.specs.Faces.Tables.{tag_and_size, records_in}
-use Rattle.subset_font.proofs.FacesLaws.Directory.{records_from}
+use Rattle.font_reasons.specs.Directory.{records_in}
+use Rattle.subset_font.specs.Faces.Tables.{tag_and_size}
+use Rattle.font_reasons.proofs.Directory.{records_from}
 use Rattle.subset_font.proofs.faces.tables.tables_of.Given as goal
 
 abbrev pub invariant-loop-one : goal.invariant-loop-one

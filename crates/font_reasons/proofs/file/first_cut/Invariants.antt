@@ -1,8 +1,8 @@
 use Rattle.std.proofs.Common.{◌≡◌, ◌-◌, ◌≤◌, length}
-use Rattle.subset_font.specs.Faces.Broken.{first_cut}
-use Rattle.subset_font.specs.Faces.Tables.{records_in}
-use Rattle.subset_font.proofs.FacesLaws.Directory.{records_from}
-use Rattle.subset_font.proofs.faces.broken.first_cut.Given as goal
+use Rattle.font_reasons.specs.File.{first_cut}
+use Rattle.font_reasons.specs.Directory.{records_in}
+use Rattle.font_reasons.proofs.Directory.{records_from}
+use Rattle.font_reasons.proofs.file.first_cut.Given as goal
 
 abbrev pub invariant-loop-one : goal.invariant-loop-one
 invariant-loop-one l = record {

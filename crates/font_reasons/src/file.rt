@@ -1,0 +1,144 @@
+//! What is wrong with a file as a whole: its first bytes, its table directory, and tables that end past the end of the file.
+
+ghost use Rattle.std.specs.Prelude.{◌≡◌, ◌+◌, length};
+ghost use Rattle.subsetter_sfnt.specs.Extras.{all_extras};
+ghost use Rattle.subsetter_sfnt.specs.Read.{records};
+ghost use Rattle.font_reasons.specs.Directory.{bytes_or_none, records_in};
+ghost use Rattle.font_reasons.specs.File.{packed, not_font, face_count, no_face, no_directory, no_font, end_of, is_cut, cut_reason, first_cut, cut_table, missing_table};
+
+use crate::reason::Reason;
+use subsetter_base::Tag;
+use subsetter_base::read::Reader;
+use subsetter_sfnt::directory::{find_record, header_offset, kind_at, records};
+use subsetter_sfnt::face::{TTC_TAG, TableRecord};
+
+/// What a WOFF begins with: `wOFF`.
+const WOFF: u32 = 0x774F4646;
+/// What a WOFF2 begins with: `wOF2`.
+const WOFF2: u32 = 0x774F4632;
+/// The offset of numFonts in the header of a collection, in bytes.
+const NUM_FONTS: usize = 8;
+
+/// The records of a face's table directory; no bytes where it has none.
+pub fn directory_of(font: &[u8], index: u32) -> &[u8]
+    ensures { result.now ≡ bytes_or_none (records (record { bytes = font.now; index = index; extras = all_extras })) }
+{
+    match records(font, index) {
+        Some(bytes) => bytes,
+        None => &[],
+    }
+}
+
+/// Whether a file is a WOFF or a WOFF2.
+fn packed(font: &[u8]) -> Option<Reason>
+    ensures { result ≡ packed font.now }
+{
+    match Reader::new_at(font, 0).read::<u32>()? {
+        WOFF => Some(Reason::Woff),
+        WOFF2 => Some(Reason::Woff2),
+        _ => None,
+    }
+}
+
+/// numFonts of a collection.
+pub fn face_count(font: &[u8]) -> Option<u32>
+    ensures { result ≡ face_count font.now }
+{
+    match Reader::new_at(font, 0).read::<u32>()? {
+        TTC_TAG => Reader::new_at(font, NUM_FONTS).read::<u32>(),
+        _ => None,
+    }
+}
+
+/// Whether a collection has no face of an index.
+fn no_face(font: &[u8], index: u32) -> Option<Reason>
+    ensures { result ≡ no_face font.now index }
+{
+    let count = face_count(font)?;
+    if index < count {
+        return None;
+    }
+    Some(Reason::NoFace(index, count))
+}
+
+/// Whether a file begins as no font does.
+fn not_font(font: &[u8]) -> Option<Reason>
+    ensures { result ≡ not_font font.now }
+{
+    if font.len() == 0 {
+        return Some(Reason::Empty);
+    }
+    match kind_at(font, 0) {
+        Some(_) => None,
+        None => Some(Reason::NotFont),
+    }
+}
+
+/// Whether the header of a face isn't there, or its directory isn't inside the file.
+fn no_directory(font: &[u8], index: u32) -> Option<Reason>
+    ensures { result ≡ no_directory (record { bytes = font.now; index = index; extras = all_extras }) }
+{
+    match (header_offset(font, index), records(font, index)) {
+        (None, _) => Some(Reason::NoHeader(index)),
+        (Some(_), None) => Some(Reason::CutDirectory),
+        (Some(_), Some(_)) => None,
+    }
+}
+
+/// What is wrong with a file before a table is looked for.
+pub fn no_font(font: &[u8], index: u32) -> Option<Reason>
+    ensures { result ≡ no_font (record { bytes = font.now; index = index; extras = all_extras }) }
+{
+    packed(font).or(not_font(font).or(no_face(font, index).or(no_directory(font, index))))
+}
+
+/// Where the table of a record ends, in bytes from the start of the file.
+fn end_of(one: TableRecord) -> u64
+    ensures { result ≡ end_of one }
+{
+    u64::from(one.offset) + u64::from(one.length)
+}
+
+/// Whether the table of a record ends past the end of a file of this many bytes.
+fn is_cut(one: TableRecord, size: u64) -> bool
+    ensures { result ≡ is_cut size one }
+{
+    end_of(one) > size
+}
+
+/// That the table of a record does so.
+fn cut_reason(one: TableRecord, size: u64) -> Reason
+    ensures { result ≡ cut_reason size one }
+{
+    Reason::Cut(one.tag, end_of(one), size)
+}
+
+/// The first table of a directory that ends past the end of a file of this many bytes.
+fn first_cut(records: &[u8], size: u64) -> Option<Reason>
+    ensures { result ≡ first_cut size (records_in records.now) }
+{
+    let mut r = Reader::new(records);
+    while let Some(one) = r.read::<TableRecord>() {
+        if is_cut(one, size) {
+            return Some(cut_reason(one, size));
+        }
+    }
+    None
+}
+
+/// The first table of a face that ends past the end of the file.
+pub fn cut_table(font: &[u8], index: u32) -> Option<Reason>
+    ensures { result ≡ cut_table (record { bytes = font.now; index = index; extras = all_extras }) }
+{
+    first_cut(directory_of(font, index), font.len() as u64)
+}
+
+/// Why a table of a face isn't found: it ends past the end of the file, or the directory doesn't have it.
+pub fn missing_table(font: &[u8], index: u32, tag: Tag) -> Reason
+    ensures { result ≡ missing_table (record { bytes = font.now; index = index; extras = all_extras }) tag }
+{
+    match find_record(directory_of(font, index), tag) {
+        Some(found) => Reason::Cut(tag, end_of(found), font.len() as u64),
+        None => Reason::NoTable(tag),
+    }
+}

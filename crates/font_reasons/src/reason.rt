@@ -1,0 +1,177 @@
+//! What can be wrong with a font, and its text.
+
+use std::fmt;
+use subsetter_base::Tag;
+
+/// What is wrong with a font.
+#[derive(Clone, Copy, PartialEq, Eq, Debug, Drop)]
+pub enum Reason {
+    /// The file is a WOFF.
+    Woff,
+    /// The file is a WOFF2.
+    Woff2,
+    /// The file begins as no font does.
+    NotFont,
+    /// The file has no bytes.
+    Empty,
+    /// The collection has no face of this index, but this many faces.
+    NoFace(u32, u32),
+    /// No font begins where the collection says that the face of this index does.
+    NoHeader(u32),
+    /// The directory of the face isn't inside the file.
+    CutDirectory,
+    /// This table ends at this byte, past the end of the file, which has this many bytes.
+    Cut(Tag, u64, u64),
+    /// The face has none of the tables that have outlines.
+    NoOutlines,
+    /// The face has no glyph of this number, but this many glyphs.
+    NoGlyph(u16, u16),
+    /// The face has no table of this tag.
+    NoTable(Tag),
+    /// `loca` has no entries for this glyph.
+    NoEntries(u16),
+    /// The entries of `loca` descend for this glyph.
+    Descends(u16),
+    /// The outline of this glyph isn't inside `glyf`.
+    Outside(u16),
+    /// numberOfHMetrics of `hhea` is 0.
+    NoMetrics,
+    /// numberOfHMetrics of `hhea` is this, and `hmtx` is shorter.
+    FewMetrics(u16),
+}
+
+/// A number between two texts.
+#[derive(Clone, Copy)]
+struct Between(&'static str, u32, &'static str);
+
+impl fmt::Display for Between {
+    ghost use Rattle.std.specs.Prelude.{Some};
+    ghost use Rattle.font_reasons.specs.Texts.{between};
+
+    ghost output = { λ b. Some (between b.0.now b.1 b.2.now) };
+
+    fn fmt<W: fmt::Write>(&self, f: &mut fmt::Formatter<W>) -> fmt::Result {
+        write!(f, "{}{}{}", self.0, self.1, self.2)
+    }
+}
+
+/// That a collection has no face of an index, but this many faces.
+#[derive(Clone, Copy)]
+struct FaceText(u32, u32);
+
+impl fmt::Display for FaceText {
+    ghost use Rattle.std.specs.Prelude.{Some};
+    ghost use Rattle.font_reasons.specs.Texts.{no_face_text};
+
+    ghost output = { λ face. Some (no_face_text face.0 face.1) };
+
+    fn fmt<W: fmt::Write>(&self, f: &mut fmt::Formatter<W>) -> fmt::Result {
+        let FaceText(index, count) = *self;
+        if count == 0 {
+            return write!(f, "INDEX {index}: the collection has no face");
+        }
+        let last = count - 1;
+        write!(
+            f,
+            "INDEX {index}: the faces of the collection are 0 to {last}"
+        )
+    }
+}
+
+/// That a face has no glyph of a number, but this many glyphs.
+#[derive(Clone, Copy)]
+struct GlyphText(u16, u16);
+
+impl fmt::Display for GlyphText {
+    ghost use Rattle.std.specs.Prelude.{Some};
+    ghost use Rattle.font_reasons.specs.Texts.{no_glyph_text};
+
+    ghost output = { λ it. Some (no_glyph_text it.0 it.1) };
+
+    fn fmt<W: fmt::Write>(&self, f: &mut fmt::Formatter<W>) -> fmt::Result {
+        let GlyphText(glyph, count) = *self;
+        if count == 0 {
+            return write!(f, "GID {glyph}: the face has no glyph");
+        }
+        let last = count - 1;
+        write!(f, "GID {glyph}: the glyphs of the face are 0 to {last}")
+    }
+}
+
+/// That a table ends at a byte, past the end of a file of this many.
+#[derive(Clone, Copy)]
+struct CutText(Tag, u64, u64);
+
+impl fmt::Display for CutText {
+    ghost use Rattle.std.specs.Prelude.{Some};
+    ghost use Rattle.font_reasons.specs.Texts.{cut_text};
+
+    ghost output = { λ cut. Some (cut_text cut.0 cut.1 cut.2) };
+
+    fn fmt<W: fmt::Write>(&self, f: &mut fmt::Formatter<W>) -> fmt::Result {
+        let CutText(tag, end, size) = *self;
+        write!(
+            f,
+            "the file is cut: table {tag} ends at byte {end}, the file at {size}"
+        )
+    }
+}
+
+impl fmt::Display for Reason {
+    ghost use Rattle.std.specs.Prelude.{Some};
+    ghost use Rattle.font_reasons.specs.Texts.{reason_text};
+
+    ghost output = { λ reason. Some (reason_text reason) };
+
+    fn fmt<W: fmt::Write>(&self, f: &mut fmt::Formatter<W>) -> fmt::Result {
+        match *self {
+            Reason::Woff => f.write_str("a WOFF file: unpack it first"),
+            Reason::Woff2 => f.write_str("a WOFF2 file: unpack it first"),
+            Reason::NotFont => {
+                f.write_str(
+                    "not a font: its first bytes are none of TrueType, OpenType, a collection",
+                )
+            }
+            Reason::Empty => f.write_str("the file is empty"),
+            Reason::NoFace(index, count) => write!(f, "{}", FaceText(index, count)),
+            Reason::NoHeader(index) => {
+                let text = Between(
+                    "INDEX ",
+                    index,
+                    ": no font begins where the collection says",
+                );
+                write!(f, "{text}")
+            }
+            Reason::CutDirectory => f.write_str("the file is cut in its table directory"),
+            Reason::Cut(tag, end, size) => write!(f, "{}", CutText(tag, end, size)),
+            Reason::NoOutlines => f.write_str("the face has no table glyf, CFF or CFF2"),
+            Reason::NoGlyph(glyph, count) => write!(f, "{}", GlyphText(glyph, count)),
+            Reason::NoTable(tag) => write!(f, "the face has no table {tag}"),
+            Reason::NoEntries(glyph) => {
+                let text = Between("glyph ", u32::from(glyph), ": loca has no entries for it");
+                write!(f, "{text}")
+            }
+            Reason::Descends(glyph) => {
+                let text = Between("glyph ", u32::from(glyph), ": its loca entries descend");
+                write!(f, "{text}")
+            }
+            Reason::Outside(glyph) => {
+                let text = Between(
+                    "glyph ",
+                    u32::from(glyph),
+                    ": its outline isn't inside glyf",
+                );
+                write!(f, "{text}")
+            }
+            Reason::NoMetrics => f.write_str("hhea: numberOfHMetrics is 0"),
+            Reason::FewMetrics(count) => {
+                let text = Between(
+                    "hhea: numberOfHMetrics is ",
+                    u32::from(count),
+                    ", and hmtx is shorter",
+                );
+                write!(f, "{text}")
+            }
+        }
+    }
+}
