@@ -3,7 +3,6 @@
 pub mod answer;
 pub mod fonts;
 pub mod movement;
-pub mod number;
 pub mod outlines;
 pub mod table;
 pub mod tables;

@@ -14,7 +14,6 @@
 //! The status is 0 where all rows are as expected and no line is wrong, 2 where the arguments are wrong, else 1.
 #![tactic(auto)]
 
-mod digits;
 mod failure;
 mod instances;
 mod running;

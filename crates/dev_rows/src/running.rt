@@ -1,14 +1,9 @@
 //! A run of the program.
 
-ghost use Rattle.std.specs.Prelude.{◌≤◌};
-
-use crate::failure::{Failure, report};
+use crate::failure::Failure;
 use crate::{instances, subsets};
 use std::rt::{Env, Files};
 use std::{env, fs};
-
-/// What the arguments are.
-const USAGE: &str = "usage: dev_rows [--subset FILE] [--instance FILE]";
 
 /// Runs the table of a file, of the kind that an option names. Whether all is as expected.
 fn run_file<R: Files + Print + AllocGlobal>(
@@ -46,12 +41,18 @@ fn run_files<R: Env + Files + Print + AllocGlobal>(rt: &R) -> Result<bool, Failu
 
 /// Runs the program, and answers its status: 0 where all rows are as expected and no line is wrong, 2 where the arguments are
 /// wrong, else 1.
-pub fn run<R: Env + Files + Print + Eprint + AllocGlobal>(rt: &R) -> u8
-    ensures { result ≤ 2 }
-{
+pub fn run<R: Env + Files + Print + Eprint + AllocGlobal>(rt: &R) -> u8 {
     match run_files(rt) {
         Ok(true) => 0,
         Ok(false) => 1,
-        Err(failure) => report(rt, &Err(failure), USAGE),
+        Err(failure) => {
+            // A failure here can't be reported anywhere else: the status alone says it.
+            let _ = eprintln!(rt; "{failure}");
+            if matches!(failure, Failure::Usage) {
+                2
+            } else {
+                1
+            }
+        }
     }
 }

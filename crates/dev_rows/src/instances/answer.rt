@@ -1,9 +1,5 @@
 //! What a call answers, as it is printed.
 
-ghost use Rattle.std.specs.Prelude.{◌≡◌, [], ◌∷◌, IfOk, IfErr};
-ghost use Rattle.dev_rows.specs.declared.failure.Failure.TheVariants.{Memory};
-ghost use Rattle.dev_rows.specs.Shown.{Numbers, shown};
-
 use crate::failure::Failure;
 use std::alloc::Global;
 use std::fmt;
@@ -34,24 +30,29 @@ fn write_list<W: fmt::Write>(f: &mut fmt::Formatter<W>, list: &[i64]) -> fmt::Re
     Ok(())
 }
 
+/// Writes lists of numbers, each behind a blank.
+fn write_lists<W: fmt::Write>(f: &mut fmt::Formatter<W>, lists: &[Vec<i64>]) -> fmt::Result {
+    for list in lists {
+        f.write_str(" ")?;
+        write_list(f, list)?;
+    }
+    Ok(())
+}
+
+/// Writes bytes as hexadecimal digits behind a blank, `-` where there are none.
+fn write_bytes<W: fmt::Write>(f: &mut fmt::Formatter<W>, bytes: &[u8]) -> fmt::Result {
+    f.write_str(if bytes.is_empty() { " -" } else { " " })?;
+    for byte in bytes {
+        write!(f, "{byte:02x}")?;
+    }
+    Ok(())
+}
+
 impl fmt::Display for Answer {
     fn fmt<W: fmt::Write>(&self, f: &mut fmt::Formatter<W>) -> fmt::Result {
         match self {
-            Answer::Lists(lists) => {
-                for list in lists {
-                    f.write_str(" ")?;
-                    write_list(f, list)?;
-                }
-                Ok(())
-            }
-            Answer::Bytes(bytes) if bytes.is_empty() => f.write_str(" -"),
-            Answer::Bytes(bytes) => {
-                f.write_str(" ")?;
-                for byte in bytes {
-                    write!(f, "{byte:02x}")?;
-                }
-                Ok(())
-            }
+            Answer::Lists(lists) => write_lists(f, lists),
+            Answer::Bytes(bytes) => write_bytes(f, bytes),
             Answer::Nothing => f.write_str(" none"),
             Answer::Refused(error) => write!(f, " error {error}"),
         }
@@ -59,11 +60,19 @@ impl fmt::Display for Answer {
 }
 
 /// The answer that is one number.
-pub fn one(alloc: Global, number: i64) -> Result<Answer, Failure>
-    ensures ok { IfOk result (λ a. shown a ≡ Numbers ((number ∷ []) ∷ [])) }
-    ensures err { IfErr result (λ e. e ≡ Memory) }
-{
+pub fn one(alloc: Global, number: i64) -> Result<Answer, Failure> {
     let list = Vec::from_array(alloc, [number])?;
-    let lists = Vec::from_array(alloc, [list])?;
-    Ok(Answer::Lists(lists))
+    Ok(Answer::Lists(Vec::from_array(alloc, [list])?))
+}
+
+/// The numbers in 64 bits.
+pub fn list<T: Copy>(alloc: Global, numbers: &[T]) -> Result<Vec<i64>, Failure>
+where
+    i64: From<T>,
+{
+    let mut list = Vec::new(alloc);
+    for number in numbers {
+        list.push(i64::from(*number))?;
+    }
+    Ok(list)
 }

@@ -1,9 +1,5 @@
 //! A table of rows of what an instance is made of.
 
-ghost use Rattle.std.specs.Prelude.{◌≡◌, ◌⊎◌, IfErr};
-ghost use Rattle.dev_rows.specs.declared.failure.Failure.TheVariants.{Row, Memory, Write};
-
-use crate::digits::word_bytes;
 use crate::failure::Failure;
 use crate::instances::answer::Answer;
 use crate::instances::fonts::{Instance, instance_by_words};
@@ -12,6 +8,7 @@ use crate::instances::outlines::{is_fit, read, read_and_written};
 use crate::instances::tables::{
     advance, axis_count, deltas, normalized_settings, point_numbers, quotient, region_scalar,
 };
+use crate::words::bytes;
 use std::alloc::Global;
 
 /// Bytes of the table.
@@ -22,9 +19,7 @@ struct Named<'a> {
 }
 
 /// The bytes of a name.
-fn bytes_named<'a>(all: &'a [Named<'_>], name: &str) -> Result<&'a [u8], Failure>
-    ensures { IfErr result (λ e. e ≡ Row) }
-{
+fn bytes_named<'a>(all: &'a [Named<'_>], name: &str) -> Result<&'a [u8], Failure> {
     for one in all {
         if one.name == name {
             return Ok(&one.bytes);
@@ -34,9 +29,7 @@ fn bytes_named<'a>(all: &'a [Named<'_>], name: &str) -> Result<&'a [u8], Failure
 }
 
 /// The bytes of a name, none for `-`.
-fn named_if_any<'a>(all: &'a [Named<'_>], name: &str) -> Result<Option<&'a [u8]>, Failure>
-    ensures { IfErr result (λ e. e ≡ Row) }
-{
+fn named_if_any<'a>(all: &'a [Named<'_>], name: &str) -> Result<Option<&'a [u8]>, Failure> {
     if name == "-" {
         return Ok(None);
     }
@@ -49,9 +42,7 @@ fn answer_of_one(
     all: &[Named<'_>],
     kind: &str,
     name: &str,
-) -> Result<Answer, Failure>
-    ensures { IfErr result (λ e. (e ≡ Memory) ⊎ (e ≡ Row)) }
-{
+) -> Result<Answer, Failure> {
     let bytes = bytes_named(all, name)?;
     match kind {
         "axes" => axis_count(alloc, bytes),
@@ -62,14 +53,12 @@ fn answer_of_one(
 }
 
 /// The same of two words.
-fn answer_of_two(alloc: Global, kind: &str, first: &str, second: &str) -> Result<Answer, Failure>
-    ensures { IfErr result (λ e. (e ≡ Memory) ⊎ (e ≡ Row)) }
-{
+fn answer_of_two(alloc: Global, kind: &str, first: &str, second: &str) -> Result<Answer, Failure> {
     match kind {
         "nearest" => quotient(alloc, first, second),
         "scalar" => region_scalar(alloc, first, second),
-        "numbers" => point_numbers(alloc, first, &word_bytes(alloc, second)?),
-        "deltas" => deltas(alloc, first, &word_bytes(alloc, second)?),
+        "numbers" => point_numbers(alloc, first, &bytes(alloc, second)?),
+        "deltas" => deltas(alloc, first, &bytes(alloc, second)?),
         _ => Err(Failure::Row),
     }
 }
@@ -82,9 +71,7 @@ fn answer_of_three(
     first: &str,
     second: &str,
     third: &str,
-) -> Result<Answer, Failure>
-    ensures { IfErr result (λ e. (e ≡ Memory) ⊎ (e ≡ Row)) }
-{
+) -> Result<Answer, Failure> {
     if kind == "fits" {
         return is_fit(alloc, first, second, third);
     }
@@ -103,9 +90,7 @@ fn answer_of_more(
     all: &[Named<'_>],
     kind: &str,
     words: &[&str],
-) -> Result<Answer, Failure>
-    ensures { IfErr result (λ e. (e ≡ Memory) ⊎ (e ≡ Row)) }
-{
+) -> Result<Answer, Failure> {
     match (kind, words) {
         ("moved", [gvar, glyph, xs, ys, ends, at, steps]) => {
             let words = Moved {
@@ -132,9 +117,7 @@ fn answer_of_more(
 }
 
 /// What the calls answer for a row, by its kind and the words behind its name.
-fn answer(alloc: Global, all: &[Named<'_>], kind: &str, words: &[&str]) -> Result<Answer, Failure>
-    ensures { IfErr result (λ e. (e ≡ Memory) ⊎ (e ≡ Row)) }
-{
+fn answer(alloc: Global, all: &[Named<'_>], kind: &str, words: &[&str]) -> Result<Answer, Failure> {
     match words {
         [name] => answer_of_one(alloc, all, kind, name),
         [first, second] => answer_of_two(alloc, kind, first, second),
@@ -149,9 +132,7 @@ fn run_line<'a, R: Print>(
     alloc: Global,
     all: &mut Vec<Named<'a>>,
     line: &'a str,
-) -> Result<(), Failure>
-    ensures { IfErr result (λ e. (e ≡ Write) ⊎ ((e ≡ Memory) ⊎ (e ≡ Row))) }
-{
+) -> Result<(), Failure> {
     if line.is_empty() || line.starts_with('#') {
         return Ok(());
     }
@@ -160,18 +141,15 @@ fn run_line<'a, R: Print>(
         return Err(Failure::Row);
     };
     if let ("bytes", [digits]) = (*kind, behind) {
-        let bytes = word_bytes(alloc, digits)?;
-        all.push(Named { name: *name, bytes })?;
-        return Ok(());
+        let bytes = bytes(alloc, digits)?;
+        return Ok(all.push(Named { name: *name, bytes })?);
     }
     let answer = answer(alloc, all, kind, behind)?;
     println!(rt; "{name}:{answer}").ok().ok_or(Failure::Write)
 }
 
 /// Does what each line of a table says; a line that is no row is reported with its number.
-pub fn run_table<R: Print + AllocGlobal>(rt: &R, table: &str) -> Result<(), Failure>
-    ensures { IfErr result (λ e. (e ≡ Write) ⊎ ((e ≡ Memory) ⊎ (e ≡ Row))) }
-{
+pub fn run_table<R: Print + AllocGlobal>(rt: &R, table: &str) -> Result<(), Failure> {
     let mut all = Vec::new(rt.alloc());
     for (index, line) in table.lines().enumerate() {
         let ended = run_line(rt, rt.alloc(), &mut all, line);

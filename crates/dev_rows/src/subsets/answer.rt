@@ -1,8 +1,5 @@
 //! What a call answers, and how it differs from what a row says.
 
-ghost use Rattle.std.specs.Prelude.{◌≡◌, ◌≤◌, IfNone};
-ghost use Rattle.dev_rows.specs.Answers.{status_of, IsSame};
-
 use cid_embed::Embedded;
 use std::alloc::Global;
 use std::fmt;
@@ -22,10 +19,7 @@ pub struct Answer {
 }
 
 /// The number of an error: from 1 on, in the order of the names in `Error`.
-pub fn status_of(error: Error) -> u32
-    ensures value { result ≡ status_of error }
-    ensures above { 1 ≤ result }
-{
+pub fn status_of(error: Error) -> u32 {
     match error {
         Error::UnknownKind => 1,
         Error::MalformedFont => 2,
@@ -38,47 +32,30 @@ pub fn status_of(error: Error) -> u32
 }
 
 impl Answer {
-    /// The answer that is a status alone.
-    fn refused(alloc: Global, status: u32) -> Self
-        ensures { result.status ≡ status }
-    {
+    /// The answer of a call that makes a font.
+    pub fn of_font(alloc: Global, made: Result<Vec<u8>, Error>) -> Self {
+        let (status, font) = match made {
+            Ok(font) => (0, font),
+            Err(error) => (status_of(error), Vec::new(alloc)),
+        };
         Answer {
             status,
-            font: Vec::new(alloc),
-            cids: Vec::new(alloc),
-            widths: Vec::new(alloc),
-        }
-    }
-
-    /// The answer that is an error.
-    pub fn of_error(alloc: Global, error: Error) -> Self
-        ensures { 1 ≤ result.status }
-    {
-        Answer::refused(alloc, status_of(error))
-    }
-
-    /// The answer that is a new font.
-    pub fn of_font(alloc: Global, font: Vec<u8>) -> Self
-        ensures { result.font.items ≡ font.items }
-    {
-        Answer {
-            status: 0,
             font,
             cids: Vec::new(alloc),
             widths: Vec::new(alloc),
         }
     }
 
-    /// The answer that is a new font with CIDs and widths.
-    pub fn of_embedded(made: Embedded) -> Self
-        ensures { result.font.items ≡ made.font.items }
-    {
-        let Embedded { font, cids, widths } = made;
-        Answer {
-            status: 0,
-            font,
-            cids,
-            widths,
+    /// The answer of a call that makes a font with CIDs and widths.
+    pub fn of_embedded(alloc: Global, made: Result<Embedded, Error>) -> Self {
+        match made {
+            Ok(Embedded { font, cids, widths }) => Answer {
+                status: 0,
+                font,
+                cids,
+                widths,
+            },
+            Err(error) => Answer::of_font(alloc, Err(error)),
         }
     }
 }
@@ -122,10 +99,8 @@ fn first_difference(one: &[u8], other: &[u8]) -> usize {
     one.len().min(other.len())
 }
 
-/// In what an answer first isn't the expected one; none only where they are the same to the byte.
-pub fn compare(answered: &Answer, expected: &Answer) -> Option<Difference>
-    ensures { IfNone result (IsSame answered.now expected.now) }
-{
+/// In what an answer first isn't the expected one.
+pub fn compare(answered: &Answer, expected: &Answer) -> Option<Difference> {
     if answered.status != expected.status {
         return Some(Difference::Status(answered.status, expected.status));
     }

@@ -1,17 +1,13 @@
 //! A table of rows of subsets.
 
-ghost use Rattle.std.specs.Prelude.{◌≡◌, ◌≢◌, ◌⊎◌, IfErr};
-ghost use Rattle.dev_rows.specs.declared.failure.Failure.TheVariants.{Row, Font, Memory, Write};
-
-use crate::digits::word_bytes;
 use crate::failure::Failure;
 use crate::subsets::answer::status_of;
-use crate::subsets::calls::{Miss, miss_at, miss_of};
+use crate::subsets::calls::{Miss, miss_of};
 use crate::subsets::row::{Kind, kind_of, read_row};
+use crate::words::{bytes, number};
 use std::alloc::Global;
 use std::fmt;
 use subsetter::Error;
-use subsetter_words::u32_of;
 
 /// A font of the table.
 #[derive(Debug, Drop)]
@@ -60,11 +56,9 @@ const ERRORS: [Error; 7] = [
 ];
 
 /// Whether the error of a status has this text.
-fn run_text<'a>(alloc: Global, status: &'a str, text: &str) -> Result<Outcome<'a>, Failure>
-    ensures { IfErr result (λ e. (e ≡ Memory) ⊎ (e ≡ Row)) }
-{
-    let number = u32_of(status).ok_or(Failure::Row)?;
-    let expected = word_bytes(alloc, text)?;
+fn run_text<'a>(alloc: Global, status: &'a str, text: &str) -> Result<Outcome<'a>, Failure> {
+    let number: u32 = number(status)?;
+    let expected = bytes(alloc, text)?;
     for error in ERRORS {
         if status_of(error) == number {
             let told = format!(in alloc; "{error}")?;
@@ -90,25 +84,16 @@ fn run_row<'a>(
     fonts: &[SourceFont<'_>],
     kind: Kind,
     words: &[&'a str],
-) -> Result<Outcome<'a>, Failure>
-    ensures { IfErr result (λ e. (e ≡ Memory) ⊎ ((e ≡ Row) ⊎ (e ≡ Font))) }
-{
+) -> Result<Outcome<'a>, Failure> {
     let row = read_row(alloc, kind, words)?;
     let font = font_named(fonts, row.font).ok_or(Failure::Font)?;
     Ok(match &row.options {
         Err(status) if row.expected.status == *status => Outcome::AsExpected(row.name),
         Err(status) => Outcome::NotAsked(row.name, *status),
-        Ok(options) => {
-            let miss = if kind.varies() {
-                miss_at(alloc, font, &row, options)
-            } else {
-                miss_of(alloc, font, &row, options)
-            };
-            match miss {
-                None => Outcome::AsExpected(row.name),
-                Some(miss) => Outcome::Missed(row.name, miss),
-            }
-        }
+        Ok(options) => match miss_of(alloc, font, &row, options) {
+            None => Outcome::AsExpected(row.name),
+            Some(miss) => Outcome::Missed(row.name, miss),
+        },
     })
 }
 
@@ -119,16 +104,14 @@ fn run_line<'a>(
     alloc: Global,
     fonts: &mut Vec<SourceFont<'a>>,
     line: &'a str,
-) -> Result<Outcome<'a>, Failure>
-    ensures { IfErr result (λ e. (e ≡ Memory) ⊎ ((e ≡ Row) ⊎ (e ≡ Font))) }
-{
+) -> Result<Outcome<'a>, Failure> {
     if line.is_empty() || line.starts_with('#') {
         return Ok(Outcome::Nothing);
     }
     let words: Vec<&str> = line.split(' ').collect(alloc)?;
     match words.as_slice() {
         ["font", name, digits] => {
-            let bytes = word_bytes(alloc, digits)?;
+            let bytes = bytes(alloc, digits)?;
             fonts.push(SourceFont { name: *name, bytes })?;
             Ok(Outcome::Nothing)
         }
@@ -139,9 +122,7 @@ fn run_line<'a>(
 }
 
 /// Prints why the line of an index is wrong. Another failure is returned as it is.
-fn print_wrong<R: Print>(rt: &R, index: usize, why: Failure) -> Result<(), Failure>
-    ensures { IfErr result (λ e. (e ≡ Write) ⊎ ((e ≡ why) × (why ≢ Row) × (why ≢ Font))) }
-{
+fn print_wrong<R: Print>(rt: &R, index: usize, why: Failure) -> Result<(), Failure> {
     match why {
         Failure::Row | Failure::Font => {
             let number = index.saturating_add(1);
@@ -152,9 +133,7 @@ fn print_wrong<R: Print>(rt: &R, index: usize, why: Failure) -> Result<(), Failu
 }
 
 /// Does what each line of a table says, prints what became of it, and last the counts. Whether all is as expected.
-pub fn run_table<R: Print + AllocGlobal>(rt: &R, table: &str) -> Result<bool, Failure>
-    ensures { IfErr result (λ e. (e ≡ Write) ⊎ (e ≡ Memory)) }
-{
+pub fn run_table<R: Print + AllocGlobal>(rt: &R, table: &str) -> Result<bool, Failure> {
     let mut fonts = Vec::new(rt.alloc());
     let mut right = 0u64;
     let mut wrong = 0u64;

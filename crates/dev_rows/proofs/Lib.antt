@@ -1,6 +1,0 @@
-mod DigitLemmas
-mod Each
-mod Ranges
-mod RowLemmas
-mod ShownLemmas
-mod SignedLemmas
