@@ -1,6 +1,5 @@
 //! Parts of a PDF's font against values from outside. What `pdf_font` answers as a whole is in rows, which the bindings run.
 
-mod arrays;
 mod boxes;
 mod cff;
 mod columns;

@@ -1,6 +1,4 @@
-//! Subsets of subsets, and the bytes and texts that no clause says. The expected bytes are worked out by hand from the formats.
+//! Subsets of subsets. The expected bytes are worked out by hand from the formats.
 
 mod fonts;
-mod operators;
 mod shrinking;
-mod texts;

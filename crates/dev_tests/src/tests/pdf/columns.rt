@@ -53,35 +53,22 @@ fn moved_are(
 
 #[test]
 fn moved_columns(rt: HostRuntime) -> Result<(), Fail> {
-    let alloc = rt.alloc();
+    let vvar: &[u8] = &vertical::VVAR;
     let default = [-1000, -1000, -977, -500, -732];
-    assert!(rt;
-        moved_are(
-            alloc,
-            &[8192, -12288],
-            &vertical::VVAR,
-            [-1000, -1025, -1064, -328, -746]
-        )?
-    );
-    assert!(rt;
-        moved_are(
-            alloc,
-            &[16384, -16384],
-            &vertical::VVAR,
-            [-1000, -1049, -1143, -155, -750]
-        )?
-    );
-    assert!(rt;
-        moved_are(
-            alloc,
-            &[-8192, 0],
-            &vertical::VVAR,
-            [-1000, -987, -937, -594, -732]
-        )?
-    );
-    // Where `VVAR` can't be read, the default's advances stay.
-    assert!(rt; moved_are(alloc, &[8192, -12288], &vertical::VVAR[..40], default)?);
-    assert!(rt; moved_are(alloc, &[8192], &vertical::VVAR, default)?);
+    for (at, vvar, advances) in [
+        (
+            [8192, -12288].as_slice(),
+            vvar,
+            [-1000, -1025, -1064, -328, -746],
+        ),
+        (&[16384, -16384], vvar, [-1000, -1049, -1143, -155, -750]),
+        (&[-8192, 0], vvar, [-1000, -987, -937, -594, -732]),
+        // Where `VVAR` can't be read, the default's advances stay.
+        (&[8192, -12288], &vvar[..40], default),
+        (&[8192], vvar, default),
+    ] {
+        assert!(rt; moved_are(rt.alloc(), at, vvar, advances)?);
+    }
     Ok(())
 }
 
@@ -116,28 +103,31 @@ fn origins_are(
 /// The origins of `VORG` vary by the map of `VVAR`, past whose end the last entry counts.
 #[test]
 fn moved_origins(rt: HostRuntime) -> Result<(), Fail> {
-    let alloc = rt.alloc();
-    let vvar = &vertical::VVAR_OF_ORIGINS;
+    let vvar: &[u8] = &vertical::VVAR_OF_ORIGINS;
+    let mut unmapped = vertical::VVAR_OF_ORIGINS;
+    unmapped[23] = 0;
     let cff = OutlineTables {
         head: Some(&vertical::HEAD),
         loca: None,
         glyf: None,
     };
-    assert!(rt; origins_are(alloc, cff, 8192, vvar, [890, 840, 8880, -156, 870])?);
-    // An origin past 16 bits stays.
-    assert!(rt; origins_are(alloc, cff, 16384, vvar, [900, 830, 880, -167, 860])?);
-    // Without a map, and where it can't be read, all stay.
-    let mut unmapped = Vec::from_slice(alloc, vvar)?;
-    unmapped[23] = 0;
-    let default = [880, 850, 880, -146, 880];
-    assert!(rt; origins_are(alloc, cff, 16384, &unmapped, default)?);
-    assert!(rt; origins_are(alloc, cff, 16384, &vvar[..81], default)?);
-    // Origins of TrueType outlines are the default's.
-    let outlines = OutlineTables {
+    let true_type = OutlineTables {
         head: Some(&vertical::HEAD),
         loca: Some(&vertical::LOCA),
         glyf: Some(&vertical::GLYF),
     };
-    assert!(rt; origins_are(alloc, outlines, 16384, vvar, [880, 880, 880, 430, 880])?);
+    let default = [880, 850, 880, -146, 880];
+    for (outlines, at, vvar, origins) in [
+        (cff, 8192, vvar, [890, 840, 8880, -156, 870]),
+        // An origin past 16 bits stays.
+        (cff, 16384, vvar, [900, 830, 880, -167, 860]),
+        // Without a map, and where it can't be read, all stay.
+        (cff, 16384, &unmapped, default),
+        (cff, 16384, &vvar[..81], default),
+        // Origins of TrueType outlines are the default's.
+        (true_type, 16384, vvar, [880, 880, 880, 430, 880]),
+    ] {
+        assert!(rt; origins_are(rt.alloc(), outlines, at, vvar, origins)?);
+    }
     Ok(())
 }

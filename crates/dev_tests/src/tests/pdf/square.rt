@@ -89,16 +89,18 @@ fn edges(x_min: i32, y_min: i32, x_max: i32, y_max: i32) -> Option<Edges> {
 }
 
 #[test]
-fn boxes_of_cff2(rt: HostRuntime) -> Result<(), Fail> {
-    let alloc = rt.alloc();
-    let all = FontOptions::default();
-    let kept = FontOptions {
-        bounds: Bounds::Kept,
-        ..FontOptions::default()
-    };
-    assert!(rt; bounds_at(alloc, 26214400, &all) == edges(0, 0, 1000, 1000));
-    assert!(rt; bounds_at(alloc, 26214400, &kept) == edges(100, 0, 400, 700));
-    assert!(rt; bounds_at(alloc, 42598400, &all) == edges(125, 0, 476, 704));
-    assert!(rt; bounds_at(alloc, 58982400, &all) == edges(150, 0, 551, 707));
-    Ok(())
+fn boxes_of_cff2(rt: HostRuntime) {
+    let font = Bounds::Font;
+    for (bounds, weight, wanted) in [
+        (font, 26214400, edges(0, 0, 1000, 1000)),
+        (Bounds::Kept, 26214400, edges(100, 0, 400, 700)),
+        (font, 42598400, edges(125, 0, 476, 704)),
+        (font, 58982400, edges(150, 0, 551, 707)),
+    ] {
+        let options = FontOptions {
+            bounds,
+            ..FontOptions::default()
+        };
+        assert!(rt; bounds_at(rt.alloc(), weight, &options) == wanted);
+    }
 }
