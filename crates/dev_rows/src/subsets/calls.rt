@@ -6,7 +6,9 @@ use cid_embed::{embed, embed_with_options};
 use cid_embed_at::embed_with_variations_and_options;
 use std::alloc::Global;
 use std::fmt;
-use subsetter::{Limits, Options, subset, subset_with_limits, subset_with_options};
+use subsetter::{
+    Error, GlyphRemapper, Limits, Options, subset, subset_with_limits, subset_with_options,
+};
 use subsetter_variable::subset_with_variations_and_options;
 
 /// A call that answered something else than the row says.
@@ -24,6 +26,35 @@ impl fmt::Display for Miss {
     }
 }
 
+/// The subset of a row's font by the call with options, and with coordinates where the row has some.
+fn subset_by_options(
+    alloc: Global,
+    font: &[u8],
+    row: &Row<'_>,
+    options: &Options,
+) -> Result<Vec<u8>, Error> {
+    let mapper = GlyphRemapper::new_from_glyphs(alloc, &row.glyphs)?;
+    if row.kind.varies() {
+        let (index, at) = (row.index, row.coordinates.as_slice());
+        return subset_with_variations_and_options(alloc, font, index, at, &mapper, options);
+    }
+    subset_with_options(alloc, font, row.index, &mapper, options)
+}
+
+/// The subset of a row's font by `subset`, or by `subset_with_limits` where the row has limits.
+fn subset_by_kind(
+    alloc: Global,
+    font: &[u8],
+    row: &Row<'_>,
+    limits: &Limits,
+) -> Result<Vec<u8>, Error> {
+    let mapper = GlyphRemapper::new_from_glyphs(alloc, &row.glyphs)?;
+    match row.kind {
+        Kind::Limits => subset_with_limits(alloc, font, row.index, &mapper, limits),
+        _ => subset(alloc, font, row.index, &mapper),
+    }
+}
+
 /// The name of the call with options, and what it answers.
 fn by_options(
     alloc: Global,
@@ -35,7 +66,7 @@ fn by_options(
         let made = embed_with_options(alloc, font, row.index, &row.glyphs, options);
         return ("embed_with_options", Answer::of_embedded(alloc, made));
     }
-    let made = subset_with_options(alloc, font, row.index, &row.mapper, options);
+    let made = subset_by_options(alloc, font, row, options);
     ("subset_with_options", Answer::of_font(alloc, made))
 }
 
@@ -54,7 +85,7 @@ fn by_coordinates(
             Answer::of_embedded(alloc, made),
         );
     }
-    let made = subset_with_variations_and_options(alloc, font, index, at, &row.mapper, options);
+    let made = subset_by_options(alloc, font, row, options);
     (
         "subset_with_variations_and_options",
         Answer::of_font(alloc, made),
@@ -70,11 +101,11 @@ fn by_kind(
 ) -> Option<(&'static str, Answer)> {
     match row.kind {
         Kind::Subset => {
-            let made = subset(alloc, font, row.index, &row.mapper);
+            let made = subset_by_kind(alloc, font, row, limits);
             Some(("subset", Answer::of_font(alloc, made)))
         }
         Kind::Limits => {
-            let made = subset_with_limits(alloc, font, row.index, &row.mapper, limits);
+            let made = subset_by_kind(alloc, font, row, limits);
             Some(("subset_with_limits", Answer::of_font(alloc, made)))
         }
         Kind::Embed => {

@@ -4,7 +4,7 @@ use crate::failure::Failure;
 use crate::subsets::answer::Answer;
 use crate::words::{bytes, number, ranges, settings, short_ranges};
 use std::alloc::Global;
-use subsetter::{Extras, GlyphRemapper, Limits, Options, Tag};
+use subsetter::{Extras, Limits, Options, Tag};
 
 /// The kind of a row.
 #[derive(Clone, Copy, Debug, PartialEq, Eq)]
@@ -61,8 +61,6 @@ pub struct Row<'a> {
     pub index: u32,
     /// The old numbers of the glyphs to keep, in order.
     pub glyphs: Vec<u16>,
-    /// Their new numbers.
-    pub mapper: GlyphRemapper,
     /// Tags of axes, each with a value in 65536ths, which `SubsetAt` and `EmbedAt` alone have.
     pub coordinates: Vec<(Tag, i32)>,
     /// The limits and what is kept, or the status of a choice that can't be passed to these calls.
@@ -183,8 +181,6 @@ pub fn read_row<'a>(alloc: Global, kind: Kind, words: &[&'a str]) -> Result<Row<
     };
     let index = number(index)?;
     let glyphs = short_ranges(alloc, glyphs)?;
-    let mapper = GlyphRemapper::new_from_glyphs(alloc, &glyphs);
-    let mapper = mapper.ok().ok_or(Failure::Memory)?;
     let (coordinates, behind) = coordinates_in(alloc, kind, behind)?;
     let (options, behind) = choices(kind, behind)?;
     Ok(Row {
@@ -193,7 +189,6 @@ pub fn read_row<'a>(alloc: Global, kind: Kind, words: &[&'a str]) -> Result<Row<
         font: *font,
         index,
         glyphs,
-        mapper,
         coordinates,
         options,
         expected: expected_of(alloc, behind)?,
