@@ -21,7 +21,7 @@ use Rattle.subset_font.specs.Batch.Orders.{is_given_stream, order_by, order_of, 
 use Rattle.std.specs.HashMap.{HashMap, get_by_text}
 use Rattle.std.specs.Map.{update}
 use Rattle.std.specs.Str.{bytes_eq}
-use Rattle.subset_font.specs.Batch.Requests.{writes_if, is_written, is_named_before, numbers_by, numbers_if, numbers_in, left_behind, AreNames, IsFirst, IsTooLong, IsBegun, AddsLine, AreBegun, none, one_more}
+use Rattle.subset_font.specs.Batch.Requests.{writes_if, is_written, is_named_before, numbers_by, numbers_if, numbers_in, left_behind, AreNames, IsFirst, IsBegun, AddsLine, AreBegun, none, one_more}
 use Rattle.subset_font.specs.Chosen.{IsPlanOf}
 use Rattle.subset_font.specs.Files.{list_name, name_by}
 use Rattle.subset_font.specs.Making.Carried.{IsBeforeWriting, IsFailureOf, WritesAll}

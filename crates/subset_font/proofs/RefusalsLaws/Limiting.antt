@@ -1,5 +1,5 @@
 -- That a limit is why no font is made.
-use Rattle.std.proofs.Common.{◌≡◌, ◌<◌, ◌^◌, ℕ, List, length, Option, Some, subst}
+use Rattle.std.proofs.Common.{◌≡◌, ◌<◌, ◌^◌, ℕ, List, length, Some, subst}
 use Rattle.std.specs.Option.{option_map}
 use Rattle.subsetter_type2.specs.declared.limits.Limits.{Limits}
 use Rattle.subset_font.specs.Refusals.LimitHint.{within, twice, IsTooLong, IsTooLittle}

@@ -1,5 +1,5 @@
 -- Which glyphs a task asks for of a font.
-use Rattle.std.specs.Prelude.{◌≡◌, ℕ, List, [], map, Option, Some, None}
+use Rattle.std.specs.Prelude.{◌≡◌, ℕ, List, [], map, Some, None}
 use Rattle.std.specs.Option.{option_map}
 use Rattle.std.specs.Str.{encode_utf8_all}
 use Rattle.subsetter_base.specs.declared.error.Error.TheVariants.{MalformedFont}

@@ -1,5 +1,5 @@
 -- That the limits of a charstring's run or of the font's size are why no font is made: with twice these one is made.
-use Rattle.std.specs.Prelude.{◌≡◌, ◌<◌, ◌*◌, ◌-◌, ◌^◌, nat_lt, if◌then◌else◌, ℕ, List, length, Option, Some, None}
+use Rattle.std.specs.Prelude.{◌≡◌, ◌<◌, ◌*◌, ◌-◌, ◌^◌, nat_lt, if◌then◌else◌, ℕ, List, length, Some}
 use Rattle.std.specs.Option.{option_map}
 use Rattle.subsetter_type2.specs.declared.limits.Limits.{Limits}
 use Rattle.subset_font.specs.Making.Outcome.{IsOutcome}

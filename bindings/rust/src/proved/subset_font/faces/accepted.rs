@@ -22,7 +22,7 @@ const TOKENS_OF_A_BYTE: u64 = 8;
 
 const MOST_BYTES: u32 = 64 << 20;
 
-/// The tokens that each of so many glyphs of a file of so many bytes may take: no more than by default.
+/// The tokens that each glyph may take, where a file has this many glyphs and bytes: no more than by default.
 fn tokens_for(glyphs: u16, bytes: usize) -> u32 {
     let all = TOKENS.saturating_add((bytes as u64).saturating_mul(TOKENS_OF_A_BYTE));
     let each = all / u64::from(glyphs.max(1));
