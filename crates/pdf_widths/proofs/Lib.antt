@@ -1,0 +1,5 @@
+mod Glyphs
+mod Loops
+mod Openings
+mod Traces
+pub mod Whole
