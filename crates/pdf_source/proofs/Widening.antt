@@ -12,7 +12,7 @@ use Rattle.pdf_source.specs.Widened.{unadjusted}
 
 same_length : (w : ℕ) (head : List ℕ) → 12 ≤ length head → length (with_adjustment w head) ≡ length head
 same_length w head large =
-    omega (arith, large, length-append (take 8 head) (to_be_bytes w32 w ++ drop 12 head), length-append (to_be_bytes w32 w) (drop 12 head), length-take 8 head, length-drop 12 head)
+    omega (arith, large, length-append (take 8 head ++ to_be_bytes w32 w) (drop 12 head), length-append (take 8 head) (to_be_bytes w32 w), length-take 8 head, length-drop 12 head)
 
 pub unadjusted_is : (there head : List ℕ) → unadjusted there ≡ Some head → (12 ≤ length there) × (with_adjustment 0 there ≡ head)
 unadjusted_is there head e = by (nat_le 12 (length there)) refl e

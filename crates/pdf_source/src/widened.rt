@@ -81,11 +81,7 @@ fn laid_out(
 
 /// The file with another `CFF `; none where each width is its glyph's advance.
 #[tactic(auto, unfolding(crate::specs::Widened::widened_in))]
-fn widened_in(
-    alloc: Global,
-    face: &Face<'_>,
-    advances: &[u16],
-) -> Result<Option<Vec<u8>>, Error>
+fn widened_in(alloc: Global, face: &Face<'_>, advances: &[u16]) -> Result<Option<Vec<u8>>, Error>
     ensures ok { IfOk result (λ o. option_map (λ v. v.items) o ≡ widened_in (table_in face.now.«data».now face.now.records.now) advances.now) }
     ensures err { IfErr result (λ e. e ≡ OutOfMemory) }
 {
