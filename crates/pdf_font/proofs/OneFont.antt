@@ -9,6 +9,7 @@ use Rattle.subsetter_base.specs.declared.error.Error.{Error}
 use Rattle.subsetter_base.proofs.Options.{just_is}
 use Rattle.subsetter_base.proofs.Results.{done_is}
 use Rattle.subsetter_sfnt.specs.Read.{Font, as_font, flavor, stored, table}
+use Rattle.subsetter_sfnt.specs.Laying.Rows.{tags_of}
 use Rattle.subsetter_sfnt.specs.declared.flavor.FontFlavor.{FontFlavor}
 use Rattle.subsetter_variable.proofs.Static.{one_static}
 use Rattle.cid_embed.specs.Afresh.{widths_of}

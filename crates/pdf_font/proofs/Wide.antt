@@ -106,7 +106,7 @@ module _ (find : List ℕ → Option (List ℕ)) (advances new : List ℕ) (a : 
 
 -- ---- the same metrics
 module _ (kind : FontFlavor) (out : List ℕ) (l : IsLaid out kind) (advances new : List ℕ) (a : IsAnew (table (as_font out)) advances new) where
-  word : ℕ
+  abbrev word : ℕ
   word = word_of (kind_word kind) (present (rows l.tables))
 
   head_there : table (as_font out) (codes "head") ≡ option_map (with_adjustment word) l.tables.head
