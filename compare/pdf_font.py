@@ -35,7 +35,7 @@ from pdf_cases import LOOSE, Case, damaged
 from pdf_faults import Font, archival_page, faults_of_file, faults_of_ink, faults_of_text, faults_of_values, outcome
 
 FONTS = [it[0] for it in fonts.TRUETYPE_FONTS + fonts.CFF_FONTS] + ["fonts-inter-variable"]
-OF_THE_CRATE = [os.path.join(build.ROOT, "bindings", "rust", "tests", "data", it) for it in ("made.ttf", "made.otf", "made_variable.ttf")]
+OF_THE_CRATE = [os.path.join(build.ROOT, "bindings", "rust", "tests", "data", it) for it in ("made.ttf", "made.otf", "made_other_widths.otf", "made_variable.ttf")]
 # The cases of a piece, and of which one goes to the readers.
 PIECE, SEEN = 120, 6
 

@@ -1,10 +1,13 @@
 """What differs between the values and the file of a case and the rules, and what readers see of it: for pdf_font.py."""
 import base64
+import io
 from fractions import Fraction
 
 import fonts
 import pdf_readers as readers
 import pdf_rules as rules
+from fontTools.pens.basePen import NullPen
+from fontTools.ttLib import TTFont
 from pdf_file import Face, Pdf, archival, embedded, pages
 
 
@@ -31,6 +34,15 @@ def wanted_widths(case, program, count):
 def advance(tables, glyph):
     pairs = rules.field(tables["hhea"], 34, "H")
     return rules.field(tables["hmtx"], 4 * min(glyph, pairs - 1), "H")
+
+
+def says_advances(file):
+    """Whether the charstrings of a file's `CFF ` say the advances of its `hmtx`, by fontTools."""
+    font = TTFont(io.BytesIO(file))
+    charstrings = {it: font["CFF "].cff[0].CharStrings[it] for it in font.getGlyphOrder()}
+    for it in charstrings.values():
+        it.draw(NullPen())
+    return all(it.width == font["hmtx"][name][0] for name, it in charstrings.items())
 
 
 def moved_heights(case):
@@ -99,9 +111,12 @@ def faults_of_values(case, made, font):
     values = {**font.values, "font_name": font.name, "bounds": tuple(font.values["bounds"]), "italic_angle": font.values["italic_angle"] / 1000}
     for field, has in made.descriptor._asdict().items():
         compared(wrong, field, has, values[field])
-    if font.kind != "CFF":
+    if font.kind == "TrueType" or says_advances(case.embedded[0]):
         box = rules.kept_box(font.tables) if case.has("Kept") and font.kind == "TrueType" else None
-        compared(wrong, "the program as `embed` makes it", made.program == (rules.boxed(case.embedded[0], box) if box else case.embedded[0]), True)
+        file = rules.boxed(case.embedded[0], box) if box else case.embedded[0]
+        compared(wrong, "the program as `embed` makes it", made.program == (fonts.tables_of(file)["CFF "] if font.kind == "CFF" else file), True)
+    elif font.kind == "OpenType" and max(made.exact_widths) < 32768:
+        compared(wrong, "the charstrings' widths are the advances", says_advances(made.program), True)
     if case.characters:
         compared(wrong, "glyphs_of", case.found, [(case.characters.get(ord(it), 0), it) for _, text in case.shown for it in text])
     return wrong

@@ -2,6 +2,7 @@
 
 import copy
 import ctypes
+import io
 import pickle
 import re
 import types
@@ -11,6 +12,9 @@ from pathlib import Path
 import pytest
 import subsetter
 from common import ROOT, made, raised, read_rows, run
+from fontTools.cffLib import CFFFontSet
+from fontTools.pens.basePen import NullPen
+from fontTools.ttLib import TTFont
 from hypothesis import example, given, strategies as st
 
 FONTS = read_rows()[1]
@@ -63,6 +67,19 @@ def test_a_font_that_may_not_be_embedded():
     font = TTF[:at] + b"\x03\x02" + TTF[at + 2:]
     assert subsetter.pdf_font(font, SHOWN, rights="held").permission == ("restricted", False, False)
     assert type(raised(subsetter.pdf_font, font, SHOWN)) is subsetter.NotPermitted
+
+
+def test_widths_of_charstrings():
+    """(In Loma's `CFF ` U+0331 has a width of -24997, and in `hmtx` 0.)"""
+    data = Path("/usr/share/fonts/opentype/tlwg/Loma.otf").read_bytes()
+    for program in ("smallest", "opentype"):
+        font = subsetter.pdf_font(data, subsetter.glyphs_of(data, "A\u0331B"), program=program)
+        read = CFFFontSet()
+        read.decompile(io.BytesIO(font.program if font.kind == "CFF" else TTFont(io.BytesIO(font.program)).reader["CFF "]), None)
+        charstrings = [read[0].CharStrings[name] for name in read[0].charset]
+        for it in charstrings:
+            it.draw(NullPen())
+        assert [it.width for it in charstrings] == list(font.exact_widths) and 0 in font.exact_widths
 
 
 def test_limits_and_hinting():

@@ -32,6 +32,7 @@ use Rattle.pdf_font.specs.Taken.{Takes}
 use Rattle.pdf_font.specs.PdfFont.{HasFontFault, HasNoPdfFont, IsEmbeddedFor, IsFilled, in_embedding, no_maxp, overfull}
 use Rattle.pdf_source.specs.Program.{IsProgram}
 use Rattle.pdf_source.specs.Moved.{program_box, values_in}
+use Rattle.pdf_source.specs.Widened.{widened}
 use Rattle.pdf_source.specs.declared.choice.FontOptions.{FontOptions}
 use Rattle.pdf_font.specs.declared.error.FontError.TheVariants.{Subset}
 use Rattle.pdf_font.specs.declared.font.PdfFont.{PdfFont}
@@ -43,16 +44,17 @@ not_there : (o : Option (List ℕ)) → o ≡ None → IsSome o → ⊥
 not_there None e h = absurd cc
 not_there (Some x) e h = cc
 
-known_some : (l : List ℕ) → known l 0 ≡ true → 0 < length l
+pub known_some : (l : List ℕ) → known l 0 ≡ true → 0 < length l
 known_some [] h = absurd cc
 known_some (x ∷ l) h = omega arith
 
 -- the program is taken over
-program_taken : (n : NewFont) (cids : List ℕ) (p : Permission) (f : PdfFont) → Takes n cids p f → (box : ℕ → Option GlyphBox) (file : List ℕ) → IsProgram n.kind (box n.profile.count) file n.program.items → IsProgram f.kind (box f.glyph_count) file f.program.items
+program_taken : (n : NewFont) (cids : List ℕ) (p : Permission) (f : PdfFont) → Takes n cids p f → (box : ℕ → Option GlyphBox) (file : List ℕ) → IsProgram n.kind (box n.profile.count) (widened n.profile.exact.widths.items file) n.program.items → IsProgram f.kind (box f.glyph_count) (widened f.exact_widths.items file) f.program.items
 program_taken n cids p f t box file h =
-    let counted = subst (λ (k : ℕ). IsProgram n.kind (box k) file n.program.items) (sym t.count) h in
-    let taken = subst (λ (l : List ℕ). IsProgram n.kind (box f.glyph_count) file l) (sym t.program) counted in
-    subst (λ (k : ProgramKind). IsProgram k (box f.glyph_count) file f.program.items) (sym t.kind) taken
+    let wide = subst (λ (l : List ℕ). IsProgram n.kind (box n.profile.count) (widened l file) n.program.items) (sym t.exact) h in
+    let counted = subst (λ (k : ℕ). IsProgram n.kind (box k) (widened f.exact_widths.items file) n.program.items) (sym t.count) wide in
+    let taken = subst (λ (l : List ℕ). IsProgram n.kind (box f.glyph_count) (widened f.exact_widths.items file) l) (sym t.program) counted in
+    subst (λ (k : ProgramKind). IsProgram k (box f.glyph_count) (widened f.exact_widths.items file) f.program.items) (sym t.kind) taken
 
 module _ (font : Font) (settings : List (Tag × ℤ)) (options : FontOptions) (us : List Used) where
   abbrev pub IsRefusal : Error → Type 0
@@ -162,7 +164,7 @@ module _ (font : Font) (settings : List (Tag × ℤ)) (options : FontOptions) (u
             drawn_cff = blended;
             kind = t.kind ∙ read.kind_is;
             program = program_taken n e.cids.items f.permission f t (λ (k : ℕ). program_box (stored font) (stored (as_font e.font.items)) k options.bounds) e.font.items
-                (subst (λ (look : List ℕ → Option (List ℕ)). IsProgram n.kind (program_box look (stored (as_font e.font.items)) n.profile.count options.bounds) e.font.items n.program.items) ef read.program);
+                (subst (λ (look : List ℕ → Option (List ℕ)). IsProgram n.kind (program_box look (stored (as_font e.font.items)) n.profile.count options.bounds) (widened n.profile.exact.widths.items e.font.items) n.program.items) ef read.program);
             maxp = read.maxp;
             cids = t.cids;
             counted = t.count ∙ read.count;

@@ -29,7 +29,6 @@ use Rattle.pdf_text.specs.declared.values.ProgramKind.{ProgramKind}
 use Rattle.pdf_text.specs.declared.values.ProgramKind.TheVariants.{TrueType as TrueTypeFile, BareCff, OpenType as OpenTypeFile}
 use Rattle.pdf_values.specs.declared.looks.bounds.GlyphBox.{GlyphBox}
 use Rattle.cid_embed.specs.Embed.{numbering}
-use Rattle.pdf_codes.specs.Codes.{Used, glyphs_of}
 use Rattle.pdf_source.specs.Boxed.{IsBoxed, boxed, boxed_if}
 use Rattle.pdf_source.specs.Moved.{program_box}
 use Rattle.pdf_source.specs.Program.{IsProgram}
@@ -48,7 +47,7 @@ pub record IsLaid (out : List ℕ) (kind : FontFlavor) : Type 0 where
   pub some : 0 < length (present (rows tables))
   pub is : out ≡ laid_out (kind_word kind) (present (rows tables))
 
-cff_before : (find : List ℕ → Option (List ℕ)) (source : List ℕ) (tokens depth : ℕ) (order : List ℕ) (ts : List Table) → cff_tables find source tokens depth order ≡ Ok ts → (m : CffMade) × (cff_made_of find source tokens depth order ≡ Ok m) × (cff_laid m ≡ ts)
+pub cff_before : (find : List ℕ → Option (List ℕ)) (source : List ℕ) (tokens depth : ℕ) (order : List ℕ) (ts : List Table) → cff_tables find source tokens depth order ≡ Ok ts → (m : CffMade) × (cff_made_of find source tokens depth order ≡ Ok m) × (cff_laid m ≡ ts)
 unfolding cff_tables
 cff_before find source tokens depth order ts h = let a = bind_ok (cff_made_of find source tokens depth order) (λ m. Ok (cff_laid m)) ts h in (a.0, a.1, done_is (cff_laid a.0) ts a.2)
 
@@ -111,7 +110,7 @@ measured : (look : List ℕ → Option (List ℕ)) → measures_of look ≡ from
 unfolding measures_of from_tables
 measured look = by_units (look (codes "hmtx")) (look (codes "head")) (look (codes "hhea"))
 
-same_widths : (look other : List ℕ → Option (List ℕ)) (n : ℕ) → look (codes "hmtx") ≡ other (codes "hmtx") → option_map units_per_em (look (codes "head")) ≡ option_map units_per_em (other (codes "head")) → look (codes "hhea") ≡ other (codes "hhea") → widths_of look n ≡ widths_of other n
+pub same_widths : (look other : List ℕ → Option (List ℕ)) (n : ℕ) → look (codes "hmtx") ≡ other (codes "hmtx") → option_map units_per_em (look (codes "head")) ≡ option_map units_per_em (other (codes "head")) → look (codes "hhea") ≡ other (codes "hhea") → widths_of look n ≡ widths_of other n
 unfolding widths_of
 same_widths look other n a b c =
     let first = ap (λ (o : Option (List ℕ)). from_units o (option_map units_per_em (look (codes "head"))) (look (codes "hhea"))) a in
@@ -137,13 +136,3 @@ pub program_is : (kind : ProgramKind) (box : Option GlyphBox) (file program : Li
 program_is TrueTypeFile box file program is not = sym is
 program_is BareCff box file program is not = absurd (not refl)
 program_is OpenTypeFile box file program is not = sym is
-
-pub kept_boxes : KeptBoxes
-kept_boxes font settings options us f p b not is =
-    let file = p.made.new.font.items in
-    let subset = p.made.embedded.answer.embedded.subset in
-    let l = is_laid options.limits.tokens options.limits.depth p.made.embedded.static (numbering (glyphs_of us)) file subset in
-    let program = program_is f.kind (program_box (stored font) (stored (as_font file)) f.glyph_count options.bounds) file f.program.items p.made.program not in
-    let boxed_program : boxed b file ≡ f.program.items = sym (ap (λ (o : Option GlyphBox). boxed_if o file) is) ∙ program in
-    let laid : IsBoxed b file (boxed b file) = subst (λ (x : List ℕ). IsBoxed b x (boxed b x)) (sym l.is) (is_boxed subset.keeps.kind l.tables l.room l.fit b l.some) in
-    subst (IsBoxed b file) boxed_program laid

@@ -1,7 +1,10 @@
 mod AllWidths
 mod Answered
 mod Fresh
+mod BoxedPrograms
+mod CffWidths
 mod KeptBoxes
+mod Wide
 mod LawProofs
 mod NewLaws
 mod OneFont

@@ -28,6 +28,7 @@ use Rattle.pdf_source.specs.Exact.{Exact, exact_of}
 use Rattle.pdf_source.specs.Made.{Made, Profile, made_in, profile_in}
 use Rattle.pdf_source.specs.Program.{IsProgram, bare_cff, count_in, flavor_in, kind_of, program_in}
 use Rattle.pdf_source.specs.Moved.{program_box, values_in}
+use Rattle.pdf_source.specs.Widened.{widened}
 use Rattle.pdf_source.specs.declared.choice.FontOptions.{FontOptions}
 use Rattle.pdf_source.specs.declared.choice.ProgramChoice.{ProgramChoice}
 use Rattle.pdf_source.specs.declared.choice.ProgramChoice.TheVariants.{Smallest, OpenType}
@@ -35,6 +36,7 @@ use Rattle.pdf_font.specs.PdfFont.{exact_width}
 use Rattle.pdf_font.proofs.Fresh.{Opens, new_opens, same_flavor}
 use Rattle.pdf_font.proofs.Tables.{no_maxp_again}
 use Rattle.pdf_font.proofs.AllWidths.{AreAllWidths, are_all_widths}
+use Rattle.pdf_font.proofs.Wide.{has_cff}
 
 -- ---- step by step
 
@@ -67,7 +69,7 @@ module _ (find : List ℕ → Option (List ℕ)) (settings : List (Tag × ℤ)) 
   profile_missing c = profile_is ∙ ap profile_by c
 
   abbrev program_by : FontFlavor → Result Profile Error → Result Made Error
-  program_by k r = r >>= λ profile. (program_in (kind_of k options.program) profile.head_box file >>= λ program. Ok (record { kind = kind_of k options.program; program = program; profile = profile }))
+  program_by k r = r >>= λ profile. (program_in (kind_of k options.program) profile.head_box (widened profile.exact.widths file) >>= λ program. Ok (record { kind = kind_of k options.program; program = program; profile = profile }))
 
   made_by : (r : Result Profile Error) → profile_in find settings options requested file ≡ r → made_in find settings options requested file ≡ program_by kind r
   unfolding made_in
@@ -76,7 +78,7 @@ module _ (find : List ℕ → Option (List ℕ)) (settings : List (Tag × ℤ)) 
   pub made_missing : count_in kind afresh requested ≡ Err MalformedFont → made_in find settings options requested file ≡ Err MalformedFont
   made_missing c = made_by (Err MalformedFont) (profile_missing c)
 
-  pub made_read : (n : ℕ) (ws : List ℕ) (x : Exact) (program : List ℕ) → count_in kind afresh requested ≡ Ok n → widths_of afresh n ≡ Ok ws → exact_of afresh n ≡ Ok x → program_in (kind_of kind options.program) (program_box find afresh n options.bounds) file ≡ Ok program → made_in find settings options requested file ≡ Ok (record { kind = kind_of kind options.program; program = program; profile = profile_of n ws x })
+  pub made_read : (n : ℕ) (ws : List ℕ) (x : Exact) (program : List ℕ) → count_in kind afresh requested ≡ Ok n → widths_of afresh n ≡ Ok ws → exact_of afresh n ≡ Ok x → program_in (kind_of kind options.program) (program_box find afresh n options.bounds) (widened x.widths file) ≡ Ok program → made_in find settings options requested file ≡ Ok (record { kind = kind_of kind options.program; program = program; profile = profile_of n ws x })
   made_read n ws x program c w e p =
       let profile : Profile = profile_of n ws x in
       made_by (Ok profile) (profile_read n ws x c w e) ∙ ap (λ (r : Result (List ℕ) Error). r >>= λ bytes. Ok (record { kind = kind_of kind options.program; program = bytes; profile = profile })) p
@@ -96,7 +98,7 @@ charstrings tokens depth font order out _ (by_charstrings k) e = k
 -- what is read of a new font of these glyphs
 pub record IsRead (font : Font) (find : List ℕ → Option (List ℕ)) (settings : List (Tag × ℤ)) (options : FontOptions) (order file : List ℕ) (kind : FontFlavor) (m : Made) : Type 0 where
   pub kind_is : m.kind ≡ kind_of kind options.program
-  pub program : IsProgram m.kind (program_box find (stored (as_font file)) m.profile.count options.bounds) file m.program
+  pub program : IsProgram m.kind (program_box find (stored (as_font file)) m.profile.count options.bounds) (widened m.profile.exact.widths file) m.program
   pub maxp : kind ≡ TrueType → IsSome (table (as_font file) (codes "maxp"))
   pub count : m.profile.count ≡ length order
   pub widths : map Some m.profile.widths ≡ map (width font) order
@@ -125,6 +127,9 @@ module _ (tokens depth : ℕ) (font : Font) (glyphs : List ℕ) (new : Embedded)
   all : AreAllWidths font order file
   all = are_all_widths tokens depth font (numbering glyphs) file a.embedded.subset (λ e f. a.clean e (in_subset f)) (λ e f. a.clean e (in_widths f))
 
+  abbrev wide : List ℕ
+  wide = widened all.exact.widths file
+
   pub numbered : requested ≡ length (numbering glyphs)
   numbered = r ∙ sym (length-map new.widths.items Some) ∙ ap length a.embedded.widths ∙ length-map (numbering glyphs) (width font)
 
@@ -141,7 +146,7 @@ module _ (tokens depth : ℕ) (font : Font) (glyphs : List ℕ) (new : Embedded)
     abbrev box : Option GlyphBox
     box = program_box find (stored (as_font file)) (length order) options.bounds
 
-    read : (program : List ℕ) → count_in kind (stored (as_font file)) requested ≡ Ok (length order) → program_in (kind_of kind options.program) box file ≡ Ok program → IsProgram (kind_of kind options.program) box file program → (kind ≡ TrueType → IsSome (table (as_font file) (codes "maxp"))) → MadeCase font find settings options order file kind made
+    read : (program : List ℕ) → count_in kind (stored (as_font file)) requested ≡ Ok (length order) → program_in (kind_of kind options.program) box wide ≡ Ok program → IsProgram (kind_of kind options.program) box wide program → (kind ≡ TrueType → IsSome (table (as_font file) (codes "maxp"))) → MadeCase font find settings options order file kind made
     read program c p is m =
         inl (
           record { kind = kind_of kind options.program; program = program; profile = record { count = length order; widths = all.widths; exact = all.exact; values = values_in find (stored (as_font file)) (length order) options settings; head_box = box } },
@@ -158,7 +163,7 @@ module _ (tokens depth : ℕ) (font : Font) (glyphs : List ℕ) (new : Embedded)
       )
   by_maxp same (Some maxp) h =
       let p : IsMaxProfile (table font) a.embedded.subset.keeps.kind (length order) (table (as_font file)) = a.embedded.subset.keeps.shared.max_profile (is_some_of (table font (codes "maxp")) maxp h) in
-      read TrueType same (boxed_if (box TrueType same) file)
+      read TrueType same (boxed_if (box TrueType same) wide)
       (ap (λ (x : Option (List ℕ)). ok_or x MalformedFont >>= λ bytes. ok_or (number bytes 4 2) MalformedFont) p.maxp_is ∙ ap (λ (x : Option ℕ). ok_or x MalformedFont) p.count)
       refl refl (λ e. is_some_of (table (as_font file) (codes "maxp")) p.maxp p.maxp_is)
 
@@ -172,13 +177,14 @@ module _ (tokens depth : ℕ) (font : Font) (glyphs : List ℕ) (new : Embedded)
     where
       by : (choice : ProgramChoice) → options.program ≡ choice → count_in Cff (stored (as_font file)) requested ≡ Ok (length order) → KeepsCharStrings tokens depth font order (as_font file) → MadeCase font find settings options order file Cff made
       by Smallest h counted kept =
-          read Cff same kept.copy counted
-          (ap (λ (c : ProgramChoice). program_in (kind_of Cff c) (box Cff same) file) h ∙ bare_is file kept.copy (opens Cff same) kept.copy_is)
-          (subst (λ (c : ProgramChoice). IsProgram (kind_of Cff c) (box Cff same) file kept.copy) (sym h) kept.copy_is) (λ e. absurd cc)
+          let w = has_cff all.exact.widths file (opens Cff same) kept.copy kept.copy_is in
+          read Cff same w.cff counted
+          (ap (λ (c : ProgramChoice). program_in (kind_of Cff c) (box Cff same) wide) h ∙ bare_is wide w.cff w.opens w.cff_is)
+          (subst (λ (c : ProgramChoice). IsProgram (kind_of Cff c) (box Cff same) wide w.cff) (sym h) w.cff_is) (λ e. absurd cc)
       by OpenType h counted kept =
-          read Cff same (boxed_if (box Cff same) file) counted
-          (ap (λ (c : ProgramChoice). program_in (kind_of Cff c) (box Cff same) file) h)
-          (subst (λ (c : ProgramChoice). IsProgram (kind_of Cff c) (box Cff same) file (boxed_if (box Cff same) file)) (sym h) refl) (λ e. absurd cc)
+          read Cff same (boxed_if (box Cff same) wide) counted
+          (ap (λ (c : ProgramChoice). program_in (kind_of Cff c) (box Cff same) wide) h)
+          (subst (λ (c : ProgramChoice). IsProgram (kind_of Cff c) (box Cff same) wide (boxed_if (box Cff same) wide)) (sym h) refl) (λ e. absurd cc)
 
   by_kind : (kind : FontFlavor) → a.embedded.subset.keeps.kind ≡ kind → MadeCase font find settings options order file kind made
   by_kind TrueType same = by_maxp same (table font (codes "maxp")) refl

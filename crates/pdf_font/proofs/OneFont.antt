@@ -9,6 +9,7 @@ use Rattle.subsetter_base.specs.declared.error.Error.{Error}
 use Rattle.subsetter_base.proofs.Options.{just_is}
 use Rattle.subsetter_base.proofs.Results.{done_is}
 use Rattle.subsetter_sfnt.specs.Read.{Font, as_font, flavor, stored, table}
+use Rattle.subsetter_sfnt.specs.Laying.Rows.{tags_of}
 use Rattle.subsetter_sfnt.specs.declared.flavor.FontFlavor.{FontFlavor}
 use Rattle.subsetter_variable.proofs.Static.{one_static}
 use Rattle.cid_embed.specs.Afresh.{widths_of}
@@ -34,6 +35,7 @@ use Rattle.pdf_source.specs.Chosen.{is_vertical}
 use Rattle.pdf_source.specs.Frequent.{IsMostFrequent, count_of}
 use Rattle.pdf_source.specs.Made.{Made, made_in}
 use Rattle.pdf_source.specs.Moved.{program_box, values_in}
+use Rattle.pdf_source.specs.Widened.{widened}
 use Rattle.pdf_source.specs.Program.{IsProgram, kind_of}
 use Rattle.pdf_source.specs.Named.{heights_there, name_there}
 use Rattle.pdf_source.specs.Source.{tag_in, vertical_of}
@@ -45,7 +47,9 @@ use Rattle.pdf_font.specs.Laws.{AreSame, ColumnsSeen, OneAnswer, WidthsAgree, co
 use Rattle.pdf_font.specs.PdfFont.{AreColumns, IsPdfFont, cmap_name, name_room, short_name}
 use Rattle.pdf_font.specs.declared.font.PdfFont.{PdfFont}
 use Rattle.pdf_font.proofs.AllWidths.{AreAllWidths, are_all_widths}
+use Rattle.pdf_font.proofs.Fresh.{Opens, new_opens}
 use Rattle.pdf_font.proofs.KeptBoxes.{is_laid, program_is, same_read}
+use Rattle.pdf_font.proofs.Wide.{wide_laid, wide_widths}
 use Rattle.pdf_font.proofs.NewLaws.{MadeCase, made_case}
 
 -- ---- what is determined by a part
@@ -155,13 +159,19 @@ module _ (font : Font) (settings : List (Tag × ℤ)) (options : FontOptions) (u
   read_afresh =
       ap (widths_of (table (as_font file))) p.made.counted ∙ all.read ∙ ap (λ (l : List ℕ). Ok l) (same_numbers all.widths f.widths.items (all.are ∙ sym p.made.widths))
 
+  opens : Opens file
+  opens = new_opens kind (tags_of kind (table static)) file p.made.embedded.answer.embedded.subset.keeps.container
+
   abbrev box : Option GlyphBox
   box = program_box (stored font) (stored (as_font file)) f.glyph_count options.bounds
 
   pub agree : (f.kind ≡ BareCff → ⊥) → widths_of (stored (as_font f.program.items)) f.glyph_count ≡ Ok f.widths.items
   agree not =
       let l = is_laid options.limits.tokens options.limits.depth static wanted file p.made.embedded.answer.embedded.subset in
-      subst (λ (l : List ℕ). widths_of (table (as_font l)) f.glyph_count ≡ Ok f.widths.items) (program_is f.kind box file f.program.items p.made.program not) (same_read file kind l box f.glyph_count ∙ read_afresh)
+      let wide = widened f.exact_widths.items file in
+      let anew = wide_laid f.exact_widths.items file kind opens l in
+      subst (λ (l : List ℕ). widths_of (table (as_font l)) f.glyph_count ≡ Ok f.widths.items) (program_is f.kind box wide f.program.items p.made.program not)
+      (same_read wide anew.0 anew.1 box f.glyph_count ∙ wide_widths f.exact_widths.items file kind opens l f.glyph_count ∙ read_afresh)
 
 pub widths_agree : WidthsAgree
 widths_agree font settings options us f p not = agree font settings options us f p not
@@ -196,18 +206,20 @@ module _ (font : Font) (settings : List (Tag × ℤ)) (options : FontOptions) (u
   counts : f.glyph_count ≡ g.glyph_count
   counts = sym (has_made font settings options us f p).count ∙ ap (λ (m : Made). m.profile.count) both ∙ (has_made font settings options us g q).count
 
+  exact : f.exact_widths.items ≡ g.exact_widths.items
+  exact = sym (has_made font settings options us f p).exact ∙ ap (λ (m : Made). m.profile.exact.widths) both ∙ (has_made font settings options us g q).exact
+
   programs : f.program.items ≡ g.program.items
   programs =
-      let theirs_too = subst (λ (l : List ℕ). IsProgram f.kind (program_box (stored font) (stored (as_font l)) f.glyph_count options.bounds) l f.program.items) files p.made.program in
-      let counted = subst (λ (n : ℕ). IsProgram f.kind (program_box (stored font) (stored (as_font theirs)) n options.bounds) theirs f.program.items) counts theirs_too in
-      let of_kind = subst (λ (k : ProgramKind). IsProgram k (program_box (stored font) (stored (as_font theirs)) g.glyph_count options.bounds) theirs f.program.items) kinds counted in
-      one_program g.kind (program_box (stored font) (stored (as_font theirs)) g.glyph_count options.bounds) theirs f.program.items g.program.items of_kind q.made.program
+      let b : List ℕ → ℕ → Option GlyphBox = λ l n. program_box (stored font) (stored (as_font l)) n options.bounds in
+      let theirs_too = subst (λ (l : List ℕ). IsProgram f.kind (b l f.glyph_count) (widened f.exact_widths.items l) f.program.items) files p.made.program in
+      let wide = subst (λ (l : List ℕ). IsProgram f.kind (b theirs f.glyph_count) (widened l theirs) f.program.items) exact theirs_too in
+      let counted = subst (λ (n : ℕ). IsProgram f.kind (b theirs n) (widened g.exact_widths.items theirs) f.program.items) counts wide in
+      let of_kind = subst (λ (k : ProgramKind). IsProgram k (b theirs g.glyph_count) (widened g.exact_widths.items theirs) f.program.items) kinds counted in
+      one_program g.kind (b theirs g.glyph_count) (widened g.exact_widths.items theirs) f.program.items g.program.items of_kind q.made.program
 
   widths : f.widths.items ≡ g.widths.items
   widths = sym (has_made font settings options us f p).widths ∙ ap (λ (m : Made). m.profile.widths) both ∙ (has_made font settings options us g q).widths
-
-  exact : f.exact_widths.items ≡ g.exact_widths.items
-  exact = sym (has_made font settings options us f p).exact ∙ ap (λ (m : Made). m.profile.exact.widths) both ∙ (has_made font settings options us g q).exact
 
   units : f.units_per_em ≡ g.units_per_em
   units = just_is f.units_per_em g.units_per_em (sym p.made.units ∙ ap units_per_em statics ∙ q.made.units)

@@ -1,8 +1,8 @@
 -- Laws of what a PDF has of a font.
-use Rattle.std.specs.Prelude.{◌≡◌, ◌≢◌, ◌≤◌, List, ◌++◌, length, take, ℕ, Ok, Some, ℤ}
+use Rattle.std.specs.Prelude.{◌≡◌, ◌≢◌, ◌≤◌, ◌⊎◌, List, ◌++◌, length, take, codes, ℕ, Ok, Option, Some, None, ℤ}
 use Rattle.std.specs.Option.{option_map}
 use Rattle.subsetter_base.specs.declared.tag.Tag.{Tag}
-use Rattle.subsetter_sfnt.specs.Read.{Font, as_font, stored}
+use Rattle.subsetter_sfnt.specs.Read.{Font, as_font, stored, table}
 use Rattle.cid_embed.specs.Afresh.{widths_of}
 use Rattle.pdf_codes.specs.Codes.{AreCodes, Used}
 use Rattle.pdf_codes.specs.Cmaps.Leading.{name_of, text_of}
@@ -10,10 +10,13 @@ use Rattle.pdf_glyphs.specs.declared.columns.Columns.{Columns}
 use Rattle.pdf_text.specs.Dictionaries.Fonts.{name_end}
 use Rattle.pdf_text.specs.declared.metrics.columns.Column.{Column}
 use Rattle.pdf_text.specs.declared.metrics.columns.DefaultColumn.{DefaultColumn}
-use Rattle.pdf_text.specs.declared.values.ProgramKind.TheVariants.{BareCff}
+use Rattle.pdf_text.specs.declared.values.ProgramKind.{ProgramKind}
+use Rattle.pdf_text.specs.declared.values.ProgramKind.TheVariants.{TrueType as TrueTypeFile, BareCff, OpenType as OpenTypeFile}
 use Rattle.pdf_values.specs.declared.looks.bounds.GlyphBox.{GlyphBox}
+use Rattle.pdf_widths.specs.Laws.{HaveWidths}
 use Rattle.pdf_source.specs.Boxed.{IsBoxed}
 use Rattle.pdf_source.specs.Moved.{program_box}
+use Rattle.pdf_source.specs.Widened.{widened}
 use Rattle.pdf_font.specs.PdfFont.{HasFontFault, IsPdfFont, cmap_name}
 use Rattle.pdf_source.specs.declared.choice.FontOptions.{FontOptions}
 use Rattle.pdf_font.specs.declared.error.FontError.{FontError}
@@ -35,16 +38,33 @@ CodesNeedNoFont = (font : Font) (settings : List (Tag × ℤ)) (options : FontOp
 abbrev pub WidthsAgree : Type 0
 WidthsAgree = (font : Font) (settings : List (Tag × ℤ)) (options : FontOptions) (us : List Used) (f : PdfFont) → IsPdfFont font settings options us f → f.kind ≢ BareCff → widths_of (stored (as_font f.program.items)) f.glyph_count ≡ Ok f.widths.items
 
+-- the `CFF ` of a program, bare or in a file
+abbrev pub cff_in : ProgramKind → List ℕ → Option (List ℕ)
+cff_in TrueTypeFile program = None
+cff_in BareCff program = Some program
+cff_in OpenTypeFile program = table (as_font program) (codes "CFF ")
+
+-- it is that of the subset, or the same but for widths, which are these advances
+pub record HasCffWidths (advances old : List ℕ) (there : Option (List ℕ)) : Type 0 where
+  pub cff : List ℕ
+  pub cff_is : there ≡ Some cff
+  pub widths : (cff ≡ old) ⊎ HaveWidths advances old cff
+
+abbrev pub CffWidthsAgree : Type 0
+CffWidthsAgree = (font : Font) (settings : List (Tag × ℤ)) (options : FontOptions) (us : List Used) (f : PdfFont) (p : IsPdfFont font settings options us f) (old : List ℕ) → f.kind ≢ TrueTypeFile
+    → table (as_font p.made.new.font.items) (codes "CFF ") ≡ Some old → HasCffWidths f.exact_widths.items old (cff_in f.kind f.program.items)
+
 -- the name of the composite font, which a hyphen and the name of its CMap end where outlines are of CFF (9.7.6.1), has at most 127 bytes (Annex C)
 abbrev pub NamesAreShort : Type 0
 NamesAreShort = (font : Font) (settings : List (Tag × ℤ)) (options : FontOptions) (us : List Used) (f : PdfFont) → IsPdfFont font settings options us f → length (f.descriptor.font_name.items ++ name_end f.kind (cmap_name f.encoding options.direction)) ≤ 127
 
 -- ---- the kept box
 
--- where FontBBox is to hold the kept glyphs, the `head` of a program that is a file has their box: all else is the subset
+-- where FontBBox is to hold the kept glyphs, the `head` of a program that is a file has their box: all else is the subset, whose `CFF ` has the
+-- advances as its widths
 abbrev pub KeptBoxes : Type 0
 KeptBoxes = (font : Font) (settings : List (Tag × ℤ)) (options : FontOptions) (us : List Used) (f : PdfFont) (p : IsPdfFont font settings options us f) (b : GlyphBox) → f.kind ≢ BareCff
-    → program_box (stored font) (stored (as_font p.made.new.font.items)) f.glyph_count options.bounds ≡ Some b → IsBoxed b p.made.new.font.items f.program.items
+    → program_box (stored font) (stored (as_font p.made.new.font.items)) f.glyph_count options.bounds ≡ Some b → IsBoxed b (widened f.exact_widths.items p.made.new.font.items) f.program.items
 
 -- ---- there is one answer
 

@@ -40,6 +40,7 @@ use Rattle.pdf_source.specs.Named.{heights_there, name_there}
 use Rattle.pdf_source.specs.Source.{tag_in, vertical_of}
 use Rattle.pdf_source.specs.Tops.{tops_of}
 use Rattle.pdf_source.specs.UnknownAxes.{unknown_axes}
+use Rattle.pdf_source.specs.Widened.{widened}
 use Rattle.pdf_source.specs.declared.choice.Direction.{Direction}
 use Rattle.pdf_source.specs.declared.choice.Direction.TheVariants.{Horizontal, Vertical as TopToBottom}
 use Rattle.pdf_source.specs.declared.choice.FontOptions.{FontOptions}
@@ -119,9 +120,10 @@ pub record IsEmbeddedFor (font : Font) (settings : List (Tag × ℤ)) (options :
   pub drawn : ¬ (IsAtDefault (whole font) settings) → HasGlyphsDrawn (whole font) settings (numbering (glyphs_of us)) new.font.items
   -- of outlines in CFF2 alone it has each glyph with the outline that it has there, each coordinate and each edge of a stem rounded once
   pub drawn_cff : IsCff2Font (whole font) → HasGlyphsBlended (whole font) settings (numbering (glyphs_of us)) new.font.items
-  -- the program is that font, or its `CFF `; where FontBBox is to hold the kept glyphs, its `head` has their box; one of TrueType has `maxp` (9.9)
+  -- the program is that font, whose `CFF ` has the advances as its widths, or this `CFF `; where FontBBox is to hold the kept glyphs, its `head`
+  -- has their box; one of TrueType has `maxp` (9.9)
   pub kind : f.kind ≡ kind_of embedded.answer.embedded.subset.keeps.kind options.program
-  pub program : IsProgram f.kind (program_box (stored font) (stored (as_font new.font.items)) f.glyph_count options.bounds) new.font.items f.program.items
+  pub program : IsProgram f.kind (program_box (stored font) (stored (as_font new.font.items)) f.glyph_count options.bounds) (widened f.exact_widths.items new.font.items) f.program.items
   pub maxp : embedded.answer.embedded.subset.keeps.kind ≡ TrueType → IsSome (table (as_font new.font.items) (codes "maxp"))
   -- each of its glyphs has a CID, and the width of its source, which is also in the font's units
   pub cids : f.cids.items ≡ new.cids.items

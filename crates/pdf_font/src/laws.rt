@@ -1,6 +1,6 @@
 //! Laws of what a PDF has of a font, which no code runs.
 
-ghost use Rattle.pdf_font.specs.Laws.{CodesNeedNoFont, CodesStay, HaveNoFault, KeptBoxes, NamesAreShort, OneAnswer, WidthsAgree};
+ghost use Rattle.pdf_font.specs.Laws.{CffWidthsAgree, CodesNeedNoFont, CodesStay, HaveNoFault, KeptBoxes, NamesAreShort, OneAnswer, WidthsAgree};
 
 /// What is answered has no fault.
 pub fn answers_have_no_fault()
@@ -25,6 +25,11 @@ pub fn answers_are_determined()
 /// A program with `hmtx` has the widths that are answered, read afresh: program and dictionary agree (ISO 19005-2, 6.2.11.5).
 pub fn widths_agree()
     ensures { WidthsAgree }
+{}
+
+/// The `CFF ` of a program, read afresh, is that of the subset but for widths, which are those of `hmtx` (ISO 19005-2, 6.2.11.5).
+pub fn cff_widths_agree()
+    ensures { CffWidthsAgree }
 {}
 
 /// The name of the composite font has at most 127 bytes, whatever the name of its CMap is.

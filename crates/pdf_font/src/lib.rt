@@ -17,8 +17,8 @@ pub use call::pdf_font;
 pub use error::FontError;
 pub use font::PdfFont;
 pub use laws::{
-    answers_are_determined, answers_have_no_fault, boxes_are_kept, codes_need_no_font, codes_stay,
-    names_are_short, widths_agree,
+    answers_are_determined, answers_have_no_fault, boxes_are_kept, cff_widths_agree,
+    codes_need_no_font, codes_stay, names_are_short, widths_agree,
 };
 pub use pdf_codes::{Codes, Shown, codes_of};
 pub use pdf_glyphs::Columns;

@@ -3,3 +3,4 @@ pub mod Boxes
 mod Counting
 mod ExactSteps
 mod Tags
+pub mod Widening

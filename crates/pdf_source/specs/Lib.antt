@@ -11,3 +11,4 @@ pub mod Program
 pub mod Source
 pub mod Tops
 pub mod UnknownAxes
+pub mod Widened

@@ -12,6 +12,7 @@ use Rattle.pdf_values.specs.declared.looks.bounds.GlyphBox.{GlyphBox}
 use Rattle.pdf_source.specs.Exact.{Exact, exact_of, exact_seen}
 use Rattle.pdf_source.specs.Program.{count_in, flavor_in, kind_of, program_in}
 use Rattle.pdf_source.specs.Moved.{program_box, values_in}
+use Rattle.pdf_source.specs.Widened.{widened}
 use Rattle.pdf_source.specs.declared.choice.FontOptions.{FontOptions}
 use Rattle.pdf_source.specs.declared.program.NewFont.{NewFont}
 use Rattle.pdf_source.specs.declared.program.Profile.{Profile as GivenProfile}
@@ -36,7 +37,7 @@ profile_in find settings options requested file = do
   exact ← exact_of (table_in file directory) count
   Ok (record { count = count; widths = widths; exact = exact; values = values_in find (table_in file directory) count options settings; head_box = program_box find (table_in file directory) count options.bounds })
 
--- and the program
+-- and the program, whose widths are the advances
 pub record Made : Type 0 where
   pub kind : ProgramKind
   pub program : List ℕ
@@ -48,5 +49,5 @@ made_seen n = record { kind = n.kind; program = n.program.items; profile = profi
 unfoldable pub made_in : (List ℕ → Option (List ℕ)) → List (Tag × ℤ) → FontOptions → ℕ → List ℕ → Result Made Error
 made_in find settings options requested file = do
   profile ← profile_in find settings options requested file
-  program ← program_in (kind_of (flavor_in file) options.program) profile.head_box file
+  program ← program_in (kind_of (flavor_in file) options.program) profile.head_box (widened profile.exact.widths file)
   Ok (record { kind = kind_of (flavor_in file) options.program; program = program; profile = profile })

@@ -12,7 +12,7 @@ use subsetter_sfnt::laying::checksum::checksum;
 /// The sum of a whole file with its adjustment (OpenType, "head", checksumAdjustment).
 const FILE_SUM: u32 = 0xB1B0AFBA;
 /// checksumAdjustment, four bytes.
-const CHECKSUM_ADJUSTMENT: usize = 8;
+pub(crate) const CHECKSUM_ADJUSTMENT: usize = 8;
 /// xMin, and behind it yMin, xMax and yMax, two bytes each.
 const X_MIN: usize = 36;
 /// The checksum of a record of the directory, four bytes behind its tag.
@@ -97,7 +97,7 @@ fn is_in(place: HeadPlace, size: usize) -> bool
 }
 
 /// Writes bytes in place of others.
-fn put(file: &mut Vec<u8>, at: usize, bytes: &[u8])
+pub(crate) fn put(file: &mut Vec<u8>, at: usize, bytes: &[u8])
     requires { at + length bytes.now ≤ length file.old.items }
     ensures items { file.new.items ≡ put at bytes.now file.old.items }
     ensures size { length file.new.items ≡ length file.old.items }

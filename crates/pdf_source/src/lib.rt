@@ -18,6 +18,7 @@ mod moved;
 mod program;
 mod tag;
 mod tops;
+mod widened;
 mod widths;
 
 pub use axes::unknown_axes;

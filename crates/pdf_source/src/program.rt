@@ -14,6 +14,7 @@ use crate::described::{kept_in, program_box, values_by};
 use crate::exact::{ExactWidths, exact_of};
 use crate::moved::location_in;
 use crate::tops::known_of;
+use crate::widened::widened;
 use crate::widths::widths_of;
 use pdf_text::ProgramKind;
 use pdf_values::{GlyphBox, Values};
@@ -167,7 +168,8 @@ pub fn new_font(
 {
     let profile = profile_of(alloc, face, &file, settings, options, requested)?;
     let kind = kind_of(flavor_in(&file), options.program);
-    let program = program_in(alloc, kind, profile.head_box, file)?;
+    let wide = widened(alloc, &profile.exact.widths, file)?;
+    let program = program_in(alloc, kind, profile.head_box, wide)?;
     Ok(NewFont {
         kind,
         program,

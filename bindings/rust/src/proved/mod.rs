@@ -63,6 +63,8 @@ pub mod pdf_source;
 pub mod pdf_text;
 #[cfg(feature = "variable-fonts")]
 pub mod pdf_values;
+#[cfg(feature = "variable-fonts")]
+pub mod pdf_widths;
 #[cfg(feature = "program")]
 pub mod subset_args;
 #[cfg(feature = "program")]

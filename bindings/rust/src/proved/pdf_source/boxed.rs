@@ -11,7 +11,7 @@ use crate::proved::subsetter_sfnt::laying::checksum::checksum;
 /// The sum of a whole file with its adjustment (OpenType, "head", checksumAdjustment).
 const FILE_SUM: u32 = 0xB1B0AFBA;
 /// checksumAdjustment, four bytes.
-const CHECKSUM_ADJUSTMENT: usize = 8;
+pub(crate) const CHECKSUM_ADJUSTMENT: usize = 8;
 /// xMin, and behind it yMin, xMax and yMax, two bytes each.
 const X_MIN: usize = 36;
 /// The checksum of a record of the directory, four bytes behind its tag.
@@ -78,7 +78,7 @@ fn is_in(place: HeadPlace, size: usize) -> bool {
 }
 
 /// Writes bytes in place of others.
-fn put(file: &mut Vec<u8>, at: usize, bytes: &[u8]) {
+pub(crate) fn put(file: &mut Vec<u8>, at: usize, bytes: &[u8]) {
     file[at..at + bytes.len()].copy_from_slice(bytes);
 }
 

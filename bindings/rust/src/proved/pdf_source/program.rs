@@ -10,6 +10,7 @@ use crate::proved::pdf_source::described::{kept_in, program_box, values_by};
 use crate::proved::pdf_source::exact::{exact_of, ExactWidths};
 use crate::proved::pdf_source::moved::location_in;
 use crate::proved::pdf_source::tops::known_of;
+use crate::proved::pdf_source::widened::widened;
 use crate::proved::pdf_source::widths::widths_of;
 use crate::proved::pdf_text::ProgramKind;
 use crate::proved::pdf_values::{GlyphBox, Values};
@@ -142,7 +143,8 @@ pub fn new_font(
 ) -> Result<NewFont, Error> {
     let profile = profile_of(alloc, face, &file, settings, options, requested)?;
     let kind = kind_of(flavor_in(&file), options.program);
-    let program = program_in(alloc, kind, profile.head_box, file)?;
+    let wide = widened(alloc, &profile.exact.widths, file)?;
+    let program = program_in(alloc, kind, profile.head_box, wide)?;
     Ok(NewFont {
         kind,
         program,

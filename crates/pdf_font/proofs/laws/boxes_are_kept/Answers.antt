@@ -1,4 +1,4 @@
-use Rattle.pdf_font.proofs.KeptBoxes.{kept_boxes}
+use Rattle.pdf_font.proofs.BoxedPrograms.{kept_boxes}
 use Rattle.pdf_font.proofs.laws.boxes_are_kept.Goals as goal
 
 pub returns : goal.returns
