@@ -1,0 +1,14 @@
+//! The operators that show a run of shaped glyphs in a content stream (ISO 32000-1, 9.4), and what readers find in them.
+//!
+//! ```text
+//! write_operators(alloc, 12_000, &[Operation::Show(0, 1), Operation::Show(-12, 2)])?;    // [ <0001> ] TJ [ -12 <0002> ] TJ
+//! ```
+#![tactic(auto)]
+
+mod hex;
+mod laws;
+mod numbers;
+mod operations;
+
+pub use laws::operators_are_read;
+pub use operations::{Operation, write_operators};
