@@ -9,6 +9,8 @@ mod hex;
 mod laws;
 mod numbers;
 mod operations;
+mod places;
 
-pub use laws::operators_are_read;
+pub use laws::{glyphs_are_placed, operators_are_read, runs_are_read, text_is_extracted};
 pub use operations::{Operation, write_operators};
+pub use places::{Font, GlyphMetrics, Stop};
