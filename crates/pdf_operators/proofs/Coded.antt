@@ -1,5 +1,5 @@
 -- The pair of a code is that of its piece.
-use Rattle.std.proofs.Common.{◌≡◌, ℕ, zero, suc, ◌+◌, ◌<◌, Bool, true, false, cond, List, [], ◌∷◌, ◌++◌, length, get_or, Option, Some, None, option_map, ◌&&◌, ◌==◌, refl, sym, ap, ◌∙◌, arith, add-one}
+use Rattle.std.proofs.Common.{◌≡◌, ℕ, ◌+◌, Bool, true, false, cond, List, [], ◌∷◌, ◌++◌, get_or, Option, Some, None, option_map, ◌==◌, refl, sym, ap, ◌∙◌, add-one}
 use Rattle.std.specs.Prelude.{is_some, if◌then◌else◌, All}
 use Rattle.std.proofs.lemmas.Bool.Decides.{Decides-eqb}
 use Rattle.std.proofs.lemmas.List.Elements.{All-nil, All-cons, All-head, All-tail}
@@ -10,7 +10,7 @@ use Rattle.pdf_runs.specs.declared.pieces.Figure.{Figure}
 use Rattle.pdf_runs.specs.declared.pieces.Figure.TheVariants.{Source, Blank}
 use Rattle.pdf_runs.specs.declared.pieces.Piece.{Piece}
 use Rattle.pdf_runs.specs.Codes.{is_zeroth, pair_of, same, same_character, same_figure, zeroth}
-use Rattle.pdf_operators.specs.Reading.{AreCoded, figure_in}
+use Rattle.pdf_operators.specs.Reading.{figure_in}
 use Rattle.pdf_operators.specs.Runs.{code_of, or_zero}
 
 -- ---- equal pairs

@@ -4,3 +4,4 @@ pub mod Coded
 pub mod PlaceLaws
 pub mod TextLaws
 pub mod Writable
+pub mod EndLaws

@@ -1,5 +1,5 @@
 -- Where the glyphs of a run are drawn.
-use Rattle.std.proofs.Common.{◌≡◌, ℕ, ◌*◌, Bool, true, false, List, [], ◌∷◌, ◌++◌, map, flat_map, refl, sym, ap, ◌∙◌, append_assoc, append-nil, arith, ℤ, pos, ◌+ℤ◌}
+use Rattle.std.proofs.Common.{◌≡◌, ℕ, ◌*◌, Bool, true, false, List, [], ◌∷◌, ◌++◌, map, flat_map, refl, sym, ap, ◌∙◌, append_assoc, arith, ℤ, pos, ◌+ℤ◌}
 use Rattle.std.specs.Prelude.{is_some, if◌then◌else◌, ◌-ℤ◌}
 use Rattle.std.specs.Ordering.{int_eq}
 use Rattle.std.proofs.lemmas.Bool.Decides.{Decides-int_eq}
@@ -18,24 +18,24 @@ use Rattle.pdf_runs.specs.declared.pieces.Piece.{Piece}
 use Rattle.pdf_runs.specs.Clusters.{clusters}
 use Rattle.pdf_runs.specs.Codes.{pair_of, same}
 use Rattle.pdf_runs.specs.Items.{text_of}
-use Rattle.pdf_runs.specs.Laws.{Drawn, drawn, drawn_at, wanted}
+use Rattle.pdf_runs.specs.Laws.{Drawn, drawn, drawn_at}
 use Rattle.pdf_runs.specs.Pieces.{pieces_of_cluster}
 use Rattle.pdf_runs.proofs.RunLaws.{glyphs_are_drawn}
 use Rattle.pdf_operators.specs.declared.places.Font.{Font}
 use Rattle.pdf_operators.specs.declared.places.Stop.{Stop}
-use Rattle.pdf_operators.specs.Content.{Mark, actual, code, ended, marks_of, number, numbers, rise}
-use Rattle.pdf_operators.specs.Operators.{Act, back, begin, finish, raise, show, units_of}
+use Rattle.pdf_operators.specs.Content.{Mark, code, ended, marks_of, number}
+use Rattle.pdf_operators.specs.Operators.{Act, back, finish, raise, show}
 use Rattle.pdf_operators.specs.Places.{above, along, laid, last_back, metrics_of, next, origin_at, shown_at, stop_behind}
-use Rattle.pdf_operators.specs.Reading.{AreCoded, GlyphsArePlaced, Origin, Placed, aimed, figure_in, origin_of, origins, placed, risen, run_marks, width_in}
-use Rattle.pdf_operators.specs.Runs.{acts_behind, cluster_acts, cluster_stop, code_of, end_acts, in_span, is_spanned, start}
+use Rattle.pdf_operators.specs.Reading.{AreCoded, GlyphsArePlaced, Origin, aimed, origin_of, origins, placed, risen, run_marks, width_in}
+use Rattle.pdf_operators.specs.Runs.{acts_behind, cluster_acts, cluster_stop, code_of, in_span, is_spanned, start}
 use Rattle.pdf_operators.proofs.Coded.{All-back, All-front, figure_found}
 
 -- ---- lengths
 
-nothing_off : (a q : ℤ) → q ≡ pos 0 → a ≡ a -ℤ q
+pub nothing_off : (a q : ℤ) → q ≡ pos 0 → a ≡ a -ℤ q
 nothing_off a q e = omega (arith, ints, e)
 
-back_to : (a b : ℤ) → a -ℤ (a -ℤ b) ≡ b
+pub back_to : (a b : ℤ) → a -ℤ (a -ℤ b) ≡ b
 back_to a b = omega (arith, ints)
 
 off_again : (a b : ℤ) → (a +ℤ b) -ℤ b ≡ a

@@ -1,5 +1,5 @@
 -- The text that is extracted from a run.
-use Rattle.std.proofs.Common.{◌≡◌, ℕ, Bool, true, false, not, List, [], ◌∷◌, ◌++◌, map, get_or, flat_map, Option, Some, None, refl, sym, ap, ◌∙◌, append_assoc, append-nil, ℤ, pos}
+use Rattle.std.proofs.Common.{◌≡◌, ℕ, Bool, true, false, not, List, [], ◌∷◌, ◌++◌, map, flat_map, Option, Some, None, refl, sym, ap, ◌∙◌, append_assoc, append-nil, ℤ, pos}
 use Rattle.std.specs.Prelude.{is_some, if◌then◌else◌, ◌||◌, option_to_list}
 use Rattle.std.specs.Ordering.{int_eq}
 use Rattle.std.proofs.lemmas.List.{map-append}
@@ -23,9 +23,9 @@ use Rattle.pdf_runs.proofs.RunLaws.{said_cluster}
 use Rattle.pdf_operators.specs.declared.places.Font.{Font}
 use Rattle.pdf_operators.specs.declared.places.Stop.{Stop}
 use Rattle.pdf_operators.specs.Content.{Mark, code, ended, marks_of, number}
-use Rattle.pdf_operators.specs.Operators.{Act, back, finish, raise, show, units_of}
+use Rattle.pdf_operators.specs.Operators.{Act, back, raise, show, units_of}
 use Rattle.pdf_operators.specs.Places.{laid, last_back, next, shown_at}
-use Rattle.pdf_operators.specs.Reading.{AreCoded, IsExtracted, TextIsExtracted, extracted, reading, text_in, text_of_pair}
+use Rattle.pdf_operators.specs.Reading.{AreCoded, TextIsExtracted, extracted, reading, text_in, text_of_pair}
 use Rattle.pdf_operators.specs.Runs.{acts_behind, cluster_acts, cluster_stop, code_of, in_span, is_spanned, is_unsaid, start}
 use Rattle.pdf_operators.proofs.Coded.{All-back, All-front, pair_found}
 use Rattle.pdf_operators.proofs.PlaceLaws.{span_marks}
@@ -51,7 +51,7 @@ module _ (says : ℕ → Option (List ℕ)) (size : ℕ) where
 
 -- ---- pieces
 
-regrouped : (size : ℕ) (one more : List Act) (rest : List Mark) → flat_map (marks_of size) (one ++ more) ++ rest ≡ flat_map (marks_of size) one ++ (flat_map (marks_of size) more ++ rest)
+pub regrouped : (size : ℕ) (one more : List Act) (rest : List Mark) → flat_map (marks_of size) (one ++ more) ++ rest ≡ flat_map (marks_of size) one ++ (flat_map (marks_of size) more ++ rest)
 regrouped size one more rest =
     ap (λ (ms : List Mark). ms ++ rest) (flat_map-append (marks_of size) one more)
     ∙ append_assoc (flat_map (marks_of size) one) (flat_map (marks_of size) more) rest

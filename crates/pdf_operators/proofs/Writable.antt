@@ -1,6 +1,6 @@
 -- The operators of a valid run can be written.
-use Rattle.std.proofs.Common.{◌≡◌, ℕ, zero, suc, ◌+◌, ◌*◌, ◌^◌, ◌<◌, ◌≤◌, Bool, true, false, cond, not, ◌&&◌, List, [], ◌∷◌, ◌++◌, length, flat_map, Option, Some, None, option_map, refl, sym, ap, subst, ◌∙◌, arith, ltb-true, ℤ, pos, negsuc}
-use Rattle.std.specs.Prelude.{nat_lt, All, if◌then◌else◌, unsigned_abs}
+use Rattle.std.proofs.Common.{◌≡◌, ℕ, suc, ◌+◌, ◌*◌, ◌^◌, ◌<◌, ◌≤◌, Bool, true, false, cond, ◌&&◌, List, [], ◌∷◌, ◌++◌, length, flat_map, Option, Some, None, option_map, refl, sym, subst, arith, ltb-true, ℤ, pos, negsuc}
+use Rattle.std.specs.Prelude.{All, if◌then◌else◌, unsigned_abs}
 use Rattle.std.specs.Ordering.{int_eq}
 use Rattle.std.proofs.lemmas.List.Elements.{All-nil, All-cons, All-append, All-head}
 use Rattle.std.proofs.lemmas.Nat.{mul-le}
@@ -21,7 +21,7 @@ use Rattle.pdf_operators.specs.Content.{IsWritable}
 use Rattle.pdf_operators.specs.Operators.{Act, back, begin, finish, raise, show}
 use Rattle.pdf_operators.specs.Places.{are_near, fits, is_near, laid, last_back, next, shown_at}
 use Rattle.pdf_operators.specs.Reading.{HasCharacters, RunsAreRead}
-use Rattle.pdf_operators.specs.Runs.{acts_behind, are_shown, cluster_acts, cluster_stop, code_of, end_acts, has_room, in_span, is_cluster_shown, is_spanned, or_zero, start}
+use Rattle.pdf_operators.specs.Runs.{acts_behind, are_shown, cluster_acts, cluster_stop, code_of, has_room, in_span, is_cluster_shown, is_spanned, or_zero, start}
 use Rattle.pdf_operators.proofs.Coded.{All-back, All-front}
 use Rattle.pdf_operators.proofs.ReadLaws.{operators_are_read}
 

@@ -12,7 +12,7 @@ use Rattle.pdf_runs.specs.declared.pieces.Piece.{Piece}
 use Rattle.pdf_runs.specs.Clusters.{clusters}
 use Rattle.pdf_runs.specs.Codes.{is_zeroth, pair_of, same, zeroth}
 use Rattle.pdf_runs.specs.Items.{text_in as item_text, text_of, visual}
-use Rattle.pdf_runs.specs.Laws.{Drawn, wanted}
+use Rattle.pdf_runs.specs.Laws.{Drawn, total, wanted}
 use Rattle.pdf_runs.specs.Pieces.{pieces_of_run}
 use Rattle.pdf_operators.specs.declared.places.Font.{Font}
 use Rattle.pdf_operators.specs.Content.{Mark, actual, code, ended, marks_of, number, rise, said_in, sized}
@@ -36,6 +36,15 @@ placed width at up (code c ∷ ms) = record { code = c; at = at; rise = up } ∷
 placed width at up (rise z ∷ ms) = placed width at z ms
 placed width at up (actual us ∷ ms) = placed width at up ms
 placed width at up (ended ∷ ms) = placed width at up ms
+
+-- where the pen is behind them
+abbrev pub pen_behind : (ℕ → ℤ) → ℤ → List Mark → ℤ
+pen_behind width at [] = at
+pen_behind width at (number z ∷ ms) = pen_behind width (at -ℤ z) ms
+pen_behind width at (code c ∷ ms) = pen_behind width (at +ℤ width c) ms
+pen_behind width at (rise z ∷ ms) = pen_behind width at ms
+pen_behind width at (actual us ∷ ms) = pen_behind width at ms
+pen_behind width at (ended ∷ ms) = pen_behind width at ms
 
 -- ---- which text is extracted
 
@@ -106,6 +115,11 @@ run_marks f d size pairs is = flat_map (marks_of size) (run_acts f d pairs is)
 abbrev pub GlyphsArePlaced : Type 0
 GlyphsArePlaced = (f : Font) (d : Direction) (size : ℕ) (pairs : List Pair) (is : List Item) → AreCoded pairs (pieces_of_run d f.inked.now is)
     → origins f pairs (placed (width_in f pairs) (pos 0) (pos 0) (run_marks f d size pairs is)) ≡ map (aimed f d size) (wanted f.inked.now (pos 0) (pos 0) is)
+
+-- behind the run the pen is where the shaper has it, to the nearest thousandth of the em
+abbrev pub PenIsPlaced : Type 0
+PenIsPlaced = (f : Font) (d : Direction) (size : ℕ) (pairs : List Pair) (is : List Item) → AreCoded pairs (pieces_of_run d f.inked.now is)
+    → pen_behind (width_in f pairs) (pos 0) (run_marks f d size pairs is) ≡ thousandths (along d (total (λ (i : Item). i.x_advance) is) (total (λ (i : Item). i.y_advance) is)) f.units
 
 -- texts that are extracted one behind the other, joined in reading order
 abbrev pub reading : Direction → List (List ℕ) → List ℕ

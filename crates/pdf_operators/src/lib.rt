@@ -11,6 +11,8 @@ mod numbers;
 mod operations;
 mod places;
 
-pub use laws::{glyphs_are_placed, operators_are_read, runs_are_read, text_is_extracted};
+pub use laws::{
+    glyphs_are_placed, operators_are_read, pen_is_placed, runs_are_read, text_is_extracted,
+};
 pub use operations::{Operation, write_operators};
 pub use places::{Font, GlyphMetrics, Stop};
