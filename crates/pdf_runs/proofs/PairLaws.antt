@@ -113,6 +113,10 @@ pub known_same : (o : Option ℕ) (xs : List Pair) (x : Pair) → option_map (λ
 known_same None xs x e = ap is_some (e ∙ index_same xs x)
 known_same (Some n) xs x e = ap is_some (e ∙ index_same xs x)
 
+pub found_same : (o : Option ℕ) (xs : List Pair) (x : Pair) → option_map (λ n. n) o ≡ index_by equal xs x → o ≡ index_by same xs x
+found_same None xs x e = e ∙ index_same xs x
+found_same (Some n) xs x e = e ∙ index_same xs x
+
 pub list_put : (r : Result ℕ Error) (xs ys : List Pair) (x : Pair) → ys ≡ cond (is_ok r) (with_value equal xs x) xs → OnOk r (ys ≡ with_value same xs x)
 list_put (Ok n) xs ys x e = e ∙ put_same xs x
 list_put (Err e) xs ys x h = tt

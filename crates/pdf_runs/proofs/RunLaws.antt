@@ -37,7 +37,7 @@ shares_are_text : (is : List Item) → flat_map (λ (s : List ℕ). s) (shares (
 shares_are_text [] = refl
 shares_are_text (i ∷ is) = shares_joined (length is) (text_of (i ∷ is))
 
-said_cluster : (d : Direction) (inked : List Bool) (is : List Item) → visual d (said (pieces_of_cluster d inked is)) ≡ text_of is
+pub said_cluster : (d : Direction) (inked : List Bool) (is : List Item) → visual d (said (pieces_of_cluster d inked is)) ≡ text_of is
 said_cluster d inked is =
     let all : List (List ℕ) = shares (length is) (text_of is) in
     ap (λ (l : List ℕ). visual d l) (

@@ -72,6 +72,14 @@ fn is_known(pairs: &Remapper<u16, Pair>, pair: Pair) -> bool
     pairs.get(pair).is_some()
 }
 
+/// The code of a piece, if its pair has one.
+#[tactic(auto, using(crate::proofs::PairLaws::found_same))]
+pub fn code_in(pairs: &Remapper<u16, Pair>, piece: Piece) -> Option<u16>
+    ensures { result ≡ index_by same pairs.now (pair_of piece) }
+{
+    pairs.get(pair_of(piece))
+}
+
 /// The code of a pair, which goes last if it is new.
 fn code_of(pairs: &mut Remapper<u16, Pair>, pair: Pair) -> Result<u16, Error>
     requires { (IsSome (index_by same pairs.old pair)) ⊎ (length pairs.old + 1 < 65536) }

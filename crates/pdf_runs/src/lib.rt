@@ -21,10 +21,10 @@ mod tables;
 mod tests;
 
 pub use clusters::clusters_of_run;
-pub use codes::{Pair, codes_of, no_pairs};
+pub use codes::{Pair, code_in, codes_of, no_pairs};
 pub use items::{Direction, Item, is_run};
 pub use laws::{
     clusters_are_the_run, clusters_begin_once, glyphs_are_drawn, pen_goes_on, text_is_said,
 };
 pub use marks::is_mark;
-pub use pieces::{Figure, Piece, pieces_of_run};
+pub use pieces::{Figure, Piece, pieces_of_cluster, pieces_of_run, text_of};

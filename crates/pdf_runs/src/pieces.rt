@@ -180,7 +180,7 @@ fn text_in(text: Option<&[char]>) -> &[char]
 }
 
 /// The text of a cluster.
-fn text_of<'a>(items: &[Item<'a>]) -> &'a [char]
+pub fn text_of<'a>(items: &[Item<'a>]) -> &'a [char]
     ensures { result.now ≡ text_of items.now }
 {
     match items {
@@ -205,6 +205,25 @@ fn push_cluster(
         push_spread(pieces, direction, inked, &items[place], share)?;
     }
     Ok(())
+}
+
+/// What stands for the glyphs of a cluster, in visual order. `inked` says of each glyph of the font whether it has ink.
+///
+/// # Errors
+///
+/// `OutOfMemory` alone.
+pub fn pieces_of_cluster(
+    alloc: Global,
+    direction: Direction,
+    inked: &[bool],
+    items: &[Item<'_>],
+) -> Result<Vec<Piece>, Error>
+    ensures ok { IfOk result (λ pieces. pieces.items ≡ pieces_of_cluster direction inked.now items.now) }
+    ensures err { IfErr result (λ e. e ≡ OutOfMemory) }
+{
+    let mut pieces = Vec::with_capacity(alloc, items.len())?;
+    push_cluster(&mut pieces, direction, inked, items)?;
+    Ok(pieces)
 }
 
 /// What stands for the glyphs of a run, in visual order. `inked` says of each glyph of the font whether it has ink.

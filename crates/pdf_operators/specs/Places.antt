@@ -1,0 +1,81 @@
+-- Where a reader's pen is taken, so that each glyph is where the shaper has it (ISO 32000-1, 9.4.4).
+use Rattle.std.specs.Prelude.{ℕ, ◌&&◌, nat_lt, Bool, true, if◌then◌else◌, List, [], ◌∷◌, ◌++◌, get_or, ℤ, pos, negsuc, ◌+ℤ◌, ◌-ℤ◌, ◌^◌}
+use Rattle.std.specs.Ordering.{int_eq}
+use Rattle.pdf_values.specs.Rounding.{thousandths}
+use Rattle.pdf_runs.specs.declared.items.Direction.{Direction}
+use Rattle.pdf_runs.specs.declared.items.Direction.TheVariants.{LeftToRight, RightToLeft, TopToBottom}
+use Rattle.pdf_runs.specs.declared.pieces.Figure.{Figure}
+use Rattle.pdf_runs.specs.declared.pieces.Figure.TheVariants.{Source, Blank}
+use Rattle.pdf_runs.specs.declared.pieces.Piece.{Piece}
+use Rattle.pdf_operators.specs.declared.places.Font.{Font}
+use Rattle.pdf_operators.specs.declared.places.GlyphMetrics.{GlyphMetrics}
+use Rattle.pdf_operators.specs.declared.places.Stop.{Stop}
+use Rattle.pdf_operators.specs.Operators.{Act, raise, show}
+
+-- ---- lengths
+
+-- along the line
+abbrev pub along : Direction → ℤ → ℤ → ℤ
+along LeftToRight x y = x
+along RightToLeft x y = x
+along TopToBottom x y = y
+
+-- above the line; beside a column nothing is moved
+abbrev pub above : Direction → ℤ → ℤ
+above LeftToRight y = y
+above RightToLeft y = y
+above TopToBottom y = pos 0
+
+abbrev pub no_metrics : GlyphMetrics
+no_metrics = record { displacement = pos 0; position = pos 0 }
+
+abbrev pub metrics_of : Font → Figure → GlyphMetrics
+metrics_of f (Source g) = get_or f.metrics.now g no_metrics
+metrics_of f Blank = no_metrics
+
+-- ---- one piece
+
+-- where a glyph's origin is to be, in thousandths of the em along the line
+abbrev pub origin_at : Font → Direction → Stop → Piece → ℤ
+origin_at f d s p = thousandths (along d (s.x +ℤ p.x) (s.y +ℤ p.y)) f.units
+
+-- a piece behind a stop: the number before its code, and the pens behind it
+abbrev pub next : Font → Direction → Stop → Piece → Stop
+next f d s p = record {
+  back = s.at -ℤ (origin_at f d s p +ℤ (metrics_of f p.figure).position);
+  x = s.x +ℤ p.x_advance;
+  y = s.y +ℤ p.y_advance;
+  at = (origin_at f d s p +ℤ (metrics_of f p.figure).position) +ℤ (metrics_of f p.figure).displacement;
+  rise = thousandths (above d (s.y +ℤ p.y)) f.units;
+}
+
+-- integers have 32 bits (Annex C)
+abbrev pub fits : ℤ → Bool
+fits (pos n) = nat_lt n (2 ^ 31)
+fits (negsuc n) = nat_lt n (2 ^ 31)
+
+abbrev pub is_near : Stop → Bool
+is_near s = (fits s.back && (fits s.x && fits s.y)) && (fits s.at && fits s.rise)
+
+-- ---- pieces
+
+abbrev pub shown_at : Stop → Stop → ℕ → List Act
+shown_at s n code = (if int_eq n.rise s.rise then [] else raise n.rise ∷ []) ++ show n.back code ∷ []
+
+-- what shows pieces behind a stop
+abbrev pub laid : Font → Direction → (Piece → ℕ) → Stop → List Piece → List Act
+laid f d code s [] = []
+laid f d code s (p ∷ ps) = shown_at s (next f d s p) (code p) ++ laid f d code (next f d s p) ps
+
+-- the stop behind them
+abbrev pub stop_behind : Font → Direction → Stop → List Piece → Stop
+stop_behind f d s [] = s
+stop_behind f d s (p ∷ ps) = stop_behind f d (next f d s p) ps
+
+abbrev pub are_near : Font → Direction → Stop → List Piece → Bool
+are_near f d s [] = true
+are_near f d s (p ∷ ps) = is_near (next f d s p) && are_near f d (next f d s p) ps
+
+-- how far the pen is before where the shaper has it
+abbrev pub last_back : Font → Direction → Stop → ℤ
+last_back f d s = s.at -ℤ thousandths (along d s.x s.y) f.units

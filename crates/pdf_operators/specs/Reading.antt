@@ -1,0 +1,143 @@
+-- What a reader of a content stream draws, and the text that it extracts (ISO 32000-1, 9.4.4, 9.10 and 14.9.4).
+use Rattle.std.specs.Prelude.{◌≡◌, ◌<◌, ◌≤◌, ◌++◌, ℕ, ◌*◌, ◌^◌, Bool, true, false, is_some, if◌then◌else◌, List, [], ◌∷◌, map, length, get_or, flat_map, All, Option, Some, None, ℤ, pos, ◌+ℤ◌, ◌-ℤ◌, unsigned_abs}
+use Rattle.subsetter_base.specs.Remap.{index_by}
+use Rattle.subsetter_base.specs.Texts.{utf16}
+use Rattle.pdf_values.specs.Rounding.{thousandths}
+use Rattle.pdf_runs.specs.declared.codes.Pair.{Pair}
+use Rattle.pdf_runs.specs.declared.items.Direction.{Direction}
+use Rattle.pdf_runs.specs.declared.items.Item.{Item}
+use Rattle.pdf_runs.specs.declared.pieces.Figure.{Figure}
+use Rattle.pdf_runs.specs.declared.pieces.Figure.TheVariants.{Source, Blank}
+use Rattle.pdf_runs.specs.declared.pieces.Piece.{Piece}
+use Rattle.pdf_runs.specs.Clusters.{clusters}
+use Rattle.pdf_runs.specs.Codes.{is_zeroth, pair_of, same, zeroth}
+use Rattle.pdf_runs.specs.Items.{text_in as item_text, text_of, visual}
+use Rattle.pdf_runs.specs.Laws.{Drawn, total, wanted}
+use Rattle.pdf_runs.specs.Pieces.{pieces_of_run}
+use Rattle.pdf_operators.specs.declared.places.Font.{Font}
+use Rattle.pdf_operators.specs.Content.{Mark, actual, code, ended, marks_of, number, rise, said_in, sized}
+use Rattle.pdf_operators.specs.Operators.{operators, units_of}
+use Rattle.pdf_operators.specs.Places.{above, along, metrics_of}
+use Rattle.pdf_operators.specs.Runs.{is_valid, run_acts}
+
+-- ---- what is drawn
+
+-- a code, where the pen is in thousandths of the em along the line, and the text rise in millionths
+pub record Placed : Type 0 where
+  pub code : ℕ
+  pub at : ℤ
+  pub rise : ℤ
+
+-- behind a code the pen goes on by its width, at a number it goes back, and Ts is the height (9.4.4); from a pen and a text rise on
+abbrev pub placed : (ℕ → ℤ) → ℤ → ℤ → List Mark → List Placed
+placed width at up [] = []
+placed width at up (number z ∷ ms) = placed width (at -ℤ z) up ms
+placed width at up (code c ∷ ms) = record { code = c; at = at; rise = up } ∷ placed width (at +ℤ width c) up ms
+placed width at up (rise z ∷ ms) = placed width at z ms
+placed width at up (actual us ∷ ms) = placed width at up ms
+placed width at up (ended ∷ ms) = placed width at up ms
+
+-- where the pen is behind them
+abbrev pub pen_behind : (ℕ → ℤ) → ℤ → List Mark → ℤ
+pen_behind width at [] = at
+pen_behind width at (number z ∷ ms) = pen_behind width (at -ℤ z) ms
+pen_behind width at (code c ∷ ms) = pen_behind width (at +ℤ width c) ms
+pen_behind width at (rise z ∷ ms) = pen_behind width at ms
+pen_behind width at (actual us ∷ ms) = pen_behind width at ms
+pen_behind width at (ended ∷ ms) = pen_behind width at ms
+
+-- ---- which text is extracted
+
+-- the text of each code in turn; in a span with an ActualText the codes have none, and the span has that (14.9.4)
+abbrev pub extracted : (ℕ → Option (List ℕ)) → Bool → List Mark → List (Option (List ℕ))
+extracted says within [] = []
+extracted says within (number z ∷ ms) = extracted says within ms
+extracted says false (code c ∷ ms) = says c ∷ extracted says false ms
+extracted says true (code c ∷ ms) = extracted says true ms
+extracted says within (rise z ∷ ms) = extracted says within ms
+extracted says within (actual us ∷ ms) = Some us ∷ extracted says true ms
+extracted says within (ended ∷ ms) = extracted says false ms
+
+-- ---- the font of a text
+
+-- what a code draws, and its width
+abbrev pub figure_in : List Pair → ℕ → Figure
+figure_in pairs c = (get_or pairs c zeroth).figure
+
+abbrev pub width_in : Font → List Pair → ℕ → ℤ
+width_in f pairs c = (metrics_of f (figure_in pairs c)).displacement
+
+-- what a code says: U+2060 (word joiner) where there is nothing; glyph 0 has no text
+abbrev pub units_by : Option ℕ → List ℕ
+units_by None = 8288 ∷ []
+units_by (Some c) = utf16 c
+
+abbrev pub text_of_pair : Pair → Option (List ℕ)
+text_of_pair p = if is_zeroth p.figure then None else Some (units_by p.says)
+
+abbrev pub text_in : List Pair → ℕ → Option (List ℕ)
+text_in pairs c = text_of_pair (get_or pairs c zeroth)
+
+-- each piece has a code
+abbrev pub AreCoded : List Pair → List Piece → Type 0
+AreCoded pairs ps = All (λ (p : Piece). is_some (index_by same pairs (pair_of p)) ≡ true) ps
+
+-- ---- the laws
+
+-- a glyph, where its origin is in thousandths of the em along the line, and the text rise in millionths
+pub record Origin : Type 0 where
+  pub glyph : ℕ
+  pub at : ℤ
+  pub rise : ℤ
+
+abbrev pub origin_of : Font → Figure → Placed → List Origin
+origin_of f (Source g) p = record { glyph = g; at = p.at -ℤ (metrics_of f (Source g)).position; rise = p.rise } ∷ []
+origin_of f Blank p = []
+
+-- the glyphs among what is placed
+abbrev pub origins : Font → List Pair → List Placed → List Origin
+origins f pairs [] = []
+origins f pairs (p ∷ ps) = origin_of f (figure_in pairs p.code) p ++ origins f pairs ps
+
+-- so many thousandths of the em, at a size of so many thousandths
+abbrev pub risen : ℕ → ℤ → ℤ
+risen size z = sized z (unsigned_abs z * size)
+
+-- where a glyph is wanted, in thousandths of the em to the nearest
+abbrev pub aimed : Font → Direction → ℕ → Drawn → Origin
+aimed f d size g = record { glyph = g.glyph; at = thousandths (along d g.x g.y) f.units; rise = risen size (thousandths (above d g.y) f.units) }
+
+-- what a run's operators say
+abbrev pub run_marks : Font → Direction → ℕ → List Pair → List Item → List Mark
+run_marks f d size pairs is = flat_map (marks_of size) (run_acts f d pairs is)
+
+-- the glyphs that are wanted are drawn, each once, in order and where the shaper has them, to the nearest thousandth of the em
+abbrev pub GlyphsArePlaced : Type 0
+GlyphsArePlaced = (f : Font) (d : Direction) (size : ℕ) (pairs : List Pair) (is : List Item) → AreCoded pairs (pieces_of_run d f.inked.now is)
+    → origins f pairs (placed (width_in f pairs) (pos 0) (pos 0) (run_marks f d size pairs is)) ≡ map (aimed f d size) (wanted f.inked.now (pos 0) (pos 0) is)
+
+-- behind the run the pen is where the shaper has it, to the nearest thousandth of the em
+abbrev pub PenIsPlaced : Type 0
+PenIsPlaced = (f : Font) (d : Direction) (size : ℕ) (pairs : List Pair) (is : List Item) → AreCoded pairs (pieces_of_run d f.inked.now is)
+    → pen_behind (width_in f pairs) (pos 0) (run_marks f d size pairs is) ≡ thousandths (along d (total (λ (i : Item). i.x_advance) is) (total (λ (i : Item). i.y_advance) is)) f.units
+
+-- texts that are extracted one behind the other, joined in reading order
+abbrev pub reading : Direction → List (List ℕ) → List ℕ
+reading d texts = flat_map (λ (t : List ℕ). t) (visual d texts)
+
+-- each code and span has a text, and in reading order they are the text of the clusters
+pub record IsExtracted (d : Direction) (is : List Item) (found : List (Option (List ℕ))) : Type 0 where
+  pub texts : List (List ℕ)
+  pub all : found ≡ map Some texts
+  pub text : reading d texts ≡ units_of (flat_map text_of (visual d (clusters is)))
+
+abbrev pub TextIsExtracted : Type 0
+TextIsExtracted = (f : Font) (d : Direction) (size : ℕ) (pairs : List Pair) (is : List Item) → AreCoded pairs (pieces_of_run d f.inked.now is) → IsExtracted d is (extracted (text_in pairs) false (run_marks f d size pairs is))
+
+-- what operators of a run say is read from their bytes
+abbrev pub HasCharacters : Item → Type 0
+HasCharacters i = All (λ c. c < 1114112) (item_text i.text)
+
+abbrev pub RunsAreRead : Type 0
+RunsAreRead = (f : Font) (d : Direction) (size : ℕ) (pairs : List Pair) (is : List Item) → size < 2 ^ 32 → length pairs ≤ 65535 → All HasCharacters is → is_valid f d is ≡ true
+    → said_in (operators size (run_acts f d pairs is)) ≡ run_marks f d size pairs is

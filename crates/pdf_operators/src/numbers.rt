@@ -1,0 +1,79 @@
+//! Numbers of operators (ISO 32000-1, 7.3.3).
+
+ghost use Rattle.std.specs.Prelude.{◌≡◌, ◌+◌, ◌*◌, ◌/◌, ◌%◌, ◌++◌, ◌∷◌, IfErr, OnOk, unsigned_abs};
+ghost use Rattle.std.specs.Fmt.{signed_decimal};
+ghost use Rattle.subsetter_base.specs.declared.error.Error.TheVariants.{OutOfMemory};
+ghost use Rattle.pdf_text.specs.Numbers.{sign};
+ghost use Rattle.pdf_operators.specs.Operators.{millionths, rise_text, six_digits};
+
+use pdf_text::{write_count, write_sign};
+use std::io::Write;
+use subsetter_base::Error;
+
+/// Writes an integer in decimal.
+pub fn write_integer(text: &mut Vec<u8>, z: i32) -> Result<(), Error>
+    ensures ok { OnOk result (text.new.items ≡ text.old.items ++ signed_decimal z) }
+    ensures err { IfErr result (λ e. e ≡ OutOfMemory) }
+{
+    write!(text, "{z}").map_err(|_| Error::OutOfMemory)
+}
+
+/// A digit.
+fn digit(n: u32) -> u8
+    ensures { result ≡ 48 + n % 10 }
+{
+    48 + (n % 10) as u8
+}
+
+/// Writes the last six digits.
+fn write_six_digits(text: &mut Vec<u8>, n: u32) -> Result<(), Error>
+    ensures ok { OnOk result (text.new.items ≡ text.old.items ++ six_digits n) }
+    ensures err { IfErr result (λ e. e ≡ OutOfMemory) }
+{
+    text.extend_from_slice(&[
+        digit(n / 100_000),
+        digit(n / 10_000),
+        digit(n / 1000),
+        digit(n / 100),
+        digit(n / 10),
+        digit(n),
+    ])?;
+    Ok(())
+}
+
+/// Writes a point and six digits.
+#[tactic(auto, using(pdf_text::proofs::Pieces::two_written))]
+fn write_fraction(text: &mut Vec<u8>, n: u32) -> Result<(), Error>
+    ensures ok { OnOk result (text.new.items ≡ text.old.items ++ 46 ∷ six_digits n) }
+    ensures err { IfErr result (λ e. e ≡ OutOfMemory) }
+{
+    text.push(b'.')?;
+    write_six_digits(text, n)
+}
+
+/// Writes so many millionths, with the sign of a number.
+#[tactic(auto, using(pdf_text::proofs::Pieces::three_signed))]
+fn write_millionths(text: &mut Vec<u8>, z: i32, n: u64) -> Result<(), Error>
+    ensures ok { OnOk result (text.new.items ≡ text.old.items ++ millionths z n) }
+    ensures err { IfErr result (λ e. e ≡ OutOfMemory) }
+{
+    write_sign(text, z)?;
+    write_count(text, (n / 1_000_000) as usize)?;
+    write_fraction(text, (n % 1_000_000) as u32)
+}
+
+/// The product of two sizes.
+fn product(a: u32, b: u32) -> u64
+    ensures { result ≡ a * b }
+{
+    u64::from(a) * u64::from(b)
+}
+
+/// Writes a text rise of so many thousandths of the em, at a size of so many thousandths.
+#[tactic(auto, using(pdf_text::proofs::Pieces::two_signed))]
+pub fn write_rise(text: &mut Vec<u8>, size: u32, z: i32) -> Result<(), Error>
+    ensures ok { OnOk result (text.new.items ≡ text.old.items ++ rise_text size z) }
+    ensures err { IfErr result (λ e. e ≡ OutOfMemory) }
+{
+    write_millionths(text, z, product(z.unsigned_abs(), size))
+}
