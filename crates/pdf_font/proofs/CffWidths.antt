@@ -1,11 +1,11 @@
 -- The `CFF ` of a program is that of the subset but for widths.
-use Rattle.std.proofs.Common.{◌≡◌, ℕ, ◌≤◌, true, false, List, length, Option, Some, None, Ok, refl, sym, ap, subst, ◌∙◌, ◌⊎◌, inl, inr, arith, length-append}
+use Rattle.std.proofs.Common.{◌≡◌, ℕ, ◌≤◌, true, false, List, length, Option, Some, None, Ok, refl, sym, ap, subst, ◌∙◌, inl, inr, arith, length-append}
 use Rattle.std.specs.Prelude.{codes}
 use Rattle.std.proofs.lemmas.Option.{same_Some}
 use Rattle.subsetter_base.proofs.GlyphLemmas.{known-all}
 use Rattle.subsetter_cff.specs.Write.Plain.{cff_subset}
 use Rattle.subsetter_sfnt.specs.Read.{Font, as_font, stored, table}
-use Rattle.subsetter_sfnt.specs.Laying.Rows.{present, rows, tags_of}
+use Rattle.subsetter_sfnt.specs.Laying.Rows.{tags_of}
 use Rattle.subsetter_sfnt.specs.Laying.Written.{Table, file as laid_out, fits, kind_word, start_of}
 use Rattle.subsetter_sfnt.specs.declared.flavor.FontFlavor.{FontFlavor}
 use Rattle.subsetter_sfnt.specs.declared.flavor.FontFlavor.TheVariants.{TrueType, Cff}
@@ -19,7 +19,6 @@ use Rattle.pdf_codes.specs.Codes.{glyphs_of}
 use Rattle.pdf_text.specs.declared.values.ProgramKind.{ProgramKind}
 use Rattle.pdf_text.specs.declared.values.ProgramKind.TheVariants.{TrueType as TrueTypeFile, BareCff, OpenType as OpenTypeFile}
 use Rattle.pdf_values.specs.declared.looks.bounds.GlyphBox.{GlyphBox}
-use Rattle.pdf_widths.specs.Laws.{HaveWidths}
 use Rattle.pdf_widths.proofs.Whole.{tables_change}
 use Rattle.pdf_source.specs.Boxed.{boxed, boxed_if}
 use Rattle.pdf_source.specs.Moved.{program_box}
@@ -27,7 +26,7 @@ use Rattle.pdf_source.specs.Program.{IsProgram, kind_of}
 use Rattle.pdf_source.specs.Widened.{widened}
 use Rattle.pdf_source.specs.declared.choice.ProgramChoice.{ProgramChoice}
 use Rattle.pdf_source.proofs.Boxes.{other_stays}
-use Rattle.pdf_font.specs.Laws.{CffWidthsAgree, HasCffWidths, cff_in}
+use Rattle.pdf_font.specs.Laws.{CffWidthsAgree, cff_in}
 use Rattle.pdf_font.proofs.Answered.{known_some}
 use Rattle.pdf_font.proofs.Fresh.{new_opens}
 use Rattle.pdf_font.proofs.KeptBoxes.{IsLaid, cff_before, is_laid}

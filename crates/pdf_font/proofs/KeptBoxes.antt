@@ -1,15 +1,14 @@
 -- The program is the new font, but for the box of `head` and its checksums.
-use Rattle.std.proofs.Common.{◌≡◌, ℕ, ◌<◌, true, false, List, length, Option, Some, None, Result, Ok, ℤ, refl, sym, ap, subst, ◌∙◌, arith}
+use Rattle.std.proofs.Common.{◌≡◌, ℕ, ◌<◌, true, false, List, length, Option, Some, None, Result, Ok, refl, sym, ap, subst, ◌∙◌}
 use Rattle.std.specs.Prelude.{codes}
 use Rattle.std.specs.Option.{ok_or, option_map}
 use Rattle.subsetter_base.specs.Bytes.{◌>>=◌}
-use Rattle.subsetter_base.specs.declared.tag.Tag.{Tag}
 use Rattle.subsetter_base.specs.declared.error.Error.{Error}
 use Rattle.subsetter_base.specs.declared.error.Error.TheVariants.{MalformedFont}
 use Rattle.subsetter_base.proofs.Results.{bind_ok, done_is}
 use Rattle.subsetter_sfnt.specs.Fields.Head.{units_per_em}
 use Rattle.subsetter_sfnt.specs.Fields.Hhea.{number_of_h_metrics}
-use Rattle.subsetter_sfnt.specs.Read.{Font, as_font, stored, table}
+use Rattle.subsetter_sfnt.specs.Read.{Font, as_font, table}
 use Rattle.subsetter_sfnt.specs.Laying.Rows.{FontTables, present, rows}
 use Rattle.subsetter_sfnt.specs.Laying.Written.{Table, file as laid_out, fits, kind_word, start_of}
 use Rattle.subsetter_sfnt.specs.declared.flavor.FontFlavor.{FontFlavor}
@@ -28,15 +27,9 @@ use Rattle.cid_embed.specs.Afresh.{Measures, if_units, measures_of, widths_from,
 use Rattle.pdf_text.specs.declared.values.ProgramKind.{ProgramKind}
 use Rattle.pdf_text.specs.declared.values.ProgramKind.TheVariants.{TrueType as TrueTypeFile, BareCff, OpenType as OpenTypeFile}
 use Rattle.pdf_values.specs.declared.looks.bounds.GlyphBox.{GlyphBox}
-use Rattle.cid_embed.specs.Embed.{numbering}
-use Rattle.pdf_source.specs.Boxed.{IsBoxed, boxed, boxed_if}
-use Rattle.pdf_source.specs.Moved.{program_box}
+use Rattle.pdf_source.specs.Boxed.{boxed, boxed_if}
 use Rattle.pdf_source.specs.Program.{IsProgram}
-use Rattle.pdf_source.specs.declared.choice.FontOptions.{FontOptions}
-use Rattle.pdf_source.proofs.Boxes.{is_boxed, other_stays, units_stay}
-use Rattle.pdf_font.specs.Laws.{KeptBoxes}
-use Rattle.pdf_font.specs.PdfFont.{IsPdfFont}
-use Rattle.pdf_font.specs.declared.font.PdfFont.{PdfFont}
+use Rattle.pdf_source.proofs.Boxes.{other_stays, units_stay}
 
 -- ---- a subset is laid out of tables
 

@@ -13,7 +13,7 @@ use Rattle.subsetter_base.specs.declared.error.Error.TheVariants.{OverflowError}
 use Rattle.subsetter_base.proofs.ByteLemmas.{range-right}
 use Rattle.subsetter_cffdata.proofs.Options.{step}
 use Rattle.subsetter_sfnt.specs.Fields.Head.{units_per_em}
-use Rattle.subsetter_sfnt.specs.Plain.{file_of, opened}
+use Rattle.subsetter_sfnt.specs.Plain.{file_of}
 use Rattle.subsetter_sfnt.specs.Read.{as_font, stored, table, table_in}
 use Rattle.subsetter_sfnt.specs.Laying.Rows.{FontTables, bytes_of, present, rows, tags}
 use Rattle.subsetter_sfnt.specs.Laying.Written.{Table, file as laid_out, fits, kind_word, start_of, with_adjustment}
@@ -26,7 +26,7 @@ use Rattle.subsetter_sfnt.proofs.Laws.LayingLaws.Laid.{head_row_back, row_back}
 use Rattle.subsetter_sfnt.proofs.Laws.LayingLaws.Rows.{HasRoom, lookup_row, present_ascends, rows_ascend, rows_few, rows_tables, some_table}
 use Rattle.cid_embed.specs.Afresh.{widths_of}
 use Rattle.pdf_widths.specs.Tables.{with_widths}
-use Rattle.pdf_source.specs.Widened.{tables_with, unadjusted, widened, widened_by, widened_in}
+use Rattle.pdf_source.specs.Widened.{tables_with, unadjusted, widened, widened_in}
 use Rattle.pdf_source.proofs.Widening.{has_room, unadjusted_is}
 use Rattle.pdf_font.proofs.Fresh.{Opens, new_opens}
 use Rattle.pdf_font.proofs.KeptBoxes.{IsLaid, same_widths}
