@@ -21,6 +21,7 @@ ALLOWED = {
     ("pdf_text", "write_cid"): (1, "`write!` reports a refused request as fmt::Error, and a number's text has no other error"),
     ("pdf_text", "write_integer"): (1, "`write!` reports a refused request as fmt::Error, and a number's text has no other error"),
     ("pdf_text", "write_count"): (1, "`write!` reports a refused request as fmt::Error, and a number's text has no other error"),
+    ("pdf_operators", "write_integer"): (1, "`write!` reports a refused request as fmt::Error, and a number's text has no other error"),
     ("subset_args", "enum ArgsError"): (1, "the case itself"),
     ("subset_args", "glyphs_of"): (1, "`push` takes memory and has no other error"),
     ("subset_font", "no_memory"): (2, "its argument is an allocator's refusal"),
