@@ -6,6 +6,7 @@ use Rattle.subsetter_base.specs.Remap.{index_by}
 use Rattle.pdf_operators.specs.declared.error.RunError.{RunError}
 use Rattle.pdf_operators.specs.declared.error.RunError.TheVariants.{InvalidText, OutOfMemory, Overfull}
 use Rattle.std.proofs.lemmas.List.{drop_more, map-append}
+use Rattle.std.proofs.lemmas.Int.{to_z-of_z}
 use Rattle.pdf_runs.specs.declared.codes.Pair.{Pair}
 use Rattle.pdf_runs.specs.declared.items.Direction.{Direction}
 use Rattle.pdf_runs.specs.declared.items.Item.{Item}
@@ -24,6 +25,11 @@ use Rattle.pdf_operators.specs.Runs.{IsRefused, acts_behind, are_shown, cluster_
 
 pub act_put : (ops new : List Operation) (op : Operation) → new ≡ ops ++ op ∷ [] → acts_of new ≡ acts_of ops ++ act_of op ∷ []
 act_put ops new op e = ap acts_of e ∙ map-append act_of ops (op ∷ [])
+
+pub two_acts : (w a b w1 w2 : List Act) → w1 ≡ w ++ a → w2 ≡ w1 ++ b → w2 ≡ w ++ (a ++ b)
+two_acts w a b w1 w2 e f = f ∙ ap (λ (l : List Act). l ++ b) e ∙ append_assoc w a b
+
+pub ruleset two_put = (two_acts, to_z-of_z)
 
 -- where the length of the whole is a count and that of the rest, it is so after one piece more
 pub count_more : (n m total : ℕ) (piece rest : List ℕ) → n + length (piece ++ rest) ≡ total → m ≡ n + length piece → m + length rest ≡ total

@@ -1,5 +1,5 @@
 -- What shows a run: its pieces, each by its code, with an ActualText around a cluster whose codes don't say it (ISO 32000-1, 14.9.4).
-use Rattle.std.specs.Prelude.{◌≡◌, ◌⊎◌, ℕ, ◌&&◌, ◌||◌, not, nat_lt, Bool, true, false, is_some, if◌then◌else◌, List, [], ◌∷◌, ◌++◌, length, Option, Some, None, pos}
+use Rattle.std.specs.Prelude.{◌≡◌, ◌⊎◌, ℕ, ◌&&◌, ◌||◌, not, nat_lt, Bool, true, false, is_some, if◌then◌else◌, List, [], ◌∷◌, ◌++◌, length, Option, Some, None, ℤ, pos}
 use Rattle.std.specs.List.{list_any}
 use Rattle.std.specs.Ordering.{int_eq}
 use Rattle.subsetter_base.specs.Remap.{index_by}
@@ -59,8 +59,14 @@ is_cluster_shown f d s c = has_room (pieces_of_cluster d f.inked.now c) (text_of
 -- ---- a run
 
 -- the pen goes to the end, and the text rise is 0 again
+abbrev pub back_acts : ℤ → List Act
+back_acts z = if int_eq z (pos 0) then [] else back z ∷ []
+
+abbrev pub level_acts : ℤ → List Act
+level_acts z = if int_eq z (pos 0) then [] else raise (pos 0) ∷ []
+
 abbrev pub end_acts : Font → Direction → Stop → List Act
-end_acts f d s = (if int_eq (last_back f d s) (pos 0) then [] else back (last_back f d s) ∷ []) ++ (if int_eq s.rise (pos 0) then [] else raise (pos 0) ∷ [])
+end_acts f d s = back_acts (last_back f d s) ++ level_acts s.rise
 
 abbrev pub acts_behind : Font → Direction → List Pair → Stop → List (List Item) → List Act
 acts_behind f d pairs s [] = end_acts f d s

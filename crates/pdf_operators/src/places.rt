@@ -1,6 +1,6 @@
 //! Where the pens are.
 
-ghost use Rattle.std.specs.Prelude.{◌≡◌, ◌<◌, ◌≤◌, ◌*◌, ◌^◌, ◌+◌, ◌+ℤ◌, ◌-ℤ◌, ◌&&◌, if◌then◌else◌, unsigned_abs, Some, None};
+ghost use Rattle.std.specs.Prelude.{◌≡◌, ◌<◌, ◌≤◌, ◌*◌, ◌^◌, ◌+◌, ◌+ℤ◌, ◌-ℤ◌, ◌&&◌, if◌then◌else◌, unsigned_abs, IfSome, Some, None};
 ghost use Rattle.pdf_values.specs.Rounding.{thousandfold, thousandths};
 ghost use Rattle.pdf_operators.specs.Places.{above, along, first_three, fits, in_32_bits, is_near, last_back, metrics_of, narrowed, next, origin_at, with_last};
 
@@ -186,7 +186,8 @@ fn pens_behind(font: Font<'_>, direction: Direction, stop: Stop, piece: Piece) -
 
 /// An integer, if it has 32 bits.
 pub fn in_32_bits(z: i64) -> Option<i32>
-    ensures { result ≡ in_32_bits z }
+    ensures value { result ≡ in_32_bits z }
+    ensures same { IfSome result (λ w. w ≡ z) }
 {
     i32::try_from(z).ok()
 }
@@ -235,7 +236,8 @@ pub fn next(font: Font<'_>, direction: Direction, stop: Stop, piece: Piece) -> O
 #[tactic(auto, using(pdf_text::proofs::Pieces::two_signed))]
 pub fn last_back(font: Font<'_>, direction: Direction, stop: Stop) -> Option<i32>
     requires { 0 < font.units }
-    ensures { result ≡ in_32_bits (last_back font.entry direction stop) }
+    ensures value { result ≡ in_32_bits (last_back font.entry direction stop) }
+    ensures same { IfSome result (λ z. z ≡ last_back font.entry direction stop) }
 {
     let end = thousandths(along(direction, i64::from(stop.x), i64::from(stop.y)), font.units);
     in_32_bits(i64::from(stop.at) - end)

@@ -8,7 +8,7 @@ ghost use Rattle.pdf_runs.specs.Pieces.{pieces_of_run};
 ghost use Rattle.pdf_operators.specs.declared.error.RunError.TheVariants.{InvalidText, OutOfMemory, Overfull};
 ghost use Rattle.pdf_operators.specs.Operators.{act_of, acts_of, operators};
 ghost use Rattle.pdf_operators.specs.Places.{are_near, is_near, laid, next, shown_at, stop_behind};
-ghost use Rattle.pdf_operators.specs.Runs.{IsRefused, are_shown, cluster_acts, cluster_stop, code_of, end_acts, in_span, is_cluster_shown, is_long, is_spanned, is_unsaid, is_valid, run_acts, start};
+ghost use Rattle.pdf_operators.specs.Runs.{IsRefused, are_shown, back_acts, cluster_acts, cluster_stop, code_of, end_acts, in_span, is_cluster_shown, is_long, is_spanned, is_unsaid, is_valid, level_acts, run_acts, start};
 ghost use Rattle.pdf_operators.specs.Reading.{AreCoded};
 
 use crate::error::RunError;
@@ -217,7 +217,43 @@ fn push_cluster<'a>(
 
 // ---- a run
 
+/// Takes the pen back, if it has to go.
+fn push_back(operations: &mut Vec<Operation<'_>>, back: i32) -> Result<(), RunError>
+    ensures ok { OnOk result (acts_of operations.new.items ≡ acts_of operations.old.items ++ back_acts back) }
+    ensures err { IfErr result (λ e. e ≡ OutOfMemory) }
+{
+    if back != 0 {
+        push(operations, Operation::Back(back))?;
+    }
+    Ok(())
+}
+
+/// Takes the text rise to 0.
+fn push_level(operations: &mut Vec<Operation<'_>>, rise: i32) -> Result<(), RunError>
+    ensures ok { OnOk result (acts_of operations.new.items ≡ acts_of operations.old.items ++ level_acts rise) }
+    ensures err { IfErr result (λ e. e ≡ OutOfMemory) }
+{
+    if rise != 0 {
+        push(operations, Operation::Rise(0))?;
+    }
+    Ok(())
+}
+
 /// Takes the pen to the end, and the text rise to 0.
+#[tactic(auto, using(crate::proofs::RunSteps::two_put))]
+fn push_ends(
+    operations: &mut Vec<Operation<'_>>,
+    back: i32,
+    rise: i32,
+) -> Result<(), RunError>
+    ensures ok { OnOk result (acts_of operations.new.items ≡ acts_of operations.old.items ++ (back_acts back ++ level_acts rise)) }
+    ensures err { IfErr result (λ e. e ≡ OutOfMemory) }
+{
+    push_back(operations, back)?;
+    push_level(operations, rise)
+}
+
+/// The same behind a stop, if the number has 32 bits.
 fn push_end(
     operations: &mut Vec<Operation<'_>>,
     font: Font<'_>,
@@ -229,16 +265,13 @@ fn push_end(
     ensures valid { OnOk result (are_shown font.entry direction stop [] ≡ true) }
     ensures err { IfErr result (λ e. (e ≡ OutOfMemory) ⊎ ((e ≡ InvalidText) × (are_shown font.entry direction stop [] ≡ false))) }
 {
-    let Some(back) = last_back(font, direction, stop) else {
-        return Err(RunError::InvalidText);
-    };
-    if back != 0 {
-        push(operations, Operation::Back(back))?;
+    match last_back(font, direction, stop) {
+        Some(back) => {
+            push_ends(operations, back, stop.rise)?;
+            Ok(())
+        }
+        None => Err(RunError::InvalidText),
     }
-    if stop.rise != 0 {
-        push(operations, Operation::Rise(0))?;
-    }
-    Ok(())
 }
 
 /// What shows a run, whose pieces have codes.
@@ -337,6 +370,7 @@ fn add_codes(
 ///   Some of the new pairs may be there.
 /// - `Overfull`: there would be more than 65,535 codes. The pairs are as they were.
 /// - `OutOfMemory`: a request for memory was refused. Some of the new pairs may be there.
+#[tactic(auto, using(crate::proofs::RunSteps::not_run, crate::proofs::RunSteps::is_shown, crate::proofs::RunSteps::uncoded, crate::proofs::RunSteps::unshown))]
 pub fn show_run<'a>(
     alloc: Global,
     font: Font<'_>,

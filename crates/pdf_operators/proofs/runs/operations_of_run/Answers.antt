@@ -7,11 +7,15 @@ pub loop-cluster-preserved : goal.loop-cluster-preserved
 loop-cluster-preserved c =
     let f = c.args.font in
     let d = c.args.direction in
-    let found = c.loop-cluster.cluster-items in
     let k = c.loop-cluster.cluster-index in
     let s = c.loop-cluster.stop in
-    let n = c.in_ok-push_cluster.field-0 in
+    let n = c.in_ok-stop.stop in
     record {
-      acts = cluster_more f d c.args.pairs.now found k _ s n (acts_of c.loop-cluster.operations.items) (acts_of c.push_cluster.new.operations.items) _ c.loop-cluster-test.true c.in_ok-push_cluster.ensures.next c.in_ok-push_cluster.ensures.ok c.loop-cluster.invariant.acts;
-      shown = shown_more f d found k _ s n _ c.loop-cluster-test.true c.in_ok-push_cluster.ensures.next c.in_ok-push_cluster.ensures.valid c.loop-cluster.invariant.shown;
+      acts = cluster_more f d c.args.pairs.now _ k _ s n (acts_of c.loop-cluster.operations.items) (acts_of c.push_cluster.new.operations.items) _ c.loop-cluster-test.true c.in_ok-stop.ensures.next c.in_ok-stop.ensures.ok c.loop-cluster.invariant.acts;
+      shown = shown_more f d _ k _ s n _ c.loop-cluster-test.true c.in_ok-stop.ensures.next c.in_ok-stop.ensures.valid c.loop-cluster.invariant.shown;
     }
+
+pub returns-in_err-stop-clause-err : goal.returns-in_err-stop-clause-err
+returns-in_err-stop-clause-err c =
+    let p = err_from_is_err_and c.from_residual-in_err-stop.result c.from_residual-in_err-stop.ensures.1 in
+    rw (p.1, p.2) (cluster_refused c.args.font c.args.direction _ c.loop-cluster.cluster-index _ c.loop-cluster.stop _ c.in_err-stop.field-0.0 c.loop-cluster-test.true c.in_err-stop.ensures.err c.loop-cluster.invariant.shown)
