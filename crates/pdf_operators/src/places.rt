@@ -171,10 +171,7 @@ fn pens_behind(font: Font<'_>, direction: Direction, stop: Stop, piece: Piece) -
     ensures { narrowed result ≡ next font.entry direction stop piece }
 {
     let metrics = metrics_of(font, piece.figure);
-    let shown = moved(
-        origin_at(font, direction, stop, piece),
-        metrics.position,
-    );
+    let shown = moved(origin_at(font, direction, stop, piece), metrics.position);
     Wide {
         back: back_from(stop.at, shown),
         x: sum(stop.x, piece.x_advance),
@@ -239,6 +236,9 @@ pub fn last_back(font: Font<'_>, direction: Direction, stop: Stop) -> Option<i32
     ensures value { result ≡ in_32_bits (last_back font.entry direction stop) }
     ensures same { IfSome result (λ z. z ≡ last_back font.entry direction stop) }
 {
-    let end = thousandths(along(direction, i64::from(stop.x), i64::from(stop.y)), font.units);
+    let end = thousandths(
+        along(direction, i64::from(stop.x), i64::from(stop.y)),
+        font.units,
+    );
     in_32_bits(i64::from(stop.at) - end)
 }

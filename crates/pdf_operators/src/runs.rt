@@ -36,10 +36,7 @@ fn code_of(pairs: &Remapper<u16, Pair>, piece: Piece) -> u16
 
 /// Puts an operation behind others.
 #[tactic(auto, using(crate::proofs::RunSteps::act_put))]
-fn push<'a>(
-    operations: &mut Vec<Operation<'a>>,
-    operation: Operation<'a>,
-) -> Result<(), RunError>
+fn push<'a>(operations: &mut Vec<Operation<'a>>, operation: Operation<'a>) -> Result<(), RunError>
     ensures ok { OnOk result (acts_of operations.new.items ≡ acts_of operations.old.items ++ act_of operation.entry ∷ []) }
     ensures err { IfErr result (λ e. e ≡ OutOfMemory) }
 {
@@ -61,7 +58,10 @@ fn push_shown(
     if next.rise != stop.rise {
         push(operations, Operation::Rise(next.rise))?;
     }
-    push(operations, Operation::Show(next.back, code_of(pairs, piece)))
+    push(
+        operations,
+        Operation::Show(next.back, code_of(pairs, piece)),
+    )
 }
 
 /// Puts what shows a piece behind others, and gives the stop behind it.
@@ -206,10 +206,19 @@ fn push_cluster<'a>(
     ensures valid { OnOk result (is_cluster_shown font.entry direction stop items.now ≡ true) }
     ensures err { IfErr result (λ e. (e ≡ OutOfMemory) ⊎ ((e ≡ InvalidText) × (is_cluster_shown font.entry direction stop items.now ≡ false))) }
 {
-    let pieces = pieces_of_cluster(alloc, direction, font.inked, items)
-        .map_err(|_| RunError::OutOfMemory)?;
+    let pieces = pieces_of_cluster(alloc, direction, font.inked, items).map_err(
+        |_| RunError::OutOfMemory,
+    )?;
     if is_spanned(&pieces) {
-        push_span(operations, font, direction, pairs, stop, text_of(items), &pieces)
+        push_span(
+            operations,
+            font,
+            direction,
+            pairs,
+            stop,
+            text_of(items),
+            &pieces,
+        )
     } else {
         push_pieces(operations, font, direction, pairs, stop, &pieces)
     }
@@ -241,11 +250,7 @@ fn push_level(operations: &mut Vec<Operation<'_>>, rise: i32) -> Result<(), RunE
 
 /// Takes the pen to the end, and the text rise to 0.
 #[tactic(auto, using(crate::proofs::RunSteps::two_put))]
-fn push_ends(
-    operations: &mut Vec<Operation<'_>>,
-    back: i32,
-    rise: i32,
-) -> Result<(), RunError>
+fn push_ends(operations: &mut Vec<Operation<'_>>, back: i32, rise: i32) -> Result<(), RunError>
     ensures ok { OnOk result (acts_of operations.new.items ≡ acts_of operations.old.items ++ (back_acts back ++ level_acts rise)) }
     ensures err { IfErr result (λ e. e ≡ OutOfMemory) }
 {
@@ -297,7 +302,15 @@ fn operations_of_run<'a>(
     };
     let found = clusters_of_run(alloc, items).map_err(|_| RunError::OutOfMemory)?;
     for cluster in &found {
-        stop = push_cluster(alloc, &mut operations, font, direction, pairs, stop, cluster)?;
+        stop = push_cluster(
+            alloc,
+            &mut operations,
+            font,
+            direction,
+            pairs,
+            stop,
+            cluster,
+        )?;
     }
     push_end(&mut operations, font, direction, stop)?;
     Ok(operations)
@@ -355,8 +368,9 @@ fn add_codes(
     ensures stay { KeepsCodes pairs.old pairs.new }
     ensures err { IfErr result (λ e. (e ≡ OutOfMemory) ⊎ ((e ≡ Overfull) × IsOverfull pairs.old (pieces_of_run direction font.entry.inked.now items.now) × (pairs.new ≡ pairs.old))) }
 {
-    let pieces = pieces_of_run(alloc, direction, font.inked, items)
-        .map_err(|_| RunError::OutOfMemory)?;
+    let pieces = pieces_of_run(alloc, direction, font.inked, items).map_err(
+        |_| RunError::OutOfMemory,
+    )?;
     code_pieces(alloc, pairs, &pieces)
 }
 
