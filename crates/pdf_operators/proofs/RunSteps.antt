@@ -1,5 +1,5 @@
 -- What shows a run, one piece and one cluster after the other.
-use Rattle.std.proofs.Common.{◌≡◌, ℕ, ◌+◌, ◌<◌, List, [], ◌∷◌, ◌++◌, length, map, get_or, drop, refl, sym, ap, ◌∙◌, append_assoc, length-append, arith, true, false, Bool, ◌&&◌, Bor, inl, inr, Option, Some, None}
+use Rattle.std.proofs.Common.{◌≡◌, ℕ, ◌+◌, ◌<◌, List, [], ◌∷◌, ◌++◌, length, map, get_or, drop, refl, sym, ap, ◌∙◌, append_assoc, length-append, arith, true, false, Bool, ◌&&◌, Bor, inl, inr, Some}
 use Rattle.std.specs.Prelude.{is_some, ◌⊎◌}
 use Rattle.std.proofs.lemmas.List.Elements.{All-nil, All-cons}
 use Rattle.subsetter_base.specs.Remap.{index_by}
@@ -19,7 +19,7 @@ use Rattle.pdf_operators.specs.Reading.{AreCoded}
 use Rattle.pdf_operators.specs.declared.operations.Operation.{Operation}
 use Rattle.pdf_operators.specs.declared.places.Font.{Font}
 use Rattle.pdf_operators.specs.declared.places.Stop.{Stop}
-use Rattle.pdf_operators.specs.Operators.{Act, act_of, acts_of, units_of}
+use Rattle.pdf_operators.specs.Operators.{Act, act_of, acts_of}
 use Rattle.pdf_operators.specs.Places.{are_near, is_near, laid, next, shown_at, stop_behind}
 use Rattle.pdf_operators.specs.Runs.{IsRefused, acts_behind, are_shown, cluster_acts, cluster_stop, is_cluster_shown, is_valid, start}
 
