@@ -5,3 +5,5 @@ pub mod PlaceLaws
 pub mod TextLaws
 pub mod Writable
 pub mod EndLaws
+pub mod RunSteps
+pub mod Near

@@ -1,5 +1,5 @@
 -- Where a reader's pen is taken, so that each glyph is where the shaper has it (ISO 32000-1, 9.4.4).
-use Rattle.std.specs.Prelude.{ℕ, ◌&&◌, nat_lt, Bool, true, if◌then◌else◌, List, [], ◌∷◌, ◌++◌, get_or, ℤ, pos, negsuc, ◌+ℤ◌, ◌-ℤ◌, ◌^◌}
+use Rattle.std.specs.Prelude.{ℕ, ◌&&◌, nat_lt, Bool, true, if◌then◌else◌, List, [], ◌∷◌, ◌++◌, get_or, Option, Some, None, ℤ, pos, negsuc, ◌+ℤ◌, ◌-ℤ◌, ◌^◌}
 use Rattle.std.specs.Ordering.{int_eq}
 use Rattle.pdf_values.specs.Rounding.{thousandths}
 use Rattle.pdf_runs.specs.declared.items.Direction.{Direction}
@@ -10,6 +10,7 @@ use Rattle.pdf_runs.specs.declared.pieces.Piece.{Piece}
 use Rattle.pdf_operators.specs.declared.places.Font.{Font}
 use Rattle.pdf_operators.specs.declared.places.GlyphMetrics.{GlyphMetrics}
 use Rattle.pdf_operators.specs.declared.places.Stop.{Stop}
+use Rattle.pdf_operators.specs.declared.places.Wide.{Wide}
 use Rattle.pdf_operators.specs.Operators.{Act, raise, show}
 
 -- ---- lengths
@@ -50,12 +51,27 @@ next f d s p = record {
 }
 
 -- integers have 32 bits (Annex C)
+abbrev pub in_32_bits : ℤ → Option ℤ
+in_32_bits (pos n) = if nat_lt n (2 ^ 31) then Some (pos n) else None
+in_32_bits (negsuc n) = if nat_lt n (2 ^ 31) then Some (negsuc n) else None
+
 abbrev pub fits : ℤ → Bool
 fits (pos n) = nat_lt n (2 ^ 31)
 fits (negsuc n) = nat_lt n (2 ^ 31)
 
 abbrev pub is_near : Stop → Bool
 is_near s = (fits s.back && (fits s.x && fits s.y)) && (fits s.at && fits s.rise)
+
+-- the first three numbers
+abbrev pub first_three : Stop → Stop
+first_three s = record { back = s.back; x = s.x; y = s.y; at = pos 0; rise = pos 0 }
+
+-- with the last two numbers of another
+abbrev pub with_last : Stop → Stop → Stop
+with_last s l = record { back = s.back; x = s.x; y = s.y; at = l.at; rise = l.rise }
+
+abbrev pub narrowed : Wide → Stop
+narrowed w = record { back = w.back; x = w.x; y = w.y; at = w.at; rise = w.rise }
 
 -- ---- pieces
 

@@ -1,5 +1,5 @@
 -- What shows a run: its pieces, each by its code, with an ActualText around a cluster whose codes don't say it (ISO 32000-1, 14.9.4).
-use Rattle.std.specs.Prelude.{ℕ, ◌&&◌, ◌||◌, not, nat_lt, Bool, true, false, is_some, if◌then◌else◌, List, [], ◌∷◌, ◌++◌, length, Option, Some, None, pos}
+use Rattle.std.specs.Prelude.{◌≡◌, ◌⊎◌, ℕ, ◌&&◌, ◌||◌, not, nat_lt, Bool, true, false, is_some, if◌then◌else◌, List, [], ◌∷◌, ◌++◌, length, Option, Some, None, ℤ, pos}
 use Rattle.std.specs.List.{list_any}
 use Rattle.std.specs.Ordering.{int_eq}
 use Rattle.subsetter_base.specs.Remap.{index_by}
@@ -8,9 +8,11 @@ use Rattle.pdf_runs.specs.declared.items.Direction.{Direction}
 use Rattle.pdf_runs.specs.declared.items.Item.{Item}
 use Rattle.pdf_runs.specs.declared.pieces.Piece.{Piece}
 use Rattle.pdf_runs.specs.Clusters.{clusters}
-use Rattle.pdf_runs.specs.Codes.{is_zeroth, pair_of, same}
+use Rattle.pdf_runs.specs.Codes.{IsOverfull, is_zeroth, pair_of, same}
 use Rattle.pdf_runs.specs.Items.{is_run, text_of}
-use Rattle.pdf_runs.specs.Pieces.{pieces_of_cluster}
+use Rattle.pdf_runs.specs.Pieces.{pieces_of_cluster, pieces_of_run}
+use Rattle.pdf_operators.specs.declared.error.RunError.{RunError}
+use Rattle.pdf_operators.specs.declared.error.RunError.TheVariants.{InvalidText, Overfull, OutOfMemory}
 use Rattle.pdf_operators.specs.declared.places.Font.{Font}
 use Rattle.pdf_operators.specs.declared.places.Stop.{Stop}
 use Rattle.pdf_operators.specs.Operators.{Act, back, begin, finish, raise, units_of}
@@ -57,8 +59,14 @@ is_cluster_shown f d s c = has_room (pieces_of_cluster d f.inked.now c) (text_of
 -- ---- a run
 
 -- the pen goes to the end, and the text rise is 0 again
+abbrev pub back_acts : ℤ → List Act
+back_acts z = if int_eq z (pos 0) then [] else back z ∷ []
+
+abbrev pub level_acts : ℤ → List Act
+level_acts z = if int_eq z (pos 0) then [] else raise (pos 0) ∷ []
+
 abbrev pub end_acts : Font → Direction → Stop → List Act
-end_acts f d s = (if int_eq (last_back f d s) (pos 0) then [] else back (last_back f d s) ∷ []) ++ (if int_eq s.rise (pos 0) then [] else raise (pos 0) ∷ [])
+end_acts f d s = back_acts (last_back f d s) ++ level_acts s.rise
 
 abbrev pub acts_behind : Font → Direction → List Pair → Stop → List (List Item) → List Act
 acts_behind f d pairs s [] = end_acts f d s
@@ -77,3 +85,7 @@ run_acts f d pairs is = acts_behind f d pairs start (clusters is)
 -- whether glyphs can be shown: they are a run of the font, numbers have 32 bits, and each ActualText has room
 abbrev pub is_valid : Font → Direction → List Item → Bool
 is_valid f d is = is_run d (length f.metrics.now) is && are_shown f d start (clusters is)
+
+-- why a run isn't shown
+abbrev pub IsRefused : Font → Direction → List Pair → List Pair → List Item → RunError → Type 0
+IsRefused f d pairs new is e = (e ≡ OutOfMemory) ⊎ (((e ≡ InvalidText) × (is_valid f d is ≡ false)) ⊎ ((e ≡ Overfull) × IsOverfull pairs (pieces_of_run d f.inked.now is) × (new ≡ pairs)))

@@ -5,14 +5,18 @@
 //! ```
 #![tactic(auto)]
 
+mod error;
 mod hex;
 mod laws;
 mod numbers;
 mod operations;
 mod places;
+mod runs;
 
+pub use error::RunError;
 pub use laws::{
     glyphs_are_placed, operators_are_read, pen_is_placed, runs_are_read, text_is_extracted,
 };
 pub use operations::{Operation, write_operators};
-pub use places::{Font, GlyphMetrics, Stop};
+pub use places::{Font, GlyphMetrics};
+pub use runs::show_run;

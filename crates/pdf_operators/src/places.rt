@@ -1,5 +1,12 @@
 //! Where the pens are.
 
+ghost use Rattle.std.specs.Prelude.{◌≡◌, ◌<◌, ◌≤◌, ◌*◌, ◌^◌, ◌+◌, ◌+ℤ◌, ◌-ℤ◌, ◌&&◌, if◌then◌else◌, unsigned_abs, IfSome, Some, None};
+ghost use Rattle.pdf_values.specs.Rounding.{thousandfold, thousandths};
+ghost use Rattle.pdf_operators.specs.Places.{above, along, first_three, fits, in_32_bits, is_near, last_back, metrics_of, narrowed, next, origin_at, with_last};
+
+use pdf_runs::{Direction, Figure, Piece};
+use subsetter_variation::rounding::nearest;
+
 /// The metrics of a glyph in the direction of writing, in thousandths of the em (ISO 32000-1, 9.2.4 and 9.7.4.3).
 #[derive(Clone, Copy)]
 pub struct GlyphMetrics {
@@ -32,4 +39,206 @@ pub struct Stop {
     pub at: i32,
     /// The text rise, in thousandths of the em.
     pub rise: i32,
+}
+
+/// Behind a glyph, before it is known whether the numbers have 32 bits.
+#[derive(Clone, Copy)]
+pub struct Wide {
+    back: i64,
+    x: i64,
+    y: i64,
+    at: i64,
+    rise: i64,
+}
+
+/// A length along the line.
+fn along(direction: Direction, x: i64, y: i64) -> i64
+    requires first { unsigned_abs x ≤ 2 ^ 33 }
+    requires second { unsigned_abs y ≤ 2 ^ 33 }
+    ensures value { result ≡ along direction x y }
+    ensures bound { unsigned_abs result ≤ 2 ^ 33 }
+{
+    match direction {
+        Direction::LeftToRight | Direction::RightToLeft => x,
+        Direction::TopToBottom => y,
+    }
+}
+
+/// A height above the line.
+fn above(direction: Direction, y: i64) -> i64
+    requires { unsigned_abs y ≤ 2 ^ 33 }
+    ensures value { result ≡ above direction y }
+    ensures bound { unsigned_abs result ≤ 2 ^ 33 }
+{
+    match direction {
+        Direction::LeftToRight | Direction::RightToLeft => y,
+        Direction::TopToBottom => 0,
+    }
+}
+
+/// The metrics of a figure.
+fn metrics_of(font: Font<'_>, figure: Figure) -> GlyphMetrics
+    ensures { result ≡ metrics_of font.entry figure }
+{
+    let none = GlyphMetrics {
+        displacement: 0,
+        position: 0,
+    };
+    match figure {
+        Figure::Source(glyph) => {
+            let place = usize::from(glyph);
+            if place < font.metrics.len() {
+                font.metrics[place]
+            } else {
+                none
+            }
+        }
+        Figure::Blank => none,
+    }
+}
+
+/// The sum of two lengths.
+fn sum(a: i32, b: i32) -> i64
+    ensures value { result ≡ a +ℤ b }
+    ensures bound { unsigned_abs result ≤ 2 ^ 33 }
+{
+    i64::from(a) + i64::from(b)
+}
+
+/// A thousand times a length.
+fn thousandfold(length: i64) -> i64
+    requires { unsigned_abs length ≤ 2 ^ 33 }
+    ensures value { result ≡ thousandfold length }
+    ensures size { unsigned_abs result ≡ 1000 * unsigned_abs length }
+{
+    1000 * length
+}
+
+/// A length of so many units to the em, to the nearest thousandth, halves up.
+#[tactic(auto, unfolding(pdf_values::specs::Rounding::thousandths))]
+fn thousandths(length: i64, units: u16) -> i64
+    requires above { 0 < units }
+    requires small { unsigned_abs length ≤ 2 ^ 33 }
+    ensures value { result ≡ thousandths length units }
+    ensures bound { unsigned_abs result ≤ 1000 * 2 ^ 33 }
+{
+    nearest(thousandfold(length), u64::from(units))
+}
+
+/// Where a glyph's origin is to be, in thousandths of the em along the line.
+#[tactic(auto, using(pdf_text::proofs::Pieces::two_signed))]
+fn origin_at(font: Font<'_>, direction: Direction, stop: Stop, piece: Piece) -> i64
+    requires { 0 < font.units }
+    ensures value { result ≡ origin_at font.entry direction stop piece }
+    ensures bound { unsigned_abs result ≤ 1000 * 2 ^ 33 }
+{
+    let x = sum(stop.x, piece.x);
+    let y = sum(stop.y, piece.y);
+    thousandths(along(direction, x, y), font.units)
+}
+
+/// The text rise of a glyph, in thousandths of the em.
+#[tactic(auto, using(pdf_text::proofs::Pieces::two_signed))]
+fn rise_at(font: Font<'_>, direction: Direction, stop: Stop, piece: Piece) -> i64
+    requires { 0 < font.units }
+    ensures value { result ≡ thousandths (above direction (stop.y +ℤ piece.y)) font.entry.units }
+    ensures bound { unsigned_abs result ≤ 1000 * 2 ^ 33 }
+{
+    thousandths(above(direction, sum(stop.y, piece.y)), font.units)
+}
+
+/// A place, so much further on.
+fn moved(from: i64, by: i32) -> i64
+    requires { unsigned_abs from ≤ 2 ^ 44 }
+    ensures value { result ≡ from +ℤ by }
+    ensures bound { unsigned_abs result ≤ unsigned_abs from + 2 ^ 31 }
+{
+    from + i64::from(by)
+}
+
+/// How far back a place is.
+fn back_from(from: i32, to: i64) -> i64
+    requires { unsigned_abs to ≤ 2 ^ 45 }
+    ensures { result ≡ from -ℤ to }
+{
+    i64::from(from) - to
+}
+
+/// The pens behind a piece.
+#[tactic(auto, using(pdf_text::proofs::Pieces::two_signed))]
+fn pens_behind(font: Font<'_>, direction: Direction, stop: Stop, piece: Piece) -> Wide
+    requires { 0 < font.units }
+    ensures { narrowed result ≡ next font.entry direction stop piece }
+{
+    let metrics = metrics_of(font, piece.figure);
+    let shown = moved(origin_at(font, direction, stop, piece), metrics.position);
+    Wide {
+        back: back_from(stop.at, shown),
+        x: sum(stop.x, piece.x_advance),
+        y: sum(stop.y, piece.y_advance),
+        at: moved(shown, metrics.displacement),
+        rise: rise_at(font, direction, stop, piece),
+    }
+}
+
+/// An integer, if it has 32 bits.
+pub fn in_32_bits(z: i64) -> Option<i32>
+    ensures value { result ≡ in_32_bits z }
+    ensures same { IfSome result (λ w. w ≡ z) }
+{
+    i32::try_from(z).ok()
+}
+
+/// The first three numbers, if they have 32 bits.
+fn first_three(wide: Wide) -> Option<Stop>
+    ensures { result ≡ (if fits wide.back && (fits wide.x && fits wide.y) then Some (first_three (narrowed wide)) else None) }
+{
+    Some(Stop {
+        back: in_32_bits(wide.back)?,
+        x: in_32_bits(wide.x)?,
+        y: in_32_bits(wide.y)?,
+        at: 0,
+        rise: 0,
+    })
+}
+
+/// The last two numbers behind the first three, if they have 32 bits.
+fn last_two(wide: Wide, first: Stop) -> Option<Stop>
+    ensures { result ≡ (if fits wide.at && fits wide.rise then Some (with_last first (narrowed wide)) else None) }
+{
+    Some(Stop {
+        at: in_32_bits(wide.at)?,
+        rise: in_32_bits(wide.rise)?,
+        ..first
+    })
+}
+
+/// The pens, if their numbers have 32 bits.
+fn narrow(wide: Wide) -> Option<Stop>
+    ensures { result ≡ (if is_near (narrowed wide) then Some (narrowed wide) else None) }
+{
+    let first = first_three(wide)?;
+    last_two(wide, first)
+}
+
+/// The stop behind a piece, if its numbers have 32 bits.
+pub fn next(font: Font<'_>, direction: Direction, stop: Stop, piece: Piece) -> Option<Stop>
+    requires { 0 < font.units }
+    ensures { result ≡ (if is_near (next font.entry direction stop piece) then Some (next font.entry direction stop piece) else None) }
+{
+    narrow(pens_behind(font, direction, stop, piece))
+}
+
+/// How far a reader's pen is before where the shaper has its own, if that has 32 bits.
+#[tactic(auto, using(pdf_text::proofs::Pieces::two_signed))]
+pub fn last_back(font: Font<'_>, direction: Direction, stop: Stop) -> Option<i32>
+    requires { 0 < font.units }
+    ensures value { result ≡ in_32_bits (last_back font.entry direction stop) }
+    ensures same { IfSome result (λ z. z ≡ last_back font.entry direction stop) }
+{
+    let end = thousandths(
+        along(direction, i64::from(stop.x), i64::from(stop.y)),
+        font.units,
+    );
+    in_32_bits(i64::from(stop.at) - end)
 }
