@@ -118,6 +118,9 @@ def ended(way, before, base, got, number):
         return "stopped" if untouched and got.out == b"" else ""
     if got.status == base.status and got.out == base.out and is_whole and (got.err == base.err or is_cut(base.err, got.err)):
         return "whole" if got.err == base.err else "silent"
+    as_base = (got.status, got.out, got.err) == (base.status, base.out, base.err)
+    if way.in_place and beside and as_base and {it: got.files[it] for it in got.files.keys() - beside} == base.files:
+        return "whole" + FILE_LEFT
     are_well = way.in_place or all(got.files.get(it) in (before.get(it), base.files.get(it)) for it in way.written)
     if got.status in (1, 2, 3) and got.err == b"" and others and not beside and are_well:
         return "mute"
@@ -187,7 +190,9 @@ def allowed(roles, at, how, number, is_start):
         is_whole = at > roles.named.get(way.links.get(name, name), len(roles.steps))
         is_done_without = is_whole or "O_EXCL" in step.arguments and number not in NO_ROOM or step.call in ("fdatasync", "fsync") and number in NO_SYNC
         must = step.call in (*WRITING, *REMOVING, "open", "openat") or at in roles.looks.values()
-        return {f"cannot write {name}"} if must and not is_done_without else {"whole"}
+        # (a file that is written in place is whole then)
+        left = {"whole" + FILE_LEFT} if step.call in REMOVING and way.in_place else set()
+        return {f"cannot write {name}", *left} if must and not is_done_without else {"whole"}
     if role == "stdout":
         return {"whole"} if is_look else {"cannot write -" if has_font else "cannot write standard output"}
     if role == "stderr":
@@ -200,7 +205,7 @@ def allowed_from(roles, at, number, is_start):
     """The same where each such call from the step `at` on fails: standard error may fail, too."""
     once = allowed(roles, at, "errors", number, is_start)
     if roles.steps[at].call in REMOVING:
-        return {it + FILE_LEFT for it in once} | {"silent", "mute"}
+        return {it.removesuffix(FILE_LEFT) + FILE_LEFT for it in once} | {"silent", "mute"}
     if "whole" not in once:
         return once | {"silent", "mute"}
     names = {roles.file(it) for it in roles.way.written} | {"standard output", "-"}
