@@ -22,13 +22,12 @@ fn axis(tag: &[u8; 4], least: i32, default: i32, greatest: i32) -> Axis {
     }
 }
 
-/// Flags and ItalicAngle at a coordinate on one of these axes.
-fn lean_at(axes: &[Axis], tag: &[u8; 4], coordinate: i32) -> (u32, i32) {
-    let settings = [(Tag::new(tag), coordinate)];
+/// Flags and ItalicAngle at coordinates on axes.
+fn lean_at<'a>(axes: &'a [Axis], settings: &'a [(Tag, i32)]) -> (u32, i32) {
     let movement = Movement {
         at: &[],
         axes,
-        settings: &settings,
+        settings,
         mvar: None,
     };
     let tables = Tables {
@@ -48,28 +47,24 @@ fn lean_at(axes: &[Axis], tag: &[u8; 4], coordinate: i32) -> (u32, i32) {
 }
 
 #[test]
-fn lean_at_coordinates(rt: HostRuntime) {
+fn lean_at_coordinates(rt: HostRuntime) -> Result<(), Fail> {
     let ital = axis(b"ital", 0, 65536, 65536);
     let slnt = axis(b"slnt", -655360, 0, 655360);
     let weight = axis(b"wght", 6553600, 26214400, 58982400);
-    let (alone, upright, slanted, both) = ([weight], [weight, ital], [slnt], [ital, slnt]);
-    for (axes, tag, coordinate, lean) in [
-        // Without either axis the font stays italic.
-        (alone.as_slice(), b"wght", 6553600, (68, -9500)),
-        // `ital` alone: from a half on the font is italic, with the angle of `post`.
-        (&upright, b"ital", 0, (4, 0)),
-        (&upright, b"ital", 32767, (4, 0)),
-        (&upright, b"ital", 32768, (68, -9500)),
-        (&upright, b"wght", 6553600, (68, -9500)),
-        // `slnt` alone: below 0 it is.
-        (&slanted, b"slnt", -32768, (68, -500)),
-        (&slanted, b"slnt", 0, (4, 0)),
-        (&slanted, b"slnt", 65536, (4, 1000)),
-        // Both: either makes it italic, and the angle is that of `slnt`.
-        (&both, b"ital", 0, (4, 0)),
-        (&both, b"slnt", -655360, (68, -10000)),
-        (&both, b"ital", 65536, (68, 0)),
-    ] {
-        assert!(rt; lean_at(axes, tag, coordinate) == lean);
-    }
+    // Without either axis the font stays italic.
+    assert!(rt; lean_at(&[weight], &[(Tag::new(b"wght"), 6553600)]) == (68, -9500));
+    // `ital` alone: from a half on the font is italic, with the angle of `post`.
+    assert!(rt; lean_at(&[weight, ital], &[(Tag::new(b"ital"), 0)]) == (4, 0));
+    assert!(rt; lean_at(&[weight, ital], &[(Tag::new(b"ital"), 32767)]) == (4, 0));
+    assert!(rt; lean_at(&[weight, ital], &[(Tag::new(b"ital"), 32768)]) == (68, -9500));
+    assert!(rt; lean_at(&[weight, ital], &[(Tag::new(b"wght"), 6553600)]) == (68, -9500));
+    // `slnt` alone: below 0 it is.
+    assert!(rt; lean_at(&[slnt], &[(Tag::new(b"slnt"), -32768)]) == (68, -500));
+    assert!(rt; lean_at(&[slnt], &[(Tag::new(b"slnt"), 0)]) == (4, 0));
+    assert!(rt; lean_at(&[slnt], &[(Tag::new(b"slnt"), 65536)]) == (4, 1000));
+    // Both: either makes it italic, and the angle is that of `slnt`.
+    assert!(rt; lean_at(&[ital, slnt], &[(Tag::new(b"ital"), 0)]) == (4, 0));
+    assert!(rt; lean_at(&[ital, slnt], &[(Tag::new(b"slnt"), -655360)]) == (68, -10000));
+    assert!(rt; lean_at(&[ital, slnt], &[(Tag::new(b"ital"), 65536)]) == (68, 0));
+    Ok(())
 }
