@@ -10,10 +10,15 @@ use crate::host::rt::{AllocGlobal, Eprint, HostRuntime};
 use crate::host::turns;
 use crate::proved::subset_args::Shown;
 use crate::proved::subset_font::{
-    answer_apart, batch_or_status, due, due_of, hold_streams, is_shown, next_of_source,
-    read_arguments, read_lines, read_source, refuse_memory, run_by, set_answer, status_of_batch,
-    AnswerLines, Batch, Ended, Failure, Report, Request, State,
+    answer_apart, batch_or_status, read_lines, read_source, refuse_memory, run_by, status_of_batch,
+    AnswerLines, Ended,
 };
+use crate::proved::subset_task::batch::requests::{
+    due, due_of, next_of_source, set_answer, Batch, Request, State,
+};
+use crate::proved::subset_task::refusals::failure::{Failure, Report};
+use crate::proved::subset_task::run::request::read_arguments;
+use crate::proved::subset_task::streams::{hold_streams, is_shown};
 use crate::rattle::io::{self, BufWriter, Write};
 use crate::rattle::prelude::String;
 use std::iter;

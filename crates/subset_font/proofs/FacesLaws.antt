@@ -1,4 +1,2 @@
--- What the font that is read has: its directory, its tables, its axes and its characters.
-pub mod Directory
+-- What the font that is read has, as it is shown.
 pub mod Showing
-pub mod Naming

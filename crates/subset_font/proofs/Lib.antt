@@ -2,4 +2,3 @@ pub mod BatchLaws
 pub mod FacesLaws
 pub mod MakingLaws
 pub mod RefusalsLaws
-mod Steps

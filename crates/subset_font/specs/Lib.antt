@@ -1,9 +1,5 @@
 pub mod Batch
-pub mod Chosen
 pub mod Making
 pub mod Report
 pub mod Faces
 pub mod Refusals
-pub mod Files
-pub mod Streams
-pub mod Notes

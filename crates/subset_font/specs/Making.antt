@@ -2,5 +2,4 @@
 pub mod Carried
 pub mod Made
 pub mod Outcome
-pub mod Requested
 pub mod Sheet

@@ -3,8 +3,8 @@ use Rattle.std.specs.Prelude.{ℕ, Bool, false, List, [], map}
 use Rattle.subset_lines.specs.Text.{Numbers}
 use Rattle.subset_lines.specs.Lines.{lines_of}
 use Rattle.subset_lines.specs.Objects.Json.{json_of}
-use Rattle.subset_font.specs.declared.task.Form.{Form}
-use Rattle.subset_font.specs.declared.task.Form.TheVariants.{Lines, Json, Silence}
+use Rattle.subset_task.specs.declared.task.Form.{Form}
+use Rattle.subset_task.specs.declared.task.Form.TheVariants.{Lines, Json, Silence}
 use Rattle.subset_font.specs.declared.making.outcome.Outcome.{Outcome}
 
 -- the numbers of what was made, with the names of the glyphs

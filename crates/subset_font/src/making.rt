@@ -2,6 +2,5 @@
 
 pub(crate) mod carried;
 pub(crate) mod outcome;
-pub(crate) mod requested;
 pub(crate) mod sheet;
 pub(crate) mod subset;

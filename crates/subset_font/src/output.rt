@@ -4,14 +4,14 @@ ghost use Rattle.std.specs.Prelude.{◌≡◌, ◌⊎◌, OnOk, IfErr, IsErrOf};
 ghost use Rattle.std.specs.Io.KnownBytes.{Appends};
 ghost use Rattle.subset_font.specs.Making.Sheet.{page_of};
 ghost use Rattle.subset_font.specs.Report.{report_of};
-ghost use Rattle.subset_font.specs.declared.refusals.failure.Failure.TheVariants.{Write as CannotWrite, WritePdf as CannotWritePdf, Output};
+ghost use Rattle.subset_task.specs.declared.refusals.failure.Failure.TheVariants.{Write as CannotWrite, WritePdf as CannotWritePdf, Output};
 
 use crate::making::outcome::Outcome;
-use crate::refusals::failure::Failure;
-use crate::task::Form;
 use std::io::Write;
 use subset_lines::{Numbering, write_json, write_lines};
 use subset_pdf::Sheet;
+use subset_task::refusals::failure::Failure;
+use subset_task::task::Form;
 
 /// Writes the PDF, if there is one, to one writer, then the font to another, and then the new numbers to the third.
 ///

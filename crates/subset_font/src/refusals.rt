@@ -1,6 +1,4 @@
 //! Why a run of the program ends without a subset.
 
-pub(crate) mod failure;
 pub(crate) mod hint;
 pub(crate) mod limit_hint;
-pub(crate) mod reason;

@@ -3,5 +3,4 @@
 pub(crate) mod job;
 pub(crate) mod program;
 pub(crate) mod reports;
-pub(crate) mod request;
 pub(crate) mod showing;

@@ -2,7 +2,8 @@
 //! calls that find it without threads, so that the requests are the same for each N.
 
 use crate::proved::subset_batch::{lines_of, Line};
-use crate::proved::subset_font::{numbers_of, order_of, push_order, Batch, MOST_NUMBERS};
+use crate::proved::subset_task::batch::orders::order_of;
+use crate::proved::subset_task::batch::requests::{numbers_of, push_order, Batch, MOST_NUMBERS};
 use crate::rattle::alloc::{AllocError, Global};
 use crate::rattle::collections::HashMap;
 use crate::rattle::prelude;

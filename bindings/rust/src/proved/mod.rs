@@ -75,6 +75,8 @@ pub mod subset_font;
 pub mod subset_lines;
 #[cfg(feature = "program")]
 pub mod subset_pdf;
+#[cfg(feature = "program")]
+pub mod subset_task;
 pub mod subsetter;
 pub mod subsetter_base;
 #[cfg(feature = "variable-fonts")]

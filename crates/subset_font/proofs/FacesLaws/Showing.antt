@@ -9,17 +9,17 @@ use Rattle.subsetter_base.specs.declared.error.Error.TheVariants.{OutOfMemory}
 use Rattle.subsetter_sfnt.specs.Read.{Font, header_offset}
 use Rattle.subsetter_sfnt.specs.Extras.{all_extras}
 use Rattle.subsetter_type2.specs.declared.limits.Limits.{Limits}
-use Rattle.subset_font.specs.Chosen.{LimitsAreChosen}
+use Rattle.subset_task.specs.Chosen.{LimitsAreChosen}
 use Rattle.font_reasons.specs.Parts.{face_glyphs}
 use Rattle.subset_font.specs.Refusals.Hint.{hint_of}
 use Rattle.subset_font.specs.Faces.Accepted.{IsPlain, listed_or_every, IsCause, IsAnswer}
 use Rattle.subset_font.specs.Faces.Info.{IsInfo, info_text, ShowsInfo, IsInfoFault}
-use Rattle.subset_font.specs.Refusals.Texts.{hint_text}
-use Rattle.subset_font.specs.declared.refusals.failure.Failure.{Failure}
-use Rattle.subset_font.specs.declared.refusals.failure.Failure.TheVariants.{Error, Read, Output}
-use Rattle.subset_font.specs.declared.refusals.hint.text.Hint.{Hint}
-use Rattle.subset_font.specs.declared.task.RequestedGlyphs.{RequestedGlyphs}
-use Rattle.subset_font.specs.declared.task.Task.{Task}
+use Rattle.subset_task.specs.Refusals.Texts.{hint_text}
+use Rattle.subset_task.specs.declared.refusals.failure.Failure.{Failure}
+use Rattle.subset_task.specs.declared.refusals.failure.Failure.TheVariants.{Error, Read, Output}
+use Rattle.subset_task.specs.declared.refusals.hint.text.Hint.{Hint}
+use Rattle.subset_task.specs.declared.task.RequestedGlyphs.{RequestedGlyphs}
+use Rattle.subset_task.specs.declared.task.Task.{Task}
 
 -- the same answer, by other names of its texts
 pub answered : (font : Font) (refusal reason shown behind : Option (List ℕ)) → IsAnswer font refusal reason → shown ≡ refusal → behind ≡ reason → IsAnswer font shown behind

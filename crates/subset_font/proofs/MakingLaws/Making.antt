@@ -10,7 +10,7 @@ use Rattle.subsetter.specs.Bound.{IsWithin, HasFaultWithin}
 use Rattle.subsetter.specs.Fault.{HasFault}
 use Rattle.subsetter.specs.Subset.{IsSubset}
 use Rattle.cid_embed.specs.Embed.{numbering, HasEmbedFaultWithin, in_numbering, in_font}
-use Rattle.subset_font.specs.Making.Requested.{IsRequested, IsUnasked}
+use Rattle.subset_task.specs.Making.Requested.{IsRequested, IsUnasked}
 use Rattle.subsetter_base.specs.declared.tag.Tag.{Tag}
 use Rattle.subsetter_sfnt.specs.FontAt.{font_at}
 use Rattle.subsetter_variable.specs.DefaultLocation.{IsAtDefault, IsCff2Font, IsStaticFile, HasStaticFault}
@@ -18,11 +18,11 @@ use Rattle.subsetter_variable.specs.Subset.{as_it_is}
 use Rattle.subsetter_variable.proofs.Static.{static_of}
 use Rattle.subset_font.specs.Making.Made as made
 use Rattle.subset_font.specs.Making.Made.{face_of, font_of, taken_of, IsFaultless, IsFaultlessWithWidths, IsCleanSubset, IsWidthText, IsLastText, IsTaken, as_given, placed, IsMadeOf, IsMade, IsRefusal, IsRefusalOfWidths, IsRefused, IsUntaken, unplaced, HasRefusal, untaken, of_taken, IsRefusedFace, IsRefusedTask, IsUnmade}
-use Rattle.subset_font.specs.declared.making.requested.Picked.{Picked}
-use Rattle.subset_font.specs.declared.task.Task.{Task}
+use Rattle.subset_task.specs.declared.making.requested.Picked.{Picked}
+use Rattle.subset_task.specs.declared.task.Task.{Task}
 use Rattle.subset_font.specs.declared.making.subset.Made.{Made}
-use Rattle.subset_font.specs.declared.refusals.failure.Failure.{Failure}
-use Rattle.subset_font.specs.declared.refusals.failure.Failure.TheVariants.{Error}
+use Rattle.subset_task.specs.declared.refusals.failure.Failure.{Failure}
+use Rattle.subset_task.specs.declared.refusals.failure.Failure.TheVariants.{Error}
 
 module _ (bound : Option ℕ) (tokens depth : ℕ) (font : Font) (glyphs : List ℕ) where
   -- a mapper's subset is one for its glyphs

@@ -4,15 +4,15 @@ use Rattle.std.specs.Prelude.{IfOk, IfErr}
 use Rattle.std.specs.Option.{option_copied}
 use Rattle.subsetter_base.specs.declared.error.Error.TheVariants.{OutOfMemory, UnknownKind, MalformedFont}
 use Rattle.subset_font.specs.Making.Made.{face_of, IsMade, IsUnmade}
-use Rattle.subset_font.specs.Faces.Named.{face_settings}
+use Rattle.subset_task.specs.Faces.Named.{face_settings}
 use Rattle.subset_font.specs.Making.Outcome.{more_text, names_for, IsTaskOfPlan, IsOutcome, IsNoOutcome}
 use Rattle.subset_font.specs.Making.Sheet.{IsSheetIf, IsUnshownIf}
-use Rattle.subset_font.specs.declared.task.Task.{Task}
-use Rattle.subset_font.specs.declared.task.Plan.{Plan}
+use Rattle.subset_task.specs.declared.task.Task.{Task}
+use Rattle.subset_task.specs.declared.task.Plan.{Plan}
 use Rattle.subset_font.specs.declared.making.subset.Made.{Made}
 use Rattle.subset_font.specs.declared.making.outcome.Outcome.{Outcome}
-use Rattle.subset_font.specs.declared.refusals.failure.Failure.{Failure}
-use Rattle.subset_font.specs.declared.refusals.failure.Failure.TheVariants.{Error, NoInstance}
+use Rattle.subset_task.specs.declared.refusals.failure.Failure.{Failure}
+use Rattle.subset_task.specs.declared.refusals.failure.Failure.TheVariants.{Error, NoInstance}
 
 module _ (plan : Plan) (bytes : List ℕ) where
   pub outcome_of : (task : Task) → IsTaskOfPlan plan bytes task → (made : Made) → IsMade task bytes made → (r : Result Outcome Failure) → IfOk r (λ o. o.made ≡ made) → IfOk r (λ o. IsSheetIf plan.pdf task bytes made o.sheet) → IfOk r (λ o. o.more.items ≡ more_text plan bytes made o.sheet) → IfOk r (λ o. map (λ name. name.now) o.names.items ≡ names_for plan bytes made.picked.glyphs.items) → IfOk r (IsOutcome plan bytes)

@@ -8,9 +8,9 @@ use Rattle.subset_pdf.specs.declared.sheet.Sheet.{Sheet}
 use Rattle.subset_pdf.specs.declared.sheet.SheetError.{SheetError}
 use Rattle.subset_pdf.specs.declared.sheet.SheetError.TheVariants.{Font}
 use Rattle.subset_font.specs.Making.Sheet.{failure_of, IsRequestOf, IsShown, IsUnshown}
-use Rattle.subset_font.specs.declared.refusals.failure.Failure.TheVariants.{Error}
+use Rattle.subset_task.specs.declared.refusals.failure.Failure.TheVariants.{Error}
 use Rattle.subset_font.specs.declared.making.subset.Made.{Made}
-use Rattle.subset_font.specs.declared.task.Task.{Task}
+use Rattle.subset_task.specs.declared.task.Task.{Task}
 
 module _ (choice : PdfChoice) (task : Task) (bytes : List ℕ) (made : Made) (request : PdfRequest) where
   pub shown_of : (characters glyphs : List ℕ) (sheet : Sheet) → IsRequestOf task choice request → characters ≡ made.picked.characters.items → glyphs ≡ made.picked.glyphs.items → IsSheetFor bytes request characters glyphs sheet → IsShown choice task bytes made sheet

@@ -2,23 +2,23 @@
 use Rattle.std.proofs.Common.{◌≡◌, ◌≢◌, ◌⊎◌, inl, inr, ℕ, List, Option, Some, None, Result, Ok, Err, sym, subst}
 use Rattle.std.specs.Prelude.{IfErr, IfSome, OnOk}
 use Rattle.subsetter_sfnt.specs.Read.{Font}
-use Rattle.subset_font.specs.Making.Requested.{IsUnasked}
+use Rattle.subset_task.specs.Making.Requested.{IsUnasked}
 use Rattle.subsetter_base.specs.declared.error.Error.TheVariants.{UnknownKind, MalformedFont}
 use Rattle.subset_font.specs.Making.Made.{face_of, IsUnmade}
 use Rattle.subset_font.specs.Making.Outcome.{IsOutcome, IsNoOutcome}
 use Rattle.subset_font.specs.Making.Carried.{IsOfMaking, IsFailureOf, IsBeforeWriting}
-use Rattle.subset_font.specs.declared.task.Task.{Task}
-use Rattle.subset_font.specs.declared.task.RequestedGlyphs.{RequestedGlyphs}
-use Rattle.subset_font.specs.declared.task.RequestedGlyphs.TheVariants.{These, Every, ByText, ByCharacters}
+use Rattle.subset_task.specs.declared.task.Task.{Task}
+use Rattle.subset_task.specs.declared.task.RequestedGlyphs.{RequestedGlyphs}
+use Rattle.subset_task.specs.declared.task.RequestedGlyphs.TheVariants.{These, Every, ByText, ByCharacters}
 use Rattle.subset_args.specs.declared.options.chosen.PdfChoice.{PdfChoice}
 use Rattle.subset_pdf.specs.declared.sheet.SheetError.{SheetError}
 use Rattle.subset_pdf.specs.declared.sheet.SheetError.TheVariants.{Font as RefusedFont, NotPermitted as Forbidden}
 use Rattle.subset_font.specs.Making.Sheet.{failure_of, IsUnshownIf}
 use Rattle.subset_font.specs.declared.making.subset.Made.{Made}
 use Rattle.subset_font.specs.declared.making.outcome.Outcome.{Outcome}
-use Rattle.subset_font.specs.declared.task.Plan.{Plan}
-use Rattle.subset_font.specs.declared.refusals.failure.Failure.{Failure}
-use Rattle.subset_font.specs.declared.refusals.failure.Failure.TheVariants.{Error, NoMapping, NoInstance, NotPermitted, Usage, List as WrongList, Read, ReadList, Write, WritePdf, Output, LongAnswer}
+use Rattle.subset_task.specs.declared.task.Plan.{Plan}
+use Rattle.subset_task.specs.declared.refusals.failure.Failure.{Failure}
+use Rattle.subset_task.specs.declared.refusals.failure.Failure.TheVariants.{Error, NoMapping, NoInstance, NotPermitted, Usage, List as WrongList, Read, ReadList, Write, WritePdf, Output, LongAnswer}
 
 unasked_kind : (font : Font) (asked : RequestedGlyphs) (failure : Failure) → IsUnasked font asked failure → IsOfMaking failure
 unasked_kind font (These given) failure u = elim u [ ]

@@ -5,7 +5,7 @@ use Rattle.subsetter_type2.specs.declared.limits.Limits.{Limits}
 use Rattle.subset_font.specs.Refusals.LimitHint.{within, twice, IsTooLong, IsTooLittle}
 use Rattle.subset_font.specs.Making.Outcome.{IsOutcome}
 use Rattle.subset_font.specs.declared.making.outcome.Outcome.{Outcome}
-use Rattle.subset_font.specs.declared.task.Plan.{Plan}
+use Rattle.subset_task.specs.declared.task.Plan.{Plan}
 
 pub too_long_of : (plan other : Plan) (bytes : List ℕ) (most : ℕ) (limits : Limits) (o : Outcome) → plan.task.options.limits.bytes ≡ Some most → limits.tokens ≡ plan.task.options.limits.tokens → limits.depth ≡ plan.task.options.limits.depth → limits.bytes ≡ Some (twice (2 ^ 31) most) → other ≡ within limits plan → IsOutcome other bytes o → most < length o.made.font.items → IsTooLong plan bytes most
 too_long_of plan other bytes most limits o b t d n w m l = record { is_limit = b; limits = limits; same_tokens = t; same_depth = d; twice_bytes = n; outcome = o; is_made = subst (λ (p : Plan). IsOutcome p bytes o) w m; is_longer = l }

@@ -5,20 +5,20 @@ use Rattle.std.specs.Str.{chars, encode_utf8_all}
 use Rattle.subsetter_words.specs.Plain.{plain}
 use Rattle.subset_args.specs.declared.jobs.command.Job.{Job}
 use Rattle.subset_args.specs.declared.listing.lists.GlyphList.{GlyphList}
-use Rattle.subset_font.specs.Chosen.{IsUnlisted, IsPlanOf}
-use Rattle.subset_font.specs.Files.{list_name, name_by}
+use Rattle.subset_task.specs.Chosen.{IsUnlisted, IsPlanOf}
+use Rattle.subset_task.specs.Files.{list_name, name_by}
 use Rattle.subset_font.specs.Making.Outcome.{IsOutcome}
 use Rattle.subset_font.specs.Making.Carried.{IsFailureOf}
-use Rattle.subset_font.specs.Refusals.Failure.{status_of}
-use Rattle.subset_font.specs.Refusals.Texts.{failure_text}
+use Rattle.subset_task.specs.Refusals.Failure.{status_of}
+use Rattle.subset_task.specs.Refusals.Texts.{failure_text}
 use Rattle.subset_font.specs.Report.{report_of}
-use Rattle.subset_font.specs.Batch.Answers.{IsFailedWith}
-use Rattle.subset_font.specs.declared.task.Plan.{Plan}
+use Rattle.subset_task.specs.Batch.Answers.{IsFailedWith}
+use Rattle.subset_task.specs.declared.task.Plan.{Plan}
 use Rattle.subset_font.specs.declared.making.outcome.Outcome.{Outcome}
-use Rattle.subset_font.specs.declared.refusals.failure.Failure.{Failure}
-use Rattle.subset_font.specs.declared.refusals.failure.Failure.TheVariants.{Error, NoMapping, NoInstance, NotPermitted, Usage, List as WrongList, Read, ReadList, Write, WritePdf, Output, LongAnswer}
-use Rattle.subset_font.specs.declared.batch.answers.Answer.{Answer}
-use Rattle.subset_font.specs.declared.batch.answers.Answer.TheVariants.{Done, Failed, NoMemory}
+use Rattle.subset_task.specs.declared.refusals.failure.Failure.{Failure}
+use Rattle.subset_task.specs.declared.refusals.failure.Failure.TheVariants.{Error, NoMapping, NoInstance, NotPermitted, Usage, List as WrongList, Read, ReadList, Write, WritePdf, Output, LongAnswer}
+use Rattle.subset_task.specs.declared.batch.answers.Answer.{Answer}
+use Rattle.subset_task.specs.declared.batch.answers.Answer.TheVariants.{Done, Failed, NoMemory}
 
 -- ---- a request is done on the bytes of its source, or isn't
 

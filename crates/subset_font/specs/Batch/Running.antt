@@ -1,7 +1,7 @@
 -- How a batch ends.
 use Rattle.std.specs.Prelude.{ℕ, Bool, if◌then◌else◌, Result, Ok, Err}
-use Rattle.subset_font.specs.Refusals.Failure.{status_of}
-use Rattle.subset_font.specs.declared.refusals.failure.Failure.{Failure}
+use Rattle.subset_task.specs.Refusals.Failure.{status_of}
+use Rattle.subset_task.specs.declared.refusals.failure.Failure.{Failure}
 
 -- 0 where all is done, 1 where a request failed; else what its answers failed by
 abbrev pub status_of_batch : Result (Unit {0}) Failure → Bool → ℕ

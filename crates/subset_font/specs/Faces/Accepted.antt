@@ -8,17 +8,17 @@ use Rattle.subsetter_sfnt.specs.Extras.{all_extras}
 use Rattle.subsetter_sfnt.specs.Read.{Font}
 use Rattle.subset_args.specs.Listing.Lists.{counting}
 use Rattle.subsetter_type2.specs.declared.limits.Limits.{Limits}
-use Rattle.subset_font.specs.Chosen.{LimitsAreChosen}
+use Rattle.subset_task.specs.Chosen.{LimitsAreChosen}
 use Rattle.subset_font.specs.Making.Made.{IsMade, IsUnmade}
 use Rattle.font_reasons.specs.Parts.{face_glyphs}
 use Rattle.subset_font.specs.Refusals.Hint.{hint_of}
-use Rattle.subset_font.specs.Refusals.Texts.{failure_text, hint_text}
-use Rattle.subset_font.specs.declared.task.RequestedGlyphs.{RequestedGlyphs}
-use Rattle.subset_font.specs.declared.task.RequestedGlyphs.TheVariants.{These, Every}
-use Rattle.subset_font.specs.declared.task.Task.{Task}
+use Rattle.subset_task.specs.Refusals.Texts.{failure_text, hint_text}
+use Rattle.subset_task.specs.declared.task.RequestedGlyphs.{RequestedGlyphs}
+use Rattle.subset_task.specs.declared.task.RequestedGlyphs.TheVariants.{These, Every}
+use Rattle.subset_task.specs.declared.task.Task.{Task}
 use Rattle.subset_font.specs.declared.making.subset.Made.{Made}
-use Rattle.subset_font.specs.declared.refusals.failure.Failure.{Failure}
-use Rattle.subset_font.specs.declared.refusals.failure.Failure.TheVariants.{Error, NoMapping, NoInstance, NotPermitted, Usage, List as WrongList, Read, ReadList, Write, WritePdf, Output, LongAnswer}
+use Rattle.subset_task.specs.declared.refusals.failure.Failure.{Failure}
+use Rattle.subset_task.specs.declared.refusals.failure.Failure.TheVariants.{Error, NoMapping, NoInstance, NotPermitted, Usage, List as WrongList, Read, ReadList, Write, WritePdf, Output, LongAnswer}
 
 -- its task: the font as it is given, with all extras, within limits, and without widths
 abbrev pub IsPlain : ℕ → Limits → RequestedGlyphs → Task → Type 0

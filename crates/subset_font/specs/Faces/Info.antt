@@ -9,12 +9,12 @@ use Rattle.subset_lines.specs.Faces.Info.{info_lines, info_json}
 use Rattle.subset_lines.specs.declared.faces.info.face.Info.{Info}
 use Rattle.subset_font.specs.Faces.Accepted.{IsAnswer}
 use Rattle.font_reasons.specs.File.{face_count}
-use Rattle.subset_font.specs.Faces.Outlines.{outlines_of}
+use Rattle.subset_task.specs.Faces.Outlines.{outlines_of}
 use Rattle.font_reasons.specs.Directory.{bytes_or_none, records_in}
-use Rattle.subset_font.specs.Faces.Tables.{tables_of}
+use Rattle.subset_task.specs.Faces.Tables.{tables_of}
 use Rattle.font_reasons.specs.Parts.{face_glyphs}
-use Rattle.subset_font.specs.declared.refusals.failure.Failure.{Failure}
-use Rattle.subset_font.specs.declared.refusals.failure.Failure.TheVariants.{Error}
+use Rattle.subset_task.specs.declared.refusals.failure.Failure.{Failure}
+use Rattle.subset_task.specs.declared.refusals.failure.Failure.TheVariants.{Error}
 
 -- fsType, at byte 8 (OpenType, "OS/2")
 abbrev pub permission_of : Font → Option ℕ

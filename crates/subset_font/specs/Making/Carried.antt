@@ -4,10 +4,10 @@ use Rattle.std.specs.Io.KnownBytes.{Appends}
 use Rattle.subset_font.specs.Making.Outcome.{IsOutcome, IsNoOutcome}
 use Rattle.subset_font.specs.Making.Sheet.{page_of}
 use Rattle.subset_font.specs.Report.{report_of}
-use Rattle.subset_font.specs.declared.task.Plan.{Plan}
+use Rattle.subset_task.specs.declared.task.Plan.{Plan}
 use Rattle.subset_font.specs.declared.making.outcome.Outcome.{Outcome}
-use Rattle.subset_font.specs.declared.refusals.failure.Failure.{Failure}
-use Rattle.subset_font.specs.declared.refusals.failure.Failure.TheVariants.{Error, NoMapping, NoInstance, NotPermitted, Usage, List as WrongList, Read, ReadList, Write, WritePdf, Output, LongAnswer}
+use Rattle.subset_task.specs.declared.refusals.failure.Failure.{Failure}
+use Rattle.subset_task.specs.declared.refusals.failure.Failure.TheVariants.{Error, NoMapping, NoInstance, NotPermitted, Usage, List as WrongList, Read, ReadList, Write, WritePdf, Output, LongAnswer}
 
 -- a font was written: what the plan makes of the bytes that were read, where these are known
 pub record WritesFont (plan : Plan) (source old new : Option (List ℕ)) : Type 0 where

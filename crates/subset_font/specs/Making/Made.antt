@@ -17,13 +17,13 @@ use Rattle.cid_embed.specs.Embed.{numbering, HasEmbedFault, HasEmbedFaultWithin}
 use Rattle.cid_embed.specs.Text.{width_array}
 use Rattle.cid_embed.specs.Width.{width}
 use Rattle.subset_lines.specs.Objects.Json.{array_of}
-use Rattle.subset_font.specs.Making.Requested.{IsRequested, IsUnasked}
-use Rattle.subset_font.specs.declared.task.Task.{Task}
-use Rattle.subset_font.specs.declared.task.Form.{Form}
-use Rattle.subset_font.specs.declared.task.Form.TheVariants.{Lines, Json, Silence}
+use Rattle.subset_task.specs.Making.Requested.{IsRequested, IsUnasked}
+use Rattle.subset_task.specs.declared.task.Task.{Task}
+use Rattle.subset_task.specs.declared.task.Form.{Form}
+use Rattle.subset_task.specs.declared.task.Form.TheVariants.{Lines, Json, Silence}
 use Rattle.subset_font.specs.declared.making.subset.Made.{Made}
-use Rattle.subset_font.specs.declared.refusals.failure.Failure.{Failure}
-use Rattle.subset_font.specs.declared.refusals.failure.Failure.TheVariants.{Error}
+use Rattle.subset_task.specs.declared.refusals.failure.Failure.{Failure}
+use Rattle.subset_task.specs.declared.refusals.failure.Failure.TheVariants.{Error}
 
 -- the face that is read, with all that stands in it
 abbrev pub face_of : Task → List ℕ → Font

@@ -9,23 +9,23 @@ use Rattle.glyph_names.specs.Names.{glyph_name}
 use Rattle.subset_lines.specs.Objects.Members.{members}
 use Rattle.subset_lines.specs.Faces.Sizes.{sizes_text}
 use Rattle.subset_lines.specs.declared.faces.sizes.TableSize.{TableSize}
-use Rattle.subset_font.specs.Faces.Axes.{axes_known}
+use Rattle.subset_task.specs.Faces.Axes.{axes_known}
 use Rattle.subset_font.specs.Making.Made.{face_of, IsMade, IsUnmade}
-use Rattle.subset_font.specs.Faces.Missing.{missing}
-use Rattle.subset_font.specs.Faces.Named.{face_settings}
-use Rattle.subset_font.specs.Notes.{notes_for}
+use Rattle.subset_task.specs.Faces.Missing.{missing}
+use Rattle.subset_task.specs.Faces.Named.{face_settings}
+use Rattle.subset_task.specs.Notes.{notes_for}
 use Rattle.subset_font.specs.Making.Sheet.{pdf_text, IsSheetIf, IsUnshownIf}
 use Rattle.subset_pdf.specs.declared.sheet.Sheet.{Sheet}
 use Rattle.font_reasons.specs.Directory.{bytes_or_none, records_in}
-use Rattle.subset_font.specs.Faces.Tables.{table_sizes}
-use Rattle.subset_font.specs.declared.task.Task.{Task}
-use Rattle.subset_font.specs.declared.task.Plan.{Plan}
-use Rattle.subset_font.specs.declared.task.Form.{Form}
-use Rattle.subset_font.specs.declared.task.Form.TheVariants.{Lines, Json, Silence}
+use Rattle.subset_task.specs.Faces.Tables.{table_sizes}
+use Rattle.subset_task.specs.declared.task.Task.{Task}
+use Rattle.subset_task.specs.declared.task.Plan.{Plan}
+use Rattle.subset_task.specs.declared.task.Form.{Form}
+use Rattle.subset_task.specs.declared.task.Form.TheVariants.{Lines, Json, Silence}
 use Rattle.subset_font.specs.declared.making.subset.Made.{Made}
 use Rattle.subset_font.specs.declared.making.outcome.Outcome.{Outcome}
-use Rattle.subset_font.specs.declared.refusals.failure.Failure.{Failure}
-use Rattle.subset_font.specs.declared.refusals.failure.Failure.TheVariants.{Error, NoInstance}
+use Rattle.subset_task.specs.declared.refusals.failure.Failure.{Failure}
+use Rattle.subset_task.specs.declared.refusals.failure.Failure.TheVariants.{Error, NoInstance}
 
 -- ---- what is printed behind the numbers
 

@@ -11,12 +11,12 @@ use Rattle.subset_pdf.specs.declared.options.PdfRequest.{PdfRequest}
 use Rattle.subset_pdf.specs.declared.sheet.Sheet.{Sheet}
 use Rattle.subset_pdf.specs.declared.sheet.SheetError.{SheetError}
 use Rattle.subset_pdf.specs.declared.sheet.SheetError.TheVariants.{Font, NotPermitted as Forbidden}
-use Rattle.subset_font.specs.declared.refusals.failure.Failure.{Failure}
-use Rattle.subset_font.specs.declared.refusals.failure.Failure.TheVariants.{Error, NotPermitted}
+use Rattle.subset_task.specs.declared.refusals.failure.Failure.{Failure}
+use Rattle.subset_task.specs.declared.refusals.failure.Failure.TheVariants.{Error, NotPermitted}
 use Rattle.subset_font.specs.declared.making.subset.Made.{Made}
-use Rattle.subset_font.specs.declared.task.RequestedGlyphs.{RequestedGlyphs}
-use Rattle.subset_font.specs.declared.task.RequestedGlyphs.TheVariants.{These, Every, ByText, ByCharacters}
-use Rattle.subset_font.specs.declared.task.Task.{Task}
+use Rattle.subset_task.specs.declared.task.RequestedGlyphs.{RequestedGlyphs}
+use Rattle.subset_task.specs.declared.task.RequestedGlyphs.TheVariants.{These, Every, ByText, ByCharacters}
+use Rattle.subset_task.specs.declared.task.Task.{Task}
 
 -- the glyphs of a text are shown in a line, others in a grid
 abbrev pub layout_of : RequestedGlyphs → Layout

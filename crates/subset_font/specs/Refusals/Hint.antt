@@ -13,17 +13,17 @@ use Rattle.font_reasons.specs.Parts.{no_table}
 use Rattle.font_reasons.specs.Request.{reason_of}
 use Rattle.subset_lines.specs.declared.faces.outlines.Outlines.{Outlines}
 use Rattle.subset_lines.specs.declared.faces.outlines.Outlines.TheVariants.{TrueType, Cff, Cff2 as HasCff2, Missing}
-use Rattle.subset_font.specs.Faces.Outlines.{outlines_of}
+use Rattle.subset_task.specs.Faces.Outlines.{outlines_of}
 use Rattle.subset_font.specs.Making.Made.{face_of}
-use Rattle.subset_font.specs.declared.task.RequestedGlyphs.{RequestedGlyphs}
-use Rattle.subset_font.specs.declared.task.RequestedGlyphs.TheVariants.{These, Every, ByText, ByCharacters}
-use Rattle.subset_font.specs.declared.task.Task.{Task}
+use Rattle.subset_task.specs.declared.task.RequestedGlyphs.{RequestedGlyphs}
+use Rattle.subset_task.specs.declared.task.RequestedGlyphs.TheVariants.{These, Every, ByText, ByCharacters}
+use Rattle.subset_task.specs.declared.task.Task.{Task}
 use Rattle.pdf_values.specs.Permission.{is_usable}
 use Rattle.pdf_values.specs.declared.permission.Permission.{Permission}
-use Rattle.subset_font.specs.declared.refusals.failure.Failure.{Failure}
-use Rattle.subset_font.specs.declared.refusals.failure.Failure.TheVariants.{Error, NoMapping, NoInstance, NotPermitted, Usage, List as WrongList, Read, ReadList, Write, WritePdf, Output, LongAnswer}
-use Rattle.subset_font.specs.declared.refusals.hint.text.Hint.{Hint}
-use Rattle.subset_font.specs.declared.refusals.hint.text.Hint.TheVariants.{Font, Cff2, NoUnicode, WrongAxes, NoAxes, Forbidden}
+use Rattle.subset_task.specs.declared.refusals.failure.Failure.{Failure}
+use Rattle.subset_task.specs.declared.refusals.failure.Failure.TheVariants.{Error, NoMapping, NoInstance, NotPermitted, Usage, List as WrongList, Read, ReadList, Write, WritePdf, Output, LongAnswer}
+use Rattle.subset_task.specs.declared.refusals.hint.text.Hint.{Hint}
+use Rattle.subset_task.specs.declared.refusals.hint.text.Hint.TheVariants.{Font, Cff2, NoUnicode, WrongAxes, NoAxes, Forbidden}
 
 -- the glyphs that are listed
 abbrev pub listed : RequestedGlyphs → List ℕ

@@ -3,10 +3,10 @@ use Rattle.std.specs.Prelude.{◌≡◌, ◌<◌, ◌*◌, ◌-◌, ◌^◌, nat
 use Rattle.std.specs.Option.{option_map}
 use Rattle.subsetter_type2.specs.declared.limits.Limits.{Limits}
 use Rattle.subset_font.specs.Making.Outcome.{IsOutcome}
-use Rattle.subset_font.specs.declared.refusals.hint.text.Hint.{Hint}
-use Rattle.subset_font.specs.declared.refusals.hint.text.Hint.TheVariants.{MoreBytes, LittleLimits, GivenLimits}
+use Rattle.subset_task.specs.declared.refusals.hint.text.Hint.{Hint}
+use Rattle.subset_task.specs.declared.refusals.hint.text.Hint.TheVariants.{MoreBytes, LittleLimits, GivenLimits}
 use Rattle.subset_font.specs.declared.making.outcome.Outcome.{Outcome}
-use Rattle.subset_font.specs.declared.task.Plan.{Plan}
+use Rattle.subset_task.specs.declared.task.Plan.{Plan}
 
 -- the same plan within other limits
 abbrev pub within : Limits → Plan → Plan

@@ -3,23 +3,23 @@
 ghost use Rattle.std.specs.Prelude.{◌≡◌, ◌≤◌, false, IfErr};
 ghost use Rattle.std.specs.Result.{result_ok};
 ghost use Rattle.subset_font.specs.Batch.Running.{status_of_batch};
-ghost use Rattle.subset_font.specs.declared.refusals.failure.Failure.TheVariants.{Output};
+ghost use Rattle.subset_task.specs.declared.refusals.failure.Failure.TheVariants.{Output};
 
-use crate::batch::answers::{has_failed, write_answer};
 use crate::batch::making::{answer_apart, read_source};
-use crate::batch::requests::{
-    Batch, Request, State, answer_at, due, due_of, next_of_source, requests_of, set_answer,
-    set_written,
-};
-use crate::making::carried::read_whole;
-use crate::refusals::failure::Failure;
-use crate::refusals::reason::{Noted, unread};
 use crate::run::reports::report_refused;
-use crate::streams::{MOST_INPUT, is_shown, open_source};
 use std::alloc::AllocError;
 use std::io::{BufWriter, ErrorKind, Write};
 use std::rt::Files;
 use std::{fmt, io};
+use subset_task::batch::answers::{has_failed, write_answer};
+use subset_task::batch::requests::{
+    Batch, Request, State, answer_at, due, due_of, next_of_source, requests_of, set_answer,
+    set_written,
+};
+use subset_task::reading::read_whole;
+use subset_task::refusals::failure::Failure;
+use subset_task::refusals::reason::{Noted, unread};
+use subset_task::streams::{MOST_INPUT, is_shown, open_source};
 use subsetter::Error;
 
 /// The status where a request failed, and that where FILE can't be used.

@@ -4,16 +4,16 @@ ghost use Rattle.std.specs.Prelude.{◌≡◌, ◌≤◌, IfOk, IfErr, OnOk, Som
 ghost use Rattle.std.specs.Option.{option_map};
 ghost use Rattle.subsetter_sfnt.specs.Extras.{all_extras};
 ghost use Rattle.subset_font.specs.Faces.Accepted.{IsPlain, listed_or_every, is_of_memory, IsCause, IsAccepted, IsRefusedWhole, IsAnswer};
-ghost use Rattle.subset_font.specs.Refusals.Texts.{hint_text};
+ghost use Rattle.subset_task.specs.Refusals.Texts.{hint_text};
 
-use crate::making::requested::first_glyphs;
 use crate::making::subset::make_of;
-use crate::refusals::failure::Failure;
 use crate::refusals::hint::found::find_hint;
-use crate::refusals::hint::text::Hint;
-use crate::task::{Form, RequestedGlyphs, Task};
 use font_reasons::count_glyphs;
 use std::alloc::{AllocError, Global};
+use subset_task::making::requested::first_glyphs;
+use subset_task::refusals::failure::Failure;
+use subset_task::refusals::hint::text::Hint;
+use subset_task::task::{Form, RequestedGlyphs, Task};
 use subsetter::{Error, Extras, Limits, Options, Tag};
 use subsetter_sfnt::directory::table;
 

@@ -1,32 +1,16 @@
 //! A plan from the font that is read to the PDF, the font and the numbers that are written.
 
-ghost use Rattle.std.specs.Prelude.{◌≡◌, ◌⊎◌, IfOk, IfErr, IfSome, OnOk, IsErrOf};
-ghost use Rattle.std.specs.Io.KnownBytes.{IsAtEnd};
+ghost use Rattle.std.specs.Prelude.{◌≡◌, ◌⊎◌, IfErr, OnOk, IsErrOf};
 ghost use Rattle.subset_font.specs.Making.Carried.{IsBeforeWriting, IsFailureOf, WritesFont, WritesAll};
-ghost use Rattle.subset_font.specs.declared.refusals.failure.Failure.TheVariants.{Read as CannotRead, Write as CannotWrite, WritePdf as CannotWritePdf, Output};
+ghost use Rattle.subset_task.specs.declared.refusals.failure.Failure.TheVariants.{Write as CannotWrite, WritePdf as CannotWritePdf, Output};
 
 use crate::making::outcome::make_planned;
 use crate::output::emit;
-use crate::refusals::failure::Failure;
-use crate::task::Plan;
 use std::alloc::Global;
 use std::io::{Read, Write};
-
-/// The bytes that a reader has left, with room for so many taken at once.
-pub fn read_whole<R: Read>(alloc: Global, reader: &mut R, room: usize) -> Result<Vec<u8>, Failure>
-    ensures bytes { IfOk result (λ font. IfSome (R.remaining reader.old) (λ bytes. font.items ≡ bytes)) }
-    ensures end { OnOk result (IsAtEnd (R.remaining reader.new)) }
-    ensures err { IfErr result (λ e. e ≡ CannotRead) }
-{
-    let mut font = match Vec::with_capacity(alloc, room) {
-        Ok(font) => font,
-        Err(_) => return Err(Failure::Read),
-    };
-    if reader.read_to_end(&mut font).is_err() {
-        return Err(Failure::Read);
-    }
-    Ok(font)
-}
+use subset_task::reading::read_whole;
+use subset_task::refusals::failure::Failure;
+use subset_task::task::Plan;
 
 /// Reads the font from the reader, writes the PDF of its glyphs to one writer, if one is requested, its subset to another, and
 /// the new numbers to the third. The bytes that were read are kept. Room for so many of them is taken at once.

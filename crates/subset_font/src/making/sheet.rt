@@ -3,16 +3,16 @@
 ghost use Rattle.std.specs.Prelude.{◌≡◌, ◌⊎◌, ◌++◌, IfOk, IfErr};
 ghost use Rattle.std.specs.Option.{option_copied};
 ghost use Rattle.subset_font.specs.Making.Sheet.{layout_of, settings_of, pdf_text, pdf_text_of, IsRequestOf, IsShown, IsUnshown, IsSheetIf, IsUnshownIf};
-ghost use Rattle.subset_font.specs.declared.refusals.failure.Failure.TheVariants.{Error as Refused};
+ghost use Rattle.subset_task.specs.declared.refusals.failure.Failure.TheVariants.{Error as Refused};
 ghost use Rattle.subsetter_base.specs.declared.error.Error.TheVariants.{OutOfMemory};
 
 use crate::making::subset::Made;
-use crate::refusals::failure::Failure;
-use crate::task::{RequestedGlyphs, Task};
 use std::alloc::{AllocError, Global};
 use subset_args::PdfChoice;
 use subset_lines::json_pdf;
 use subset_pdf::{Layout, PdfRequest, Sheet, SheetError, make_sheet};
+use subset_task::refusals::failure::Failure;
+use subset_task::task::{RequestedGlyphs, Task};
 use subsetter::Tag;
 
 /// How the glyphs are shown: those of a text in a line, others in a grid.

@@ -5,17 +5,17 @@ ghost use Rattle.std.specs.Option.{option_map};
 ghost use Rattle.cid_embed.specs.Embed.{numbering};
 ghost use Rattle.subsetter_sfnt.specs.FontAt.{font_at};
 ghost use Rattle.subsetter.specs.Bound.{IsWithin};
-ghost use Rattle.subset_font.specs.Making.Requested.{IsRequested};
+ghost use Rattle.subset_task.specs.Making.Requested.{IsRequested};
 ghost use Rattle.subset_font.specs.Making.Made.{face_of, taken_of, IsFaultless, IsFaultlessWithWidths, IsWidthText, IsTaken, IsMadeOf, IsMade, IsRefusal, IsRefusalOfWidths, IsUntaken, IsRefusedFace, IsRefusedTask, IsUnmade, width_text};
-ghost use Rattle.subset_font.specs.declared.refusals.failure.Failure.TheVariants.{Error as Refused};
+ghost use Rattle.subset_task.specs.declared.refusals.failure.Failure.TheVariants.{Error as Refused};
 ghost use Rattle.subsetter_base.specs.declared.error.Error.TheVariants.{OutOfMemory};
 
-use crate::making::requested::{Picked, pick};
-use crate::refusals::failure::Failure;
-use crate::task::{Form, Task};
 use cid_embed::{Embedded, embed_with_options, write_widths};
 use std::alloc::Global;
 use subset_lines::json_numbers;
+use subset_task::making::requested::{Picked, pick};
+use subset_task::refusals::failure::Failure;
+use subset_task::task::{Form, Task};
 use subsetter::{Error, GlyphRemapper, subset_with_options};
 use subsetter_variable::static_font;
 

@@ -6,10 +6,10 @@ ghost use Rattle.std.specs.Option.{option_map};
 ghost use Rattle.subset_font.specs.Refusals.LimitHint.{within, twice, IsLimitHint};
 
 use crate::making::outcome::make_planned;
-use crate::refusals::failure::Failure;
-use crate::refusals::hint::text::Hint;
-use crate::task::{Plan, Task};
 use std::alloc::Global;
+use subset_task::refusals::failure::Failure;
+use subset_task::refusals::hint::text::Hint;
+use subset_task::task::{Plan, Task};
 use subsetter::{Error, Limits, Options};
 
 /// A plan within other limits.

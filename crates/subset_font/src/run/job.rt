@@ -1,23 +1,23 @@
 //! The making of a subset between files and streams.
 
 ghost use Rattle.std.specs.Prelude.{◌≡◌, ◌≢◌, ◌≤◌, IfErr};
-ghost use Rattle.subset_font.specs.declared.refusals.failure.Failure.TheVariants.{Read as CannotRead, Usage};
+ghost use Rattle.subset_task.specs.declared.refusals.failure.Failure.TheVariants.{Read as CannotRead, Usage};
 
 use crate::making::carried::carry_out;
-use crate::refusals::failure::{Failure, given, pdf_file};
-use crate::refusals::reason::{Noted, reason_of};
 use crate::run::reports::{report_made, report_unlisted};
-use crate::run::request::{list_of, plan_of};
-use crate::streams::{
-    MOST_INPUT, Source, Target, is_to_standard_output, lines_beside, open_source,
-};
-use crate::task::Plan;
 use std::alloc::Global;
 use std::fs::OpenFile;
 use std::io;
 use std::io::{BufWriter, ErrorKind, Read, Write};
 use std::rt::Files;
 use subset_args::Job;
+use subset_task::refusals::failure::{Failure, given, pdf_file};
+use subset_task::refusals::reason::{Noted, reason_of};
+use subset_task::run::request::{list_of, plan_of};
+use subset_task::streams::{
+    MOST_INPUT, Source, Target, is_to_standard_output, lines_beside, open_source,
+};
+use subset_task::task::Plan;
 use subsetter::Error;
 
 /// Opens the font's file or stream, of so many bytes at most. Why it can't be opened is kept.

@@ -5,15 +5,15 @@ ghost use Rattle.std.specs.Process.{exit_status};
 
 use crate::batch::running::run_batch;
 use crate::help::{HELP, VERSION_LINE};
-use crate::refusals::failure::Failure;
 use crate::run::job::run_job;
 use crate::run::reports::report;
-use crate::run::request::read_arguments;
 use crate::run::showing::{print_text, run_shown};
-use crate::streams::hold_streams;
 use std::process::{ExitCode, Termination};
 use std::rt::{Env, Files};
 use subset_args::{Advice, ArgsError, Command, find_mistake, read_words};
+use subset_task::refusals::failure::Failure;
+use subset_task::run::request::read_arguments;
+use subset_task::streams::hold_streams;
 use subsetter::Error;
 
 /// The end of a run, with its status. Only `run_by` makes one, and it can't be dropped, so that `main` ends with no other

@@ -1,23 +1,23 @@
 //! What a run reports on standard error.
 
 ghost use Rattle.std.specs.Prelude.{◌≡◌};
-ghost use Rattle.subset_font.specs.Refusals.Failure.{status_of_end};
+ghost use Rattle.subset_task.specs.Refusals.Failure.{status_of_end};
 ghost use Rattle.subset_font.specs.Report.{has_notes};
 
-use crate::faces::missing::missing_in;
-use crate::faces::named::instance_names;
-use crate::notes::{known_axes, notes_for};
-use crate::refusals::failure::{Failure, Report, file_of, status_of_run};
 use crate::refusals::hint::found::{find_axes_hint, find_hint, no_axes};
-use crate::refusals::hint::text::Hint;
 use crate::refusals::limit_hint::find_limit_hint;
-use crate::task::{Form, Plan, Task};
 use std::io;
 use subset_args::{
     CODES_EXPECTED, FEW_EXPECTED, FileKind, Glyphs, Job, ORDER_EXPECTED, PARTS_EXPECTED, Shown,
     Topic, codes_descend, descends, find_wrong,
 };
 use subset_lines::note_lines;
+use subset_task::faces::missing::missing_in;
+use subset_task::faces::named::instance_names;
+use subset_task::notes::{known_axes, notes_for};
+use subset_task::refusals::failure::{Failure, Report, file_of, status_of_run};
+use subset_task::refusals::hint::text::Hint;
+use subset_task::task::{Form, Plan, Task};
 use subsetter::{Error, Tag};
 
 /// Prints why a run failed, if it did, and answers the status.

@@ -1,20 +1,20 @@
 //! The showing of a face, and of a text of the program.
 
 ghost use Rattle.std.specs.Prelude.{◌≢◌, ◌≤◌, IfErr};
-ghost use Rattle.subset_font.specs.declared.refusals.failure.Failure.TheVariants.{Usage};
+ghost use Rattle.subset_task.specs.declared.refusals.failure.Failure.TheVariants.{Usage};
 
-use crate::faces::axes::carry_axes;
 use crate::faces::info::carry_info;
-use crate::refusals::failure::Failure;
-use crate::refusals::reason::{Noted, reason_of};
 use crate::run::job::{open_font, room_of};
 use crate::run::reports::{report_refused, report_shown};
-use crate::streams::MOST_INPUT;
 use std::alloc::Global;
 use std::io;
 use std::io::{BufWriter, Read, Write};
 use std::rt::Files;
 use subset_args::Topic;
+use subset_task::faces::axes::carry_axes;
+use subset_task::refusals::failure::Failure;
+use subset_task::refusals::reason::{Noted, reason_of};
+use subset_task::streams::MOST_INPUT;
 use subsetter::Error;
 
 /// Writes what is to be shown of a face between a reader and a writer, which gets a buffer.

@@ -9,23 +9,12 @@ mod batch;
 mod faces;
 mod help;
 mod making;
-mod notes;
 mod output;
 mod refusals;
 mod run;
-mod streams;
-mod task;
 
 pub use batch::making::{answer_apart, read_source};
-pub use batch::orders::order_of;
-pub use batch::requests::{
-    due, due_of, next_of_source, numbers_of, push_order, set_answer, Batch, Request, State,
-    MOST_NUMBERS,
-};
 pub use batch::running::{
     batch_or_status, read_lines, refuse_memory, status_of_batch, AnswerLines,
 };
-pub use refusals::failure::{Failure, Report};
 pub use run::program::{run_by, Ended};
-pub use run::request::read_arguments;
-pub use streams::{hold_streams, is_shown};

@@ -2,10 +2,10 @@
 //! What a run writes.
 
 use crate::proved::subset_font::making::outcome::Outcome;
-use crate::proved::subset_font::refusals::failure::Failure;
-use crate::proved::subset_font::task::Form;
 use crate::proved::subset_lines::{write_json, write_lines, Numbering};
 use crate::proved::subset_pdf::Sheet;
+use crate::proved::subset_task::refusals::failure::Failure;
+use crate::proved::subset_task::task::Form;
 use crate::rattle::io::Write;
 
 /// Writes the PDF, if there is one, to one writer, then the font to another, and then the new numbers to the third.

@@ -3,16 +3,16 @@
 ghost use Rattle.std.specs.Prelude.{◌≡◌};
 ghost use Rattle.std.specs.Option.{option_map};
 ghost use Rattle.subsetter_sfnt.specs.Extras.{all_extras};
-ghost use Rattle.subset_font.specs.declared.refusals.hint.text.Hint.TheVariants.{Font};
+ghost use Rattle.subset_task.specs.declared.refusals.hint.text.Hint.TheVariants.{Font};
 ghost use Rattle.subset_font.specs.Refusals.Hint.{listed, for_widths, needed_table, reason_in, is_cff2, no_coordinates, hint_of_error, no_mapping, hint_of_mapping, no_axes, axes_hint_of_error, axes_hint, forbidden_bit, hint_of};
 
-use crate::faces::outlines::outlines_of;
-use crate::refusals::failure::Failure;
-use crate::refusals::hint::text::Hint;
-use crate::task::{RequestedGlyphs, Task};
 use font_reasons::{Reason, Request, directory_of, find_reason, missing_table, no_font, no_table};
 use subset_lines::Outlines;
 use subset_pdf::{Permission, Usage};
+use subset_task::faces::outlines::outlines_of;
+use subset_task::refusals::failure::Failure;
+use subset_task::refusals::hint::text::Hint;
+use subset_task::task::{RequestedGlyphs, Task};
 use subsetter::{Error, Tag};
 use subsetter_sfnt::directory::{find_record, table};
 

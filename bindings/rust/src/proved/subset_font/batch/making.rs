@@ -4,15 +4,15 @@
 use crate::rattle::prelude::{AllocGlobal, Input, Print, String, Vec};
 
 use crate::proved::subset_args::{Job, Plain};
-use crate::proved::subset_font::batch::answers::{failed, Answer, Object};
-use crate::proved::subset_font::making::carried::read_whole;
 use crate::proved::subset_font::making::outcome::{make_planned, Outcome};
 use crate::proved::subset_font::output::{write_font, write_numbers, write_page};
-use crate::proved::subset_font::refusals::failure::{file_by, given, list_file, pdf_file, Failure};
 use crate::proved::subset_font::run::job::{open_font, room_of};
-use crate::proved::subset_font::run::request::{list_of, plan_of};
-use crate::proved::subset_font::streams::{is_to_standard_output, Target, MOST_INPUT};
-use crate::proved::subset_font::task::{Form, Plan};
+use crate::proved::subset_task::batch::answers::{failed, Answer, Object};
+use crate::proved::subset_task::reading::read_whole;
+use crate::proved::subset_task::refusals::failure::{file_by, given, list_file, pdf_file, Failure};
+use crate::proved::subset_task::run::request::{list_of, plan_of};
+use crate::proved::subset_task::streams::{is_to_standard_output, Target, MOST_INPUT};
+use crate::proved::subset_task::task::{Form, Plan};
 use crate::proved::subsetter::Error;
 use crate::proved::subsetter_words::plain_text;
 use crate::rattle::alloc::{AllocError, Global};

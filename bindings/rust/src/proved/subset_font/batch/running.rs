@@ -3,17 +3,17 @@
 
 use crate::rattle::prelude::{AllocGlobal, Eprint, Input, Print, Vec};
 
-use crate::proved::subset_font::batch::answers::{has_failed, write_answer};
 use crate::proved::subset_font::batch::making::{answer_apart, read_source};
-use crate::proved::subset_font::batch::requests::{
+use crate::proved::subset_font::run::reports::report_refused;
+use crate::proved::subset_task::batch::answers::{has_failed, write_answer};
+use crate::proved::subset_task::batch::requests::{
     answer_at, due, due_of, next_of_source, requests_of, set_answer, set_written, Batch, Request,
     State,
 };
-use crate::proved::subset_font::making::carried::read_whole;
-use crate::proved::subset_font::refusals::failure::Failure;
-use crate::proved::subset_font::refusals::reason::{unread, Noted};
-use crate::proved::subset_font::run::reports::report_refused;
-use crate::proved::subset_font::streams::{is_shown, open_source, MOST_INPUT};
+use crate::proved::subset_task::reading::read_whole;
+use crate::proved::subset_task::refusals::failure::Failure;
+use crate::proved::subset_task::refusals::reason::{unread, Noted};
+use crate::proved::subset_task::streams::{is_shown, open_source, MOST_INPUT};
 use crate::proved::subsetter::Error;
 use crate::rattle::alloc::AllocError;
 use crate::rattle::io::{BufWriter, ErrorKind, Write};

@@ -4,12 +4,12 @@
 use crate::rattle::prelude::String;
 
 use crate::proved::font_reasons::count_glyphs;
-use crate::proved::subset_font::making::requested::first_glyphs;
 use crate::proved::subset_font::making::subset::make_of;
-use crate::proved::subset_font::refusals::failure::Failure;
 use crate::proved::subset_font::refusals::hint::found::find_hint;
-use crate::proved::subset_font::refusals::hint::text::Hint;
-use crate::proved::subset_font::task::{Form, RequestedGlyphs, Task};
+use crate::proved::subset_task::making::requested::first_glyphs;
+use crate::proved::subset_task::refusals::failure::Failure;
+use crate::proved::subset_task::refusals::hint::text::Hint;
+use crate::proved::subset_task::task::{Form, RequestedGlyphs, Task};
 use crate::proved::subsetter::{Error, Extras, Limits, Options, Tag};
 use crate::proved::subsetter_sfnt::directory::table;
 use crate::rattle::alloc::{AllocError, Global};

@@ -5,11 +5,11 @@ use crate::rattle::prelude::{String, Vec};
 
 use crate::proved::font_reasons::{count_glyphs, directory_of, face_count};
 use crate::proved::subset_font::faces::accepted::{try_all, InfoParts};
-use crate::proved::subset_font::faces::outlines::outlines_of;
-use crate::proved::subset_font::faces::tables::tables_of;
-use crate::proved::subset_font::making::carried::read_whole;
-use crate::proved::subset_font::refusals::failure::Failure;
 use crate::proved::subset_lines::{write_info, write_info_json, Info};
+use crate::proved::subset_task::faces::outlines::outlines_of;
+use crate::proved::subset_task::faces::tables::tables_of;
+use crate::proved::subset_task::reading::read_whole;
+use crate::proved::subset_task::refusals::failure::Failure;
 use crate::proved::subsetter::{Error, Tag};
 use crate::proved::subsetter_base::read::Reader;
 use crate::proved::subsetter_sfnt::directory::{header_offset, table};

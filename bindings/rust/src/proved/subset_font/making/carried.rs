@@ -5,22 +5,11 @@ use crate::rattle::prelude::Vec;
 
 use crate::proved::subset_font::making::outcome::make_planned;
 use crate::proved::subset_font::output::emit;
-use crate::proved::subset_font::refusals::failure::Failure;
-use crate::proved::subset_font::task::Plan;
+use crate::proved::subset_task::reading::read_whole;
+use crate::proved::subset_task::refusals::failure::Failure;
+use crate::proved::subset_task::task::Plan;
 use crate::rattle::alloc::Global;
 use crate::rattle::io::{Read, Write};
-
-/// The bytes that a reader has left, with room for so many taken at once.
-pub fn read_whole<R: Read>(alloc: Global, reader: &mut R, room: usize) -> Result<Vec<u8>, Failure> {
-    let mut font = match Vec::with_capacity(alloc, room) {
-        Ok(font) => font,
-        Err(_) => return Err(Failure::Read),
-    };
-    if reader.read_to_end(&mut font).is_err() {
-        return Err(Failure::Read);
-    }
-    Ok(font)
-}
 
 /// Reads the font from the reader, writes the PDF of its glyphs to one writer, if one is requested, its subset to another, and
 /// the new numbers to the third. The bytes that were read are kept. Room for so many of them is taken at once.

@@ -5,10 +5,10 @@ use crate::rattle::prelude::Vec;
 
 use crate::proved::subset_args::PdfChoice;
 use crate::proved::subset_font::making::subset::Made;
-use crate::proved::subset_font::refusals::failure::Failure;
-use crate::proved::subset_font::task::{RequestedGlyphs, Task};
 use crate::proved::subset_lines::json_pdf;
 use crate::proved::subset_pdf::{make_sheet, Layout, PdfRequest, Sheet, SheetError};
+use crate::proved::subset_task::refusals::failure::Failure;
+use crate::proved::subset_task::task::{RequestedGlyphs, Task};
 use crate::proved::subsetter::Tag;
 use crate::rattle::alloc::{AllocError, Global};
 

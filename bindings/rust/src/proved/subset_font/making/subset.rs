@@ -4,10 +4,10 @@
 use crate::rattle::prelude::Vec;
 
 use crate::proved::cid_embed::{embed_with_options, write_widths, Embedded};
-use crate::proved::subset_font::making::requested::{pick, Picked};
-use crate::proved::subset_font::refusals::failure::Failure;
-use crate::proved::subset_font::task::{Form, Task};
 use crate::proved::subset_lines::json_numbers;
+use crate::proved::subset_task::making::requested::{pick, Picked};
+use crate::proved::subset_task::refusals::failure::Failure;
+use crate::proved::subset_task::task::{Form, Task};
 use crate::proved::subsetter::{subset_with_options, Error, GlyphRemapper};
 use crate::proved::subsetter_variable::static_font;
 use crate::rattle::alloc::Global;

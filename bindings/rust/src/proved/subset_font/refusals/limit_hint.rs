@@ -3,9 +3,9 @@
 //! the limits let it.
 
 use crate::proved::subset_font::making::outcome::make_planned;
-use crate::proved::subset_font::refusals::failure::Failure;
-use crate::proved::subset_font::refusals::hint::text::Hint;
-use crate::proved::subset_font::task::{Plan, Task};
+use crate::proved::subset_task::refusals::failure::Failure;
+use crate::proved::subset_task::refusals::hint::text::Hint;
+use crate::proved::subset_task::task::{Plan, Task};
 use crate::proved::subsetter::{Error, Limits, Options};
 use crate::rattle::alloc::Global;
 

@@ -5,14 +5,14 @@ use crate::rattle::prelude::{AllocGlobal, Eprint, Input, Print, Vec};
 
 use crate::proved::subset_args::Job;
 use crate::proved::subset_font::making::carried::carry_out;
-use crate::proved::subset_font::refusals::failure::{given, pdf_file, Failure};
-use crate::proved::subset_font::refusals::reason::{reason_of, Noted};
 use crate::proved::subset_font::run::reports::{report_made, report_unlisted};
-use crate::proved::subset_font::run::request::{list_of, plan_of};
-use crate::proved::subset_font::streams::{
+use crate::proved::subset_task::refusals::failure::{given, pdf_file, Failure};
+use crate::proved::subset_task::refusals::reason::{reason_of, Noted};
+use crate::proved::subset_task::run::request::{list_of, plan_of};
+use crate::proved::subset_task::streams::{
     is_to_standard_output, lines_beside, open_source, Source, Target, MOST_INPUT,
 };
-use crate::proved::subset_font::task::Plan;
+use crate::proved::subset_task::task::Plan;
 use crate::proved::subsetter::Error;
 use crate::rattle::alloc::Global;
 use crate::rattle::fs::OpenFile;

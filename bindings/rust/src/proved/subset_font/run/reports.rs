@@ -7,15 +7,15 @@ use crate::proved::subset_args::{
     codes_descend, descends, find_wrong, FileKind, Glyphs, Job, Shown, Topic, CODES_EXPECTED,
     FEW_EXPECTED, ORDER_EXPECTED, PARTS_EXPECTED,
 };
-use crate::proved::subset_font::faces::missing::missing_in;
-use crate::proved::subset_font::faces::named::instance_names;
-use crate::proved::subset_font::notes::{known_axes, notes_for};
-use crate::proved::subset_font::refusals::failure::{file_of, status_of_run, Failure, Report};
 use crate::proved::subset_font::refusals::hint::found::{find_axes_hint, find_hint, no_axes};
-use crate::proved::subset_font::refusals::hint::text::Hint;
 use crate::proved::subset_font::refusals::limit_hint::find_limit_hint;
-use crate::proved::subset_font::task::{Form, Plan, Task};
 use crate::proved::subset_lines::note_lines;
+use crate::proved::subset_task::faces::missing::missing_in;
+use crate::proved::subset_task::faces::named::instance_names;
+use crate::proved::subset_task::notes::{known_axes, notes_for};
+use crate::proved::subset_task::refusals::failure::{file_of, status_of_run, Failure, Report};
+use crate::proved::subset_task::refusals::hint::text::Hint;
+use crate::proved::subset_task::task::{Form, Plan, Task};
 use crate::proved::subsetter::Tag;
 use crate::rattle::io;
 

@@ -4,13 +4,13 @@
 use crate::rattle::prelude::{AllocGlobal, Eprint, Input, Print, Vec};
 
 use crate::proved::subset_args::Topic;
-use crate::proved::subset_font::faces::axes::carry_axes;
 use crate::proved::subset_font::faces::info::carry_info;
-use crate::proved::subset_font::refusals::failure::Failure;
-use crate::proved::subset_font::refusals::reason::{reason_of, Noted};
 use crate::proved::subset_font::run::job::{open_font, room_of};
 use crate::proved::subset_font::run::reports::{report_refused, report_shown};
-use crate::proved::subset_font::streams::MOST_INPUT;
+use crate::proved::subset_task::faces::axes::carry_axes;
+use crate::proved::subset_task::refusals::failure::Failure;
+use crate::proved::subset_task::refusals::reason::{reason_of, Noted};
+use crate::proved::subset_task::streams::MOST_INPUT;
 use crate::proved::subsetter::Error;
 use crate::rattle::alloc::Global;
 use crate::rattle::io;

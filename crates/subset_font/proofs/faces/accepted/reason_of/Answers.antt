@@ -2,7 +2,7 @@ use Rattle.std.proofs.Common.{None, rules}
 use Rattle.std.specs.Prelude.{string_bytes}
 use Rattle.std.specs.Option.{option_map}
 use Rattle.subsetter_sfnt.specs.Extras.{all_extras}
-use Rattle.subset_font.specs.Chosen.{LimitsAreChosen}
+use Rattle.subset_task.specs.Chosen.{LimitsAreChosen}
 use Rattle.subset_font.proofs.FacesLaws.Showing.{cause_of}
 use Rattle.subset_font.proofs.faces.accepted.reason_of.Goals as goal
 

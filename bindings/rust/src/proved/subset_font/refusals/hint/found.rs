@@ -4,12 +4,12 @@
 use crate::proved::font_reasons::{
     directory_of, find_reason, missing_table, no_font, no_table, Reason, Request,
 };
-use crate::proved::subset_font::faces::outlines::outlines_of;
-use crate::proved::subset_font::refusals::failure::Failure;
-use crate::proved::subset_font::refusals::hint::text::Hint;
-use crate::proved::subset_font::task::{RequestedGlyphs, Task};
 use crate::proved::subset_lines::Outlines;
 use crate::proved::subset_pdf::{Permission, Usage};
+use crate::proved::subset_task::faces::outlines::outlines_of;
+use crate::proved::subset_task::refusals::failure::Failure;
+use crate::proved::subset_task::refusals::hint::text::Hint;
+use crate::proved::subset_task::task::{RequestedGlyphs, Task};
 use crate::proved::subsetter::{Error, Tag};
 use crate::proved::subsetter_sfnt::directory::{find_record, table};
 

@@ -1,0 +1,3 @@
+pub mod BatchLaws
+pub mod FacesLaws
+mod Steps

@@ -1,0 +1,4 @@
+-- Many requests in one run, a line each.
+pub mod Answers
+pub mod Orders
+pub mod Requests

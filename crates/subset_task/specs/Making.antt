@@ -1,0 +1,2 @@
+-- What is made of the font that is read.
+pub mod Requested

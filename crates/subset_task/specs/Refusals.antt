@@ -1,0 +1,3 @@
+-- Why a run of the program ends without a subset.
+pub mod Failure
+pub mod Texts

@@ -1,0 +1,113 @@
+//! What a line of a batch requests.
+
+ghost use Rattle.std.specs.Prelude.{◌≡◌, map, string_bytes, IfOk, IfErr, Some};
+ghost use Rattle.std.specs.Option.{option_copied};
+ghost use Rattle.subset_args.specs.View.{job_view};
+ghost use Rattle.subset_task.specs.Batch.Answers.{IsFailedBy};
+ghost use Rattle.subset_task.specs.Batch.Orders.{is_given_stream, uses_streams, with_json, with_answer, order_by, order_of, IsNoOrder};
+
+use crate::batch::answers::{Answer, failed};
+use crate::refusals::failure::{Failure, given, list_file, pdf_file};
+use std::alloc::Global;
+use subset_args::{ArgsError, Command, Job, Switches, find_mistake, is_stream, read_words};
+use subset_batch::{Unread, read_request};
+
+/// The status of a line that is wrong, as of wrong arguments.
+const WRONG: u8 = 2;
+
+/// Why a line requests nothing whose words are wrong.
+fn mistake_of(alloc: Global, words: &[String]) -> Answer
+    ensures { IsFailedBy 2 result }
+{
+    match find_mistake(words) {
+        Some(mistake) => failed(WRONG, format!(in alloc; "{mistake}")),
+        None => failed(WRONG, format!(in alloc; "{}", Failure::Usage)),
+    }
+}
+
+/// Whether the name of a file, if it is given, means standard input or output.
+fn is_given_stream(name: Option<&str>) -> bool
+    ensures { result ≡ is_given_stream (option_copied name.entry) }
+{
+    match name {
+        Some(name) => is_stream(name),
+        None => false,
+    }
+}
+
+/// Whether a request reads or writes a standard stream, by its name.
+#[tactic(auto, using(crate::proofs::BatchLaws::list_stream, crate::proofs::BatchLaws::pdf_stream), unfolding(crate::specs::Batch::Orders::uses_streams))]
+fn uses_streams(job: &Job) -> bool
+    ensures { result ≡ uses_streams (job_view job.now) }
+{
+    (is_stream(&job.input) || is_given_stream(list_file(&job.glyphs)))
+        || (is_given_stream(given(&job.output)) || is_given_stream(pdf_file(job)))
+}
+
+/// Options without a value, and `--json` beside them.
+fn with_json(switches: Switches) -> Switches
+    ensures { result ≡ with_json switches }
+{
+    Switches {
+        widths: switches.widths,
+        no_hinting: switches.no_hinting,
+        no_names: switches.no_names,
+        no_glyph_names: switches.no_glyph_names,
+        small: switches.small,
+        json: true,
+        quiet: switches.quiet,
+        verbose: switches.verbose,
+        vertical: switches.vertical,
+    }
+}
+
+/// A request that uses no standard stream, as the answers are written to one. Its answer has the members of `--json`.
+fn with_answer(alloc: Global, job: Job) -> Result<Job, Answer>
+    ensures ok { IfOk result (λ made. with_answer (job_view job) ≡ Some (job_view made)) }
+    ensures err { IfErr result (IsNoOrder (with_answer (job_view job))) }
+{
+    if uses_streams(&job) {
+        let text = "- is no file of a request";
+        return Err(failed(WRONG, String::from_str(alloc, text)));
+    }
+    let switches = with_json(job.switches);
+    Ok(Job {
+        input: job.input,
+        output: job.output,
+        index: job.index,
+        most_input: job.most_input,
+        glyphs: job.glyphs,
+        limits: job.limits,
+        switches,
+        position: job.position,
+        pdf: job.pdf,
+    })
+}
+
+/// What words request, or why they request nothing.
+fn order_by(alloc: Global, words: &[String]) -> Result<Job, Answer>
+    ensures ok { IfOk result (λ job. order_by (map (λ word. string_bytes word) words.now) ≡ Some (job_view job)) }
+    ensures err { IfErr result (IsNoOrder (order_by (map (λ word. string_bytes word) words.now))) }
+{
+    match read_words(alloc, words) {
+        Ok(Command::Subset(job)) => with_answer(alloc, job),
+        Ok(Command::Help | Command::Version | Command::Batch(_) | Command::Show(_, _, _, _)) => {
+            Err(failed(WRONG, format!(in alloc; "{}", Failure::Usage)))
+        }
+        Err(ArgsError::Usage) => Err(mistake_of(alloc, words)),
+        Err(ArgsError::OutOfMemory) => Err(Answer::NoMemory),
+    }
+}
+
+/// What a line requests, or why it requests nothing.
+#[tactic(auto, unfolding(crate::specs::Batch::Orders::order_of))]
+pub fn order_of(alloc: Global, line: &[u8]) -> Result<Job, Answer>
+    ensures ok { IfOk result (λ job. order_of line.now ≡ Some (job_view job)) }
+    ensures err { IfErr result (IsNoOrder (order_of line.now)) }
+{
+    match read_request(alloc, line) {
+        Ok(words) => order_by(alloc, &words),
+        Err(Unread::OutOfMemory) => Err(Answer::NoMemory),
+        Err(Unread::Fault(fault)) => Err(failed(WRONG, format!(in alloc; "{fault}"))),
+    }
+}

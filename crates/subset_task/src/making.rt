@@ -1,0 +1,3 @@
+//! What is made of the font that is read.
+
+pub mod requested;

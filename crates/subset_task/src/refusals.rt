@@ -1,0 +1,5 @@
+//! Why a run of the program ends without a subset.
+
+pub mod failure;
+pub mod hint;
+pub mod reason;

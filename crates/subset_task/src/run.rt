@@ -1,0 +1,3 @@
+//! A run of the program.
+
+pub mod request;
