@@ -13,9 +13,9 @@ use Rattle.subsetter_cff.specs.Write.Again.{AreAll}
 use Rattle.subsetter.specs.Fault.{HasFault}
 use Rattle.subsetter.specs.Limits.{token_limit, depth_limit}
 use Rattle.subsetter_sfnt.specs.Read.{as_font}
-use Rattle.subsetter_again.specs.Again.{IsTrueTypeOrCidKeyed}
-use Rattle.subsetter_again.specs.Shrink.{OfEachSource}
-use Rattle.subsetter_again.proofs.Shrunk.{no_fault_for_all, fault_for_unknown}
+use Rattle.cid_embed.specs.Again.{IsTrueTypeOrCidKeyed}
+use Rattle.cid_embed.specs.Shrink.{OfEachSource}
+use Rattle.cid_embed.proofs.AgainLaws.Shrunk.{no_fault_for_all, fault_for_unknown}
 use Rattle.cid_embed.specs.Embed as faults
 use Rattle.cid_embed.specs.Embed.{numbering, HasEmbedFault}
 use Rattle.cid_embed.specs.Width.{HasWidthFault}

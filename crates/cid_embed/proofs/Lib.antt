@@ -3,3 +3,4 @@ mod Reading
 mod Numbers
 mod Promises
 mod FewerCids
+pub mod AgainLaws

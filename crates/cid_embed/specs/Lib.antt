@@ -1,3 +1,5 @@
+pub mod Again
+pub mod Shrink
 pub mod Afresh
 pub mod Embed
 pub mod Text

@@ -3,6 +3,9 @@
 //! [`embed`] makes all three; `write_widths` writes the widths as a PDF has them; [`shrink`] makes a subset of what
 //! `embed` answered.
 //!
+//! [`shrink_font`] answers what `subset` does, and its contract speaks of each font of which the given one is a subset: the answer
+//! keeps what a subset of that font keeps. [`laws`] has the laws of subsets of subsets by themselves.
+//!
 //! ```text
 //! let embedded = embed(alloc, data, 0, &[36, 68])?;   // embedded.font, .cids, .widths
 //! let text = write_widths(alloc, &embedded)?;         // [0 [600 684 686]]
@@ -11,6 +14,7 @@
 
 mod array;
 mod embedding;
+pub mod laws;
 mod reader;
 mod shrinking;
 mod widths;
@@ -18,6 +22,5 @@ mod widths;
 pub use array::write_widths;
 pub use embedding::{Embedded, embed, embed_with_limits, embed_with_options, mapper_for};
 pub use reader::Metrics;
-pub use shrinking::shrink;
-pub use subsetter_again::shrink_font;
+pub use shrinking::{shrink, shrink_font};
 pub use widths::all_widths;

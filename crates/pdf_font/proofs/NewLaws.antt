@@ -17,7 +17,7 @@ use Rattle.subsetter_sfnt.specs.declared.flavor.FontFlavor.TheVariants.{TrueType
 use Rattle.subsetter.specs.Cff.Read.{KeepsCharStrings}
 use Rattle.subsetter.specs.Common.Maxp.Read.{IsMaxProfile}
 use Rattle.subsetter.specs.Subset.{KeepsDrawing, by_outlines, by_charstrings}
-use Rattle.subsetter_again.proofs.OrderLaws.GivenOrder.{only_given}
+use Rattle.cid_embed.proofs.AgainLaws.OrderLaws.GivenOrder.{only_given}
 use Rattle.cid_embed.specs.Afresh.{widths_of}
 use Rattle.cid_embed.specs.Embed.{numbering, IsEmbeddingAnswer, in_subset, in_widths}
 use Rattle.cid_embed.specs.Width.{units_per_em, width}

@@ -10,7 +10,7 @@ use Rattle.subsetter_variation.specs.declared.locations.axes.Axis.{Axis}
 use Rattle.std.proofs.lemmas.List.Elements.{All-nil, All-cons, All-append, All-take}
 use Rattle.std.proofs.lemmas.Bool.Decides.{nat_tests}
 use Rattle.subsetter_variation.specs.Locations.Axes.{clamped}
-use Rattle.pdf_moved.specs.Movement.{Movement}
+use Rattle.pdf_values.specs.Movement.{Movement}
 use Rattle.pdf_text.specs.Numbers.{sign}
 use Rattle.pdf_text.specs.SubsetName.{or_font, tag_of}
 use Rattle.pdf_values.specs.Name.{postscript_name, table_name}

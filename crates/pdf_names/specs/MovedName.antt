@@ -1,6 +1,6 @@
 -- The PostScript name of a font that is off its default (Technical Note 5902).
 use Rattle.std.specs.Prelude.{◌≤◌, ◌<◌, ℕ, nat_le, if◌then◌else◌, List, ◌++◌, codes, length, take, Option}
-use Rattle.pdf_moved.specs.Movement.{Movement}
+use Rattle.pdf_values.specs.Movement.{Movement}
 use Rattle.pdf_names.specs.AxisTexts.{axes_text}
 use Rattle.pdf_names.specs.Instances.{instance_name}
 use Rattle.pdf_names.specs.Letters.{prefix}

@@ -3,7 +3,7 @@
 ghost use Rattle.std.specs.Prelude.{◌≡◌, ◌++◌, codes, IfOk, IfErr, take};
 ghost use Rattle.std.specs.Option.{option_copied};
 ghost use Rattle.subsetter_base.specs.declared.error.Error.TheVariants.{OutOfMemory};
-ghost use Rattle.pdf_moved.specs.Movement.{movement_view};
+ghost use Rattle.pdf_values.specs.Movement.{movement_view};
 ghost use Rattle.pdf_text.specs.SubsetName.{tag_of};
 ghost use Rattle.pdf_names.specs.AxisTexts.{axes_text};
 ghost use Rattle.pdf_names.specs.MovedName.{name_at, shortened, whole_name, IsShortName};
@@ -11,8 +11,8 @@ ghost use Rattle.pdf_names.specs.MovedName.{name_at, shortened, whole_name, IsSh
 use crate::axis_texts::write_axes;
 use crate::instances::instance_name;
 use crate::letters::prefix;
-use pdf_moved::Movement;
 use pdf_text::tag_of;
+use pdf_values::Movement;
 use std::alloc::Global;
 use subsetter_base::Error;
 

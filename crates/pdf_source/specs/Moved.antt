@@ -15,8 +15,7 @@ use Rattle.pdf_values.specs.declared.descriptor.Known.{Known}
 use Rattle.pdf_values.specs.declared.descriptor.Values.{Values}
 use Rattle.pdf_values.specs.declared.looks.bounds.GlyphBox.{GlyphBox}
 use Rattle.pdf_glyphs.specs.Boxes.{boxes_from}
-use Rattle.pdf_moved.specs.Movement.{Movement}
-use Rattle.pdf_moved.specs.Values.{values_at}
+use Rattle.pdf_values.specs.Movement.{Movement}
 use Rattle.pdf_source.specs.Boxed.{head_box}
 use Rattle.pdf_source.specs.Cff.{cff_box, font_stem}
 use Rattle.pdf_source.specs.Source.{bounds_by, outlines_of, tables_of}
@@ -83,8 +82,8 @@ movement_of find settings p = record { at = p.at; axes = p.axes; settings = sett
 
 -- off its default FontBBox holds the kept glyphs, where their boxes are known
 abbrev pub values_by : Option Location → Known → (List ℕ → Option (List ℕ)) → Bounds → List (Tag × ℤ) → Values
-values_by None known find choice settings = values_of (tables_of find) known (bounds_by (moves find) choice)
-values_by (Some p) known find choice settings = values_at (tables_of find) known (movement_of find settings p) (bounds_by (moves find) Kept)
+values_by None known find choice settings = values_of (tables_of find) known None (bounds_by (moves find) choice)
+values_by (Some p) known find choice settings = values_of (tables_of find) known (Some (movement_of find settings p)) (bounds_by (moves find) Kept)
 
 -- the values of the descriptor, of the tables that look-ups find in the source and in the new font
 abbrev pub values_in : (List ℕ → Option (List ℕ)) → (List ℕ → Option (List ℕ)) → ℕ → FontOptions → List (Tag × ℤ) → Values

@@ -20,7 +20,6 @@ use crate::cff::{cff_box, cff_values_by};
 use crate::moved::{Location, movement_of, moves};
 use crate::tag::SubsetTag;
 use pdf_glyphs::{HeightVariation, OutlineTables, VerticalTables, box_around};
-use pdf_moved::values_at;
 use pdf_names::name_at;
 use pdf_text::{font_name, tag_of};
 use pdf_values::{Bounds, GlyphBox, Known, Tables, Values, postscript_name, values_of};
@@ -134,11 +133,11 @@ pub fn values_by(
     let tables = tables_of(face);
     let moving = moves(face);
     match location {
-        None => values_of(tables, known, bounds_by(moving, choice)),
-        Some(location) => values_at(
+        None => values_of(tables, known, None, bounds_by(moving, choice)),
+        Some(location) => values_of(
             tables,
             known,
-            movement_of(face, settings, location),
+            Some(movement_of(face, settings, location)),
             bounds_by(moving, Bounds::Kept),
         ),
     }

@@ -6,11 +6,11 @@ ghost use Rattle.std.specs.Result.{result_ok};
 ghost use Rattle.subsetter_base.specs.Gives.{Gives};
 ghost use Rattle.subsetter_sfnt.specs.Read.{table_in};
 ghost use Rattle.subsetter_instance.specs.Source.{normalized_coordinates};
-ghost use Rattle.pdf_moved.specs.Movement.{movement_view};
+ghost use Rattle.pdf_values.specs.Movement.{movement_view};
 ghost use Rattle.pdf_source.specs.Moved.{are_zero, axes_in, can_move, movement_of, moves, location_by, location_in, location_seen, unless_zero};
 
 use pdf_cff::unless_memory;
-use pdf_moved::Movement;
+use pdf_values::Movement;
 use std::alloc::Global;
 use subsetter_base::{Error, Tag};
 use subsetter_instance::source::normalized_coordinates;

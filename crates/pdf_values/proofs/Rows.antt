@@ -4,9 +4,10 @@ use Rattle.std.specs.Prelude.{nat_lt, if◌then◌else◌, codes}
 use Rattle.std.specs.Option.{option_map}
 use Rattle.subsetter_variation.specs.Nearest.{nearest}
 use Rattle.pdf_values.specs.Looks.Bounds.{bounds_of}
-use Rattle.pdf_values.specs.Looks.Flags.{flags_of}
+use Rattle.pdf_values.specs.Looks.Flags.{flags_by, is_italic}
 use Rattle.pdf_values.specs.Head.{units_per_em}
-use Rattle.pdf_values.specs.Looks.Heights.{heights_of}
+use Rattle.pdf_values.specs.Looks.Heights.{first_moved, height, heights_by, heights_of, line_of, other_line, source_line}
+use Rattle.pdf_values.specs.Movement.{varied}
 use Rattle.pdf_values.specs.Looks.ItalicAngle.{angle}
 use Rattle.pdf_values.specs.Name.{postscript_name, string_from}
 use Rattle.pdf_values.specs.Permission.{permission, unsaid, is_permitted}
@@ -60,15 +61,15 @@ bold_name = Some (hex (codes "00000003002a00030001040900010008000000030001040900
 pub regular_permission : permission regular_os2 ≡ record { usage = Editable; subsetting = true; outlines = true }
 regular_permission = refl
 
-pub regular_heights : heights_of regular_hhea regular_os2 regular_head None None (units_per_em regular_head) ≡ record { ascent = pos 905; descent = negsuc 211; cap_height = pos 688; x_height = Some (pos 488) }
-unfolding thousandths nearest
+pub regular_heights : heights_of None regular_hhea regular_os2 regular_head None None (units_per_em regular_head) ≡ record { ascent = pos 905; descent = negsuc 211; cap_height = pos 688; x_height = Some (pos 488) }
+unfolding thousandths nearest varied source_line first_moved other_line line_of height heights_by
 regular_heights = refl
 
 pub regular_angle : angle regular_post ≡ negsuc 9399
 unfolding thousandths nearest
 regular_angle = refl
 
-pub regular_flags : flags_of regular_post regular_os2 regular_head (angle regular_post) ≡ 70
+pub regular_flags : flags_by regular_post regular_os2 (is_italic regular_os2 regular_head (angle regular_post)) ≡ 70
 unfolding thousandths nearest
 regular_flags = refl
 
@@ -110,11 +111,11 @@ second_is_refused = refl
 pub second_is_held : is_permitted (permission second_os2) Held ≡ true
 second_is_held = refl
 
-pub bold_heights : heights_of bold_hhea bold_os2 bold_head None None (units_per_em bold_head) ≡ record { ascent = pos 800; descent = negsuc 199; cap_height = pos 800; x_height = None }
-unfolding thousandths nearest
+pub bold_heights : heights_of None bold_hhea bold_os2 bold_head None None (units_per_em bold_head) ≡ record { ascent = pos 800; descent = negsuc 199; cap_height = pos 800; x_height = None }
+unfolding thousandths nearest varied source_line first_moved other_line line_of height heights_by
 bold_heights = refl
 
-pub bold_flags : flags_of bold_post bold_os2 bold_head (angle bold_post) ≡ 5
+pub bold_flags : flags_by bold_post bold_os2 (is_italic bold_os2 bold_head (angle bold_post)) ≡ 5
 unfolding thousandths nearest
 bold_flags = refl
 
@@ -137,11 +138,11 @@ nothing_is_unsaid = refl
 pub nothing_has_units : units_per_em None ≡ 1000
 nothing_has_units = refl
 
-pub nothing_has_heights : heights_of None None None None None 1000 ≡ record { ascent = pos 0; descent = pos 0; cap_height = pos 0; x_height = None }
-unfolding thousandths nearest
+pub nothing_has_heights : heights_of None None None None None None 1000 ≡ record { ascent = pos 0; descent = pos 0; cap_height = pos 0; x_height = None }
+unfolding thousandths nearest varied source_line first_moved other_line line_of height heights_by
 nothing_has_heights = refl
 
-pub nothing_has_flags : flags_of None None None (pos 0) ≡ 4
+pub nothing_has_flags : flags_by None None (is_italic None None (pos 0)) ≡ 4
 nothing_has_flags = refl
 
 pub nothing_weighs : weight_of None None ≡ 400
@@ -161,13 +162,13 @@ cut_is_unsaid = refl
 pub cut_still_weighs : weight_of (option_map (take 9) bold_os2) None ≡ 700
 cut_still_weighs = refl
 
-pub cut_has_heights : heights_of bold_hhea (option_map (take 62) bold_os2) bold_head None (Some (pos 500)) 1000 ≡ record { ascent = pos 928; descent = negsuc 145; cap_height = pos 928; x_height = Some (pos 500) }
-unfolding thousandths nearest
+pub cut_has_heights : heights_of None bold_hhea (option_map (take 62) bold_os2) bold_head None (Some (pos 500)) 1000 ≡ record { ascent = pos 928; descent = negsuc 145; cap_height = pos 928; x_height = Some (pos 500) }
+unfolding thousandths nearest varied source_line first_moved other_line line_of height heights_by
 cut_has_heights = refl
 
 -- bit 7 of fsSelection
-pub typographic_heights : heights_of regular_hhea (Some (hex (codes "0004050d015e000500080000000000000000000000000000000000000000020000000000000000000000000000034200000000000000000000003f3f3f3f00c00041ffff05dcfe0c000007d001f4000000000000000003e80581000000200000"))) regular_head None None 2048 ≡ record { ascent = pos 732; descent = negsuc 243; cap_height = pos 688; x_height = Some (pos 488) }
-unfolding thousandths nearest
+pub typographic_heights : heights_of None regular_hhea (Some (hex (codes "0004050d015e000500080000000000000000000000000000000000000000020000000000000000000000000000034200000000000000000000003f3f3f3f00c00041ffff05dcfe0c000007d001f4000000000000000003e80581000000200000"))) regular_head None None 2048 ≡ record { ascent = pos 732; descent = negsuc 243; cap_height = pos 688; x_height = Some (pos 488) }
+unfolding thousandths nearest varied source_line first_moved other_line line_of height heights_by
 typographic_heights = refl
 
 -- the box of the kept glyphs is chosen, and stands for one without a width

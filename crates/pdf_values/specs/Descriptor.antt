@@ -2,11 +2,12 @@
 use Rattle.std.specs.Prelude.{ℕ, List, Option}
 use Rattle.std.specs.Option.{option_copied}
 use Rattle.pdf_values.specs.Looks.Bounds.{bounds_of}
-use Rattle.pdf_values.specs.Looks.Flags.{flags_of}
+use Rattle.pdf_values.specs.Looks.Flags.{flags_by}
 use Rattle.pdf_values.specs.Head.{units_per_em}
 use Rattle.pdf_values.specs.Looks.Heights.{heights_of}
-use Rattle.pdf_values.specs.Looks.ItalicAngle.{angle}
-use Rattle.pdf_values.specs.Looks.Weight.{weight_of, font_weight, stem_v}
+use Rattle.pdf_values.specs.Looks.ItalicAngle.{angle_at, is_italic_at}
+use Rattle.pdf_values.specs.Looks.Weight.{weight_at, font_weight, stem_v}
+use Rattle.pdf_values.specs.Movement.{Movement}
 use Rattle.pdf_values.specs.declared.looks.bounds.Bounds.{Bounds}
 use Rattle.pdf_values.specs.declared.descriptor.Known.{Known}
 use Rattle.pdf_values.specs.declared.descriptor.Tables.{Tables}
@@ -22,16 +23,17 @@ pub record SourceTables : Type 0 where
 abbrev pub tables_view : Tables → SourceTables
 tables_view t = record { head = option_copied t.head; hhea = option_copied t.hhea; os2 = option_copied t.os2; post = option_copied t.post }
 
-abbrev pub values_of : SourceTables → Known → Bounds → Values
-values_of t known choice =
+-- of a font that is moved, if it is; then FontBBox of `head` is that of its default
+abbrev pub values_of : SourceTables → Known → Option Movement → Bounds → Values
+values_of t known m choice =
     let units = units_per_em t.head in
-    let lean = angle t.post in
-    let weight = weight_of t.os2 t.head in
+    let lean = angle_at m t.post in
+    let weight = weight_at m t.os2 t.head in
     record {
-      flags = flags_of t.post t.os2 t.head lean;
+      flags = flags_by t.post t.os2 (is_italic_at m t.os2 t.head lean);
       bounds = bounds_of choice t.head known.kept units;
       italic_angle = lean;
-      heights = heights_of t.hhea t.os2 t.head known.cap_top known.x_top units;
+      heights = heights_of m t.hhea t.os2 t.head known.cap_top known.x_top units;
       stem_v = stem_v known.stem weight;
       font_weight = font_weight weight;
     }

@@ -1,7 +1,6 @@
 -- The fields that are read of `head` (OpenType, "head - Font Header Table"), `hhea` ("hhea - Horizontal Header Table") and `post` ("post - PostScript Table").
-use Rattle.std.specs.Prelude.{ℕ, ◌==◌, Bool, false, if◌then◌else◌, List, Option, Some, None, ℤ}
-use Rattle.std.specs.Int.{w32, cast_signed}
-use Rattle.std.specs.Option.{option_and_then, option_map, option_map_or, unwrap_or}
+use Rattle.std.specs.Prelude.{ℕ, ◌==◌, Bool, false, if◌then◌else◌, List, Option, Some, None}
+use Rattle.std.specs.Option.{option_and_then, option_map_or, unwrap_or}
 use Rattle.pdf_values.specs.Fields.{has_bit}
 use Rattle.subsetter_base.specs.Bytes.{field}
 

@@ -1,8 +1,8 @@
 -- The names of a font by their IDs, and its PostScript name, ID 6 (OpenType, "name - Naming Table").
-use Rattle.std.specs.Prelude.{◌≡◌, ◌<◌, true, All, ℕ, zero, suc, ◌+◌, ◌*◌, ◌==◌, ◌&&◌, nat_le, Bool, not, if◌then◌else◌, List, [], ◌∷◌, take, drop, filter, codes, Option, Some, None}
+use Rattle.std.specs.Prelude.{◌≡◌, ◌<◌, true, All, ℕ, zero, suc, ◌+◌, ◌*◌, ◌==◌, ◌&&◌, nat_le, Bool, not, if◌then◌else◌, List, [], ◌∷◌, filter, codes, Option, Some, None}
 use Rattle.std.specs.List.{list_any}
 use Rattle.std.specs.Option.{option_and_then, option_map_or, option_or}
-use Rattle.subsetter_base.specs.Bytes.{be, range, number}
+use Rattle.subsetter_base.specs.Bytes.{range, number}
 use Rattle.subsetter_base.specs.Options.{◌>>=◌}
 use Rattle.pdf_values.specs.declared.naming.Kind.{Kind}
 use Rattle.pdf_values.specs.declared.naming.Kind.TheVariants.{WindowsEnglish, Windows, Unicode, MacintoshRoman}

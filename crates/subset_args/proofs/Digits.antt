@@ -11,7 +11,7 @@ use Rattle.std.proofs.lemmas.Nat.{div-add-mod'}
 use Rattle.subset_args.specs.Coordinates.{Decimal, with_digits, with_parts, decimal_of, size_in, has_byte, is_point, in_32_bits, fixed, above_zero, below_zero}
 use Rattle.subset_args.specs.Halves.{halves, behind_digit, halves_behind, quarters}
 use Rattle.subset_args.specs.declared.coordinates.Halves.{Halves}
-use Rattle.subsetter_words.specs.Numbers.{number_in_bits}
+use Rattle.subset_args.specs.Words.{number_in_bits}
 use Rattle.subset_args.proofs.Quotients.{quotient_of_sum, rest_of_sum, quotient_by_ten, more_by_ten, nearest_above, nearest_below}
 
 -- the number that digits write, by the weight of each

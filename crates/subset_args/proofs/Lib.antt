@@ -4,3 +4,4 @@ pub mod Said
 pub mod Quotients
 pub mod Digits
 pub mod ListingLaws
+pub mod WordLaws

@@ -6,7 +6,7 @@ use Rattle.subsetter_base.specs.declared.tag.Tag.{Tag}
 use Rattle.subset_args.specs.Coordinates.{coordinate_in, coordinates_of}
 use Rattle.subset_args.specs.declared.jobs.command.ArgsError.{ArgsError}
 use Rattle.subset_args.specs.declared.jobs.command.ArgsError.TheVariants.{Usage, OutOfMemory}
-use Rattle.subsetter_words.proofs.Numbers.{texts}
+use Rattle.subset_args.proofs.WordLaws.{texts}
 
 abbrev Coordinates : Type 0
 Coordinates = List (Tag × ℤ)

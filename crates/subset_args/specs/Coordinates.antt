@@ -6,8 +6,7 @@ use Rattle.std.specs.Str.{all_ascii_digits}
 use Rattle.std.specs.Str.Parse.{digits_value}
 use Rattle.subsetter_base.specs.declared.tag.Tag.{Tag}
 use Rattle.subsetter_variation.specs.Nearest.{nearest}
-use Rattle.subsetter_words.specs.Numbers.{number_in_bits}
-use Rattle.subsetter_words.specs.Tags.{tag_of}
+use Rattle.subset_args.specs.Words.{number_in_bits, tag_of}
 
 -- ---- a decimal number, in 65536ths
 

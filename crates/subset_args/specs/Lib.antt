@@ -7,3 +7,4 @@ pub mod Coordinates
 pub mod Halves
 pub mod Mistakes
 pub mod Nearest
+pub mod Words

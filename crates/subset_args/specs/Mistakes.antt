@@ -4,7 +4,7 @@ use Rattle.std.specs.Str.{IsUtf8}
 use Rattle.subset_args.specs.Listing.Lists.{ends_in, descends}
 use Rattle.subset_args.specs.Listing.Characters.{codes_in, codes_descend}
 use Rattle.subset_args.specs.Request.{topic_of, is_batch}
-use Rattle.subsetter_words.specs.Numbers.{number_in_bits}
+use Rattle.subset_args.specs.Words.{number_in_bits}
 use Rattle.subset_args.specs.Coordinates.{coordinate_in}
 use Rattle.subset_args.specs.Options.{kind_of, looks_like_option, coding_in, holds_rights}
 use Rattle.subset_args.specs.declared.options.names.Kind.TheVariants.{Place}

@@ -2,7 +2,7 @@
 use Rattle.std.specs.Prelude.{Bool, true, false, not, ◌&&◌, ◌||◌, ◌==◌, nat_lt, if◌then◌else◌, ℕ, List, [], ◌∷◌, length, slice_index, Option, Some, None, codes, is_some}
 use Rattle.std.specs.Option.{option_map, option_and_then}
 use Rattle.std.specs.Str.{bytes_eq}
-use Rattle.subsetter_words.specs.Numbers.{number_in_bits}
+use Rattle.subset_args.specs.Words.{number_in_bits}
 use Rattle.subset_args.specs.Limits.{Bounds, limits_in}
 use Rattle.subset_args.specs.declared.options.names.Switch.{Switch}
 use Rattle.subset_args.specs.declared.options.names.Switch.TheVariants.{Widths, NoHinting, NoNames, NoGlyphNames, Small, Json, Quiet, Verbose, Vertical}

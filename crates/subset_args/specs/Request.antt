@@ -3,7 +3,7 @@ use Rattle.std.specs.Prelude.{ℕ, ℤ, Bool, true, false, not, nat_lt, ◌&&◌
 use Rattle.std.specs.Option.{option_map, option_and_then}
 use Rattle.std.specs.List.{slice_split}
 use Rattle.std.specs.Str.{bytes_eq}
-use Rattle.subsetter_words.specs.Numbers.{number_in_bits}
+use Rattle.subset_args.specs.Words.{number_in_bits}
 use Rattle.subsetter_base.specs.declared.tag.Tag.{Tag}
 use Rattle.subset_args.specs.Coordinates.{has_byte, is_equals, coordinates_in}
 use Rattle.subset_args.specs.Limits.{Bounds}

@@ -10,10 +10,10 @@ ghost use Rattle.std.specs.Str.{all_ascii_digits};
 ghost use Rattle.subset_args.specs.declared.jobs.command.ArgsError.TheVariants.{Usage, OutOfMemory};
 
 use crate::jobs::command::ArgsError;
+use crate::words::{parts_of, tag_of, u16_of, u32_of};
 use std::alloc::{AllocError, Global};
 use subsetter_base::Tag;
 use subsetter_variation::rounding::nearest;
-use subsetter_words::{parts_of, tag_of, u16_of, u32_of};
 
 /// A number without a sign: so many halves of a 65536th, and whether there is more.
 #[derive(Clone, Copy)]

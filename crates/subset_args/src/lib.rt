@@ -19,6 +19,7 @@ mod mistakes;
 mod nearest;
 mod options;
 mod texts;
+mod words;
 
 pub use coordinates::read_coordinates;
 pub use jobs::command::{ArgsError, Command, Glyphs, Job, PdfJob, Position, Topic};

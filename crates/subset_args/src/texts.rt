@@ -3,7 +3,7 @@
 use crate::mistakes::mistake::{Mistake, Wrong};
 use crate::nearest::{Remedy, remedy_of};
 use std::fmt;
-use subsetter_words::plain;
+use subset_lines::characters::plain;
 
 /// What a list of glyphs may have.
 pub const PARTS_EXPECTED: &str = "expected: numbers to 65535 and ranges as 36-38, or * alone";

@@ -1,3 +1,4 @@
+pub mod Characters
 pub mod Text
 pub mod Lines
 pub mod Objects

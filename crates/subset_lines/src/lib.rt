@@ -9,6 +9,7 @@
 //! ```
 #![tactic(auto)]
 
+pub mod characters;
 mod entry;
 mod faces;
 mod fixed;

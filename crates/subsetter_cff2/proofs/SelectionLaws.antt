@@ -1,5 +1,4 @@
 -- Which font dict a glyph has (OpenType, "CFF2": "FDSelect").
-pub mod AskedSteps
 pub mod BlockSteps
 pub mod Halves
 pub mod RangeSteps

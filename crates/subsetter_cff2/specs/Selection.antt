@@ -1,5 +1,4 @@
 -- Which font dict a glyph has (OpenType, "CFF2": "FDSelect").
-pub mod RequestedDicts
 pub mod Select
 pub mod SelectSearch
 pub mod SelectSearchView

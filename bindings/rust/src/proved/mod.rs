@@ -50,8 +50,6 @@ pub mod pdf_font;
 #[cfg(feature = "variable-fonts")]
 pub mod pdf_glyphs;
 #[cfg(feature = "variable-fonts")]
-pub mod pdf_moved;
-#[cfg(feature = "variable-fonts")]
 pub mod pdf_names;
 #[cfg(feature = "variable-fonts")]
 pub mod pdf_objects;
@@ -98,5 +96,3 @@ pub mod subsetter_type2;
 pub mod subsetter_variable;
 #[cfg(feature = "variable-fonts")]
 pub mod subsetter_variation;
-#[cfg(feature = "program")]
-pub mod subsetter_words;

@@ -51,9 +51,6 @@ flags_by post os2 italic = 4 + flag (is_fixed post) 1 + flag (has_serifs os2) 2 
 abbrev pub is_italic : Option (List ℕ) → Option (List ℕ) → ℤ → Bool
 is_italic os2 head angle = is_slanted os2 head || not (int_eq angle (pos 0))
 
-abbrev pub flags_of : Option (List ℕ) → Option (List ℕ) → Option (List ℕ) → ℤ → ℕ
-flags_of post os2 head angle = flags_by post os2 (is_italic os2 head angle)
-
 -- Symbolic is set, and Nonsymbolic, 32, isn't
 pub record IsFlags (n : ℕ) : Type 0 where
   pub symbolic : has_bit n 2 ≡ true

@@ -2,7 +2,7 @@
 
 ghost use Rattle.std.specs.Prelude.{◌≡◌};
 ghost use Rattle.std.specs.Option.{option_copied};
-ghost use Rattle.pdf_values.specs.Looks.Flags.{is_fixed, has_serifs, is_script, is_slanted, is_italic, flag, flags_by, flags_of, is_serif_class, is_serif_face, is_script_face, IsFlags};
+ghost use Rattle.pdf_values.specs.Looks.Flags.{is_fixed, has_serifs, is_script, is_slanted, is_italic, flag, flags_by, is_serif_class, is_serif_face, is_script_face, IsFlags};
 
 use crate::fields::{has_bit, sets_bit};
 use subsetter_sfnt::fields::head::mac_style;
@@ -103,12 +103,4 @@ pub fn is_italic(os2: Option<&[u8]>, head: Option<&[u8]>, angle: i32) -> bool
     ensures { result ≡ is_italic (option_copied os2.entry) (option_copied head.entry) angle }
 {
     is_slanted(os2, head) || angle != 0
-}
-
-/// Flags of a font whose ItalicAngle is this.
-pub fn flags_of(post: Option<&[u8]>, os2: Option<&[u8]>, head: Option<&[u8]>, angle: i32) -> u32
-    ensures value { result ≡ flags_of (option_copied post.entry) (option_copied os2.entry) (option_copied head.entry) angle }
-    ensures kind { IsFlags result }
-{
-    flags_by(post, os2, is_italic(os2, head, angle))
 }

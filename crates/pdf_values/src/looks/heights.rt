@@ -1,13 +1,16 @@
 //! Ascent, Descent, CapHeight and XHeight (ISO 32000-1, Table 122), by `hhea`, `OS/2` and `head` (OpenType, "hhea",
-//! "OS/2", "head").
+//! "OS/2", "head"), with what `MVAR` says of a font that is moved ("MVAR").
 
-ghost use Rattle.std.specs.Prelude.{◌≡◌, ◌<◌, ◌≤◌, ◌^◌, ◌*◌, IfSome, unsigned_abs, pos, ◌≤ℤ◌};
-ghost use Rattle.std.specs.Option.{option_copied, option_and_then, option_map, unwrap_or};
+ghost use Rattle.std.specs.Prelude.{◌≡◌, ◌<◌, ◌≤◌, ◌^◌, ◌*◌, IfSome, codes, unsigned_abs, pos, ◌≤ℤ◌};
+ghost use Rattle.std.specs.Option.{option_copied, option_and_then, option_map, option_or, unwrap_or};
 ghost use Rattle.pdf_values.specs.Rounding.{thousandths};
-ghost use Rattle.pdf_values.specs.Looks.Heights.{counted, line, horizontal_line, typographic_line, windows_line, box_line, uses_typographic, first_line, line_of, above_0, height, descent_of, heights_of, IsSmall};
+ghost use Rattle.pdf_values.specs.Looks.Heights.{counted, line, horizontal_line, typographic_line, windows_line, box_line, uses_typographic, first_line, text_line, clip_line, source_line, first_moved, other_line, line_of, above_0, height, descent_of, heights_by, heights_of, IsSmall};
+ghost use Rattle.pdf_values.specs.Movement.{movement_view};
 
 use crate::fields::sets_bit;
+use crate::movement::{Movement, varied};
 use crate::rounding::thousandths;
+use subsetter_base::Tag;
 use subsetter_sfnt::fields::head::{y_max, y_min};
 use subsetter_sfnt::fields::hhea::{ascender, descender};
 use subsetter_sfnt::fields::os2::{
@@ -45,7 +48,7 @@ fn counted(ascent: i32, descent: i32) -> Option<Line>
 }
 
 /// The line of two signed fields.
-pub fn line_in(ascent: Option<i16>, descent: Option<i16>) -> Option<Line>
+fn line_in(ascent: Option<i16>, descent: Option<i16>) -> Option<Line>
     ensures value { result ≡ line ascent descent }
     ensures small { IfSome result IsSmall }
 {
@@ -55,7 +58,7 @@ pub fn line_in(ascent: Option<i16>, descent: Option<i16>) -> Option<Line>
 }
 
 /// The line that Windows clips to: usWinAscent, and usWinDescent, which is counted downwards.
-pub fn windows_line(os2: Option<&[u8]>) -> Option<Line>
+fn windows_line(os2: Option<&[u8]>) -> Option<Line>
     ensures value { result ≡ windows_line (option_copied os2.entry) }
     ensures small { IfSome result IsSmall }
 {
@@ -65,7 +68,7 @@ pub fn windows_line(os2: Option<&[u8]>) -> Option<Line>
 }
 
 /// The line of `hhea`, unless the typographic one is to be used (fsSelection, bit 7, USE_TYPO_METRICS).
-pub fn first_line(hhea: Option<&[u8]>, os2: Option<&[u8]>) -> Option<Line>
+fn first_line(hhea: Option<&[u8]>, os2: Option<&[u8]>) -> Option<Line>
     ensures value { result ≡ first_line (option_copied hhea.entry) (option_copied os2.entry) }
     ensures small { IfSome result IsSmall }
 {
@@ -75,31 +78,97 @@ pub fn first_line(hhea: Option<&[u8]>, os2: Option<&[u8]>) -> Option<Line>
     line_in(ascender(hhea), descender(hhea))
 }
 
-/// The first line that is said.
-fn line_of(hhea: Option<&[u8]>, os2: Option<&[u8]>, head: Option<&[u8]>) -> Line
-    ensures value { result ≡ line_of (option_copied hhea.entry) (option_copied os2.entry) (option_copied head.entry) }
+/// The line of `hhea` or the typographic one, with what it varies by.
+fn text_line(movement: Option<Movement<'_>>, line: Line) -> Line
+    requires small { IsSmall line }
+    ensures value { result ≡ text_line (option_map movement_view movement.entry) line }
     ensures small { IsSmall result }
 {
-    if let Some(line) = first_line(hhea, os2) {
-        return line;
-    }
-    if let Some(line) = line_in(s_typo_ascender(os2), s_typo_descender(os2)) {
-        return line;
-    }
-    if let Some(line) = windows_line(os2) {
-        return line;
-    }
-    if let Some(line) = line_in(y_max(head), y_min(head)) {
-        return line;
-    }
     Line {
-        ascent: 0,
-        descent: 0,
+        ascent: varied(movement, Tag::new(b"hasc"), line.ascent),
+        descent: varied(movement, Tag::new(b"hdsc"), line.descent),
+    }
+}
+
+/// The line that Windows clips to, with what it varies by.
+fn clip_line(movement: Option<Movement<'_>>, line: Line) -> Line
+    requires small { IsSmall line }
+    ensures value { result ≡ clip_line (option_map movement_view movement.entry) line }
+    ensures small { IsSmall result }
+{
+    Line {
+        ascent: varied(movement, Tag::new(b"hcla"), line.ascent),
+        descent: -varied(movement, Tag::new(b"hcld"), -line.descent),
+    }
+}
+
+/// The line of `hhea`, else the typographic one.
+#[tactic(auto, unfolding(crate::specs::Looks::Heights::source_line))]
+fn source_line(hhea: Option<&[u8]>, os2: Option<&[u8]>) -> Option<Line>
+    ensures value { result ≡ source_line (option_copied hhea.entry) (option_copied os2.entry) }
+    ensures small { IfSome result IsSmall }
+{
+    match first_line(hhea, os2) {
+        Some(line) => Some(line),
+        None => line_in(s_typo_ascender(os2), s_typo_descender(os2)),
+    }
+}
+
+/// The line of `hhea`, else the typographic one, with what it varies by.
+#[tactic(auto, unfolding(crate::specs::Looks::Heights::first_moved))]
+fn first_moved(
+    movement: Option<Movement<'_>>,
+    hhea: Option<&[u8]>,
+    os2: Option<&[u8]>,
+) -> Option<Line>
+    ensures value { result ≡ first_moved (option_map movement_view movement.entry) (option_copied hhea.entry) (option_copied os2.entry) }
+    ensures small { IfSome result IsSmall }
+{
+    let line = source_line(hhea, os2)?;
+    Some(text_line(movement, line))
+}
+
+/// The line that Windows clips to, with what it varies by, else the box of `head`.
+#[tactic(auto, unfolding(crate::specs::Looks::Heights::other_line))]
+fn other_line(
+    movement: Option<Movement<'_>>,
+    os2: Option<&[u8]>,
+    head: Option<&[u8]>,
+) -> Option<Line>
+    ensures value { result ≡ other_line (option_map movement_view movement.entry) (option_copied os2.entry) (option_copied head.entry) }
+    ensures small { IfSome result IsSmall }
+{
+    match windows_line(os2) {
+        Some(line) => Some(clip_line(movement, line)),
+        None => line_in(y_max(head), y_min(head)),
+    }
+}
+
+/// The first line that is said, with what it varies by.
+#[tactic(auto, unfolding(crate::specs::Looks::Heights::line_of))]
+fn line_of(
+    movement: Option<Movement<'_>>,
+    hhea: Option<&[u8]>,
+    os2: Option<&[u8]>,
+    head: Option<&[u8]>,
+) -> Line
+    ensures value { result ≡ line_of (option_map movement_view movement.entry) (option_copied hhea.entry) (option_copied os2.entry) (option_copied head.entry) }
+    ensures small { IsSmall result }
+{
+    if let Some(line) = first_moved(movement, hhea, os2) {
+        return line;
+    }
+    match other_line(movement, os2, head) {
+        Some(line) => line,
+        None => Line {
+            ascent: 0,
+            descent: 0,
+        },
     }
 }
 
 /// A height, if it is above 0.
-pub fn above_0(height: Option<i16>) -> Option<i32>
+fn above_0(height: Option<i16>) -> Option<i32>
     ensures value { result ≡ option_and_then above_0 height }
     ensures small { IfSome result (λ v. unsigned_abs v ≤ 2 ^ 16) }
 {
@@ -110,13 +179,19 @@ pub fn above_0(height: Option<i16>) -> Option<i32>
     None
 }
 
-/// A height that is said, else the top of a glyph.
-fn height(said: Option<i16>, top: Option<i16>) -> Option<i32>
-    ensures value { result ≡ height said top }
+/// A height that is said, with what it varies by, else the top of a glyph.
+#[tactic(auto, unfolding(crate::specs::Looks::Heights::height))]
+fn height(
+    movement: Option<Movement<'_>>,
+    tag: Tag,
+    said: Option<i16>,
+    top: Option<i16>,
+) -> Option<i32>
+    ensures value { result ≡ height (option_map movement_view movement.entry) tag.0 said top }
     ensures small { IfSome result (λ v. unsigned_abs v ≤ 2 ^ 16) }
 {
     if let Some(height) = above_0(said) {
-        return Some(height);
+        return Some(varied(movement, tag, height));
     }
     above_0(top)
 }
@@ -132,7 +207,7 @@ fn descent_of(line: Line) -> i32
 }
 
 /// The height of capitals: what is stated, else Ascent.
-pub fn cap_height(height: Option<i32>, line: Line) -> i32
+fn cap_height(height: Option<i32>, line: Line) -> i32
     requires line { IsSmall line }
     requires height { IfSome height (λ v. unsigned_abs v ≤ 2 ^ 16) }
     ensures value { result ≡ unwrap_or height line.ascent }
@@ -145,7 +220,7 @@ pub fn cap_height(height: Option<i32>, line: Line) -> i32
 }
 
 /// A height in thousandths.
-pub fn in_thousandths(height: Option<i32>, units: u16) -> Option<i32>
+fn in_thousandths(height: Option<i32>, units: u16) -> Option<i32>
     requires above { 0 < units }
     requires small { IfSome height (λ v. unsigned_abs v ≤ 2 ^ 16) }
     ensures { result ≡ option_map (λ v. thousandths v units) height }
@@ -156,7 +231,7 @@ pub fn in_thousandths(height: Option<i32>, units: u16) -> Option<i32>
 
 /// Descent in thousandths.
 #[tactic(auto, using(crate::proofs::Nearest::not_above_0))]
-pub fn descent_in_thousandths(line: Line, units: u16) -> i32
+fn descent_in_thousandths(line: Line, units: u16) -> i32
     requires above { 0 < units }
     requires small { IsSmall line }
     ensures value { result ≡ thousandths (descent_of line) units }
@@ -165,9 +240,47 @@ pub fn descent_in_thousandths(line: Line, units: u16) -> i32
     thousandths(descent_of(line), u32::from(units))
 }
 
+/// Ascent in thousandths.
+fn ascent_in(line: Line, units: u16) -> i32
+    requires above { 0 < units }
+    requires small { IsSmall line }
+    ensures { result ≡ thousandths line.ascent units }
+{
+    thousandths(line.ascent, u32::from(units))
+}
+
+/// The height of capitals in thousandths.
+fn cap_in(cap: Option<i32>, line: Line, units: u16) -> i32
+    requires above { 0 < units }
+    requires line { IsSmall line }
+    requires cap { IfSome cap (λ v. unsigned_abs v ≤ 2 ^ 16) }
+    ensures { result ≡ thousandths (unwrap_or cap line.ascent) units }
+{
+    thousandths(cap_height(cap, line), u32::from(units))
+}
+
+/// All four, of a line and of what is said of capitals and of small letters.
+#[tactic(auto, unfolding(crate::specs::Looks::Heights::heights_by))]
+fn heights_by(line: Line, cap: Option<i32>, x: Option<i32>, units: u16) -> Heights
+    requires above { 0 < units }
+    requires line { IsSmall line }
+    requires cap { IfSome cap (λ v. unsigned_abs v ≤ 2 ^ 16) }
+    requires x { IfSome x (λ v. unsigned_abs v ≤ 2 ^ 16) }
+    ensures value { result ≡ heights_by line cap x units }
+    ensures below { result.descent ≤ℤ pos 0 }
+{
+    Heights {
+        ascent: ascent_in(line, units),
+        descent: descent_in_thousandths(line, units),
+        cap_height: cap_in(cap, line, units),
+        x_height: in_thousandths(x, units),
+    }
+}
+
 /// All four, of a font with so many units to the em. The tops are those of "H" and "x" in these units, if the caller
 /// knows them: they stand for heights that `OS/2` doesn't say.
 pub fn heights_of(
+    movement: Option<Movement<'_>>,
     hhea: Option<&[u8]>,
     os2: Option<&[u8]>,
     head: Option<&[u8]>,
@@ -176,15 +289,11 @@ pub fn heights_of(
     units: u16,
 ) -> Heights
     requires { 0 < units }
-    ensures value { result ≡ heights_of (option_copied hhea.entry) (option_copied os2.entry) (option_copied head.entry) cap_top x_top units }
+    ensures value { result ≡ heights_of (option_map movement_view movement.entry) (option_copied hhea.entry) (option_copied os2.entry) (option_copied head.entry) cap_top x_top units }
     ensures below { result.descent ≤ℤ pos 0 }
 {
-    let line = line_of(hhea, os2, head);
-    let capital = cap_height(height(s_cap_height(os2), cap_top), line);
-    Heights {
-        ascent: thousandths(line.ascent, u32::from(units)),
-        descent: descent_in_thousandths(line, units),
-        cap_height: thousandths(capital, u32::from(units)),
-        x_height: in_thousandths(height(sx_height(os2), x_top), units),
-    }
+    let line = line_of(movement, hhea, os2, head);
+    let cap = height(movement, Tag::new(b"cpht"), s_cap_height(os2), cap_top);
+    let x = height(movement, Tag::new(b"xhgt"), sx_height(os2), x_top);
+    heights_by(line, cap, x, units)
 }

@@ -1,13 +1,17 @@
 //! How bold a font is: FontWeight and StemV (ISO 32000-1, Table 122), by `OS/2` and `head` (OpenType, "OS/2",
-//! usWeightClass).
+//! usWeightClass), or by the coordinate on `wght` of a font that is moved.
 
 ghost use Rattle.std.specs.Prelude.{◌≡◌, ◌≤◌, ◌%◌, ◌*◌};
-ghost use Rattle.std.specs.Option.{option_copied};
-ghost use Rattle.pdf_values.specs.Looks.Weight.{in_hundreds, class_weight, style_weight, weight_of, font_weight, stem_of_weight, stem_v};
+ghost use Rattle.std.specs.Option.{option_copied, option_map};
+ghost use Rattle.pdf_values.specs.Looks.Weight.{in_hundreds, class_weight, style_weight, weight_of, weight_in, weight_by, weight_at, font_weight, stem_of_weight, stem_v};
+ghost use Rattle.pdf_values.specs.Movement.{movement_view};
 
 use crate::fields::sets_bit;
+use crate::movement::{Movement, coordinate_on};
+use subsetter_base::Tag;
 use subsetter_sfnt::fields::head::mac_style;
 use subsetter_sfnt::fields::os2::us_weight_class;
+use subsetter_variation::rounding::nearest;
 
 /// Old fonts count from 1 to 9.
 fn in_hundreds(class: u16) -> u16
@@ -38,7 +42,7 @@ fn style_weight(head: Option<&[u8]>) -> u16
 }
 
 /// The weight that `OS/2` says, else bold or regular, as `head` says: from 1 to 1000.
-pub fn weight_of(os2: Option<&[u8]>, head: Option<&[u8]>) -> u16
+fn weight_of(os2: Option<&[u8]>, head: Option<&[u8]>) -> u16
     ensures value { result ≡ weight_of (option_copied os2.entry) (option_copied head.entry) }
     ensures least { 1 ≤ result }
     ensures most { result ≤ 1000 }
@@ -49,6 +53,37 @@ pub fn weight_of(os2: Option<&[u8]>, head: Option<&[u8]>) -> u16
         }
     }
     style_weight(head)
+}
+
+/// A number as a weight, from 1 to 1000.
+fn weight_in(n: i64) -> u16
+    ensures value { result ≡ weight_in n }
+    ensures least { 1 ≤ result }
+    ensures most { result ≤ 1000 }
+{
+    if n <= 1 {
+        return 1;
+    }
+    if n >= 1000 {
+        return 1000;
+    }
+    n as u16
+}
+
+/// The weight: the coordinate on `wght`, where the font has this axis.
+pub(crate) fn weight_at(
+    movement: Option<Movement<'_>>,
+    os2: Option<&[u8]>,
+    head: Option<&[u8]>,
+) -> u16
+    ensures value { result ≡ weight_at (option_map movement_view movement.entry) (option_copied os2.entry) (option_copied head.entry) }
+    ensures least { 1 ≤ result }
+    ensures most { result ≤ 1000 }
+{
+    match coordinate_on(movement, Tag::new(b"wght")) {
+        Some(coordinate) => weight_in(nearest(i64::from(coordinate), 65536)),
+        None => weight_of(os2, head),
+    }
 }
 
 /// FontWeight: the nearest hundred from 100 to 900.

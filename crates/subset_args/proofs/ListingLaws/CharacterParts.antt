@@ -3,7 +3,7 @@ use Rattle.std.proofs.Common.{◌≡◌, ℕ, suc, ◌+◌, ◌<◌, List, ◌�
 use Rattle.std.specs.Borrow.{Bor}
 use Rattle.std.specs.Option.{option_map, option_and_then}
 use Rattle.subset_args.specs.Listing.Characters.{part_characters, parts_characters}
-use Rattle.subsetter_words.proofs.Numbers.{texts}
+use Rattle.subset_args.proofs.WordLaws.{texts}
 
 one_more : (o q : Option (List ℕ)) (old new : List ℕ) (total : Option (List ℕ)) → option_map (λ more. old ++ more) o ≡ Some new → option_map (λ more. old ++ more) (option_and_then (λ found. option_map (λ more. found ++ more) q) o) ≡ total → option_map (λ more. new ++ more) q ≡ total
 one_more (Some found) (Some more) old new total h t =

@@ -3,7 +3,7 @@ use Rattle.std.specs.Prelude.{ℕ, zero, suc, ◌+◌, ◌-◌, ◌==◌, ◌&&�
 use Rattle.std.specs.Option.{option_map, option_and_then}
 use Rattle.std.specs.List.{slice_split, before_first, after_first, position_or_len}
 use Rattle.std.specs.Str.{bytes_eq}
-use Rattle.subsetter_words.specs.Numbers.{number_in_bits}
+use Rattle.subset_args.specs.Words.{number_in_bits}
 
 -- a blank, a tab, a line feed or a carriage return
 abbrev pub is_blank : ℕ → Bool

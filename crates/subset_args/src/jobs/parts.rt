@@ -15,8 +15,8 @@ use crate::listing::characters::read_characters;
 use crate::listing::lists::{GlyphList, read_argument};
 use crate::options::chosen::{Chosen, PdfChoice};
 use crate::options::names::{Coding, Source};
+use crate::words::{parts_of, u16_of};
 use std::alloc::Global;
-use subsetter_words::{parts_of, u16_of};
 
 /// The glyphs of a list with a comma between each two.
 fn glyphs_of(alloc: Global, list: &str) -> Result<Vec<u16>, ArgsError>

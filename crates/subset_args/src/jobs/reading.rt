@@ -12,8 +12,8 @@ use crate::jobs::parts::{
 };
 use crate::options::chosen::Chosen;
 use crate::options::reading::{Free, Parsed, parse_free, parse_options};
+use crate::words::u32_of;
 use std::alloc::Global;
-use subsetter_words::u32_of;
 
 /// What is to be done, where standard input isn't to be read twice, and no file written twice.
 fn job_with(

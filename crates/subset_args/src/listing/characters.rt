@@ -13,8 +13,8 @@ ghost use Rattle.subset_args.specs.declared.jobs.command.ArgsError.TheVariants.{
 use crate::jobs::command::ArgsError;
 use crate::listing::few::are_few;
 use crate::listing::lists::{FileKind, GlyphList, is_blank, is_less, with_commas};
+use crate::words::parts_of;
 use std::alloc::{AllocError, Global};
-use subsetter_words::parts_of;
 
 /// The ends of a range of codes.
 #[derive(Clone, Copy)]

@@ -10,8 +10,8 @@ ghost use Rattle.subset_args.specs.declared.jobs.command.ArgsError.TheVariants.{
 
 use crate::jobs::command::ArgsError;
 use crate::listing::few::are_few;
+use crate::words::{parts_of, u16_of};
 use std::alloc::{AllocError, Global};
-use subsetter_words::{parts_of, u16_of};
 
 /// What a file or an argument requests.
 #[derive(Debug, Drop)]

@@ -12,7 +12,7 @@ use crate::mistakes::mistake::{Mistake, Wrong, mistake_at};
 use crate::options::chosen::Chosen;
 use crate::options::names::Source;
 use crate::options::values::{coding_of, holds_rights};
-use subsetter_words::{u16_of, u32_of};
+use crate::words::{u16_of, u32_of};
 
 /// The INDEX that isn't a number.
 pub fn wrong_index(word: &str) -> Option<Mistake<'_>>

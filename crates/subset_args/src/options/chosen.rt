@@ -9,7 +9,7 @@ use crate::limits::RunLimits;
 use crate::listing::lists::FileKind;
 use crate::options::names::{Coding, Setting, Source, Switch};
 use crate::options::values::{coding_of, holds_rights, limits_of};
-use subsetter_words::u32_of;
+use crate::words::u32_of;
 
 /// The options without a value that were given.
 #[derive(Clone, Copy, PartialEq, Eq, Debug)]
@@ -136,15 +136,7 @@ impl<'a> Chosen<'a> {
         }
         Some(Chosen {
             switches: self.switches.switched_on(switch),
-            limits: self.limits,
-            source: self.source,
-            at: self.at,
-            output: self.output,
-            index: self.index,
-            most_input: self.most_input,
-            pdf: self.pdf,
-            coding: self.coding,
-            is_held: self.is_held,
+            ..self
         })
     }
 
@@ -178,16 +170,8 @@ impl<'a> Chosen<'a> {
             return None;
         }
         Some(Chosen {
-            switches: self.switches,
             limits: Some(limits_of(value)?),
-            source: self.source,
-            at: self.at,
-            output: self.output,
-            index: self.index,
-            most_input: self.most_input,
-            pdf: self.pdf,
-            coding: self.coding,
-            is_held: self.is_held,
+            ..self
         })
     }
 
@@ -199,16 +183,8 @@ impl<'a> Chosen<'a> {
             return None;
         }
         Some(Chosen {
-            switches: self.switches,
-            limits: self.limits,
             source: Some(source),
-            at: self.at,
-            output: self.output,
-            index: self.index,
-            most_input: self.most_input,
-            pdf: self.pdf,
-            coding: self.coding,
-            is_held: self.is_held,
+            ..self
         })
     }
 
@@ -220,16 +196,8 @@ impl<'a> Chosen<'a> {
             return None;
         }
         Some(Chosen {
-            switches: self.switches,
-            limits: self.limits,
-            source: self.source,
             at: Some(value),
-            output: self.output,
-            index: self.index,
-            most_input: self.most_input,
-            pdf: self.pdf,
-            coding: self.coding,
-            is_held: self.is_held,
+            ..self
         })
     }
 
@@ -241,16 +209,8 @@ impl<'a> Chosen<'a> {
             return None;
         }
         Some(Chosen {
-            switches: self.switches,
-            limits: self.limits,
-            source: self.source,
-            at: self.at,
             output: Some(value),
-            index: self.index,
-            most_input: self.most_input,
-            pdf: self.pdf,
-            coding: self.coding,
-            is_held: self.is_held,
+            ..self
         })
     }
 
@@ -262,16 +222,8 @@ impl<'a> Chosen<'a> {
             return None;
         }
         Some(Chosen {
-            switches: self.switches,
-            limits: self.limits,
-            source: self.source,
-            at: self.at,
-            output: self.output,
             index: Some(u32_of(value)?),
-            most_input: self.most_input,
-            pdf: self.pdf,
-            coding: self.coding,
-            is_held: self.is_held,
+            ..self
         })
     }
 
@@ -283,16 +235,8 @@ impl<'a> Chosen<'a> {
             return None;
         }
         Some(Chosen {
-            switches: self.switches,
-            limits: self.limits,
-            source: self.source,
-            at: self.at,
-            output: self.output,
-            index: self.index,
             most_input: Some(u32_of(value)?),
-            pdf: self.pdf,
-            coding: self.coding,
-            is_held: self.is_held,
+            ..self
         })
     }
 
@@ -304,16 +248,8 @@ impl<'a> Chosen<'a> {
             return None;
         }
         Some(Chosen {
-            switches: self.switches,
-            limits: self.limits,
-            source: self.source,
-            at: self.at,
-            output: self.output,
-            index: self.index,
-            most_input: self.most_input,
             pdf: Some(value),
-            coding: self.coding,
-            is_held: self.is_held,
+            ..self
         })
     }
 
@@ -325,16 +261,8 @@ impl<'a> Chosen<'a> {
             return None;
         }
         Some(Chosen {
-            switches: self.switches,
-            limits: self.limits,
-            source: self.source,
-            at: self.at,
-            output: self.output,
-            index: self.index,
-            most_input: self.most_input,
-            pdf: self.pdf,
             coding: Some(coding_of(value)?),
-            is_held: self.is_held,
+            ..self
         })
     }
 
@@ -346,16 +274,8 @@ impl<'a> Chosen<'a> {
             return None;
         }
         Some(Chosen {
-            switches: self.switches,
-            limits: self.limits,
-            source: self.source,
-            at: self.at,
-            output: self.output,
-            index: self.index,
-            most_input: self.most_input,
-            pdf: self.pdf,
-            coding: self.coding,
             is_held: true,
+            ..self
         })
     }
 }

@@ -7,7 +7,7 @@ ghost use Rattle.subset_args.specs.Options.{coding_in, holds_rights};
 
 use crate::limits::RunLimits;
 use crate::options::names::Coding;
-use subsetter_words::{u8_of, u32_of};
+use crate::words::{u8_of, u32_of};
 
 /// How the glyphs of a PDF get codes, by a word.
 pub fn coding_of(word: &str) -> Option<Coding>

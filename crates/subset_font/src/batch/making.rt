@@ -19,6 +19,7 @@ use std::alloc::{AllocError, Global};
 use std::io::Write;
 use std::rt::Files;
 use subset_args::{Job, Plain};
+use subset_lines::characters::plain_text;
 use subset_task::batch::answers::{Answer, Object, failed};
 use subset_task::reading::read_whole;
 use subset_task::refusals::failure::{Failure, file_by, given, list_file, pdf_file};
@@ -26,7 +27,6 @@ use subset_task::run::request::{list_of, plan_of};
 use subset_task::streams::{MOST_INPUT, Target, is_to_standard_output};
 use subset_task::task::{Form, Plan};
 use subsetter::Error;
-use subsetter_words::plain_text;
 
 /// The status of a request that would write among the answers, as of wrong arguments.
 const AMONG_ANSWERS: u8 = 2;

@@ -17,21 +17,13 @@ fn within<'a>(plan: &Plan<'a>, limits: Limits) -> Plan<'a>
     ensures { result ≡ within limits plan.now }
 {
     let task = plan.task;
+    let options = Options {
+        limits,
+        ..task.options
+    };
     Plan {
-        task: Task {
-            requested: task.requested,
-            index: task.index,
-            options: Options {
-                limits,
-                extras: task.options.extras,
-            },
-            widths: task.widths,
-            form: task.form,
-            at: task.at,
-        },
-        instance: plan.instance,
-        verbose: plan.verbose,
-        pdf: plan.pdf,
+        task: Task { options, ..task },
+        ..*plan
     }
 }
 

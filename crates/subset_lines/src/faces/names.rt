@@ -9,6 +9,7 @@ ghost use Rattle.subsetter_base.specs.Bytes.{number};
 ghost use Rattle.subsetter_sfnt.specs.Fields.Name.{name_record_of};
 ghost use Rattle.subset_lines.specs.Faces.Names.{is_windows, serves, record_if, AreFirst, count_in, best_name, string_by, string_for, name_of, is_text, character_of, text_of_units, behind_instance};
 
+use crate::characters::is_plain;
 use crate::entry::Unwritten;
 use crate::text::write_text;
 use std::alloc::{AllocError, Global};
@@ -19,7 +20,6 @@ use subsetter_base::read::Reader;
 use subsetter_sfnt::fields::name::{
     COUNT, HEADER_SIZE, NAME_RECORD_SIZE, NameRecord, STORAGE_OFFSET,
 };
-use subsetter_words::is_plain;
 
 /// Which records serve.
 #[derive(Clone, Copy)]

@@ -12,7 +12,6 @@ use Rattle.pdf_codes.specs.Cmaps.Leading.{are_cids, own_cmap, pairs_of_codes, pa
 use Rattle.pdf_font.specs.PdfFont.{IsCidSetIf, IsPdfFont}
 use Rattle.pdf_font.specs.declared.font.PdfFont.{PdfFont}
 use Rattle.pdf_glyphs.specs.declared.columns.Columns.{Columns}
-use Rattle.pdf_moved.specs.Values.{weight_at}
 use Rattle.pdf_objects.specs.View.{IsDescriptorOf as IsDescriptorOfFont, IsViewOf as IsViewOfFont}
 use Rattle.pdf_objects.specs.declared.view.FontView.{FontView}
 use Rattle.pdf_source.specs.Chosen.{is_vertical}
@@ -29,7 +28,7 @@ use Rattle.pdf_text.specs.declared.cmaps.named.NamedCmap.{NamedCmap}
 use Rattle.pdf_text.specs.declared.values.Descriptor.{Descriptor}
 use Rattle.pdf_text.specs.declared.values.ProgramKind.{ProgramKind}
 use Rattle.pdf_text.specs.declared.values.ProgramKind.TheVariants.{TrueType, BareCff, OpenType}
-use Rattle.pdf_values.specs.Looks.Weight.{font_weight, weight_of as weight_said}
+use Rattle.pdf_values.specs.Looks.Weight.{font_weight, weight_at}
 use Rattle.pdf_values.specs.declared.looks.bounds.Bounds.{Bounds}
 use Rattle.pdf_values.specs.declared.descriptor.Known.{Known}
 use Rattle.subsetter_pdf_c.specs.Made.{IsDescriptorOf, IsViewOf, kind_of, unless_empty, unless_zero, weight_of}
@@ -52,8 +51,8 @@ weight_fits w = omega arith
 
 -- FontWeight is at most 1000
 weight_back : (p : Option Location) (known : Known) (find : List ℕ → Option (List ℕ)) (choice : Bounds) (settings : List (Tag × ℤ)) → weight_of (values_by p known find choice settings).font_weight ≡ (values_by p known find choice settings).font_weight
-weight_back None known find choice settings = weight_fits (weight_said (tables_of find).os2 (tables_of find).head)
-weight_back (Some p) known find choice settings = weight_fits (weight_at (movement_of find settings p) (tables_of find).os2 (tables_of find).head)
+weight_back None known find choice settings = weight_fits (weight_at None (tables_of find).os2 (tables_of find).head)
+weight_back (Some p) known find choice settings = weight_fits (weight_at (Some (movement_of find settings p)) (tables_of find).os2 (tables_of find).head)
 
 -- ---- columns
 

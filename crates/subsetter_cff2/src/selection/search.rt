@@ -4,8 +4,6 @@
 
 ghost use Rattle.std.specs.Prelude.{◌≡◌, ◌≤◌, ◌<◌, ◌^◌, ◌+◌, ◌-◌, ◌*◌, IsTrue, IfSome, None, Some};
 ghost use Rattle.std.specs.Option.{option_map};
-ghost use Rattle.subsetter_base.specs.Gives.{Gives};
-ghost use Rattle.subsetter_cff2.specs.Selection.RequestedDicts.{requested_dict, requested_dicts};
 ghost use Rattle.subsetter_cff2.specs.Selection.Select.{in_ranges, selected, width_of};
 ghost use Rattle.subsetter_cff2.specs.Selection.SelectView.{range_view};
 ghost use Rattle.subsetter_cff2.specs.Selection.SelectSearch.{AreInOrder, AreThere, AreWithin, IsWithin, range_numbered};
@@ -15,9 +13,7 @@ use crate::selection::select::{
     COUNT, FORMAT_3, FORMAT_4, RANGES, Range, WIDE_RANGES, font_dict_number, in_ranges, range_at,
     range_offset,
 };
-use std::alloc::Global;
 use std::marker::Model;
-use subsetter_base::error::Error;
 use subsetter_base::read::Reader;
 
 /// Ranges of format 3 or 4, from an offset on.
@@ -338,29 +334,4 @@ impl<'a> FontDictSelect<'a> {
             None => font_dict_number(self.bytes, self.select, glyph),
         }
     }
-}
-
-/// The number of a glyph's font dict; a glyph without one is `MalformedFont`.
-#[tactic(auto, unfolding(crate::specs::Selection::RequestedDicts::requested_dict))]
-fn requested_dict(select: &FontDictSelect<'_>, glyph: u16) -> Result<u16, Error>
-    ensures { result ≡ requested_dict select.now glyph }
-{
-    select.font_dict_number(glyph).ok_or(Error::MalformedFont)
-}
-
-/// The numbers of the font dicts of glyphs.
-#[tactic(auto, using(crate::proofs::SelectionLaws::AskedSteps::none_asked))]
-pub fn requested_dicts(
-    alloc: Global,
-    select: &FontDictSelect<'_>,
-    glyphs: &[u16],
-) -> Result<Vec<u16>, Error>
-    ensures { Gives (λ v. v.items) result (requested_dicts select.now glyphs.now) }
-{
-    let mut numbers = Vec::with_capacity(alloc, glyphs.len())?;
-    for glyph in glyphs {
-        let number = requested_dict(select, *glyph)?;
-        numbers.push(number)?;
-    }
-    Ok(numbers)
 }

@@ -3,11 +3,11 @@
 
 use crate::rattle::prelude::Vec;
 
-use crate::proved::pdf_moved::Movement;
 use crate::proved::pdf_names::axis_texts::write_axes;
 use crate::proved::pdf_names::instances::instance_name;
 use crate::proved::pdf_names::letters::prefix;
 use crate::proved::pdf_text::tag_of;
+use crate::proved::pdf_values::Movement;
 use crate::proved::subsetter_base::Error;
 use crate::rattle::alloc::Global;
 

@@ -4,7 +4,6 @@
 use crate::rattle::prelude::Vec;
 
 use crate::proved::pdf_glyphs::{box_around, HeightVariation, OutlineTables, VerticalTables};
-use crate::proved::pdf_moved::values_at;
 use crate::proved::pdf_names::name_at;
 use crate::proved::pdf_source::boxed::head_box;
 use crate::proved::pdf_source::cff::{cff_box, cff_values_by};
@@ -109,11 +108,11 @@ pub fn values_by(
     let tables = tables_of(face);
     let moving = moves(face);
     match location {
-        None => values_of(tables, known, bounds_by(moving, choice)),
-        Some(location) => values_at(
+        None => values_of(tables, known, None, bounds_by(moving, choice)),
+        Some(location) => values_of(
             tables,
             known,
-            movement_of(face, settings, location),
+            Some(movement_of(face, settings, location)),
             bounds_by(moving, Bounds::Kept),
         ),
     }

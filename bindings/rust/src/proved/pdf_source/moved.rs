@@ -4,7 +4,7 @@
 use crate::rattle::prelude::Vec;
 
 use crate::proved::pdf_cff::unless_memory;
-use crate::proved::pdf_moved::Movement;
+use crate::proved::pdf_values::Movement;
 use crate::proved::subsetter_base::{Error, Tag};
 use crate::proved::subsetter_instance::source::normalized_coordinates;
 use crate::proved::subsetter_sfnt::face::Face;

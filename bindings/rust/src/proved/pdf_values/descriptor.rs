@@ -2,10 +2,11 @@
 //! The values of a font descriptor (ISO 32000-1, Table 122) but its name.
 
 use crate::proved::pdf_values::looks::bounds::{bounds_of, Bounds, Edges, GlyphBox};
-use crate::proved::pdf_values::looks::flags::flags_of;
+use crate::proved::pdf_values::looks::flags::flags_by;
 use crate::proved::pdf_values::looks::heights::{heights_of, Heights};
-use crate::proved::pdf_values::looks::lean::italic_angle;
-use crate::proved::pdf_values::looks::weight::{font_weight, stem_v, weight_of};
+use crate::proved::pdf_values::looks::lean::{angle_at, is_italic_at};
+use crate::proved::pdf_values::looks::weight::{font_weight, stem_v, weight_at};
+use crate::proved::pdf_values::movement::Movement;
 use crate::proved::pdf_values::units::units_per_em;
 
 /// The tables that the values are read of; none where the font lacks one.
@@ -41,16 +42,24 @@ pub struct Values {
     pub font_weight: u16,
 }
 
-/// The values of a font that isn't moved along its axes.
-pub fn values_of(tables: Tables<'_>, known: Known, choice: Bounds) -> Values {
+/// The values of a font, which may be moved along its axes. FontBBox holds the glyphs that are chosen; the box of `head` is that of the
+/// font's default.
+pub fn values_of(
+    tables: Tables<'_>,
+    known: Known,
+    movement: Option<Movement<'_>>,
+    choice: Bounds,
+) -> Values {
     let units = units_per_em(tables.head);
-    let angle = italic_angle(tables.post);
-    let weight = weight_of(tables.os2, tables.head);
+    let angle = angle_at(movement, tables.post);
+    let weight = weight_at(movement, tables.os2, tables.head);
+    let is_italic = is_italic_at(movement, tables.os2, tables.head, angle);
     Values {
-        flags: flags_of(tables.post, tables.os2, tables.head, angle),
+        flags: flags_by(tables.post, tables.os2, is_italic),
         bounds: bounds_of(choice, tables.head, known.kept, units),
         italic_angle: angle,
         heights: heights_of(
+            movement,
             tables.hhea,
             tables.os2,
             tables.head,

@@ -3,6 +3,6 @@
 
 pub(crate) mod bounds;
 pub(crate) mod flags;
-pub mod heights;
+pub(crate) mod heights;
 pub(crate) mod lean;
 pub(crate) mod weight;

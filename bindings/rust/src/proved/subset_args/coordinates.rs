@@ -6,9 +6,9 @@
 use crate::rattle::prelude::Vec;
 
 use crate::proved::subset_args::jobs::command::ArgsError;
+use crate::proved::subset_args::words::{parts_of, tag_of, u16_of};
 use crate::proved::subsetter_base::Tag;
 use crate::proved::subsetter_variation::rounding::nearest;
-use crate::proved::subsetter_words::{parts_of, tag_of, u16_of};
 use crate::rattle::alloc::{AllocError, Global};
 
 /// A number without a sign: so many halves of a 65536th, and whether there is more.

@@ -3,7 +3,7 @@
 
 use crate::proved::subset_args::mistakes::mistake::{Mistake, Wrong};
 use crate::proved::subset_args::nearest::{remedy_of, Remedy};
-use crate::proved::subsetter_words::plain;
+use crate::proved::subset_lines::characters::plain;
 use crate::rattle::fmt;
 
 /// What a list of glyphs may have.

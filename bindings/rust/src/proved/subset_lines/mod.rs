@@ -9,6 +9,7 @@
 //! write_lines(&numbering, b"", &mut lines)?;         // 36 -> 1, 68 -> 2
 //! ```
 
+pub mod characters;
 mod entry;
 mod faces;
 mod fixed;

@@ -1,4 +1,4 @@
-use Rattle.std.proofs.Common.{◌≡◌, ℕ, ◌⊎◌, List, length, Result, Ok, Err, subst}
+use Rattle.std.proofs.Common.{◌≡◌, ℕ, ◌⊎◌, List, length, subst}
 use Rattle.std.specs.Prelude.{IfOk, IfErr}
 use Rattle.subsetter_base.specs.Bytes.{IsBytes}
 use Rattle.subsetter_base.specs.declared.error.Error.{Error}
@@ -7,22 +7,13 @@ use Rattle.subsetter_cff.specs.Write.Again.{AreAll}
 use Rattle.subsetter.specs.Answer.{IsTheAnswer}
 use Rattle.subsetter.specs.Limits.{token_limit, depth_limit}
 use Rattle.subsetter_sfnt.specs.Read.{as_font}
-use Rattle.subsetter_again.specs.Again.{IsTrueTypeOrCidKeyed}
-use Rattle.subsetter_again.specs.Shrink.{OfEachSource, IsShrunk, IsGivenBack}
-use Rattle.subsetter_again.proofs.Shrunk.{is_shrunk, is_given_back, no_fault_for_all}
+use Rattle.cid_embed.specs.Again.{IsTrueTypeOrCidKeyed}
+use Rattle.cid_embed.specs.Shrink.{OfEachSource, IsShrunk, IsGivenBack}
+use Rattle.cid_embed.proofs.AgainLaws.Shrunk.{for_ok, for_err, is_shrunk, is_given_back, no_fault_for_all}
 use Rattle.cid_embed.specs.Embed.{numbering, IsEmbedded, HasEmbedFault, HasNoEmbedding}
 use Rattle.cid_embed.specs.Width.{HasWidthFault}
 use Rattle.cid_embed.proofs.FewerCids.{some_numbered, unknown_cid, only_widths}
 use Rattle.cid_embed.proofs.shrinking.shrink.Goals as goal
-
--- a fact of each answer
-for_ok : {X : Type 0} (r : Result X Error) (P Q : X → Type 0) → ((x : X) → P x → Q x) → IfOk r P → IfOk r Q
-for_ok (Ok x) P Q f h = f x h
-for_ok (Err e) P Q f h = tt
-
-for_err : {X : Type 0} (r : Result X Error) (P Q : Error → Type 0) → ((e : Error) → P e → Q e) → IfErr r P → IfErr r Q
-for_err (Ok x) P Q f h = tt
-for_err (Err e) P Q f h = f e h
 
 pub returns-clause-clean : goal.returns-clause-clean
 returns-clause-clean c =

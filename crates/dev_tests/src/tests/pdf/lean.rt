@@ -1,7 +1,6 @@
-//! `pdf_moved`: Italic and ItalicAngle of a font whose default is italic, at coordinates on `ital` and `slnt`. Worked out by hand.
+//! `pdf_values`: Italic and ItalicAngle of a font whose default is italic, at coordinates on `ital` and `slnt`. Worked out by hand.
 
-use pdf_moved::{Movement, values_at};
-use pdf_values::{Bounds, Known, Tables};
+use pdf_values::{Bounds, Known, Movement, Tables, values_of};
 use std::test::*;
 use subsetter_base::Tag;
 use subsetter_variation::locations::axes::Axis;
@@ -42,7 +41,7 @@ fn lean_at<'a>(axes: &'a [Axis], settings: &'a [(Tag, i32)]) -> (u32, i32) {
         kept: None,
         stem: None,
     };
-    let values = values_at(tables, known, movement, Bounds::Font);
+    let values = values_of(tables, known, Some(movement), Bounds::Font);
     (values.flags, values.italic_angle)
 }
 

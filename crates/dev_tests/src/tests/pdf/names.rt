@@ -5,8 +5,8 @@
 mod rows;
 
 use self::rows::{FAMILIES, FVAR, NAMES, PREFIXES};
-use pdf_moved::Movement;
 use pdf_names::name_at;
+use pdf_values::Movement;
 use std::alloc::Global;
 use std::test::*;
 use subsetter_base::{Error, Tag};

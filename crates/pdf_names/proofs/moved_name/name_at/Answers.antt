@@ -1,6 +1,6 @@
 use Rattle.std.specs.Option.{option_copied}
 use Rattle.std.proofs.lemmas.Result.{IfOk-weaker}
-use Rattle.pdf_moved.specs.Movement.{movement_view}
+use Rattle.pdf_values.specs.Movement.{movement_view}
 use Rattle.pdf_names.proofs.ShortNames.{named}
 use Rattle.pdf_names.proofs.moved_name.name_at.Goals as goal
 

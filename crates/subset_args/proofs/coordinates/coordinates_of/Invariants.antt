@@ -1,7 +1,7 @@
 use Rattle.std.proofs.Common.{◌≡◌, ◌++◌, drop}
 use Rattle.std.specs.Option.{option_map}
 use Rattle.subset_args.specs.Coordinates.{coordinates_of}
-use Rattle.subsetter_words.proofs.Numbers.{texts}
+use Rattle.subset_args.proofs.WordLaws.{texts}
 use Rattle.subset_args.proofs.coordinates.coordinates_of.Given as goal
 
 abbrev pub invariant-loop-part : goal.invariant-loop-part

@@ -98,8 +98,3 @@ pub fn flags_by(post: Option<&[u8]>, os2: Option<&[u8]>, is_italic: bool) -> u32
 pub fn is_italic(os2: Option<&[u8]>, head: Option<&[u8]>, angle: i32) -> bool {
     is_slanted(os2, head) || angle != 0
 }
-
-/// Flags of a font whose ItalicAngle is this.
-pub fn flags_of(post: Option<&[u8]>, os2: Option<&[u8]>, head: Option<&[u8]>, angle: i32) -> u32 {
-    flags_by(post, os2, is_italic(os2, head, angle))
-}

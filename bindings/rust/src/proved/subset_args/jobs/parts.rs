@@ -9,7 +9,7 @@ use crate::proved::subset_args::listing::characters::read_characters;
 use crate::proved::subset_args::listing::lists::{read_argument, GlyphList};
 use crate::proved::subset_args::options::chosen::{Chosen, PdfChoice};
 use crate::proved::subset_args::options::names::{Coding, Source};
-use crate::proved::subsetter_words::{parts_of, u16_of};
+use crate::proved::subset_args::words::{parts_of, u16_of};
 use crate::rattle::alloc::Global;
 
 /// The glyphs of a list with a comma between each two.

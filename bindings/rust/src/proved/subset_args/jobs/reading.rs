@@ -9,7 +9,7 @@ use crate::proved::subset_args::jobs::parts::{
 };
 use crate::proved::subset_args::options::chosen::Chosen;
 use crate::proved::subset_args::options::reading::{parse_free, parse_options, Free, Parsed};
-use crate::proved::subsetter_words::u32_of;
+use crate::proved::subset_args::words::u32_of;
 use crate::rattle::alloc::Global;
 
 /// What is to be done, where standard input isn't to be read twice, and no file written twice.

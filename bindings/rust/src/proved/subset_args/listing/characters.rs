@@ -8,7 +8,7 @@ use crate::proved::subset_args::listing::few::are_few;
 use crate::proved::subset_args::listing::lists::{
     is_blank, is_less, with_commas, FileKind, GlyphList,
 };
-use crate::proved::subsetter_words::parts_of;
+use crate::proved::subset_args::words::parts_of;
 use crate::rattle::alloc::{AllocError, Global};
 
 /// The ends of a range of codes.

@@ -5,7 +5,7 @@ use crate::rattle::prelude::{IteratorExt, String, Vec};
 
 use crate::proved::subset_args::jobs::command::ArgsError;
 use crate::proved::subset_args::listing::few::are_few;
-use crate::proved::subsetter_words::{parts_of, u16_of};
+use crate::proved::subset_args::words::{parts_of, u16_of};
 use crate::rattle::alloc::{AllocError, Global};
 
 /// What a file or an argument requests.

@@ -10,7 +10,7 @@ use crate::proved::subset_args::mistakes::mistake::{mistake_at, Mistake, Wrong};
 use crate::proved::subset_args::options::chosen::Chosen;
 use crate::proved::subset_args::options::names::Source;
 use crate::proved::subset_args::options::values::{coding_of, holds_rights};
-use crate::proved::subsetter_words::{u16_of, u32_of};
+use crate::proved::subset_args::words::{u16_of, u32_of};
 
 /// The INDEX that isn't a number.
 pub fn wrong_index(word: &str) -> Option<Mistake<'_>> {

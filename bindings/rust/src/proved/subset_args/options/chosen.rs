@@ -5,7 +5,7 @@ use crate::proved::subset_args::limits::RunLimits;
 use crate::proved::subset_args::listing::lists::FileKind;
 use crate::proved::subset_args::options::names::{Coding, Setting, Source, Switch};
 use crate::proved::subset_args::options::values::{coding_of, holds_rights, limits_of};
-use crate::proved::subsetter_words::u32_of;
+use crate::proved::subset_args::words::u32_of;
 
 /// The options without a value that were given.
 #[derive(Clone, Copy, PartialEq, Eq, Debug)]
@@ -126,15 +126,7 @@ impl<'a> Chosen<'a> {
         }
         Some(Chosen {
             switches: self.switches.switched_on(switch),
-            limits: self.limits,
-            source: self.source,
-            at: self.at,
-            output: self.output,
-            index: self.index,
-            most_input: self.most_input,
-            pdf: self.pdf,
-            coding: self.coding,
-            is_held: self.is_held,
+            ..self
         })
     }
 
@@ -164,16 +156,8 @@ impl<'a> Chosen<'a> {
             return None;
         }
         Some(Chosen {
-            switches: self.switches,
             limits: Some(limits_of(value)?),
-            source: self.source,
-            at: self.at,
-            output: self.output,
-            index: self.index,
-            most_input: self.most_input,
-            pdf: self.pdf,
-            coding: self.coding,
-            is_held: self.is_held,
+            ..self
         })
     }
 
@@ -183,16 +167,8 @@ impl<'a> Chosen<'a> {
             return None;
         }
         Some(Chosen {
-            switches: self.switches,
-            limits: self.limits,
             source: Some(source),
-            at: self.at,
-            output: self.output,
-            index: self.index,
-            most_input: self.most_input,
-            pdf: self.pdf,
-            coding: self.coding,
-            is_held: self.is_held,
+            ..self
         })
     }
 
@@ -202,16 +178,8 @@ impl<'a> Chosen<'a> {
             return None;
         }
         Some(Chosen {
-            switches: self.switches,
-            limits: self.limits,
-            source: self.source,
             at: Some(value),
-            output: self.output,
-            index: self.index,
-            most_input: self.most_input,
-            pdf: self.pdf,
-            coding: self.coding,
-            is_held: self.is_held,
+            ..self
         })
     }
 
@@ -221,16 +189,8 @@ impl<'a> Chosen<'a> {
             return None;
         }
         Some(Chosen {
-            switches: self.switches,
-            limits: self.limits,
-            source: self.source,
-            at: self.at,
             output: Some(value),
-            index: self.index,
-            most_input: self.most_input,
-            pdf: self.pdf,
-            coding: self.coding,
-            is_held: self.is_held,
+            ..self
         })
     }
 
@@ -240,16 +200,8 @@ impl<'a> Chosen<'a> {
             return None;
         }
         Some(Chosen {
-            switches: self.switches,
-            limits: self.limits,
-            source: self.source,
-            at: self.at,
-            output: self.output,
             index: Some(u32_of(value)?),
-            most_input: self.most_input,
-            pdf: self.pdf,
-            coding: self.coding,
-            is_held: self.is_held,
+            ..self
         })
     }
 
@@ -259,16 +211,8 @@ impl<'a> Chosen<'a> {
             return None;
         }
         Some(Chosen {
-            switches: self.switches,
-            limits: self.limits,
-            source: self.source,
-            at: self.at,
-            output: self.output,
-            index: self.index,
             most_input: Some(u32_of(value)?),
-            pdf: self.pdf,
-            coding: self.coding,
-            is_held: self.is_held,
+            ..self
         })
     }
 
@@ -278,16 +222,8 @@ impl<'a> Chosen<'a> {
             return None;
         }
         Some(Chosen {
-            switches: self.switches,
-            limits: self.limits,
-            source: self.source,
-            at: self.at,
-            output: self.output,
-            index: self.index,
-            most_input: self.most_input,
             pdf: Some(value),
-            coding: self.coding,
-            is_held: self.is_held,
+            ..self
         })
     }
 
@@ -297,16 +233,8 @@ impl<'a> Chosen<'a> {
             return None;
         }
         Some(Chosen {
-            switches: self.switches,
-            limits: self.limits,
-            source: self.source,
-            at: self.at,
-            output: self.output,
-            index: self.index,
-            most_input: self.most_input,
-            pdf: self.pdf,
             coding: Some(coding_of(value)?),
-            is_held: self.is_held,
+            ..self
         })
     }
 
@@ -316,16 +244,8 @@ impl<'a> Chosen<'a> {
             return None;
         }
         Some(Chosen {
-            switches: self.switches,
-            limits: self.limits,
-            source: self.source,
-            at: self.at,
-            output: self.output,
-            index: self.index,
-            most_input: self.most_input,
-            pdf: self.pdf,
-            coding: self.coding,
             is_held: true,
+            ..self
         })
     }
 }

@@ -3,7 +3,7 @@
 
 use crate::proved::subset_args::limits::RunLimits;
 use crate::proved::subset_args::options::names::Coding;
-use crate::proved::subsetter_words::{u32_of, u8_of};
+use crate::proved::subset_args::words::{u32_of, u8_of};
 
 /// How the glyphs of a PDF get codes, by a word.
 pub fn coding_of(word: &str) -> Option<Coding> {

@@ -39,15 +39,8 @@ fn uses_streams(job: &Job) -> bool {
 /// Options without a value, and `--json` beside them.
 fn with_json(switches: Switches) -> Switches {
     Switches {
-        widths: switches.widths,
-        no_hinting: switches.no_hinting,
-        no_names: switches.no_names,
-        no_glyph_names: switches.no_glyph_names,
-        small: switches.small,
         json: true,
-        quiet: switches.quiet,
-        verbose: switches.verbose,
-        vertical: switches.vertical,
+        ..switches
     }
 }
 
@@ -58,17 +51,7 @@ fn with_answer(alloc: Global, job: Job) -> Result<Job, Answer> {
         return Err(failed(WRONG, String::from_str(alloc, text)));
     }
     let switches = with_json(job.switches);
-    Ok(Job {
-        input: job.input,
-        output: job.output,
-        index: job.index,
-        most_input: job.most_input,
-        glyphs: job.glyphs,
-        limits: job.limits,
-        switches,
-        position: job.position,
-        pdf: job.pdf,
-    })
+    Ok(Job { switches, ..job })
 }
 
 /// What words request, or why they request nothing.

@@ -1,8 +1,8 @@
 use Rattle.std.proofs.Common.{◌≡◌, ◌++◌, map, drop}
 use Rattle.std.specs.Option.{option_map}
-use Rattle.subsetter_words.specs.Numbers.{number_in_bits}
+use Rattle.subset_args.specs.Words.{number_in_bits}
 use Rattle.subset_args.specs.Request.{all_some, glyph_list}
-use Rattle.subsetter_words.proofs.Numbers.{texts}
+use Rattle.subset_args.proofs.WordLaws.{texts}
 use Rattle.subset_args.proofs.jobs.parts.glyphs_of.Given as goal
 
 abbrev pub invariant-loop-part : goal.invariant-loop-part

@@ -1,7 +1,7 @@
 use Rattle.std.proofs.Common.{◌≡◌, ◌++◌, drop}
 use Rattle.std.specs.Option.{option_map}
 use Rattle.subset_args.specs.Listing.Characters.{parts_characters}
-use Rattle.subsetter_words.proofs.Numbers.{texts}
+use Rattle.subset_args.proofs.WordLaws.{texts}
 use Rattle.subset_args.proofs.listing.characters.characters_in.Given as goal
 
 abbrev pub invariant-loop-part : goal.invariant-loop-part

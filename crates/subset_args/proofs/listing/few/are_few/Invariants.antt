@@ -1,7 +1,7 @@
 use Rattle.std.proofs.Common.{◌≡◌, length}
 use Rattle.subset_args.specs.Listing.Few.{ends_by}
 use Rattle.subset_args.specs.Listing.Lists.{fits}
-use Rattle.subsetter_words.proofs.Numbers.{texts}
+use Rattle.subset_args.proofs.WordLaws.{texts}
 use Rattle.subset_args.proofs.listing.few.are_few.Given as goal
 
 abbrev pub invariant-loop-rest : goal.invariant-loop-rest

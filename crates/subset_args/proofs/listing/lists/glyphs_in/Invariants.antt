@@ -1,7 +1,7 @@
 use Rattle.std.proofs.Common.{◌≡◌, ◌++◌, drop}
 use Rattle.std.specs.Option.{option_map}
 use Rattle.subset_args.specs.Listing.Lists.{parts_glyphs}
-use Rattle.subsetter_words.proofs.Numbers.{texts}
+use Rattle.subset_args.proofs.WordLaws.{texts}
 use Rattle.subset_args.proofs.listing.lists.glyphs_in.Given as goal
 
 abbrev pub invariant-loop-part : goal.invariant-loop-part

@@ -3,7 +3,7 @@ use Rattle.std.specs.Option.{option_and_then}
 use Rattle.std.specs.List.{list_any, position_or_len}
 use Rattle.std.proofs.lemmas.List.Folds.{list_any_none}
 use Rattle.std.proofs.lemmas.List.Sums.{fails_before_first}
-use Rattle.subsetter_words.specs.Numbers.{number_in_bits}
+use Rattle.subset_args.specs.Words.{number_in_bits}
 use Rattle.subset_args.specs.Limits.{front, rest, limits_from, limits_in}
 use Rattle.subset_args.proofs.options.values.limits_of.Goals as goal
 

@@ -1,0 +1,5 @@
+use Rattle.cid_embed.proofs.AgainLaws.Joined as joined
+use Rattle.cid_embed.proofs.laws.is_canonical.Goals as goal
+
+pub returns : goal.returns
+returns c = joined.is_canonical

@@ -1,3 +1,0 @@
-pub mod CidKeyed
-pub mod Again
-pub mod Shrink
