@@ -111,10 +111,9 @@ def wasm():
 
 def by_wasm(module, faces, report, room):
     """Compares the WebAssembly module's answers with the library's."""
-    calls, name = build.Calls(), os.path.join(room, "wasm")
+    calls = build.Calls()
     lists = [(path, index, sorted({count * k // 80 for k in range(80)})) for path, index in faces for count in [fonts.glyph_count(path, index)]]
-    with open(name, "w", encoding="utf-8") as file:
-        file.writelines(f"{path}\t{index}\t{','.join(map(str, glyphs))}\n" for path, index, glyphs in lists)
+    name = fonts.put(os.path.join(room, "wasm"), "".join(f"{path}\t{index}\t{','.join(map(str, glyphs))}\n" for path, index, glyphs in lists))
     ran = subprocess.run(["node", os.path.join(build.DRIVERS, "wasm.mjs"), module, name], stdout=subprocess.PIPE, text=True)
     said = ran.stdout.splitlines()
     if ran.returncode or len(said) != len(lists):

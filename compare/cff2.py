@@ -1,4 +1,4 @@
-"""Static fonts that the program makes of CFF2 fonts at coordinates, beside fontTools, HarfBuzz and FreeType: cff2 --places N --glyphs N --copies N
+"""Static fonts that the program makes of CFF2 fonts at coordinates, beside fontTools and HarfBuzz: cff2 --places N --glyphs N --copies N
 
 The fonts are those of lib/cff2_fonts.py and those with the table `CFF2` in FONTS (fonts-cantarell, `prebuilt`, and harfbuzz, `test/subset/data/fonts`,
 have some). Each is taken at the default and at N places, for N glyphs (0: all; of more than 5,000 glyphs 300), in random order. Of each new font
@@ -9,11 +9,9 @@ have some). Each is taken at the default and at N places, for N glyphs (0: all; 
     advance       hmtx has HarfBuzz's advance, and what a second reading of HVAR comes to (lib/reading.py); the bearing is the source's
     width         the charstring's width, as fontTools reads it by the private dict, is that of hmtx
     private dict  the glyph's has the operators that CFF and CFF2 share, each edge and number at the location rounded once
-    FreeType      its hinted outline at 16 pixels an em is within a pixel of the source's there, but for one of a thousand glyphs, and one of a hundred
-                  of the made fonts, whose stems are random: half a unit of rounding decides where FreeType puts some stems
     file          OTTO; the tables CFF, head, hhea, hmtx, maxp, name and post (those two where the source has them), with their checksums; CID-keyed
                   Adobe Identity with the source's scale, head's box, no subroutines and no unused font dict; head is the source's, and hhea
-                  and post are what MVAR makes of theirs
+                  and post are what MVAR makes of theirs; FreeType hints each glyph, where it does so of the source
 
 N copies of the fonts of at most 1 MB are damaged in CFF2, fvar, avar or HVAR, each at a random place and for 12 glyphs: the program has to answer what
 HarfBuzz draws of the copy (or, where that goes on otherwise, the second reading; or else a font that FreeType opens as little as the copy), or to refuse it
@@ -50,6 +48,6 @@ def main():
     counts = reports.total(found)
     kinds = min(counts[kind] for kind in cff2_whole.KINDS)
     reports.end(found, kinds and counts["drawing"] + counts["copies"],
-                f"{len(faces)} faces, {counts['file']} new fonts, {counts['drawing']} glyphs, of which FreeType hints {counts['hinted otherwise']} otherwise, {counts['too wide']} refused for an advance past 32767; "
+                f"{len(faces)} faces, {counts['file']} new fonts, {counts['drawing']} glyphs, {counts['too wide']} refused for an advance past 32767; "
                 f"{counts['copies']} damaged copies, {counts['refused']} refused, drawn as by HarfBuzz {counts['drawn as by HarfBuzz']} glyphs, "
                 f"by the second reading {counts['drawn as by the second reading']}, opened by nobody {counts['opened by nobody']}")

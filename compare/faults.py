@@ -2,12 +2,11 @@
 
 The program runs in its main ways (lib/fault_runs.py). strace has one of its system calls fail. What docs/CLI.md promises is demanded of each run: a
 status of its table, a message that names the file and the system's reason, OUT and the PDF as they were or whole, with their rights, and no other
-file. (tests/test_files.py has standard streams, links, owners and rights.)
+file. (tests/test_files.py has standard streams, links, owners, rights and limits on the size of files.)
 
     calls     each call gives each of its usual errors (also those of a quota, of a disk that is full or read-only, and of a signal),
               and each such call from there on; a write takes no byte
     signals   at each call the program gets a signal: OUT is as it was or whole, and so it is after another run; not in the short form
-    sizes     files get no larger than so many bytes
     disk      OUT is on a disk of so many pages, or of so many files, and on one that may be read alone (mounted in a namespace)
 
 --only takes what has this word in its name, as `calls:OUT-over-a-file`. Quotas can't be set everywhere: EDQUOT is injected.
@@ -16,17 +15,15 @@ import ctypes
 import dataclasses
 import errno
 import os
-import resource
 import shutil
 import signal
 import subprocess
-import sys
 import tempfile
 
 import build
 import fault_rules as rules
 import report as reports
-from fault_runs import WAYS, Room, Trouble, needs
+from fault_runs import WAYS, Room, Trouble
 
 
 def demand(report, holds, what, why):
@@ -40,11 +37,6 @@ def note(report, end):
 
 
 # ---- each call fails
-
-# The calls that a way has to make, of which some are in each C library.
-WANTED = {"a new OUT": [rules.READING, rules.WRITING[:1], ("fdatasync", "fsync"), rules.RENAMING, ("close",)],
-          "OUT over a file": [("link", "linkat"), ("fchmod", "chmod", "fchmodat")], "OUT of another group": [rules.REMOVING]}
-
 
 def done_to(step):
     """What is done to a step: how, and with which number."""
@@ -68,8 +60,6 @@ class Base:
         demand(report, early is None, "at first", f"{early} gets its name before its bytes are on the disk")
         demand(report, not (is_beside and way.links), "at first", "a file is made beside it")
         demand(report, len(self.roles.looks) == len(way.written), "at first", f"what is looked at before it is written: {self.roles.looks}")
-        for names in WANTED.get(way.name, []):
-            demand(report, any(it.call in names for it in self.got.steps), "at first", f"there is no call of {' or '.join(names)}")
 
     def inject(self, at, how, number):
         """What is done to a call, in the words of strace."""
@@ -148,33 +138,6 @@ def check_signals(report, room, way):
             demand(report, (again.status, again.out) == (way.status, base.got.out) and all(same_file(again.files[it], base.got.files[it]) for it in way.written), f"{what}, and another run", again)
 
 
-# ---- files that get no larger
-
-def limited(number, is_ignored):
-    """What a process is given whose files get no larger than so many bytes."""
-    def limit():
-        signal.signal(signal.SIGXFSZ, signal.SIG_IGN if is_ignored else signal.SIG_DFL)
-        resource.setrlimit(resource.RLIMIT_FSIZE, (number, number))
-    return limit
-
-
-def check_sizes(report, room, way):
-    base, unwritten = room.run_alone(way), {f"cannot write {it}" for it in way.written}
-    most = max(len(base.files[it].data) for it in way.written)
-    for number in (0, 1, 100, 4096, most - 1, most, most + 1):
-        before = room.lay(way)
-        got = room.run_limited(way, limited(number, True))
-        end = rules.ended(way, before, base, got, errno.EFBIG)
-        note(report, end or "wrong")
-        demand(report, end in (unwritten if number < most else {"whole"}), f"files of {number} bytes", f"{end} {got}")
-        before = room.lay(way)
-        got = room.run_limited(way, limited(number, False))
-        # (a copy of just so many bytes looks for more behind them, and gets the signal for that: by then OUT is whole)
-        is_well = got.signal == signal.SIGXFSZ if number < most else got.signal is None or number == most
-        note(report, "whole" if got.signal is None else "ended by a signal")
-        demand(report, is_well and new_files(way, before, base, got) is not None, f"files of {number} bytes, and a signal", got)
-
-
 # ---- a disk
 
 ON_DISK = ("a new OUT", "OUT over a file", "OUT over IN", "a PDF and OUT")
@@ -227,8 +190,7 @@ def check_disk(report, room, way):
 
 # The ways of the short form; and each part, with the ways that it takes: first those of few runs.
 SHORT = ("a new OUT", "OUT over a file", "OUT over IN", "a PDF and OUT", "OUT to standard output")
-PARTS = {"disk": (check_disk, lambda way: way.name in ON_DISK), "sizes": (check_sizes, lambda way: way.written and not way.in_place and way.status == 0),
-         "signals": (check_signals, lambda way: way.name in SIGNALLED), "calls": (check_calls, lambda way: None not in way.groups.values())}
+PARTS = {"disk": (check_disk, lambda way: way.name in ON_DISK), "signals": (check_signals, lambda way: way.name in SIGNALLED), "calls": (check_calls, lambda way: None not in way.groups.values())}
 
 
 def task(program, part, way):
@@ -249,9 +211,7 @@ def task(program, part, way):
 
 
 def main():
-    words, lacking, program = reports.words(), needs(), build.program()
-    if lacking:
-        sys.exit(f"faults: there is no {lacking}")
+    words, program = reports.words(), build.program()
     ways = [it for it in WAYS if not words.short or it.name in SHORT]
     tasks = [(program, part, way) for part, (_, takes) in PARTS.items() for way in ways if takes(way) and words.only in f"{part}:{way.name}".replace(" ", "-") and not (words.short and part == "signals")]
     # (processes that have mounted a disk can't give files to groups any more)

@@ -1,16 +1,18 @@
-"""Fonts, lists and batches that ask for as much work as they can: does it grow as input and answer do? hostile --only WORD
+"""Fonts that ask for as much work as they can: does it grow as input and answer do? hostile --only WORD
 
-Each family is made at half its size, at its size and at twice that (--short halves these): what takes a call, or a run of the program, of a processor, and
-what does it hold at most? A family fails where from half to twice the size the time, or the bytes held, for each byte of input and answer grow by more than
+Each family is made at half its size, at its size and at twice that (--short halves these): what takes a call of the C library of a processor, and what does
+it hold at most? (tests/test_hostile.py has lists, batches and names of the program.) A family fails where from half to twice the size the time, or the bytes held, for each byte of input and answer grow by more than
 GROWTH, where it takes more than SECONDS and 20 microseconds for each byte, or holds more than HELD and 64 bytes for each byte, and where it doesn't end. The
 families of BOUND run as many tokens or steps as the limits let them; these have to end.
 """
-import json
 import os
 import subprocess
+import sys
 import tempfile
 
-import build, made
+import build
+import fonts
+import made
 import report as reports
 from made import number, u16s, u32s
 
@@ -110,12 +112,6 @@ def records(size):
     return static(3, name=u16s(0, size, 6 + 12 * size) + heads + b"".join(u16s(k) for k in range((size + 12) // 2 + 1)))
 
 
-def instances(size, length=0):
-    """So many named instances, of one long name or of the last of as many records."""
-    name = u16s(0, 1, 18, 3, 1, 0x409, 300, 2 * length, 0) + b"\0A" * length if length else u16s(0, size, 6) + u16s(1, 0, 0, 1, 0, 0) * (size - 1) + u16s(0, 3, 0, 300, 2, 0)
-    return varied(1, 4, fvar=fvar(1, (u16s(300, 0) + u32s(400 << 16)) * size, size), name=name)
-
-
 def groups(size):
     """Groups of `cmap`, format 12, that no character reaches."""
     table = u16s(12, 0) + u32s(16 + 12 * size, 0, size) + b"".join(u32s(0x110000 + k, 0x110000 + k, 1) for k in range(size))
@@ -143,11 +139,7 @@ def wide(size):
     return static(size, hhea=(head := u32s(0x10000) + u16s(800, 65336) + bytes(26) + u16s(size)), vhea=head, hmtx=metrics, vmtx=metrics)
 
 
-def lines(size, kind):
-    return "".join(json.dumps({"in": f"/no/{k if kind == 'in' else 0}", "out": f"{k}", "gids": 1}) + "\n" for k in range(size)).encode()
-
-
-# ---- the families: name, maker, size, and the call (with its glyphs) or the words of the program
+# ---- the families: name, maker, size, and the call with its glyphs
 
 AT = "wght=650"
 CALLS = [
@@ -163,57 +155,32 @@ CALLS = [
     ("tree of subroutines", tree, 20, "subset 0-{last} -"), ("numbers of five bytes", lambda n: tree(n, 12, b"\xff\1\2\3\4" * 8 + b"\5\x0b"), 20, "subset 0-{last} -"),
     ("masks of stems", lambda n: tree(n, 12, b"\x8b\x8b\x01\x13\xaa\x0b"), 20, "subset 0-{last} -"), ("one outline of composites", crowd, 2000, "subset 0 -"),
 ]
-RUNS = [
-    ("instances of one long name", lambda n: instances(n, 2 * n), 2000, ["--at", "Foo", "IN", "OUT", "0", "1"]),
-    ("instances and records of names", instances, 8000, ["--at", "Foo", "IN", "OUT", "0", "1"]),
-    ("--axes of instances", lambda n: instances(n, 2 * n), 1000, ["--axes", "IN"]), ("--json of names", named, 16000, ["--json", "--gids", "0-LAST", "IN", "OUT", "0"]),
-    ("--unicodes-file", lambda n: b"0-10FFFF," * n, 8, ["--unicodes-file", "IN", "/usr/share/fonts/truetype/dejavu/DejaVuSans.ttf", "OUT", "0"]),
-    ("--gids-file", lambda n: b"0-5000," * n, 400, ["--gids-file", "IN", "/usr/share/fonts/truetype/dejavu/DejaVuSans.ttf", "OUT", "0"]),
-    ("a batch of many OUT", lambda n: lines(n, "out"), 10000, ["--batch", "IN"]), ("a batch of many IN", lambda n: lines(n, "in"), 10000, ["--batch", "IN"]),
-    ("--info of a tree", tree, 200, ["--info", "IN"]), ("a refusal's reason", lambda n: crowd(2 * n), 8000, ["--limits", LIMITS, "IN", "OUT", "0", "0"]),
-]
-
-
 def by_library(library, path, call, size):
-    """The seconds of a call, the bytes that it answers, those that it holds, and the name of its error."""
+    """The seconds of a call, the bytes that it answers, those that it holds, and the name of its error or `-` (lib/cost.py)."""
     call, glyphs, at = call.format(last=size - 1, size=size).split()
-    took, answered, held, error = reports.cost(library, call, path, 0, glyphs, at, LIMITS, 0, timeout=ENDLESS)
-    return took / 1e9, answered, held, error
+    env = {**os.environ, "LIBRARY": library, "LD_PRELOAD": os.path.join(build.BUILD, "refuse.so")}
+    words = [sys.executable, os.path.join(build.HERE, "lib", "cost.py"), call, path, "0", glyphs, at, LIMITS]
+    took, answered, held, error = subprocess.run(words, env=env, stdout=subprocess.PIPE, text=True, check=True, timeout=ENDLESS).stdout.split()
+    return int(took) / 1e9, int(answered), int(held), error
 
 
-def by_program(program, path, call, size):
-    """The same of a run of the program, whose answer is what it prints and the new font."""
-    room = os.path.dirname(path)
-    words = [{"IN": path, "OUT": os.path.join(room, "out"), "0-LAST": f"0-{size - 1}"}.get(it, it) for it in call]
-    with open(os.path.join(room, "said"), "wb") as said:
-        ran = subprocess.Popen(["timeout", str(ENDLESS), program, *words], stdout=said, stderr=said, cwd=room)
-        _, status, used = os.wait4(ran.pid, 0)
-    ran.returncode = os.waitstatus_to_exitcode(status)
-    if ran.returncode not in (0, 1, 2, 3):
-        raise subprocess.TimeoutExpired(words, ENDLESS)
-    answered = sum(os.path.getsize(os.path.join(room, it)) for it in ("said", "out") if os.path.exists(os.path.join(room, it)))
-    return used.ru_utime + used.ru_stime, answered, used.ru_maxrss * 1024, ran.returncode
-
-
-def measure(report, runner, name, make, usual, call):
+def measure(report, library, name, make, usual, call):
     """Measures a family, and says where it costs too much."""
     cells, rows = [], []
     for size in (usual // 2, usual, 2 * usual):
         with tempfile.TemporaryDirectory(prefix="hostile-") as room:
-            path = os.path.join(room, "in")
-            with open(path, "wb") as file:
-                file.write(make(size))
+            path = fonts.put(os.path.join(room, "in"), make(size))
             length = os.path.getsize(path)
             try:
-                took, answered, held, status = runner(path, call, size)
-            except subprocess.SubprocessError as error:
-                report.say(name, f"size {size}: {error}"[:200])
+                took, answered, held, error = by_library(library, path, call, size)
+            except subprocess.SubprocessError as ended:
+                report.say(name, f"size {size}: {ended}"[:200])
                 return
         # (under CANARY twice the size takes 60 times as long)
         took *= 60 if build.CANARY and size > usual else 1
         work = length + answered
         rows.append((took / work, held / work))
-        cells.append(f"{work:,} bytes: {1000 * took:.0f} ms, {held / 2 ** 20:.0f} MB" + f", {status}" * (status not in (0, "-")))
+        cells.append(f"{work:,} bytes: {1000 * took:.0f} ms, {held / 2 ** 20:.0f} MB" + f", {error}" * (error != "-"))
         if name not in BOUND and (took > SECONDS + work * 20e-6 or held > HELD + 64 * work):
             report.say(name, f"size {size}, {cells[-1]}")
     report.counts["families"] += 1
@@ -225,10 +192,9 @@ def measure(report, runner, name, make, usual, call):
 
 def main():
     words = reports.words()
-    build.preload("refuse.c", to="refuse.so")
-    library, program, report = build.library(), build.program(), reports.Report("hostile")
-    for families, runner, by in ((CALLS, by_library, library), (RUNS, by_program, program)):
-        for name, make, size, call in families:
-            if words.only in name:
-                measure(report, lambda *it: runner(by, *it), name, make, size // (2 if words.short else 1), call)
+    build.gcc("refuse.c", "-shared", "-fPIC", to="refuse.so")
+    library, report = build.library(), reports.Report("hostile")
+    for name, make, size, call in CALLS:
+        if words.only in name:
+            measure(report, library, name, make, size // (2 if words.short else 1), call)
     reports.end([report], report.counts["families"], f"{report.counts['families']} families at three sizes")

@@ -30,9 +30,7 @@ Copy = collections.namedtuple("Copy", "label source index glyphs data file")
 
 def lines_of(program, tasks, room):
     """The lines of a driver for some tasks, and why there are fewer where it has died (`died`) or not ended (`no end`)."""
-    name = os.path.join(room, "list")
-    with open(name, "w") as file:
-        file.write("".join(f"{task}\n" for task in tasks))
+    name = fonts.put(os.path.join(room, "list"), "".join(f"{task}\n" for task in tasks))
     words = ["sh", "-c", 'ulimit -v 4000000; exec "$@"', "", program, "--list", name]
     try:
         said = subprocess.run(words, stdout=subprocess.PIPE, stderr=subprocess.DEVNULL, timeout=FOR_ALL if len(tasks) > 1 else AT_MOST).stdout
@@ -68,17 +66,12 @@ def answers_of(drivers, tasks, room):
     return list(zip(*said.values()))
 
 
-def put(file, data):
-    with open(file, "wb") as out:
-        out.write(data)
-
-
 def reasons_of(drivers, differing, room):
     """Why the answers on some copies differ: the intended differences that are in the copy and not in its source, where the answers agree when what
     can be mended of them is mended, or one is left that can't be."""
     mended, found = [explain.mended(it.data, [0, *it.glyphs], it.index) for it in differing], []
     for copy, data in zip(differing, mended):
-        put(f"{copy.file}.mended", data)
+        fonts.put(f"{copy.file}.mended", data)
     answered = answers_of(drivers, [task(f"{it.file}.mended", it.index, it.glyphs) for it in differing], room)
     for copy, data, answers in zip(differing, mended, answered):
         before, stands, left = (explain.reasons(it, copy.index, [0, *copy.glyphs]) for it in (copy.source, copy.data, data))
@@ -100,7 +93,7 @@ def compare_piece(drivers, found, numbers, seed):
         for number in numbers:
             path, source, index, glyphs, what, data = make(rng, number)
             copies.append(Copy(f"{os.path.basename(path)} {index}, copy {number} of {seed}: {what}; glyphs {glyphs}", source, index, glyphs, data, os.path.join(room, f"{number}.font")))
-            put(copies[-1].file, data)
+            fonts.put(copies[-1].file, data)
         said = answers_of(drivers, [task(it.file, it.index, it.glyphs) for it in copies], room)
         differing = [it for it, answers in zip(copies, said) if len(set(answers)) > 1]
         reasons = dict(zip((it.file for it in differing), reasons_of(drivers, differing, room)))

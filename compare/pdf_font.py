@@ -21,7 +21,6 @@ import functools
 import os
 import random
 import struct
-import sys
 import tempfile
 import time
 from concurrent.futures import ThreadPoolExecutor
@@ -116,8 +115,7 @@ def chosen(given):
 
 def case_of(path, index, copy, others, given, folder, is_seen):
     """A case, or None for a font without outlines or letters."""
-    with open(path, "rb") as file:
-        data = file.read()
+    data = fonts.content(path)
     rng, name = random.Random(f"{'pdf_font' if given.seed == '1' else given.seed} {path} {index} {copy}"), fonts.label(path, index)
     tables = rules.Source(data, index).tables
     if not ({"glyf", "CFF "} & set(tables) and {"head", "hhea", "hmtx", "cmap"} <= set(tables)):
@@ -148,8 +146,6 @@ def pieces(given, room):
 def main():
     given = reports.words(faces=(150, 24), copies=(150, 120))
     fonts.install(FONTS + readers.PACKAGES + readers.PDFBOX)
-    if not readers.has_pdfbox():
-        sys.exit("pdf_font: PDFBox isn't there: apt-get install " + " ".join(readers.PDFBOX))
     total, all_, wanted = collections.Counter(), reports.Report("pdf_font"), 0
     calls()
     with tempfile.TemporaryDirectory(prefix="pdf-font-") as room:

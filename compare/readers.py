@@ -85,10 +85,8 @@ def chosen(count):
 
 def some_glyphs(path, index):
     """Some glyphs of a face, spread and jumbled (the same in each run)."""
-    with open(path, "rb") as file:
-        there = [g for g in Face(file.read(), index).glyphs_drawn() if g < 65535]
-    take = random.Random(os.path.basename(path)).sample(there, min(len(there), GLYPHS_A_FACE))
-    return take
+    there = [g for g in Face(fonts.content(path), index).glyphs_drawn() if g < 65535]
+    return random.Random(os.path.basename(path)).sample(there, min(len(there), GLYPHS_A_FACE))
 
 
 def compare_face(bare, path, index):

@@ -166,7 +166,7 @@ def program_task(program, name, data, words, glyphs):
 
 def main():
     words = reports.words()
-    build.preload("refuse.c", to="refuse.so")
+    build.gcc("refuse.c", "-shared", "-fPIC", to="refuse.so")
     program, call, library = build.program(), build.gcc("call.c", "-ldl", to="call"), build.library()
     cases = [(name, data, glyphs, 0) for name, (data, glyphs) in made.WORKED.items()]
     if not words.short:

@@ -8,7 +8,7 @@ compares of the instance
                  varies, and `post` the angle of `slnt`
     HarfBuzz     what the second reading has before rounding is within 0.01 of what HarfBuzz draws at the same normalized coordinates, and the
                  advance is HarfBuzz's
-    fontTools    the box of `head` and the extremes of `hhea` are those that it computes, and `hhea` and `post` have what its reader of MVAR adds
+    fontTools    the box of `head` and the extremes of `hhea` are those that it computes
 
 A glyph that the second reading refuses has to be refused by itself, and at its default a font is subset as it is. N damaged copies are changed in fvar, avar,
 gvar, HVAR, MVAR or glyf, at a random place and for 12 glyphs: each is answered as the second reading has it, or refused where that refuses it, within a second.
@@ -83,9 +83,6 @@ def difference(data, drawn, lines):
 
 # ---- a font
 
-# Where fontTools has the metrics that MVAR varies in `hhea` and `post`.
-METRICS = {"hasc": ("hhea", "ascent"), "hdsc": ("hhea", "descent"), "hlgp": ("hhea", "lineGap"), "hcrs": ("hhea", "caretSlopeRise"), "hcrn": ("hhea", "caretSlopeRun"),
-           "hcof": ("hhea", "caretOffset"), "undo": ("post", "underlinePosition"), "unds": ("post", "underlineThickness")}
 EXTREMES = ("head", ("xMin", "yMin", "xMax", "yMax")), ("hhea", ("advanceWidthMax", "minLeftSideBearing", "minRightSideBearing", "xMaxExtent"))
 
 
@@ -93,32 +90,18 @@ def extremes_of(font):
     return [getattr(font[tag], name) for tag, names in EXTREMES for name in names]
 
 
-def metrics_of(source, font, at):
-    """The metrics of an instance, and those of the source with what fontTools' reader of MVAR adds."""
-    from fontTools.varLib.varStore import VarStoreInstancer
-
-    mvar, deltas, axes = source["MVAR"].table if "MVAR" in source else None, {}, source["fvar"].axes
-    if mvar and mvar.VarStore:
-        store = VarStoreInstancer(mvar.VarStore, axes, {axis.axisTag: value / 16384 for axis, value in zip(axes, at)})
-        deltas = {record.ValueTag: store[record.VarIdx] for record in mvar.ValueRecord}
-    there = {name: place for name, place in METRICS.items() if place[0] in font}
-    return [[getattr(it[tag], field) + (harfbuzz.half_up(float(deltas.get(name, 0))) if it is source else 0) for name, (tag, field) in there.items()] for it in (font, source)]
-
-
-def beside_fonttools(report, at, data, source):
-    """The headers of an instance."""
+def beside_fonttools(report, at, data):
+    """The box and the extremes of an instance."""
     from fontTools.ttLib import TTFont
 
-    font, tags = TTFont(io.BytesIO(data), recalcBBoxes=False), [axis.axisTag for axis in source["fvar"].axes]
+    font = TTFont(io.BytesIO(data), recalcBBoxes=False)
     stored = extremes_of(font)
-    # (fontTools' tuples are by tag, so of axes of one tag it knows the last alone)
-    ours, theirs = metrics_of(source, font, at) if len(set(tags)) == len(tags) else (None, None)
     font.recalcBBoxes = True
     font["maxp"].recalc(font)
     font["hhea"].recalc(font)
     report.counts["fontTools"] += 1
-    if (stored, ours) != (extremes_of(font), theirs):
-        report.say("fontTools", f"at {at}: {stored} {ours}, and not {extremes_of(font)} {theirs}")
+    if stored != extremes_of(font):
+        report.say("fontTools", f"at {at}: {stored}, and not {extremes_of(font)}")
 
 
 def beside_harfbuzz(report, font, drawn, other):
@@ -140,7 +123,7 @@ def compare_default(report, library, data, glyphs, place):
         report.say("default", f"at {place}: another font than without coordinates")
 
 
-def compare_place(report, library, data, place, glyphs, source, other):
+def compare_place(report, library, data, place, glyphs, other):
     """One instance."""
     font = reading.Font(data, reading.settings_of(place))
     if not any(font.at):
@@ -169,17 +152,15 @@ def compare_place(report, library, data, place, glyphs, source, other):
         report.say("reading", f"at {font.at}: {wrong}")
         return
     beside_harfbuzz(report, font, drawn, other)
-    beside_fonttools(report, font.at, made, source)
+    beside_fonttools(report, font.at, made)
 
 
 def compare_font(words, path):
-    from fontTools.ttLib import TTFont
-
     report, library, data = Report(path), build.Calls(words.library), fonts.content(path)
-    rng, source, other = random.Random(f"{words.seed} {report.label}"), TTFont(path, lazy=True), harfbuzz.HarfBuzz(path)
+    rng, other = random.Random(f"{words.seed} {report.label}"), harfbuzz.HarfBuzz(path)
     for _ in range(words.places):
         place = harfbuzz.random_place(fonts.axes(data), rng)
-        compare_place(report, library, data, place, rng.sample(range(fonts.count_in(data, 0)), min(words.glyphs, fonts.count_in(data, 0))), source, other)
+        compare_place(report, library, data, place, rng.sample(range(fonts.count_in(data, 0)), min(words.glyphs, fonts.count_in(data, 0))), other)
     return report
 
 

@@ -7,6 +7,8 @@ import shutil
 import subprocess
 import sys
 
+import fonts
+
 # The folder compare/, its C drivers, and what is built of them.
 HERE = os.path.dirname(os.path.dirname(os.path.realpath(__file__)))
 ROOT = os.path.dirname(HERE)
@@ -95,8 +97,7 @@ def package(name, version, needs, source):
         shutil.copy(source, os.path.join(folder, "src", "main.rs"))
     else:
         shutil.copytree(source, os.path.join(folder, "src"), dirs_exist_ok=True)
-    with open(os.path.join(folder, "Cargo.toml"), "w", encoding="utf-8") as file:
-        file.write(MANIFEST % (name, version, "".join(f'{it} = {{ path = "{path}" }}\n' for it, path in needs.items())))
+    fonts.put(os.path.join(folder, "Cargo.toml"), MANIFEST % (name, version, "".join(f'{it} = {{ path = "{path}" }}\n' for it, path in needs.items())))
     return folder
 
 
@@ -119,11 +120,6 @@ def gcc(source, *more, to):
     path = os.path.join(BUILD, to)
     subprocess.run(["gcc", "-O3", "-march=x86-64-v2", "-o", path, os.path.join(DRIVERS, source), *more], check=True)
     return path
-
-
-def preload(source, to):
-    """A library that is loaded before the C library."""
-    return gcc(source, "-shared", "-fPIC", to=to)
 
 
 # ---- the calls

@@ -16,7 +16,7 @@ import fonts
 import harfbuzz
 import reading
 from cff2_source import CLOSED, Face
-from cff2_whole import Broken, FreeType, Refused, subset_at
+from cff2_whole import Broken, Refused, is_taken_by_freetype, subset_at
 from harfbuzz import HarfBuzz, contours, half_up
 from report import Report
 
@@ -103,14 +103,12 @@ class Copy:
 
 def judge(report, copy, data, old, room, label):
     """Whether a new font is what the damaged copy draws."""
-    path = os.path.join(room, "answer.otf")
-    with open(path, "wb") as file:
-        file.write(data)
+    path = fonts.put(os.path.join(room, "answer.otf"), data)
     new = HarfBuzz(path)
     for number, glyph in enumerate(old):
         ours = [part for contour in contours(new.drawn(number)) for part in contour]
         who = copy.draws(glyph, ours)
-        if who == "nobody" and FreeType(path).face is None and FreeType(copy.path, copy.index).face is None:
+        if who == "nobody" and not is_taken_by_freetype(path) and not is_taken_by_freetype(copy.path, copy.index):
             report.counts["opened by nobody"] += 1
             return
         report.counts[f"drawn as by {who}"] += 1
@@ -139,9 +137,7 @@ def one_copy(words, report, face, data, rng, room, label):
     count = len(face.metrics)
     place, glyphs = harfbuzz.random_place(face.axes, rng), rng.sample(range(count), min(GLYPHS, count))
     made, done = damaged(rng, data, face, glyphs)
-    path = os.path.join(room, "copy")
-    with open(path, "wb") as file:
-        file.write(made)
+    path = fonts.put(os.path.join(room, "copy"), made)
     report.counts["copies"] += 1
     before = spent()
     try:

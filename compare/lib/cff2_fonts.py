@@ -265,8 +265,6 @@ def faces(folders, only, most=2 ** 32, with_large=False):
     for path in paths.values():
         if os.path.getsize(path) > most or (not with_large and os.path.basename(path).startswith("large.")):
             continue
-        with open(path, "rb") as file:
-            data = file.read()
-        count = fonts.u32(data, 8) if data[:4] == b"ttcf" else 1
-        found += [(path, index) for index in range(count) if "CFF2" in fonts.directory(data, index)]
+        data = fonts.content(path)
+        found += [(path, index) for index in range(fonts.face_count(data)) if "CFF2" in fonts.directory(data, index)]
     return found

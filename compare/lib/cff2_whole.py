@@ -1,6 +1,5 @@
 """Whole fonts that the program makes of CFF2 fonts at coordinates, beside their sources: what cff2.py compares."""
 import io
-import math
 import os
 import random
 import subprocess
@@ -24,12 +23,7 @@ REFUSALS = {"malformed font", "unsupported feature in font", "overflow occurred"
 TOO_LARGE, WIDEST = "overflow occurred", 32767
 # No run takes as many seconds.
 LONG = 120
-# FreeType hints at 16 pixels an em. Where a stem lies so that half a unit decides where FreeType puts it, rounding alone moves it by more than a pixel:
-# one of SELDOM glyphs may be so, of made fonts, whose stems are random, one of SELDOM_MADE.
-PPEM, PIXEL, SELDOM, SELDOM_MADE = 16, 64, 1000, 100
-# A contour that is as small may lack: one whose points become one (in 64ths of a pixel).
-TINY = 4
-KINDS = ["drawing", "advance", "width", "hints", "private dict", "FreeType", "file"]
+KINDS = ["drawing", "advance", "width", "hints", "private dict", "file"]
 CANARY = build.Canary()
 
 
@@ -43,9 +37,7 @@ class Broken(Exception):
 
 def subset_at(program, path, index, place, glyphs, room):
     """The new font, and the old number of each of its glyphs."""
-    gids, out = os.path.join(room, "gids"), os.path.join(room, "out")
-    with open(gids, "w", encoding="ascii") as file:
-        file.write(",".join(map(str, glyphs)))
+    gids, out = fonts.put(os.path.join(room, "gids"), ",".join(map(str, glyphs))), os.path.join(room, "out")
     words = [program, "--at", harfbuzz.words_at(place), "--gids-file", gids, path, out, str(index)]
     try:
         ran = subprocess.run(words, capture_output=True, text=True, errors="replace", timeout=LONG)
@@ -139,9 +131,7 @@ def compare_font(report, face, place, data, old, room):
     """A new font beside its source at coordinates; `old` has the old number of each glyph."""
     from fontTools.ttLib import TTFont
 
-    path, at = os.path.join(room, "new.otf"), face.at(place)
-    with open(path, "wb") as file:
-        file.write(data)
+    path, at = fonts.put(os.path.join(room, "new.otf"), data), face.at(place)
     report.counts["file"] += 1
     try:
         font = TTFont(io.BytesIO(data), checkChecksums=2)
@@ -171,73 +161,27 @@ def compare_font(report, face, place, data, old, room):
         report.counts["private dict"] += 1
         if privates[pair]:
             report.say("private dict", f"of glyph {glyph} at {at}: {privates[pair]}")
-    beside_freetype(report, face, at, path, old)
+    if not is_taken_by_freetype(path, 0, (), range(len(old))) and is_taken_by_freetype(face.path, face.index, at, old):
+        report.say("file", f"at {at}: FreeType takes the source alone")
 
 
 # ---- FreeType
 
-class FreeType:
-    """A face of FreeType's library."""
+def is_taken_by_freetype(path, index=0, at=(), glyphs=()):
+    """Whether FreeType opens a face, and hints these glyphs at 16 pixels an em."""
+    import freetype
 
-    def __init__(self, path, index=0, at=()):
-        import freetype
-
-        self.flags, self.refusal, self.face = freetype.FT_LOAD_NO_BITMAP, freetype.FT_Exception, None
-        try:
-            self.face = freetype.Face(path, index)
-            self.face.set_char_size(PPEM * PIXEL, PPEM * PIXEL, 72, 72)
-            if at:
-                self.face.set_var_blend_coords([value / 16384 for value in at])
-        except freetype.FT_Exception:
-            # (2.12 can't read FDSelect of format 4)
-            self.face = None
-
-    def contours(self, glyph, flags=0):
-        """The contours of a glyph, each its points; None where FreeType refuses it, or the face."""
-        try:
-            self.face.load_glyph(glyph, self.flags | flags)
-        except (AttributeError, self.refusal):
-            return None
-        outline = self.face.glyph.outline
-        starts = [0, *(end + 1 for end in outline.contours)]
-        return [outline.points[start:end] for start, end in zip(starts, starts[1:]) if start < end]
-
-
-def distance(a, b):
-    return max(abs(a[0] - b[0]), abs(a[1] - b[1]))
-
-
-def apart(ours, theirs):
-    """How far the points of contours are from one another, at most. Where a contour has other points (as one that is closed by a line of
-    no length), from the nearest one."""
-    if len(ours) != len(theirs):
-        ours, theirs = ([it for it in these if max(distance(it[0], p) for p in it) > TINY] for these in (ours, theirs))
-    if len(ours) != len(theirs):
-        ours, theirs = [sum(ours, [])], [sum(theirs, [])]
-    worst = 0
-    for one, other in zip(ours, theirs):
-        if len(one) == len(other):
-            worst = max(worst, *map(distance, one, other))
-        elif one and other:
-            worst = max(worst, *(min(distance(a, b) for b in other) for a in one), *(min(distance(a, b) for b in one) for a in other))
-        else:
-            return math.inf
-    return worst
-
-
-def beside_freetype(report, face, at, path, old):
-    """The hinted outlines, which are within a pixel of the source's, but for few."""
-    source, new = FreeType(face.path, face.index, at), FreeType(path)
-    for number, glyph in enumerate(old):
-        theirs, ours = source.contours(glyph), new.contours(number)
-        if theirs is None and new.face is not None:
-            report.counts["refused by FreeType"] += 1
-            continue
-        report.counts["FreeType"] += 1
-        off = math.inf if ours is None else apart(ours, theirs)
-        if off > PIXEL:
-            report.counts["hinted otherwise"] += 1
-            report.otherwise.append(f"glyph {glyph} at {at}: {off / PIXEL:.2f} pixels off at {PPEM} pixels an em")
+    try:
+        face = freetype.Face(path, index)
+        face.set_char_size(16 * 64, 16 * 64, 72, 72)
+        if at:
+            face.set_var_blend_coords([value / 16384 for value in at])
+        for glyph in glyphs:
+            face.load_glyph(glyph, freetype.FT_LOAD_NO_BITMAP)
+        return True
+    except freetype.FT_Exception:
+        # (2.12 can't read FDSelect of format 4)
+        return False
 
 
 # ---- faces
@@ -251,7 +195,6 @@ def compare_face(words, path, index, room):
     """A face at its default and at random places, for so many glyphs (0: all, of large ones 300) in a random order."""
     face = Face(path, index)
     report, rng, count = Report(face.label), random.Random(f"{words.seed} {os.path.basename(path)} {index}"), len(face.metrics)
-    report.otherwise = []
     for number in range((words.places if face.axes else 0) + 1):
         place = harfbuzz.random_place(face.axes, rng) if number else []
         glyphs = rng.sample(range(count), min(words.glyphs or (count if count <= 5000 else 300), count))
@@ -264,8 +207,4 @@ def compare_face(words, path, index, room):
             report.say("answer", f"at {harfbuzz.words_at(place) or 'the default'}: {it}")
             continue
         compare_font(report, face, place, data, old, room)
-    family = face.font["name"].getDebugName(1) if "name" in face.font else ""
-    few = SELDOM_MADE if (family or "").startswith("Made ") else SELDOM
-    if few * (len(report.otherwise) - 1) > report.counts["FreeType"]:
-        report.say("FreeType", f"{len(report.otherwise)} of {report.counts['FreeType']} glyphs are hinted otherwise: {report.otherwise[0]}")
     return report

@@ -6,6 +6,7 @@ import struct
 import subprocess
 
 import build
+import fonts
 from pdf_file import Pdf, embedded, pages
 from pdf_readers import READERS, drawn, ink_apart, is_blank
 
@@ -80,11 +81,9 @@ def line_of(face, glyphs):
 
 def write(folder, face, program, widths, contents, page=PAGE):
     """A PDF file that embeds a font, with two pages; its path."""
-    pdf, path = Pdf(), os.path.join(folder, "page.pdf")
+    pdf = Pdf()
     os.makedirs(folder)
-    with open(path, "wb") as file:
-        file.write(pages(pdf, page, [embedded(pdf, face, program, "AAAAAA+Shown", widths)], contents))
-    return path
+    return fonts.put(os.path.join(folder, "page.pdf"), pages(pdf, page, [embedded(pdf, face, program, "AAAAAA+Shown", widths)], contents))
 
 
 def differences(ours, theirs, most, dpi=96):

@@ -2,12 +2,12 @@
 import errno
 import os
 import re
-import shutil
 import stat
 import subprocess
 from dataclasses import dataclass, field
 
 import build
+import fonts
 import made
 
 CANARY = build.Canary()
@@ -58,8 +58,7 @@ def file_of(path):
     about = os.lstat(path)
     if stat.S_ISLNK(about.st_mode):
         return File(f"link to {os.readlink(path)}".encode(), 0)
-    with open(path, "rb") as file:
-        return File(file.read(), stat.S_IMODE(about.st_mode), about.st_nlink)
+    return File(fonts.content(path), stat.S_IMODE(about.st_mode), about.st_nlink)
 
 
 class Room:
@@ -79,10 +78,7 @@ class Room:
         for name in os.listdir(self.work):
             os.unlink(os.path.join(self.work, name))
         for name, (data, mode) in way.files.items():
-            path = os.path.join(self.work, name)
-            with open(path, "wb") as file:
-                file.write(data)
-            os.chmod(path, mode)
+            os.chmod(fonts.put(os.path.join(self.work, name), data), mode)
         for name, group in way.groups.items():
             os.chown(os.path.join(self.work, name), -1, group)
         for name, target in way.links.items():
@@ -109,10 +105,9 @@ class Room:
         """Runs a way, with something done to a call, as strace's `inject` says."""
         if is_laid:
             self.lay(way)
-        with open(os.path.join(self.streams, "stdin"), "wb") as file:
-            file.write(way.stdin)
+        given = fonts.put(os.path.join(self.streams, "stdin"), way.stdin)
         words = [*words, "-o", self.log, *(["-e", f"inject={inject}"] if inject else [])] if words else []
-        with open(file.name, "rb") as stdin, open(os.path.join(self.streams, "stdout"), "wb") as stdout, open(os.path.join(self.streams, "stderr"), "wb") as stderr:
+        with open(given, "rb") as stdin, open(os.path.join(self.streams, "stdout"), "wb") as stdout, open(os.path.join(self.streams, "stderr"), "wb") as stderr:
             try:
                 status = subprocess.run([*words, self.program, *way.words], cwd=self.work, env={"PATH": "/usr/bin:/bin"}, timeout=120, stdin=stdin, stdout=stdout, stderr=stderr, **more).returncode
             except subprocess.TimeoutExpired:
@@ -130,17 +125,6 @@ class Room:
     def run_alone(self, way, **more):
         """Runs a way without a trace."""
         return self.run(way, words=[], **more)
-
-    def run_limited(self, way, limit):
-        """Runs a way without a trace, its streams in pipes, which no limit on files holds for."""
-        ran = subprocess.run([self.program, *way.words], cwd=self.work, env={"PATH": "/usr/bin:/bin"}, input=way.stdin, capture_output=True, timeout=120, preexec_fn=limit)
-        status, number = (ran.returncode, None) if ran.returncode >= 0 else (None, -ran.returncode)
-        return Ended(status, number, ran.stdout, ran.stderr, self.files())
-
-
-def needs():
-    """What is missing here; empty where runs can be traced."""
-    return " and ".join(it for it in ("strace", "setarch") if not shutil.which(it))
 
 
 # ---- the ways in which faults.py runs the program: words, files, and what is written

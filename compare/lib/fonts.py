@@ -72,6 +72,13 @@ def content(path):
         return file.read()
 
 
+def put(path, data):
+    """Writes bytes, or a text, to a file; its path."""
+    with open(path, "wb") as file:
+        file.write(data.encode() if isinstance(data, str) else data)
+    return path
+
+
 def face_count(data):
     return u32(data, 8) if data[:4] == b"ttcf" else 1
 
@@ -131,8 +138,7 @@ def faces():
             if not name.lower().endswith((".ttf", ".otf", ".ttc")) or os.path.islink(path):
                 continue
             with open(path, "rb") as file:
-                count = face_count(file.read(12))
-            found += [(path, index) for index in range(count)]
+                found += [(path, index) for index in range(face_count(file.read(12)))]
     return found
 
 

@@ -50,42 +50,17 @@ class HarfBuzz:
 
 # ---- paths
 
-def middle(a, b):
-    return ((a[0] + b[0]) / 2, (a[1] + b[1]) / 2)
-
-
 def contour_path(points, flags):
     """A contour of TrueType as HarfBuzz draws it: from its first point on the curve, or from the middle of the first two, and closed."""
-    path, on, first, last = [], None, None, None
-    for p, is_on in zip(points, flags):
-        if on is None:
-            if is_on:
-                on = p
-                path.append(("move_to", *p))
-            elif first is None:
-                first = p
-            else:
-                on, last = middle(first, p), p
-                path.append(("move_to", *on))
-        elif last is not None:
-            end = p if is_on else middle(last, p)
-            path.append(("quadratic_to", *last, *end))
-            last = None if is_on else p
-        elif is_on:
-            path.append(("line_to", *p))
-        else:
-            last = p
-    if first is not None and last is not None:
-        path.append(("quadratic_to", *last, *middle(last, first)))
-        last = None
-    if on is not None and first is not None:
-        path.append(("quadratic_to", *first, *on))
-    elif on is not None and last is not None:
-        path.append(("quadratic_to", *last, *on))
-    elif on is not None:
-        path.append(("line_to", *on))
-    elif first is not None:
-        path += [("move_to", *first), ("quadratic_to", *first, *first)]
+    ring = []
+    for k, (p, is_on) in enumerate(zip(points, flags)):
+        (x, y), follows = points[(k + 1) % len(points)], flags[(k + 1) % len(points)]
+        ring += [(p, is_on)] + [(((p[0] + x) / 2, (p[1] + y) / 2), 1)] * (not is_on and not follows)
+    start = next(k for k, (_, is_on) in enumerate(ring) if is_on)
+    ring = ring[start:] + ring[:start + 1]
+    path = [("move_to", *ring[0][0])]
+    for (before, was_on), (p, is_on) in zip(ring, ring[1:]):
+        path += [("line_to", *p) if was_on else ("quadratic_to", *before, *p)] * is_on
     return path
 
 

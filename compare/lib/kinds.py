@@ -48,22 +48,19 @@ WHOLE_AND_CUT = [
     ("variable", "fonts-inter-variable", f"{INTER}/Inter-italic.var.ttf", 0, 150),
     ("variable", "fonts-inter-variable", f"{INTER}/InterDisplay-roman.var.ttf", 0, 60),
 ]
-# The files (names in build/kinds, or of made.py) of which collections are put together.
+# What collections are put together of: file, font and glyphs as above.
+NOTO, CJK = f"{TRUETYPE}/noto/NotoSans%s-Regular.ttf", f"{OPENTYPE}/noto/NotoSansCJK-Regular.ttc"
 COLLECTIONS = {
-    "three TrueType": ["NotoSansOgham-Regular-0", "NotoSansRunic-Regular-0", "NotoSansLycian-Regular-0"],
-    "wqy-microhei, two faces": None,
-    "NotoSansCJK, three faces": None,
-    "TrueType, SID and CID": ["NotoSansOgham-Regular-0", "MplusCode60-Thin-0", "NotoSansCJK-Regular-7-60"],
-    "variable and SID": ["InterDisplay-roman.var-60", "lmmono10-regular-0"],
-}
-SHARED = {
-    "wqy-microhei, two faces": ("fonts-wqy-microhei", f"{TRUETYPE}/wqy/wqy-microhei.ttc", (0, 1), 120),
-    "NotoSansCJK, three faces": ("fonts-noto-cjk", f"{OPENTYPE}/noto/NotoSansCJK-Regular.ttc", (0, 1, 3), 60),
+    "three TrueType": [(NOTO % it, 0, 0) for it in ("Ogham", "Runic", "Lycian")],
+    "wqy-microhei, two faces": [(f"{TRUETYPE}/wqy/wqy-microhei.ttc", face, 120) for face in (0, 1)],
+    "NotoSansCJK, three faces": [(CJK, face, 60) for face in (0, 1, 3)],
+    "TrueType, SID and CID": [(NOTO % "Ogham", 0, 0), (f"{OPENTYPE}/mplus/MplusCode60-Thin.otf", 0, 0), (CJK, 7, 60)],
+    "variable and SID": [(f"{INTER}/InterDisplay-roman.var.ttf", 0, 60), (f"{TEXMF}/lm/lmmono10-regular.otf", 0, 0)],
 }
 # (a Notice that is a standard string is answered otherwise by both)
 LEAST = {name: font for name, (font, _) in made.WORKED.items()}
 LEAST["a CID-keyed font"] = made.cff_font(made.cff([b"\x0e"] * 7, dicts=made.FONT_DICTS, select=b"\0\3\0\0\0\0\7\3"))
-PACKAGES = sorted({it[1] for it in WHOLE_AND_CUT} | {it[0] for it in SHARED.values()} | {"python3-fonttools"})
+PACKAGES = sorted({it[1] for it in WHOLE_AND_CUT} | {"fonts-wqy-microhei", "python3-fonttools"})
 DROPPED = "GSUB GPOS GDEF BASE JSTF VORG vhea vmtx DSIG EBDT EBLC EBSC FFTM STAT kern MATH".split()
 # A variable font that is larger than this is cut down too, to so many glyphs and fewer the larger it is.
 LARGE, GLYPHS = 120000, 50000000
@@ -111,10 +108,7 @@ def stored(name, make):
     path = os.path.join(FOLDER, name)
     if not os.path.exists(path):
         os.makedirs(FOLDER, exist_ok=True)
-        data = make()
-        with open(f"{path}.{os.getpid()}", "wb") as file:
-            file.write(data)
-        os.replace(f"{path}.{os.getpid()}", path)
+        os.replace(fonts.put(f"{path}.{os.getpid()}", make()), path)
     return path
 
 
@@ -126,19 +120,11 @@ def single(path, index, count):
     return stored(f"{stem}{face}-{count}{ending}", lambda: cut(path, index, count) if count else fonts.content(path))
 
 
-def members(name):
-    """The bytes of the fonts of a collection."""
-    if name in SHARED:
-        _, path, faces, count = SHARED[name]
-        return [cut(path, face, count) for face in faces]
-    return [fonts.content(glob.glob(os.path.join(FOLDER, f"{stem}.*"))[0]) for stem in COLLECTIONS[name]]
-
-
 def all_fonts(folders=()):
     """The fonts as (kind, path); in these folders there may be further variable ones."""
     found = [(kind, single(path, index, count)) for kind, _, path, index, count in WHOLE_AND_CUT]
-    for name in COLLECTIONS:
-        found.append(("collection", stored(f"{name}.ttc", lambda: collection(members(name)))))
+    for name, parts in COLLECTIONS.items():
+        found.append(("collection", stored(f"{name}.ttc", lambda: collection([fonts.content(single(*it)) for it in parts]))))
     # (no subset is made of the second format of CFF, so the table's tag alone matters)
     sid = fonts.content(single(*WHOLE_AND_CUT[18][2:]))
     found.append(("CFF2", stored("second format.otf", lambda: sid.replace(b"CFF ", b"CFF2", 1))))

@@ -2,6 +2,7 @@
 import os
 import struct
 
+import fonts
 import made
 import pdf_rules as rules
 from pdf_file import FIRST, Face
@@ -53,8 +54,7 @@ class Case:
         if not isinstance(made, str):
             self.offsets = made.objects(FIRST).offsets
             for name, data in (("line.pdf", made.sheet()), ("grid.pdf", made.sheet("grid")), ("objects", made.objects(FIRST).bytes)):
-                with open(self.file(name), "wb") as file:
-                    file.write(data)
+                fonts.put(self.file(name), data)
         return made
 
 

@@ -237,9 +237,7 @@ def faults_of_ink(case, font):
     wrong, count, face = [], 0, Face(case.data, case.index)
     for name, reader in (("line", "MuPDF"), ("grid", "Poppler")):
         box = next(it["value"]["/MediaBox"] for it in readers.objects_of(case.file(f"{name}.pdf")).values() if "/MediaBox" in (it.get("value") or ()))
-        path = case.file(f"whole-{name}.pdf")
-        with open(path, "wb") as file:
-            file.write(whole_page(case, font, face, name == "line", box[2:]))
+        path = fonts.put(case.file(f"whole-{name}.pdf"), whole_page(case, font, face, name == "line", box[2:]))
         has, wants = (readers.drawn(reader, it)[0][0] for it in (case.file(f"{name}.pdf"), path))
         far = readers.ink_apart(has, wants)
         count += 1
@@ -250,8 +248,6 @@ def faults_of_ink(case, font):
 
 def archival_page(case, path):
     """A PDF/A-1b page of the font's objects, which shows its codes."""
-    with open(case.file("objects"), "rb") as file:
-        objects = file.read()
+    objects = fonts.content(case.file("objects"))
     codes = "".join(f"<{code:04X}> Tj\n" for code in case.codes)
-    with open(path, "wb") as file:
-        file.write(archival(objects, case.offsets, f"BT /F0 12 Tf 20 50 Td\n{codes}ET", (800, 100)))
+    fonts.put(path, archival(objects, case.offsets, f"BT /F0 12 Tf 20 50 Td\n{codes}ET", (800, 100)))

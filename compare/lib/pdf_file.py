@@ -3,7 +3,7 @@ import io
 import zlib
 
 import made
-from fonts import tables_of, u16, u32
+from fonts import content, tables_of, u16, u32
 
 
 class Pdf:
@@ -138,15 +138,13 @@ XMP = """<?xpacket begin="\ufeff" id="W5M0MpCehiHzreSzNTczkc9d"?>
 FIRST = 7
 
 
-def archival(objects, offsets, content, box):
+def archival(objects, offsets, shown, box):
     """A PDF/A-1b file of one page, whose font has these objects."""
     pdf = Pdf()
-    with open(PROFILE, "rb") as file:
-        profile = file.read()
     pdf.put("<< /Type /Catalog /Pages 2 0 R /Metadata 5 0 R /OutputIntents [<< /Type /OutputIntent /S /GTS_PDFA1 /OutputConditionIdentifier (sRGB) /DestOutputProfile 6 0 R >>] >>")
     pdf.put("<< /Type /Pages /Count 1 /Kids [3 0 R] >>")
     pdf.put(f"<< /Type /Page /Parent 2 0 R /MediaBox [0 0 {box[0]} {box[1]}] /Contents 4 0 R /Resources << /Font << /F0 {FIRST} 0 R >> >> >>")
-    pdf.stream("", content.encode())
+    pdf.stream("", shown.encode())
     pdf.stream("/Type /Metadata /Subtype /XML", XMP.encode(), is_packed=False)
-    pdf.stream("/N 3", profile)
+    pdf.stream("/N 3", content(PROFILE))
     return pdf.file(1, objects, offsets)

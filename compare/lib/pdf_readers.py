@@ -111,32 +111,15 @@ def is_blank(it):
 
 # ---- PDFBox's preflight
 
-def class_path():
-    return ":".join(f"{JAVA}/{it}.jar" for it in JARS)
-
-
-def has_pdfbox():
-    """Whether PDFBox and its preflight are installed, with what they need."""
-    if any(not os.path.exists(f"{JAVA}/{it}.jar") for it in JARS):
-        return False
-    try:
-        return subprocess.run(["java", "-version"], stdout=subprocess.DEVNULL, stderr=subprocess.DEVNULL).returncode == 0
-    except OSError:
-        return False
-
-
 def preflight(paths, room):
     """What PDFBox's preflight says of files as PDF/A-1b: a list of faults for each."""
-    listed = os.path.join(room, "preflight")
-    with open(listed, "w", encoding="utf-8") as file:
-        file.write("\n".join(paths) + "\n")
-    words = ["java", "-cp", class_path(), "org.apache.pdfbox.preflight.Validator_A1b", "xml", "group", listed]
+    listed = fonts.put(os.path.join(room, "preflight"), "\n".join(paths) + "\n")
+    words = ["java", "-cp", ":".join(f"{JAVA}/{it}.jar" for it in JARS), "org.apache.pdfbox.preflight.Validator_A1b", "xml", "group", listed]
     done = subprocess.run(words, stdout=subprocess.PIPE, stderr=subprocess.PIPE, text=True)
     report = listed + ".preflight.xml"
     if not os.path.exists(report):
         raise Unread(f"PDFBox's preflight makes no report: {(done.stderr or done.stdout)[-500:]}")
-    with open(report, encoding="utf-8", errors="replace") as file:
-        said = dict(re.findall(r'<preflight name="([^"]*)"[^>]*>(.*?)</preflight>', file.read(), re.S))
+    said = dict(re.findall(r'<preflight name="([^"]*)"[^>]*>(.*?)</preflight>', fonts.content(report).decode(errors="replace"), re.S))
     if sorted(said) != sorted(map(os.path.basename, paths)):
         raise Unread(f"PDFBox's preflight reports {len(said)} files, not {len(paths)}")
     return [faults_in(said[os.path.basename(it)]) for it in paths]

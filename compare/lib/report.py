@@ -3,7 +3,6 @@ import argparse
 import collections
 import concurrent.futures
 import os
-import subprocess
 import sys
 import time
 
@@ -55,14 +54,6 @@ def beside(words, call, rows, part=1):
             if time.monotonic() > end:
                 break
         return found + [it.result() for it in waiting]
-
-
-def cost(library, *words, timeout=None):
-    """What cost.py says of a call: nanoseconds, bytes answered and held, and the name of an error or `-`."""
-    env = {**os.environ, "LIBRARY": library, "LD_PRELOAD": os.path.join(build.BUILD, "refuse.so")}
-    ran = subprocess.run([sys.executable, os.path.join(os.path.dirname(__file__), "cost.py"), *map(str, words)], env=env, stdout=subprocess.PIPE, text=True, check=True, timeout=timeout)
-    *numbers, error = ran.stdout.split()
-    return *map(int, numbers), error
 
 
 def total(reports):

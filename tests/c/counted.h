@@ -121,6 +121,16 @@ static inline uint8_t *content(const char *path, size_t *size)
     return bytes;
 }
 
+/* A random number below the limit, the same on each platform. */
+static inline uint32_t below(uint32_t limit)
+{
+    static uint64_t state = 88172645463325253u;
+    state ^= state >> 12;
+    state ^= state << 25;
+    state ^= state >> 27;
+    return (uint32_t)((((state * 2685821657736338717u) >> 32) * limit) >> 32);
+}
+
 /* Bits of a number that a narrower type loses. */
 static const uint32_t HIGH[] = {1u << 8, 1u << 16, 1u << 24, 1u << 31};
 enum { HIGHS = sizeof HIGH / sizeof *HIGH };

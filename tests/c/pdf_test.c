@@ -29,6 +29,14 @@ struct row {
     subsetter_pdf_options options;
 };
 
+/* What the calls take of a row. */
+#define FONT row->font, row->font_size, 0
+#define PLACE row->coordinates, row->coordinate_count
+#define SHOWN row->glyphs, row->glyph_count, row->text, row->text_count, row->ends, row->glyph_count
+/* No coordinates; no coordinates, glyphs and texts. */
+#define NO_PLACE NULL, 0
+#define NOTHING NO_PLACE, NULL, 0, NULL, 0, NULL, 0
+
 static const char *folder;
 
 /* A file of the folder. */
@@ -167,15 +175,6 @@ static void compare_lists(const struct row *row, const subsetter_pdf_font *font)
 
 /* ---- objects */
 
-static uint8_t wanted[TEXT * 4];
-static size_t wanted_size;
-
-static void want(const void *bytes, size_t size)
-{
-    memcpy(wanted + wanted_size, bytes, size);
-    wanted_size += size;
-}
-
 static int is_same(const void *a, size_t a_size, const void *b, size_t b_size)
 {
     return a_size == b_size && (a_size == 0 || memcmp(a, b, a_size) == 0);
@@ -228,7 +227,7 @@ static void compare_objects(const struct row *row, const subsetter_pdf_font *fon
 
 static uint32_t sheet(const struct row *row, const subsetter_pdf_font *font, uint32_t layout, subsetter_pdf_objects *made)
 {
-    return subsetter_make_pdf_sheet(font, row->glyphs, row->glyph_count, row->text, row->text_count, row->ends, row->glyph_count, layout, made);
+    return subsetter_make_pdf_sheet(font, SHOWN, layout, made);
 }
 
 static void compare_sheets(const struct row *row, const subsetter_pdf_font *font)
@@ -251,8 +250,7 @@ static void compare_sheets(const struct row *row, const subsetter_pdf_font *font
 static uint32_t make(const struct row *row, const subsetter_pdf_options *options, subsetter_pdf_font *font)
 {
     memset(font, FILLED, sizeof *font);
-    return subsetter_make_pdf_font(row->font, row->font_size, 0, row->coordinates, row->coordinate_count, row->glyphs,
-        row->glyph_count, row->text, row->text_count, row->ends, row->glyph_count, options, font);
+    return subsetter_make_pdf_font(FONT, PLACE, SHOWN, options, font);
 }
 
 /* (there may be room behind the last number) */
@@ -306,8 +304,7 @@ static int are_same_objects(const subsetter_pdf_objects *a, const subsetter_pdf_
 static uint32_t make_whole(const struct row *row, const subsetter_pdf_options *options, subsetter_font *font)
 {
     memset(font, FILLED, sizeof *font);
-    return subsetter_make_font(row->font, row->font_size, 0, row->coordinates, row->coordinate_count, row->glyphs, row->glyph_count, row->text,
-        row->text_count, row->ends, row->glyph_count, options, font);
+    return subsetter_make_font(FONT, PLACE, SHOWN, options, font);
 }
 
 /* Whether all but the size of a font is 0 or an empty list. */
@@ -334,23 +331,20 @@ static void compare_parts(const struct row *row, const subsetter_font *font)
     subsetter_pdf_parts parts;
     check(make_parts(font, numbers, count, &parts) == 0 && parts.part_count == count, "parts", row->name);
     check(subsetter_make_pdf_objects(&font->pdf, 7, &objects) == 0 && objects.offset_count == count, "objects", row->name);
-    wanted_size = 0;
     for (size_t i = 0; i < parts.part_count; i++) {
         const subsetter_pdf_part *part = &parts.parts[i];
-        char text[64];
-        want(text, (size_t)snprintf(text, sizeof text, "%u 0 obj\n<< ", (unsigned)part->number));
-        want(part->entries, part->entries_size);
-        if (part->is_stream) {
-            want(text, (size_t)snprintf(text, sizeof text, "/Length %zu >>\nstream\n", part->stream_size));
-            want(part->stream, part->stream_size);
-            want("\nendstream\nendobj\n", 18);
-        } else
-            want(">>\nendobj\n", 10);
+        const uint8_t *at = objects.bytes + objects.offsets[i], *end = i + 1 < count ? objects.bytes + objects.offsets[i + 1] : objects.bytes + objects.size;
+        char front[32], middle[64] = ">>\nendobj\n";
+        size_t length = (size_t)snprintf(front, sizeof front, "%u 0 obj\n<< ", (unsigned)part->number), entries = part->entries_size;
+        if (part->is_stream)
+            snprintf(middle, sizeof middle, "/Length %zu >>\nstream\n", part->stream_size);
+        const uint8_t *stream = at + length + entries + strlen(middle);
+        check(memcmp(at, front, length) == 0 && memcmp(at + length, part->entries, entries) == 0 && memcmp(at + length + entries, middle, strlen(middle)) == 0
+            && (!part->is_stream || memcmp(stream, part->stream, part->stream_size) == 0) && stream + (part->is_stream ? part->stream_size + 18 : 0) == end, "a part", row->name);
         for (size_t k = 0; k < part->string_count; k++)
             check(part->entries[part->strings[k].start] == '(' && part->entries[part->strings[k].end - 1] == ')', "a string", row->name);
         check(part->string_count == (part->role == SUBSETTER_ROLE_CID_FONT || part->role == SUBSETTER_ROLE_ENCODING ? 2 : 0), "strings", row->name);
     }
-    check(is_same(objects.bytes, objects.size, wanted, wanted_size), "the parts", row->name);
     subsetter_free_pdf_objects(&objects);
     for (int turn = 0; turn < 2; turn++) {
         subsetter_free_pdf_parts(&parts);
@@ -376,12 +370,10 @@ static void compare_whole(const struct row *row, const subsetter_pdf_font *font)
     check(make_whole(row, &row->options, &whole) == 0 && whole.size == sizeof whole && are_same(&whole.pdf, font), "the newer call", row->name);
     check(is_same(whole.glyphs, 2 * whole.glyph_count, row->glyphs, 2 * count) && is_same(whole.text, 4 * whole.text_count, row->text, 4 * row->text_count)
               && is_same(whole.ends, whole.end_count * sizeof *whole.ends, row->ends, count * sizeof *row->ends), "its entries", row->name);
-    check(subsetter_codes_of(row->glyphs, count, row->text, row->text_count, row->ends, count, row->options.codes, codes, ENTRIES, &length) == 0
-              && is_same(codes, 2 * length, font->codes, 2 * font->code_count), "codes", row->name);
-    check(count == 0 || (subsetter_codes_of(row->glyphs, count, row->text, row->text_count, row->ends, count, 0, codes, count - 1, &length) == 8
-              && length == count), "room for codes", row->name);
-    check(subsetter_advances(row->font, row->font_size, 0, row->coordinates, row->coordinate_count, row->glyphs, count, NULL, widths, heights, &units) == 0
-              && units == whole.units_per_em && whole.exact_width_count == font->width_count, "advances", row->name);
+    check(subsetter_codes_of(SHOWN, row->options.codes, codes, ENTRIES, &length) == 0 && is_same(codes, 2 * length, font->codes, 2 * font->code_count), "codes", row->name);
+    check(count == 0 || (subsetter_codes_of(SHOWN, 0, codes, count - 1, &length) == 8 && length == count), "room for codes", row->name);
+    check(subsetter_advances(FONT, PLACE, row->glyphs, count, NULL, widths, heights, &units) == 0 && units == whole.units_per_em
+        && whole.exact_width_count == font->width_count, "advances", row->name);
     for (size_t i = 0; i < count; i++)
         differing += widths[i] != whole.exact_widths[font->cids[i]];
     for (size_t i = 0; i < font->width_count; i++)
@@ -395,8 +387,8 @@ static void compare_whole(const struct row *row, const subsetter_pdf_font *font)
                   && memcmp(&whole.exact_widths, &zero.exact_widths, sizeof zero - offsetof(subsetter_font, exact_widths)) == 0, "what is left", row->name);
     }
     whole.size--;
-    check(subsetter_make_font_by_words(row->font, row->font_size, 0, NULL, 0, NULL, 0, NULL, 0, NULL, 0, NULL, 0, &whole) == 10 && whole.size == sizeof whole - 1
-              && make_parts(&whole, NULL, 0, &(subsetter_pdf_parts){NULL, 0}) == 10, "another size", row->name);
+    check(subsetter_make_font_by_words(FONT, NOTHING, NULL, 0, &whole) == 10 && whole.size == sizeof whole - 1
+        && make_parts(&whole, NULL, 0, &(subsetter_pdf_parts){NULL, 0}) == 10, "another size", row->name);
 }
 
 /* A text in UTF-8: the same font as of its glyphs; an axis that the font doesn't have; and kinds of codes. */
@@ -411,11 +403,10 @@ static void try_utf8(const struct row *row)
     uint16_t code;
     uint32_t units;
     size_t length;
-    check(subsetter_make_pdf_font_of_utf8(row->font, row->font_size, 0, at, 2, text, sizeof text - 1, NULL, &font) == 0, "status", name);
+    check(subsetter_make_pdf_font_of_utf8(FONT, at, 2, text, sizeof text - 1, NULL, &font) == 0, "status", name);
     check(font.glyph_count == 5 && font.text[2] == 0xfb01 && font.text[3] == 0x1f600 && font.ends[4] == 5 && font.glyphs[1] == 9 && font.glyphs[4] == 0
               && font.unknown_axis_count == 1 && font.unknown_axes[0] == at[0].tag, "what was looked up", name);
-    check(subsetter_make_pdf_font(row->font, row->font_size, 0, NULL, 0, font.glyphs, 5, font.text, 5, font.ends, 5, NULL, &older) == 0
-              && are_same(&font.pdf, &older), "the font", name);
+    check(subsetter_make_pdf_font(FONT, NO_PLACE, font.glyphs, 5, font.text, 5, font.ends, 5, NULL, &older) == 0 && are_same(&font.pdf, &older), "the font", name);
     check(subsetter_make_sheet(&font, 1, &sheets[0]) == 0 && subsetter_make_pdf_sheet(&older, font.glyphs, 5, font.text, 5, font.ends, 5, 1, &sheets[1]) == 0
               && are_same_objects(&sheets[0], &sheets[1]), "a sheet", name);
     subsetter_free_pdf_objects(&sheets[0]);
@@ -424,7 +415,7 @@ static void try_utf8(const struct row *row)
     subsetter_free_font(&font);
     for (size_t i = 0; i < sizeof wrong / sizeof *wrong; i++) {
         memset(&font, FILLED, sizeof font);
-        check(subsetter_make_pdf_font_of_utf8(row->font, row->font_size, 0, NULL, 0, wrong[i], strlen(wrong[i]), NULL, &font) == 12 && is_no_whole(&font), "no UTF-8", name);
+        check(subsetter_make_pdf_font_of_utf8(FONT, NO_PLACE, wrong[i], strlen(wrong[i]), NULL, &font) == 12 && is_no_whole(&font), "no UTF-8", name);
     }
     check(subsetter_make_pdf_font_of_utf8((const uint8_t *)"no", 2, 0, NULL, 0, "A", 1, NULL, &font) == 1 && is_no_whole(&font), "no font", name);
     for (uint32_t kind = 0; kind < 300; kind++)
@@ -526,15 +517,6 @@ static void refuse(const struct row *row)
 
 /* ---- damaged fonts */
 
-static uint32_t state = 1;
-
-static uint32_t random_number(void)
-{
-    state ^= state << 13;
-    state ^= state >> 17;
-    return state ^= state << 5;
-}
-
 /* Fonts with some other bytes, or an end that is cut off: a call answers a known status, and all memory comes back. */
 static void damage(const struct row *row, int times)
 {
@@ -548,11 +530,11 @@ static void damage(const struct row *row, int times)
         long before = held;
         other = *row;
         /* (a block of the damaged font's own size, so that a byte past its end is found) */
-        other.font_size = random_number() % 4 == 0 ? random_number() % (row->font_size + 1) : row->font_size;
+        other.font_size = below(4) == 0 ? below((uint32_t)row->font_size + 1) : row->font_size;
         other.font = malloc(other.font_size + (other.font_size == 0));
         memcpy(other.font, row->font, other.font_size);
-        for (uint32_t bytes = random_number() % 8; bytes > 0 && other.font_size > 0; bytes--)
-            other.font[random_number() % other.font_size] = (uint8_t)random_number();
+        for (uint32_t bytes = below(8); bytes > 0 && other.font_size > 0; bytes--)
+            other.font[below((uint32_t)other.font_size)] = (uint8_t)below(256);
         uint32_t found = subsetter_glyphs_of(other.font, other.font_size, 0, row->text, row->text_count, glyphs, CHARACTERS, &length);
         check(found < 8 && (found == 0 ? length == row->text_count : length == 0), "its glyphs", name);
         uint32_t status = make(&other, &other.options, &font);
@@ -598,8 +580,7 @@ static void try_words(const struct row *row)
         for (int i = -1; i < HIGHS; i++) {
             uint32_t many[80] = {4 * count + (i < 0 ? 0 : HIGH[i])};
             subsetter_pdf_font font;
-            check(subsetter_make_pdf_font_by_words(row->font, row->font_size, 0, NULL, 0, row->glyphs, row->glyph_count, row->text, row->text_count,
-                      row->ends, row->glyph_count, many, count, &font) == (i < 0 && count <= ALL_WORDS ? 0 : 10), "a list of words", name);
+            check(subsetter_make_pdf_font_by_words(FONT, NO_PLACE, SHOWN, many, count, &font) == (i < 0 && count <= ALL_WORDS ? 0 : 10), "a list of words", name);
             subsetter_free_pdf_font(&font);
         }
 }
@@ -666,14 +647,13 @@ static const struct {
     {{'A', 0x110000}, 2, {1, 2}, 2, 12}, {{'A', 0xffffffff}, 2, {1, 2}, 2, 12},
 };
 
-static void check_text(const struct row *row, const subsetter_pdf_font *made, const uint32_t *text, size_t text_count, const size_t *ends, size_t count,
-    uint32_t status)
+static void check_text(const struct row *row, const subsetter_pdf_font *made, const uint32_t *text, size_t text_count, const size_t *ends, size_t count, uint32_t status)
 {
     static const char name[] = "a text";
     subsetter_pdf_font font;
     subsetter_pdf_objects page;
     memset(&page, FILLED, sizeof page);
-    check(subsetter_make_pdf_font(row->font, row->font_size, 0, NULL, 0, row->glyphs, 2, text, text_count, ends, count, NULL, &font) == status, "a font", name);
+    check(subsetter_make_pdf_font(FONT, NO_PLACE, row->glyphs, 2, text, text_count, ends, count, NULL, &font) == status, "a font", name);
     check(status == 0 || is_nothing(&font), "what is left of a font", name);
     check(subsetter_make_pdf_sheet(made, row->glyphs, 2, text, text_count, ends, count, 0, &page) == status, "a sheet", name);
     check(status == 0 || are_no_objects(&page), "what is left of a sheet", name);
@@ -699,12 +679,12 @@ static void try_texts(const struct row *row)
     /* What comes first: options, texts, opening, permission. */
     check(subsetter_make_pdf_font(no_font, 2, 0, NULL, 0, row->glyphs, 2, text, 2, ends, 2, &unknown, &font) == 10, "options come first", name);
     check(subsetter_make_pdf_font(no_font, 2, 0, NULL, 0, row->glyphs, 2, text, 1, ends, 0, NULL, &font) == 12, "texts before opening", name);
-    check(subsetter_make_pdf_font(no_font, 2, 0, NULL, 0, NULL, 0, NULL, 0, NULL, 0, NULL, &font) == 1, "opening", name);
+    check(subsetter_make_pdf_font(no_font, 2, 0, NOTHING, NULL, &font) == 1, "opening", name);
     for (int i = 0; i < 600; i++)
         text[i] = 'a';
-    check(subsetter_make_pdf_font(row->font, row->font_size, 0, NULL, 0, row->glyphs, 2, text, 600, longest, 2, NULL, &font) == 0, "256 units", name);
+    check(subsetter_make_pdf_font(FONT, NO_PLACE, row->glyphs, 2, text, 600, longest, 2, NULL, &font) == 0, "256 units", name);
     subsetter_free_pdf_font(&font);
-    check(subsetter_make_pdf_font(row->font, row->font_size, 0, NULL, 0, row->glyphs, 2, text, 600, longer, 2, NULL, &font) == 12, "257 units", name);
+    check(subsetter_make_pdf_font(FONT, NO_PLACE, row->glyphs, 2, text, 600, longer, 2, NULL, &font) == 12, "257 units", name);
     subsetter_free_pdf_font(&made);
 }
 
@@ -725,8 +705,7 @@ static void try_sheets(const struct row *row)
         char front[32];
         uint32_t first = i < 0 ? 1 : HIGH[i] + 1;
         size_t length = (size_t)snprintf(front, sizeof front, "%u 0 obj\n", (unsigned)first + 4);
-        check(subsetter_make_pdf_objects(&font, first, &made) == 0 && made.offset_count > 4 && memcmp(made.bytes + made.offsets[4], front, length) == 0,
-            "the number of an object", name);
+        check(subsetter_make_pdf_objects(&font, first, &made) == 0 && made.offset_count > 4 && !memcmp(made.bytes + made.offsets[4], front, length), "a number", name);
         subsetter_free_pdf_objects(&made);
     }
     check(subsetter_make_pdf_objects(&font, UINT32_MAX - 7, &made) == 0, "the last number", name);
@@ -829,19 +808,19 @@ static void try_nulls(const struct row *row)
     check((STATUS) == 0 || is_nothing(&font), #__VA_ARGS__, name);                                                   \
     subsetter_free_pdf_font(&font)
         MADE(1, 0, no_font, 0, 0, &at, 1, glyphs, 1, text, 1, one, 1, words, 1);
-        MADE(0, 1, row->font, row->font_size, 0, no_place, 0, glyphs, 1, text, 1, one, 1, no_words, 0);
-        MADE(12, 0, row->font, row->font_size, 0, &at, 1, no_glyphs, 0, text, 1, one, 1, words, 1);
-        MADE(12, 0, row->font, row->font_size, 0, &at, 1, glyphs, 1, no_text, 0, one, 1, words, 1);
-        MADE(12, 0, row->font, row->font_size, 0, &at, 1, glyphs, 1, text, 1, no_ends, 0, words, 1);
-        MADE(0, 1, row->font, row->font_size, 0, &at, 1, glyphs, 1, no_text, 0, none, 1, words, 1);
-        MADE(0, 0, row->font, row->font_size, 0, no_place, 0, no_glyphs, 0, no_text, 0, no_ends, 0, no_words, 0);
-        check(subsetter_make_pdf_font(row->font, row->font_size, 0, NULL, 0, NULL, 0, NULL, 0, NULL, 0, NULL, &font) == 0, "a font", name);
+        MADE(0, 1, FONT, no_place, 0, glyphs, 1, text, 1, one, 1, no_words, 0);
+        MADE(12, 0, FONT, &at, 1, no_glyphs, 0, text, 1, one, 1, words, 1);
+        MADE(12, 0, FONT, &at, 1, glyphs, 1, no_text, 0, one, 1, words, 1);
+        MADE(12, 0, FONT, &at, 1, glyphs, 1, text, 1, no_ends, 0, words, 1);
+        MADE(0, 1, FONT, &at, 1, glyphs, 1, no_text, 0, none, 1, words, 1);
+        MADE(0, 0, FONT, no_place, 0, no_glyphs, 0, no_text, 0, no_ends, 0, no_words, 0);
+        check(subsetter_make_pdf_font(FONT, NOTHING, NULL, &font) == 0, "a font", name);
         check(subsetter_make_pdf_sheet(&font, no_glyphs, 0, no_text, 0, no_ends, 0, 0, &made) == 0 && made.size > 500, "a sheet", name);
         subsetter_free_pdf_objects(&made);
         subsetter_free_pdf_font(&font);
         check(subsetter_glyphs_of(no_font, 0, 0, text, 1, glyph, 1, &length) == 1 && length == 0, "glyphs of no font", name);
-        check(subsetter_glyphs_of(row->font, row->font_size, 0, no_text, 0, is_null ? NULL : glyph + 1, 0, &length) == 0 && length == 0, "no text", name);
-        check(subsetter_glyphs_of(row->font, row->font_size, 0, text, 1, is_null ? NULL : glyph + 1, 0, &length) == 8 && length == 1, "no room", name);
+        check(subsetter_glyphs_of(FONT, no_text, 0, is_null ? NULL : glyph + 1, 0, &length) == 0 && length == 0, "no text", name);
+        check(subsetter_glyphs_of(FONT, text, 1, is_null ? NULL : glyph + 1, 0, &length) == 8 && length == 1, "no room", name);
         check(glyph[0] == 7, "nothing is written", name);
     }
 }

@@ -566,16 +566,7 @@ static void check_words(const struct row *row)
 
 /* ---- damaged fonts */
 
-static uint64_t state = 88172645463325253u, sum = 14695981039346656037u;
-
-/* A number below the limit. */
-static uint32_t below(uint32_t limit)
-{
-    state ^= state >> 12;
-    state ^= state << 25;
-    state ^= state >> 27;
-    return (uint32_t)((((state * 2685821657736338717u) >> 32) * limit) >> 32);
-}
+static uint64_t sum = 14695981039346656037u;
 
 /* True in one of so many cases. */
 static int once_in(uint32_t cases)

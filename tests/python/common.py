@@ -14,7 +14,6 @@ MODULE = ROOT / "bindings/python"
 ROWS = ROOT / "crates/dev_rows/data/subset.txt"
 # The rows for PDF, and their fonts.
 PDF_DATA = ROOT / "bindings/rust/tests/data"
-PDF_ROWS = PDF_DATA / "pdf_rows.txt"
 
 ERRORS = [None, "UnknownKind", "MalformedFont", "Unimplemented", "SubsetError", "OverflowError", "CFFError", "OutOfMemory"]
 # What a kind of row has between its glyphs and its status.
@@ -83,7 +82,7 @@ def read_rows():
 def pdf_rows():
     """The rows for PDF as dicts of fields; `object` has a list of them."""
     rows, row = [], {}
-    for line in PDF_ROWS.read_text().split("\n"):
+    for line in (PDF_DATA / "pdf_rows.txt").read_text().split("\n"):
         name, _, value = line.replace("~", "\n").partition(" ")
         if not line and row:
             rows.append(row)
@@ -121,10 +120,5 @@ def run(*words, folder=None, **env):
 def child(program, path=MODULE, folder="/", **env):
     """What a program prints in a Python of its own, which finds programs.py, with its status behind it where that isn't 0."""
     env = {"SUBSETTER_LIBRARY": os.environ["SUBSETTER_LIBRARY"], **env}
-    ran = run(sys.executable, "-c", textwrap.dedent(program), folder=folder, PYTHONPATH=f"{path}:{HERE}", DATA=PDF_DATA, **env)
+    ran = run(sys.executable, "-c", textwrap.dedent(program), folder=folder, PYTHONPATH=f"{path}:{HERE}", **env)
     return ran.stdout + (f"status {ran.returncode}" if ran.returncode else "")
-
-
-def shared_library(source, path, *flags):
-    """Compiles a file in C to a shared library."""
-    subprocess.run([os.environ.get("CC", "cc"), "-O1", "-shared", "-fPIC", *flags, "-o", path, source], check=True)

@@ -1,13 +1,7 @@
 """What the programs of test_memory.py and test_library.py begin with: fonts, and one answer of each kind of call."""
 
-import os
-
 import subsetter
-
-
-def made(name):
-    with open(os.path.join(os.environ["DATA"], name), "rb") as file:
-        return file.read()
+from common import made
 
 
 def parts(font):

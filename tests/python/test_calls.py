@@ -164,14 +164,10 @@ def test_no_numbers(name):
 
 def test_choices_that_are_true_or_false():
     names = {"hinting": LIMITED, "names": LIMITED[:2], "glyph_names": LIMITED[:2], "vertical": LIMITED[2:], "cid_set": LIMITED[2:]}
-    for name, calls in names.items():
+    for name, calls in [*names.items(), ("hint", LIMITED)]:
         for call, value in itertools.product(calls, (0, 1, None, "no", "", 1.0, [])):
             assert type(raised(call, TTF, **{name: value})) is TypeError
-
-
-def test_choices_are_given_by_name_alone():
-    for call in LIMITED:
-        assert type(raised(call, TTF, hint=False)) is TypeError
+    # (they are given by name alone)
     assert type(raised(subsetter.subset, TTF, [], 0, 5)) is TypeError
 
 

@@ -1,7 +1,6 @@
 """The packages: pip installs the module from a clone and from the sdist, without a network, and each has its files."""
 
 import base64
-import csv
 import hashlib
 import re
 import shutil
@@ -58,26 +57,22 @@ def files_of(folder):
 
 def check_wheel(path, platform, traces):
     """The files of a wheel, and that the library names no folder of this machine."""
-    library = "libsubsetter.so"
+    library, record = "subsetter/libsubsetter.so", f"{INFO}/RECORD"
     assert path.name == f"{FRONT}-py3-none-{platform}.whl"
     with zipfile.ZipFile(path) as file:
         parts = {name: file.read(name) for name in file.namelist()}
-        programs = {it.filename for it in file.infolist() if it.external_attr >> 16 & 0o111}
-    wanted = {
-        "subsetter/__init__.py": MODULE / "subsetter/__init__.py", "subsetter/py.typed": MODULE / "subsetter/py.typed",
-        f"{INFO}/licenses/LICENSE": ROOT / "LICENSE", f"{INFO}/licenses/NOTICE": ROOT / "NOTICE",
-    }
-    assert {*parts} == {*wanted, f"subsetter/{library}", *(f"{INFO}/{name}" for name in ("METADATA", "WHEEL", "RECORD"))}
-    assert all(parts[name] == source.read_bytes() for name, source in wanted.items()) and programs == {f"subsetter/{library}"}
-    rows = list(csv.reader(parts[f"{INFO}/RECORD"].decode().splitlines()))
-    sums = {name: base64.urlsafe_b64encode(hashlib.sha256(data).digest()).rstrip(b"=").decode() for name, data in parts.items()}
-    assert rows == [[name, f"sha256={sums[name]}", str(len(data))] for name, data in parts.items()][:-1] + [[f"{INFO}/RECORD", "", ""]]
+        assert {it.filename for it in file.infolist() if it.external_attr >> 16 & 0o111} == {library}
+    wanted = {f"subsetter/{name}": MODULE / "subsetter" / name for name in ("__init__.py", "py.typed")}
+    wanted.update({f"{INFO}/licenses/{name}": ROOT / name for name in ("LICENSE", "NOTICE")})
+    assert {*parts} == {*wanted, library, record, f"{INFO}/METADATA", f"{INFO}/WHEEL"}
+    assert all(parts[name] == source.read_bytes() for name, source in wanted.items())
+    sums = [(name, base64.urlsafe_b64encode(hashlib.sha256(data).digest()).decode().rstrip("="), len(data)) for name, data in parts.items() if name != record]
+    assert parts[record].decode().splitlines() == [*(f"{name},sha256={sum_of},{size}" for name, sum_of, size in sums), f"{record},,"]
     head, _, text = parts[f"{INFO}/METADATA"].decode().partition("\n\n")
     assert {"Metadata-Version: 2.1", "Name: subsetter", f"Version: {VERSION}", "License: MIT OR Apache-2.0", "Requires-Python: >=3.8"} <= {*head.split("\n")}
     assert text == (MODULE / "README.md").read_text()
     assert parts[f"{INFO}/WHEEL"].decode().split("\n")[2:] == ["Root-Is-Purelib: false", f"Tag: py3-none-{platform}", ""]
-    data = parts[f"subsetter/{library}"]
-    assert len(data) > 100_000 and not any(str(trace).encode() in data for trace in traces)
+    assert len(parts[library]) > 100_000 and not any(str(trace).encode() in parts[library] for trace in traces)
 
 
 def test_tags(tmp_path):
@@ -91,16 +86,13 @@ def test_tags(tmp_path):
 
 
 def test_sdist(tmp_path):
-    assert subsetter_build.build_sdist(tmp_path) == f"{FRONT}.tar.gz"
-    whole = (tmp_path / f"{FRONT}.tar.gz").read_bytes()
-    subsetter_build.build_sdist(tmp_path)
-    assert (tmp_path / f"{FRONT}.tar.gz").read_bytes() == whole
+    """(That it lacks nothing the wheel of it shows.)"""
+    made = [(tmp_path / subsetter_build.build_sdist(tmp_path)).read_bytes() for _ in range(2)]
+    assert made[0] == made[1] and [it.name for it in tmp_path.iterdir()] == [f"{FRONT}.tar.gz"]
     with tarfile.open(tmp_path / f"{FRONT}.tar.gz") as file:
-        members = file.getmembers()
-    own = {path.relative_to(ROOT / "bindings") for name in ("capi", "rust") for path in (ROOT / "bindings" / name / "src").rglob("*") if path.is_file()}
-    own = {f"crates/{path}" for path in own} | {f"crates/{name}/Cargo.toml" for name in ("capi", "rust")} | {"crates/capi/Cargo.lock", "crates/capi/build.rs", "crates/rust/README.md"}
-    own |= {"PKG-INFO", "LICENSE", "NOTICE", "README.md", "pyproject.toml", "subsetter_build.py", "subsetter/__init__.py", "subsetter/py.typed"}
-    assert {it.name for it in members} == {f"{FRONT}/{name}" for name in own}
+        members, names = file.getmembers(), file.getnames()
+    own = r"crates/(capi|rust)/(src/.*|Cargo\.toml|Cargo\.lock|build\.rs|README\.md)|subsetter/(__init__\.py|py\.typed)|PKG-INFO|LICENSE|NOTICE|README\.md|pyproject\.toml|subsetter_build\.py"
+    assert [it for it in names if not re.fullmatch(f"{FRONT}/({own})", it)] == [] and f"{FRONT}/PKG-INFO" in names
     assert {(it.mtime, it.uid, it.uname, it.mode) for it in members} == {(315532800, 0, "", 0o644)}
 
 

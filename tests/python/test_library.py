@@ -8,7 +8,8 @@ import threading
 
 import pytest
 import subsetter
-from common import MODULE, child, made, read_rows, shared_library
+import support
+from common import MODULE, child, made, read_rows
 
 ROWS = read_rows()[0]
 
@@ -75,7 +76,7 @@ CALLS = ["make_subset_by_words", "make_embedded_by_words", "make_subset_at_by_wo
 
 def other_library(path, calls, status):
     path.with_suffix(".c").write_text("\n".join(f"unsigned subsetter_{name}(void) {{ return {status}; }}" for name in calls))
-    shared_library(path.with_suffix(".c"), path)
+    support.library(path.stem, path.with_suffix(".c"), path.parent)
 
 
 def test_libraries_of_other_versions(places):
@@ -164,7 +165,7 @@ def test_loaded_again():
 def test_forked_processes():
     """What was loaded and made before is there in both, also where another thread was about to load the library."""
     assert child("""
-        import signal, threading
+        import os, signal, threading
         from programs import *
 
         def forked(run):

@@ -1,6 +1,6 @@
 """Memory: what stays during a call, what isn't copied, what comes of a refused request, and that all is given back."""
 
-from common import ROOT, child, read_rows, shared_library
+from common import child, read_rows
 
 FONTS = read_rows()[1]
 
@@ -50,7 +50,7 @@ def test_no_memory():
 
 
 REFUSED = """
-    import ctypes
+    import ctypes, os
     from programs import *
     shim = ctypes.CDLL(None)
     shim.watch.argtypes, shim.refuse.argtypes = [ctypes.c_size_t] * 2, [ctypes.c_size_t]
@@ -80,10 +80,8 @@ REFUSED = """
 """
 
 
-def test_each_request_that_is_refused(tmp_path):
+def test_each_request_that_is_refused(refuser):
     """`OutOfMemory`, or the whole answer; nothing is held afterwards, and the next call is as good as any."""
-    shim = tmp_path / "refuse.so"
-    shared_library(ROOT / "compare/drivers/refuse.c", shim)
-    *lines, last = child(REFUSED, LD_PRELOAD=shim, WATCH=1).splitlines()
+    *lines, last = child(REFUSED, LD_PRELOAD=refuser, WATCH=1).splitlines()
     assert len(lines) > 7 and {line.partition(": ")[2] for line in lines} == {"True True True"}, lines
     assert last == "True"

@@ -2,19 +2,15 @@
 
 import copy
 import ctypes
-import io
 import pickle
 import re
 import types
 import warnings
-from pathlib import Path
+import zlib
 
 import pytest
 import subsetter
-from common import ROOT, made, raised, read_rows, run
-from fontTools.cffLib import CFFFontSet
-from fontTools.pens.basePen import NullPen
-from fontTools.ttLib import TTFont
+from common import ROOT, made, raised, read_rows
 from hypothesis import example, given, strategies as st
 
 FONTS = read_rows()[1]
@@ -69,19 +65,6 @@ def test_a_font_that_may_not_be_embedded():
     assert type(raised(subsetter.pdf_font, font, SHOWN)) is subsetter.NotPermitted
 
 
-def test_widths_of_charstrings():
-    """(In Loma's `CFF ` U+0331 has a width of -24997, and in `hmtx` 0.)"""
-    data = Path("/usr/share/fonts/opentype/tlwg/Loma.otf").read_bytes()
-    for program in ("smallest", "opentype"):
-        font = subsetter.pdf_font(data, subsetter.glyphs_of(data, "A\u0331B"), program=program)
-        read = CFFFontSet()
-        read.decompile(io.BytesIO(font.program if font.kind == "CFF" else TTFont(io.BytesIO(font.program)).reader["CFF "]), None)
-        charstrings = [read[0].CharStrings[name] for name in read[0].charset]
-        for it in charstrings:
-            it.draw(NullPen())
-        assert [it.width for it in charstrings] == list(font.exact_widths) and 0 in font.exact_widths
-
-
 def test_limits_and_hinting():
     full, deep = FONTS["full"], FONTS["one_call_with_metrics"]
     assert len(subsetter.pdf_font(full, []).program) > len(subsetter.pdf_font(full, [], hinting=False).program)
@@ -101,19 +84,14 @@ def test_choices():
             assert type(raised(subsetter.pdf_font, TTF, SHOWN, **{name: value})) is TypeError
 
 
-@given(st.text("AZaz@[5\xc4", max_size=8) | st.from_regex("[A-Z]{5,7}", fullmatch=True))
+@given(st.text("AZaz@[5\xc4\n", max_size=8) | st.from_regex("[A-Z]{5,7}", fullmatch=True) | st.sampled_from([b"ABCDEF", 5, 0, False, list("ABCDEF")]))
+@example("ABCDEF\n")
 def test_tags(tag):
-    if re.fullmatch("[A-Z]{6}", tag):
+    if isinstance(tag, str) and re.fullmatch("[A-Z]{6}", tag):
         font = subsetter.pdf_font(TTF, SHOWN, tag=tag)
         assert font.descriptor.font_name == f"{tag}+Made-Regular" and repr(font) == f"<PdfFont {tag}+Made-Regular, TrueType, 3 glyphs>"
     else:
-        assert type(raised(subsetter.pdf_font, TTF, SHOWN, tag=tag)) is ValueError
-
-
-def test_no_tags():
-    for tag in (b"ABCDEF", 5, 0, False, list("ABCDEF")):
-        assert type(raised(subsetter.pdf_font, TTF, SHOWN, tag=tag)) is TypeError
-    assert type(raised(subsetter.pdf_font, TTF, SHOWN, tag="ABCDEF\n")) is ValueError
+        assert type(raised(subsetter.pdf_font, TTF, SHOWN, tag=tag)) is (ValueError if isinstance(tag, str) else TypeError)
 
 
 def test_numbers_of_objects_and_layouts():
@@ -149,33 +127,17 @@ def test_older_names():
             assert call() == [True, True, False]
 
 
-DEJAVU = Path("/usr/share/fonts/truetype/dejavu/DejaVuSans.ttf")
-
-
-@pytest.mark.parametrize("more", [{"compress": True}, {"pack": lambda it: it.hex().encode() + b">", "filter": "/ASCIIHexDecode"}], ids=["zlib", "hex"])
-def test_a_pdf_of_packed_parts(tmp_path, more):
-    """Objects with numbers of the writer's, in another order, each stream packed: qpdf, Poppler and MuPDF read them."""
-    font = subsetter.pdf_font(DEJAVU.read_bytes(), subsetter.glyphs_of(DEJAVU.read_bytes(), "Hello, \u0395\u03bb\u03bb!"), cid_set=True, codes="each_text")
-    parts = font.parts(range(30, 30 - font.part_count, -1), **more)
-    assert [it.role for it in parts] == ["font", "cid_font", "descriptor", "program", "to_unicode", "cid_set", "encoding"][:font.part_count]
-    shows = b"BT /F1 24 Tf 36 60 Td <%s> Tj ET" % "".join("%04X" % code for code in font.codes).encode()
-    objects = {
-        1: b"<< /Type /Catalog /Pages 2 0 R >>", 2: b"<< /Type /Pages /Count 1 /Kids [3 0 R] >>",
-        3: b"<< /Type /Page /Parent 2 0 R /MediaBox [0 0 300 144] /Contents 4 0 R /Resources << /Font << /F1 30 0 R >> >> >>",
-        4: b"<< /Length %d >>\nstream\n%s\nendstream" % (len(shows), shows), **{it.number: it.value for it in parts},
-    }
-    pdf, table = b"%PDF-1.7\n", b"xref\n0 1\n0000000000 65535 f \n"
-    for number, value in objects.items():
-        table += b"%d 1\n%010d 00000 n \n" % (number, len(pdf))
-        pdf += b"%d 0 obj\n%s\nendobj\n" % (number, value)
-    path = tmp_path / "packed.pdf"
-    path.write_bytes(pdf + table + b"trailer\n<< /Size 31 /Root 1 0 R >>\nstartxref\n%d\n%%%%EOF\n" % len(pdf))
-    assert "No syntax or stream encoding errors found" in run("qpdf", "--check", path).stdout
-    for words in (["pdftotext", "-enc", "UTF-8", path, "-"], ["mutool", "draw", "-q", "-F", "txt", path]):
-        assert run(*words).stdout.strip().split("\n")[-1] == "Hello, \u0395\u03bb\u03bb!"
-    assert re.search(r"\+DejaVuSans +CID TrueType +Identity-H +yes yes yes", run("pdffonts", path).stdout)
-    program = next(it for it in parts if it.role == "program")
-    assert b"/Filter " + more.get("filter", "/FlateDecode").encode() in program.entries and len(program.stream) != len(font.program)
+@pytest.mark.parametrize("more, unpacked, name", [
+    ({"compress": True}, zlib.decompress, b"/FlateDecode"), ({"pack": bytes.hex, "filter": "/Own"}, bytes.fromhex, b"/Own")])
+def test_packed_parts(more, unpacked, name):
+    """Each stream is packed, and its dictionary says how; nothing else is otherwise."""
+    font = subsetter.pdf_font(TTF, SHOWN, cid_set=True, codes="each_text")
+    numbers = range(30, 30 - font.part_count, -1)
+    plain, packed = font.parts(numbers), font.parts(numbers, **more)
+    assert [it.role for it in packed] == ["font", "cid_font", "descriptor", "program", "to_unicode", "cid_set", "encoding"]
+    assert [(it.number, it.strings, it.entries) for it in packed] == [
+        (it.number, it.strings, it.entries + (b"/Filter %s " % name if it.stream is not None else b"")) for it in plain]
+    assert [it.stream is not None and unpacked(it.stream) for it in packed] == [it.stream is not None and it.stream for it in plain]
 
 
 def test_parts_are_the_objects():

@@ -23,7 +23,7 @@ def answer(call, *arguments, **choices):
 
 
 def test_there_are_rows():
-    assert len(ROWS) > 450 and len(FONTS) > 100 and len(TEXTS) == 14
+    assert len(ROWS) > 450 and len(FONTS) > 100 and len(TEXTS) == 14 and len(pdf_rows()) >= 20
 
 
 @pytest.mark.parametrize("row", ROWS, ids=lambda row: row.name)
@@ -90,10 +90,6 @@ def wanted_objects(row, font):
     return found, offsets
 
 
-def test_there_are_rows_for_pdf():
-    assert len(pdf_rows()) >= 20
-
-
 @pytest.mark.parametrize("row", pdf_rows(), ids=lambda row: row["row"])
 def test_pdf_row(row):
     if "error" in row:
@@ -104,10 +100,7 @@ def test_pdf_row(row):
     names = set(fields(font)) | {"columns", "dw2", "encoding"}
     assert fields(font) == {name: value for name, value in row.items() if name in names}
     assert font.objects(4) == wanted_objects(row, font)
-    if font.encoding is None:
-        assert font.encoding_name is None
-    else:
-        assert f"/CMapName /{font.encoding_name} def" in row["encoding"]
+    assert font.encoding_name is None if font.encoding is None else f"/CMapName /{font.encoding_name} def" in row["encoding"]
     line, grid = font.sheet(), font.sheet("grid")
     assert line == font.sheet("line") and font.objects(5).bytes in line
     assert line.startswith(b"%PDF-1.7\n") and line.endswith(b"%%EOF\n")

@@ -6,7 +6,7 @@ use subsetter::pdf::{
     codes_of, glyphs_of, pdf_font, Bounds, Codes, Direction, FontError, FontOptions, Layout, PartsError, PdfFont,
     ProgramChoice, Rights, Shown, SubsetTag,
 };
-use subsetter::{embed_with_variations_and_options, Error, Limits, Options, Tag};
+use subsetter::{Error, Limits, Tag};
 
 fn made(name: &str) -> Vec<u8> {
     fs::read(concat!(env!("CARGO_MANIFEST_DIR"), "/tests/data/").to_string() + name).unwrap()
@@ -75,17 +75,12 @@ fn codes_need_no_font() {
 // ---- the program
 
 #[test]
-fn the_program_is_the_embedded_font() {
+fn nan_is_the_default_of_the_axis() {
     let font = made("made_variable.ttf");
     let program = |value| {
         let whole = pdf_font(&font, 0, &[(Tag::new(b"wght"), value)], &SHOWN, &FontOptions::new());
         whole.unwrap().into_program()
     };
-    let kept = Options::new().names(false).glyph_names(false);
-    let (at, glyphs) = ([(Tag::new(b"wght"), 650.0)], SHOWN.map(|it| it.glyph));
-    let embedded = embed_with_variations_and_options(&font, 0, &at, &glyphs, &kept);
-    assert_eq!(program(650.0), embedded.unwrap().font);
-    // A value of NaN is the axis's default.
     assert_eq!(program(f32::NAN), program(400.0));
     assert_ne!(program(f32::NAN), program(401.0));
 }
@@ -191,8 +186,6 @@ fn parts_have_the_numbers_of_the_writer() {
         let is_named = role == "CidFont" || role == "Encoding";
         assert!(strings.eq(own.into_iter().take(if is_named { 2 } else { 0 })), "{role}");
     }
-    let front = String::from_utf8_lossy(&parts[0].entries);
-    assert!(front.contains(" /DescendantFonts [4294967295 0 R] /ToUnicode 70 0 R "), "{front}");
 }
 
 #[test]
