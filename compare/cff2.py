@@ -6,12 +6,13 @@ have some). Each is taken at the default and at N places, for N glyphs (0: all; 
     drawing       HarfBuzz and fontTools draw of it what HarfBuzz draws of the source, each coordinate rounded once by halves up; where HarfBuzz's float is
                   within 0.001 of a half, what the second reading comes to in exact fractions (lib/cff2_source.py)
     hints         stems and masks are the source's, each edge rounded once
-    advance       hmtx has HarfBuzz's advance, and what a second reading of HVAR comes to (lib/reading.py); the bearing is the source's
+    advance       hmtx has HarfBuzz's advance, and what a second reading of HVAR comes to (lib/reading.py); the bearing is the left side of the box
     width         the charstring's width, as fontTools reads it by the private dict, is that of hmtx
     private dict  the glyph's has the operators that CFF and CFF2 share, each edge and number at the location rounded once
     file          OTTO; the tables CFF, head, hhea, hmtx, maxp, name and post (those two where the source has them), with their checksums; CID-keyed
-                  Adobe Identity with the source's scale, head's box, no subroutines and no unused font dict; head is the source's, and hhea
-                  and post are what MVAR makes of theirs; FreeType hints each glyph, where it does so of the source
+                  Adobe Identity with the source's scale, no subroutines and no unused font dict; FontBBox, the box of head and the extremes of
+                  hhea are those of the outlines (fontTools' ControlBoundsPen); else head is the source's, and hhea and post are what MVAR makes
+                  of theirs; FreeType hints each glyph, where it does so of the source
 
 N copies of the fonts of at most 1 MB are damaged in CFF2, fvar, avar or HVAR, each at a random place and for 12 glyphs: the program has to answer what
 HarfBuzz draws of the copy (or, where that goes on otherwise, the second reading; or else a font that FreeType opens as little as the copy), or to refuse it

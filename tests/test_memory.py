@@ -66,6 +66,7 @@ ALLOWED = {
     ("subset_font", "with_more"): (2, "`more_of` and `names_for` have no other error"),
     ("subset_task", "names_of_fvar"): (2, "passes on that of `read_axes`"),
     ("pdf_cff", "unless_memory"): (2, "passes on that of its argument"),
+    ("subsetter_boxes", "unless_memory"): (2, "passes on that of its argument"),
     ("glyph_names", "read_charset"): (2, "passes on that of `Table::parse`"),
 }
 WORDS = re.compile(r"\bOutOfMemory\b|\bNoMemory\b|\b(?:AllocError|AllocFailed)\b(?!\s*[>,}]|<\w)")

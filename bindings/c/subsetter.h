@@ -107,6 +107,39 @@ static inline const char *subsetter_status_text(uint32_t status)
  */
 uint32_t subsetter_error_text(uint32_t status, uint8_t *out, size_t out_size, size_t *length);
 
+/* The calls, for `subsetter_explain`. */
+enum {
+    SUBSETTER_CALL_SUBSET = 0,
+    SUBSETTER_CALL_SUBSET_AT = 1,
+    SUBSETTER_CALL_EMBED = 2,
+    SUBSETTER_CALL_EMBED_AT = 3,
+    SUBSETTER_CALL_PDF_FONT = 4,
+    SUBSETTER_CALL_GLYPHS_OF = 5,
+    SUBSETTER_CALL_ADVANCES = 6
+};
+
+/* Why a call was refused with a status, as the font shows it: the table or the glyph, in words ("glyph 60000: the font's glyphs are 0
+ * to 6252"; "OS/2: fsType 0x0002 forbids embedding"). It is in UTF-8, without a zero at the end, of at most 127 bytes, for people, and
+ * may change. `call` is one of SUBSETTER_CALL_.. (the calls in buffers and in memory of the library are one), and the font, the glyphs
+ * and the limits are those of that call; 0 tokens and a depth of 0 are the defaults. A charstring (CFF outlines) is run within the
+ * limits, once at most, and none after the first that can't be.
+ *
+ *     status = subsetter_make_subset(data, size, 0, glyphs, count, NULL, &made);
+ *     if (status != SUBSETTER_DONE) {
+ *         uint8_t why[127];
+ *         size_t length;
+ *         subsetter_explain(SUBSETTER_CALL_SUBSET, status, data, size, 0, glyphs, count, 0, 0, why, sizeof why, &length);
+ *         fprintf(stderr, "%s%s%.*s\n", subsetter_status_text(status), length == 0 ? "" : ": ", (int)length, (const char *)why);
+ *     }
+ *
+ *   0: `out` begins with the text, and `*length` is its size in bytes: 0 where the font doesn't show why.
+ *   8: `out` is too small and as it was; `*length` is the exact size.
+ *   7, 10 (another call): `out` is as it was, and `*length` is 0.
+ */
+uint32_t subsetter_explain(uint32_t call, uint32_t status, const uint8_t *font, size_t font_size, uint32_t index,
+                           const uint16_t *glyphs, size_t glyph_count, uint32_t tokens, uint8_t depth,
+                           uint8_t *out, size_t out_size, size_t *length);
+
 /* The version of the library, as SUBSETTER_VERSION. */
 uint32_t subsetter_version(void);
 

@@ -8,7 +8,10 @@
  * The font alone is `subsetter.subset(bytes, [36, 68])`.
  */
 
-/** Why a font can't be subset; its message says it in words, and its `name` is that of its class. */
+/**
+ * Why a font can't be subset; its `name` is that of its class. Its message says it in words and, after a colon, which table or glyph the
+ * font shows it by: "malformed font: glyph 60000: the font's glyphs are 0 to 6252".
+ */
 export class SubsetterError extends Error {}
 /** No OpenType font, or one without outlines. */
 export class UnknownKind extends SubsetterError {}

@@ -9,7 +9,10 @@
  * `subsetter.d.mts` says what each call takes and answers, and README.md what is proved of it and what is tested.
  */
 
-/** Why a font can't be subset; its message says it in words. */
+/**
+ * Why a font can't be subset. Its message says it in words and, after a colon, which table or glyph the font shows it by: "malformed
+ * font: glyph 60000: the font's glyphs are 0 to 6252".
+ */
 export class SubsetterError extends Error {}
 /** No OpenType font, or one without outlines. */
 export class UnknownKind extends SubsetterError {}
@@ -47,10 +50,13 @@ const ERRORS = [, UnknownKind, MalformedFont, Unimplemented, SubsetError, Overfl
 ERRORS[11] = NotPermitted;
 ERRORS[12] = InvalidText;
 ERRORS[16] = RangeError;
-const DONE = 0;
+const DONE = 0, OUT_OF_MEMORY = 7;
 const PAGE = 65536, ALIGNMENT = 16, MEMORY_AT_MOST = 2 ** 31;
 const WORD_AT_MOST = 2 ** 32 - 1;
 const TOKENS = 1000000, DEPTH = 64;
+
+/** The exports that take a font, by their numbers for `subsetter_explain`. */
+const CALLS = ["subset", "subset_at", "embed", "embed_at", "pdf_font", "glyphs_of", "advances"].map((name) => `subsetter_${name}`);
 
 /** The words of a call that it writes: for the font, the CIDs and the widths where the list lies, and its count. */
 const MADE = [0, 0, 0, 0, 0, 0];
@@ -97,6 +103,9 @@ const classOf = (value) => Object.prototype.toString.call(value).slice("[object 
 /** Whether a value is an ArrayBuffer, shared or not. */
 const isBuffer = (value) => ["ArrayBuffer", "SharedArrayBuffer"].includes(classOf(value));
 
+/** What a value is, as a message has it. */
+const kindOf = (value) => (typeof value === "object" && value !== null ? classOf(value) : value === null ? "null" : typeof value);
+
 /** The bytes of an ArrayBuffer or of a view of one; else TypeError. */
 function bytesOf(data) {
     if (ArrayBuffer.isView(data)) {
@@ -105,13 +114,13 @@ function bytesOf(data) {
     if (isBuffer(data)) {
         return new Uint8Array(data);
     }
-    throw new TypeError("a font must be an ArrayBuffer or a view of one");
+    throw new TypeError(`a font must be the bytes of a file, an ArrayBuffer or a view of one, and not ${kindOf(data)}`);
 }
 
 /** Glyph numbers, as a list; else TypeError or RangeError. */
 function glyphsOf(glyphs) {
     if (typeof glyphs !== "object" || typeof glyphs?.[Symbol.iterator] !== "function") {
-        throw new TypeError("glyphs must be an iterable of numbers");
+        throw new TypeError(`glyphs must be an iterable of numbers, as [36, 68], and not ${kindOf(glyphs)} (glyphsOf has those of a text)`);
     }
     const numbers = [];
     for (const glyph of glyphs) {
@@ -131,7 +140,8 @@ function charactersOf(text) {
 /** Glyphs with their texts as the library takes them; else TypeError or RangeError. */
 function entriesOf(shown) {
     if (typeof shown !== "object" || typeof shown?.[Symbol.iterator] !== "function") {
-        throw new TypeError("glyphs with their texts must be an iterable of objects");
+        const wanted = "glyphs with their texts must be an iterable of objects, as [{ glyph: 36, text: \"A\" }]";
+        throw new TypeError(`${wanted}, and not ${kindOf(shown)} (glyphsOf makes them of a text)`);
     }
     const glyphs = [], text = [], ends = [];
     for (const entry of shown) {
@@ -395,9 +405,23 @@ class Library {
         return String.fromCharCode(...new Uint8Array(buffer, at, length));
     }
 
-    #check(status) {
+    /** Throws the error of a status. `asked` are the name of a call on a font, and what it was given, by which the font shows why. */
+    #check(status, ...asked) {
         if (status !== DONE) {
-            throw new (ERRORS[status] ?? SubsetterError)(this.#texts[status] ?? `status ${status}`);
+            const reason = asked.length > 0 && status !== OUT_OF_MEMORY ? this.#reason(status, ...asked) : "";
+            throw new (ERRORS[status] ?? SubsetterError)((this.#texts[status] ?? `status ${status}`) + reason);
+        }
+    }
+
+    /** What a font that is held here shows of why a call was refused; nothing where it doesn't, or memory is refused. */
+    #reason(status, name, font, index, glyphs = [], { tokens = 0, depth = 0 } = {}) {
+        const given = (at) => [CALLS.indexOf(name), status, font.at, font.size, index, at, glyphs.length, tokens, depth, 0, 0];
+        try {
+            const { status: done, buffer, words } = this.#call("subsetter_explain", [listOf(2, glyphs)], given);
+            const [at, length] = words.slice(-2);
+            return done === DONE && length > 0 ? `: ${new TextDecoder().decode(new Uint8Array(buffer.slice(at, at + length)))}` : "";
+        } catch {
+            return "";
         }
     }
 
@@ -408,7 +432,7 @@ class Library {
         const given = (glyphsAt, coordinatesAt) =>
             [font.at, font.size, index, glyphsAt, glyphs.length, coordinatesAt, coordinates.length / 2, tokens, depth, bytes, drop];
         const { status, buffer, words } = this.#call(name, lists, (...places) => [...given(...places), ...MADE]);
-        this.#check(status);
+        this.#check(status, name, font, index, glyphs, { tokens, depth });
         const [at, size, cidsAt, cidCount, widthsAt, widthCount] = words.slice(-MADE.length);
         return {
             font: new Uint8Array(buffer.slice(at, at + size)),
@@ -431,7 +455,7 @@ class Library {
     glyphsOf(font, index, text) {
         const given = (at) => [font.at, font.size, index, at, text.length, 0, 0];
         const { status, buffer, words } = this.#call("subsetter_glyphs_of", [listOf(4, text)], given);
-        this.#check(status);
+        this.#check(status, "subsetter_glyphs_of", font, index);
         const [at, count] = words.slice(-2);
         return numbersOf(2, buffer, at, count);
     }
@@ -446,7 +470,7 @@ class Library {
         ];
         const parts = Object.entries(PARTS), room = Array(2 * parts.length + NUMBERS + 5).fill(0);
         const { status, buffer, words } = this.#call("subsetter_pdf_font", lists, (...places) => [...given(...places), ...room]);
-        this.#check(status);
+        this.#check(status, "subsetter_pdf_font", font, index, glyphs, { tokens, depth });
         const made = words.slice(-room.length), raw = {};
         const [unitsPerEm, exactAt, exactCount, axesAt, axisCount] = made.splice(-5);
         const axes = numbersOf(4, buffer, axesAt, axisCount).map((it) => String.fromCharCode(it >>> 24, (it >> 16) & 255, (it >> 8) & 255, it & 255));
@@ -474,7 +498,7 @@ class Library {
         const given = (coordinatesAt, glyphsAt) =>
             [font.at, font.size, index, coordinatesAt, coordinates.length / 2, glyphsAt, glyphs.length, tokens, 0, 0, 0, 0, 0];
         const { status, buffer, words } = this.#call("subsetter_advances", lists, given);
-        this.#check(status);
+        this.#check(status, "subsetter_advances", font, index, glyphs, { tokens });
         const [unitsPerEm, widthsAt, widthCount, heightsAt, heightCount] = words.slice(-5);
         return { unitsPerEm, widths: numbersOf(2, buffer, widthsAt, widthCount), heights: numbersOf(2, buffer, heightsAt, heightCount) };
     }

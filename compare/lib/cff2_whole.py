@@ -2,6 +2,7 @@
 import io
 import os
 import random
+import struct
 import subprocess
 
 import build
@@ -62,14 +63,34 @@ def names_of(font):
     return sorted((it.nameID, it.platformID, it.platEncID, it.langID, it.string) for it in kept)
 
 
-def faults_of_headers(face, font, place, advances):
-    """What is wrong with head, hhea, maxp, name and post: `hhea` and `post` have what MVAR makes of theirs, and `post` the angle of `slnt`."""
+def boxes_of(font):
+    """The boxes of glyphs as fontTools draws them, by their control points too; None of an empty one."""
+    from fontTools.pens.boundsPen import ControlBoundsPen
+
+    glyphs, found = font.getGlyphSet(), []
+    for name in font.getGlyphOrder():
+        pen = ControlBoundsPen(None)
+        glyphs[name].draw(pen)
+        found.append(pen.bounds)
+    return found
+
+
+def around(boxes):
+    """The least box around those that are there."""
+    return [int(pick((it[side] for it in boxes if it), default=0)) for side, pick in enumerate((min, min, max, max))]
+
+
+def faults_of_headers(face, font, place, advances, boxes):
+    """What is wrong with head, hhea, maxp, name and post: `head` and `hhea` have the boxes, `hhea` and `post` what MVAR makes of theirs, and `post` the
+    angle of `slnt`."""
     tables, found, at = {tag: font.reader[tag] for tag in font.reader.keys()}, [], face.at(place)
     head, mvar = face.tables[b"head"], face.tables.get(b"MVAR")
-    if tables["head"][:8] + tables["head"][12:] != head[:8] + head[12:]:
+    left, low, right, top = around(boxes)
+    if tables["head"][:8] + tables["head"][12:] != head[:8] + head[12:36] + struct.pack(">4h", left, low, right, top) + head[44:]:
         found.append("head")
     hhea = bytearray(reading.varied_lines(mvar, at, b"hhea", face.tables[b"hhea"]))
-    hhea[10:12], hhea[34:36] = max(advances).to_bytes(2, "big"), tables["hhea"][34:36]
+    behind = min((min(advance - int(it[2]), 32767) for advance, it in zip(advances, boxes) if it), default=0)
+    hhea[10:18], hhea[34:36] = struct.pack(">H3h", max(advances), left, behind, right), tables["hhea"][34:36]
     if tables["hhea"] != hhea:
         found.append(f"hhea {tables['hhea'].hex()}, and not {hhea.hex()}")
     if tables["maxp"] != b"\0\0\x50\0" + len(advances).to_bytes(2, "big"):
@@ -85,11 +106,10 @@ def is_near(one, other):
     return len(one) == len(other) and all(abs(a - b) < 1e-9 for a, b in zip(one, other))
 
 
-def faults_of_table(face, cff, count):
+def faults_of_table(face, cff, count, box):
     """What is wrong with the top dict and the font dicts of the new table."""
     top, units = cff.topDictIndex[0], face.it.units
     source = face.source.top.get(cff2_source.MATRIX, [1 / units, 0, 0, 1 / units, 0, 0])
-    box = [int.from_bytes(face.tables[b"head"][k:k + 2], "big", signed=True) for k in range(36, 44, 2)]
     charset = [".notdef"] + [f"cid{k:05d}" for k in range(1, count)]
     used = {top.FDSelect[k] for k in range(count)}
     tests = {"ROS": tuple(top.ROS) == ("Adobe", "Identity", 0), "FontMatrix": is_near(top.rawDict.get("FontMatrix", [0.001, 0, 0, 0.001, 0, 0]), source), "FontBBox": list(top.FontBBox) == box,
@@ -101,8 +121,8 @@ def faults_of_table(face, cff, count):
 
 # ---- glyphs
 
-def compare_glyph(report, face, at, glyph, new, metrics, new_path):
-    """A charstring of the new font: what fontTools and HarfBuzz draw of it, its width, its hints and its advance."""
+def compare_glyph(report, face, at, glyph, new, metrics, new_path, box):
+    """A charstring of the new font: what fontTools and HarfBuzz draw of it, its width, its hints, its advance and its bearing."""
     label, theirs = f"glyph {glyph} at {at}", face.harfbuzz.drawn(glyph)
     report.counts.update(["drawing", "hints", "width", "advance"])
     try:
@@ -120,8 +140,8 @@ def compare_glyph(report, face, at, glyph, new, metrics, new_path):
         report.say("hints", f"{label}: other stems or masks")
     if ours.width != metrics[0]:
         report.say("width", f"{label}: {ours.width} in its charstring, {metrics[0]} in hmtx")
-    if metrics != (face.advance(glyph, at), face.metrics[glyph][1]):
-        report.say("advance", f"{label}: {metrics}, and not {face.advance(glyph, at)}")
+    if metrics != (face.advance(glyph, at), box[0] if box else 0):
+        report.say("advance", f"{label}: {metrics}, and not {face.advance(glyph, at)} and the left side of {box}")
     # (without HVAR HarfBuzz 6 has 0, once there are coordinates)
     if b"HVAR" in face.tables and not harfbuzz.is_near_a_half(float(face.exact_advance(glyph, at))) and metrics[0] != face.harfbuzz.advance(glyph):
         report.say("advance", f"{label}: {metrics[0]}, and by HarfBuzz {face.harfbuzz.advance(glyph)}")
@@ -145,15 +165,15 @@ def compare_font(report, face, place, data, old, room):
         report.say("file", f"at {at}: {font.sfntVersion}, tables {sorted(tags)}")
         return
     cff, metrics = font["CFF "].cff, [font["hmtx"].metrics[name] for name in font.getGlyphOrder()]
-    top, mine = cff.topDictIndex[0], HarfBuzz(path)
-    found = faults_of_headers(face, font, place, [it[0] for it in metrics]) + faults_of_table(face, cff, len(old))
+    top, mine, boxes = cff.topDictIndex[0], HarfBuzz(path), boxes_of(font)
+    found = faults_of_headers(face, font, place, [it[0] for it in metrics], boxes) + faults_of_table(face, cff, len(old), around(boxes))
     if found or len(metrics) != len(old):
         report.say("file", f"at {at}: {', '.join(found or ['the number of glyphs'])}")
     face.harfbuzz.place(at)
     privates = {}
     for number, glyph in enumerate(old[:len(metrics)]):
         private = top.FDArray[top.FDSelect[number]].Private
-        compare_glyph(report, face, at, glyph, (top.CharStrings.charStringsIndex[number], private), metrics[number], mine.drawn(number))
+        compare_glyph(report, face, at, glyph, (top.CharStrings.charStringsIndex[number], private), metrics[number], mine.drawn(number), boxes[number])
         pair = top.FDSelect[number], face.source.font_dict(glyph)
         if pair not in privates:
             wanted, ours = face.source.private(pair[1], at), {name: value for name, value in private.rawDict.items() if name not in ("defaultWidthX", "nominalWidthX")}

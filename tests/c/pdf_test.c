@@ -880,6 +880,42 @@ static void try_faces(void)
     __real_free(bytes);
 }
 
+/* What a font shows of why a call on it was refused: within the limits, in a buffer that is exact, or is too small by a byte. */
+static void try_reasons(void)
+{
+    static const struct {
+        const char *font;
+        uint32_t call, status, tokens, fs_type, answer;
+        uint16_t glyph;
+        const char *text;
+    } rows[] = {
+        {"made.ttf", SUBSETTER_CALL_SUBSET, 2, 0, 0, 0, 60000, "glyph 60000: the font's glyphs are 0 to 11"},
+        {"made.ttf", SUBSETTER_CALL_EMBED, 2, 0, 0, 0, 1, ""},
+        {"made.ttf", SUBSETTER_CALL_PDF_FONT, 11, 0, 2, 0, 1, "OS/2: fsType 0x0002 forbids embedding"},
+        {"made.ttf", SUBSETTER_CALL_PDF_FONT, 11, 0, 0x104, 0, 1, "OS/2: fsType 0x0104 forbids subsets"},
+        {"made.ttf", SUBSETTER_CALL_PDF_FONT, 11, 0, 0x20c, 0, 1, "OS/2: fsType 0x020c forbids outlines"},
+        {"made.ttf", SUBSETTER_CALL_ADVANCES + 1, 2, 0, 0, 10, 60000, ""},
+        {"made_cff2.otf", SUBSETTER_CALL_SUBSET, 3, 0, 0, 0, 1, "CFF2: its outlines are taken at coordinates alone"},
+        {"made_cff2.otf", SUBSETTER_CALL_SUBSET_AT, 3, 0, 0, 0, 1, ""},
+        {"made_version_1.otf", SUBSETTER_CALL_EMBED_AT, 6, 5, 0, 0, 1, "glyph 0: its charstring can't be run within the limits"},
+        {"made_version_1.otf", SUBSETTER_CALL_EMBED_AT, 6, 0, 0, 0, 1, ""},
+    };
+    for (size_t i = 0; i < sizeof rows / sizeof *rows; i++) {
+        uint8_t why[128];
+        size_t size, length, wanted = strlen(rows[i].text);
+        uint8_t *font = file_of(rows[i].font, &size);
+        for (size_t at = 12; rows[i].fs_type != 0 && at < 300; at += 16)
+            if (memcmp(font + at, "OS/2", 4) == 0)
+                memcpy(font + (font[at + 10] << 8 | font[at + 11]) + 8, (uint8_t[]){(uint8_t)(rows[i].fs_type >> 8), (uint8_t)rows[i].fs_type}, 2);
+#define WHY(ROOM) subsetter_explain(rows[i].call, rows[i].status, font, size, 0, &rows[i].glyph, 1, rows[i].tokens, 0, why, ROOM, &length)
+        memset(why, FILLED, sizeof why);
+        check(WHY(wanted) == rows[i].answer && length == wanted && memcmp(why, rows[i].text, wanted) == 0 && why[wanted] == FILLED, "why", rows[i].text);
+        why[0] = FILLED;
+        check(wanted == 0 || (WHY(wanted - 1) == 8 && length == wanted && why[0] == FILLED), "no room", rows[i].text);
+        __real_free(font);
+    }
+}
+
 int main(int count, char **words)
 {
     static struct row row;
@@ -904,6 +940,7 @@ int main(int count, char **words)
     __real_free(whole);
     try_limits();
     try_faces();
+    try_reasons();
     try_lists_alone();
     try_empty();
     printf("C: %zu rows for PDF, %zu checks, %zu failed\n", rows, checks, failures);

@@ -53,8 +53,6 @@ test("glyph numbers", () => {
     const none = [5, null, undefined, "12", "", {}, { length: 1, 0: 1 }, new ArrayBuffer(2), ["1"], [1n], [null], [undefined], [true], [[1]], [, 1], new Map([[1, 2]])];
     for (const glyphs of none) wrongGlyphs(TypeError, glyphs, Object.prototype.toString.call(glyphs));
     for (const glyph of [-1, 65536, 1.5, NaN, Infinity, -Infinity, 2 ** 32, 65572]) wrongGlyphs(RangeError, [1, glyph], glyph);
-    assert.match(throws(() => subsetter.subset(font, 5), TypeError).message, /^glyphs must be/);
-    assert.match(throws(() => subsetter.subset(font, [70000]), RangeError).message, /from 0 to 65535, and not 70000$/);
     // Lists of more than 65,536 numbers, characters and entries.
     const numbers = Array.from({ length: 80000 }, (_, i) => 1 + (i % 39)), short = subsetter.embed(font, numbers.slice(0, 39));
     for (const long of [subsetter.embed(font, numbers), subsetter.open(font).embed(numbers, { coordinates: { wght: 1 } })]) assert.deepEqual(long, { ...short, cids: numbers });
@@ -171,6 +169,32 @@ test("errors", () => {
         error.name = "Mine";
         assert.equal(String(error), "Mine: why");
     }
+});
+
+/** The font with another fsType. */
+function forbidding(fsType) {
+    const font = TTF.slice(), view = new DataView(font.buffer);
+    const entry = Array.from({ length: view.getUint16(4) }, (_, i) => 12 + 16 * i).find((at) => view.getUint32(at) === 0x4f532f32);
+    view.setUint16(view.getUint32(entry + 8) + 8, fsType);
+    return font;
+}
+
+test("messages say why, and what is wanted", () => {
+    const at = { coordinates: {} }, rows = [
+        ["MalformedFont", "malformed font: glyph 60000: the font's glyphs are 0 to 11", () => subsetter.subset(TTF, [1, 60000])],
+        ["MalformedFont", "malformed font: glyph 12: the font's glyphs are 0 to 11", () => subsetter.open(TTF).pdfFont([{ glyph: 12, text: "" }])],
+        ["MalformedFont", "malformed font: glyph 12: the font's glyphs are 0 to 11", () => subsetter.advances(TTF, [12], at)],
+        ["MalformedFont", "malformed font: face 1: the collection's faces are 0 to 0", () => subsetter.glyphsOf(made("made.ttc"), "A", { index: 1 })],
+        ["Unimplemented", "unsupported feature in font: CFF2: its outlines are taken at coordinates alone", () => subsetter.embed(made("made_cff2.otf"), [1])],
+        ["CFFError", "processing CFF table failed: glyph 0: its charstring can't be run within the limits", () => subsetter.embed(made("made_version_1.otf"), [1], { ...at, limits: { tokens: 5 } })],
+        ["NotPermitted", "embedding not permitted: OS/2: fsType 0x0002 forbids embedding", () => subsetter.pdfFont(forbidding(2), SHOWN)],
+        ["InvalidText", "invalid text", () => subsetter.glyphsOf(TTF, "\ud800")],
+        [TypeError, "a font must be the bytes of a file, an ArrayBuffer or a view of one, and not string", () => subsetter.subset("font.ttf", [1])],
+        [TypeError, "glyphs must be an iterable of numbers, as [36, 68], and not string (glyphsOf has those of a text)", () => subsetter.subset(TTF, "AB")],
+        [RangeError, "a glyph must be a whole number from 0 to 65535, and not -1", () => subsetter.subset(TTF, [1, -1])],
+        [TypeError, 'glyphs with their texts must be an iterable of objects, as [{ glyph: 36, text: "A" }], and not string (glyphsOf makes them of a text)', () => subsetter.pdfFont(TTF, "AB")],
+    ];
+    for (const [kind, message, call] of rows) assert.equal(throws(call, library[kind] ?? kind, message).message, message);
 });
 
 test("each status is thrown by its class, in its words", async () => {

@@ -58,7 +58,7 @@ function outcome(library, call) {
         const answer = call();
         return JSON.stringify(answer instanceof Uint8Array ? hexadecimal(answer) : { ...answer, font: hexadecimal(answer.font) });
     } catch (error) {
-        return error.constructor === RangeError ? "RangeError" : error.constructor === library[error.name] ? String(error) : `${error.stack}`;
+        return error.constructor === RangeError ? "RangeError" : error.constructor === library[error.name] ? String(error).split(": ", 2).join(": ") : `${error.stack}`;
     }
 }
 

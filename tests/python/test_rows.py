@@ -18,7 +18,7 @@ def answer(call, *arguments, **choices):
     try:
         found = call(*arguments, **choices)
     except subsetter.Error as error:
-        return type(error).__name__, str(error)
+        return type(error).__name__, str(error).partition(": ")[0]
     return found if isinstance(found, bytes) else tuple(found)
 
 

@@ -9,7 +9,7 @@ use crate::buffers::{hand_bytes, hand_embedded, list, Buffer, Buffers, Sizes};
 use crate::making::{alone, make, Made};
 use crate::options::choices;
 use crate::status::{status_of, status_text, NO_DEPTH, PANICKED, UNKNOWN_OPTION, VERSION};
-use fonts::capi::{embed, embed_at, subset, subset_at, Choices, Coordinate};
+use fonts::capi::{embed, embed_at, explain, subset, subset_at, Choices, Coordinate};
 use fonts::Embedded;
 use std::panic::{catch_unwind, AssertUnwindSafe};
 
@@ -480,6 +480,34 @@ pub unsafe extern "C" fn subsetter_error_text(
     let (size, done) = hand_bytes(Ok(status_text(status)), out);
     unsafe { length.write(size) };
     done
+}
+
+/// See `subsetter.h`.
+///
+/// # Safety
+///
+/// What the header requires of a caller.
+#[no_mangle]
+pub unsafe extern "C" fn subsetter_explain(
+    call: u32,
+    status: u32,
+    font: *const u8,
+    font_size: usize,
+    index: u32,
+    glyphs: *const u16,
+    glyph_count: usize,
+    tokens: u32,
+    depth: u8,
+    out: *mut u8,
+    out_size: usize,
+    length: *mut usize,
+) -> u32 {
+    let given = unsafe { Given::new(font, font_size, index, glyphs, glyph_count) };
+    let text = guarded(|| {
+        let text = explain(call, status, given.font, index, given.glyphs, tokens, depth);
+        text.ok_or(UNKNOWN_OPTION)?.map_err(status_of)
+    });
+    unsafe { hand(text.map(String::into_bytes), out, out_size, length) }
 }
 
 /// See `subsetter.h`.

@@ -399,6 +399,31 @@ pub unsafe extern "C" fn subsetter_glyphs_of(call: &mut GlyphCall) -> u32 {
     status(found.map_err(status_of_refusal).map(|glyphs| call.glyphs = List::of(glyphs)))
 }
 
+/// A call that says why another was refused.
+#[repr(C)]
+pub struct ReasonCall {
+    call: u32,
+    status: u32,
+    font: List<u8>,
+    index: u32,
+    glyphs: List<u16>,
+    tokens: u32,
+    depth: u32,
+    text: List<u8>,
+}
+
+/// # Safety
+///
+/// As of `List::items`.
+#[no_mangle]
+pub unsafe extern "C" fn subsetter_explain(it: &mut ReasonCall) -> u32 {
+    let (font, glyphs) = unsafe { (it.font.items(), it.glyphs.items()) };
+    let depth = u8::try_from(it.depth).unwrap_or(0);
+    let text = capi::explain(it.call, it.status, font, it.index, glyphs, it.tokens, depth);
+    let text = text.ok_or(UNKNOWN_OPTION).and_then(|text| text.map_err(status_of));
+    status(text.map(|text| it.text = List::of(text.into_bytes())))
+}
+
 /// The text of a status.
 #[no_mangle]
 pub extern "C" fn subsetter_error_text(status: u32, text: &mut List<u8>) {

@@ -66,7 +66,8 @@ __version__ = "1.0.0"
 
 
 class Error(Exception):
-    """Why a font can't be subset; its text says it in words."""
+    """Why a font can't be subset. Its text says it in words and, after a colon, which table or glyph the font shows it by:
+    "malformed font: glyph 60000: the font's glyphs are 0 to 6252"."""
 
 
 class UnknownKind(Error):
@@ -371,6 +372,10 @@ def _declare(library: ctypes.CDLL) -> ctypes.CDLL:
     for first, group in (("subsetter_glyphs_of", for_pdf), ("subsetter_make_font_by_words", new)):
         if hasattr(library, first):
             declared.update(group)
+    if hasattr(library, "subsetter_explain"):
+        limits = [ctypes.c_uint32, ctypes.c_uint8]
+        declared["subsetter_explain"] = (
+            [ctypes.c_uint32] * 2 + make[:5] + limits + [pointer, size, ctypes.POINTER(size)], ctypes.c_uint32)
     for name, (arguments, result) in declared.items():
         try:
             call = getattr(library, name)
@@ -426,7 +431,11 @@ _SIMPLE = 0
 @contextmanager
 def _bytes_of(data: Buffer) -> Iterator[Tuple[Optional[int], int]]:
     """The address of the bytes of a buffer, and their count. Nobody can resize it meanwhile, and none are copied."""
-    with memoryview(data) as view:
+    try:
+        view = memoryview(data)
+    except TypeError:
+        raise TypeError(f'a font is its bytes, as open(path, "rb").read() has them, and no {type(data).__name__}') from None
+    with view:
         if view.ndim != 1 or view.format.lstrip("@=<>!") not in ("B", "b", "c") or not view.contiguous:
             raise TypeError("a font is a buffer of bytes, one after the other")
         held = _View()
@@ -437,13 +446,24 @@ def _bytes_of(data: Buffer) -> Iterator[Tuple[Optional[int], int]]:
             _release_buffer(ctypes.byref(held))
 
 
-def _glyph_numbers(glyphs: Iterable[SupportsIndex]) -> array[int]:
-    if isinstance(glyphs, (str, bytes, bytearray, memoryview)):
-        raise TypeError(f"glyphs are an iterable of ints, and no {type(glyphs).__name__}")
+def _listed(items: Iterable[Any], wanted: str) -> List[Any]:
+    """The items of what is no text and no bytes."""
     try:
-        return array("H", map(operator.index, glyphs))
-    except builtins.OverflowError:
-        raise ValueError("the number of a glyph is none from 0 to 65535") from None
+        each = None if isinstance(items, (str, bytes, bytearray, memoryview)) else iter(items)
+    except TypeError:
+        each = None
+    if each is None:
+        raise TypeError(f"{wanted}, and no {type(items).__name__}")
+    return list(each)
+
+
+def _glyph_numbers(glyphs: Iterable[SupportsIndex]) -> array[int]:
+    given = _listed(glyphs, "glyphs are a list of ints, as [36, 68] (glyphs_of has those of a text)")
+    try:
+        return array("H", map(operator.index, given))
+    except (TypeError, builtins.OverflowError):
+        pass
+    return array("H", [_number("a glyph", it, 0, 65535) for it in given])
 
 
 def _shown(value: object) -> str:
@@ -456,7 +476,10 @@ def _shown(value: object) -> str:
 
 
 def _number(what: str, value: SupportsIndex, least: int, most: int) -> int:
-    number = operator.index(value)
+    try:
+        number = operator.index(value)
+    except TypeError:
+        raise TypeError(f"{what} is an int, and no {type(value).__name__}") from None
     if not least <= number <= most:
         raise ValueError(f"{what} is {_shown(number)}, and none from {least} to {most}")
     return number
@@ -540,13 +563,40 @@ def _text(library: ctypes.CDLL, status: int) -> str:
     return out.raw[:length.value].decode("ascii")
 
 
-def _check(library: ctypes.CDLL, status: int) -> None:
+class _Asked(NamedTuple):
+    """What a call was given of a font: its number for `subsetter_explain`, the font, the glyphs and the words of the options."""
+
+    call: int
+    font: Optional[int]
+    size: int
+    face: int
+    glyphs: array[int]
+    words: array[int]
+
+
+def _reason(library: ctypes.CDLL, status: int, asked: _Asked) -> str:
+    """What the font shows of why a call was refused; nothing where it doesn't, or the library is older."""
+    if _ERRORS[status] is OutOfMemory or not hasattr(library, "subsetter_explain"):
+        return ""
+    out, length, (tokens, depth) = ctypes.create_string_buffer(128), ctypes.c_size_t(), asked.words[1:3]
+    done = library.subsetter_explain(
+        asked.call, status, asked.font, asked.size, asked.face, asked.glyphs.buffer_info()[0], len(asked.glyphs), tokens, depth,
+        out, len(out), ctypes.byref(length),
+    )
+    return ": " + out.raw[:length.value].decode("utf-8", "replace") if done == 0 and length.value else ""
+
+
+def _check(library: ctypes.CDLL, status: int, asked: Optional[_Asked] = None) -> None:
     if status in _ERRORS:
-        raise _ERRORS[status](_text(library, status))
+        raise _ERRORS[status](_text(library, status) + (_reason(library, status, asked) if asked else ""))
     if status == 16:
         raise ValueError("numbers of objects are distinct and above 0, and as many as there are parts")
     if status != 0:
         raise RuntimeError(f"{_NAME} answers status {status}: it is of another version")
+
+
+_MAKES = [f"subsetter_make_{it}_by_words" for it in ("subset", "subset_at", "embedded", "embedded_at")]
+_PDF_FONT, _GLYPHS_OF, _ADVANCES = 4, 5, 6
 
 
 @contextmanager
@@ -563,8 +613,8 @@ def _made(
             font, size, face, *place, numbers.buffer_info()[0], len(numbers), words.buffer_info()[0], len(words),
             ctypes.byref(made),
         )
+        _check(library, status, _Asked(_MAKES.index(call), font, size, face, numbers, words))
     try:
-        _check(library, status)
         yield made
     finally:
         library.subsetter_free(ctypes.byref(made))
@@ -707,7 +757,12 @@ class _Entries:
     """Glyphs with their texts, as the library takes them."""
 
     def __init__(self, shown: Iterable[Tuple[SupportsIndex, str]]) -> None:
-        pairs = [(glyph, text) for glyph, text in shown]
+        wanted = 'shown are pairs of a glyph and its text, as [(36, "A")] (glyphs_of makes them of a text)'
+        given = _listed(shown, wanted)
+        try:
+            pairs = [(glyph, text) for glyph, text in given]
+        except (TypeError, ValueError) as error:
+            raise type(error)(wanted) from None
         self.glyphs, self.text, self.ends = _glyph_numbers([glyph for glyph, _ in pairs]), array("I"), array("Q")
         for _, text in pairs:
             self.text.extend(_characters(text))
@@ -736,7 +791,7 @@ def glyphs_of(data: Buffer, text: str, index: SupportsIndex = 0) -> List[Tuple[i
             font, size, face, characters.buffer_info()[0], len(characters), glyphs.buffer_info()[0], len(glyphs),
             ctypes.byref(length),
         )
-    _check(library, status)
+        _check(library, status, _Asked(_GLYPHS_OF, font, size, face, array("H"), array("I", [0] * 3)))
     return list(zip(glyphs, text))
 
 
@@ -779,7 +834,7 @@ def advances(
             font, size, face, place, len(place), numbers.buffer_info()[0], len(numbers), words.buffer_info()[0], len(words),
             widths.buffer_info()[0], len(widths), heights.buffer_info()[0], len(heights), ctypes.byref(units),
         )
-    _check(library, status)
+        _check(library, status, _Asked(_ADVANCES, font, size, face, numbers, words))
     return Advances(units.value, widths.tolist(), heights.tolist())
 
 
@@ -1045,8 +1100,8 @@ def pdf_font(
         made = _Font(size=ctypes.sizeof(_Font))
         with _bytes_of(data) as (font, size):
             status = library.subsetter_make_font_by_words(font, size, face, *given, ctypes.byref(made))
+            _check(library, status, _Asked(_PDF_FONT, font, size, face, entries.glyphs, words))
         try:
-            _check(library, status)
             return PdfFont(made.pdf, entries, made)
         finally:
             library.subsetter_free_font(ctypes.byref(made))

@@ -4,14 +4,17 @@
 
 pub mod pdf;
 
-use crate::library::{lists, refused};
+use crate::library::{lists, refused, ERRORS};
 use crate::proved::cid_embed::{embed_with_options, mapper_for};
 use crate::proved::cid_embed_at::{embed_with_variations_and_options, mapper_at};
+use crate::proved::font_reasons::{self as reasons, Call, Reason};
 use crate::proved::subsetter::{self as proved, subset_with_options};
 use crate::proved::subsetter_variable::{check_opening_at, subset_with_variations_and_options};
 use crate::rattle::alloc::Global;
 use crate::{Embedded, Error};
+use ::alloc::string::String;
 use ::alloc::vec::Vec;
+use core::fmt::Write;
 
 /// All that a caller of C can choose.
 #[derive(Clone, Copy)]
@@ -151,4 +154,58 @@ pub fn embed_at(
     let at = settings(data, index, coordinates, choices)?;
     let made = embed_with_variations_and_options(Global, data, index, &at, glyphs, &choices.0);
     Ok(lists(made.map_err(refused)?))
+}
+
+/// The calls by their numbers in `subsetter.h`.
+const CALLS: [Call; 7] = [
+    Call::Subset,
+    Call::SubsetAt,
+    Call::Embed,
+    Call::EmbedAt,
+    Call::PdfFont,
+    Call::GlyphsOf,
+    Call::Advances,
+];
+
+/// More bytes than a reason has.
+const ROOM: usize = 128;
+
+/// The text of a reason; an empty one of none.
+fn text(reason: Option<Reason>) -> Result<String, Error> {
+    let mut text = String::new();
+    let reserved = text.try_reserve_exact(ROOM);
+    reserved.map_err(|_| Error::OutOfMemory)?;
+    if let Some(reason) = reason {
+        let _ = write!(text, "{reason}");
+    }
+    Ok(text)
+}
+
+/// The text of why a call was refused with a status, both by their numbers in `subsetter.h`; an empty one where the font doesn't show
+/// it. 0 tokens and a depth of 0 are those of [`Limits::default`](crate::Limits). None of an unknown call.
+///
+/// # Errors
+///
+/// [`Error::OutOfMemory`] alone.
+pub fn explain(
+    call: u32,
+    status: u32,
+    data: &[u8],
+    index: u32,
+    glyphs: &[u16],
+    tokens: u32,
+    depth: u8,
+) -> Option<Result<String, Error>> {
+    let call = *CALLS.get(call as usize)?;
+    let tokens = if tokens == 0 { 1_000_000 } else { tokens };
+    let limits = proved::Limits::new(tokens, if depth == 0 { 64 } else { depth })?;
+    let reason = match status {
+        11 => Ok(reasons::find_prohibition(data, index)),
+        1..=6 => {
+            let error = ERRORS[status as usize - 1];
+            reasons::explain(Global, call, error, data, index, glyphs, &limits)
+        }
+        _ => Ok(None),
+    };
+    Some(reason.map_err(refused).and_then(text))
 }

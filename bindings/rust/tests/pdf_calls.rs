@@ -6,7 +6,7 @@ use subsetter::pdf::{
     codes_of, glyphs_of, pdf_font, Bounds, Codes, Direction, FontError, FontOptions, Layout, PartsError, PdfFont,
     ProgramChoice, Rights, Shown, SubsetTag,
 };
-use subsetter::{Error, Limits, Tag};
+use subsetter::{explain, Call, Error, Limits, Tag};
 
 fn made(name: &str) -> Vec<u8> {
     fs::read(concat!(env!("CARGO_MANIFEST_DIR"), "/tests/data/").to_string() + name).unwrap()
@@ -254,6 +254,34 @@ fn the_first_error_is_answered() {
     // Characters that no text keeps don't count.
     let short = "\u{feff}".repeat(300);
     assert!(pdf_font(&font, 0, &[], &[Shown::new(1, &short)], &options).is_ok());
+}
+
+#[test]
+fn the_font_shows_why() {
+    let limits = |tokens| Limits::new(tokens, 64).unwrap();
+    let why = |call, font: &[u8], glyph, tokens| {
+        let reason = explain(call, font, 0, &[glyph], &limits(tokens))?;
+        Some((reason.to_string(), reason.table(), reason.glyph()))
+    };
+    let found = |text: &str, tag, glyph| Some((text.to_string(), Some(Tag::new(tag)), glyph));
+    let (font, cff, cff2) = (made("made.ttf"), made("made_version_1.otf"), made("made_cff2.otf"));
+    let beyond = found("glyph 12: the font's glyphs are 0 to 11", b"maxp", Some(12));
+    for call in [Call::Subset, Call::Embed, Call::SubsetWithVariations, Call::EmbedWithVariations, Call::Advances] {
+        assert_eq!(why(call(Error::MalformedFont), &font, 12, 5), beyond);
+        assert_eq!(why(call(Error::MalformedFont), &font, 11, 5), None);
+    }
+    let refused = pdf_font(&made("made.otf"), 0, &[], &SHOWN, &FontOptions::new()).unwrap_err();
+    let forbidden = found("OS/2: fsType 0x0104 forbids subsets", b"OS/2", None);
+    assert_eq!(why(Call::PdfFont(refused), &made("made.otf"), 1, 5), forbidden);
+    assert_eq!(why(Call::PdfFont(FontError::TextTooLong), &font, 12, 5), None);
+    assert_eq!(why(Call::PdfFont(Error::MalformedFont.into()), &font, 12, 5), beyond);
+    let lacking = found("the face has no table cmap", b"cmap", None);
+    assert_eq!(why(Call::GlyphsOf(Error::MalformedFont), &without(&font, b"cmap"), 1, 5), lacking);
+    let fixed = found("CFF2: its outlines are taken at coordinates alone", b"CFF2", None);
+    assert_eq!(why(Call::Embed(Error::Unimplemented), &cff2, 1, 5), fixed);
+    let long = found("glyph 0: its charstring can't be run within the limits", b"CFF ", Some(0));
+    assert_eq!(why(Call::Subset(Error::CFFError), &cff, 1, 5), long);
+    assert_eq!(why(Call::Subset(Error::CFFError), &cff, 1, 1_000_000), None);
 }
 
 #[test]

@@ -1,1 +1,3 @@
 pub mod Directory
+mod Numbering
+pub mod Unbounded

@@ -1,5 +1,9 @@
+pub mod About
+pub mod Charstrings
 pub mod Directory
+pub mod Explained
 pub mod File
 pub mod Parts
+pub mod Permission
 pub mod Request
 pub mod Texts

@@ -1,9 +1,10 @@
 -- The texts of reasons.
-use Rattle.std.specs.Prelude.{ℕ, ◌-◌, ◌==◌, if◌then◌else◌, List, ◌++◌, codes, decimal}
+use Rattle.std.specs.Prelude.{ℕ, ◌-◌, ◌/◌, ◌%◌, ◌==◌, false, if◌then◌else◌, List, ◌++◌, codes, decimal}
+use Rattle.std.specs.Fmt.{radix_digits}
 use Rattle.subsetter_base.specs.Texts.{tag_text}
 use Rattle.subsetter_base.specs.declared.tag.Tag.{Tag}
 use Rattle.font_reasons.specs.declared.reason.Reason.{Reason}
-use Rattle.font_reasons.specs.declared.reason.Reason.TheVariants.{Woff, Woff2, NotFont, Empty, NoFace, NoHeader, CutDirectory, Cut, NoOutlines, NoGlyph, NoTable, NoEntries, Descends, Outside, NoMetrics, FewMetrics}
+use Rattle.font_reasons.specs.declared.reason.Reason.TheVariants.{Woff, Woff2, NotFont, Empty, NoFace, NoHeader, CutDirectory, Cut, NoOutlines, NoGlyph, NoTable, NoEntries, Descends, Outside, NoMetrics, FewMetrics, NoUnits, NoUnicode, OnlyCff2, Forbidden, OtherCff, WrongCff, NoCharstring, WrongCharstring, Composed}
 
 -- a number between two texts
 abbrev pub between : List ℕ → ℕ → List ℕ → List ℕ
@@ -11,13 +12,24 @@ between front n back = front ++ (decimal n ++ back)
 
 -- the faces of a collection, and the glyphs of a face, are numbered from 0 on
 abbrev pub no_face_text : ℕ → ℕ → List ℕ
-no_face_text index count = if count == 0 then codes "INDEX " ++ (decimal index ++ codes ": the collection has no face") else codes "INDEX " ++ (decimal index ++ (codes ": the faces of the collection are 0 to " ++ decimal (count - 1)))
+no_face_text index count = if count == 0 then codes "face " ++ (decimal index ++ codes ": the collection has no face") else codes "face " ++ (decimal index ++ (codes ": the collection's faces are 0 to " ++ decimal (count - 1)))
 
 abbrev pub no_glyph_text : ℕ → ℕ → List ℕ
-no_glyph_text glyph count = if count == 0 then codes "GID " ++ (decimal glyph ++ codes ": the face has no glyph") else codes "GID " ++ (decimal glyph ++ (codes ": the glyphs of the face are 0 to " ++ decimal (count - 1)))
+no_glyph_text glyph count = if count == 0 then codes "glyph " ++ (decimal glyph ++ codes ": the font has no glyph") else codes "glyph " ++ (decimal glyph ++ (codes ": the font's glyphs are 0 to " ++ decimal (count - 1)))
 
 abbrev pub cut_text : Tag → ℕ → ℕ → List ℕ
 cut_text tag end size = codes "the file is cut: table " ++ (tag_text tag.0 ++ (codes " ends at byte " ++ (decimal end ++ (codes ", the file at " ++ decimal size))))
+
+-- four hexadecimal digits
+abbrev pub hex_text : ℕ → List ℕ
+hex_text n = radix_digits 16 false (n / 4096) ++ (radix_digits 16 false (n / 256 % 16) ++ (radix_digits 16 false (n / 16 % 16) ++ radix_digits 16 false (n % 16)))
+
+-- what the bits of fsType forbid: bit 1, 8 or 9 (OpenType, "OS/2")
+abbrev pub forbidden_word : ℕ → List ℕ
+forbidden_word bit = if bit == 8 then codes " forbids subsets" else (if bit == 9 then codes " forbids outlines" else codes " forbids embedding")
+
+abbrev pub forbidden_text : ℕ → ℕ → List ℕ
+forbidden_text fs_type bit = codes "OS/2: fsType 0x" ++ (hex_text fs_type ++ forbidden_word bit)
 
 abbrev pub reason_text : Reason → List ℕ
 reason_text Woff = codes "a WOFF file: unpack it first"
@@ -25,7 +37,7 @@ reason_text Woff2 = codes "a WOFF2 file: unpack it first"
 reason_text NotFont = codes "not a font: its first bytes are none of TrueType, OpenType, a collection"
 reason_text Empty = codes "the file is empty"
 reason_text (NoFace index count) = no_face_text index count
-reason_text (NoHeader index) = between (codes "INDEX ") index (codes ": no font begins where the collection says")
+reason_text (NoHeader index) = between (codes "face ") index (codes ": no font begins where the collection says")
 reason_text CutDirectory = codes "the file is cut in its table directory"
 reason_text (Cut tag end size) = cut_text tag end size
 reason_text NoOutlines = codes "the face has no table glyf, CFF or CFF2"
@@ -36,3 +48,12 @@ reason_text (Descends glyph) = between (codes "glyph ") glyph (codes ": its loca
 reason_text (Outside glyph) = between (codes "glyph ") glyph (codes ": its outline isn't inside glyf")
 reason_text NoMetrics = codes "hhea: numberOfHMetrics is 0"
 reason_text (FewMetrics count) = between (codes "hhea: numberOfHMetrics is ") count (codes ", and hmtx is shorter")
+reason_text NoUnits = codes "head: unitsPerEm is 0"
+reason_text NoUnicode = codes "cmap: no table for Unicode in format 4 or 12"
+reason_text OnlyCff2 = codes "CFF2: its outlines are taken at coordinates alone"
+reason_text (Forbidden fs_type bit) = forbidden_text fs_type bit
+reason_text OtherCff = codes "CFF: its major version isn't 1"
+reason_text WrongCff = codes "CFF: the table can't be read"
+reason_text (NoCharstring glyph) = between (codes "glyph ") glyph (codes ": CFF has no charstring or private dict for it")
+reason_text (WrongCharstring glyph) = between (codes "glyph ") glyph (codes ": its charstring can't be run within the limits")
+reason_text (Composed glyph) = between (codes "glyph ") glyph (codes ": its charstring puts two others together")

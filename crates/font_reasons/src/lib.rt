@@ -1,18 +1,23 @@
 //! Why a font is refused: the first thing that is wrong with the file, its table directory, a table, or a requested glyph.
 //!
-//! [`find_reason`] is the second look after an error; what it names is in the font.
+//! [`explain`] is the second look after an error, and [`find_prohibition`] after a refusal to embed; what they name is in the font.
 //!
 //! ```text
-//! subset(font, 0, &mapper).map_err(|error| find_reason(error, font, &request))   // "the face has no table loca"
+//! let reason = explain(alloc, Call::Subset, error, font, 0, &[60000], &limits)?;   // "glyph 60000: the font's glyphs are 0 to 6252"
 //! ```
 #![tactic(auto)]
 
+mod charstrings;
+mod explained;
 mod file;
 mod parts;
+mod permission;
 mod reason;
 mod request;
 
+pub use explained::{Call, explain};
 pub use file::{cut_table, directory_of, face_count, missing_table, no_font};
 pub use parts::{count_glyphs, no_table};
+pub use permission::find_prohibition;
 pub use reason::Reason;
 pub use request::{Request, find_reason};

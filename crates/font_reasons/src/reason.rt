@@ -1,9 +1,12 @@
 //! What can be wrong with a font, and its text.
 
+ghost use Rattle.std.specs.Prelude.{◌≡◌};
+ghost use Rattle.font_reasons.specs.About.{reason_table, reason_glyph};
+
 use std::fmt;
 use subsetter_base::Tag;
 
-/// What is wrong with a font.
+/// What is wrong with a font, or with what is requested of it.
 #[derive(Clone, Copy, PartialEq, Eq, Debug, Drop)]
 pub enum Reason {
     /// The file is a WOFF.
@@ -38,6 +41,68 @@ pub enum Reason {
     NoMetrics,
     /// numberOfHMetrics of `hhea` is this, and `hmtx` is shorter.
     FewMetrics(u16),
+    /// unitsPerEm of `head` is 0.
+    NoUnits,
+    /// `cmap` has no table for Unicode that is read.
+    NoUnicode,
+    /// The outlines are those of `CFF2`, which calls at coordinates take.
+    OnlyCff2,
+    /// fsType of `OS/2` is this, and this bit of it forbids embedding, subsets (bit 8) or outlines (bit 9).
+    Forbidden(u16, u8),
+    /// majorVersion of `CFF ` isn't 1.
+    OtherCff,
+    /// `CFF ` can't be read.
+    WrongCff,
+    /// `CFF ` has no charstring, or no private dict, for this glyph.
+    NoCharstring(u16),
+    /// The charstring of this glyph can't be run within the limits.
+    WrongCharstring(u16),
+    /// The charstring of this glyph ends by putting two others together.
+    Composed(u16),
+}
+
+impl Reason {
+    /// The table that it is about, if it is about one.
+    pub fn table(self) -> Option<Tag>
+        ensures { result ≡ reason_table self }
+    {
+        match self {
+            Reason::Cut(tag, _, _) => Some(tag),
+            Reason::NoTable(tag) => Some(tag),
+            Reason::NoGlyph(_, _) => Some(Tag::MAXP),
+            Reason::NoEntries(_) => Some(Tag::LOCA),
+            Reason::Descends(_) => Some(Tag::LOCA),
+            Reason::Outside(_) => Some(Tag::GLYF),
+            Reason::NoMetrics => Some(Tag::HHEA),
+            Reason::FewMetrics(_) => Some(Tag::HHEA),
+            Reason::NoUnits => Some(Tag::HEAD),
+            Reason::NoUnicode => Some(Tag::new(b"cmap")),
+            Reason::OnlyCff2 => Some(Tag::CFF2),
+            Reason::Forbidden(_, _) => Some(Tag::new(b"OS/2")),
+            Reason::OtherCff => Some(Tag::CFF),
+            Reason::WrongCff => Some(Tag::CFF),
+            Reason::NoCharstring(_) => Some(Tag::CFF),
+            Reason::WrongCharstring(_) => Some(Tag::CFF),
+            Reason::Composed(_) => Some(Tag::CFF),
+            _ => None,
+        }
+    }
+
+    /// The glyph that it is about, if it is about one.
+    pub fn glyph(self) -> Option<u16>
+        ensures { result ≡ reason_glyph self }
+    {
+        match self {
+            Reason::NoGlyph(glyph, _) => Some(glyph),
+            Reason::NoEntries(glyph) => Some(glyph),
+            Reason::Descends(glyph) => Some(glyph),
+            Reason::Outside(glyph) => Some(glyph),
+            Reason::NoCharstring(glyph) => Some(glyph),
+            Reason::WrongCharstring(glyph) => Some(glyph),
+            Reason::Composed(glyph) => Some(glyph),
+            _ => None,
+        }
+    }
 }
 
 /// A number between two texts.
@@ -68,13 +133,10 @@ impl fmt::Display for FaceText {
     fn fmt<W: fmt::Write>(&self, f: &mut fmt::Formatter<W>) -> fmt::Result {
         let FaceText(index, count) = *self;
         if count == 0 {
-            return write!(f, "INDEX {index}: the collection has no face");
+            return write!(f, "face {index}: the collection has no face");
         }
         let last = count - 1;
-        write!(
-            f,
-            "INDEX {index}: the faces of the collection are 0 to {last}"
-        )
+        write!(f, "face {index}: the collection's faces are 0 to {last}")
     }
 }
 
@@ -91,10 +153,10 @@ impl fmt::Display for GlyphText {
     fn fmt<W: fmt::Write>(&self, f: &mut fmt::Formatter<W>) -> fmt::Result {
         let GlyphText(glyph, count) = *self;
         if count == 0 {
-            return write!(f, "GID {glyph}: the face has no glyph");
+            return write!(f, "glyph {glyph}: the font has no glyph");
         }
         let last = count - 1;
-        write!(f, "GID {glyph}: the glyphs of the face are 0 to {last}")
+        write!(f, "glyph {glyph}: the font's glyphs are 0 to {last}")
     }
 }
 
@@ -117,6 +179,52 @@ impl fmt::Display for CutText {
     }
 }
 
+/// Four hexadecimal digits.
+#[derive(Clone, Copy)]
+struct Hex(u16);
+
+impl fmt::Display for Hex {
+    ghost use Rattle.std.specs.Prelude.{Some};
+    ghost use Rattle.font_reasons.specs.Texts.{hex_text};
+
+    ghost output = { λ it. Some (hex_text it.0) };
+
+    fn fmt<W: fmt::Write>(&self, f: &mut fmt::Formatter<W>) -> fmt::Result {
+        let Hex(number) = *self;
+        write!(
+            f,
+            "{:x}{:x}{:x}{:x}",
+            number / 4096,
+            number / 256 % 16,
+            number / 16 % 16,
+            number % 16
+        )
+    }
+}
+
+/// What a bit of fsType forbids.
+#[derive(Clone, Copy)]
+struct ForbiddenText(u16, u8);
+
+impl fmt::Display for ForbiddenText {
+    ghost use Rattle.std.specs.Prelude.{Some};
+    ghost use Rattle.font_reasons.specs.Texts.{forbidden_text};
+
+    ghost output = { λ it. Some (forbidden_text it.0 it.1) };
+
+    fn fmt<W: fmt::Write>(&self, f: &mut fmt::Formatter<W>) -> fmt::Result {
+        let ForbiddenText(fs_type, bit) = *self;
+        let shown = Hex(fs_type);
+        if bit == 8 {
+            return write!(f, "OS/2: fsType 0x{shown} forbids subsets");
+        }
+        if bit == 9 {
+            return write!(f, "OS/2: fsType 0x{shown} forbids outlines");
+        }
+        write!(f, "OS/2: fsType 0x{shown} forbids embedding")
+    }
+}
+
 impl fmt::Display for Reason {
     ghost use Rattle.std.specs.Prelude.{Some};
     ghost use Rattle.font_reasons.specs.Texts.{reason_text};
@@ -135,11 +243,7 @@ impl fmt::Display for Reason {
             Reason::Empty => f.write_str("the file is empty"),
             Reason::NoFace(index, count) => write!(f, "{}", FaceText(index, count)),
             Reason::NoHeader(index) => {
-                let text = Between(
-                    "INDEX ",
-                    index,
-                    ": no font begins where the collection says",
-                );
+                let text = Between("face ", index, ": no font begins where the collection says");
                 write!(f, "{text}")
             }
             Reason::CutDirectory => f.write_str("the file is cut in its table directory"),
@@ -169,6 +273,36 @@ impl fmt::Display for Reason {
                     "hhea: numberOfHMetrics is ",
                     u32::from(count),
                     ", and hmtx is shorter",
+                );
+                write!(f, "{text}")
+            }
+            Reason::NoUnits => f.write_str("head: unitsPerEm is 0"),
+            Reason::NoUnicode => f.write_str("cmap: no table for Unicode in format 4 or 12"),
+            Reason::OnlyCff2 => f.write_str("CFF2: its outlines are taken at coordinates alone"),
+            Reason::Forbidden(fs_type, bit) => write!(f, "{}", ForbiddenText(fs_type, bit)),
+            Reason::OtherCff => f.write_str("CFF: its major version isn't 1"),
+            Reason::WrongCff => f.write_str("CFF: the table can't be read"),
+            Reason::NoCharstring(glyph) => {
+                let text = Between(
+                    "glyph ",
+                    u32::from(glyph),
+                    ": CFF has no charstring or private dict for it",
+                );
+                write!(f, "{text}")
+            }
+            Reason::WrongCharstring(glyph) => {
+                let text = Between(
+                    "glyph ",
+                    u32::from(glyph),
+                    ": its charstring can't be run within the limits",
+                );
+                write!(f, "{text}")
+            }
+            Reason::Composed(glyph) => {
+                let text = Between(
+                    "glyph ",
+                    u32::from(glyph),
+                    ": its charstring puts two others together",
                 );
                 write!(f, "{text}")
             }

@@ -21,17 +21,21 @@ pub struct Request<'a> {
 }
 
 /// What isn't there: the face, or a requested glyph.
-fn no_font_or_glyph(font: &[u8], request: Request<'_>) -> Option<Reason>
-    ensures { result ≡ no_font_or_glyph (face_in request.entry font.now) request.entry.glyphs.now }
+pub fn no_font_or_glyph(font: &[u8], index: u32, glyphs: &[u16]) -> Option<Reason>
+    ensures { result ≡ no_font_or_glyph (record { bytes = font.now; index = index; extras = all_extras }) glyphs.now }
 {
-    no_font(font, request.index).or(no_glyph(font, request.index, request.glyphs))
+    no_font(font, index).or(no_glyph(font, index, glyphs))
 }
 
 /// What isn't there: the face, a requested glyph, or a table that the request needs.
 fn no_part(font: &[u8], request: Request<'_>) -> Option<Reason>
     ensures { result ≡ no_part (face_in request.entry font.now) request.entry.glyphs.now request.entry.needs }
 {
-    no_font_or_glyph(font, request).or(no_needed_table(font, request.index, request.needs))
+    no_font_or_glyph(font, request.index, request.glyphs).or(no_needed_table(
+        font,
+        request.index,
+        request.needs,
+    ))
 }
 
 /// What is wrong with a table that ends past the end of the file, or else with metrics.
@@ -43,17 +47,17 @@ fn wrong_table(font: &[u8], index: u32) -> Option<Reason>
 }
 
 /// What is wrong with outlines, with a table that ends past the end of the file, or with metrics.
-fn wrong_outlines(font: &[u8], request: Request<'_>) -> Option<Reason>
-    ensures { result ≡ wrong_outlines (face_in request.entry font.now) request.entry.glyphs.now }
+pub fn wrong_outlines(font: &[u8], index: u32, glyphs: &[u16]) -> Option<Reason>
+    ensures { result ≡ wrong_outlines (record { bytes = font.now; index = index; extras = all_extras }) glyphs.now }
 {
-    no_outline(font, request.index, request.glyphs).or(wrong_table(font, request.index))
+    no_outline(font, index, glyphs).or(wrong_table(font, index))
 }
 
 /// Why a face is malformed.
 fn reason_of_malformed(font: &[u8], request: Request<'_>) -> Option<Reason>
     ensures { result ≡ reason_of_malformed (face_in request.entry font.now) request.entry.glyphs.now request.entry.needs }
 {
-    no_part(font, request).or(wrong_outlines(font, request))
+    no_part(font, request).or(wrong_outlines(font, request.index, request.glyphs))
 }
 
 /// What is wrong with a table that ends past the end of the file, or else that there are no outlines.
@@ -65,7 +69,7 @@ fn cut_or_bare(font: &[u8], index: u32) -> Option<Reason>
 }
 
 /// Why a file is of no known kind.
-fn reason_of_unknown(font: &[u8], index: u32) -> Option<Reason>
+pub fn reason_of_unknown(font: &[u8], index: u32) -> Option<Reason>
     ensures { result ≡ reason_of_unknown (record { bytes = font.now; index = index; extras = all_extras }) }
 {
     no_font(font, index).or(cut_or_bare(font, index))

@@ -1,10 +1,2 @@
-mod Around
-mod CurvePoints
-mod Followed
-mod Fronts
 mod Glyphs
-mod Runs
-mod Shapes
-mod Turns
 mod Unbounded
-mod Walks

@@ -1,4 +1,2 @@
-pub mod CharstringBox
 pub mod Kept
 pub mod SourceBox
-pub mod Traced

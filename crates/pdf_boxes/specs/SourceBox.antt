@@ -1,6 +1,6 @@
 -- The boxes of glyphs of a `CFF ` table whose charstrings may call subroutines (Technical Note 5176, section 14; Technical Note 5177).
 use Rattle.std.specs.Prelude.{ℕ, List, [], map, Option, option_map, ℤ, pos}
-use Rattle.std.specs.Option.{option_and_then, option_map_or, option_or, unwrap_or}
+use Rattle.std.specs.Option.{option_map_or, unwrap_or}
 use Rattle.std.specs.Result.{result_ok}
 use Rattle.subsetter_base.specs.Options.{◌>>=◌}
 use Rattle.subsetter_type2.specs.Flat.{flat_form}
@@ -9,22 +9,15 @@ use Rattle.subsetter_cff.specs.Read.Cff.{Cff, char_string}
 use Rattle.subsetter_cff.specs.Read.FdArray.Private.{Private, private_of}
 use Rattle.subsetter_cff.specs.Read.GlyphTrace.{library}
 use Rattle.subsetter_cff.specs.Read.Opened.{opened}
-use Rattle.pdf_values.specs.declared.looks.bounds.GlyphBox.{GlyphBox}
-use Rattle.pdf_boxes.specs.CharstringBox.{before_endchar, behind_width, outline_box}
-
--- Of a charstring without subroutines, which ends by endchar. A width in front is the operand more than its first operator takes (Technical
--- Note 5177, section 4): with it there is no charstring of CFF2, without it and without endchar there is one, which draws the same.
-unfoldable pub flat_box : List ℕ → Option GlyphBox
-flat_box flat = do
-  body ← before_endchar flat
-  option_or (outline_box body) (option_and_then outline_box (behind_width body))
+use Rattle.subsetter_boxes.specs.CharstringBox.{flat_box}
+use Rattle.subsetter_points.specs.declared.bounds.Bounds.{Bounds}
 
 -- of a charstring under a private dict, run within these limits; none where it can't be
-unfoldable pub run_box : Cff → Limits → Private → List ℕ → Option GlyphBox
+unfoldable pub run_box : Cff → Limits → Private → List ℕ → Option Bounds
 run_box cff limits private charstring = result_ok (flat_form (library cff private) limits.tokens limits.depth charstring) >>= flat_box
 
 -- of a glyph
-unfoldable pub drawn_box : Cff → Limits → ℕ → Option GlyphBox
+unfoldable pub drawn_box : Cff → Limits → ℕ → Option Bounds
 drawn_box cff limits glyph = do
   charstring ← char_string cff glyph
   private ← private_of cff glyph

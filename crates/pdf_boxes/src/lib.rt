@@ -8,10 +8,6 @@
 #![tactic(auto)]
 
 mod boxes;
-mod events;
-mod flexes;
-mod paths;
-mod pen;
 mod sources;
 
 pub use boxes::kept_box;

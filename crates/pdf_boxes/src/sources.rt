@@ -12,36 +12,18 @@ ghost use Rattle.subsetter_cff.specs.Read.FdArray.PrivateView.{private_view};
 ghost use Rattle.subsetter_cff.specs.Read.Source.{cff_of, IsSource};
 ghost use Rattle.subsetter_cff.specs.Read.GlyphTrace.{library};
 ghost use Rattle.subsetter_cff.specs.Write.Plain.{source_number};
-ghost use Rattle.pdf_boxes.specs.SourceBox.{drawn_box, flat_box, glyph_top, glyph_tops, run_box, top_in, top_or_zero, tops_in};
+ghost use Rattle.pdf_boxes.specs.SourceBox.{drawn_box, glyph_top, glyph_tops, run_box, top_in, top_or_zero, tops_in};
 
-use crate::boxes::{before_endchar, behind_width, outline_box};
 use pdf_cff::unless_memory;
-use pdf_values::GlyphBox;
 use std::alloc::Global;
 use subsetter_base::Error;
+use subsetter_boxes::flat_box;
 use subsetter_cff::read::source::{SIDMetadata, Table};
 use subsetter_cff::write::glyphs::kept_glyphs::source_number;
+use subsetter_points::Bounds;
 use subsetter_type2::charstring::Decompiler;
 use subsetter_type2::limits::Limits;
 use subsetter_type2::subroutines::SubroutineHandler;
-
-/// The box of a charstring without subroutines, which may have a width in front.
-#[tactic(auto, unfolding(crate::specs::SourceBox::flat_box))]
-fn flat_box(flat: &[u8]) -> Result<Option<GlyphBox>, Error>
-    ensures value { Gives (λ b. b) result (Ok (flat_box flat.now)) }
-    ensures err { IfErr result (λ e. e ≡ OutOfMemory) }
-{
-    let Some(body) = before_endchar(flat) else {
-        return Ok(None);
-    };
-    if let Some(bounds) = outline_box(body)? {
-        return Ok(Some(bounds));
-    }
-    match behind_width(body) {
-        Some(behind) => outline_box(behind),
-        None => Ok(None),
-    }
-}
 
 /// A charstring without its subroutines, of any size.
 #[tactic(auto, using(crate::proofs::Unbounded::unbounded))]
@@ -91,7 +73,7 @@ fn run_box<'a>(
     limits: &Limits,
     private: SIDMetadata<'a>,
     charstring: &'a [u8],
-) -> Result<Option<GlyphBox>, Error>
+) -> Result<Option<Bounds>, Error>
     ensures value { Gives (λ b. b) result (Ok (run_box (cff_of table.now) limits.now (private_view private.entry) charstring.now)) }
     ensures err { IfErr result (λ e. e ≡ OutOfMemory) }
 {
@@ -142,7 +124,7 @@ fn drawn_box(
     table: &Table<'_>,
     limits: &Limits,
     glyph: u16,
-) -> Result<Option<GlyphBox>, Error>
+) -> Result<Option<Bounds>, Error>
     requires { IsSource table.now }
     ensures value { Gives (λ b. b) result (Ok (drawn_box (cff_of table.now) limits.now glyph)) }
     ensures err { IfErr result (λ e. e ≡ OutOfMemory) }

@@ -3,4 +3,5 @@ mod Asked
 mod AtCoordinates
 pub mod AnswersLaws
 mod Letters
+mod TextsHanded
 pub mod DocumentsLaws

@@ -2,5 +2,6 @@ pub mod Advances
 pub mod Answers
 pub mod Options
 pub mod Documents
+pub mod Reasons
 pub mod Settings
 pub mod Version

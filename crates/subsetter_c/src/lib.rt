@@ -16,6 +16,7 @@ mod characters;
 mod documents;
 mod laws;
 mod options;
+mod reasons;
 mod settings;
 mod variations;
 mod version;

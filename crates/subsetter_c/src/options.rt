@@ -13,7 +13,7 @@ pub fn word(words: &[u32], at: usize) -> u32
 }
 
 /// 0 stands for the default.
-fn or_default(n: u32, usual: u32) -> u32
+pub fn or_default(n: u32, usual: u32) -> u32
     ensures { result ≡ or_default n usual }
 {
     if n == 0 { usual } else { n }

@@ -124,11 +124,11 @@ unfolding made_table
 limits_agree bytes r tokens depth more other out copy h k =
     let a = passed (some_requested r.glyphs) MalformedFont _ out h in
     let b = passed (some_requested r.glyphs) MalformedFont _ copy k in
-    let p = bind_ok (opened bytes r) (λ o. drawn o.cff o.variation tokens depth r.glyphs >>= parts_of o r) out a.1 in
-    let q = bind_ok (opened bytes r) (λ o. drawn o.cff o.variation more other r.glyphs >>= parts_of o r) copy b.1 in
+    let p = bind_ok (opened bytes r) (λ o. drawn o.cff o.variation tokens depth r.glyphs >>= parts_of o) out a.1 in
+    let q = bind_ok (opened bytes r) (λ o. drawn o.cff o.variation more other r.glyphs >>= parts_of o) copy b.1 in
     let same : p.0 ≡ q.0 = one_answer (opened bytes r) p.0 q.0 p.1.0 q.1.0 in
-    let here : (drawn q.0.cff q.0.variation tokens depth r.glyphs >>= parts_of q.0 r) ≡ Ok out = ap (λ (o : Opened). drawn o.cff o.variation tokens depth r.glyphs >>= parts_of o r) (sym same) ∙ p.1.1 in
-    let x = bind_ok (drawn q.0.cff q.0.variation tokens depth r.glyphs) (parts_of q.0 r) out here in
-    let y = bind_ok (drawn q.0.cff q.0.variation more other r.glyphs) (parts_of q.0 r) copy q.1.1 in
+    let here : (drawn q.0.cff q.0.variation tokens depth r.glyphs >>= parts_of q.0) ≡ Ok out = ap (λ (o : Opened). drawn o.cff o.variation tokens depth r.glyphs >>= parts_of o) (sym same) ∙ p.1.1 in
+    let x = bind_ok (drawn q.0.cff q.0.variation tokens depth r.glyphs) (parts_of q.0) out here in
+    let y = bind_ok (drawn q.0.cff q.0.variation more other r.glyphs) (parts_of q.0) copy q.1.1 in
     let glyphs : x.0 ≡ y.0 = drawn_agrees q.0.cff q.0.variation tokens depth more other r.glyphs x.0 y.0 x.1.0 y.1.0 in
-    one_answer (parts_of q.0 r y.0) out copy (ap (parts_of q.0 r) (sym glyphs) ∙ x.1.1) y.1.1
+    one_answer (parts_of q.0 y.0) out copy (ap (parts_of q.0) (sym glyphs) ∙ x.1.1) y.1.1

@@ -1,5 +1,5 @@
 -- What calls in memory answer, as the plain way does.
-use Rattle.std.proofs.Common.{◌≡◌, ℕ, ◌+◌, ◌-◌, ◌^◌, ◌<◌, ◌≤◌, true, false, List, [], ◌∷◌, ◌++◌, length, map, Option, Some, refl, ap, arith, ◌∙◌, sym, inl, inr}
+use Rattle.std.proofs.Common.{◌≡◌, ℕ, ◌+◌, ◌-◌, ◌^◌, ◌<◌, ◌≤◌, ℤ, true, false, List, [], ◌∷◌, ◌++◌, length, map, Option, Some, refl, ap, arith, ◌∙◌, sym, inl, inr}
 use Rattle.std.specs.Prelude.{min, IfOk, OnOk, Result, Ok, Err}
 use Rattle.std.proofs.lemmas.List.{length-map}
 use Rattle.subsetter_base.specs.Gives.{Fails}
@@ -7,17 +7,21 @@ use Rattle.subsetter_base.specs.Within.{FailsWithin, is_past}
 use Rattle.subsetter_base.specs.declared.error.Error.{Error}
 use Rattle.subsetter_cff.proofs.ReadLaws.Failing.{fails_on}
 use Rattle.subsetter_cff.proofs.ReadLaws.Results.{same_Ok}
+use Rattle.subsetter_boxes.specs.CharstringBox.{charstring_box}
+use Rattle.subsetter_boxes.specs.Joined.{font_box, least_box}
+use Rattle.subsetter_cffdata.specs.Numerals.Numbers.{Number}
 use Rattle.subsetter_cff2.specs.Cff2.{Cff2}
 use Rattle.subsetter_cffdata.specs.Indexes.Index.{offsets}
 use Rattle.subsetter_cffdata.proofs.IndexesLaws.Indexes.{length-offsets}
 use Rattle.subsetter_cff2.specs.declared.made.PlacedDict.{PlacedDict}
-use Rattle.subsetter_cff2.specs.Made2.{NewDict, new_dicts}
+use Rattle.subsetter_cff2.specs.Made2.{NewDict, new_dicts, new_parts, made_of}
 use Rattle.subsetter_cff2.specs.Made2View.{dict_view}
 use Rattle.subsetter_cff2.specs.Selection.UsedDicts.{counted_dicts, index_in}
 use Rattle.subsetter_cff2.specs.Variation.{Variation}
-use Rattle.subsetter_cff_at.specs.Plain.{dict_bound, numbers_from, present, filled, all_filled, placed_text, text_if, texts_from, texts_size, Drawn, drawn, Opened, opened, drawn_of, parts_of, some_requested, made_table}
+use Rattle.subsetter_cff_at.specs.Plain.{dict_bound, numbers_from, present, filled, all_filled, placed_text, text_boxes, text_if, texts_from, texts_size, Drawn, drawn, drawn_box, Opened, opened, drawn_of, parts_of, some_requested, made_table}
+use Rattle.subsetter_points.specs.declared.bounds.Bounds.{Bounds}
 use Rattle.subsetter_cff_at.specs.Request.{Request}
-use Rattle.subsetter_cff_at.specs.View.{DrawsNext, FailsMaking, KeepsBound, drawn_size}
+use Rattle.subsetter_cff_at.specs.View.{DrawsNext, FailsMaking, HasBoxes, KeepsBound, drawn_size}
 use Rattle.subsetter_cff_at.specs.declared.texts.Texts.{Texts}
 use Rattle.subsetter_cff_at.proofs.Found.{few_used, length-numbers, length-dicts, length-texts}
 use Rattle.subsetter_cff_at.proofs.DrawnGlyphs.{drawn_steps}
@@ -27,16 +31,16 @@ requested_text : (cff : Cff2) (v : Option Variation) (tokens depth : ℕ) (dicts
     → text_if cff v tokens depth dicts place glyph (Some advance) ≡ Ok (Some text)
 requested_text cff v tokens depth dicts place glyph advance text e = rw e refl
 
-pub drawn_more : {X : Type 0} (r : Result X Error) (cff : Cff2) (v : Option Variation) (tokens depth : ℕ) (dicts : List NewDict) (place glyph advance : ℕ) (old new : Texts) (bytes text : List ℕ) (requested : ℕ)
-    → OnOk r (new.char_strings.items ≡ old.char_strings.items ++ bytes) → OnOk r (new.ends.items ≡ old.ends.items ++ (length new.char_strings.items + 1) ∷ []) → new.requested ≡ requested
+pub drawn_more : {X : Type 0} (r : Result X Error) (cff : Cff2) (v : Option Variation) (tokens depth : ℕ) (dicts : List NewDict) (place glyph advance : ℕ) (old new : Texts) (bytes text : List ℕ) (bounds : Option Bounds) (requested : ℕ)
+    → OnOk r (new.char_strings.items ≡ old.char_strings.items ++ bytes) → OnOk r (new.ends.items ≡ old.ends.items ++ (length new.char_strings.items + 1) ∷ []) → OnOk r (new.boxes.items ≡ old.boxes.items ++ bounds ∷ []) → bounds ≡ charstring_box text → new.requested ≡ requested
     → bytes ≡ text → requested ≡ min (old.requested + length text) (2 ^ 64 - 1) → placed_text cff v tokens depth dicts place glyph advance ≡ Ok text
     → OnOk r (DrawsNext cff v tokens depth dicts place glyph (Some advance) old new)
-drawn_more (Ok x) cff v tokens depth dicts place glyph advance old new bytes text requested chars ends size same counted is = record {
+drawn_more (Ok x) cff v tokens depth dicts place glyph advance old new bytes text bounds requested chars ends boxes is_box size same counted is = record {
   text = Some text;
   is = requested_text cff v tokens depth dicts place glyph advance text is;
-  put = record { char_strings = chars ∙ ap (λ (l : List ℕ). old.char_strings.items ++ l) same; ends = ends; requested = size ∙ counted };
+  put = record { char_strings = chars ∙ ap (λ (l : List ℕ). old.char_strings.items ++ l) same; ends = ends; boxes = boxes ∙ ap (λ (o : Option Bounds). old.boxes.items ++ o ∷ []) is_box; requested = size ∙ counted };
 }
-drawn_more (Err e) cff v tokens depth dicts place glyph advance old new bytes text requested chars ends size same counted is = tt
+drawn_more (Err e) cff v tokens depth dicts place glyph advance old new bytes text bounds requested chars ends boxes is_box size same counted is = tt
 
 -- ---- all glyphs
 pub drawn_is : (cff : Cff2) (v : Option Variation) (tokens depth : ℕ) (glyphs numbers : List (Option ℕ)) (used : List ℕ) (dicts : List NewDict) (texts : List (Option (List ℕ)))
@@ -113,7 +117,7 @@ drawn_keeps bound read d e h = rw e h
 making_fails_at : (bytes : List ℕ) (r : Request) (tokens depth : ℕ) (o : Opened) (e : Error) → some_requested r.glyphs ≡ true → opened bytes r ≡ Ok o → Fails e (drawn o.cff o.variation tokens depth r.glyphs) → Fails e (made_table bytes r tokens depth)
 unfolding made_table
 making_fails_at bytes r tokens depth o e some open_is h =
-    fails_on (drawn o.cff o.variation tokens depth r.glyphs) (parts_of o r) (made_table bytes r tokens depth) e (sym (rw (some, open_is) refl)) h
+    fails_on (drawn o.cff o.variation tokens depth r.glyphs) (parts_of o) (made_table bytes r tokens depth) e (sym (rw (some, open_is) refl)) h
 
 drawn_there : (bytes : List ℕ) (r : Request) (tokens depth : ℕ) (o : Opened) → opened bytes r ≡ Ok o → drawn_of bytes r tokens depth ≡ drawn o.cff o.variation tokens depth r.glyphs
 unfolding drawn_of
@@ -126,7 +130,20 @@ making_fails bound bytes r tokens depth o e some open_is h = elim h [
   | inr p ↦ inr (p.0, record { most = p.1.most; is_set = p.1.is_set; longer = λ d is. p.1.longer d (sym (drawn_there bytes r tokens depth o open_is) ∙ is) })
 ]
 
-pub making_keeps : {X : Type 0} (a : Result X Error) (bound : Option ℕ) (bytes : List ℕ) (r : Request) (tokens depth : ℕ) (o : Opened) → opened bytes r ≡ Ok o → KeepsBound bound (drawn o.cff o.variation tokens depth r.glyphs)
-    → IfOk a (λ _. KeepsBound bound (drawn_of bytes r tokens depth))
-making_keeps (Ok x) bound bytes r tokens depth o open_is h = rw (drawn_there bytes r tokens depth o open_is) h
-making_keeps (Err e) bound bytes r tokens depth o open_is h = tt
+pub making_keeps : (bound : Option ℕ) (bytes : List ℕ) (r : Request) (tokens depth : ℕ) (o : Opened) → opened bytes r ≡ Ok o → KeepsBound bound (drawn o.cff o.variation tokens depth r.glyphs) → KeepsBound bound (drawn_of bytes r tokens depth)
+making_keeps bound bytes r tokens depth o open_is h = rw (drawn_there bytes r tokens depth o open_is) h
+
+pub making_boxes : (bytes : List ℕ) (r : Request) (tokens depth : ℕ) (o : Opened) (d : Drawn) (boxes : List (Option Bounds)) → opened bytes r ≡ Ok o → drawn o.cff o.variation tokens depth r.glyphs ≡ Ok d → boxes ≡ text_boxes d.texts
+    → HasBoxes boxes (drawn_of bytes r tokens depth)
+making_boxes bytes r tokens depth o d boxes open_is is are = rw (drawn_there bytes r tokens depth o open_is, is) are
+
+-- the box that is reckoned of the boxes
+pub box_is : (d : Drawn) (boxes given : List (Option Bounds)) (least : Option Bounds) (box : List ℤ) → boxes ≡ text_boxes d.texts → given ≡ boxes → least ≡ least_box given → box ≡ font_box least → box ≡ drawn_box d
+unfolding drawn_box
+box_is d boxes given least box a b c e = e ∙ ap font_box (c ∙ ap least_box (b ∙ a))
+
+-- the table of what is drawn
+pub made_there : (bytes : List ℕ) (r : Request) (tokens depth : ℕ) (o : Opened) (d : Drawn) (matrix : Option (List Number)) (box : List ℤ) (dicts : List NewDict) (places : List ℕ) → some_requested r.glyphs ≡ true → opened bytes r ≡ Ok o
+    → drawn o.cff o.variation tokens depth r.glyphs ≡ Ok d → matrix ≡ o.matrix → box ≡ drawn_box d → dicts ≡ d.dicts → places ≡ d.places → made_table bytes r tokens depth ≡ made_of (new_parts matrix box dicts places (all_filled d.texts))
+unfolding made_table
+made_there bytes r tokens depth o d matrix box dicts places some open_is is m b ds ps = rw (some, open_is, is, m, b, ds, ps) refl

@@ -30,7 +30,7 @@ use Rattle.subsetter_cff2.specs.Selection.UsedDicts.{used_dicts}
 use Rattle.subsetter_cff2.specs.Variation.{Variation, optional_variation}
 use Rattle.subsetter_cff2.proofs.MadeFits.{new_dict_is_placed}
 use Rattle.subsetter_cff_at.specs.Fault.{HasOpeningFault, HasGlyphFault, HasLimitFault, HasFault, MadeExcludes, bad_front, bad_subroutines, bad_char_strings, bad_font_dicts, bad_store_offset, bad_store, bad_select, bad_matrix, bad_region, no_number, no_font_dict, no_private, bad_private, long_private, no_char_string, stops, wide_advance, many_font_dicts, long_matrix, large_char_strings, large_offset, none_requested, in_opening, in_glyph, in_limits}
-use Rattle.subsetter_cff_at.specs.Plain.{dict_bound, present, setting, all_filled, Drawn, drawn, Opened, opened, parts_of, some_requested, made_table}
+use Rattle.subsetter_cff_at.specs.Plain.{dict_bound, present, setting, all_filled, Drawn, drawn, drawn_box, Opened, opened, parts_of, some_requested, made_table}
 use Rattle.subsetter_cff_at.specs.Request.{Request}
 use Rattle.subsetter_cff_at.specs.Units.{top_matrix}
 use Rattle.subsetter_cff_at.proofs.Found.{few_used, requested_at}
@@ -145,15 +145,15 @@ text_made cff v number d private e is =
     let same : a.0 ≡ private = same_Some _ _ (sym (some_of (private_numbered cff number) MalformedFont a.0 a.1.0) ∙ is) in
     (b.0, ap (λ (p : Private2). private_text v p.dict) (sym same) ∙ b.1.0)
 
-module _ (bytes : List ℕ) (r : Request) (tokens depth : ℕ) (o : Opened) (d : Drawn) (out : List ℕ) (are : drawn o.cff o.variation tokens depth r.glyphs ≡ Ok d) (made : parts_of o r d ≡ Ok out) where
+module _ (bytes : List ℕ) (r : Request) (tokens depth : ℕ) (o : Opened) (d : Drawn) (out : List ℕ) (are : drawn o.cff o.variation tokens depth r.glyphs ≡ Ok d) (made : parts_of o d ≡ Ok out) where
   steps : DrawnSteps o.cff o.variation tokens depth r.glyphs d
   steps = drawn_steps o.cff o.variation tokens depth r.glyphs d are
 
-  limits : AreKept (new_parts o.matrix r.box d.dicts d.places (all_filled d.texts))
-  limits = kept (new_parts o.matrix r.box d.dicts d.places (all_filled d.texts)) out made
+  limits : AreKept (new_parts o.matrix (drawn_box d) d.dicts d.places (all_filled d.texts))
+  limits = kept (new_parts o.matrix (drawn_box d) d.dicts d.places (all_filled d.texts)) out made
 
   dicts_short : any_long (flat_map font_dict_numbers (map new_font_dict d.dicts)) ≡ false
-  dicts_short = short_back (new_box r.box) (flat_map font_dict_numbers (map new_font_dict d.dicts)) (short_back (new_matrix o.matrix) _ limits.short)
+  dicts_short = short_back (new_box (drawn_box d)) (flat_map font_dict_numbers (map new_font_dict d.dicts)) (short_back (new_matrix o.matrix) _ limits.short)
 
   module _ (glyph advance : ℕ) (at : slice_get r.glyphs glyph ≡ Some (Some advance)) where
     found : GlyphFound o.cff o.variation tokens depth glyph advance d
@@ -210,8 +210,8 @@ module _ (bytes : List ℕ) (r : Request) (tokens depth : ℕ) (o : Opened) (d :
       (let same : d ≡ other = same_Ok _ _ (sym are ∙ is) in
       let here : o.matrix ≡ matrix = same_Some _ _ (sym s.matrix_is ∙ matrix_is) in
       let place = limits.offset in
-      let e : char_strings_offset (new_parts o.matrix r.box d.dicts d.places (all_filled d.texts)) ≡ char_strings_offset (new_parts matrix r.box other.dicts other.places (all_filled other.texts))
-      = ap (λ (x : Drawn). char_strings_offset (new_parts o.matrix r.box x.dicts x.places (all_filled x.texts))) same ∙ ap (λ (m : Option (List Number)). char_strings_offset (new_parts m r.box other.dicts other.places (all_filled other.texts))) here in
+      let e : char_strings_offset (new_parts o.matrix (drawn_box d) d.dicts d.places (all_filled d.texts)) ≡ char_strings_offset (new_parts matrix (drawn_box other) other.dicts other.places (all_filled other.texts))
+      = ap (λ (x : Drawn). char_strings_offset (new_parts o.matrix (drawn_box x) x.dicts x.places (all_filled x.texts))) same ∙ ap (λ (m : Option (List Number)). char_strings_offset (new_parts m (drawn_box other) other.dicts other.places (all_filled other.texts))) here in
       omega (arith, large, e))
 
 -- ---- all
@@ -221,14 +221,14 @@ record MadeSteps (bytes : List ℕ) (r : Request) (tokens depth : ℕ) (out : Li
   open_is : opened bytes r ≡ Ok o
   d : Drawn
   are : drawn o.cff o.variation tokens depth r.glyphs ≡ Ok d
-  made : parts_of o r d ≡ Ok out
+  made : parts_of o d ≡ Ok out
 
 made_steps : (bytes : List ℕ) (r : Request) (tokens depth : ℕ) (out : List ℕ) → made_table bytes r tokens depth ≡ Ok out → MadeSteps bytes r tokens depth out
 unfolding made_table
 made_steps bytes r tokens depth out e =
     let a = passed (some_requested r.glyphs) MalformedFont _ out e in
-    let b = bind_ok (opened bytes r) (λ o. drawn o.cff o.variation tokens depth r.glyphs >>= parts_of o r) out a.1 in
-    let c = bind_ok (drawn b.0.cff b.0.variation tokens depth r.glyphs) (parts_of b.0 r) out b.1.1 in
+    let b = bind_ok (opened bytes r) (λ o. drawn o.cff o.variation tokens depth r.glyphs >>= parts_of o) out a.1 in
+    let c = bind_ok (drawn b.0.cff b.0.variation tokens depth r.glyphs) (parts_of b.0) out b.1.1 in
     record { requested = a.0; o = b.0; open_is = b.1.0; d = c.0; are = c.1.0; made = c.1.1 }
 
 no_fault : (bytes : List ℕ) (r : Request) (tokens depth : ℕ) (out : List ℕ) (e : Error) → MadeSteps bytes r tokens depth out → HasFault bytes r tokens depth e → ⊥

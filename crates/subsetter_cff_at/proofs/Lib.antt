@@ -1,3 +1,4 @@
+pub mod Boxes
 pub mod Steps
 pub mod Found
 pub mod DrawnGlyphs

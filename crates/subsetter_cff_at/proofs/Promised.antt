@@ -1,5 +1,5 @@
 -- What is made is a table that says, read afresh, what was requested.
-use Rattle.std.proofs.Common.{◌≡◌, ℕ, zero, suc, ◌<◌, ◌≤◌, pos, FitsSigned, true, List, [], ◌∷◌, length, map, Option, Some, None, refl, ap, arith, ◌∙◌, sym, subst}
+use Rattle.std.proofs.Common.{◌≡◌, ℕ, zero, suc, ◌<◌, ◌≤◌, ℤ, pos, FitsSigned, true, List, [], ◌∷◌, length, map, Option, Some, None, refl, ap, arith, ◌∙◌, sym, subst}
 use Rattle.std.specs.Prelude.{slice_get, slice_index, Ok}
 use Rattle.std.specs.Int.{w16}
 use Rattle.std.specs.List.{AllByRecursion}
@@ -11,7 +11,7 @@ use Rattle.subsetter_base.specs.Indexes.{index_of}
 use Rattle.subsetter_base.specs.declared.error.Error.TheVariants.{MalformedFont}
 use Rattle.subsetter_cffdata.proofs.Options.{step}
 use Rattle.subsetter_cffdata.specs.Dicts.Dict.{Entry, entries}
-use Rattle.subsetter_cffdata.specs.Numerals.Numbers.{Number}
+use Rattle.subsetter_cffdata.specs.Numerals.Numbers.{Number, Integer}
 use Rattle.subsetter_cffdata.specs.Numerals.Values.{value}
 use Rattle.subsetter_type2.specs.Runs.Machine.{Trace, trace}
 use Rattle.subsetter_cff.specs.Read.Cff.{Cff, char_strings, char_string}
@@ -37,10 +37,14 @@ use Rattle.subsetter_cff2.specs.PrivateDicts.Private2 as source
 use Rattle.subsetter_cff2.specs.Selection.UsedDicts.{index_in}
 use Rattle.subsetter_cff2.specs.Variation.{Variation, optional_variation}
 use Rattle.subsetter_cff2.proofs.MadeFits.{made_is_read, new_dict_is_placed}
-use Rattle.subsetter_cff_at.specs.Plain.{dict_bound, present, setting, filled, all_filled, no_glyph, Drawn, drawn, Opened, opened, parts_of, some_requested, made_table}
+use Rattle.subsetter_cff_at.specs.Plain.{dict_bound, present, setting, filled, all_filled, no_glyph, text_boxes, Drawn, drawn, drawn_box, drawn_of, Opened, opened, parts_of, some_requested, made_table}
 use Rattle.subsetter_cff_at.specs.Promise.{DrawsGlyph, IsTableAt, IsRequest, MadeIsTable}
 use Rattle.subsetter_cff_at.specs.Request.{Request}
 use Rattle.subsetter_cff_at.specs.Units.{top_matrix, matrix_or, units_dict}
+use Rattle.subsetter_cff_at.specs.View.{HasBoxes}
+use Rattle.subsetter_cff_at.specs.Boxes.{table_boxes}
+use Rattle.subsetter_points.specs.declared.bounds.Bounds.{Bounds}
+use Rattle.subsetter_cff_at.proofs.Boxes.{drawn_box_fits, drawn_box_is, drawn_box_length, table_boxes_are, entry_boxes_are}
 use Rattle.subsetter_cff_at.proofs.Found.{text_here, length-texts, length-dicts, few_used, requested_at, all_inside}
 use Rattle.subsetter_cff_at.proofs.DrawnGlyphs.{DrawnSteps, drawn_steps, GlyphFound, as_many, place_found, glyph_found}
 
@@ -144,9 +148,10 @@ pub record TableSteps (bytes : List ℕ) (r : Request) (tokens depth : ℕ) (out
   pub matrix_is : top_matrix cff r.units ≡ Some matrix
   pub variation : Option Variation
   pub variation_is : optional_variation cff.store r.at ≡ Some variation
+  pub opened_is : opened bytes r ≡ Ok (record { cff = cff; matrix = matrix; variation = variation })
   pub glyphs : Drawn
   pub glyphs_are : drawn cff variation tokens depth r.glyphs ≡ Ok glyphs
-  pub made : made_of (new_parts matrix r.box glyphs.dicts glyphs.places (all_filled glyphs.texts)) ≡ Ok out
+  pub made : made_of (new_parts matrix (drawn_box glyphs) glyphs.dicts glyphs.places (all_filled glyphs.texts)) ≡ Ok out
 
 pub record OpenSteps (bytes : List ℕ) (r : Request) (o : Opened) : Type 0 where
   pub cff_is : cff2_parts bytes (length r.at) ≡ Some o.cff
@@ -170,8 +175,8 @@ pub table_steps : (bytes : List ℕ) (r : Request) (tokens depth : ℕ) (out : L
 unfolding made_table
 table_steps bytes r tokens depth out e =
     let a = passed (some_requested r.glyphs) MalformedFont _ out e in
-    let b = bind_ok (opened bytes r) (λ o. drawn o.cff o.variation tokens depth r.glyphs >>= parts_of o r) out a.1 in
-    let c = bind_ok (drawn b.0.cff b.0.variation tokens depth r.glyphs) (parts_of b.0 r) out b.1.1 in
+    let b = bind_ok (opened bytes r) (λ o. drawn o.cff o.variation tokens depth r.glyphs >>= parts_of o) out a.1 in
+    let c = bind_ok (drawn b.0.cff b.0.variation tokens depth r.glyphs) (parts_of b.0) out b.1.1 in
     let o = open_steps bytes r b.0 b.1.0 in
     record {
       requested = a.0;
@@ -181,6 +186,7 @@ table_steps bytes r tokens depth out e =
       matrix_is = o.matrix_is;
       variation = b.0.variation;
       variation_is = o.variation_is;
+      opened_is = b.1.0;
       glyphs = c.0;
       glyphs_are = c.1.0;
       made = c.1.1;
@@ -215,13 +221,13 @@ module _ (bytes : List ℕ) (r : Request) (tokens depth : ℕ) (out : List ℕ) 
   some_glyph : 1 ≤ length r.glyphs
   some_glyph = let a = requested_at r.glyphs s.requested in omega (arith, slice_get_within r.glyphs a.glyph (Some a.advance) a.is)
 
-  made_of_these : IsMadeOf s.cff s.variation matrix_dict.dict steps.used s.glyphs.dicts s.matrix r.box s.glyphs.places (all_filled s.glyphs.texts)
+  made_of_these : IsMadeOf s.cff s.variation matrix_dict.dict steps.used s.glyphs.dicts s.matrix (drawn_box s.glyphs) s.glyphs.places (all_filled s.glyphs.texts)
   made_of_these = record {
     dicts_are = steps.dicts_are;
     few_dicts = omega (arith, dicts_many, (few_used (dict_bound s.cff) (present steps.numbers) steps.used steps.used_are).1);
     matrix_is = matrix_dict.is;
-    box_fits = is.box_fits;
-    box_length = is.box_length;
+    box_fits = drawn_box_fits s.glyphs;
+    box_length = drawn_box_length s.glyphs;
     as_many = as_many s.cff s.variation tokens depth r.glyphs s.glyphs steps ∙ sym texts_many;
     inside =
         subst (λ (l : List ℕ). AllByRecursion (λ n. n < length s.glyphs.dicts) l) (sym steps.places_are)
@@ -231,7 +237,7 @@ module _ (bytes : List ℕ) (r : Request) (tokens depth : ℕ) (out : List ℕ) 
   }
 
   abbrev parts : Parts
-  parts = new_parts s.matrix r.box s.glyphs.dicts s.glyphs.places (all_filled s.glyphs.texts)
+  parts = new_parts s.matrix (drawn_box s.glyphs) s.glyphs.dicts s.glyphs.places (all_filled s.glyphs.texts)
 
   module _ (read : IsReadAs out parts) where
     glyph_read : (glyph : ℕ) → glyph < length r.glyphs → GlyphReadsAs parts read.cff glyph
@@ -273,14 +279,31 @@ module _ (bytes : List ℕ) (r : Request) (tokens depth : ℕ) (out : List ℕ) 
       matrix = s.matrix;
       matrix_is = s.matrix_is;
       matrices_are = matrices;
-      box = read.reads.box;
+      box = read.reads.box ∙ ap (λ (l : List ℤ). Some (map Integer l)) (drawn_box_is s.glyphs);
       layout = e;
     }
+
+module _ (bytes : List ℕ) (r : Request) (tokens depth : ℕ) (out : List ℕ) (is : IsRequest r) (s : TableSteps bytes r tokens depth out) where
+  read_afresh : IsReadAs out (parts bytes r tokens depth out is s)
+  read_afresh =
+      let m = matrix_of bytes (length r.at) r.units s.cff s.matrix s.cff_is s.matrix_is in
+      let d = steps bytes r tokens depth out is s in
+      made_is_read s.cff s.variation m.dict d.used s.glyphs.dicts s.matrix (drawn_box s.glyphs) s.glyphs.places (all_filled s.glyphs.texts) out (made_of_these bytes r tokens depth out is s) s.made
+
+  -- the boxes of the glyphs of the new table are those of its charstrings
+  pub boxes_read : table_boxes out ≡ text_boxes s.glyphs.texts
+  boxes_read = table_boxes_are out read_afresh.cff (map Some (all_filled s.glyphs.texts)) read_afresh.read read_afresh.reads.charstrings ∙ entry_boxes_are (all_filled s.glyphs.texts)
 
 pub made_is_table : MadeIsTable
 made_is_table bytes r tokens depth out is e =
     let s = table_steps bytes r tokens depth out e in
-    let p = parts bytes r tokens depth out is s in
-    let m = matrix_of bytes (length r.at) r.units s.cff s.matrix s.cff_is s.matrix_is in
-    let d = steps bytes r tokens depth out is s in
-    table_is bytes r tokens depth out is s (made_is_read s.cff s.variation m.dict d.used s.glyphs.dicts s.matrix r.box s.glyphs.places (all_filled s.glyphs.texts) out (made_of_these bytes r tokens depth out is s) s.made) e
+    table_is bytes r tokens depth out is s (read_afresh bytes r tokens depth out is s) e
+
+-- the boxes of what is drawn are those of the new table
+pub boxes_back : (bytes : List ℕ) (r : Request) (tokens depth : ℕ) (out : List ℕ) (boxes : List (Option Bounds)) → IsRequest r → made_table bytes r tokens depth ≡ Ok out → HasBoxes boxes (drawn_of bytes r tokens depth) → boxes ≡ table_boxes out
+unfolding drawn_of
+boxes_back bytes r tokens depth out boxes is e has =
+    let s = table_steps bytes r tokens depth out e in
+    let drawn_is : drawn_of bytes r tokens depth ≡ Ok s.glyphs = rw s.opened_is s.glyphs_are in
+    let are : boxes ≡ text_boxes s.glyphs.texts = subst (HasBoxes boxes) drawn_is has in
+    are ∙ sym (boxes_read bytes r tokens depth out is s)

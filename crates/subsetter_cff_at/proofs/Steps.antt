@@ -11,10 +11,12 @@ use Rattle.subsetter_base.specs.declared.error.Error.TheVariants.{UnknownKind, M
 use Rattle.subsetter_cffdata.specs.Indexes.Index.{offsets}
 use Rattle.subsetter_cff.proofs.ReadLaws.Failing.{fails_on}
 use Rattle.subsetter_cff.proofs.ReadLaws.Results.{bind_ok, same_Ok}
+use Rattle.subsetter_boxes.specs.CharstringBox.{charstring_box}
+use Rattle.subsetter_points.specs.declared.bounds.Bounds.{Bounds}
 use Rattle.subsetter_cff2.specs.Cff2.{Cff2}
 use Rattle.subsetter_cff2.specs.Made2.{NewDict}
 use Rattle.subsetter_cff2.specs.Variation.{Variation}
-use Rattle.subsetter_cff_at.specs.Plain.{number_if, numbers_from, with_number, present, text_if, texts_from, filled, all_filled, text_size, texts_size}
+use Rattle.subsetter_cff_at.specs.Plain.{number_if, numbers_from, with_number, present, text_if, texts_from, filled, all_filled, text_boxes, text_size, texts_size}
 use Rattle.subsetter_cff_at.specs.View.{AreTexts, IsPut, counted_with, with_texts, with_numbers}
 use Rattle.subsetter_cff_at.specs.declared.texts.Texts.{Texts}
 
@@ -64,6 +66,10 @@ filled_behind : (xs : List (Option (List ℕ))) (x : Option (List ℕ)) → all_
 filled_behind [] x = refl
 filled_behind (y ∷ xs) x = ap (λ (l : List (List ℕ)). filled y ∷ l) (filled_behind xs x)
 
+boxes_behind : (xs : List (Option (List ℕ))) (x : Option (List ℕ)) → text_boxes (xs ++ x ∷ []) ≡ text_boxes xs ++ charstring_box (filled x) ∷ []
+boxes_behind [] x = refl
+boxes_behind (y ∷ xs) x = ap (λ (l : List (Option Bounds)). charstring_box (filled y) ∷ l) (boxes_behind xs x)
+
 pub size_more : (front rest : List (Option (List ℕ))) (x : Option (List ℕ)) → texts_size (front ++ x ∷ rest) ≡ texts_size front + (text_size x + texts_size rest)
 size_more [] rest x = omega arith
 size_more (y ∷ front) rest x = omega (arith, size_more front rest x)
@@ -79,6 +85,7 @@ one_more before old new text are put = record {
       let size : length new.char_strings.items + 1 ≡ 1 + length (concat (all_filled before)) + length (filled text) =
       omega (arith, ap length put.char_strings, length-append old.char_strings.items (filled text), ap length are.char_strings) in
       put.ends ∙ rw (are.ends, size) (sym (ap (offsets 1) (filled_behind before text) ∙ ends_behind 1 (all_filled before) (filled text)));
+  boxes = put.boxes ∙ ap (λ (l : List (Option Bounds)). l ++ charstring_box (filled text) ∷ []) are.boxes ∙ sym (boxes_behind before text);
   requested = size_kept text old.requested new.requested (texts_size before) put.requested are.requested ∙ ap (λ (n : ℕ). min n (2 ^ 64 - 1)) (sym (size_more before [] text));
 }
 

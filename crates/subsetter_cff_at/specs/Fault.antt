@@ -17,7 +17,7 @@ use Rattle.subsetter_cff2.specs.PrivateDicts.Private2.{Private2, font_dict_numbe
 use Rattle.subsetter_cff2.specs.PrivateDicts.PrivateAt.{Placed, private_at_location}
 use Rattle.subsetter_cff2.specs.Selection.UsedDicts.{used_dicts}
 use Rattle.subsetter_cff2.specs.Variation.{Variation, optional_variation}
-use Rattle.subsetter_cff_at.specs.Plain.{dict_bound, numbers_from, present, setting, Drawn, drawn, Opened, opened, all_filled, made_table}
+use Rattle.subsetter_cff_at.specs.Plain.{dict_bound, numbers_from, present, setting, Drawn, drawn, drawn_box, Opened, opened, all_filled, made_table}
 use Rattle.subsetter_cff_at.specs.PrivateFault.{HasPrivateFault}
 use Rattle.subsetter_cff_at.specs.Request.{Request}
 use Rattle.subsetter_cff_at.specs.RunFault.{HasCharstringFault}
@@ -72,7 +72,7 @@ pub data HasLimitFault (cff : Cff2) (v : Option Variation) (r : Request) (tokens
   -- the charstrings have 4 GiB, or an offset is past 2147483647
   large_char_strings : (d : Drawn) → drawn cff v tokens depth r.glyphs ≡ Ok d → 2 ^ 32 ≤ length (concat (all_filled d.texts)) + 1 → HasLimitFault cff v r tokens depth OverflowError
   large_offset : (d : Drawn) (matrix : Option (List Number)) → drawn cff v tokens depth r.glyphs ≡ Ok d → top_matrix cff r.units ≡ Some matrix
-      → 2 ^ 31 ≤ char_strings_offset (new_parts matrix r.box d.dicts d.places (all_filled d.texts)) → HasLimitFault cff v r tokens depth OverflowError
+      → 2 ^ 31 ≤ char_strings_offset (new_parts matrix (drawn_box d) d.dicts d.places (all_filled d.texts)) → HasLimitFault cff v r tokens depth OverflowError
 
 -- ---- all
 pub data HasFault (bytes : List ℕ) (r : Request) (tokens depth : ℕ) : Error → Type 0 where

@@ -1,3 +1,4 @@
+pub mod Boxes
 pub mod Request
 pub mod Units
 pub mod Plain

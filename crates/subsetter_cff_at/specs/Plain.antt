@@ -1,5 +1,5 @@
 -- The plain way to make a CFF table of a CFF2 table at coordinates: its parts, with the error that is answered where they can't be made.
-use Rattle.std.specs.Prelude.{ℕ, ◌+◌, nat_lt, min, Bool, is_some, pos, List, [], ◌∷◌, length, map, slice_get, unwrap_or, Option, Some, None, Result, Ok}
+use Rattle.std.specs.Prelude.{ℕ, ◌+◌, nat_lt, min, Bool, is_some, ℤ, pos, List, [], ◌∷◌, length, map, slice_get, unwrap_or, Option, Some, None, Result, Ok}
 use Rattle.std.specs.List.{list_any}
 use Rattle.std.specs.Option.{ok_or}
 use Rattle.subsetter_base.specs.Bytes.{◌>>=◌}
@@ -9,6 +9,9 @@ use Rattle.subsetter_cffdata.specs.Numerals.Numbers.{Number}
 use Rattle.subsetter_cff.specs.Read.Opened.{check}
 use Rattle.subsetter_blend.specs.Runs.Machine.{Setting}
 use Rattle.subsetter_blend.specs.Resolved.{resolved}
+use Rattle.subsetter_boxes.specs.CharstringBox.{charstring_box}
+use Rattle.subsetter_boxes.specs.Joined.{font_box, least_box}
+use Rattle.subsetter_points.specs.declared.bounds.Bounds.{Bounds}
 use Rattle.subsetter_cff2.specs.Cff2.{Cff2, cff2_parts}
 use Rattle.subsetter_cff2.specs.Made2.{NewDict, new_dicts, new_parts, made_of}
 use Rattle.subsetter_cff2.specs.PrivateDicts.Private2.{font_dict_number, char_string}
@@ -114,6 +117,13 @@ drawn cff v tokens depth glyphs = do
   texts ← texts_from cff v tokens depth dicts (map (index_in used) numbers) 0 glyphs
   Ok (record { dicts = dicts; places = map (index_in used) numbers; texts = texts })
 
+-- the boxes of these charstrings, and FontBBox: the least box around them, 0 where nothing is drawn
+abbrev pub text_boxes : List (Option (List ℕ)) → List (Option Bounds)
+text_boxes texts = map charstring_box (all_filled texts)
+
+unfoldable pub drawn_box : Drawn → List ℤ
+drawn_box d = font_box (least_box (text_boxes d.texts))
+
 -- a table that is opened: its parts, FontMatrix, and what varies
 pub record Opened : Type 0 where
   pub cff : Cff2
@@ -130,8 +140,8 @@ opened bytes r = do
 unfoldable pub drawn_of : List ℕ → Request → ℕ → ℕ → Result Drawn Error
 drawn_of bytes r tokens depth = opened bytes r >>= λ o. drawn o.cff o.variation tokens depth r.glyphs
 
-abbrev pub parts_of : Opened → Request → Drawn → Result (List ℕ) Error
-parts_of o r d = made_of (new_parts o.matrix r.box d.dicts d.places (all_filled d.texts))
+abbrev pub parts_of : Opened → Drawn → Result (List ℕ) Error
+parts_of o d = made_of (new_parts o.matrix (drawn_box d) d.dicts d.places (all_filled d.texts))
 
 -- a glyph is requested
 unfoldable pub some_requested : List (Option ℕ) → Bool
@@ -141,4 +151,4 @@ some_requested glyphs = list_any is_some glyphs
 unfoldable pub made_table : List ℕ → Request → ℕ → ℕ → Result (List ℕ) Error
 made_table bytes r tokens depth =
     check (some_requested r.glyphs) MalformedFont
-    (opened bytes r >>= λ o. drawn o.cff o.variation tokens depth r.glyphs >>= parts_of o r)
+    (opened bytes r >>= λ o. drawn o.cff o.variation tokens depth r.glyphs >>= parts_of o)

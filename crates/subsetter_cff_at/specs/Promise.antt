@@ -1,8 +1,5 @@
 -- What the table that is made says, read afresh (OpenType, "CFF2"; Technical Note 5176 and 5177).
 use Rattle.std.specs.Prelude.{◌≡◌, ℕ, ◌<◌, ◌≤◌, pos, List, [], length, map, slice_get, Option, Some, None, Ok}
-use Rattle.std.specs.Int.{w16}
-use Rattle.std.specs.Prelude.{FitsSigned}
-use Rattle.std.specs.List.{AllByRecursion}
 use Rattle.subsetter_cffdata.specs.Numerals.Numbers.{Number, Integer}
 use Rattle.subsetter_cffdata.specs.Numerals.Values.{value}
 use Rattle.subsetter_cff.specs.Read.Entries.Lookup.{last_of}
@@ -22,6 +19,8 @@ use Rattle.subsetter_cff2.specs.PrivateDicts.Private2 as source
 use Rattle.subsetter_cff2.specs.PrivateDicts.Private2.{Private2, private_of}
 use Rattle.subsetter_cff2.specs.PrivateDicts.PrivateAt.{Placed, private_at_location}
 use Rattle.subsetter_cff2.specs.Variation.{Variation, optional_variation}
+use Rattle.subsetter_boxes.specs.Joined.{font_box, least_box}
+use Rattle.subsetter_cff_at.specs.Boxes.{entry_boxes}
 use Rattle.subsetter_cff_at.specs.Plain.{setting, no_glyph, made_table}
 use Rattle.subsetter_cff_at.specs.Request.{Request}
 use Rattle.subsetter_cff_at.specs.Units.{top_matrix}
@@ -62,19 +61,17 @@ pub record IsTableAt (bytes : List ℕ) (r : Request) (tokens depth : ℕ) (out 
   -- CID-keyed, without subroutines
   pub keyed : keying copy ≡ Some adobe_identity
   pub no_subroutines : copy.subroutines ≡ []
-  -- FontMatrix and FontBBox
+  -- FontMatrix, and FontBBox, the least box around its glyphs
   pub matrix : Option (List Number)
   pub matrix_is : top_matrix source r.units ≡ Some matrix
   pub matrices_are : (glyph : ℕ) → glyph < length r.glyphs → stated_matrices copy glyph ≡ Some (map value (new_matrix matrix), map value unit_matrix)
-  pub box : last_of font_box_operator copy.top ≡ Some (map Integer r.box)
+  pub box : last_of font_box_operator copy.top ≡ Some (map Integer (font_box (least_box (entry_boxes charstrings))))
   -- byte for byte the table of the plain way
   pub layout : made_table bytes r tokens depth ≡ Ok out
 
 -- what a request has by its types
 pub record IsRequest (r : Request) : Type 0 where
   pub few : length r.glyphs ≤ 65535
-  pub box_fits : AllByRecursion (FitsSigned w16) r.box
-  pub box_length : length r.box ≡ 4
 
 -- what is made is such a table
 abbrev pub MadeIsTable : Type 0

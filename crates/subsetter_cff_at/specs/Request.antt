@@ -6,7 +6,5 @@ pub record Request : Type 0 where
   pub at : List ℤ
   -- for each glyph of the font: its advance at the coordinates, where it is requested
   pub glyphs : List (Option ℕ)
-  -- FontBBox: xMin, yMin, xMax, yMax
-  pub box : List ℤ
   -- unitsPerEm of `head`
   pub units : ℕ

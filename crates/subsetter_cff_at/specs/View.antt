@@ -13,15 +13,17 @@ use Rattle.subsetter_cff2.specs.Cff2View.{cff2_of}
 use Rattle.subsetter_cff2.specs.Made2.{NewDict}
 use Rattle.subsetter_cff2.specs.Made2View.{dict_view, HasTexts}
 use Rattle.subsetter_cff2.specs.Variation.{Variation}
+use Rattle.subsetter_boxes.specs.CharstringBox.{charstring_box}
+use Rattle.subsetter_points.specs.declared.bounds.Bounds.{Bounds}
 use Rattle.subsetter_cff_at.specs.Request.{Request}
-use Rattle.subsetter_cff_at.specs.Plain.{Opened, Drawn, drawn, drawn_of, made_table, text_if, all_filled, filled, texts_size, texts_from}
+use Rattle.subsetter_cff_at.specs.Plain.{Opened, Drawn, drawn, drawn_of, made_table, text_boxes, text_if, all_filled, filled, texts_size, texts_from}
 use Rattle.subsetter_cff_at.specs.declared.opening.OpenTable.{OpenTable}
 use Rattle.subsetter_cff_at.specs.declared.request.TableRequest.{TableRequest}
 use Rattle.subsetter_cff_at.specs.declared.texts.Texts.{Texts}
 use Rattle.subsetter_cff_at.specs.declared.drawing.DrawnGlyphs.{DrawnGlyphs}
 
 abbrev pub request_of : TableRequest → Request
-request_of r = record { at = r.coordinates.now; glyphs = r.glyphs.now; box = r.font_box; units = r.units_per_em }
+request_of r = record { at = r.coordinates.now; glyphs = r.glyphs.now; units = r.units_per_em }
 
 abbrev pub opened_of : OpenTable → Opened
 opened_of o = record { cff = cff2_of o.table; matrix = shown o.matrix; variation = o.variation.variation }
@@ -35,12 +37,14 @@ counted_with n (Some text) = min (n + length text) (2 ^ 64 - 1)
 pub record AreTexts (texts : List (Option (List ℕ))) (t : Texts) : Type 0 where
   pub char_strings : t.char_strings.items ≡ concat (all_filled texts)
   pub ends : t.ends.items ≡ offsets 1 (all_filled texts)
+  pub boxes : t.boxes.items ≡ text_boxes texts
   pub requested : t.requested ≡ min (texts_size texts) (2 ^ 64 - 1)
 
 -- one more
 pub record IsPut (old new : Texts) (text : Option (List ℕ)) : Type 0 where
   pub char_strings : new.char_strings.items ≡ old.char_strings.items ++ filled text
   pub ends : new.ends.items ≡ old.ends.items ++ (length new.char_strings.items + 1) ∷ []
+  pub boxes : new.boxes.items ≡ old.boxes.items ++ charstring_box (filled text) ∷ []
   pub requested : new.requested ≡ counted_with old.requested text
 
 -- texts in front of what is answered
@@ -69,6 +73,7 @@ pub record IsDrawn (cff : Cff2) (v : Option Variation) (tokens depth : ℕ) (gly
   pub dicts : map dict_view d.dicts.items ≡ plain.dicts
   pub places : d.glyphs.places.items ≡ plain.places
   pub texts : HasTexts d.glyphs (all_filled plain.texts)
+  pub boxes : d.boxes.items ≡ text_boxes plain.texts
   pub count : length d.glyphs.ends.items ≡ length glyphs
 
 abbrev pub drawn_size : Drawn → ℕ
@@ -77,6 +82,10 @@ drawn_size d = texts_size d.texts
 -- the table can't be made, for this reason; or the charstrings of the requested glyphs pass the bound on bytes
 abbrev pub FailsMaking : List ℕ → Request → ℕ → ℕ → Option ℕ → Error → Type 0
 FailsMaking bytes r tokens depth bound e = Fails e (made_table bytes r tokens depth) ⊎ ((e ≡ OverflowError) × IsTooLong bound drawn_size (drawn_of bytes r tokens depth))
+
+-- these are the boxes of the charstrings, where they can be drawn
+abbrev pub HasBoxes : List (Option Bounds) → Result Drawn Error → Type 0
+HasBoxes boxes read = IfOk read (λ d. boxes ≡ text_boxes d.texts)
 
 -- the charstrings of the requested glyphs don't pass a bound on bytes, where they can be drawn
 abbrev pub KeepsBound : Option ℕ → Result Drawn Error → Type 0

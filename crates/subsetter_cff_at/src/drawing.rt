@@ -12,6 +12,7 @@ use std::alloc::Global;
 use subsetter_base::error::Error;
 use subsetter_cff2::made::{NewGlyphs, PlacedDict, place_dicts};
 use subsetter_cff2::selection::used::{indexes_of, used_dicts};
+use subsetter_points::Bounds;
 use subsetter_type2::limits::Limits;
 
 /// The private dicts at the coordinates, and all glyphs.
@@ -21,6 +22,8 @@ pub struct DrawnGlyphs<'a> {
     pub dicts: Vec<PlacedDict<'a>>,
     /// The glyphs.
     pub glyphs: NewGlyphs,
+    /// The box of each.
+    pub boxes: Vec<Option<Bounds>>,
 }
 
 /// A count of bytes that ends at the greatest `usize` passes a bound where the whole count does, as a bound has 32 bits.
@@ -58,5 +61,6 @@ pub fn draw<'a>(
             char_strings: texts.char_strings,
             ends: texts.ends,
         },
+        boxes: texts.boxes,
     })
 }

@@ -4,7 +4,7 @@
 //! width, and `endchar` for every other glyph. [`laws`] has what the definitions come to.
 //!
 //! ```text
-//! let request = TableRequest { coordinates: &at, glyphs: &advances, font_box, units_per_em };
+//! let request = TableRequest { coordinates: &at, glyphs: &advances, units_per_em };
 //! let table = make_table(alloc, bytes, &request, limits)?;
 //! ```
 #![tactic(auto)]

@@ -1,24 +1,25 @@
 //! The table at coordinates.
 
-ghost use Rattle.std.specs.Prelude.{◌≡◌, ◌≤◌, ◌⊎◌, FitsSigned, length, Ok, IfOk, IfErr};
-ghost use Rattle.std.specs.Int.{w16};
-ghost use Rattle.std.specs.List.{AllByRecursion};
+ghost use Rattle.std.specs.Prelude.{◌≡◌, ◌≤◌, ◌⊎◌, length, Ok, IfOk, IfErr};
 ghost use Rattle.subsetter_base.specs.Within.{IsTooLong};
 ghost use Rattle.subsetter_base.specs.declared.error.Error.{Error as SpecError};
 ghost use Rattle.subsetter_base.specs.declared.error.Error.TheVariants.{OutOfMemory, OverflowError};
 ghost use Rattle.subsetter_cff.specs.Write.Laying.TableBy.{table_bytes};
+ghost use Rattle.subsetter_cff_at.specs.Boxes.{table_boxes};
 ghost use Rattle.subsetter_cff_at.specs.Fault.{HasFault};
 ghost use Rattle.subsetter_cff_at.specs.Plain.{drawn_of, made_table, some_requested};
 ghost use Rattle.subsetter_cff_at.specs.Promise.{IsTableAt};
-ghost use Rattle.subsetter_cff_at.specs.View.{drawn_size, request_of, FailsMaking, KeepsBound};
+ghost use Rattle.subsetter_cff_at.specs.View.{drawn_size, request_of, FailsMaking, HasBoxes, KeepsBound};
 
 use crate::drawing::{DrawnGlyphs, draw};
 use crate::opening::open_table;
 use crate::request::TableRequest;
 use std::alloc::Global;
 use subsetter_base::error::Error;
+use subsetter_boxes::{font_box, least_box};
 use subsetter_cff::CffPieces;
 use subsetter_cff2::made::write_made;
+use subsetter_points::Bounds;
 use subsetter_type2::limits::Limits;
 
 /// Whether a glyph is requested.
@@ -29,6 +30,15 @@ fn some_requested(glyphs: &[Option<u16>]) -> bool
     glyphs.iter().any(|glyph| glyph.is_some())
 }
 
+/// A new table, and the box of each of its glyphs.
+#[derive(Drop)]
+pub struct MadeTable {
+    /// The table.
+    pub pieces: CffPieces,
+    /// The boxes, in the font's units; none where nothing is drawn.
+    pub boxes: Vec<Option<Bounds>>,
+}
+
 /// Makes the table, exactly as the plain way does.
 #[tactic(auto, unfolding(crate::specs::Plain::made_table))]
 fn make_exactly(
@@ -36,9 +46,10 @@ fn make_exactly(
     bytes: &[u8],
     request: &TableRequest<'_>,
     limits: Limits,
-) -> Result<CffPieces, Error>
+) -> Result<MadeTable, Error>
     requires { length request.now.glyphs.now ≤ 65535 }
-    ensures ok { IfOk result (λ t. made_table bytes.now (request_of request.now) limits.tokens limits.depth ≡ Ok (table_bytes t)) }
+    ensures ok { IfOk result (λ t. made_table bytes.now (request_of request.now) limits.tokens limits.depth ≡ Ok (table_bytes t.pieces)) }
+    ensures boxes { IfOk result (λ t. HasBoxes t.boxes.items (drawn_of bytes.now (request_of request.now) limits.tokens limits.depth)) }
     ensures within { IfOk result (λ _. KeepsBound limits.bytes (drawn_of bytes.now (request_of request.now) limits.tokens limits.depth)) }
     ensures err { IfErr result (λ e. FailsMaking bytes.now (request_of request.now) limits.tokens limits.depth limits.bytes e) }
 {
@@ -46,37 +57,24 @@ fn make_exactly(
         return Err(Error::MalformedFont);
     }
     let opened = open_table(alloc, bytes, request)?;
-    let DrawnGlyphs { dicts, glyphs } = draw(alloc, &opened, request.glyphs, limits)?;
-    write_made(
+    let DrawnGlyphs {
+        dicts,
+        glyphs,
+        boxes,
+    } = draw(alloc, &opened, request.glyphs, limits)?;
+    let pieces = write_made(
         alloc,
         &dicts,
         &opened.matrix,
-        &request.font_box,
+        &font_box(least_box(&boxes)),
         glyphs,
         request.glyphs.len() as u16,
-    )
-}
-
-/// What is known of a number of sixteen bits.
-fn is_in_16_bits(number: &i16)
-    ensures { FitsSigned w16 number.now }
-{
-    let _value = *number;
-}
-
-/// The same of four numbers.
-fn are_in_16_bits(numbers: &[i16; 4])
-    ensures fit { AllByRecursion (FitsSigned w16) numbers.now }
-    ensures count { length numbers.now ≡ 4 }
-{
-    is_in_16_bits(&numbers[0]);
-    is_in_16_bits(&numbers[1]);
-    is_in_16_bits(&numbers[2]);
-    is_in_16_bits(&numbers[3]);
+    )?;
+    Ok(MadeTable { pieces, boxes })
 }
 
 /// A CID-keyed, static `CFF ` of the bytes of a `CFF2` table at coordinates: the requested glyphs under their old numbers, each with its
-/// advance as its width, and `endchar` for every other glyph.
+/// advance as its width, and `endchar` for every other glyph. FontBBox is the least box around them.
 ///
 /// `MalformedFont` where the table can't be read, no glyph is requested, or a requested glyph has no charstring, font dict or private dict
 /// that can be read; `CFFError` where its charstring can't be run within the limits; `OverflowError` where a number of it has no room, for
@@ -87,10 +85,12 @@ pub fn make_table(
     bytes: &[u8],
     request: &TableRequest<'_>,
     limits: Limits,
-) -> Result<CffPieces, Error>
+) -> Result<MadeTable, Error>
     requires { length request.now.glyphs.now ≤ 65535 }
     // What is answered says, read afresh, what was requested.
-    ensures ok { IfOk result (λ t. IsTableAt bytes.now (request_of request.now) limits.tokens limits.depth (table_bytes t)) }
+    ensures ok { IfOk result (λ t. IsTableAt bytes.now (request_of request.now) limits.tokens limits.depth (table_bytes t.pieces)) }
+    // With the box of each glyph of that table, by its charstring.
+    ensures boxes { IfOk result (λ t. t.boxes.items ≡ table_boxes (table_bytes t.pieces)) }
     // And then no fault stands in the table.
     ensures clean { IfOk result (λ t. (e : SpecError) → HasFault bytes.now (request_of request.now) limits.tokens limits.depth e → ⊥) }
     // And the charstrings of the requested glyphs have no more bytes than they may have.
@@ -98,6 +98,5 @@ pub fn make_table(
     // What is refused has a fault of that name, or the bound on bytes is set and the charstrings would pass it.
     ensures err { IfErr result (λ e. (e ≡ OutOfMemory) ⊎ (HasFault bytes.now (request_of request.now) limits.tokens limits.depth e ⊎ ((e ≡ OverflowError) × IsTooLong limits.bytes drawn_size (drawn_of bytes.now (request_of request.now) limits.tokens limits.depth)))) }
 {
-    are_in_16_bits(&request.font_box);
     make_exactly(alloc, bytes, request, limits)
 }

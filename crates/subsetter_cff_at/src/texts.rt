@@ -4,6 +4,7 @@ ghost use Rattle.std.specs.Prelude.{◌≡◌, ◌≤◌, ◌+◌, ◌++◌, ◌
 ghost use Rattle.subsetter_base.specs.Gives.{Gives};
 ghost use Rattle.subsetter_base.specs.declared.error.Error.TheVariants.{OutOfMemory};
 ghost use Rattle.subsetter_base.specs.Within.{FailsWithin, is_past};
+ghost use Rattle.subsetter_boxes.specs.CharstringBox.{charstring_box};
 ghost use Rattle.subsetter_cff2.specs.Made2View.{dict_view};
 ghost use Rattle.subsetter_cff_at.specs.Plain.{glyph_text, no_glyph, placed_text, text_if, texts_from, texts_size, text_size};
 ghost use Rattle.subsetter_cff_at.specs.View.{opened_of, AreTexts, DrawsNext, AreAllDrawn};
@@ -14,7 +15,9 @@ use subsetter_base::error::Error;
 use subsetter_blend::resolving::resolve_in;
 use subsetter_blend::runs::machine::Subroutines;
 use subsetter_blend::runs::running::Room;
+use subsetter_boxes::charstring_box;
 use subsetter_cff2::made::PlacedDict;
+use subsetter_points::Bounds;
 use subsetter_type2::limits::Limits;
 use subsetter_type2::operators::first_byte;
 use subsetter_type2::subroutines::SubroutineHandler;
@@ -26,6 +29,8 @@ pub struct Texts {
     pub char_strings: Vec<u8>,
     /// Where each charstring ends, as an INDEX counts: from 1 on.
     pub ends: Vec<usize>,
+    /// The box of each glyph.
+    pub boxes: Vec<Option<Bounds>>,
     /// How many bytes those of the requested glyphs have.
     pub requested: usize,
 }
@@ -103,32 +108,38 @@ fn no_texts(alloc: Global, count: usize, limits: Limits) -> Result<Texts, Error>
     Ok(Texts {
         char_strings: Vec::with_capacity(alloc, count)?,
         ends: Vec::with_capacity(alloc, count)?,
+        boxes: Vec::with_capacity(alloc, count)?,
         requested: 0,
     })
 }
 
-/// Puts the bytes of a charstring behind the others.
-fn put(texts: &mut Texts, bytes: &[u8]) -> Result<(), Error>
+/// Puts the bytes of a charstring, and its box, behind the others.
+fn put(texts: &mut Texts, bytes: &[u8], bounds: Option<Bounds>) -> Result<(), Error>
     ensures char_strings { OnOk result (texts.new.char_strings.items ≡ texts.old.char_strings.items ++ bytes.now) }
     ensures ends { OnOk result (texts.new.ends.items ≡ texts.old.ends.items ++ (length texts.new.char_strings.items + 1) ∷ []) }
+    ensures boxes { OnOk result (texts.new.boxes.items ≡ texts.old.boxes.items ++ bounds ∷ []) }
     ensures requested { texts.new.requested ≡ texts.old.requested }
     ensures err { IfErr result (λ e. e ≡ OutOfMemory) }
 {
     texts.char_strings.extend_from_slice(bytes)?;
     texts.ends.push(texts.char_strings.len() + 1)?;
+    texts.boxes.push(bounds)?;
     Ok(())
 }
 
-/// Puts `endchar` behind the others.
+/// Puts `endchar` behind the others, which has no box.
 #[inline(always)]
+#[tactic(auto, using(crate::proofs::Boxes::no_box))]
 fn put_end(texts: &mut Texts) -> Result<(), Error>
     ensures char_strings { OnOk result (texts.new.char_strings.items ≡ texts.old.char_strings.items ++ no_glyph) }
     ensures ends { OnOk result (texts.new.ends.items ≡ texts.old.ends.items ++ (length texts.new.char_strings.items + 1) ∷ []) }
+    ensures boxes { OnOk result (texts.new.boxes.items ≡ texts.old.boxes.items ++ charstring_box no_glyph ∷ []) }
     ensures requested { texts.new.requested ≡ texts.old.requested }
     ensures err { IfErr result (λ e. e ≡ OutOfMemory) }
 {
     texts.char_strings.push(first_byte::ENDCHAR)?;
     texts.ends.push(texts.char_strings.len() + 1)?;
+    texts.boxes.push(None)?;
     Ok(())
 }
 
@@ -154,7 +165,8 @@ fn draw_requested<'a>(
         return Err(Error::OverflowError);
     }
     texts.requested = requested;
-    put(texts, &text)
+    let bounds = charstring_box(&text)?;
+    put(texts, &text, bounds)
 }
 
 /// Draws a glyph more. The texts stay where they are: moved in and out they cost more than `endchar`.

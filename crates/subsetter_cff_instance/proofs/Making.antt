@@ -24,7 +24,7 @@ use Rattle.subsetter_cff_instance.specs.Plain.{Prepared, prepared, request_at, c
 use Rattle.subsetter_cff_instance.specs.Source.{Source, source_in, source_or_fault}
 use Rattle.subsetter_cff_instance.specs.Tables.{laid}
 use Rattle.subsetter_cff_instance.proofs.Steps.{source_steps, source_read, prepared_steps}
-use Rattle.subsetter_cff_instance.proofs.FaultLaws.Source.{box_fits}
+use Rattle.subsetter_cff_instance.proofs.FaultLaws.Source.{top_fits}
 
 -- ---- headers that were read from are long enough
 
@@ -38,10 +38,10 @@ hhea_there find s h = hhea_read find s (source_read find s h).1
 
 -- ---- what is requested of the table
 
-pub request_is : (glyphs : List ℕ) (p : Prepared) (at : List ℤ) (gs : List (Option ℕ)) (all : List (Option LongHorMetric)) (n units : ℕ) (box : List ℤ)
-    → at ≡ p.at → gs ≡ advances all → all ≡ metrics_by_glyph glyphs p.metrics n → n ≡ p.source.count → box ≡ p.source.font_box → units ≡ p.source.units_per_em
-    → record { at = at; glyphs = gs; box = box; units = units } ≡ request_at glyphs p
-request_is glyphs p at gs all n units box e1 e2 e3 e4 e5 e6 = rw (e1, e2, e3, e4, e5, e6) refl
+pub request_is : (glyphs : List ℕ) (p : Prepared) (at : List ℤ) (gs : List (Option ℕ)) (all : List (Option LongHorMetric)) (n units : ℕ)
+    → at ≡ p.at → gs ≡ advances all → all ≡ metrics_by_glyph glyphs p.metrics n → n ≡ p.source.count → units ≡ p.source.units_per_em
+    → record { at = at; glyphs = gs; units = units } ≡ request_at glyphs p
+request_is glyphs p at gs all n units e1 e2 e3 e4 e5 = rw (e1, e2, e3, e4, e5) refl
 
 -- ---- behind what is prepared
 
@@ -55,7 +55,7 @@ module _ (find : List ℕ → Option (List ℕ)) (cff2 : List ℕ) (settings : L
 
   module _ (p : Prepared) (is : prepared find settings glyphs ≡ Ok p) where
     pub head_long : 44 ≤ length p.source.head
-    head_long = box_fits p.source.head p.source.font_box (source_steps find p.source (prepared_steps find settings glyphs p is).source_is).box_is
+    head_long = let s = source_steps find p.source (prepared_steps find settings glyphs p is).source_is in top_fits p.source.head s.top s.top_is
 
     pub lines_long : 36 ≤ length p.lines.hhea
     lines_long =

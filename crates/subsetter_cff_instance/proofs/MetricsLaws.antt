@@ -1,9 +1,10 @@
 -- Metrics of glyphs, one after another.
 use Rattle.std.proofs.Common.{◌≡◌, ◌<◌, ℕ, ◌+◌, List, [], ◌∷◌, ◌++◌, length, get_or, map, Option, Some, None, Result, Ok, Err, ℤ, refl, sym, ap, ◌∙◌, append_assoc, arith}
 use Rattle.std.specs.Prelude.{IfSome}
-use Rattle.std.specs.List.{range_with_len}
+use Rattle.std.specs.List.{fold, range_with_len}
 use Rattle.std.proofs.lemmas.List.{append-nil, get_or-map, length-map}
 use Rattle.std.proofs.lemmas.List.FromFn.{map-range_with_len_more}
+use Rattle.std.proofs.lemmas.List.Sums.{fold-append}
 use Rattle.subsetter_base.specs.Bytes.{◌>>=◌}
 use Rattle.subsetter_base.specs.Gives.{Fails}
 use Rattle.subsetter_base.specs.declared.error.Error.{Error}
@@ -12,7 +13,7 @@ use Rattle.subsetter_sfnt.specs.declared.fields.hmtx.LongHorMetric.{LongHorMetri
 use Rattle.subsetter_variation.specs.Items.Advances.{advance_or_fault}
 use Rattle.subsetter_instance.specs.Glyphs.Known.{AreKnown, IsKnown}
 use Rattle.subsetter_instance.proofs.GlyphsLaws.Points.{fails}
-use Rattle.subsetter_cff_instance.specs.Metrics.{metric_if, varied_metrics, metric_among}
+use Rattle.subsetter_cff_instance.specs.Metrics.{metric_if, varied_metrics}
 use Rattle.subsetter_cff_instance.specs.Source.{Source}
 
 -- ---- of the glyphs that are asked for
@@ -52,9 +53,11 @@ known_is (Some hvar) at glyphs known k (Some d) a h =
 
 -- ---- of all glyphs
 
--- one more
-pub among_more : (glyphs : List ℕ) (metrics : List LongHorMetric) (all more : List (Option LongHorMetric)) (k : ℕ) (m : Option LongHorMetric) → all ≡ map (metric_among glyphs metrics) (range_with_len 0 k) → m ≡ metric_among glyphs metrics k → more ≡ all ++ m ∷ []
-    → more ≡ map (metric_among glyphs metrics) (range_with_len 0 (k + 1))
-among_more glyphs metrics all more k m e is pushed =
-    let h = metric_among glyphs metrics in
-    pushed ∙ ap (λ (l : List (Option LongHorMetric)). l ++ m ∷ []) e ∙ ap (λ (y : Option LongHorMetric). map h (range_with_len 0 k) ++ y ∷ []) is ∙ sym (map-range_with_len_more h 0 k k (omega arith))
+-- one more of a list that is found by a function of places
+pub mapped_more : {A : Type 0} (h : ℕ → A) (all more : List A) (k : ℕ) (one : A) → all ≡ map h (range_with_len 0 k) → one ≡ h k → more ≡ all ++ one ∷ [] → more ≡ map h (range_with_len 0 (k + 1))
+mapped_more {A} h all more k one e is pushed =
+    pushed ∙ ap (λ (l : List A). l ++ one ∷ []) e ∙ ap (λ (y : A). map h (range_with_len 0 k) ++ y ∷ []) is ∙ sym (map-range_with_len_more h 0 k k (omega arith))
+
+-- what is folded so far, with one more
+pub folded_more : {A B : Type 0} (f : B → A → B) (first : B) (h : ℕ → A) (k : ℕ) → fold f first (map h (range_with_len 0 (k + 1))) ≡ f (fold f first (map h (range_with_len 0 k))) (h k)
+folded_more f first h k = ap (fold f first) (map-range_with_len_more h 0 k k (omega arith)) ∙ fold-append f first (map h (range_with_len 0 k)) (h k ∷ [])

@@ -9,7 +9,7 @@ use Rattle.subsetter_base.specs.declared.tag.Tag.{Tag}
 use Rattle.subsetter_base.specs.declared.error.Error.TheVariants.{UnknownKind, MalformedFont, Unimplemented}
 use Rattle.subsetter_base.proofs.Options.{just_is, bind_some}
 use Rattle.subsetter_base.proofs.Results.{done_is, bind_ok, named_ok}
-use Rattle.subsetter_sfnt.specs.Fields.Head.{units_per_em}
+use Rattle.subsetter_sfnt.specs.Fields.Head.{units_per_em, y_max}
 use Rattle.subsetter_sfnt.specs.Fields.Hhea.{number_of_h_metrics}
 use Rattle.subsetter_sfnt.specs.Fields.Maxp.{num_glyphs}
 use Rattle.subsetter_sfnt.specs.Plain.{opened}
@@ -23,7 +23,7 @@ use Rattle.subsetter_instance.proofs.FileLaws.Steps.{file_steps}
 use Rattle.subsetter_cff_at.specs.Plain.{made_table}
 use Rattle.subsetter_cff_instance.specs.Metrics.{varied_metrics}
 use Rattle.subsetter_cff_instance.specs.Plain.{Prepared, prepared, request_at, cff_instance_in, cff_instance_of}
-use Rattle.subsetter_cff_instance.specs.Source.{Source, font_box, has_other_version, outlines_or_fault, source_in, source_or_fault}
+use Rattle.subsetter_cff_instance.specs.Source.{Source, has_other_version, outlines_or_fault, source_in, source_or_fault}
 use Rattle.subsetter_cff_instance.specs.Tables.{laid, new_tables}
 
 -- ---- the outlines
@@ -51,7 +51,8 @@ pub record SourceSteps (find : List ℕ → Option (List ℕ)) (s : Source) : Ty
   pub count_is : num_glyphs s.maxp ≡ Some s.count
   pub head_is : find (codes "head") ≡ Some s.head
   pub units_are : units_per_em s.head ≡ Some s.units_per_em
-  pub box_is : font_box s.head ≡ Some s.font_box
+  pub top : ℤ
+  pub top_is : y_max (Some s.head) ≡ Some top
   pub hhea : List ℕ
   pub hhea_is : find (codes "hhea") ≡ Some hhea
   pub pairs_are : number_of_h_metrics hhea ≡ Some s.number_of_h_metrics
@@ -65,12 +66,12 @@ source_steps find s h =
     let b = bind_some (num_glyphs a.0) _ s a.2 in
     let c = bind_some (find (codes "head")) _ s b.2 in
     let d = bind_some (units_per_em c.0) _ s c.2 in
-    let e = bind_some (font_box c.0) _ s d.2 in
+    let e = bind_some (y_max (Some c.0)) _ s d.2 in
     let f = bind_some (find (codes "hhea")) _ s e.2 in
     let g = bind_some (number_of_h_metrics f.0) _ s f.2 in
     let i = bind_some (find (codes "hmtx")) _ s g.2 in
-    let made : Source = record { maxp = a.0; count = b.0; head = c.0; units_per_em = d.0; font_box = e.0; number_of_h_metrics = g.0; hmtx = i.0; hvar = find (codes "HVAR") } in
-    subst (SourceSteps find) {x = made} (just_is made s i.2) (record { maxp_is = a.1; count_is = b.1; head_is = c.1; units_are = d.1; box_is = e.1; hhea = f.0; hhea_is = f.1; pairs_are = g.1; hmtx_is = i.1; hvar_is = refl })
+    let made : Source = record { maxp = a.0; count = b.0; head = c.0; units_per_em = d.0; number_of_h_metrics = g.0; hmtx = i.0; hvar = find (codes "HVAR") } in
+    subst (SourceSteps find) {x = made} (just_is made s i.2) (record { maxp_is = a.1; count_is = b.1; head_is = c.1; units_are = d.1; top = e.0; top_is = e.1; hhea = f.0; hhea_is = f.1; pairs_are = g.1; hmtx_is = i.1; hvar_is = refl })
 
 -- tables of version 1 that were read
 pub source_read : (find : List ℕ → Option (List ℕ)) (s : Source) → source_or_fault find ≡ Ok s → (has_other_version find ≡ false) × (source_in find ≡ Some s)

@@ -1,4 +1,5 @@
 pub mod Answer
+pub mod Boxes
 pub mod CffInstance
 pub mod Fault
 pub mod Laws

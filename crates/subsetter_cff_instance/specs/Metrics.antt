@@ -1,4 +1,5 @@
--- The metrics of glyphs at a location: each advance as HVAR varies it, and the left side bearing of hmtx (OpenType, "HVAR" and "hmtx").
+-- The metrics of glyphs at a location: each advance as HVAR varies it, and the left side bearing of hmtx, which the outline there takes the
+-- place of (OpenType, "HVAR" and "hmtx").
 use Rattle.std.specs.Prelude.{ℕ, List, [], ◌∷◌, map, slice_get, Option, Some, None, Result, Ok, Err, max, nat_lt, if◌then◌else◌, ℤ, pos}
 use Rattle.std.specs.List.{fold, range_with_len}
 use Rattle.std.specs.Option.{ok_or, option_and_then, option_map, unwrap_or}

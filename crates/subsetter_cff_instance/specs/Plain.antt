@@ -32,9 +32,9 @@ prepared find settings glyphs = do
 
 -- ---- what is made of that
 
--- each glyph under its old number, with its advance where it is asked for; FontBBox is the box of head
+-- each glyph under its old number, with its advance where it is asked for
 abbrev pub request_at : List ℕ → Prepared → Request
-request_at glyphs p = record { at = p.at; glyphs = advances (metrics_by_glyph glyphs p.metrics p.source.count); box = p.source.font_box; units = p.source.units_per_em }
+request_at glyphs p = record { at = p.at; glyphs = advances (metrics_by_glyph glyphs p.metrics p.source.count); units = p.source.units_per_em }
 
 -- of the tables that a look-up finds, and of this CFF2
 unfoldable pub cff_instance_in : (List ℕ → Option (List ℕ)) → List ℕ → List (Tag × ℤ) → List ℕ → ℕ → ℕ → Result (List ℕ) Error

@@ -1,11 +1,11 @@
 -- The tables that a static font is made from (OpenType, "CFF2", "head", "hhea", "hmtx", "maxp" and "HVAR").
-use Rattle.std.specs.Prelude.{ℕ, Bool, false, ◌||◌, is_some, List, [], ◌∷◌, codes, Option, Some, None, Result, Err, if◌then◌else◌, ℤ}
+use Rattle.std.specs.Prelude.{ℕ, Bool, false, ◌||◌, is_some, List, [], codes, Option, Some, None, Result, Err, if◌then◌else◌}
 use Rattle.std.specs.Option.{ok_or}
 use Rattle.subsetter_base.specs.declared.error.Error.{Error}
 use Rattle.subsetter_base.specs.declared.error.Error.TheVariants.{UnknownKind, MalformedFont, Unimplemented}
 use Rattle.subsetter_base.specs.Options.{◌>>=◌}
 use Rattle.subsetter_variation.specs.Locations.Coordinates.{is_other_version}
-use Rattle.subsetter_sfnt.specs.Fields.Head.{units_per_em, x_min, y_min, x_max, y_max}
+use Rattle.subsetter_sfnt.specs.Fields.Head.{units_per_em, y_max}
 use Rattle.subsetter_sfnt.specs.Fields.Hhea.{number_of_h_metrics}
 use Rattle.subsetter_sfnt.specs.Fields.Hmtx.{metric_in}
 use Rattle.subsetter_sfnt.specs.Fields.Maxp.{num_glyphs}
@@ -24,39 +24,29 @@ outlines_or_fault find = if has_other_outlines find then Err Unimplemented else 
 
 -- ---- the tables beside them
 
--- The headers and the metrics: how many glyphs there are (numGlyphs), unitsPerEm, the box of the header, how many glyphs have an advance of
--- their own (numberOfHMetrics), and what varies advances, if anything does.
+-- The headers and the metrics: how many glyphs there are (numGlyphs), unitsPerEm, how many glyphs have an advance of their own
+-- (numberOfHMetrics), and what varies advances, if anything does.
 pub record Source : Type 0 where
   pub maxp : List ℕ
   pub count : ℕ
   pub head : List ℕ
   pub units_per_em : ℕ
-  pub font_box : List ℤ
   pub number_of_h_metrics : ℕ
   pub hmtx : List ℕ
   pub hvar : Option (List ℕ)
 
--- xMin, yMin, xMax and yMax of `head`
-unfoldable pub font_box : List ℕ → Option (List ℤ)
-font_box head = do
-  left ← x_min (Some head)
-  bottom ← y_min (Some head)
-  right ← x_max (Some head)
-  top ← y_max (Some head)
-  Some (left ∷ bottom ∷ right ∷ top ∷ [])
-
--- the tables that a look-up finds
+-- the tables that a look-up finds; head goes on to the end of its box, which is written anew
 unfoldable pub source_in : (List ℕ → Option (List ℕ)) → Option Source
 source_in find = do
   maxp ← find (codes "maxp")
   count ← num_glyphs maxp
   head ← find (codes "head")
   units ← units_per_em head
-  box ← font_box head
+  top ← y_max (Some head)
   hhea ← find (codes "hhea")
   pairs ← number_of_h_metrics hhea
   hmtx ← find (codes "hmtx")
-  Some (record { maxp = maxp; count = count; head = head; units_per_em = units; font_box = box; number_of_h_metrics = pairs; hmtx = hmtx; hvar = find (codes "HVAR") })
+  Some (record { maxp = maxp; count = count; head = head; units_per_em = units; number_of_h_metrics = pairs; hmtx = hmtx; hvar = find (codes "HVAR") })
 
 -- HVAR or MVAR has another major version than 1
 abbrev pub has_other_version : (List ℕ → Option (List ℕ)) → Bool

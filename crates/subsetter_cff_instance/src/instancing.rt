@@ -13,6 +13,7 @@ ghost use Rattle.subsetter_sfnt.specs.FontAt.{font_at};
 ghost use Rattle.subsetter_sfnt.specs.Plain.{opened};
 ghost use Rattle.subsetter_sfnt.specs.Read.{table_in};
 ghost use Rattle.subsetter_cff.specs.Write.Laying.TableBy.{table_bytes};
+ghost use Rattle.subsetter_cff_at.specs.Boxes.{table_boxes};
 ghost use Rattle.subsetter_cff_at.specs.Fault.{HasFault};
 ghost use Rattle.subsetter_cff_at.specs.Plain.{drawn_of, made_table};
 ghost use Rattle.subsetter_cff_at.specs.View.{drawn_size, KeepsBound};
@@ -30,10 +31,11 @@ use std::alloc::{AllocError, Global};
 use std::marker::Model;
 use subsetter_base::{Error, GlyphRemapper, Tag};
 use subsetter_cff::CffPieces;
-use subsetter_cff_at::making::make_table;
+use subsetter_cff_at::making::{MadeTable, make_table};
 use subsetter_cff_at::request::TableRequest;
 use subsetter_instance::source::normalized_coordinates;
 use subsetter_instance::tables::lines::{Lines, lines_of};
+use subsetter_points::Bounds;
 use subsetter_sfnt::extras::Extras;
 use subsetter_sfnt::face::Face;
 use subsetter_sfnt::fields::hmtx::LongHorMetric;
@@ -80,6 +82,13 @@ fn prepare<'a>(
     })
 }
 
+/// A new `CFF `, and the box of each of its glyphs.
+#[derive(Drop)]
+struct NewCff {
+    table: Vec<u8>,
+    boxes: Vec<Option<Bounds>>,
+}
+
 /// The two pieces of a table, one behind the other.
 fn joined(pieces: CffPieces) -> Result<Vec<u8>, AllocError>
     ensures { IfOk result (λ v. v.items ≡ table_bytes pieces) }
@@ -101,10 +110,11 @@ fn make_cff(
     mapper: &GlyphRemapper,
     all: &[Option<LongHorMetric>],
     limits: Limits,
-) -> Result<Vec<u8>, Error>
+) -> Result<NewCff, Error>
     requires all { all.now ≡ metrics_by_glyph mapper.now prepared.now.metrics prepared.now.source.count }
     requires few { length all.now ≤ 65535 }
-    ensures ok { IfOk result (λ v. made_table cff2.now (request_at mapper.now prepared.now) limits.tokens limits.depth ≡ Ok v.items) }
+    ensures ok { IfOk result (λ c. made_table cff2.now (request_at mapper.now prepared.now) limits.tokens limits.depth ≡ Ok c.table.items) }
+    ensures boxes { IfOk result (λ c. c.boxes.items ≡ table_boxes c.table.items) }
     ensures within { IfOk result (λ _. KeepsBound limits.bytes (drawn_of cff2.now (request_at mapper.now prepared.now) limits.tokens limits.depth)) }
     ensures err { IfErr result (λ e. (e ≡ OutOfMemory) ⊎ (HasFault cff2.now (request_at mapper.now prepared.now) limits.tokens limits.depth e ⊎ ((e ≡ OverflowError) × IsTooLong limits.bytes drawn_size (drawn_of cff2.now (request_at mapper.now prepared.now) limits.tokens limits.depth)))) }
 {
@@ -113,11 +123,11 @@ fn make_cff(
     let request = TableRequest {
         coordinates: &prepared.at,
         glyphs: &glyphs,
-        font_box: source.font_box(),
         units_per_em: source.units_per_em(),
     };
-    let pieces = make_table(alloc, cff2, &request, limits)?;
-    Ok(joined(pieces)?)
+    let MadeTable { pieces, boxes } = make_table(alloc, cff2, &request, limits)?;
+    let table = joined(pieces)?;
+    Ok(NewCff { table, boxes })
 }
 
 /// The directory of a font, and its `CFF2` where its outlines are in that alone. No memory is taken.
@@ -159,12 +169,15 @@ fn make(
         mapper,
         &prepared.metrics,
         &all,
-        &cff,
+        &cff.table,
+        &cff.boxes,
     )
 }
 
 /// A static font with a CID-keyed `CFF `: the mapper's glyphs, glyph 0 among them, as a font with outlines in `CFF2` has them at these
-/// coordinates, each under its old number with its width and without subroutines. Every other glyph is empty.
+/// coordinates, each under its old number with its width and without subroutines. Every other glyph is empty. The left side bearing of each is
+/// the least x of its outline there, and the boxes of `head` and of the `CFF ` and the extremes of `hhea` are those of what is drawn: around
+/// control points too, 0 where there is no outline, and minRightSideBearing at most 32,767.
 ///
 /// `data` is a font file or a collection, of which `index` names a face (it is ignored for a single font). A coordinate is the
 /// tag of an axis and a value in 65536ths; where a tag comes twice the last value counts, and an axis without a value stays at

@@ -6,6 +6,7 @@
 //! ```
 #![tactic(auto)]
 
+mod boxes;
 pub mod instancing;
 pub mod laws;
 pub mod metrics;

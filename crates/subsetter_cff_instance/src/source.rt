@@ -3,12 +3,12 @@
 ghost use Rattle.std.specs.Prelude.{◌≡◌, Ok, Err, IfOk, IfErr};
 ghost use Rattle.std.specs.Option.{option_copied};
 ghost use Rattle.subsetter_sfnt.specs.Read.{table_in};
-ghost use Rattle.subsetter_cff_instance.specs.Source.{has_other_outlines, outlines_or_fault, font_box, source_in, has_other_version, source_or_fault, metric};
+ghost use Rattle.subsetter_cff_instance.specs.Source.{has_other_outlines, outlines_or_fault, source_in, has_other_version, source_or_fault, metric};
 
 use std::marker::Model;
 use subsetter_base::{Error, Tag};
 use subsetter_sfnt::face::Face;
-use subsetter_sfnt::fields::head::{units_per_em, x_max, x_min, y_max, y_min};
+use subsetter_sfnt::fields::head::{units_per_em, y_max};
 use subsetter_sfnt::fields::hhea::number_of_h_metrics;
 use subsetter_sfnt::fields::hmtx::{LongHorMetric, glyph_metric};
 use subsetter_sfnt::fields::maxp::num_glyphs;
@@ -21,7 +21,6 @@ pub struct Source<'a> {
     count: u16,
     head: &'a [u8],
     units_per_em: u16,
-    font_box: [i16; 4],
     number_of_h_metrics: u16,
     hmtx: &'a [u8],
     hvar: Option<&'a [u8]>,
@@ -33,7 +32,7 @@ impl<'a> Model for Source<'a> {
 
     ghost Value = { Source };
 
-    ghost view = { λ s. record { maxp = s.maxp.now; count = s.count; head = s.head.now; units_per_em = s.units_per_em; font_box = s.font_box; number_of_h_metrics = s.number_of_h_metrics; hmtx = s.hmtx.now; hvar = option_copied s.hvar } };
+    ghost view = { λ s. record { maxp = s.maxp.now; count = s.count; head = s.head.now; units_per_em = s.units_per_em; number_of_h_metrics = s.number_of_h_metrics; hmtx = s.hmtx.now; hvar = option_copied s.hvar } };
 }
 
 /// Whether there are outlines in `glyf` or in `CFF `.
@@ -55,18 +54,6 @@ pub fn outlines_or_fault<'a>(face: &Face<'a>) -> Result<&'a [u8], Error>
     face.stored(Tag::CFF2).ok_or(Error::UnknownKind)
 }
 
-/// xMin, yMin, xMax and yMax of `head`.
-#[tactic(auto, unfolding(crate::specs::Source::font_box))]
-fn font_box(head: &[u8]) -> Option<[i16; 4]>
-    ensures { result ≡ font_box head.now }
-{
-    let left = x_min(Some(head))?;
-    let bottom = y_min(Some(head))?;
-    let right = x_max(Some(head))?;
-    let top = y_max(Some(head))?;
-    Some([left, bottom, right, top])
-}
-
 /// The tables of a font, unless one is missing or cut.
 #[tactic(auto, unfolding(crate::specs::Source::source_in))]
 fn source_in<'a>(face: &Face<'a>) -> Option<Source<'a>>
@@ -76,7 +63,7 @@ fn source_in<'a>(face: &Face<'a>) -> Option<Source<'a>>
     let count = num_glyphs(maxp)?;
     let head = face.stored(Tag::HEAD)?;
     let units = units_per_em(head)?;
-    let bounds = font_box(head)?;
+    y_max(Some(head))?;
     let hhea = face.stored(Tag::HHEA)?;
     let pairs = number_of_h_metrics(hhea)?;
     let hmtx = face.stored(Tag::HMTX)?;
@@ -85,7 +72,6 @@ fn source_in<'a>(face: &Face<'a>) -> Option<Source<'a>>
         count,
         head,
         units_per_em: units,
-        font_box: bounds,
         number_of_h_metrics: pairs,
         hmtx,
         hvar: face.stored(Tag::new(b"HVAR")),
@@ -131,13 +117,6 @@ impl<'a> Source<'a> {
         ensures { result ≡ self.now.units_per_em }
     {
         self.units_per_em
-    }
-
-    /// xMin, yMin, xMax and yMax of `head`.
-    pub fn font_box(&self) -> [i16; 4]
-        ensures { result ≡ self.now.font_box }
-    {
-        self.font_box
     }
 
     /// The variations of advances, if there are some.

@@ -1,35 +1,37 @@
 //! The tables and the file of a static font.
 //!
-//! `CFF ` is made by `subsetter_cff_at`. `hmtx` has a pair for each glyph. `head`, `maxp` and `name` are as they are in the font, `hhea` and
-//! `post` have the metrics that vary.
+//! `CFF ` is made by `subsetter_cff_at`. `hmtx` has a pair for each glyph. `head` is as it is in the font but for its box, `maxp` and `name` are
+//! as they are, `hhea` and `post` have the metrics that vary. Bearings, extremes and box are those of the new charstrings.
 
-ghost use Rattle.std.specs.Prelude.{◌≡◌, ◌≤◌, ◌++◌, IfOk, IfErr, Some, None, length, slice_range};
-ghost use Rattle.std.specs.Int.{w16, to_be_bytes};
+ghost use Rattle.std.specs.Prelude.{◌≡◌, ◌≤◌, IfOk, IfErr, Some, None, length};
 ghost use Rattle.std.specs.Option.{option_copied, unwrap_or};
 ghost use Rattle.subsetter_base.specs.Gives.{Gives};
 ghost use Rattle.subsetter_base.specs.declared.error.Error.TheVariants.{OutOfMemory};
 ghost use Rattle.subsetter_sfnt.specs.Read.{table_in};
 ghost use Rattle.subsetter_sfnt.specs.View.{font_seen};
-ghost use Rattle.subsetter_cff_instance.specs.Metrics.{metrics_by_glyph, no_metric, widest};
-ghost use Rattle.subsetter_cff_instance.specs.Tables.{hmtx_of, hhea_bytes, head_bytes, laid};
+ghost use Rattle.subsetter_cff_at.specs.Boxes.{table_boxes};
+ghost use Rattle.subsetter_cff_instance.specs.Boxes.{all_extents, drawn_metrics};
+ghost use Rattle.subsetter_cff_instance.specs.Metrics.{metrics_by_glyph, no_metric};
+ghost use Rattle.subsetter_cff_instance.specs.Tables.{extreme_bytes, hmtx_of, hhea_bytes, head_bytes, laid};
 
+use crate::boxes::{all_extents, drawn_metrics};
 use crate::metrics::widest;
 use crate::source::Source;
 use std::alloc::{AllocError, Global};
 use subsetter_base::{Error, GlyphRemapper, Tag};
+use subsetter_instance::tables::extremes::{Extents, box_bytes, side_bytes};
 use subsetter_instance::tables::lines::Lines;
+use subsetter_points::Bounds;
 use subsetter_sfnt::face::Face;
-use subsetter_sfnt::fields::hhea::{ADVANCE_WIDTH_MAX, CARET_SLOPE_RISE, write_hhea};
+use subsetter_sfnt::fields::head::{MAC_STYLE, X_MIN};
+use subsetter_sfnt::fields::hhea::write_hhea;
 use subsetter_sfnt::fields::hmtx::{LONG_HOR_METRIC_SIZE, LongHorMetric};
 use subsetter_sfnt::flavor::FontFlavor;
 use subsetter_sfnt::laying::construct::finish;
-use subsetter_sfnt::laying::room::patch;
 use subsetter_sfnt::laying::tables::{FontTables, in_order};
 
 /// checksumAdjustment of `head`, four bytes.
 const CHECKSUM_ADJUSTMENT: usize = 8;
-/// How many bytes the extremes of `hhea` have: advanceWidthMax and the three fields behind it.
-const EXTREMES_SIZE: usize = 8;
 
 /// The metric of a glyph, 0 and 0 where it wasn't requested.
 fn filled(metric: Option<LongHorMetric>) -> LongHorMetric
@@ -56,41 +58,42 @@ fn hmtx(alloc: Global, all: &[Option<LongHorMetric>]) -> Result<Vec<u8>, Error>
     Ok(hmtx)
 }
 
-/// The greatest advance, and what stands behind it in `hhea`.
-fn extremes(alloc: Global, source: &[u8], metrics: &[LongHorMetric]) -> Result<Vec<u8>, AllocError>
-    requires { 36 ≤ length source.now }
-    ensures { IfOk result (λ v. v.items ≡ to_be_bytes w16 (widest metrics.now) ++ slice_range source.now 12 18) }
+/// The greatest advance, and what is behind it in `hhea`.
+fn extreme_bytes(metrics: &[LongHorMetric], extents: Option<Extents>) -> [u8; 8]
+    ensures { result ≡ extreme_bytes metrics.now extents }
 {
-    let mut extremes = Vec::with_capacity(alloc, EXTREMES_SIZE)?;
-    extremes.extend_from_slice(&widest(metrics).to_be_bytes())?;
-    extremes.extend_from_slice(&source[ADVANCE_WIDTH_MAX + 2..CARET_SLOPE_RISE])?;
-    Ok(extremes)
+    let [a, b] = widest(metrics).to_be_bytes();
+    let [c, d, e, f, g, h] = side_bytes(extents);
+    [a, b, c, d, e, f, g, h]
 }
 
-/// `hhea`: with the greatest advance, and a pair of `hmtx` for each glyph.
+/// `hhea`: with the extremes of what is drawn, and a pair of `hmtx` for each glyph.
 fn hhea(
     alloc: Global,
     source: &[u8],
     count: u16,
     metrics: &[LongHorMetric],
+    extents: Option<Extents>,
 ) -> Result<Vec<u8>, AllocError>
     requires { 36 ≤ length source.now }
-    ensures { IfOk result (λ v. v.items ≡ hhea_bytes count metrics.now source.now) }
+    ensures { IfOk result (λ v. v.items ≡ hhea_bytes count metrics.now extents source.now) }
 {
-    let extremes = extremes(alloc, source, metrics)?;
     let mut hhea = Vec::with_capacity(alloc, source.len())?;
-    write_hhea(&mut hhea, source, &extremes, count);
+    write_hhea(&mut hhea, source, &extreme_bytes(metrics, extents), count);
     Ok(hhea)
 }
 
-/// `head`: without its checksum.
-fn head(alloc: Global, source: &[u8]) -> Result<Vec<u8>, AllocError>
+/// `head`: without its checksum, with the box around what is drawn.
+fn head(alloc: Global, source: &[u8], extents: Option<Extents>) -> Result<Vec<u8>, AllocError>
     requires { 44 ≤ length source.now }
-    ensures { IfOk result (λ v. v.items ≡ head_bytes source.now) }
+    ensures { IfOk result (λ v. v.items ≡ head_bytes extents source.now) }
 {
     let mut head = Vec::with_capacity(alloc, source.len())?;
-    head.extend_from_slice(source)?;
-    patch(&mut head, CHECKSUM_ADJUSTMENT, 0);
+    head.extend_from_slice(&source[..CHECKSUM_ADJUSTMENT])?;
+    head.extend_from_slice(&[0; 4])?;
+    head.extend_from_slice(&source[CHECKSUM_ADJUSTMENT + 4..X_MIN])?;
+    head.extend_from_slice(&box_bytes(extents))?;
+    head.extend_from_slice(&source[MAC_STYLE..])?;
     Ok(head)
 }
 
@@ -109,17 +112,19 @@ fn new_tables(
     hhea_there: &[u8],
     metrics: &[LongHorMetric],
     all: &[Option<LongHorMetric>],
+    boxes: &[Option<Bounds>],
 ) -> Result<NewTables, Error>
     requires head { 44 ≤ length source.now.head }
     requires hhea { 36 ≤ length hhea_there.now }
-    ensures head { IfOk result (λ t. t.head.items ≡ head_bytes source.now.head) }
-    ensures hhea { IfOk result (λ t. t.hhea.items ≡ hhea_bytes source.now.count metrics.now hhea_there.now) }
-    ensures hmtx { IfOk result (λ t. t.hmtx.items ≡ hmtx_of all.now) }
+    ensures head { IfOk result (λ t. t.head.items ≡ head_bytes (all_extents all.now boxes.now) source.now.head) }
+    ensures hhea { IfOk result (λ t. t.hhea.items ≡ hhea_bytes source.now.count metrics.now (all_extents all.now boxes.now) hhea_there.now) }
+    ensures hmtx { IfOk result (λ t. t.hmtx.items ≡ hmtx_of (drawn_metrics all.now boxes.now)) }
     ensures err { IfErr result (λ e. e ≡ OutOfMemory) }
 {
-    let hmtx = hmtx(alloc, all)?;
-    let head = head(alloc, source.head())?;
-    let hhea = hhea(alloc, hhea_there, source.count(), metrics)?;
+    let extents = all_extents(all, boxes);
+    let hmtx = hmtx(alloc, &drawn_metrics(alloc, all, boxes)?)?;
+    let head = head(alloc, source.head(), extents)?;
+    let hhea = hhea(alloc, hhea_there, source.count(), metrics, extents)?;
     Ok(NewTables { head, hhea, hmtx })
 }
 
@@ -149,8 +154,8 @@ fn font_tables<'a>(
     }
 }
 
-/// The file of a `CFF `, with the metrics of the glyphs that were requested, in the mapper's order, those of all glyphs, and 0 and 0 where there is none.
-/// `hhea` and `post` are those of the location. `OverflowError` where a table's offset or length is 2^32 or more.
+/// The file of a `CFF `, with the metrics of the glyphs that were requested, in the mapper's order, those of all glyphs, and the boxes of the
+/// glyphs of the `CFF `. `hhea` and `post` are those of the location. `OverflowError` where a table's offset or length is 2^32 or more.
 #[tactic(auto, unfolding(crate::specs::Tables::laid))]
 pub fn laid(
     alloc: Global,
@@ -161,13 +166,15 @@ pub fn laid(
     metrics: &[LongHorMetric],
     all: &[Option<LongHorMetric>],
     cff: &[u8],
+    boxes: &[Option<Bounds>],
 ) -> Result<Vec<u8>, Error>
     requires all { all.now ≡ metrics_by_glyph mapper.now metrics.now source.now.count }
+    requires boxes { boxes.now ≡ table_boxes cff.now }
     requires head { 44 ≤ length source.now.head }
     requires hhea { 36 ≤ length lines.now.hhea }
     ensures { Gives (λ v. v.items) result (laid (table_in face.now.«data».now face.now.records.now) source.now lines.now mapper.now metrics.now cff.now) }
 {
-    let new = new_tables(alloc, source, lines.hhea(), metrics, all)?;
+    let new = new_tables(alloc, source, lines.hhea(), metrics, all, boxes)?;
     let tables = font_tables(
         &new,
         cff,

@@ -9,7 +9,7 @@ use Rattle.subsetter_base.specs.Bytes.{number}
 use Rattle.subsetter_base.specs.declared.tag.Tag.{Tag}
 use Rattle.subsetter_base.specs.declared.error.Error.{Error}
 use Rattle.subsetter_base.proofs.Options.{just_is, is_some_of, bind_some}
-use Rattle.subsetter_cffdata.specs.Numerals.Numbers.{Number}
+use Rattle.subsetter_cffdata.specs.Numerals.Numbers.{Number, Integer}
 use Rattle.subsetter_cffdata.specs.Numerals.Values.{value}
 use Rattle.subsetter_cffdata.specs.Reals.Decimals.{Decimal}
 use Rattle.subsetter_type2.specs.Flat.{flat}
@@ -40,8 +40,14 @@ use Rattle.subsetter_cff2.specs.Made2.{new_matrix}
 use Rattle.subsetter_cff_at.specs.Promise.{DrawsGlyph}
 use Rattle.subsetter_cff_at.specs.Request.{Request}
 use Rattle.subsetter_cff_instance.specs.CffInstance.{IsCffInstance, HasMetricAt}
-use Rattle.subsetter_cff_instance.specs.Plain.{request_at}
+use Rattle.subsetter_boxes.specs.CharstringBox.{charstring_box}
+use Rattle.subsetter_boxes.specs.Joined.{font_box, least_box}
+use Rattle.subsetter_points.specs.declared.bounds.Bounds.{Bounds}
+use Rattle.subsetter_cff_at.specs.Boxes.{table_boxes}
+use Rattle.subsetter_cff_instance.specs.Boxes.{among, with_bearing}
+use Rattle.subsetter_cff_instance.specs.Plain.{Prepared, request_at}
 use Rattle.subsetter_cff_instance.specs.Source.{metric}
+use Rattle.subsetter_cff_instance.proofs.FileLaws.Boxes.{box_there, boxes_are, boxes_many, no_box_there}
 use Rattle.subsetter_cff_instance.proofs.FileLaws.Metrics.{advance_asked}
 use Rattle.subsetter_cff_instance.proofs.Steps.{SourceSteps, source_steps}
 use Rattle.subsetter_variable.specs.Blended.{BlendedSource, IsBlendedAs, HasGlyphsBlended}
@@ -146,8 +152,11 @@ module _ (font : Font) (settings : List (Tag × ℤ)) (glyphs file : List ℕ) (
 
   -- ---- the glyphs
 
+  abbrev prepared : Prepared
+  prepared = record { at = i.at; source = i.source; metrics = i.metrics; lines = i.lines }
+
   abbrev request : Request
-  request = request_at glyphs (record { at = i.at; source = i.source; metrics = i.metrics; lines = i.lines })
+  request = request_at glyphs prepared
 
   abbrev source : BlendedSource
   source = record { outlines = i.outlines.source; variation = i.outlines.variation; metrics = i.source; at = i.at; tokens = i.tokens; depth = i.depth }
@@ -172,7 +181,7 @@ module _ (font : Font) (settings : List (Tag × ℤ)) (glyphs file : List ℕ) (
       asked_here : Contains glyphs (get_or glyphs k 0)
       asked_here = (k, lt, get_or_default glyphs k (get_or glyphs k 0) 0 lt)
 
-      metric_here : HasMetricAt i.source i.out i.at (get_or glyphs k 0)
+      metric_here : HasMetricAt i.source i.out i.at (table_boxes i.table) (get_or glyphs k 0)
       metric_here = i.requests (get_or glyphs k 0) asked_here
 
       requested_here : slice_get request.glyphs (get_or glyphs k 0) ≡ Some (Some metric_here.it.advance_width)
@@ -195,10 +204,17 @@ module _ (font : Font) (settings : List (Tag × ℤ)) (glyphs file : List ℕ) (
       bytes_here : char_string subset_table.copy k ≡ Some draws_here.bytes
       bytes_here = keeps_here.flat_bytes ∙ ap (λ (t : Trace). Some (flat t)) same_drawing ∙ ap (λ (l : List ℕ). Some l) (sym draws_here.drawn.written.flat_is)
 
-      metrics_here : hmtx.metric (as_font out) k ≡ Some metric_here.it
+      box_here : among (table_boxes i.table) (get_or glyphs k 0) ≡ charstring_box draws_here.bytes
+      box_here = box_there i.cff2 glyphs prepared i.tokens i.depth i.table i.outlines (get_or glyphs k 0) draws_here.bytes draws_here.bytes_are
+
+      metrics_here : hmtx.metric (as_font out) k ≡ Some (with_bearing (charstring_box draws_here.bytes) metric_here.it)
       metrics_here =
           let m = metrics_kept.metrics k lt in
-          m.copy ∙ sym m.source ∙ metric_there (get_or glyphs k 0) metric_here.it metric_here.reads
+          m.copy ∙ sym m.source ∙ metric_there (get_or glyphs k 0) (with_bearing (among (table_boxes i.table) (get_or glyphs k 0)) metric_here.it) metric_here.reads
+          ∙ ap (λ (b : Option Bounds). Some (with_bearing b metric_here.it)) box_here
+
+      same_box : (bytes : List ℕ) → char_string subset_table.copy k ≡ Some bytes → among (table_boxes i.table) (get_or glyphs k 0) ≡ charstring_box bytes
+      same_box bytes h = box_here ∙ ap charstring_box (just_is draws_here.bytes bytes (sym bytes_here ∙ h))
 
       glyph_blended : IsBlendedAs source (get_or glyphs k 0) (as_font out) subset_table.copy k
       glyph_blended = record {
@@ -247,7 +263,13 @@ module _ (font : Font) (settings : List (Tag × ℤ)) (glyphs file : List ℕ) (
       matrix = i.outlines.matrix;
       matrix_is = i.outlines.matrix_is;
       matrices_are = λ k lt. matrices_here k lt;
-      box = kept.box ∙ ap (λ (o : Option (List Number)). Some (unwrap_or o zero_box)) i.outlines.box;
+      boxes = table_boxes i.table;
+      boxes_count = boxes_many i.cff2 glyphs prepared i.tokens i.depth i.table i.outlines;
+      boxes_are = λ k bytes lt h. same_box k lt bytes h;
+      no_others = no_box_there i.cff2 glyphs prepared i.tokens i.depth i.table i.outlines;
+      box =
+          kept.box ∙ ap (λ (o : Option (List Number)). Some (unwrap_or o zero_box)) i.outlines.box
+          ∙ ap (λ (boxes : List (Option Bounds)). Some (map Integer (font_box (least_box boxes)))) (sym (boxes_are i.cff2 glyphs prepared i.tokens i.depth i.table i.outlines));
     }
 
 -- ---- an answer

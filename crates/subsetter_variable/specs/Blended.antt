@@ -1,5 +1,5 @@
 -- A font of glyphs that outlines of CFF2 draw at a location, read afresh from its bytes (OpenType, "CFF2"; Technical Notes 5176 and 5177).
-use Rattle.std.specs.Prelude.{◌≡◌, ◌<◌, ◌≤◌, ℕ, ℤ, pos, List, [], length, map, slice_index, codes, Option, Some, Ok}
+use Rattle.std.specs.Prelude.{◌≡◌, ◌<◌, ◌≤◌, ℕ, ℤ, pos, List, [], length, map, slice_index, codes, Contains, Option, Some, None, Ok}
 use Rattle.subsetter_base.specs.declared.tag.Tag.{Tag}
 use Rattle.subsetter_cffdata.specs.Numerals.Numbers.{Number, Integer}
 use Rattle.subsetter_cffdata.specs.Numerals.Values.{value}
@@ -26,6 +26,10 @@ use Rattle.subsetter_cff2.specs.Variation.{Variation, optional_variation}
 use Rattle.subsetter_cff_at.specs.Plain.{setting}
 use Rattle.subsetter_cff_at.specs.Units.{top_matrix}
 use Rattle.subsetter_instance.specs.Source.{normalized_coordinates}
+use Rattle.subsetter_boxes.specs.CharstringBox.{charstring_box}
+use Rattle.subsetter_boxes.specs.Joined.{font_box, least_box}
+use Rattle.subsetter_points.specs.declared.bounds.Bounds.{Bounds}
+use Rattle.subsetter_cff_instance.specs.Boxes.{among, with_bearing}
 use Rattle.subsetter_cff_instance.specs.Metrics.{varied_metric}
 use Rattle.subsetter_cff_instance.specs.Source.{Source, source_in}
 
@@ -42,10 +46,9 @@ pub record BlendedSource : Type 0 where
 
 -- glyph i of a font draws what glyph g of another one draws at a location, each coordinate and each edge of a stem rounded once
 pub record IsBlendedAs (s : BlendedSource) (g : ℕ) (out : Font) (copy : Cff) (i : ℕ) : Type 0 where
-  -- its advance as HVAR varies it, and the left side bearing of hmtx
+  -- its advance as HVAR varies it
   pub its : LongHorMetric
   pub varied_is : varied_metric s.metrics s.at g ≡ Ok its
-  pub metric_is : metric out i ≡ Some its
   -- its private dict has the entries of the source's, with each blend resolved
   pub private : Private2
   pub private_is : source.private_of s.outlines g ≡ Some private
@@ -57,6 +60,8 @@ pub record IsBlendedAs (s : BlendedSource) (g : ℕ) (out : Font) (copy : Cff) (
   pub charstring_is : source.char_string s.outlines g ≡ Some charstring
   pub bytes : List ℕ
   pub bytes_are : char_string copy i ≡ Some bytes
+  -- the advance, and the left side bearing of the charstring's box
+  pub metric_is : metric out i ≡ Some (with_bearing (charstring_box bytes) its)
   -- draws and hints what the source's does, each coordinate and each edge rounded once, with the advance as its width
   pub drawn : IsDrawnAndWritten (setting s.outlines s.variation private.subroutines) s.tokens s.depth location.data_index (pos its.advance_width) charstring bytes
   -- and any run in the new font finds that, by as many tokens as it has
@@ -85,8 +90,13 @@ pub record HasGlyphsBlended (font : Font) (settings : List (Tag × ℤ)) (glyphs
   -- CID-keyed, without subroutines
   pub keyed : keying copy ≡ Some adobe_identity
   pub no_subroutines : copy.subroutines ≡ []
-  -- FontMatrix is the source's, or by unitsPerEm where it has none; FontBBox is the box of head
+  -- FontMatrix is the source's, or by unitsPerEm where it has none
   pub matrix : Option (List Number)
   pub matrix_is : top_matrix source.outlines source.metrics.units_per_em ≡ Some matrix
   pub matrices_are : (i : ℕ) → i < length glyphs → stated_matrices copy i ≡ Some (map value (new_matrix matrix), map value unit_matrix)
-  pub box : last_of font_box_operator copy.top ≡ Some (map Integer source.metrics.font_box)
+  -- FontBBox is the least box around the glyphs: of the font's, in its order, those that were asked for have the boxes of their charstrings
+  pub boxes : List (Option Bounds)
+  pub boxes_count : length boxes ≡ source.metrics.count
+  pub boxes_are : (i : ℕ) (bytes : List ℕ) → i < length glyphs → char_string copy i ≡ Some bytes → among boxes (slice_index glyphs i) ≡ charstring_box bytes
+  pub no_others : (g : ℕ) → g < source.metrics.count → (Contains glyphs g → ⊥) → among boxes g ≡ None
+  pub box : last_of font_box_operator copy.top ≡ Some (map Integer (font_box (least_box boxes)))

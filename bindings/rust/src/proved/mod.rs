@@ -29,11 +29,9 @@
 pub mod cid_embed;
 #[cfg(feature = "variable-fonts")]
 pub mod cid_embed_at;
-#[cfg(feature = "variable-fonts")]
 pub mod cmap;
 #[cfg(feature = "variable-fonts")]
 pub mod font_advances;
-#[cfg(feature = "program")]
 pub mod font_reasons;
 #[cfg(feature = "program")]
 pub mod glyph_names;
@@ -41,7 +39,6 @@ pub mod glyph_names;
 pub mod late_file;
 #[cfg(feature = "variable-fonts")]
 pub mod pdf_boxes;
-#[cfg(feature = "variable-fonts")]
 pub mod pdf_cff;
 #[cfg(feature = "variable-fonts")]
 pub mod pdf_codes;
@@ -59,7 +56,6 @@ pub mod pdf_sheet;
 pub mod pdf_source;
 #[cfg(feature = "variable-fonts")]
 pub mod pdf_text;
-#[cfg(feature = "variable-fonts")]
 pub mod pdf_values;
 #[cfg(feature = "variable-fonts")]
 pub mod pdf_widths;
@@ -79,6 +75,8 @@ pub mod subsetter;
 pub mod subsetter_base;
 #[cfg(feature = "variable-fonts")]
 pub mod subsetter_blend;
+#[cfg(feature = "variable-fonts")]
+pub mod subsetter_boxes;
 pub mod subsetter_cff;
 #[cfg(feature = "variable-fonts")]
 pub mod subsetter_cff2;

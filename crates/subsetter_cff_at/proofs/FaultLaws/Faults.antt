@@ -28,7 +28,7 @@ use Rattle.subsetter_cff2.specs.Selection.UsedDicts.{counted_dicts, index_in, us
 use Rattle.subsetter_cff2.specs.Variation.{Variation, optional_variation}
 use Rattle.subsetter_cff2.proofs.MadeFits.{new_dict_is_placed}
 use Rattle.subsetter_cff_at.specs.Fault.{HasOpeningFault, HasGlyphFault, HasFault, RefusedHasFault, bad_front, bad_subroutines, bad_char_strings, bad_font_dicts, bad_store_offset, bad_store, bad_select, bad_matrix, bad_region, long_private, many_font_dicts, long_matrix, large_char_strings, large_offset, none_requested, in_opening, in_glyph, in_limits}
-use Rattle.subsetter_cff_at.specs.Plain.{dict_bound, dict_number, numbers_from, present, placed_text, texts_from, all_filled, Drawn, drawn, Opened, opened, parts_of, some_requested, made_table}
+use Rattle.subsetter_cff_at.specs.Plain.{dict_bound, dict_number, numbers_from, present, placed_text, texts_from, all_filled, Drawn, drawn, drawn_box, Opened, opened, parts_of, some_requested, made_table}
 use Rattle.subsetter_cff_at.specs.Request.{Request}
 use Rattle.subsetter_cff_at.specs.Units.{top_matrix}
 use Rattle.subsetter_cff_at.proofs.Found.{dict_at, dict_steps}
@@ -166,10 +166,10 @@ module _ (bytes : List ℕ) (r : Request) (tokens depth : ℕ) (o : Opened) (ope
         ]
       ]
 
-  made_refused : (d : Drawn) (e : Error) → drawn o.cff o.variation tokens depth r.glyphs ≡ Ok d → parts_of o r d ≡ Err e → HasFault bytes r tokens depth e
+  made_refused : (d : Drawn) (e : Error) → drawn o.cff o.variation tokens depth r.glyphs ≡ Ok d → parts_of o d ≡ Err e → HasFault bytes r tokens depth e
   unfolding limited
   made_refused d e are h =
-      let p = new_parts o.matrix r.box d.dicts d.places (all_filled d.texts) in
+      let p = new_parts o.matrix (drawn_box d) d.dicts d.places (all_filled d.texts) in
       let F = HasFault bytes r tokens depth in
       let s = drawn_steps o.cff o.variation tokens depth r.glyphs d are in
       let opens = open_steps bytes r o open_is in
@@ -178,7 +178,7 @@ module _ (bytes : List ℕ) (r : Request) (tokens depth : ℕ) (o : Opened) (ope
           | inl over ↦ subst F over.1 (elim (in_either p.matrix (p.box ++ flat_map font_dict_numbers p.font_dicts) (not_false (any_long (written_numbers p)) over.0)) [
             | inl matrix ↦ (let x = given o.matrix thousandth_matrix thousandth_short matrix in in_limits o open_is (long_matrix x.0 (opens.matrix_is ∙ ap Some x.1.0) x.1.1))
             | inr more ↦ elim (in_either p.box (flat_map font_dict_numbers p.font_dicts) more) [
-              | inl box ↦ absurd (false≢true (sym (box_short r.box) ∙ box))
+              | inl box ↦ absurd (false≢true (sym (box_short (drawn_box d)) ∙ box))
               | inr dicts ↦ glyph_fault OverflowError (dicts_long o.cff o.variation tokens depth r.glyphs s.used d.dicts (λ i n. user_of o.cff r.glyphs s.numbers s.used i n s.numbers_are s.used_are) s.dicts_are dicts)
             ]
           ])
@@ -210,9 +210,9 @@ refused_stands bytes r tokens depth e h =
     let F = HasFault bytes r tokens depth in
     elim (failed (some_requested r.glyphs) MalformedFont e _ h) [
       | inl none ↦ subst F none.1 (none_requested (λ glyph advance at. false≢true (sym none.0 ∙ is_requested r.glyphs glyph advance at)))
-      | inr a ↦ elim (bind_err (opened bytes r) (λ o. drawn o.cff o.variation tokens depth r.glyphs >>= parts_of o r) e a.1) [
+      | inr a ↦ elim (bind_err (opened bytes r) (λ o. drawn o.cff o.variation tokens depth r.glyphs >>= parts_of o) e a.1) [
         | inl b ↦ in_opening (opening_refused bytes r e b)
-        | inr b ↦ elim (bind_err (drawn b.0.cff b.0.variation tokens depth r.glyphs) (parts_of b.0 r) e b.1.1) [
+        | inr b ↦ elim (bind_err (drawn b.0.cff b.0.variation tokens depth r.glyphs) (parts_of b.0) e b.1.1) [
           | inl c ↦ drawn_refused bytes r tokens depth b.0 b.1.0 e c
           | inr c ↦ made_refused bytes r tokens depth b.0 b.1.0 c.0 e c.1.0 c.1.1
         ]

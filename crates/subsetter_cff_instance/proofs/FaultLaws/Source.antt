@@ -10,9 +10,9 @@ use Rattle.subsetter_base.specs.Bytes.{number, signed_field}
 use Rattle.subsetter_base.specs.declared.error.Error.{Error}
 use Rattle.subsetter_base.specs.declared.error.Error.TheVariants.{MalformedFont, Unimplemented}
 use Rattle.subsetter_base.proofs.ByteLemmas.{number-fits, number-short}
-use Rattle.subsetter_base.proofs.Options.{bind_some, just_is, map_none, map_some, some_not_none}
+use Rattle.subsetter_base.proofs.Options.{just_is, map_none, map_some, some_not_none}
 use Rattle.subsetter_base.proofs.Results.{failed_is, named_err}
-use Rattle.subsetter_sfnt.specs.Fields.Head.{units_per_em, x_max, x_min, y_max, y_min}
+use Rattle.subsetter_sfnt.specs.Fields.Head.{units_per_em, y_max}
 use Rattle.subsetter_sfnt.specs.Fields.Hhea.{number_of_h_metrics}
 use Rattle.subsetter_sfnt.specs.Fields.Maxp.{num_glyphs}
 use Rattle.subsetter_variation.specs.Locations.Coordinates.{is_other_version}
@@ -20,7 +20,7 @@ use Rattle.subsetter_instance.specs.Faults.CoordinatesFault.{HasOtherVersion}
 use Rattle.subsetter_instance.proofs.FaultLaws.Parts.{bind_none, some_is_not}
 use Rattle.subsetter_instance.proofs.FaultLaws.Place.{is_other_of, other_is}
 use Rattle.subsetter_cff_instance.specs.Fault.{HasSourceFault, no_maxp, no_head, no_hhea, no_hmtx, cut_maxp, cut_head, cut_hhea}
-use Rattle.subsetter_cff_instance.specs.Source.{Source, font_box, has_other_version, source_in, source_or_fault}
+use Rattle.subsetter_cff_instance.specs.Source.{Source, has_other_version, source_in, source_or_fault}
 use Rattle.subsetter_cff_instance.proofs.Steps.{SourceSteps}
 
 -- ---- the box of head
@@ -29,32 +29,8 @@ use Rattle.subsetter_cff_instance.proofs.Steps.{SourceSteps}
 cut_box : (head : List ℕ) (at : ℕ) → at + 2 ≤ 44 → signed_field (Some head) at ≡ None → length head < 44
 cut_box head at le h = let less = number-short head at 2 (map_none (cast_signed w16) (number head at 2) h) in omega arith
 
-box_refused : (head : List ℕ) → font_box head ≡ None → length head < 44
-unfolding font_box
-box_refused head h =
-    elim (bind_none (x_min (Some head)) _ h) [
-      | inl k ↦ cut_box head 36 (omega arith) k
-      | inr a ↦ elim (bind_none (y_min (Some head)) _ a.2) [
-        | inl k ↦ cut_box head 38 (omega arith) k
-        | inr b ↦ elim (bind_none (x_max (Some head)) _ b.2) [
-          | inl k ↦ cut_box head 40 (omega arith) k
-          | inr c ↦ elim (bind_none (y_max (Some head)) _ c.2) [
-            | inl k ↦ cut_box head 42 (omega arith) k
-            | inr d ↦ absurd (some_is_not _ d.2)
-          ]
-        ]
-      ]
-    ]
-
-pub box_fits : (head : List ℕ) (box : List ℤ) → font_box head ≡ Some box → 44 ≤ length head
-unfolding font_box
-box_fits head box h =
-    let a = bind_some (x_min (Some head)) _ box h in
-    let b = bind_some (y_min (Some head)) _ box a.2 in
-    let c = bind_some (x_max (Some head)) _ box b.2 in
-    let d = bind_some (y_max (Some head)) _ box c.2 in
-    let n = map_some (cast_signed w16) (number head 42 2) d.0 d.1 in
-    number-fits head 42 2 n.0 n.1
+pub top_fits : (head : List ℕ) (top : ℤ) → y_max (Some head) ≡ Some top → 44 ≤ length head
+top_fits head top h = let n = map_some (cast_signed w16) (number head 42 2) top h in number-fits head 42 2 n.0 n.1
 
 module _ (find : List ℕ → Option (List ℕ)) where
   -- ---- versions
@@ -81,8 +57,8 @@ module _ (find : List ℕ → Option (List ℕ)) where
             | inl k ↦ no_head k
             | inr c ↦ elim (bind_none (units_per_em c.0) _ c.2) [
               | inl k ↦ cut_head c.0 c.1 (let less = number-short c.0 18 2 k in omega arith)
-              | inr d ↦ elim (bind_none (font_box c.0) _ d.2) [
-                | inl k ↦ cut_head c.0 c.1 (box_refused c.0 k)
+              | inr d ↦ elim (bind_none (y_max (Some c.0)) _ d.2) [
+                | inl k ↦ cut_head c.0 c.1 (cut_box c.0 42 (omega arith) k)
                 | inr e ↦ elim (bind_none (find (codes "hhea")) _ e.2) [
                   | inl k ↦ no_hhea k
                   | inr f ↦ elim (bind_none (number_of_h_metrics f.0) _ f.2) [
@@ -109,7 +85,7 @@ module _ (find : List ℕ → Option (List ℕ)) where
   tables_clean s t (no_hhea none) = some_not_none (find (codes "hhea")) t.hhea t.hhea_is none
   tables_clean s t (no_hmtx none) = some_not_none (find (codes "hmtx")) s.hmtx t.hmtx_is none
   tables_clean s t (cut_maxp maxp is less) = long_enough (codes "maxp") maxp s.maxp 6 t.maxp_is (number-fits s.maxp 4 2 s.count t.count_is) is less
-  tables_clean s t (cut_head head is less) = long_enough (codes "head") head s.head 44 t.head_is (box_fits s.head s.font_box t.box_is) is less
+  tables_clean s t (cut_head head is less) = long_enough (codes "head") head s.head 44 t.head_is (top_fits s.head t.top t.top_is) is less
   tables_clean s t (cut_hhea hhea is less) = long_enough (codes "hhea") hhea t.hhea 36 t.hhea_is (number-fits t.hhea 34 2 s.number_of_h_metrics t.pairs_are) is less
 
   -- ---- both

@@ -6,7 +6,7 @@ use Rattle.subsetter_sfnt.specs.Read.{Font, stored}
 use Rattle.subsetter_cff_instance.specs.CffInstance.{IsCffInstance}
 use Rattle.subsetter_cff_instance.specs.Laws.{IsCffReadAfresh}
 use Rattle.subsetter_cff_instance.specs.Plain.{cff_instance_of}
-use Rattle.subsetter_cff_instance.proofs.FileLaws.Afresh.{made, container, alone, afresh, read_back, table_back, outlines, asked_for, others, keeps_head, keeps_hhea, has_advance, keeps_middle, keeps_maxp, keeps_name, keeps_post}
+use Rattle.subsetter_cff_instance.proofs.FileLaws.Afresh.{made, container, alone, afresh, read_back, table_back, outlines, asked_for, others, extents, keeps_head, keeps_head_middle, has_head_box, keeps_hhea, has_extremes, keeps_middle, keeps_maxp, keeps_name, keeps_post}
 use Rattle.subsetter_cff_instance.proofs.Steps.{CffSteps, font_steps}
 
 module _ (font : Font) (settings : List (Tag × ℤ)) (glyphs : List ℕ) (tokens depth : ℕ) (out : List ℕ) (bytes : IsBytes font.bytes) where
@@ -37,9 +37,13 @@ module _ (font : Font) (settings : List (Tag × ℤ)) (glyphs : List ℕ) (token
     others = others font settings glyphs tokens depth out bytes i;
     count = refl;
     number_of_h_metrics = refl;
+    extents = extents font settings glyphs tokens depth out bytes i;
+    extents_are = refl;
     head = keeps_head font settings glyphs tokens depth out bytes i;
+    head_middle = keeps_head_middle font settings glyphs tokens depth out bytes i;
+    head_box = has_head_box font settings glyphs tokens depth out bytes i;
     hhea = keeps_hhea font settings glyphs tokens depth out bytes i;
-    hhea_advance = has_advance font settings glyphs tokens depth out bytes i;
+    hhea_extremes = has_extremes font settings glyphs tokens depth out bytes i;
     hhea_middle = keeps_middle font settings glyphs tokens depth out bytes i;
     maxp = keeps_maxp font settings glyphs tokens depth out bytes i;
     name = keeps_name font settings glyphs tokens depth out bytes i;

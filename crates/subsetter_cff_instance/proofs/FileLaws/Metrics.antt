@@ -3,12 +3,15 @@
 --   not_among                       no other one has
 --   length-by_glyph, at_glyph       of all glyphs
 --   advance_asked                   the advance of a glyph that was asked for
---   varied_small, metric_back       their numbers have 16 bits, and are read back
-use Rattle.std.proofs.Common.{◌≡◌, ℕ, zero, suc, ◌<◌, ◌^◌, Bool, true, false, cond, ltb, List, [], ◌∷◌, length, get_or, Option, Some, None, Ok, Err, ℤ, pos, refl, sym, ap, subst, ◌∙◌, arith}
+--   varied_small, drawn_small       their numbers have 16 bits
+--   drawn_is, metric_back           with the bearings of boxes, and read back
+--   eight_bytes                     the extremes of hhea
+use Rattle.std.proofs.Common.{◌≡◌, ℕ, zero, suc, ◌<◌, ◌^◌, Bool, true, false, cond, ltb, List, [], ◌∷◌, length, get_or, Option, Some, None, Ok, Err, ℤ, pos, negsuc, FitsSigned, refl, sym, ap, subst, ◌∙◌, arith}
 use Rattle.std.specs.Prelude.{Contains, slice_get}
+use Rattle.std.specs.Int.{w16, cast_unsigned, to_be_bytes}
 use Rattle.std.specs.Option.{ok_or, option_and_then, option_map, unwrap_or}
 use Rattle.std.proofs.lemmas.Bool.{ltb-true}
-use Rattle.std.proofs.lemmas.List.{length-map}
+use Rattle.std.proofs.lemmas.List.{length-append, length-map}
 use Rattle.std.proofs.lemmas.List.FromFn.{get_or-map-range_with_len, length-map-range_with_len}
 use Rattle.std.proofs.lemmas.Option.{slice_get-map, slice_get-get_or, get_or_from_slice_get}
 use Rattle.subsetter_base.specs.Bytes.{IsBytes, ◌>>=◌}
@@ -24,9 +27,17 @@ use Rattle.subsetter_sfnt.proofs.Laws.FieldsLaws.HmtxLaws.{IsSmall, metric_small
 use Rattle.subsetter_cff.proofs.ReadLaws.Results.{number_there}
 use Rattle.subsetter_instance.proofs.FileLaws.Among.{not_placed}
 use Rattle.subsetter_instance.proofs.FileLaws.Fitting.{small_width}
-use Rattle.subsetter_cff_instance.specs.Metrics.{varied_advance, varied_metric, metric_if, varied_metrics, metric_among, metrics_by_glyph, advances, no_metric, filled}
+use Rattle.subsetter_cff.specs.Read.Cff.{cff_parts, char_strings}
+use Rattle.subsetter_boxes.specs.CharstringBox.{charstring_box}
+use Rattle.subsetter_boxes.proofs.Fitting.{Fits, charstring_fits}
+use Rattle.subsetter_points.specs.declared.bounds.Bounds.{Bounds}
+use Rattle.subsetter_cff_at.specs.Boxes.{boxes_in, entry_boxes, table_boxes}
+use Rattle.subsetter_instance.specs.declared.tables.extremes.Extents.{Extents}
+use Rattle.subsetter_instance.specs.Tables.Extremes.{side_bytes}
+use Rattle.subsetter_cff_instance.specs.Boxes.{among, bearing, drawn_metric, drawn_metrics, with_bearing}
+use Rattle.subsetter_cff_instance.specs.Metrics.{varied_advance, varied_metric, metric_if, varied_metrics, metric_among, metrics_by_glyph, advances, no_metric, filled, widest}
 use Rattle.subsetter_cff_instance.specs.Source.{Source, metric}
-use Rattle.subsetter_cff_instance.specs.Tables.{hmtx_of}
+use Rattle.subsetter_cff_instance.specs.Tables.{extreme_bytes, hmtx_of}
 
 -- ---- one glyph
 
@@ -120,16 +131,64 @@ varied_small s at g m bytes h =
 pub no_metric_small : IsSmall no_metric
 no_metric_small = record { advance_width = omega arith; lsb = omega arith }
 
+-- a bearing has 16 bits, as the edges of boxes do
+small_word : (z : ℤ) → FitsSigned w16 z → cast_unsigned w16 z < 2 ^ 16
+small_word (pos n) f = omega (arith, f.sfits)
+small_word (negsuc n) f = omega arith
+
+bearing_small : (b : Option Bounds) → Fits b → cast_unsigned w16 (bearing b) < 2 ^ 16
+bearing_small None f = omega arith
+bearing_small (Some b) f = small_word b.x_min f.x_min
+
+entry_fits : (entry : Option (List ℕ)) → Fits (option_and_then charstring_box entry)
+entry_fits None = tt
+entry_fits (Some charstring) = charstring_fits charstring
+
+among_fits : (entries : List (Option (List ℕ))) (g : ℕ) → Fits (among (entry_boxes entries) g)
+among_fits [] g = tt
+among_fits (entry ∷ entries) zero = entry_fits entry
+among_fits (entry ∷ entries) (suc g) = among_fits entries g
+
+read_fits : (entries : Option (List (Option (List ℕ)))) (g : ℕ) → Fits (among (boxes_in entries) g)
+read_fits None g = tt
+read_fits (Some entries) g = among_fits entries g
+
+pub box_fits : (table : List ℕ) (g : ℕ) → Fits (among (table_boxes table) g)
+unfolding table_boxes
+box_fits table g = read_fits (option_and_then char_strings (cff_parts table)) g
+
+pub drawn_small : (s : Source) (at : List ℤ) (g : ℕ) (b : Option Bounds) (m : LongHorMetric) → IsBytes s.hmtx → varied_metric s at g ≡ Ok m → Fits b → IsSmall (with_bearing b m)
+drawn_small s at g b m bytes h fits = record { advance_width = (varied_small s at g m bytes h).advance_width; lsb = bearing_small b fits }
+
+-- ---- what is drawn
+pub among_all : (glyphs : List ℕ) (metrics : List LongHorMetric) (n g : ℕ) → g < n → among (metrics_by_glyph glyphs metrics n) g ≡ metric_among glyphs metrics g
+among_all glyphs metrics n g lt = ap (option_and_then (λ one. one)) (at_glyph glyphs metrics n g lt)
+
+-- the metric of a glyph in the new table
+pub drawn_is : (glyphs : List ℕ) (metrics : List LongHorMetric) (boxes : List (Option Bounds)) (n g : ℕ) (o : Option LongHorMetric) → g < n → metric_among glyphs metrics g ≡ o → drawn_metric (metrics_by_glyph glyphs metrics n) boxes g ≡ option_map (with_bearing (among boxes g)) o
+drawn_is glyphs metrics boxes n g o lt is = ap (option_map (with_bearing (among boxes g))) (among_all glyphs metrics n g lt ∙ is)
+
 -- a metric that was written
-pub metric_back : (out : Source) (glyphs : List ℕ) (metrics : List LongHorMetric) (n g : ℕ) (m : LongHorMetric) → out.hmtx ≡ hmtx_of (metrics_by_glyph glyphs metrics n) → out.number_of_h_metrics ≡ n → g < n
-    → unwrap_or (metric_among glyphs metrics g) no_metric ≡ m → IsSmall m → metric out g ≡ Some m
+pub metric_back : (out : Source) (all : List (Option LongHorMetric)) (boxes : List (Option Bounds)) (n g : ℕ) (m : LongHorMetric) → out.hmtx ≡ hmtx_of (drawn_metrics all boxes) → out.number_of_h_metrics ≡ n → length all ≡ n → g < n
+    → unwrap_or (drawn_metric all boxes g) no_metric ≡ m → IsSmall m → metric out g ≡ Some m
 unfolding metric
-metric_back out glyphs metrics n g m table pairs lt is small =
-    let all = metrics_by_glyph glyphs metrics n in
-    let ms = filled all in
-    let count : length all ≡ n = length-by_glyph glyphs metrics n in
-    let there : slice_get ms g ≡ Some m = slice_get-map (λ (o : Option LongHorMetric). unwrap_or o no_metric) all g ∙ ap (option_map (λ (o : Option LongHorMetric). unwrap_or o no_metric)) (at_glyph glyphs metrics n g lt) ∙ ap (λ (x : LongHorMetric). Some x) is in
+metric_back out all boxes n g m table pairs many lt is small =
+    let drawn = drawn_metrics all boxes in
+    let ms = filled drawn in
+    let or_none = λ (o : Option LongHorMetric). unwrap_or o no_metric in
+    let count : length drawn ≡ n = length-map-range_with_len (drawn_metric all boxes) 0 (length all) ∙ many in
+    let one : slice_get drawn g ≡ Some (drawn_metric all boxes g) =
+    slice_get-get_or drawn g None (omega (arith, lt, count)) ∙ ap (λ (o : Option LongHorMetric). Some o) (get_or-map-range_with_len (drawn_metric all boxes) 0 (length all) g g None (omega (arith, lt, many)) (omega arith)) in
+    let there : slice_get ms g ≡ Some m = slice_get-map or_none drawn g ∙ ap (option_map or_none) one ∙ ap (λ (x : LongHorMetric). Some x) is in
     let here : get_or ms g no_metric ≡ m = get_or_from_slice_get ms g m no_metric there in
-    let long : length ms ≡ n = length-map all (λ (o : Option LongHorMetric). unwrap_or o no_metric) ∙ count in
+    let long : length ms ≡ n = length-map drawn or_none ∙ count in
     let read : metric_in (hmtx_bytes n ms) n g ≡ Some (get_or ms g no_metric) = written.metric_back ms n g no_metric (omega (arith, lt)) (omega (arith, long)) (omega (arith, lt, long)) (subst IsSmall (sym here) small) (λ le. absurd (omega (arith, le, lt))) in
-    ap (λ (l : List ℕ). metric_in l out.number_of_h_metrics g) table ∙ ap (λ (k : ℕ). metric_in (hmtx_of all) k g) pairs ∙ ap (λ (k : ℕ). metric_in (hmtx_bytes k ms) n g) count ∙ read ∙ ap (λ (x : LongHorMetric). Some x) here
+    ap (λ (l : List ℕ). metric_in l out.number_of_h_metrics g) table ∙ ap (λ (k : ℕ). metric_in (hmtx_of drawn) k g) pairs ∙ ap (λ (k : ℕ). metric_in (hmtx_bytes k ms) n g) count ∙ read ∙ ap (λ (x : LongHorMetric). Some x) here
+
+-- ---- hhea
+six_bytes : (e : Option Extents) → length (side_bytes e) ≡ 6
+six_bytes None = refl
+six_bytes (Some e) = refl
+
+pub eight_bytes : (metrics : List LongHorMetric) (e : Option Extents) → length (extreme_bytes metrics e) ≡ 8
+eight_bytes metrics e = omega (arith, length-append (to_be_bytes w16 (widest metrics)) (side_bytes e), six_bytes e)

@@ -26,7 +26,7 @@ fn right_bearing(advance: u16, x_max: i16) -> i16
 }
 
 /// The extents of a glyph of such an advance, whose points are in a box.
-fn extents_of(advance: u16, bounds: Bounds) -> Extents
+pub fn extents_of(advance: u16, bounds: Bounds) -> Extents
     ensures { result ≡ extents_of advance bounds }
 {
     Extents {
@@ -62,7 +62,7 @@ fn both(a: Extents, b: Extents) -> Extents
 }
 
 /// The extents of glyphs, and of one more.
-fn joined(before: Option<Extents>, glyph: Option<Extents>) -> Option<Extents>
+pub fn joined(before: Option<Extents>, glyph: Option<Extents>) -> Option<Extents>
     ensures { result ≡ joined before glyph }
 {
     match before {
@@ -107,7 +107,7 @@ pub fn box_bytes(extents: Option<Extents>) -> [u8; 8]
 }
 
 /// The least left and the least right side bearing and the greatest extent of `hhea`: 0 where no glyph has contours.
-fn side_bytes(extents: Option<Extents>) -> [u8; 6]
+pub fn side_bytes(extents: Option<Extents>) -> [u8; 6]
     ensures { result ≡ side_bytes extents }
 {
     match extents {

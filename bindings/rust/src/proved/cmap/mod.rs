@@ -8,15 +8,21 @@
 //! let glyph = find_subtable(cmap)?.glyph_of('A');   // 0 where the font has none
 //! ```
 
+#[cfg(feature = "variable-fonts")]
 mod characters;
 mod groups;
+#[cfg(feature = "variable-fonts")]
 mod halves;
+#[cfg(feature = "variable-fonts")]
 mod index;
 mod mapping;
+#[cfg(feature = "variable-fonts")]
 mod painting;
+#[cfg(feature = "variable-fonts")]
 mod passed;
 mod segments;
 
+#[cfg(feature = "variable-fonts")]
 pub use characters::glyphs_of;
 pub use mapping::find_subtable;
 #[cfg(feature = "program")]

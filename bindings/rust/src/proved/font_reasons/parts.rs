@@ -43,6 +43,7 @@ pub fn no_table(font: &[u8], index: u32, tag: Tag) -> Option<Reason> {
 }
 
 /// Whether a face lacks a table that only this request needs, if it needs one.
+#[cfg(feature = "program")]
 pub fn no_needed_table(font: &[u8], index: u32, needs: Option<Tag>) -> Option<Reason> {
     no_table(font, index, needs?)
 }

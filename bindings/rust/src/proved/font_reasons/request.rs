@@ -2,13 +2,15 @@
 //! Why a request is refused, by its error.
 
 use crate::proved::font_reasons::file::{cut_table, no_font};
-use crate::proved::font_reasons::parts::{
-    no_glyph, no_needed_table, no_outline, no_outlines, wrong_metrics,
-};
+#[cfg(feature = "program")]
+use crate::proved::font_reasons::parts::no_needed_table;
+use crate::proved::font_reasons::parts::{no_glyph, no_outline, no_outlines, wrong_metrics};
 use crate::proved::font_reasons::reason::Reason;
+#[cfg(feature = "program")]
 use crate::proved::subsetter_base::{Error, Tag};
 
 /// What is requested of a font.
+#[cfg(feature = "program")]
 #[derive(Clone, Copy)]
 pub struct Request<'a> {
     /// The face of a collection, from 0.
@@ -20,13 +22,18 @@ pub struct Request<'a> {
 }
 
 /// What isn't there: the face, or a requested glyph.
-fn no_font_or_glyph(font: &[u8], request: Request<'_>) -> Option<Reason> {
-    no_font(font, request.index).or(no_glyph(font, request.index, request.glyphs))
+pub fn no_font_or_glyph(font: &[u8], index: u32, glyphs: &[u16]) -> Option<Reason> {
+    no_font(font, index).or(no_glyph(font, index, glyphs))
 }
 
 /// What isn't there: the face, a requested glyph, or a table that the request needs.
+#[cfg(feature = "program")]
 fn no_part(font: &[u8], request: Request<'_>) -> Option<Reason> {
-    no_font_or_glyph(font, request).or(no_needed_table(font, request.index, request.needs))
+    no_font_or_glyph(font, request.index, request.glyphs).or(no_needed_table(
+        font,
+        request.index,
+        request.needs,
+    ))
 }
 
 /// What is wrong with a table that ends past the end of the file, or else with metrics.
@@ -35,13 +42,14 @@ fn wrong_table(font: &[u8], index: u32) -> Option<Reason> {
 }
 
 /// What is wrong with outlines, with a table that ends past the end of the file, or with metrics.
-fn wrong_outlines(font: &[u8], request: Request<'_>) -> Option<Reason> {
-    no_outline(font, request.index, request.glyphs).or(wrong_table(font, request.index))
+pub fn wrong_outlines(font: &[u8], index: u32, glyphs: &[u16]) -> Option<Reason> {
+    no_outline(font, index, glyphs).or(wrong_table(font, index))
 }
 
 /// Why a face is malformed.
+#[cfg(feature = "program")]
 fn reason_of_malformed(font: &[u8], request: Request<'_>) -> Option<Reason> {
-    no_part(font, request).or(wrong_outlines(font, request))
+    no_part(font, request).or(wrong_outlines(font, request.index, request.glyphs))
 }
 
 /// What is wrong with a table that ends past the end of the file, or else that there are no outlines.
@@ -50,11 +58,12 @@ fn cut_or_bare(font: &[u8], index: u32) -> Option<Reason> {
 }
 
 /// Why a file is of no known kind.
-fn reason_of_unknown(font: &[u8], index: u32) -> Option<Reason> {
+pub fn reason_of_unknown(font: &[u8], index: u32) -> Option<Reason> {
     no_font(font, index).or(cut_or_bare(font, index))
 }
 
 /// Why a request is refused with an error, if the tables of the font show it.
+#[cfg(feature = "program")]
 pub fn find_reason(error: Error, font: &[u8], request: Request<'_>) -> Option<Reason> {
     match error {
         Error::UnknownKind => reason_of_unknown(font, request.index),

@@ -3,33 +3,16 @@
 
 use crate::rattle::prelude::Vec;
 
-use crate::proved::pdf_boxes::boxes::{before_endchar, behind_width, outline_box};
 use crate::proved::pdf_cff::unless_memory;
-use crate::proved::pdf_values::GlyphBox;
 use crate::proved::subsetter_base::Error;
+use crate::proved::subsetter_boxes::flat_box;
 use crate::proved::subsetter_cff::read::source::{SIDMetadata, Table};
 use crate::proved::subsetter_cff::write::glyphs::kept_glyphs::source_number;
+use crate::proved::subsetter_points::Bounds;
 use crate::proved::subsetter_type2::charstring::Decompiler;
 use crate::proved::subsetter_type2::limits::Limits;
 use crate::proved::subsetter_type2::subroutines::SubroutineHandler;
 use crate::rattle::alloc::Global;
-
-/// The box of a charstring without subroutines, which may have a width in front.
-fn flat_box(flat: &[u8]) -> Result<Option<GlyphBox>, Error> {
-    let body = match before_endchar(flat) {
-        Some(body) => body,
-        _ => {
-            return Ok(None);
-        }
-    };
-    if let Some(bounds) = outline_box(body)? {
-        return Ok(Some(bounds));
-    }
-    match behind_width(body) {
-        Some(behind) => outline_box(behind),
-        None => Ok(None),
-    }
-}
 
 /// A charstring without its subroutines, of any size.
 fn flattened<'a>(
@@ -74,7 +57,7 @@ fn run_box<'a>(
     limits: &Limits,
     private: SIDMetadata<'a>,
     charstring: &'a [u8],
-) -> Result<Option<GlyphBox>, Error> {
+) -> Result<Option<Bounds>, Error> {
     match flat_of(alloc, table, limits, private, charstring)? {
         Some(flat) => flat_box(&flat),
         None => Ok(None),
@@ -111,7 +94,7 @@ fn drawn_box(
     table: &Table<'_>,
     limits: &Limits,
     glyph: u16,
-) -> Result<Option<GlyphBox>, Error> {
+) -> Result<Option<Bounds>, Error> {
     let charstring = match charstring_of(table, glyph) {
         Some(charstring) => charstring,
         _ => {

@@ -5,8 +5,12 @@
 //! let values = cff_values_in(alloc, cff, units)?;     // values.name: "Made-Bold", values.stem: 83
 //! ```
 
+#[cfg(feature = "variable-fonts")]
 mod dict_stems;
+#[cfg(feature = "variable-fonts")]
 mod stems;
 mod values;
 
-pub use values::{cff_values_in, unless_memory, CffValues};
+pub use values::unless_memory;
+#[cfg(feature = "variable-fonts")]
+pub use values::{cff_values_in, CffValues};

@@ -7,6 +7,7 @@ pub fn has_bit(n: u16, place: u32) -> bool {
 }
 
 /// Whether a field that is stated has a bit.
+#[cfg(feature = "variable-fonts")]
 pub fn sets_bit(field: Option<u16>, place: u32) -> bool {
     match field {
         Some(n) => has_bit(n, place),

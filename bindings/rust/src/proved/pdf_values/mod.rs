@@ -11,19 +11,31 @@
 //! let values = values_of(tables, known, Some(movement), Bounds::Kept);   // values.heights.ascent: 916
 //! ```
 
+#[cfg(feature = "variable-fonts")]
 mod descriptor;
 pub mod fields;
+#[cfg(feature = "variable-fonts")]
 mod looks;
+#[cfg(feature = "variable-fonts")]
 mod movement;
+#[cfg(feature = "variable-fonts")]
 mod naming;
 mod permission;
+#[cfg(feature = "variable-fonts")]
 mod rounding;
+#[cfg(feature = "variable-fonts")]
 mod units;
 
+#[cfg(feature = "variable-fonts")]
 pub use descriptor::{values_of, Known, Tables, Values};
+#[cfg(feature = "variable-fonts")]
 pub use looks::bounds::{Bounds, GlyphBox};
+#[cfg(feature = "variable-fonts")]
 pub use movement::Movement;
+#[cfg(feature = "variable-fonts")]
 pub use naming::{postscript_name, table_name};
 pub use permission::{is_permitted, permission_of, Permission, Rights, Usage};
+#[cfg(feature = "variable-fonts")]
 pub use rounding::thousandths;
+#[cfg(feature = "variable-fonts")]
 pub use units::units_per_em;

@@ -10,7 +10,6 @@ pub fn byte_in(table: Option<&[u8]>, at: usize) -> Option<u8> {
 }
 
 /// The number of 16 bits at an offset of a table, if the table has it.
-#[cfg(feature = "variable-fonts")]
 pub fn number_in(table: Option<&[u8]>, at: usize) -> Option<u16> {
     let bytes = table?;
     Reader::new_at(bytes, at).read::<u16>()

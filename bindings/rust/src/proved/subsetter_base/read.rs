@@ -118,7 +118,6 @@ pub fn long_signed_at(bytes: &[u8], at: usize) -> i32 {
 }
 
 /// The number of 16 bits at an offset, if its bytes are there.
-#[cfg(feature = "variable-fonts")]
 pub fn number_at(bytes: &[u8], at: usize) -> Option<u16> {
     Reader::new_at(bytes, at).read::<u16>()
 }

@@ -9,6 +9,7 @@ use crate::proved::subsetter_cff2::selection::used::{indexes_of, used_dicts};
 use crate::proved::subsetter_cff_at::numbers::{dict_bound, find_numbers, present};
 use crate::proved::subsetter_cff_at::opening::OpenTable;
 use crate::proved::subsetter_cff_at::texts::draw_texts;
+use crate::proved::subsetter_points::Bounds;
 use crate::proved::subsetter_type2::limits::Limits;
 use crate::rattle::alloc::Global;
 
@@ -18,6 +19,8 @@ pub struct DrawnGlyphs<'a> {
     pub dicts: Vec<PlacedDict<'a>>,
     /// The glyphs.
     pub glyphs: NewGlyphs,
+    /// The box of each.
+    pub boxes: Vec<Option<Bounds>>,
 }
 
 /// A count of bytes that ends at the greatest `usize` passes a bound where the whole count does, as a bound has 32 bits.
@@ -46,5 +49,6 @@ pub fn draw<'a>(
             char_strings: texts.char_strings,
             ends: texts.ends,
         },
+        boxes: texts.boxes,
     })
 }

@@ -5,7 +5,7 @@
 //! its advance as its width, and `endchar` for every other glyph.
 //!
 //! ```text
-//! let request = TableRequest { coordinates: &at, glyphs: &advances, font_box, units_per_em };
+//! let request = TableRequest { coordinates: &at, glyphs: &advances, units_per_em };
 //! let table = make_table(alloc, bytes, &request, limits)?;
 //! ```
 

@@ -8,8 +8,6 @@ pub struct TableRequest<'a> {
     pub coordinates: &'a [i32],
     /// For each glyph of the font: its advance at the coordinates, where it is requested.
     pub glyphs: &'a [Option<u16>],
-    /// FontBBox: xMin, yMin, xMax, yMax.
-    pub font_box: [i16; 4],
     /// unitsPerEm of `head`, or 0 where it isn't known.
     pub units_per_em: u16,
 }

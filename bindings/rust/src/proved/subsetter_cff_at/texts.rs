@@ -7,8 +7,10 @@ use crate::proved::subsetter_base::error::Error;
 use crate::proved::subsetter_blend::resolving::resolve_in;
 use crate::proved::subsetter_blend::runs::machine::Subroutines;
 use crate::proved::subsetter_blend::runs::running::Room;
+use crate::proved::subsetter_boxes::charstring_box;
 use crate::proved::subsetter_cff2::made::PlacedDict;
 use crate::proved::subsetter_cff_at::opening::OpenTable;
+use crate::proved::subsetter_points::Bounds;
 use crate::proved::subsetter_type2::limits::Limits;
 use crate::proved::subsetter_type2::operators::first_byte;
 use crate::proved::subsetter_type2::subroutines::SubroutineHandler;
@@ -20,6 +22,8 @@ pub struct Texts {
     pub char_strings: Vec<u8>,
     /// Where each charstring ends, as an INDEX counts: from 1 on.
     pub ends: Vec<usize>,
+    /// The box of each glyph.
+    pub boxes: Vec<Option<Bounds>>,
     /// How many bytes those of the requested glyphs have.
     pub requested: usize,
 }
@@ -90,22 +94,25 @@ fn no_texts(alloc: Global, count: usize, _limits: Limits) -> Result<Texts, Error
     Ok(Texts {
         char_strings: Vec::with_capacity(alloc, count)?,
         ends: Vec::with_capacity(alloc, count)?,
+        boxes: Vec::with_capacity(alloc, count)?,
         requested: 0,
     })
 }
 
-/// Puts the bytes of a charstring behind the others.
-fn put(texts: &mut Texts, bytes: &[u8]) -> Result<(), Error> {
+/// Puts the bytes of a charstring, and its box, behind the others.
+fn put(texts: &mut Texts, bytes: &[u8], bounds: Option<Bounds>) -> Result<(), Error> {
     texts.char_strings.extend_from_slice(bytes)?;
     texts.ends.push(texts.char_strings.len() + 1)?;
+    texts.boxes.push(bounds)?;
     Ok(())
 }
 
-/// Puts `endchar` behind the others.
+/// Puts `endchar` behind the others, which has no box.
 #[inline(always)]
 fn put_end(texts: &mut Texts) -> Result<(), Error> {
     texts.char_strings.push(first_byte::ENDCHAR)?;
     texts.ends.push(texts.char_strings.len() + 1)?;
+    texts.boxes.push(None)?;
     Ok(())
 }
 
@@ -127,7 +134,8 @@ fn draw_requested<'a>(
         return Err(Error::OverflowError);
     }
     texts.requested = requested;
-    put(texts, &text)
+    let bounds = charstring_box(&text)?;
+    put(texts, &text, bounds)
 }
 
 /// Draws a glyph more. The texts stay where they are: moved in and out they cost more than `endchar`.

@@ -7,13 +7,14 @@ use crate::rattle::prelude::Vec;
 
 use crate::proved::subsetter_base::{Error, GlyphRemapper, Tag};
 use crate::proved::subsetter_cff::CffPieces;
-use crate::proved::subsetter_cff_at::making::make_table;
+use crate::proved::subsetter_cff_at::making::{make_table, MadeTable};
 use crate::proved::subsetter_cff_at::request::TableRequest;
 use crate::proved::subsetter_cff_instance::metrics::{advances, metrics_by_glyph, varied_metrics};
 use crate::proved::subsetter_cff_instance::source::{outlines_or_fault, source_or_fault, Source};
 use crate::proved::subsetter_cff_instance::tables::laid;
 use crate::proved::subsetter_instance::source::normalized_coordinates;
 use crate::proved::subsetter_instance::tables::lines::{lines_of, Lines};
+use crate::proved::subsetter_points::Bounds;
 use crate::proved::subsetter_sfnt::extras::Extras;
 use crate::proved::subsetter_sfnt::face::Face;
 use crate::proved::subsetter_sfnt::fields::hmtx::LongHorMetric;
@@ -49,6 +50,12 @@ fn prepare<'a>(
     })
 }
 
+/// A new `CFF `, and the box of each of its glyphs.
+struct NewCff {
+    table: Vec<u8>,
+    boxes: Vec<Option<Bounds>>,
+}
+
 /// The two pieces of a table, one behind the other.
 fn joined(pieces: CffPieces) -> Result<Vec<u8>, AllocError> {
     let CffPieces {
@@ -68,17 +75,17 @@ fn make_cff(
     _mapper: &GlyphRemapper,
     all: &[Option<LongHorMetric>],
     limits: Limits,
-) -> Result<Vec<u8>, Error> {
+) -> Result<NewCff, Error> {
     let source = &prepared.source;
     let glyphs = advances(alloc, all)?;
     let request = TableRequest {
         coordinates: &prepared.at,
         glyphs: &glyphs,
-        font_box: source.font_box(),
         units_per_em: source.units_per_em(),
     };
-    let pieces = make_table(alloc, cff2, &request, limits)?;
-    Ok(joined(pieces)?)
+    let MadeTable { pieces, boxes } = make_table(alloc, cff2, &request, limits)?;
+    let table = joined(pieces)?;
+    Ok(NewCff { table, boxes })
 }
 
 /// The directory of a font, and its `CFF2` where its outlines are in that alone. No memory is taken.
@@ -109,12 +116,15 @@ fn make(
         mapper,
         &prepared.metrics,
         &all,
-        &cff,
+        &cff.table,
+        &cff.boxes,
     )
 }
 
 /// A static font with a CID-keyed `CFF `: the mapper's glyphs, glyph 0 among them, as a font with outlines in `CFF2` has them at these
-/// coordinates, each under its old number with its width and without subroutines. Every other glyph is empty.
+/// coordinates, each under its old number with its width and without subroutines. Every other glyph is empty. The left side bearing of each is
+/// the least x of its outline there, and the boxes of `head` and of the `CFF ` and the extremes of `hhea` are those of what is drawn: around
+/// control points too, 0 where there is no outline, and minRightSideBearing at most 32,767.
 ///
 /// `data` is a font file or a collection, of which `index` names a face (it is ignored for a single font). A coordinate is the
 /// tag of an axis and a value in 65536ths; where a tag comes twice the last value counts, and an axis without a value stays at

@@ -6,6 +6,7 @@
 //! let file = cff_instance(alloc, data, 0, &coordinates, &mapper, Limits::default())?;
 //! ```
 
+mod boxes;
 pub mod instancing;
 pub mod metrics;
 pub mod source;

@@ -3,7 +3,7 @@
 
 use crate::proved::subsetter_base::{Error, Tag};
 use crate::proved::subsetter_sfnt::face::Face;
-use crate::proved::subsetter_sfnt::fields::head::{units_per_em, x_max, x_min, y_max, y_min};
+use crate::proved::subsetter_sfnt::fields::head::{units_per_em, y_max};
 use crate::proved::subsetter_sfnt::fields::hhea::number_of_h_metrics;
 use crate::proved::subsetter_sfnt::fields::hmtx::{glyph_metric, LongHorMetric};
 use crate::proved::subsetter_sfnt::fields::maxp::num_glyphs;
@@ -15,7 +15,6 @@ pub struct Source<'a> {
     count: u16,
     head: &'a [u8],
     units_per_em: u16,
-    font_box: [i16; 4],
     number_of_h_metrics: u16,
     hmtx: &'a [u8],
     hvar: Option<&'a [u8]>,
@@ -34,22 +33,13 @@ pub fn outlines_or_fault<'a>(face: &Face<'a>) -> Result<&'a [u8], Error> {
     face.stored(Tag::CFF2).ok_or(Error::UnknownKind)
 }
 
-/// xMin, yMin, xMax and yMax of `head`.
-fn font_box(head: &[u8]) -> Option<[i16; 4]> {
-    let left = x_min(Some(head))?;
-    let bottom = y_min(Some(head))?;
-    let right = x_max(Some(head))?;
-    let top = y_max(Some(head))?;
-    Some([left, bottom, right, top])
-}
-
 /// The tables of a font, unless one is missing or cut.
 fn source_in<'a>(face: &Face<'a>) -> Option<Source<'a>> {
     let maxp = face.stored(Tag::MAXP)?;
     let count = num_glyphs(maxp)?;
     let head = face.stored(Tag::HEAD)?;
     let units = units_per_em(head)?;
-    let bounds = font_box(head)?;
+    y_max(Some(head))?;
     let hhea = face.stored(Tag::HHEA)?;
     let pairs = number_of_h_metrics(hhea)?;
     let hmtx = face.stored(Tag::HMTX)?;
@@ -58,7 +48,6 @@ fn source_in<'a>(face: &Face<'a>) -> Option<Source<'a>> {
         count,
         head,
         units_per_em: units,
-        font_box: bounds,
         number_of_h_metrics: pairs,
         hmtx,
         hvar: face.stored(Tag::new(b"HVAR")),
@@ -94,11 +83,6 @@ impl<'a> Source<'a> {
     /// unitsPerEm of `head`.
     pub fn units_per_em(&self) -> u16 {
         self.units_per_em
-    }
-
-    /// xMin, yMin, xMax and yMax of `head`.
-    pub fn font_box(&self) -> [i16; 4] {
-        self.font_box
     }
 
     /// The variations of advances, if there are some.

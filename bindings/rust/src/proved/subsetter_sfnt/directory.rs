@@ -4,19 +4,16 @@
 use crate::proved::subsetter_base::read::Reader;
 use crate::proved::subsetter_base::Tag;
 use crate::proved::subsetter_sfnt::face::{
-    record_in, tag_in, TableRecord, NUM_TABLES, TABLE_RECORDS, TABLE_RECORD_SIZE,
+    record_in, tag_in, FontKind, TableRecord, NUM_TABLES, TABLE_DIRECTORY_OFFSETS, TABLE_RECORDS,
+    TABLE_RECORD_SIZE,
 };
-#[cfg(feature = "program")]
-use crate::proved::subsetter_sfnt::face::{FontKind, TABLE_DIRECTORY_OFFSETS};
 
 /// What the bytes from an offset on begin with.
-#[cfg(feature = "program")]
 pub fn kind_at(file: &[u8], at: usize) -> Option<FontKind> {
     Reader::new_at(file, at).read::<FontKind>()
 }
 
 /// Where the header of a collection's font is.
-#[cfg(feature = "program")]
 fn offset_in_collection(file: &[u8], index: u32) -> Option<usize> {
     let at = Reader::new_at(
         file,
@@ -30,7 +27,6 @@ fn offset_in_collection(file: &[u8], index: u32) -> Option<usize> {
 }
 
 /// Where the font's header is.
-#[cfg(feature = "program")]
 pub fn header_offset(file: &[u8], index: u32) -> Option<usize> {
     match kind_at(file, 0)? {
         FontKind::Single => Some(0),
@@ -47,7 +43,6 @@ pub fn records_at(file: &[u8], at: usize) -> Option<&[u8]> {
 }
 
 /// The bytes of the records of the font's directory.
-#[cfg(feature = "program")]
 pub fn records(file: &[u8], index: u32) -> Option<&[u8]> {
     let at = header_offset(file, index)?;
     records_at(file, at)
@@ -71,7 +66,6 @@ pub fn table_in<'a>(file: &'a [u8], records: &[u8], tag: Tag) -> Option<&'a [u8]
 }
 
 /// The bytes of a table of a font.
-#[cfg(feature = "program")]
 pub fn table(file: &[u8], index: u32, tag: Tag) -> Option<&[u8]> {
     let records = records(file, index)?;
     table_in(file, records, tag)

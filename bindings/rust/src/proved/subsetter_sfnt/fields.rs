@@ -7,6 +7,5 @@ pub mod hmtx;
 pub mod loca;
 pub mod maxp;
 pub mod name;
-#[cfg(feature = "variable-fonts")]
 pub mod os2;
 pub mod post;

@@ -9,7 +9,6 @@ use crate::proved::subsetter_type2::runs::fixed_stack::FixedStack;
 use crate::proved::subsetter_type2::runs::flattening;
 use crate::proved::subsetter_type2::runs::machine::Subroutines;
 use crate::proved::subsetter_type2::subroutines::SubroutineHandler;
-#[cfg(feature = "variable-fonts")]
 use crate::rattle::alloc::Global;
 
 /// The bytes of a charstring.
@@ -38,7 +37,6 @@ impl<'a> Decompiler<'a> {
     ///
     /// `CFFError` where the charstring is malformed or passes a limit, `Unimplemented` where it ends by putting two
     /// glyphs together, `OverflowError` where the bytes pass their bound, before more of them are written.
-    #[cfg(feature = "variable-fonts")]
     pub fn flatten(self, alloc: Global, charstring: CharString<'a>) -> Result<Vec<u8>, Error> {
         let mut rests: FixedStack<&'a [u8], 64> = FixedStack::new(charstring);
         self.flatten_behind(Vec::new(alloc), charstring, &mut rests)

@@ -33,7 +33,6 @@ impl Limits {
 
     /// The most tokens of a run: each number is one, and so is each operator together with its mask, be it a call or a
     /// return.
-    #[cfg(feature = "variable-fonts")]
     pub fn tokens(&self) -> u32 {
         self.tokens
     }

@@ -25,13 +25,12 @@ fn made(
     let request = TableRequest {
         coordinates,
         glyphs,
-        font_box: [0, 0, 0, 0],
         units_per_em,
     };
     if glyphs.len() > 65535 {
         return Err(Error::UnknownKind);
     }
-    let table = make_table(alloc, bytes, &request, limits)?;
+    let table = make_table(alloc, bytes, &request, limits)?.pieces;
     let mut whole = table.front;
     whole.extend_from_slice(&table.char_strings)?;
     Ok(whole)

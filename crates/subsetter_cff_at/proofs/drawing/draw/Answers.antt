@@ -58,6 +58,7 @@ returns-clause-ok c =
       dicts = refl;
       places = placed;
       texts = record { text = all.shown.char_strings; ends = all.shown.ends };
+      boxes = all.shown.boxes;
       count = ends_many cff v tokens depth glyphs numbers used (map dict_view c.in_ok-dicts.dicts.items) all.texts c.in_ok-texts.texts.ends.items c.in_ok-numbers.ensures same all.shown.ends;
     }
 

@@ -25,7 +25,7 @@ fn right_bearing(advance: u16, x_max: i16) -> i16 {
 }
 
 /// The extents of a glyph of such an advance, whose points are in a box.
-fn extents_of(advance: u16, bounds: Bounds) -> Extents {
+pub fn extents_of(advance: u16, bounds: Bounds) -> Extents {
     Extents {
         bounds,
         right: right_bearing(advance, bounds.x_max),
@@ -54,7 +54,7 @@ fn both(a: Extents, b: Extents) -> Extents {
 }
 
 /// The extents of glyphs, and of one more.
-fn joined(before: Option<Extents>, glyph: Option<Extents>) -> Option<Extents> {
+pub fn joined(before: Option<Extents>, glyph: Option<Extents>) -> Option<Extents> {
     match before {
         None => glyph,
         Some(a) => match glyph {
@@ -91,7 +91,7 @@ pub fn box_bytes(extents: Option<Extents>) -> [u8; 8] {
 }
 
 /// The least left and the least right side bearing and the greatest extent of `hhea`: 0 where no glyph has contours.
-fn side_bytes(extents: Option<Extents>) -> [u8; 6] {
+pub fn side_bytes(extents: Option<Extents>) -> [u8; 6] {
     match extents {
         None => [0; 6],
         Some(e) => {

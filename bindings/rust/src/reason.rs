@@ -1,0 +1,117 @@
+//! Why a call is refused.
+
+use crate::library::{within, ERRORS};
+#[cfg(feature = "variable-fonts")]
+use crate::pdf::FontError;
+use crate::proved::font_reasons as proved;
+use crate::rattle::alloc::Global;
+use crate::{Error, Limits, Tag};
+use core::fmt;
+
+/// A call that was refused, with its error.
+#[derive(Debug, Copy, Clone, Eq, PartialEq)]
+#[non_exhaustive]
+pub enum Call {
+    /// [`subset`](crate::subset).
+    Subset(Error),
+    /// [`subset_with_variations`](crate::subset_with_variations).
+    #[cfg(feature = "variable-fonts")]
+    SubsetWithVariations(Error),
+    /// [`embed`](crate::embed).
+    Embed(Error),
+    /// [`embed_with_variations`](crate::embed_with_variations).
+    #[cfg(feature = "variable-fonts")]
+    EmbedWithVariations(Error),
+    /// [`pdf_font`](crate::pdf::pdf_font).
+    #[cfg(feature = "variable-fonts")]
+    PdfFont(FontError),
+    /// [`glyphs_of`](crate::pdf::glyphs_of).
+    #[cfg(feature = "variable-fonts")]
+    GlyphsOf(Error),
+    /// [`advances`](crate::pdf::advances).
+    #[cfg(feature = "variable-fonts")]
+    Advances(Error),
+}
+
+/// What a font shows of why a call on it is refused. Its text is for people, and may change.
+#[derive(Debug, Copy, Clone, Eq, PartialEq)]
+pub struct Reason(proved::Reason);
+
+impl Reason {
+    /// The table that it is about: one that the font lacks, or whose bytes show it. None where it is about the whole file.
+    pub fn table(&self) -> Option<Tag> {
+        self.0.table().map(|tag| Tag::new(tag.get()))
+    }
+
+    /// The glyph that it is about, if it is about one.
+    pub fn glyph(&self) -> Option<u16> {
+        self.0.glyph()
+    }
+}
+
+impl fmt::Display for Reason {
+    fn fmt(&self, f: &mut fmt::Formatter<'_>) -> fmt::Result {
+        fmt::Display::fmt(&self.0, f)
+    }
+}
+
+/// The call and its error as the proved call takes them; none of a refusal that is no error of a font.
+fn taken(call: Call) -> (proved::Call, Option<Error>) {
+    match call {
+        Call::Subset(error) => (proved::Call::Subset, Some(error)),
+        Call::Embed(error) => (proved::Call::Embed, Some(error)),
+        #[cfg(feature = "variable-fonts")]
+        Call::SubsetWithVariations(error) => (proved::Call::SubsetAt, Some(error)),
+        #[cfg(feature = "variable-fonts")]
+        Call::EmbedWithVariations(error) => (proved::Call::EmbedAt, Some(error)),
+        #[cfg(feature = "variable-fonts")]
+        Call::PdfFont(FontError::Subset(error)) => (proved::Call::PdfFont, Some(error)),
+        #[cfg(feature = "variable-fonts")]
+        Call::PdfFont(_) => (proved::Call::PdfFont, None),
+        #[cfg(feature = "variable-fonts")]
+        Call::GlyphsOf(error) => (proved::Call::GlyphsOf, Some(error)),
+        #[cfg(feature = "variable-fonts")]
+        Call::Advances(error) => (proved::Call::Advances, Some(error)),
+    }
+}
+
+/// Whether the font's maker forbids the call.
+fn is_forbidden(call: Call) -> bool {
+    match call {
+        #[cfg(feature = "variable-fonts")]
+        Call::PdfFont(FontError::NotPermitted(_)) => true,
+        _ => false,
+    }
+}
+
+/// Why a call on a font was refused, as the font's tables show it: what it names is in the font, or isn't there. None where they
+/// don't show it, or memory ran out.
+///
+/// `data`, `index`, `glyphs` and `limits` are those of the call. A charstring (outlines in `CFF `) is run within the limits, once at
+/// most, and none after the first that can't be.
+///
+/// ```
+/// use subsetter::{embed, explain, Call, Limits};
+///
+/// # let data = include_bytes!("../tests/data/made.ttf");
+/// // A font of twelve glyphs.
+/// let error = embed(data, 0, &[1, 60000]).unwrap_err();
+/// let reason = explain(Call::Embed(error), data, 0, &[1, 60000], &Limits::default()).unwrap();
+/// assert_eq!(format!("{error}: {reason}"), "malformed font: glyph 60000: the font's glyphs are 0 to 11");
+/// assert_eq!((reason.glyph(), reason.table().unwrap().get()), (Some(60000), b"maxp"));
+/// ```
+pub fn explain(
+    call: Call,
+    data: &[u8],
+    index: u32,
+    glyphs: &[u16],
+    limits: &Limits,
+) -> Option<Reason> {
+    if is_forbidden(call) {
+        return proved::find_prohibition(data, index).map(Reason);
+    }
+    let (call, error) = taken(call);
+    let error = ERRORS[error? as usize];
+    let found = proved::explain(Global, call, error, data, index, glyphs, &within(limits));
+    found.ok().flatten().map(Reason)
+}

@@ -1,0 +1,37 @@
+-- What a reason is about.
+use Rattle.std.specs.Prelude.{ℕ, Option, Some, None, codes}
+use Rattle.subsetter_base.specs.declared.tag.Tag.{Tag}
+use Rattle.font_reasons.specs.declared.reason.Reason.{Reason}
+use Rattle.font_reasons.specs.declared.reason.Reason.TheVariants.{Cut, NoGlyph, NoTable, NoEntries, Descends, Outside, NoMetrics, FewMetrics, NoUnits, NoUnicode, OnlyCff2, Forbidden, OtherCff, WrongCff, NoCharstring, WrongCharstring, Composed}
+
+-- the table whose bytes show it, or that isn't there
+abbrev pub reason_table : Reason → Option Tag
+reason_table (Cut tag end size) = Some tag
+reason_table (NoTable tag) = Some tag
+reason_table (NoGlyph glyph count) = Some (record { 0 = codes "maxp" })
+reason_table (NoEntries glyph) = Some (record { 0 = codes "loca" })
+reason_table (Descends glyph) = Some (record { 0 = codes "loca" })
+reason_table (Outside glyph) = Some (record { 0 = codes "glyf" })
+reason_table NoMetrics = Some (record { 0 = codes "hhea" })
+reason_table (FewMetrics count) = Some (record { 0 = codes "hhea" })
+reason_table NoUnits = Some (record { 0 = codes "head" })
+reason_table NoUnicode = Some (record { 0 = codes "cmap" })
+reason_table OnlyCff2 = Some (record { 0 = codes "CFF2" })
+reason_table (Forbidden fs_type bit) = Some (record { 0 = codes "OS/2" })
+reason_table OtherCff = Some (record { 0 = codes "CFF " })
+reason_table WrongCff = Some (record { 0 = codes "CFF " })
+reason_table (NoCharstring glyph) = Some (record { 0 = codes "CFF " })
+reason_table (WrongCharstring glyph) = Some (record { 0 = codes "CFF " })
+reason_table (Composed glyph) = Some (record { 0 = codes "CFF " })
+reason_table reason = None
+
+-- the glyph that it is about
+abbrev pub reason_glyph : Reason → Option ℕ
+reason_glyph (NoGlyph glyph count) = Some glyph
+reason_glyph (NoEntries glyph) = Some glyph
+reason_glyph (Descends glyph) = Some glyph
+reason_glyph (Outside glyph) = Some glyph
+reason_glyph (NoCharstring glyph) = Some glyph
+reason_glyph (WrongCharstring glyph) = Some glyph
+reason_glyph (Composed glyph) = Some glyph
+reason_glyph reason = None

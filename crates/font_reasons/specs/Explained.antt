@@ -1,0 +1,90 @@
+-- Why a call is refused, by its error: the first of these that is there.
+use Rattle.std.specs.Prelude.{ℕ, ◌==◌, if◌then◌else◌, Bool, true, false, List, Option, Some, None, is_some, codes}
+use Rattle.std.specs.Option.{option_and_then}
+use Rattle.subsetter_base.specs.declared.error.Error.{Error as Refusal}
+use Rattle.subsetter_base.specs.declared.error.Error.TheVariants.{UnknownKind, MalformedFont, Unimplemented, SubsetError, OverflowError, CFFError, OutOfMemory}
+use Rattle.subsetter_sfnt.specs.Fields.Head.{units_per_em}
+use Rattle.subsetter_sfnt.specs.Read.{Font, stored}
+use Rattle.cmap.specs.Subtable.{Mapping, mapping}
+use Rattle.font_reasons.specs.Charstrings.{cff_reason}
+use Rattle.font_reasons.specs.File.{or_else, no_font}
+use Rattle.font_reasons.specs.Parts.{no_table, wrong_metrics}
+use Rattle.font_reasons.specs.Request.{no_font_or_glyph, wrong_outlines, reason_of_unknown}
+use Rattle.font_reasons.specs.declared.explained.Call.{Call}
+use Rattle.font_reasons.specs.declared.explained.Call.TheVariants.{Subset, SubsetAt, Embed, EmbedAt, PdfFont, GlyphsOf, Advances}
+use Rattle.font_reasons.specs.declared.reason.Reason.{Reason}
+use Rattle.font_reasons.specs.declared.reason.Reason.TheVariants.{NoUnits, NoUnicode, OnlyCff2}
+
+-- unitsPerEm of `head` is 0 (OpenType, "head")
+abbrev pub if_no_units : ℕ → Option Reason
+if_no_units units = if units == 0 then Some NoUnits else None
+
+abbrev pub no_units : Font → Option Reason
+no_units font = option_and_then if_no_units (option_and_then units_per_em (stored font (codes "head")))
+
+-- what widths are made of: `hmtx` and `head`
+abbrev pub no_widths : Font → Option Reason
+no_widths font = or_else (no_table font (record { 0 = codes "hmtx" })) (or_else (no_table font (record { 0 = codes "head" })) (no_units font))
+
+-- what glyphs of characters are found by: a table for Unicode in `cmap`
+abbrev pub no_unicode_by : Option Mapping → Option Reason
+no_unicode_by None = Some NoUnicode
+no_unicode_by (Some found) = None
+
+unfoldable pub no_unicode : Font → Option Reason
+no_unicode font = option_and_then (λ cmap. no_unicode_by (mapping cmap)) (stored font (codes "cmap"))
+
+abbrev pub no_cmap : Font → Option Reason
+no_cmap font = no_table font (record { 0 = codes "cmap" })
+
+abbrev pub no_mapping : Font → Option Reason
+no_mapping font = or_else (no_cmap font) (no_unicode font)
+
+-- what a call needs that others don't
+unfoldable pub lacks : Call → Font → Option Reason
+lacks Subset font = None
+lacks SubsetAt font = None
+lacks Embed font = no_widths font
+lacks EmbedAt font = no_widths font
+lacks PdfFont font = no_widths font
+lacks GlyphsOf font = no_mapping font
+lacks Advances font = no_widths font
+
+-- outlines in `CFF2`, and neither in `glyf` nor in `CFF `, are taken at coordinates alone
+abbrev pub only_cff2_by : Option (List ℕ) → Option (List ℕ) → Option (List ℕ) → Option Reason
+only_cff2_by None None (Some cff2) = Some OnlyCff2
+only_cff2_by glyf cff other = None
+
+abbrev pub only_cff2 : Font → Option Reason
+only_cff2 font = only_cff2_by (stored font (codes "glyf")) (stored font (codes "CFF ")) (stored font (codes "CFF2"))
+
+abbrev pub no_coordinates : Call → Font → Option Reason
+no_coordinates Subset font = only_cff2 font
+no_coordinates Embed font = only_cff2 font
+no_coordinates other font = None
+
+-- what the tables show, but for charstrings
+abbrev pub malformed : Call → Font → List ℕ → Option Reason
+malformed call font glyphs = or_else (no_font_or_glyph font glyphs) (or_else (lacks call font) (wrong_outlines font glyphs))
+
+unfoldable pub shown : Call → Refusal → Font → List ℕ → Option Reason
+shown call UnknownKind font glyphs = reason_of_unknown font
+shown call MalformedFont font glyphs = malformed call font glyphs
+shown call Unimplemented font glyphs = no_coordinates call font
+shown call SubsetError font glyphs = None
+shown call OverflowError font glyphs = wrong_metrics font
+shown call CFFError font glyphs = None
+shown call OutOfMemory font glyphs = None
+
+-- the errors that charstrings can be why of
+abbrev pub is_of_charstrings : Refusal → Bool
+is_of_charstrings MalformedFont = true
+is_of_charstrings Unimplemented = true
+is_of_charstrings CFFError = true
+is_of_charstrings other = false
+
+abbrev pub of_charstrings : Refusal → Font → ℕ → ℕ → List ℕ → Option Reason
+of_charstrings e font tokens depth glyphs = if is_of_charstrings e then cff_reason font tokens depth glyphs else None
+
+abbrev pub explained : Call → Refusal → Font → ℕ → ℕ → List ℕ → Option Reason
+explained call e font tokens depth glyphs = or_else (shown call e font glyphs) (of_charstrings e font tokens depth glyphs)

@@ -1,0 +1,191 @@
+//! Why a call is refused, by its error.
+
+ghost use Rattle.std.specs.Prelude.{◌≡◌, IfOk, IfErr};
+ghost use Rattle.subsetter_base.specs.declared.error.Error.TheVariants.{OutOfMemory};
+ghost use Rattle.subsetter_sfnt.specs.Extras.{all_extras};
+ghost use Rattle.font_reasons.specs.Explained.{explained, is_of_charstrings, lacks, malformed, no_cmap, no_coordinates, no_mapping, no_unicode, no_units, no_widths, of_charstrings, only_cff2, shown};
+
+use crate::charstrings::cff_reason;
+use crate::parts::{no_table, wrong_metrics};
+use crate::reason::Reason;
+use crate::request::{no_font_or_glyph, reason_of_unknown, wrong_outlines};
+use cmap::find_subtable;
+use std::alloc::Global;
+use subsetter_base::{Error, Tag};
+use subsetter_sfnt::directory::table;
+use subsetter_sfnt::fields::head::units_per_em;
+use subsetter_type2::limits::Limits;
+
+/// Which call was refused.
+#[derive(Clone, Copy, PartialEq, Eq, Debug)]
+pub enum Call {
+    /// A subset.
+    Subset,
+    /// A subset at coordinates.
+    SubsetAt,
+    /// A subset with CIDs and widths.
+    Embed,
+    /// The same at coordinates.
+    EmbedAt,
+    /// A font for a PDF.
+    PdfFont,
+    /// The glyphs of characters.
+    GlyphsOf,
+    /// The advances of glyphs.
+    Advances,
+}
+
+/// Whether unitsPerEm of a face is 0.
+fn no_units(font: &[u8], index: u32) -> Option<Reason>
+    ensures { result ≡ no_units (record { bytes = font.now; index = index; extras = all_extras }) }
+{
+    let head = table(font, index, Tag::HEAD)?;
+    if units_per_em(head)? == 0 {
+        return Some(Reason::NoUnits);
+    }
+    None
+}
+
+/// Whether a face lacks what widths are made of.
+fn no_widths(font: &[u8], index: u32) -> Option<Reason>
+    ensures { result ≡ no_widths (record { bytes = font.now; index = index; extras = all_extras }) }
+{
+    no_table(font, index, Tag::HMTX).or(no_table(font, index, Tag::HEAD).or(no_units(font, index)))
+}
+
+/// Whether a face has no `cmap`.
+fn no_cmap(font: &[u8], index: u32) -> Option<Reason>
+    ensures { result ≡ no_cmap (record { bytes = font.now; index = index; extras = all_extras }) }
+{
+    no_table(font, index, Tag::new(b"cmap"))
+}
+
+/// Whether the `cmap` of a face has no table for Unicode.
+#[tactic(auto, unfolding(crate::specs::Explained::no_unicode))]
+fn no_unicode(font: &[u8], index: u32) -> Option<Reason>
+    ensures { result ≡ no_unicode (record { bytes = font.now; index = index; extras = all_extras }) }
+{
+    let cmap = table(font, index, Tag::new(b"cmap"))?;
+    match find_subtable(cmap) {
+        Some(_) => None,
+        None => Some(Reason::NoUnicode),
+    }
+}
+
+/// Whether a face lacks what glyphs of characters are found by.
+fn no_mapping(font: &[u8], index: u32) -> Option<Reason>
+    ensures { result ≡ no_mapping (record { bytes = font.now; index = index; extras = all_extras }) }
+{
+    no_cmap(font, index).or(no_unicode(font, index))
+}
+
+/// Whether a face lacks what this call needs and others don't.
+#[tactic(auto, unfolding(crate::specs::Explained::lacks))]
+fn lacks(call: Call, font: &[u8], index: u32) -> Option<Reason>
+    ensures { result ≡ lacks call (record { bytes = font.now; index = index; extras = all_extras }) }
+{
+    match call {
+        Call::Subset | Call::SubsetAt => None,
+        Call::GlyphsOf => no_mapping(font, index),
+        Call::Embed | Call::EmbedAt | Call::PdfFont | Call::Advances => no_widths(font, index),
+    }
+}
+
+/// Whether the outlines of a face are those of `CFF2` alone.
+fn only_cff2(font: &[u8], index: u32) -> Option<Reason>
+    ensures { result ≡ only_cff2 (record { bytes = font.now; index = index; extras = all_extras }) }
+{
+    let outlines = (
+        table(font, index, Tag::GLYF),
+        table(font, index, Tag::CFF),
+        table(font, index, Tag::CFF2),
+    );
+    match outlines {
+        (None, None, Some(_)) => Some(Reason::OnlyCff2),
+        _ => None,
+    }
+}
+
+/// The same, where the call is none at coordinates.
+fn no_coordinates(call: Call, font: &[u8], index: u32) -> Option<Reason>
+    ensures { result ≡ no_coordinates call (record { bytes = font.now; index = index; extras = all_extras }) }
+{
+    match call {
+        Call::Subset | Call::Embed => only_cff2(font, index),
+        _ => None,
+    }
+}
+
+/// Why a face is malformed, but for charstrings.
+fn malformed(call: Call, font: &[u8], index: u32, glyphs: &[u16]) -> Option<Reason>
+    ensures { result ≡ malformed call (record { bytes = font.now; index = index; extras = all_extras }) glyphs.now }
+{
+    let lacking = lacks(call, font, index).or(wrong_outlines(font, index, glyphs));
+    no_font_or_glyph(font, index, glyphs).or(lacking)
+}
+
+/// What the tables show, but for charstrings.
+#[tactic(auto, unfolding(crate::specs::Explained::shown))]
+fn shown(call: Call, error: Error, font: &[u8], index: u32, glyphs: &[u16]) -> Option<Reason>
+    ensures { result ≡ shown call error (record { bytes = font.now; index = index; extras = all_extras }) glyphs.now }
+{
+    match error {
+        Error::UnknownKind => reason_of_unknown(font, index),
+        Error::MalformedFont => malformed(call, font, index, glyphs),
+        Error::Unimplemented => no_coordinates(call, font, index),
+        Error::OverflowError => wrong_metrics(font, index),
+        _ => None,
+    }
+}
+
+/// Whether charstrings can be why of an error.
+fn is_of_charstrings(error: Error) -> bool
+    ensures { result ≡ is_of_charstrings error }
+{
+    match error {
+        Error::MalformedFont | Error::Unimplemented | Error::CFFError => true,
+        _ => false,
+    }
+}
+
+/// What charstrings show.
+fn of_charstrings(
+    alloc: Global,
+    error: Error,
+    font: &[u8],
+    index: u32,
+    limits: &Limits,
+    glyphs: &[u16],
+) -> Result<Option<Reason>, Error>
+    ensures ok { IfOk result (λ r. r ≡ of_charstrings error (record { bytes = font.now; index = index; extras = all_extras }) limits.now.tokens limits.now.depth glyphs.now) }
+    ensures err { IfErr result (λ e. e ≡ OutOfMemory) }
+{
+    if is_of_charstrings(error) {
+        return cff_reason(alloc, font, index, limits, glyphs);
+    }
+    Ok(None)
+}
+
+/// Why a call on these glyphs is refused with an error, if the font shows it. A charstring of `CFF ` is run within the limits of the
+/// call, at most once, and none after the first that can't be.
+///
+/// # Errors
+///
+/// `OutOfMemory` alone.
+pub fn explain(
+    alloc: Global,
+    call: Call,
+    error: Error,
+    font: &[u8],
+    index: u32,
+    glyphs: &[u16],
+    limits: &Limits,
+) -> Result<Option<Reason>, Error>
+    ensures ok { IfOk result (λ r. r ≡ explained call error (record { bytes = font.now; index = index; extras = all_extras }) limits.now.tokens limits.now.depth glyphs.now) }
+    ensures err { IfErr result (λ e. e ≡ OutOfMemory) }
+{
+    match shown(call, error, font, index, glyphs) {
+        Some(reason) => Ok(Some(reason)),
+        None => of_charstrings(alloc, error, font, index, limits, glyphs),
+    }
+}

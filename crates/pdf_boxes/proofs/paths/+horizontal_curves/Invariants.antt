@@ -1,5 +1,0 @@
-use Rattle.std.proofs.Common.{length}
-use Rattle.pdf_boxes.proofs.paths.+horizontal_curves.Given as goal
-
-abbrev pub decreases-horizontal_curves : goal.decreases-horizontal_curves
-decreases-horizontal_curves l = length l.operands.now

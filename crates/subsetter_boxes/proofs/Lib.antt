@@ -1,0 +1,10 @@
+mod Around
+mod CurvePoints
+mod Edges
+pub mod Fitting
+mod Followed
+mod Fronts
+mod Runs
+mod Shapes
+mod Turns
+mod Walks

@@ -1,0 +1,12 @@
+use Rattle.std.proofs.Common.{arith, ℤ, List, FitsSigned, w64, get_or, pos, ap, ◌∙◌, rules}
+use Rattle.std.proofs.lemmas.Int.{to_z-of_z}
+use Rattle.subsetter_blend.specs.Drawn.{lines_curve}
+use Rattle.subsetter_boxes.specs.Traced.{traced}
+use Rattle.subsetter_boxes.proofs.Walks.{lines_curve_go, rest_all}
+use Rattle.subsetter_boxes.proofs.paths.+lines_curve.Goals as goal
+
+pub returns-in_ok-go-in-len2-up-clause-value : goal.returns-in_ok-go-in-len2-up-clause-value
+returns-in_ok-go-in-len2-up-clause-value t c =
+    let f0 : FitsSigned w64 (get_or c.args.operands.now 0 (pos 0)) = search rules in
+    let f1 : FitsSigned w64 (get_or c.args.operands.now 1 (pos 0)) = search rules in
+    lines_curve_go c.args.pen c.in_ok-go-in-len2-up.field-0 c.args.operands.now c.lines_curve.result c.in-len2-up.len_at_least (λ e. omega (arith, e)) (simp to_z-of_z at c.in_ok-go-in-len2-up.ensures.value) (simp to_z-of_z at c.in_ok-go-in-len2-up.ensures.at) (c.lines_curve.ensures.value ∙ ap (λ (l : List ℤ). traced (lines_curve c.in_ok-go-in-len2-up.field-0.at l) c.in_ok-go-in-len2-up.field-0) (rest_all 2 c.args.operands.now))

@@ -1,0 +1,25 @@
+use Rattle.std.proofs.Common.{ℤ, List, FitsSigned, w64, get_or, pos, ap, ◌∙◌, rules, true, refl}
+use Rattle.std.proofs.lemmas.Int.{to_z-of_z}
+use Rattle.subsetter_blend.specs.Drawn.{vertical_curves}
+use Rattle.subsetter_boxes.specs.Traced.{traced}
+use Rattle.subsetter_boxes.proofs.Turns.{vv_go, vv_lost}
+use Rattle.subsetter_boxes.proofs.Walks.{rest_all}
+use Rattle.subsetter_boxes.proofs.paths.shifted_curves.Goals as goal
+
+pub returns-in_ok-curve-in-len5-up-clause-value : goal.returns-in_ok-curve-in-len5-up-clause-value
+returns-in_ok-curve-in-len5-up-clause-value c =
+    let f0 : FitsSigned w64 (get_or c.args.operands.now 0 (pos 0)) = search rules in
+    let f1 : FitsSigned w64 (get_or c.args.operands.now 1 (pos 0)) = search rules in
+    let f2 : FitsSigned w64 (get_or c.args.operands.now 2 (pos 0)) = search rules in
+    let f3 : FitsSigned w64 (get_or c.args.operands.now 3 (pos 0)) = search rules in
+    let f4 : FitsSigned w64 (get_or c.args.operands.now 4 (pos 0)) = search rules in
+    vv_go c.args.pen c.in_ok-curve-in-len5-up.field-0 c.args.operands.now true c.vertical_curves.result refl c.in-len5-up.len_at_least (simp to_z-of_z at c.in_ok-curve-in-len5-up.ensures.value) (c.vertical_curves.ensures.value ∙ ap (λ (l : List ℤ). traced (vertical_curves c.in_ok-curve-in-len5-up.field-0.at l) c.in_ok-curve-in-len5-up.field-0) (rest_all 5 c.args.operands.now))
+
+pub returns-in_err-curve-in-len5-up-clause-value : goal.returns-in_err-curve-in-len5-up-clause-value
+returns-in_err-curve-in-len5-up-clause-value c =
+    let f0 : FitsSigned w64 (get_or c.args.operands.now 0 (pos 0)) = search rules in
+    let f1 : FitsSigned w64 (get_or c.args.operands.now 1 (pos 0)) = search rules in
+    let f2 : FitsSigned w64 (get_or c.args.operands.now 2 (pos 0)) = search rules in
+    let f3 : FitsSigned w64 (get_or c.args.operands.now 3 (pos 0)) = search rules in
+    let f4 : FitsSigned w64 (get_or c.args.operands.now 4 (pos 0)) = search rules in
+    rw c.from_residual.ensures (vv_lost c.args.pen c.args.operands.now true refl c.in-len5-up.len_at_least (simp to_z-of_z at c.in_err-curve-in-len5-up.ensures.value))

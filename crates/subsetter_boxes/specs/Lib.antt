@@ -1,0 +1,3 @@
+pub mod CharstringBox
+pub mod Joined
+pub mod Traced

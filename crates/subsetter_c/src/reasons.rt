@@ -1,0 +1,164 @@
+//! Why a call was refused, in words.
+
+ghost use Rattle.std.specs.Prelude.{◌≡◌, ◌<◌, ◌≤◌, Err, MatchOption, IfOk, IfErr, string_bytes};
+ghost use Rattle.subsetter_base.specs.declared.error.Error.TheVariants.{OutOfMemory};
+ghost use Rattle.subsetter.specs.Limits.{token_limit, depth_limit};
+ghost use Rattle.subsetter_sfnt.specs.Extras.{all_extras};
+ghost use Rattle.subsetter_c.specs.Answers.Handed.{IsHandedOver, IsNothingHanded};
+ghost use Rattle.subsetter_c.specs.Answers.Status.{unknown_option};
+ghost use Rattle.subsetter_c.specs.Options.{or_default};
+ghost use Rattle.subsetter_c.specs.Reasons.{IsTextAnswered, call_named, error_of, explained_text, reason_by, text_of};
+
+use crate::answers::handing::hand_bytes;
+use crate::answers::status::{NOT_PERMITTED, UNKNOWN_OPTION, status_of};
+use crate::options::or_default;
+use font_reasons::{Call, Reason, explain, find_prohibition};
+use std::alloc::{AllocError, Global};
+use subsetter::{Error, Limits};
+
+/// The call of a number; none of another.
+fn call_of(number: u32) -> Option<Call>
+    ensures { MatchOption result (7 ≤ number) (λ call. (number < 7) × (call ≡ call_named number)) }
+{
+    match number {
+        0 => Some(Call::Subset),
+        1 => Some(Call::SubsetAt),
+        2 => Some(Call::Embed),
+        3 => Some(Call::EmbedAt),
+        4 => Some(Call::PdfFont),
+        5 => Some(Call::GlyphsOf),
+        6 => Some(Call::Advances),
+        _ => None,
+    }
+}
+
+/// The error of a status, if it is that of one.
+fn error_of(status: u32) -> Option<Error>
+    ensures { result ≡ error_of status }
+{
+    match status {
+        1 => Some(Error::UnknownKind),
+        2 => Some(Error::MalformedFont),
+        3 => Some(Error::Unimplemented),
+        4 => Some(Error::SubsetError),
+        5 => Some(Error::OverflowError),
+        6 => Some(Error::CFFError),
+        _ => None,
+    }
+}
+
+/// A depth, where 0 stands for the default.
+fn depth_of(depth: u8) -> u8
+    ensures { result ≡ or_default depth depth_limit }
+{
+    if depth == 0 { 64 } else { depth }
+}
+
+/// So many tokens and such a depth, where 0 stands for the default.
+fn limits_of(tokens: u32, depth: u8) -> Limits
+    ensures tokens { result.tokens ≡ or_default tokens token_limit }
+    ensures depth { result.depth ≡ or_default depth depth_limit }
+{
+    match Limits::new(or_default(tokens, 1_000_000), depth_of(depth)) {
+        Some(limits) => limits,
+        None => Limits::default(),
+    }
+}
+
+/// Why a call is refused with a status, if the font shows it.
+fn reason_by(
+    alloc: Global,
+    call: Call,
+    status: u32,
+    font: &[u8],
+    index: u32,
+    glyphs: &[u16],
+    limits: &Limits,
+) -> Result<Option<Reason>, Error>
+    ensures ok { IfOk result (λ r. r ≡ reason_by call status (record { bytes = font.now; index = index; extras = all_extras }) limits.now.tokens limits.now.depth glyphs.now) }
+    ensures err { IfErr result (λ e. e ≡ OutOfMemory) }
+{
+    if status == NOT_PERMITTED {
+        return Ok(find_prohibition(font, index));
+    }
+    match error_of(status) {
+        Some(error) => explain(alloc, call, error, font, index, glyphs, limits),
+        None => Ok(None),
+    }
+}
+
+/// The text of a reason; an empty one of none.
+fn text_of(alloc: Global, reason: Option<Reason>) -> Result<String, AllocError>
+    ensures { IfOk result (λ text. string_bytes text ≡ text_of reason) }
+{
+    match reason {
+        Some(reason) => format!(in alloc; "{reason}"),
+        None => String::from_str(alloc, ""),
+    }
+}
+
+/// The text of why a call is refused with a status.
+fn text_by(
+    alloc: Global,
+    call: Call,
+    status: u32,
+    font: &[u8],
+    index: u32,
+    glyphs: &[u16],
+    tokens: u32,
+    depth: u8,
+) -> Result<String, Error>
+    ensures ok { IfOk result (λ text. string_bytes text ≡ explained_text call status (record { bytes = font.now; index = index; extras = all_extras }) (or_default tokens token_limit) (or_default depth depth_limit) glyphs.now) }
+    ensures err { IfErr result (λ e. e ≡ OutOfMemory) }
+{
+    let limits = limits_of(tokens, depth);
+    let reason = reason_by(alloc, call, status, font, index, glyphs, &limits)?;
+    Ok(text_of(alloc, reason)?)
+}
+
+/// Hands a text over, or the error: the status.
+fn hand_text(answer: Result<String, Error>, buffer: &mut [u8], told: &mut usize) -> u32
+    ensures { IsHandedOver (IsTextAnswered answer) (λ e. answer ≡ Err e) buffer.old buffer.new told.new result }
+{
+    match answer {
+        Ok(text) => hand_bytes(text.as_bytes(), buffer, told),
+        Err(error) => {
+            *told = 0;
+            status_of(error)
+        }
+    }
+}
+
+/// Why a call is refused with a status, as the font shows it, in the caller's buffer: UTF-8 without a zero at its end, and nothing
+/// where the font doesn't show it. Charstrings are run within so many tokens and to such a depth, each at most once.
+///
+/// Status 0: the first bytes of `out` are the text, and `length` is their count. Status 8: `out` is too small and unchanged, and
+/// `length` is the exact size. Status 7: memory ran out; status 10: the call is unknown; `out` is unchanged, and `length` is 0.
+#[unsafe(no_mangle)]
+pub extern "C" fn subsetter_explain(
+    alloc: Global,
+    call: u32,
+    status: u32,
+    font: &[u8],
+    index: u32,
+    glyphs: &[u16],
+    tokens: u32,
+    depth: u8,
+    out: &mut [u8],
+    length: &mut usize,
+) -> u32
+    ensures unknown { 7 ≤ call → IsNothingHanded unknown_option out.old out.new length.new result }
+    ensures text { call < 7 → IsHandedOver (λ text. text ≡ explained_text (call_named call) status (record { bytes = font.now; index = index; extras = all_extras }) (or_default tokens token_limit) (or_default depth depth_limit) glyphs.now) (λ e. e ≡ OutOfMemory) out.old out.new length.new result }
+{
+    match call_of(call) {
+        Some(call) => hand_text(
+            text_by(alloc, call, status, font, index, glyphs, tokens, depth),
+            out,
+            length,
+        ),
+        None => {
+            *length = 0;
+            UNKNOWN_OPTION
+        }
+    }
+}
