@@ -41,7 +41,7 @@ test("the page in one file, in Chromium", () => {
     const folder = mkdtempSync(join(tmpdir(), "chromium-")), words = ["--headless", "--no-sandbox", "--disable-gpu", `--user-data-dir=${folder}/profile`];
     try {
         writeFileSync(join(folder, "page.html"), readFileSync(path("bindings/js/out/page.html"), "utf8") + DROP);
-        const found = execFileSync("chromium", [...words, "--virtual-time-budget=20000", "--dump-dom", `file://${folder}/page.html`], { stdio: ["ignore", "pipe", "ignore"] }).toString();
+        const found = execFileSync("chromium", [...words, "--virtual-time-budget=200000", "--dump-dom", `file://${folder}/page.html`], { stdio: ["ignore", "pipe", "ignore"] }).toString();
         assert.match(found, /<p id="said" role="status">made\.ttf has \d+ bytes, the PDF \d+, the subset \d+\. The font has no e l/);
         assert.equal(found.match(/<a id="(pdf|subset)" href="blob:[^"]+" download="made(\.pdf|-subset\.ttf)">/g).length, 2);
         assert.match(found, /<iframe id="shown" title="The PDF" src="blob:/);

@@ -11,7 +11,7 @@ use Rattle.pdf_runs.specs.declared.pieces.Figure.TheVariants.{Source, Blank}
 use Rattle.pdf_runs.specs.declared.pieces.Piece.{Piece}
 use Rattle.pdf_runs.specs.Codes.{is_zeroth, pair_of, same, same_character, same_figure, zeroth}
 use Rattle.pdf_operators.specs.Reading.{figure_in}
-use Rattle.pdf_operators.specs.Runs.{code_of, or_zero}
+use Rattle.pdf_operators.specs.Operators.{code_of, or_zero}
 
 -- ---- equal pairs
 
@@ -52,7 +52,7 @@ found [] q s = absurd cc
 found (y ∷ ys) q s =
     found_by (same y q) ys q y refl (λ n e. sym (ap (λ (o : Option ℕ). get_or ys (or_zero o) zeroth) e) ∙ found ys q (some_is (index_by same ys q) n e)) s
 
-pub pair_found : (pairs : List Pair) (p : Piece) → is_some (index_by same pairs (pair_of p)) ≡ true → get_or pairs (code_of pairs p) zeroth ≡ pair_of p
+pub pair_found : (pairs : List Pair) (p : Piece) → is_some (index_by same pairs (pair_of p)) ≡ true → get_or pairs (code_of pairs (pair_of p)) zeroth ≡ pair_of p
 pair_found pairs p s = found pairs (pair_of p) s
 
 figure_by : (b : Bool) (g : ℕ) (s : Option ℕ) → (g == 0) ≡ b → (if b then zeroth else record { figure = Source g; says = s }).figure ≡ Source g
@@ -63,7 +63,7 @@ pair_figure : (f : Figure) (s : Option ℕ) → (if is_zeroth f then zeroth else
 pair_figure (Source g) s = figure_by (g == 0) g s refl
 pair_figure Blank s = refl
 
-pub figure_found : (pairs : List Pair) (p : Piece) → is_some (index_by same pairs (pair_of p)) ≡ true → figure_in pairs (code_of pairs p) ≡ p.figure
+pub figure_found : (pairs : List Pair) (p : Piece) → is_some (index_by same pairs (pair_of p)) ≡ true → figure_in pairs (code_of pairs (pair_of p)) ≡ p.figure
 figure_found pairs p s = ap (λ (q : Pair). q.figure) (pair_found pairs p s) ∙ pair_figure p.figure p.says
 
 -- ---- pieces, one behind the other

@@ -1,9 +1,12 @@
 pub mod ReadLaws
 pub mod Spans
 pub mod Coded
+pub mod PartLaws
 pub mod PlaceLaws
 pub mod TextLaws
-pub mod Writable
+pub mod Elements
+pub mod Shown
 pub mod EndLaws
 pub mod RunSteps
 pub mod Near
+pub mod PenSteps

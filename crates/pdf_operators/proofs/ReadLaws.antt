@@ -22,8 +22,9 @@ use Rattle.pdf_text.proofs.TokenLaws.Tokens.{IsDark, dark, first_token, digits_d
 use Rattle.pdf_text.proofs.CmapsLaws.CmapLaws.Tokens.{hex_dark}
 use Rattle.pdf_text.proofs.CmapsLaws.CmapLaws.Units.{units_read}
 use Rattle.pdf_text.proofs.MetricsLaws.ColumnLaws.Text.{integer_read}
-use Rattle.pdf_operators.specs.Operators.{Act, back, begin, closing, finish, raise, show, is_joined, millionths, opening, own_text, six_digits, units_of, written}
-use Rattle.pdf_operators.specs.Content.{AreRead, IsWritable, Mark, actual, code, element_by, element_in, ended, fraction_in, is_letter, is_operator, marks_of, number, numbers, parts_in, real_in, rise, said_from, said_in, sized, text_by, unsigned_in}
+use Rattle.pdf_runs.specs.declared.codes.Pair.{Pair}
+use Rattle.pdf_operators.specs.Operators.{Act, back, begin, closing, code_of, finish, raise, show, is_joined, millionths, opening, operators, own_text, six_digits, units_of, written}
+use Rattle.pdf_operators.specs.Content.{IsWritable, Mark, actual, code, element_by, element_in, ended, fraction_in, is_letter, is_operator, marks_of, number, numbers, parts_in, real_in, rise, said_from, said_in, sized, text_by, unsigned_in}
 
 -- ---- an operand
 
@@ -279,7 +280,7 @@ other_read z cs own rest ms more l h e =
     ∙ closed z cs (own ++ rest) l h
     ∙ ap (λ (m : List Mark). seen z cs ++ m) e
 
-words_joined : (xs ys : List ℕ) → words (xs ++ ys) ≡ words xs ++ words ys
+pub words_joined : (xs ys : List ℕ) → words (xs ++ ys) ≡ words xs ++ words ys
 words_joined [] ys = refl
 words_joined (x ∷ xs) ys = ap (λ (l : List ℕ). word x ++ l) (words_joined xs ys) ∙ sym (append_assoc (word x) (words xs) (words ys))
 
@@ -302,22 +303,22 @@ seen_more z d ds c more =
     ∙ append_assoc (seen z (d ∷ ds)) (code c ∷ []) more
 
 -- what is read where operations follow
-abbrev AreReadAfter : ℕ → List Act → Type 0
-AreReadAfter size ops = (z : ℤ) (cs : List ℕ) → unsigned_abs z < 2 ^ 64 → All (λ c. c < 65536) cs → said_in (front z cs ++ written size (length cs) ops) ≡ seen z cs ++ flat_map (marks_of size) ops
+abbrev AreReadAfter : ℕ → List Pair → List Act → Type 0
+AreReadAfter size pairs ops = (z : ℤ) (cs : List ℕ) → unsigned_abs z < 2 ^ 64 → All (λ c. c < 65536) cs → said_in (front z cs ++ written size pairs (length cs) ops) ≡ seen z cs ++ flat_map (marks_of size pairs) ops
 
 nothing_before : (b : Bool) (z : ℤ) (more : List Mark) → b ≡ true → (if b then [] else number z ∷ []) ++ more ≡ more
 nothing_before true z more e = refl
 nothing_before false z more e = absurd cc
 
-joined_read : (size : ℕ) (ops : List Act) (z : ℤ) (cs : List ℕ) (q : ℤ) (c : ℕ) → unsigned_abs z < 2 ^ 64 → All (λ c. c < 65536) cs → c < 65536 → AreReadAfter size ops → is_joined (length cs) q ≡ true
-    → said_in (front z cs ++ (word c ++ written size (length cs + 1) ops)) ≡ seen z cs ++ ((numbers q ++ code c ∷ []) ++ flat_map (marks_of size) ops)
-joined_read size ops z [] q c l h lc ih e = absurd cc
-joined_read size ops z (d ∷ ds) q c l h lc ih e =
-    let more : List Mark = flat_map (marks_of size) ops in
+joined_read : (size : ℕ) (pairs : List Pair) (ops : List Act) (z : ℤ) (cs : List ℕ) (q : ℤ) (c : ℕ) → unsigned_abs z < 2 ^ 64 → All (λ c. c < 65536) cs → c < 65536 → AreReadAfter size pairs ops → is_joined (length cs) q ≡ true
+    → said_in (front z cs ++ (word c ++ written size pairs (length cs + 1) ops)) ≡ seen z cs ++ ((numbers q ++ code c ∷ []) ++ flat_map (marks_of size pairs) ops)
+joined_read size pairs ops z [] q c l h lc ih e = absurd cc
+joined_read size pairs ops z (d ∷ ds) q c l h lc ih e =
+    let more : List Mark = flat_map (marks_of size pairs) ops in
     let n : length (d ∷ ds) + 1 ≡ length (d ∷ (ds ++ c ∷ [])) = omega (arith, length-append ds (c ∷ [])) in
     let none : int_eq q (pos 0) ≡ true = (and_parts (nat_lt (length (d ∷ ds)) 16383) (int_eq q (pos 0)) (and_parts (nat_lt 0 (length (d ∷ ds))) _ e).1).1 in
-    ap said_in (front_more z d ds c (written size (length (d ∷ ds) + 1) ops))
-    ∙ ap (λ (k : ℕ). said_in (front z (d ∷ (ds ++ c ∷ [])) ++ written size k ops)) n
+    ap said_in (front_more z d ds c (written size pairs (length (d ∷ ds) + 1) ops))
+    ∙ ap (λ (k : ℕ). said_in (front z (d ∷ (ds ++ c ∷ [])) ++ written size pairs k ops)) n
     ∙ ih z (d ∷ (ds ++ c ∷ [])) l (All-end (d ∷ ds) c h lc)
     ∙ seen_more z d ds c more
     ∙ ap (λ (m : List Mark). seen z (d ∷ ds) ++ m) (sym (append_assoc (numbers q) (code c ∷ []) more ∙ nothing_before (int_eq q (pos 0)) q (code c ∷ more) none))
@@ -325,36 +326,36 @@ joined_read size ops z (d ∷ ds) q c l h lc ih e =
 begun_regrouped : (a w rest : List ℕ) → (a ++ w) ++ rest ≡ (a ++ (w ++ [])) ++ rest
 begun_regrouped a w rest = ap (λ (l : List ℕ). (a ++ l) ++ rest) (sym (append-nil w))
 
-show_read : (b : Bool) (size : ℕ) (ops : List Act) (z : ℤ) (cs : List ℕ) (q : ℤ) (c : ℕ) → unsigned_abs z < 2 ^ 64 → All (λ c. c < 65536) cs → unsigned_abs q < 2 ^ 64 → c < 65536 → AreReadAfter size ops → is_joined (length cs) q ≡ b
-    → said_in (front z cs ++ ((if b then word c else closing (length cs) ++ (opening q ++ word c)) ++ written size (if b then length cs + 1 else 1) ops)) ≡ seen z cs ++ ((numbers q ++ code c ∷ []) ++ flat_map (marks_of size) ops)
-show_read true size ops z cs q c l h lb lc ih e = joined_read size ops z cs q c l h lc ih e
-show_read false size ops z cs q c l h lb lc ih e =
-    other_read z cs (opening q ++ word c) (written size 1 ops) (numbers q ++ code c ∷ []) (flat_map (marks_of size) ops) l h
-    (ap said_in (begun_regrouped (opening q) (word c) (written size 1 ops))
+show_read : (b : Bool) (size : ℕ) (pairs : List Pair) (ops : List Act) (z : ℤ) (cs : List ℕ) (q : ℤ) (c : ℕ) → unsigned_abs z < 2 ^ 64 → All (λ c. c < 65536) cs → unsigned_abs q < 2 ^ 64 → c < 65536 → AreReadAfter size pairs ops → is_joined (length cs) q ≡ b
+    → said_in (front z cs ++ ((if b then word c else closing (length cs) ++ (opening q ++ word c)) ++ written size pairs (if b then length cs + 1 else 1) ops)) ≡ seen z cs ++ ((numbers q ++ code c ∷ []) ++ flat_map (marks_of size pairs) ops)
+show_read true size pairs ops z cs q c l h lb lc ih e = joined_read size pairs ops z cs q c l h lc ih e
+show_read false size pairs ops z cs q c l h lb lc ih e =
+    other_read z cs (opening q ++ word c) (written size pairs 1 ops) (numbers q ++ code c ∷ []) (flat_map (marks_of size pairs) ops) l h
+    (ap said_in (begun_regrouped (opening q) (word c) (written size pairs 1 ops))
     ∙ ih q (c ∷ []) lb (All-cons (λ c. c < 65536) c [] lc (All-nil (λ c. c < 65536))))
 
-all_read : (size : ℕ) (ops : List Act) → All (IsWritable size) ops → AreReadAfter size ops
-all_read size [] w z cs l h =
+all_read : (size : ℕ) (pairs : List Pair) (ops : List Act) → All (IsWritable size pairs) ops → AreReadAfter size pairs ops
+all_read size pairs [] w z cs l h =
     ap (λ (t : List ℕ). said_in (front z cs ++ t)) (sym (append-nil (closing (length cs)))) ∙ closed z cs [] l h
-all_read size (begin text ∷ ops) w z cs l h =
-    other_read z cs (own_text size (begin text)) (written size 0 ops) (marks_of size (begin text)) (flat_map (marks_of size) ops) l h
-    (span_read (units_of text) (written size 0 ops) (units_small text (All-head (IsWritable size) (begin text) ops w))
-    ∙ ap (λ (m : List Mark). actual (units_of text) ∷ m) (all_read size ops (All-tail (IsWritable size) (begin text) ops w) (pos 0) [] (omega arith) (All-nil (λ c. c < 65536))))
-all_read size (finish ∷ ops) w z cs l h =
-    other_read z cs (own_text size finish) (written size 0 ops) (marks_of size finish) (flat_map (marks_of size) ops) l h
-    (ap (λ (m : List Mark). ended ∷ m) (all_read size ops (All-tail (IsWritable size) finish ops w) (pos 0) [] (omega arith) (All-nil (λ c. c < 65536))))
-all_read size (raise r ∷ ops) w z cs l h =
-    other_read z cs (own_text size (raise r)) (written size 0 ops) (marks_of size (raise r)) (flat_map (marks_of size) ops) l h
-    (rise_read r (unsigned_abs r * size) (written size 0 ops) (All-head (IsWritable size) (raise r) ops w)
-    ∙ ap (λ (m : List Mark). rise (sized r (unsigned_abs r * size)) ∷ m) (all_read size ops (All-tail (IsWritable size) (raise r) ops w) (pos 0) [] (omega arith) (All-nil (λ c. c < 65536))))
-all_read size (show q c ∷ ops) w z cs l h =
-    let own = All-head (IsWritable size) (show q c) ops w in
-    show_read (is_joined (length cs) q) size ops z cs q c l h own.0 own.1 (all_read size ops (All-tail (IsWritable size) (show q c) ops w)) refl
-all_read size (back b ∷ ops) w z cs l h =
-    other_read z cs (own_text size (back b)) (written size 0 ops) (marks_of size (back b)) (flat_map (marks_of size) ops) l h
-    (ap said_in (back_regrouped (signed_decimal b) (written size 0 ops))
-    ∙ number_array b (written size 0 ops) (All-head (IsWritable size) (back b) ops w)
-    ∙ ap (λ (m : List Mark). number b ∷ m) (all_read size ops (All-tail (IsWritable size) (back b) ops w) (pos 0) [] (omega arith) (All-nil (λ c. c < 65536))))
+all_read size pairs (begin text ∷ ops) w z cs l h =
+    other_read z cs (own_text size pairs (begin text)) (written size pairs 0 ops) (marks_of size pairs (begin text)) (flat_map (marks_of size pairs) ops) l h
+    (span_read (units_of text) (written size pairs 0 ops) (units_small text (All-head (IsWritable size pairs) (begin text) ops w))
+    ∙ ap (λ (m : List Mark). actual (units_of text) ∷ m) (all_read size pairs ops (All-tail (IsWritable size pairs) (begin text) ops w) (pos 0) [] (omega arith) (All-nil (λ c. c < 65536))))
+all_read size pairs (finish ∷ ops) w z cs l h =
+    other_read z cs (own_text size pairs finish) (written size pairs 0 ops) (marks_of size pairs finish) (flat_map (marks_of size pairs) ops) l h
+    (ap (λ (m : List Mark). ended ∷ m) (all_read size pairs ops (All-tail (IsWritable size pairs) finish ops w) (pos 0) [] (omega arith) (All-nil (λ c. c < 65536))))
+all_read size pairs (raise r ∷ ops) w z cs l h =
+    other_read z cs (own_text size pairs (raise r)) (written size pairs 0 ops) (marks_of size pairs (raise r)) (flat_map (marks_of size pairs) ops) l h
+    (rise_read r (unsigned_abs r * size) (written size pairs 0 ops) (All-head (IsWritable size pairs) (raise r) ops w)
+    ∙ ap (λ (m : List Mark). rise (sized r (unsigned_abs r * size)) ∷ m) (all_read size pairs ops (All-tail (IsWritable size pairs) (raise r) ops w) (pos 0) [] (omega arith) (All-nil (λ c. c < 65536))))
+all_read size pairs (show q p ∷ ops) w z cs l h =
+    let own = All-head (IsWritable size pairs) (show q p) ops w in
+    show_read (is_joined (length cs) q) size pairs ops z cs q (code_of pairs p) l h own.0 own.1 (all_read size pairs ops (All-tail (IsWritable size pairs) (show q p) ops w)) refl
+all_read size pairs (back b ∷ ops) w z cs l h =
+    other_read z cs (own_text size pairs (back b)) (written size pairs 0 ops) (marks_of size pairs (back b)) (flat_map (marks_of size pairs) ops) l h
+    (ap said_in (back_regrouped (signed_decimal b) (written size pairs 0 ops))
+    ∙ number_array b (written size pairs 0 ops) (All-head (IsWritable size pairs) (back b) ops w)
+    ∙ ap (λ (m : List Mark). number b ∷ m) (all_read size pairs ops (All-tail (IsWritable size pairs) (back b) ops w) (pos 0) [] (omega arith) (All-nil (λ c. c < 65536))))
 
-pub operators_are_read : AreRead
-operators_are_read size ops w = all_read size ops w (pos 0) [] (omega arith) (All-nil (λ c. c < 65536))
+pub operators_are_read : (size : ℕ) (pairs : List Pair) (acts : List Act) → All (IsWritable size pairs) acts → said_in (operators size pairs acts) ≡ flat_map (marks_of size pairs) acts
+operators_are_read size pairs ops w = all_read size pairs ops w (pos 0) [] (omega arith) (All-nil (λ c. c < 65536))

@@ -1,5 +1,5 @@
 -- What a content stream says (ISO 32000-1, 7.8.2): strings and numbers of TJ, the text rise, and spans with an ActualText.
-use Rattle.std.specs.Prelude.{◌≡◌, ◌<◌, ℕ, ◌-◌, ◌+◌, ◌*◌, ◌^◌, ◌==◌, ◌&&◌, ◌||◌, nat_le, Bool, false, if◌then◌else◌, List, [], ◌∷◌, ◌++◌, map, length, All, option_to_list, codes, Option, Some, None, ℤ, pos, negsuc, neg_ℤ, unsigned_abs}
+use Rattle.std.specs.Prelude.{◌<◌, ℕ, ◌-◌, ◌+◌, ◌*◌, ◌^◌, ◌==◌, ◌&&◌, ◌||◌, nat_le, Bool, false, if◌then◌else◌, List, [], ◌∷◌, ◌++◌, map, length, All, option_to_list, codes, Option, Some, None, ℤ, pos, negsuc, neg_ℤ, unsigned_abs}
 use Rattle.std.specs.List.{flat_map, slice_split}
 use Rattle.std.specs.Option.{option_map}
 use Rattle.std.specs.Ordering.{int_eq}
@@ -8,7 +8,8 @@ use Rattle.std.specs.Str.Parse.{digits_value}
 use Rattle.pdf_text.specs.Cmaps.Cmap.{hex_in}
 use Rattle.pdf_text.specs.Metrics.Columns.{integer_in}
 use Rattle.pdf_text.specs.Tokens.{tokens}
-use Rattle.pdf_operators.specs.Operators.{Act, back, begin, finish, operators, raise, show, units_of}
+use Rattle.pdf_runs.specs.declared.codes.Pair.{Pair}
+use Rattle.pdf_operators.specs.Operators.{Act, back, begin, code_of, finish, raise, show, units_of}
 
 pub data Mark : Type 0 where
   number : ℤ → Mark
@@ -78,7 +79,7 @@ said_from operands (t ∷ ts) = if is_operator t then said_by t operands ++ said
 abbrev pub said_in : List ℕ → List Mark
 said_in text = said_from [] (tokens text)
 
--- ---- the law
+-- ---- what operations say
 
 abbrev pub numbers : ℤ → List Mark
 numbers z = if int_eq z (pos 0) then [] else number z ∷ []
@@ -88,20 +89,17 @@ abbrev pub sized : ℤ → ℕ → ℤ
 sized (pos k) n = pos n
 sized (negsuc k) n = neg_ℤ (pos n)
 
-abbrev pub marks_of : ℕ → Act → List Mark
-marks_of size (begin text) = actual (units_of text) ∷ []
-marks_of size finish = ended ∷ []
-marks_of size (raise z) = rise (sized z (unsigned_abs z * size)) ∷ []
-marks_of size (show z c) = numbers z ++ code c ∷ []
-marks_of size (back z) = number z ∷ []
+abbrev pub marks_of : ℕ → List Pair → Act → List Mark
+marks_of size pairs (begin text) = actual (units_of text) ∷ []
+marks_of size pairs finish = ended ∷ []
+marks_of size pairs (raise z) = rise (sized z (unsigned_abs z * size)) ∷ []
+marks_of size pairs (show z q) = numbers z ++ code (code_of pairs q) ∷ []
+marks_of size pairs (back z) = number z ∷ []
 
 -- what can be written: codes of two bytes, characters, and numbers of 64 bits
-abbrev pub IsWritable : ℕ → Act → Type 0
-IsWritable size (begin text) = All (λ c. c < 1114112) text
-IsWritable size finish = Unit
-IsWritable size (raise z) = unsigned_abs z * size < 2 ^ 64
-IsWritable size (show z c) = (unsigned_abs z < 2 ^ 64) × (c < 65536)
-IsWritable size (back z) = unsigned_abs z < 2 ^ 64
-
-abbrev pub AreRead : Type 0
-AreRead = (size : ℕ) (acts : List Act) → All (IsWritable size) acts → said_in (operators size acts) ≡ flat_map (marks_of size) acts
+abbrev pub IsWritable : ℕ → List Pair → Act → Type 0
+IsWritable size pairs (begin text) = All (λ c. c < 1114112) text
+IsWritable size pairs finish = Unit
+IsWritable size pairs (raise z) = unsigned_abs z * size < 2 ^ 64
+IsWritable size pairs (show z q) = (unsigned_abs z < 2 ^ 64) × (code_of pairs q < 65536)
+IsWritable size pairs (back z) = unsigned_abs z < 2 ^ 64

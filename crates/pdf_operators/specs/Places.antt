@@ -1,12 +1,14 @@
 -- Where a reader's pen is taken, so that each glyph is where the shaper has it (ISO 32000-1, 9.4.4).
-use Rattle.std.specs.Prelude.{ℕ, ◌&&◌, nat_lt, Bool, true, if◌then◌else◌, List, [], ◌∷◌, ◌++◌, get_or, Option, Some, None, ℤ, pos, negsuc, ◌+ℤ◌, ◌-ℤ◌, ◌^◌}
+use Rattle.std.specs.Prelude.{◌&&◌, nat_lt, Bool, true, false, if◌then◌else◌, List, [], ◌∷◌, ◌++◌, get_or, Option, Some, None, ℤ, pos, negsuc, ◌+ℤ◌, ◌-ℤ◌, ◌^◌}
 use Rattle.std.specs.Ordering.{int_eq}
 use Rattle.pdf_values.specs.Rounding.{thousandths}
+use Rattle.pdf_runs.specs.declared.codes.Pair.{Pair}
 use Rattle.pdf_runs.specs.declared.items.Direction.{Direction}
 use Rattle.pdf_runs.specs.declared.items.Direction.TheVariants.{LeftToRight, RightToLeft, TopToBottom}
 use Rattle.pdf_runs.specs.declared.pieces.Figure.{Figure}
 use Rattle.pdf_runs.specs.declared.pieces.Figure.TheVariants.{Source, Blank}
 use Rattle.pdf_runs.specs.declared.pieces.Piece.{Piece}
+use Rattle.pdf_runs.specs.Codes.{pair_of}
 use Rattle.pdf_operators.specs.declared.places.Font.{Font}
 use Rattle.pdf_operators.specs.declared.places.GlyphMetrics.{GlyphMetrics}
 use Rattle.pdf_operators.specs.declared.places.Stop.{Stop}
@@ -36,18 +38,35 @@ metrics_of f Blank = no_metrics
 
 -- ---- one piece
 
--- where a glyph's origin is to be, in thousandths of the em along the line
+-- where the shaper's pen is at a glyph, and then: it goes on by the advance, or before the glyph back by it, where glyphs are written from the last to the first
+abbrev pub pen_at : Bool → ℤ → ℤ → ℤ
+pen_at false z a = z
+pen_at true z a = z -ℤ a
+
+abbrev pub pen_then : Bool → ℤ → ℤ → ℤ
+pen_then false z a = z +ℤ a
+pen_then true z a = z -ℤ a
+
+-- where a glyph's origin is to be, in units of the font
+abbrev pub x_of : Stop → Piece → ℤ
+x_of s p = pen_at s.is_turned s.x p.x_advance +ℤ p.x
+
+abbrev pub y_of : Stop → Piece → ℤ
+y_of s p = pen_at s.is_turned s.y p.y_advance +ℤ p.y
+
+-- the same along the line, in thousandths of the em
 abbrev pub origin_at : Font → Direction → Stop → Piece → ℤ
-origin_at f d s p = thousandths (along d (s.x +ℤ p.x) (s.y +ℤ p.y)) f.units
+origin_at f d s p = thousandths (along d (x_of s p) (y_of s p)) f.units
 
 -- a piece behind a stop: the number before its code, and the pens behind it
 abbrev pub next : Font → Direction → Stop → Piece → Stop
 next f d s p = record {
   back = s.at -ℤ (origin_at f d s p +ℤ (metrics_of f p.figure).position);
-  x = s.x +ℤ p.x_advance;
-  y = s.y +ℤ p.y_advance;
+  x = pen_then s.is_turned s.x p.x_advance;
+  y = pen_then s.is_turned s.y p.y_advance;
   at = (origin_at f d s p +ℤ (metrics_of f p.figure).position) +ℤ (metrics_of f p.figure).displacement;
-  rise = thousandths (above d (s.y +ℤ p.y)) f.units;
+  rise = thousandths (above d (y_of s p)) f.units;
+  is_turned = s.is_turned;
 }
 
 -- integers have 32 bits (Annex C)
@@ -64,24 +83,24 @@ is_near s = (fits s.back && (fits s.x && fits s.y)) && (fits s.at && fits s.rise
 
 -- the first three numbers
 abbrev pub first_three : Stop → Stop
-first_three s = record { back = s.back; x = s.x; y = s.y; at = pos 0; rise = pos 0 }
+first_three s = record { back = s.back; x = s.x; y = s.y; at = pos 0; rise = pos 0; is_turned = s.is_turned }
 
 -- with the last two numbers of another
 abbrev pub with_last : Stop → Stop → Stop
-with_last s l = record { back = s.back; x = s.x; y = s.y; at = l.at; rise = l.rise }
+with_last s l = record { back = s.back; x = s.x; y = s.y; at = l.at; rise = l.rise; is_turned = s.is_turned }
 
 abbrev pub narrowed : Wide → Stop
-narrowed w = record { back = w.back; x = w.x; y = w.y; at = w.at; rise = w.rise }
+narrowed w = record { back = w.back; x = w.x; y = w.y; at = w.at; rise = w.rise; is_turned = w.is_turned }
 
 -- ---- pieces
 
-abbrev pub shown_at : Stop → Stop → ℕ → List Act
-shown_at s n code = (if int_eq n.rise s.rise then [] else raise n.rise ∷ []) ++ show n.back code ∷ []
+abbrev pub shown_at : Stop → Stop → Pair → List Act
+shown_at s n q = (if int_eq n.rise s.rise then [] else raise n.rise ∷ []) ++ show n.back q ∷ []
 
 -- what shows pieces behind a stop
-abbrev pub laid : Font → Direction → (Piece → ℕ) → Stop → List Piece → List Act
-laid f d code s [] = []
-laid f d code s (p ∷ ps) = shown_at s (next f d s p) (code p) ++ laid f d code (next f d s p) ps
+abbrev pub laid : Font → Direction → Stop → List Piece → List Act
+laid f d s [] = []
+laid f d s (p ∷ ps) = shown_at s (next f d s p) (pair_of p) ++ laid f d (next f d s p) ps
 
 -- the stop behind them
 abbrev pub stop_behind : Font → Direction → Stop → List Piece → Stop
@@ -92,6 +111,6 @@ abbrev pub are_near : Font → Direction → Stop → List Piece → Bool
 are_near f d s [] = true
 are_near f d s (p ∷ ps) = is_near (next f d s p) && are_near f d (next f d s p) ps
 
--- how far the pen is before where the shaper has it
-abbrev pub last_back : Font → Direction → Stop → ℤ
-last_back f d s = s.at -ℤ thousandths (along d s.x s.y) f.units
+-- how far the pen is before the end of the line
+abbrev pub last_back : Font → ℤ → Stop → ℤ
+last_back f end s = s.at -ℤ thousandths end f.units

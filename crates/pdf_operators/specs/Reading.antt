@@ -1,5 +1,5 @@
 -- What a reader of a content stream draws, and the text that it extracts (ISO 32000-1, 9.4.4, 9.10 and 14.9.4).
-use Rattle.std.specs.Prelude.{◌≡◌, ◌<◌, ◌≤◌, ◌++◌, ℕ, ◌*◌, ◌^◌, Bool, true, false, is_some, if◌then◌else◌, List, [], ◌∷◌, map, length, get_or, flat_map, All, Option, Some, None, ℤ, pos, ◌+ℤ◌, ◌-ℤ◌, unsigned_abs}
+use Rattle.std.specs.Prelude.{◌≡◌, ◌<◌, ◌≤◌, ◌++◌, ℕ, ◌*◌, Bool, true, false, is_some, if◌then◌else◌, List, [], ◌∷◌, map, get_or, flat_map, All, Option, Some, None, ℤ, pos, ◌+ℤ◌, ◌-ℤ◌, ◌*ℤ◌, unsigned_abs}
 use Rattle.subsetter_base.specs.Remap.{index_by}
 use Rattle.subsetter_base.specs.Texts.{utf16}
 use Rattle.pdf_values.specs.Rounding.{thousandths}
@@ -11,14 +11,16 @@ use Rattle.pdf_runs.specs.declared.pieces.Figure.TheVariants.{Source, Blank}
 use Rattle.pdf_runs.specs.declared.pieces.Piece.{Piece}
 use Rattle.pdf_runs.specs.Clusters.{clusters}
 use Rattle.pdf_runs.specs.Codes.{is_zeroth, pair_of, same, zeroth}
-use Rattle.pdf_runs.specs.Items.{text_in as item_text, text_of, visual}
-use Rattle.pdf_runs.specs.Laws.{Drawn, total, wanted}
-use Rattle.pdf_runs.specs.Pieces.{pieces_of_run}
+use Rattle.pdf_runs.specs.Items.{visual}
+use Rattle.pdf_runs.specs.Laws.{Drawn, wanted}
+use Rattle.pdf_operators.specs.declared.order.Order.{Order}
 use Rattle.pdf_operators.specs.declared.places.Font.{Font}
 use Rattle.pdf_operators.specs.Content.{Mark, actual, code, ended, marks_of, number, rise, said_in, sized}
-use Rattle.pdf_operators.specs.Operators.{operators, units_of}
+use Rattle.pdf_operators.specs.Operators.{text_of_all, units_of}
+use Rattle.pdf_operators.specs.Order.{is_turned, turned}
+use Rattle.pdf_operators.specs.Pens.{advance_of, end_of}
 use Rattle.pdf_operators.specs.Places.{above, along, metrics_of}
-use Rattle.pdf_operators.specs.Runs.{is_valid, run_acts}
+use Rattle.pdf_operators.specs.Runs.{run_acts}
 
 -- ---- what is drawn
 
@@ -82,7 +84,7 @@ text_in pairs c = text_of_pair (get_or pairs c zeroth)
 abbrev pub AreCoded : List Pair → List Piece → Type 0
 AreCoded pairs ps = All (λ (p : Piece). is_some (index_by same pairs (pair_of p)) ≡ true) ps
 
--- ---- the laws
+-- ---- where glyphs are
 
 -- a glyph, where its origin is in thousandths of the em along the line, and the text rise in millionths
 pub record Origin : Type 0 where
@@ -108,36 +110,35 @@ abbrev pub aimed : Font → Direction → ℕ → Drawn → Origin
 aimed f d size g = record { glyph = g.glyph; at = thousandths (along d g.x g.y) f.units; rise = risen size (thousandths (above d g.y) f.units) }
 
 -- what a run's operators say
-abbrev pub run_marks : Font → Direction → ℕ → List Pair → List Item → List Mark
-run_marks f d size pairs is = flat_map (marks_of size) (run_acts f d pairs is)
+abbrev pub run_marks : Font → Direction → Order → ℕ → List Pair → List Item → List Mark
+run_marks f d o size pairs is = flat_map (marks_of size pairs) (run_acts f d o is)
 
--- the glyphs that are wanted are drawn, each once, in order and where the shaper has them, to the nearest thousandth of the em
-abbrev pub GlyphsArePlaced : Type 0
-GlyphsArePlaced = (f : Font) (d : Direction) (size : ℕ) (pairs : List Pair) (is : List Item) → AreCoded pairs (pieces_of_run d f.inked.now is)
-    → origins f pairs (placed (width_in f pairs) (pos 0) (pos 0) (run_marks f d size pairs is)) ≡ map (aimed f d size) (wanted f.inked.now (pos 0) (pos 0) is)
+-- the glyphs that are wanted are drawn, each once, in the order in which they are written and where the shaper has them, to the nearest thousandth of the em
+abbrev pub ArePlaced : Font → Direction → Order → ℕ → List Item → List Origin → Type 0
+ArePlaced f d o size is os = os ≡ map (aimed f d size) (turned (is_turned d o) (wanted f.inked.now (pos 0) (pos 0) is))
 
 -- behind the run the pen is where the shaper has it, to the nearest thousandth of the em
-abbrev pub PenIsPlaced : Type 0
-PenIsPlaced = (f : Font) (d : Direction) (size : ℕ) (pairs : List Pair) (is : List Item) → AreCoded pairs (pieces_of_run d f.inked.now is)
-    → pen_behind (width_in f pairs) (pos 0) (run_marks f d size pairs is) ≡ thousandths (along d (total (λ (i : Item). i.x_advance) is) (total (λ (i : Item). i.y_advance) is)) f.units
+abbrev pub IsEnd : Font → Direction → List Item → ℤ → Type 0
+IsEnd f d is at = at ≡ thousandths (end_of d (advance_of is)) f.units
+
+-- twice a thousand times a length is at most the em away from twice its thousandths times the em
+abbrev pub ThousandthsAreNear : Type 0
+ThousandthsAreNear = (v : ℤ) (units : ℕ) → 0 < units → unsigned_abs ((pos (2 * units) *ℤ thousandths v units) -ℤ (pos 2000 *ℤ v)) ≤ units
 
 -- texts that are extracted one behind the other, joined in reading order
-abbrev pub reading : Direction → List (List ℕ) → List ℕ
-reading d texts = flat_map (λ (t : List ℕ). t) (visual d texts)
+abbrev pub reading : Direction → Order → List (List ℕ) → List ℕ
+reading d o texts = flat_map (λ (t : List ℕ). t) (if is_turned d o then texts else visual d texts)
 
 -- each code and span has a text, and in reading order they are the text of the clusters
-pub record IsExtracted (d : Direction) (is : List Item) (found : List (Option (List ℕ))) : Type 0 where
+pub record IsExtracted (d : Direction) (o : Order) (is : List Item) (found : List (Option (List ℕ))) : Type 0 where
   pub texts : List (List ℕ)
   pub all : found ≡ map Some texts
-  pub text : reading d texts ≡ units_of (flat_map text_of (visual d (clusters is)))
+  pub text : reading d o texts ≡ units_of (text_of_all (visual d (clusters is)))
 
-abbrev pub TextIsExtracted : Type 0
-TextIsExtracted = (f : Font) (d : Direction) (size : ℕ) (pairs : List Pair) (is : List Item) → AreCoded pairs (pieces_of_run d f.inked.now is) → IsExtracted d is (extracted (text_in pairs) false (run_marks f d size pairs is))
+-- ---- a run that is shown
 
--- what operators of a run say is read from their bytes
-abbrev pub HasCharacters : Item → Type 0
-HasCharacters i = All (λ c. c < 1114112) (item_text i.text)
-
-abbrev pub RunsAreRead : Type 0
-RunsAreRead = (f : Font) (d : Direction) (size : ℕ) (pairs : List Pair) (is : List Item) → size < 2 ^ 32 → length pairs ≤ 65535 → All HasCharacters is → is_valid f d is ≡ true
-    → said_in (operators size (run_acts f d pairs is)) ≡ run_marks f d size pairs is
+-- what a reader of the bytes finds: the run's text, its glyphs where the shaper has them, and the pen behind the run
+pub record IsShown (f : Font) (d : Direction) (o : Order) (size : ℕ) (pairs : List Pair) (is : List Item) (bytes : List ℕ) : Type 0 where
+  pub text : IsExtracted d o is (extracted (text_in pairs) false (said_in bytes))
+  pub places : ArePlaced f d o size is (origins f pairs (placed (width_in f pairs) (pos 0) (pos 0) (said_in bytes)))
+  pub pen : IsEnd f d is (pen_behind (width_in f pairs) (pos 0) (said_in bytes))

@@ -1,60 +1,83 @@
--- What shows a run: its pieces, each by its code, with an ActualText around a cluster whose codes don't say it (ISO 32000-1, 14.9.4).
-use Rattle.std.specs.Prelude.{◌≡◌, ◌⊎◌, ℕ, ◌&&◌, ◌||◌, not, nat_lt, Bool, true, false, is_some, if◌then◌else◌, List, [], ◌∷◌, ◌++◌, length, Option, Some, None, ℤ, pos}
+-- What shows a run: its pieces, each by its code, with an ActualText where codes don't say the text, or around a word with a glyph that is moved (ISO 32000-1, 14.9.4).
+use Rattle.std.specs.Prelude.{◌≡◌, ◌⊎◌, ℕ, ◌&&◌, ◌||◌, not, nat_lt, Bool, true, false, is_some, if◌then◌else◌, List, [], ◌∷◌, ◌++◌, length, map, flat_map, ℤ, pos}
 use Rattle.std.specs.List.{list_any}
 use Rattle.std.specs.Ordering.{int_eq}
-use Rattle.subsetter_base.specs.Remap.{index_by}
 use Rattle.pdf_runs.specs.declared.codes.Pair.{Pair}
+use Rattle.pdf_runs.specs.declared.error.RunError.{RunError}
+use Rattle.pdf_runs.specs.declared.error.RunError.TheVariants.{InvalidText, Overfull, OutOfMemory}
 use Rattle.pdf_runs.specs.declared.items.Direction.{Direction}
+use Rattle.pdf_runs.specs.declared.items.Direction.TheVariants.{LeftToRight, RightToLeft, TopToBottom}
 use Rattle.pdf_runs.specs.declared.items.Item.{Item}
 use Rattle.pdf_runs.specs.declared.pieces.Piece.{Piece}
 use Rattle.pdf_runs.specs.Clusters.{clusters}
-use Rattle.pdf_runs.specs.Codes.{IsOverfull, is_zeroth, pair_of, same}
-use Rattle.pdf_runs.specs.Items.{is_run, text_of}
-use Rattle.pdf_runs.specs.Pieces.{pieces_of_cluster, pieces_of_run}
-use Rattle.pdf_operators.specs.declared.error.RunError.{RunError}
-use Rattle.pdf_operators.specs.declared.error.RunError.TheVariants.{InvalidText, Overfull, OutOfMemory}
+use Rattle.pdf_runs.specs.Codes.{HasFirst, IsOverfull, is_zeroth}
+use Rattle.pdf_runs.specs.Items.{is_run}
+use Rattle.pdf_runs.specs.Pieces.{pieces_of_clusters, pieces_of_run}
+use Rattle.pdf_runs.specs.Words.{words}
+use Rattle.pdf_operators.specs.declared.order.Order.{Order}
 use Rattle.pdf_operators.specs.declared.places.Font.{Font}
 use Rattle.pdf_operators.specs.declared.places.Stop.{Stop}
-use Rattle.pdf_operators.specs.Operators.{Act, back, begin, finish, raise, units_of}
+use Rattle.pdf_operators.specs.Operators.{Act, back, begin, finish, raise, text_of_all, units_of}
+use Rattle.pdf_operators.specs.Order.{is_turned, turned}
+use Rattle.pdf_operators.specs.Pens.{advance_of, are_pens, end_of, start}
 use Rattle.pdf_operators.specs.Places.{are_near, fits, laid, last_back, stop_behind}
 
--- ---- codes
+-- ---- parts
 
-abbrev pub or_zero : Option ℕ → ℕ
-or_zero None = 0
-or_zero (Some n) = n
+-- an ActualText has at most 32,767 bytes (Annex C), of which two are its byte order mark
+abbrev pub is_long : List (List Item) → Bool
+is_long cs = nat_lt 16382 (length (units_of (text_of_all cs)))
 
-abbrev pub code_of : List Pair → Piece → ℕ
-code_of pairs p = or_zero (index_by same pairs (pair_of p))
+abbrev pub singles : List (List Item) → List (List (List Item))
+singles cs = map (λ (c : List Item). c ∷ []) cs
 
--- ---- a cluster
+-- a word, or its clusters where it is too long for an ActualText
+abbrev pub word_parts : List (List Item) → List (List (List Item))
+word_parts w = if is_long w then singles w else w ∷ []
+
+-- what has one ActualText or none: from left to right a word, as some readers take a span's width from its first glyph to its last and break the word there; else a cluster
+abbrev pub parts : Direction → List (List Item) → List (List (List Item))
+parts LeftToRight cs = flat_map word_parts (words cs)
+parts RightToLeft cs = singles cs
+parts TopToBottom cs = singles cs
+
+-- ---- a part
 
 -- the code has nothing to say: what is left over, or glyph 0
 abbrev pub is_unsaid : Piece → Bool
 is_unsaid p = not (is_some p.says) || is_zeroth p.figure
 
-abbrev pub is_spanned : List Piece → Bool
-is_spanned ps = list_any is_unsaid ps
+abbrev pub is_moved : Piece → Bool
+is_moved p = not (int_eq p.x (pos 0) && int_eq p.y (pos 0))
+
+-- from left to right, whether a glyph has an offset
+abbrev pub has_moved : Direction → List Piece → Bool
+has_moved LeftToRight ps = list_any is_moved ps
+has_moved RightToLeft ps = false
+has_moved TopToBottom ps = false
+
+abbrev pub is_spanned : Direction → List (List Item) → List Piece → Bool
+is_spanned d cs ps = list_any is_unsaid ps || (has_moved d ps && not (is_long cs))
 
 abbrev pub in_span : Bool → List ℕ → List Act → List Act
 in_span false text acts = acts
 in_span true text acts = begin text ∷ (acts ++ finish ∷ [])
 
-abbrev pub cluster_acts : Font → Direction → List Pair → Stop → List Item → List Act
-cluster_acts f d pairs s c = in_span (is_spanned (pieces_of_cluster d f.inked.now c)) (text_of c) (laid f d (code_of pairs) s (pieces_of_cluster d f.inked.now c))
+-- the pieces in the order in which they are written
+abbrev pub part_pieces : Font → Direction → Stop → List (List Item) → List Piece
+part_pieces f d s cs = turned s.is_turned (pieces_of_clusters d f.inked.now cs)
 
-abbrev pub cluster_stop : Font → Direction → Stop → List Item → Stop
-cluster_stop f d s c = stop_behind f d s (pieces_of_cluster d f.inked.now c)
+abbrev pub part_acts : Font → Direction → Stop → List (List Item) → List Act
+part_acts f d s cs = in_span (is_spanned d cs (part_pieces f d s cs)) (text_of_all cs) (laid f d s (part_pieces f d s cs))
 
--- an ActualText has at most 32,767 bytes (Annex C), of which two are its byte order mark
-abbrev pub is_long : List ℕ → Bool
-is_long text = nat_lt 16382 (length (units_of text))
+abbrev pub part_stop : Font → Direction → Stop → List (List Item) → Stop
+part_stop f d s cs = stop_behind f d s (part_pieces f d s cs)
 
-abbrev pub has_room : List Piece → List ℕ → Bool
-has_room ps text = not (is_spanned ps && is_long text)
+abbrev pub has_room : Direction → List (List Item) → List Piece → Bool
+has_room d cs ps = not (is_spanned d cs ps && is_long cs)
 
-abbrev pub is_cluster_shown : Font → Direction → Stop → List Item → Bool
-is_cluster_shown f d s c = has_room (pieces_of_cluster d f.inked.now c) (text_of c) && are_near f d s (pieces_of_cluster d f.inked.now c)
+abbrev pub is_part_shown : Font → Direction → Stop → List (List Item) → Bool
+is_part_shown f d s cs = has_room d cs (part_pieces f d s cs) && are_near f d s (part_pieces f d s cs)
 
 -- ---- a run
 
@@ -65,27 +88,36 @@ back_acts z = if int_eq z (pos 0) then [] else back z ∷ []
 abbrev pub level_acts : ℤ → List Act
 level_acts z = if int_eq z (pos 0) then [] else raise (pos 0) ∷ []
 
-abbrev pub end_acts : Font → Direction → Stop → List Act
-end_acts f d s = back_acts (last_back f d s) ++ level_acts s.rise
+abbrev pub end_acts : Font → ℤ → Stop → List Act
+end_acts f end s = back_acts (last_back f end s) ++ level_acts s.rise
 
-abbrev pub acts_behind : Font → Direction → List Pair → Stop → List (List Item) → List Act
-acts_behind f d pairs s [] = end_acts f d s
-acts_behind f d pairs s (c ∷ cs) = cluster_acts f d pairs s c ++ acts_behind f d pairs (cluster_stop f d s c) cs
+abbrev pub acts_behind : Font → Direction → ℤ → Stop → List (List (List Item)) → List Act
+acts_behind f d end s [] = end_acts f end s
+acts_behind f d end s (g ∷ gs) = part_acts f d s g ++ acts_behind f d end (part_stop f d s g) gs
 
-abbrev pub are_shown : Font → Direction → Stop → List (List Item) → Bool
-are_shown f d s [] = fits (last_back f d s)
-are_shown f d s (c ∷ cs) = is_cluster_shown f d s c && are_shown f d (cluster_stop f d s c) cs
+abbrev pub are_shown : Font → Direction → ℤ → Stop → List (List (List Item)) → Bool
+are_shown f d end s [] = fits (last_back f end s)
+are_shown f d end s (g ∷ gs) = is_part_shown f d s g && are_shown f d end (part_stop f d s g) gs
 
-abbrev pub start : Stop
-start = record { back = pos 0; x = pos 0; y = pos 0; at = pos 0; rise = pos 0 }
+-- the parts of a run in the order in which they are written
+abbrev pub run_parts : Direction → Order → List Item → List (List (List Item))
+run_parts d o is = turned (is_turned d o) (parts d (clusters is))
 
-abbrev pub run_acts : Font → Direction → List Pair → List Item → List Act
-run_acts f d pairs is = acts_behind f d pairs start (clusters is)
+abbrev pub run_acts : Font → Direction → Order → List Item → List Act
+run_acts f d o is = acts_behind f d (end_of d (advance_of is)) (start (is_turned d o) (advance_of is)) (run_parts d o is)
+
+-- whether all is shown, where the numbers have 32 bits and each ActualText has room
+abbrev pub is_laid : Font → Direction → Order → List Item → Bool
+is_laid f d o is = are_pens (pos 0) (pos 0) is && are_shown f d (end_of d (advance_of is)) (start (is_turned d o) (advance_of is)) (run_parts d o is)
 
 -- whether glyphs can be shown: they are a run of the font, numbers have 32 bits, and each ActualText has room
-abbrev pub is_valid : Font → Direction → List Item → Bool
-is_valid f d is = is_run d (length f.metrics.now) is && are_shown f d start (clusters is)
+abbrev pub is_valid : Font → Direction → Order → List Item → Bool
+is_valid f d o is = is_run d (length f.metrics.now) is && is_laid f d o is
 
--- why a run isn't shown
-abbrev pub IsRefused : Font → Direction → List Pair → List Pair → List Item → RunError → Type 0
-IsRefused f d pairs new is e = (e ≡ OutOfMemory) ⊎ (((e ≡ InvalidText) × (is_valid f d is ≡ false)) ⊎ ((e ≡ Overfull) × IsOverfull pairs (pieces_of_run d f.inked.now is) × (new ≡ pairs)))
+-- why pieces have no codes, and which pairs there are then
+abbrev pub IsFull : List Pair → List Pair → List Piece → RunError → Type 0
+IsFull pairs new ps e = ((e ≡ OutOfMemory) × HasFirst pairs new ps) ⊎ ((e ≡ Overfull) × IsOverfull pairs ps × (new ≡ pairs))
+
+-- why a run isn't shown, and which pairs there are then
+abbrev pub IsRefused : Font → Direction → Order → List Pair → List Pair → List Item → RunError → Type 0
+IsRefused f d o pairs new is e = ((e ≡ InvalidText) × (is_valid f d o is ≡ false) × (new ≡ pairs)) ⊎ IsFull pairs new (pieces_of_run d f.inked.now is) e

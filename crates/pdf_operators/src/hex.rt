@@ -1,6 +1,6 @@
 //! Texts as hexadecimal digits of UTF-16 (Unicode, 3.9, "Unicode Encoding Forms").
 
-ghost use Rattle.std.specs.Prelude.{◌≡◌, ◌<◌, ◌+◌, ◌/◌, ◌%◌, ◌++◌, IfErr, OnOk};
+ghost use Rattle.std.specs.Prelude.{◌≡◌, ◌<◌, ◌+◌, ◌/◌, ◌%◌, ◌++◌, All, IfErr, OnOk};
 ghost use Rattle.subsetter_base.specs.declared.error.Error.TheVariants.{OutOfMemory};
 ghost use Rattle.subsetter_base.specs.Texts.{utf16};
 ghost use Rattle.pdf_text.specs.Cmaps.Cmap.{word, words};
@@ -23,6 +23,7 @@ fn write_pair(text: &mut Vec<u8>, above: u32) -> Result<(), Error>
 /// Writes a character.
 fn write_character(text: &mut Vec<u8>, character: char) -> Result<(), Error>
     ensures ok { OnOk result (text.new.items ≡ text.old.items ++ words (utf16 character)) }
+    ensures character { character < 1114112 }
     ensures err { IfErr result (λ e. e ≡ OutOfMemory) }
 {
     let code = u32::from(character);
@@ -35,6 +36,7 @@ fn write_character(text: &mut Vec<u8>, character: char) -> Result<(), Error>
 /// Writes a text.
 pub fn write_characters(text: &mut Vec<u8>, characters: &[char]) -> Result<(), Error>
     ensures ok { OnOk result (text.new.items ≡ text.old.items ++ words (units_of characters.now)) }
+    ensures characters { OnOk result (All (λ c. c < 1114112) characters.now) }
     ensures err { IfErr result (λ e. e ≡ OutOfMemory) }
 {
     for character in characters {

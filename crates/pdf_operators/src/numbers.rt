@@ -1,6 +1,6 @@
 //! Numbers of operators (ISO 32000-1, 7.3.3).
 
-ghost use Rattle.std.specs.Prelude.{◌≡◌, ◌+◌, ◌*◌, ◌/◌, ◌%◌, ◌++◌, ◌∷◌, IfErr, OnOk, unsigned_abs};
+ghost use Rattle.std.specs.Prelude.{◌≡◌, ◌+◌, ◌*◌, ◌/◌, ◌%◌, ◌++◌, ◌∷◌, ◌<◌, ◌^◌, IfErr, OnOk, unsigned_abs};
 ghost use Rattle.std.specs.Fmt.{signed_decimal};
 ghost use Rattle.subsetter_base.specs.declared.error.Error.TheVariants.{OutOfMemory};
 ghost use Rattle.pdf_text.specs.Numbers.{sign};
@@ -64,7 +64,8 @@ fn write_millionths(text: &mut Vec<u8>, z: i32, n: u64) -> Result<(), Error>
 
 /// The product of two sizes.
 fn product(a: u32, b: u32) -> u64
-    ensures { result ≡ a * b }
+    ensures value { result ≡ a * b }
+    ensures bound { a * b < 2 ^ 64 }
 {
     u64::from(a) * u64::from(b)
 }
@@ -73,6 +74,7 @@ fn product(a: u32, b: u32) -> u64
 #[tactic(auto, using(pdf_text::proofs::Pieces::two_signed))]
 pub fn write_rise(text: &mut Vec<u8>, size: u32, z: i32) -> Result<(), Error>
     ensures ok { OnOk result (text.new.items ≡ text.old.items ++ rise_text size z) }
+    ensures bound { unsigned_abs z * size < 2 ^ 64 }
     ensures err { IfErr result (λ e. e ≡ OutOfMemory) }
 {
     write_millionths(text, z, product(z.unsigned_abs(), size))

@@ -1,10 +1,11 @@
 //! Where the pens are.
 
-ghost use Rattle.std.specs.Prelude.{◌≡◌, ◌<◌, ◌≤◌, ◌*◌, ◌^◌, ◌+◌, ◌+ℤ◌, ◌-ℤ◌, ◌&&◌, if◌then◌else◌, unsigned_abs, IfSome, Some, None};
+ghost use Rattle.std.specs.Prelude.{◌≡◌, ◌<◌, ◌≤◌, ◌*◌, ◌^◌, ◌+◌, ◌+ℤ◌, ◌-ℤ◌, ◌&&◌, if◌then◌else◌, unsigned_abs, pos, true, false, IfNone, IfSome, Some, None};
 ghost use Rattle.pdf_values.specs.Rounding.{thousandfold, thousandths};
-ghost use Rattle.pdf_operators.specs.Places.{above, along, first_three, fits, in_32_bits, is_near, last_back, metrics_of, narrowed, next, origin_at, with_last};
+ghost use Rattle.pdf_operators.specs.Places.{above, along, first_three, fits, in_32_bits, is_near, last_back, metrics_of, narrowed, next, origin_at, pen_at, pen_then, with_last, x_of, y_of};
+ghost use Rattle.pdf_operators.specs.Pens.{advance_of, are_pens, end_of, first_pen, pen_behind, pen_of, start};
 
-use pdf_runs::{Direction, Figure, Piece};
+use pdf_runs::{Direction, Figure, Item, Piece};
 use subsetter_variation::rounding::nearest;
 
 /// The metrics of a glyph in the direction of writing, in thousandths of the em (ISO 32000-1, 9.2.4 and 9.7.4.3).
@@ -39,6 +40,15 @@ pub struct Stop {
     pub at: i32,
     /// The text rise, in thousandths of the em.
     pub rise: i32,
+    /// Whether glyphs are written from the last to the first.
+    pub is_turned: bool,
+}
+
+/// How far the shaper's pen goes on in a run, in units of the font.
+#[derive(Clone, Copy)]
+pub struct Advance {
+    pub x: i32,
+    pub y: i32,
 }
 
 /// Behind a glyph, before it is known whether the numbers have 32 bits.
@@ -49,6 +59,7 @@ pub struct Wide {
     y: i64,
     at: i64,
     rise: i64,
+    is_turned: bool,
 }
 
 /// A length along the line.
@@ -97,14 +108,6 @@ fn metrics_of(font: Font<'_>, figure: Figure) -> GlyphMetrics
     }
 }
 
-/// The sum of two lengths.
-fn sum(a: i32, b: i32) -> i64
-    ensures value { result ≡ a +ℤ b }
-    ensures bound { unsigned_abs result ≤ 2 ^ 33 }
-{
-    i64::from(a) + i64::from(b)
-}
-
 /// A thousand times a length.
 fn thousandfold(length: i64) -> i64
     requires { unsigned_abs length ≤ 2 ^ 33 }
@@ -125,6 +128,47 @@ fn thousandths(length: i64, units: u16) -> i64
     nearest(thousandfold(length), u64::from(units))
 }
 
+/// Where the shaper's pen is at a glyph: before the advance, or behind it where glyphs are written from the last to the first.
+fn pen_at(is_turned: bool, pen: i32, advance: i32) -> i64
+    ensures value { result ≡ pen_at is_turned pen advance }
+    ensures bound { unsigned_abs result ≤ 2 ^ 32 }
+{
+    if is_turned {
+        i64::from(pen) - i64::from(advance)
+    } else {
+        i64::from(pen)
+    }
+}
+
+/// Where the shaper's pen is then.
+fn pen_then(is_turned: bool, pen: i32, advance: i32) -> i64
+    ensures { result ≡ pen_then is_turned pen advance }
+{
+    if is_turned {
+        i64::from(pen) - i64::from(advance)
+    } else {
+        i64::from(pen) + i64::from(advance)
+    }
+}
+
+/// Where a glyph's origin is to be, in units of the font.
+#[tactic(auto, using(pdf_text::proofs::Pieces::two_signed))]
+fn x_of(stop: Stop, piece: Piece) -> i64
+    ensures value { result ≡ x_of stop piece }
+    ensures bound { unsigned_abs result ≤ 2 ^ 33 }
+{
+    pen_at(stop.is_turned, stop.x, piece.x_advance) + i64::from(piece.x)
+}
+
+/// The same upwards.
+#[tactic(auto, using(pdf_text::proofs::Pieces::two_signed))]
+fn y_of(stop: Stop, piece: Piece) -> i64
+    ensures value { result ≡ y_of stop piece }
+    ensures bound { unsigned_abs result ≤ 2 ^ 33 }
+{
+    pen_at(stop.is_turned, stop.y, piece.y_advance) + i64::from(piece.y)
+}
+
 /// Where a glyph's origin is to be, in thousandths of the em along the line.
 #[tactic(auto, using(pdf_text::proofs::Pieces::two_signed))]
 fn origin_at(font: Font<'_>, direction: Direction, stop: Stop, piece: Piece) -> i64
@@ -132,8 +176,8 @@ fn origin_at(font: Font<'_>, direction: Direction, stop: Stop, piece: Piece) -> 
     ensures value { result ≡ origin_at font.entry direction stop piece }
     ensures bound { unsigned_abs result ≤ 1000 * 2 ^ 33 }
 {
-    let x = sum(stop.x, piece.x);
-    let y = sum(stop.y, piece.y);
+    let x = x_of(stop, piece);
+    let y = y_of(stop, piece);
     thousandths(along(direction, x, y), font.units)
 }
 
@@ -141,10 +185,10 @@ fn origin_at(font: Font<'_>, direction: Direction, stop: Stop, piece: Piece) -> 
 #[tactic(auto, using(pdf_text::proofs::Pieces::two_signed))]
 fn rise_at(font: Font<'_>, direction: Direction, stop: Stop, piece: Piece) -> i64
     requires { 0 < font.units }
-    ensures value { result ≡ thousandths (above direction (stop.y +ℤ piece.y)) font.entry.units }
+    ensures value { result ≡ thousandths (above direction (y_of stop piece)) font.entry.units }
     ensures bound { unsigned_abs result ≤ 1000 * 2 ^ 33 }
 {
-    thousandths(above(direction, sum(stop.y, piece.y)), font.units)
+    thousandths(above(direction, y_of(stop, piece)), font.units)
 }
 
 /// A place, so much further on.
@@ -174,10 +218,11 @@ fn pens_behind(font: Font<'_>, direction: Direction, stop: Stop, piece: Piece) -
     let shown = moved(origin_at(font, direction, stop, piece), metrics.position);
     Wide {
         back: back_from(stop.at, shown),
-        x: sum(stop.x, piece.x_advance),
-        y: sum(stop.y, piece.y_advance),
+        x: pen_then(stop.is_turned, stop.x, piece.x_advance),
+        y: pen_then(stop.is_turned, stop.y, piece.y_advance),
         at: moved(shown, metrics.displacement),
         rise: rise_at(font, direction, stop, piece),
+        is_turned: stop.is_turned,
     }
 }
 
@@ -199,6 +244,7 @@ fn first_three(wide: Wide) -> Option<Stop>
         y: in_32_bits(wide.y)?,
         at: 0,
         rise: 0,
+        is_turned: wide.is_turned,
     })
 }
 
@@ -229,16 +275,81 @@ pub fn next(font: Font<'_>, direction: Direction, stop: Stop, piece: Piece) -> O
     narrow(pens_behind(font, direction, stop, piece))
 }
 
-/// How far a reader's pen is before where the shaper has its own, if that has 32 bits.
+/// How far a reader's pen is before the end of the line, in thousandths of the em, if that has 32 bits.
 #[tactic(auto, using(pdf_text::proofs::Pieces::two_signed))]
-pub fn last_back(font: Font<'_>, direction: Direction, stop: Stop) -> Option<i32>
+pub fn last_back(font: Font<'_>, end: i32, stop: Stop) -> Option<i32>
     requires { 0 < font.units }
-    ensures value { result ≡ in_32_bits (last_back font.entry direction stop) }
-    ensures same { IfSome result (λ z. z ≡ last_back font.entry direction stop) }
+    ensures value { result ≡ in_32_bits (last_back font.entry end stop) }
+    ensures same { IfSome result (λ z. z ≡ last_back font.entry end stop) }
 {
-    let end = thousandths(
-        along(direction, i64::from(stop.x), i64::from(stop.y)),
-        font.units,
-    );
-    in_32_bits(i64::from(stop.at) - end)
+    in_32_bits(i64::from(stop.at) - thousandths(i64::from(end), font.units))
+}
+
+// ---- a run
+
+/// A pen, if its numbers have 32 bits.
+fn pen_of(x: i64, y: i64) -> Option<Advance>
+    ensures { result ≡ (if fits x && fits y then Some (pen_of x y) else None) }
+{
+    Some(Advance {
+        x: in_32_bits(x)?,
+        y: in_32_bits(y)?,
+    })
+}
+
+/// A pen behind a glyph, if its numbers have 32 bits.
+fn pen_behind(pen: Advance, item: &Item<'_>) -> Option<Advance>
+    ensures { result ≡ (if fits (pen.x +ℤ item.now.x_advance) && fits (pen.y +ℤ item.now.y_advance) then Some (pen_behind pen item.now) else None) }
+{
+    pen_of(
+        moved(i64::from(pen.x), item.x_advance),
+        moved(i64::from(pen.y), item.y_advance),
+    )
+}
+
+/// How far the shaper's pen goes on, if each of its places has 32 bits.
+pub fn advance_of(items: &[Item<'_>]) -> Option<Advance>
+    ensures some { IfSome result (λ a. a ≡ advance_of items.now) }
+    ensures pens { IfSome result (λ _a. are_pens (pos 0) (pos 0) items.now ≡ true) }
+    ensures none { IfNone result (are_pens (pos 0) (pos 0) items.now ≡ false) }
+{
+    let mut pen = Advance { x: 0, y: 0 };
+    for item in items {
+        match pen_behind(pen, item) {
+            Some(next) => pen = next,
+            None => return None,
+        }
+    }
+    Some(pen)
+}
+
+/// The end of the line.
+pub fn end_of(direction: Direction, advance: Advance) -> i32
+    ensures { result ≡ end_of direction advance }
+{
+    match direction {
+        Direction::LeftToRight | Direction::RightToLeft => advance.x,
+        Direction::TopToBottom => advance.y,
+    }
+}
+
+/// Where the shaper's pen is before the first glyph that is written.
+fn first_pen(is_turned: bool, advance: i32) -> i32
+    ensures { result ≡ first_pen is_turned advance }
+{
+    if is_turned { advance } else { 0 }
+}
+
+/// Before the first glyph that is written.
+pub fn start(is_turned: bool, advance: Advance) -> Stop
+    ensures { result ≡ start is_turned advance }
+{
+    Stop {
+        back: 0,
+        x: first_pen(is_turned, advance.x),
+        y: first_pen(is_turned, advance.y),
+        at: 0,
+        rise: 0,
+        is_turned,
+    }
 }

@@ -1,38 +1,31 @@
 //! What shows a run.
 
-ghost use Rattle.std.specs.Prelude.{◌≡◌, ◌<◌, ◌≤◌, ◌⊎◌, ◌++◌, ◌∷◌, [], true, false, length, IfErr, IfOk, OnOk};
-ghost use Rattle.subsetter_base.specs.Texts.{utf16};
-ghost use Rattle.pdf_runs.specs.Clusters.{clusters};
-ghost use Rattle.pdf_runs.specs.Codes.{IsOverfull, KeepsCodes, is_zeroth, with_pairs};
+ghost use Rattle.std.specs.Prelude.{◌≡◌, ◌<◌, ◌≤◌, ◌⊎◌, ◌++◌, ◌∷◌, [], true, false, length, IfErr, IfOk, OnErr, OnOk};
+ghost use Rattle.pdf_runs.specs.declared.error.RunError.TheVariants.{InvalidText, OutOfMemory, Overfull};
+ghost use Rattle.pdf_runs.specs.Clusters.{clusters, lists};
+ghost use Rattle.pdf_runs.specs.Codes.{KeepsCodes, pair_of, with_pairs};
 ghost use Rattle.pdf_runs.specs.Pieces.{pieces_of_run};
-ghost use Rattle.pdf_operators.specs.declared.error.RunError.TheVariants.{InvalidText, OutOfMemory, Overfull};
-ghost use Rattle.pdf_operators.specs.Operators.{act_of, acts_of, operators};
-ghost use Rattle.pdf_operators.specs.Places.{are_near, is_near, laid, next, shown_at, stop_behind};
-ghost use Rattle.pdf_operators.specs.Runs.{IsRefused, are_shown, back_acts, cluster_acts, cluster_stop, code_of, end_acts, in_span, is_cluster_shown, is_long, is_spanned, is_unsaid, is_valid, level_acts, run_acts, start};
-ghost use Rattle.pdf_operators.specs.Reading.{AreCoded};
+ghost use Rattle.pdf_runs.specs.Words.{groups};
+ghost use Rattle.pdf_operators.specs.Operators.{act_of, acts_of, operators, text_of_all};
+ghost use Rattle.pdf_operators.specs.Order.{is_turned, turned};
+ghost use Rattle.pdf_operators.specs.Pens.{advance_of};
+ghost use Rattle.pdf_operators.specs.Places.{are_near, fits, is_near, laid, last_back, next, shown_at, stop_behind};
+ghost use Rattle.pdf_operators.specs.Reading.{AreCoded, IsShown};
+ghost use Rattle.pdf_operators.specs.Runs.{IsFull, IsRefused, acts_behind, are_shown, back_acts, end_acts, in_span, is_laid, is_long, is_part_shown, is_valid, level_acts, part_acts, part_stop, parts, run_acts};
 
-use crate::error::RunError;
 use crate::operations::{Operation, write_operators};
-use crate::places::{Font, Stop, last_back, next};
+use crate::order::{Order, is_turned, turn_parts, turn_pieces};
+use crate::parts::{is_long, is_spanned, parts_of_run};
+use crate::places::{Font, Stop, advance_of, end_of, last_back, next, start};
 use pdf_runs::{
-    Direction, Figure, Item, Pair, Piece, clusters_of_run, code_in, codes_of, is_run,
-    pieces_of_cluster, pieces_of_run, text_of,
+    Direction, Item, Pair, Piece, RunError, clusters_of_run, codes_of, is_run, pair_of,
+    pieces_of_clusters, pieces_of_run,
 };
 use std::alloc::Global;
 use subsetter_base::Error;
 use subsetter_base::remapper::Remapper;
 
 // ---- a piece
-
-/// The code of a piece, or 0 where it has none.
-fn code_of(pairs: &Remapper<u16, Pair>, piece: Piece) -> u16
-    ensures { result ≡ code_of pairs.now piece }
-{
-    match code_in(pairs, piece) {
-        Some(code) => code,
-        None => 0,
-    }
-}
 
 /// Puts an operation behind others.
 #[tactic(auto, using(crate::proofs::RunSteps::act_put))]
@@ -47,21 +40,17 @@ fn push<'a>(operations: &mut Vec<Operation<'a>>, operation: Operation<'a>) -> Re
 /// Puts what shows a piece behind others: from a stop on to the next.
 fn push_shown(
     operations: &mut Vec<Operation<'_>>,
-    pairs: &Remapper<u16, Pair>,
     stop: Stop,
     next: Stop,
     piece: Piece,
 ) -> Result<(), RunError>
-    ensures ok { OnOk result (acts_of operations.new.items ≡ acts_of operations.old.items ++ shown_at stop next (code_of pairs.now piece)) }
+    ensures ok { OnOk result (acts_of operations.new.items ≡ acts_of operations.old.items ++ shown_at stop next (pair_of piece)) }
     ensures err { IfErr result (λ e. e ≡ OutOfMemory) }
 {
     if next.rise != stop.rise {
         push(operations, Operation::Rise(next.rise))?;
     }
-    push(
-        operations,
-        Operation::Show(next.back, code_of(pairs, piece)),
-    )
+    push(operations, Operation::Show(next.back, pair_of(piece)))
 }
 
 /// Puts what shows a piece behind others, and gives the stop behind it.
@@ -69,19 +58,18 @@ fn push_piece(
     operations: &mut Vec<Operation<'_>>,
     font: Font<'_>,
     direction: Direction,
-    pairs: &Remapper<u16, Pair>,
     stop: Stop,
     piece: Piece,
 ) -> Result<Stop, RunError>
     requires { 0 < font.units }
-    ensures ok { OnOk result (acts_of operations.new.items ≡ acts_of operations.old.items ++ shown_at stop (next font.entry direction stop piece) (code_of pairs.now piece)) }
+    ensures ok { OnOk result (acts_of operations.new.items ≡ acts_of operations.old.items ++ shown_at stop (next font.entry direction stop piece) (pair_of piece)) }
     ensures next { IfOk result (λ s. s ≡ next font.entry direction stop piece) }
     ensures near { OnOk result (is_near (next font.entry direction stop piece) ≡ true) }
     ensures err { IfErr result (λ e. (e ≡ OutOfMemory) ⊎ ((e ≡ InvalidText) × (is_near (next font.entry direction stop piece) ≡ false))) }
 {
     match next(font, direction, stop, piece) {
         Some(behind) => {
-            push_shown(operations, pairs, stop, behind, piece)?;
+            push_shown(operations, stop, behind, piece)?;
             Ok(behind)
         }
         None => Err(RunError::InvalidText),
@@ -93,134 +81,72 @@ fn push_pieces(
     operations: &mut Vec<Operation<'_>>,
     font: Font<'_>,
     direction: Direction,
-    pairs: &Remapper<u16, Pair>,
     stop: Stop,
     pieces: &[Piece],
 ) -> Result<Stop, RunError>
     requires { 0 < font.units }
-    ensures ok { OnOk result (acts_of operations.new.items ≡ acts_of operations.old.items ++ laid font.entry direction (code_of pairs.now) stop pieces.now) }
+    ensures ok { OnOk result (acts_of operations.new.items ≡ acts_of operations.old.items ++ laid font.entry direction stop pieces.now) }
     ensures next { IfOk result (λ s. s ≡ stop_behind font.entry direction stop pieces.now) }
     ensures near { OnOk result (are_near font.entry direction stop pieces.now ≡ true) }
     ensures err { IfErr result (λ e. (e ≡ OutOfMemory) ⊎ ((e ≡ InvalidText) × (are_near font.entry direction stop pieces.now ≡ false))) }
 {
     let mut behind = stop;
     for piece in pieces {
-        behind = push_piece(operations, font, direction, pairs, behind, *piece)?;
+        behind = push_piece(operations, font, direction, behind, *piece)?;
     }
     Ok(behind)
 }
 
-// ---- a cluster
-
-/// Whether a figure is glyph 0.
-fn is_zeroth(figure: Figure) -> bool
-    ensures { result ≡ is_zeroth figure }
-{
-    match figure {
-        Figure::Source(glyph) => glyph == 0,
-        Figure::Blank => false,
-    }
-}
-
-/// Whether the code of a piece has nothing to say.
-fn is_unsaid(piece: Piece) -> bool
-    ensures { result ≡ is_unsaid piece }
-{
-    piece.says.is_none() || is_zeroth(piece.figure)
-}
-
-/// Whether pieces need an ActualText.
-fn is_spanned(pieces: &[Piece]) -> bool
-    ensures { result ≡ is_spanned pieces.now }
-{
-    for piece in pieces {
-        if is_unsaid(*piece) {
-            return true;
-        }
-    }
-    false
-}
-
-/// How many units a character has in UTF-16.
-fn unit_count(character: char) -> usize
-    ensures exact { result ≡ length (utf16 character) }
-    ensures few { result ≤ 2 }
-{
-    if u32::from(character) < 65536 { 1 } else { 2 }
-}
-
-/// Whether a text is too long for an ActualText.
-#[tactic(auto, using(crate::proofs::RunSteps::count_more))]
-fn is_long(text: &[char]) -> bool
-    ensures { result ≡ is_long text.now }
-{
-    let mut count = 0;
-    for character in text {
-        count += unit_count(*character);
-        if count > 16_382 {
-            return true;
-        }
-    }
-    false
-}
+// ---- a part
 
 /// Puts what shows pieces behind others, with an ActualText around it.
 fn push_span<'a>(
     operations: &mut Vec<Operation<'a>>,
     font: Font<'_>,
     direction: Direction,
-    pairs: &Remapper<u16, Pair>,
     stop: Stop,
-    text: &'a [char],
+    clusters: &'a [&'a [Item<'a>]],
     pieces: &[Piece],
 ) -> Result<Stop, RunError>
     requires { 0 < font.units }
-    ensures ok { OnOk result (acts_of operations.new.items ≡ acts_of operations.old.items ++ in_span true text.now (laid font.entry direction (code_of pairs.now) stop pieces.now)) }
+    ensures ok { OnOk result (acts_of operations.new.items ≡ acts_of operations.old.items ++ in_span true (text_of_all (lists clusters.now)) (laid font.entry direction stop pieces.now)) }
     ensures next { IfOk result (λ s. s ≡ stop_behind font.entry direction stop pieces.now) }
     ensures near { OnOk result (are_near font.entry direction stop pieces.now ≡ true) }
-    ensures short { OnOk result (is_long text.now ≡ false) }
-    ensures err { IfErr result (λ e. (e ≡ OutOfMemory) ⊎ ((e ≡ InvalidText) × ((is_long text.now ≡ true) ⊎ (are_near font.entry direction stop pieces.now ≡ false)))) }
+    ensures short { OnOk result (is_long (lists clusters.now) ≡ false) }
+    ensures err { IfErr result (λ e. (e ≡ OutOfMemory) ⊎ ((e ≡ InvalidText) × ((is_long (lists clusters.now) ≡ true) ⊎ (are_near font.entry direction stop pieces.now ≡ false)))) }
 {
-    if is_long(text) {
+    if is_long(clusters) {
         return Err(RunError::InvalidText);
     }
-    push(operations, Operation::Begin(text))?;
-    let behind = push_pieces(operations, font, direction, pairs, stop, pieces)?;
+    push(operations, Operation::Begin(clusters))?;
+    let behind = push_pieces(operations, font, direction, stop, pieces)?;
     push(operations, Operation::End)?;
     Ok(behind)
 }
 
-/// Puts what shows a cluster behind others, and gives the stop behind it.
-fn push_cluster<'a>(
+/// Puts what shows a part behind others, and gives the stop behind it.
+fn push_part<'a>(
     alloc: Global,
     operations: &mut Vec<Operation<'a>>,
     font: Font<'_>,
     direction: Direction,
-    pairs: &Remapper<u16, Pair>,
     stop: Stop,
-    items: &[Item<'a>],
+    clusters: &'a [&'a [Item<'a>]],
 ) -> Result<Stop, RunError>
     requires { 0 < font.units }
-    ensures ok { OnOk result (acts_of operations.new.items ≡ acts_of operations.old.items ++ cluster_acts font.entry direction pairs.now stop items.now) }
-    ensures next { IfOk result (λ s. s ≡ cluster_stop font.entry direction stop items.now) }
-    ensures valid { OnOk result (is_cluster_shown font.entry direction stop items.now ≡ true) }
-    ensures err { IfErr result (λ e. (e ≡ OutOfMemory) ⊎ ((e ≡ InvalidText) × (is_cluster_shown font.entry direction stop items.now ≡ false))) }
+    ensures ok { OnOk result (acts_of operations.new.items ≡ acts_of operations.old.items ++ part_acts font.entry direction stop (lists clusters.now)) }
+    ensures next { IfOk result (λ s. s ≡ part_stop font.entry direction stop (lists clusters.now)) }
+    ensures valid { OnOk result (is_part_shown font.entry direction stop (lists clusters.now) ≡ true) }
+    ensures err { IfErr result (λ e. (e ≡ OutOfMemory) ⊎ ((e ≡ InvalidText) × (is_part_shown font.entry direction stop (lists clusters.now) ≡ false))) }
 {
-    let pieces = pieces_of_cluster(alloc, direction, font.inked, items).map_err(
+    let mut pieces = pieces_of_clusters(alloc, direction, font.inked, clusters).map_err(
         |_| RunError::OutOfMemory,
     )?;
-    if is_spanned(&pieces) {
-        push_span(
-            operations,
-            font,
-            direction,
-            pairs,
-            stop,
-            text_of(items),
-            &pieces,
-        )
+    turn_pieces(stop.is_turned, &mut pieces);
+    if is_spanned(direction, clusters, &pieces) {
+        push_span(operations, font, direction, stop, clusters, &pieces)
     } else {
-        push_pieces(operations, font, direction, pairs, stop, &pieces)
+        push_pieces(operations, font, direction, stop, &pieces)
     }
 }
 
@@ -262,15 +188,15 @@ fn push_ends(operations: &mut Vec<Operation<'_>>, back: i32, rise: i32) -> Resul
 fn push_end(
     operations: &mut Vec<Operation<'_>>,
     font: Font<'_>,
-    direction: Direction,
+    end: i32,
     stop: Stop,
 ) -> Result<(), RunError>
     requires { 0 < font.units }
-    ensures ok { OnOk result (acts_of operations.new.items ≡ acts_of operations.old.items ++ end_acts font.entry direction stop) }
-    ensures valid { OnOk result (are_shown font.entry direction stop [] ≡ true) }
-    ensures err { IfErr result (λ e. (e ≡ OutOfMemory) ⊎ ((e ≡ InvalidText) × (are_shown font.entry direction stop [] ≡ false))) }
+    ensures ok { OnOk result (acts_of operations.new.items ≡ acts_of operations.old.items ++ end_acts font.entry end stop) }
+    ensures valid { OnOk result (fits (last_back font.entry end stop) ≡ true) }
+    ensures err { IfErr result (λ e. (e ≡ OutOfMemory) ⊎ ((e ≡ InvalidText) × (fits (last_back font.entry end stop) ≡ false))) }
 {
-    match last_back(font, direction, stop) {
+    match last_back(font, end, stop) {
         Some(back) => {
             push_ends(operations, back, stop.rise)?;
             Ok(())
@@ -279,59 +205,74 @@ fn push_end(
     }
 }
 
-/// What shows a run, whose pieces have codes.
+/// What shows parts from a stop on, up to the end of the line.
+fn operations_of_parts<'a>(
+    alloc: Global,
+    font: Font<'_>,
+    direction: Direction,
+    end: i32,
+    first: Stop,
+    parts: &[&'a [&'a [Item<'a>]]],
+) -> Result<Vec<Operation<'a>>, RunError>
+    requires { 0 < font.units }
+    ensures ok { IfOk result (λ operations. acts_of operations.items ≡ acts_behind font.entry direction end first (groups parts.now)) }
+    ensures valid { OnOk result (are_shown font.entry direction end first (groups parts.now) ≡ true) }
+    ensures err { IfErr result (λ e. (e ≡ OutOfMemory) ⊎ ((e ≡ InvalidText) × (are_shown font.entry direction end first (groups parts.now) ≡ false))) }
+{
+    let mut operations = Vec::with_capacity(alloc, parts.len())?;
+    let mut stop = first;
+    for part in parts {
+        stop = push_part(alloc, &mut operations, font, direction, stop, *part)?;
+    }
+    push_end(&mut operations, font, end, stop)?;
+    Ok(operations)
+}
+
+/// The parts of a run in the order in which they are written.
+fn run_parts<'a, 'b>(
+    alloc: Global,
+    direction: Direction,
+    order: Order,
+    clusters: &'b [&'a [Item<'a>]],
+) -> Result<Vec<&'b [&'a [Item<'a>]]>, RunError>
+    ensures ok { IfOk result (λ found. groups found.items ≡ turned (is_turned direction order) (parts direction (lists clusters.now))) }
+    ensures err { IfErr result (λ e. e ≡ OutOfMemory) }
+{
+    let mut parts = parts_of_run(alloc, direction, clusters)?;
+    turn_parts(is_turned(direction, order), &mut parts);
+    Ok(parts)
+}
+
+/// What shows a run, given its clusters.
+#[tactic(auto, using(crate::proofs::RunSteps::acts_are, crate::proofs::RunSteps::laid_are, crate::proofs::RunSteps::unlaid))]
 fn operations_of_run<'a>(
     alloc: Global,
     font: Font<'_>,
     direction: Direction,
-    pairs: &Remapper<u16, Pair>,
-    items: &'a [Item<'a>],
+    order: Order,
+    items: &[Item<'_>],
+    found: &'a [&'a [Item<'a>]],
 ) -> Result<Vec<Operation<'a>>, RunError>
-    requires { 0 < font.units }
-    ensures ok { IfOk result (λ operations. acts_of operations.items ≡ run_acts font.entry direction pairs.now items.now) }
-    ensures valid { OnOk result (are_shown font.entry direction start (clusters items.now) ≡ true) }
-    ensures err { IfErr result (λ e. (e ≡ OutOfMemory) ⊎ ((e ≡ InvalidText) × (are_shown font.entry direction start (clusters items.now) ≡ false))) }
+    requires above { 0 < font.units }
+    requires found { lists found.now ≡ clusters items.now }
+    ensures ok { IfOk result (λ operations. acts_of operations.items ≡ run_acts font.entry direction order items.now) }
+    ensures valid { OnOk result (is_laid font.entry direction order items.now ≡ true) }
+    ensures err { IfErr result (λ e. (e ≡ OutOfMemory) ⊎ ((e ≡ InvalidText) × (is_laid font.entry direction order items.now ≡ false))) }
 {
-    let mut operations = Vec::with_capacity(alloc, items.len())?;
-    let mut stop = Stop {
-        back: 0,
-        x: 0,
-        y: 0,
-        at: 0,
-        rise: 0,
+    let advance = match advance_of(items) {
+        Some(advance) => advance,
+        None => return Err(RunError::InvalidText),
     };
-    let found = clusters_of_run(alloc, items).map_err(|_| RunError::OutOfMemory)?;
-    for cluster in &found {
-        stop = push_cluster(
-            alloc,
-            &mut operations,
-            font,
-            direction,
-            pairs,
-            stop,
-            cluster,
-        )?;
-    }
-    push_end(&mut operations, font, direction, stop)?;
-    Ok(operations)
-}
-
-/// The operators of a run, whose pieces have codes.
-fn write_run<'a>(
-    alloc: Global,
-    font: Font<'_>,
-    direction: Direction,
-    size: u32,
-    pairs: &Remapper<u16, Pair>,
-    items: &'a [Item<'a>],
-) -> Result<Vec<u8>, RunError>
-    requires { 0 < font.units }
-    ensures ok { IfOk result (λ text. text.items ≡ operators size (run_acts font.entry direction pairs.now items.now)) }
-    ensures valid { OnOk result (are_shown font.entry direction start (clusters items.now) ≡ true) }
-    ensures err { IfErr result (λ e. (e ≡ OutOfMemory) ⊎ ((e ≡ InvalidText) × (are_shown font.entry direction start (clusters items.now) ≡ false))) }
-{
-    let operations = operations_of_run(alloc, font, direction, pairs, items)?;
-    write_operators(alloc, size, &operations).map_err(|_| RunError::OutOfMemory)
+    let parts = run_parts(alloc, direction, order, found)?;
+    let first = start(is_turned(direction, order), advance);
+    operations_of_parts(
+        alloc,
+        font,
+        direction,
+        end_of(direction, advance),
+        first,
+        &parts,
+    )
 }
 
 /// Gives pieces codes.
@@ -344,7 +285,7 @@ fn code_pieces(
     ensures coded { OnOk result (AreCoded pairs.new pieces.now) }
     ensures few { OnOk result (length pairs.new ≤ 65535) }
     ensures stay { KeepsCodes pairs.old pairs.new }
-    ensures err { IfErr result (λ e. (e ≡ OutOfMemory) ⊎ ((e ≡ Overfull) × IsOverfull pairs.old pieces.now × (pairs.new ≡ pairs.old))) }
+    ensures err { IfErr result (λ e. IsFull pairs.old pairs.new pieces.now e) }
 {
     match codes_of(alloc, pairs, pieces) {
         Ok(_) => {}
@@ -366,12 +307,36 @@ fn add_codes(
     ensures coded { OnOk result (AreCoded pairs.new (pieces_of_run direction font.entry.inked.now items.now)) }
     ensures few { OnOk result (length pairs.new ≤ 65535) }
     ensures stay { KeepsCodes pairs.old pairs.new }
-    ensures err { IfErr result (λ e. (e ≡ OutOfMemory) ⊎ ((e ≡ Overfull) × IsOverfull pairs.old (pieces_of_run direction font.entry.inked.now items.now) × (pairs.new ≡ pairs.old))) }
+    ensures err { IfErr result (λ e. IsFull pairs.old pairs.new (pieces_of_run direction font.entry.inked.now items.now) e) }
 {
-    let pieces = pieces_of_run(alloc, direction, font.inked, items).map_err(
-        |_| RunError::OutOfMemory,
-    )?;
+    let pieces = match pieces_of_run(alloc, direction, font.inked, items) {
+        Ok(pieces) => pieces,
+        Err(_) => return Err(RunError::OutOfMemory),
+    };
     code_pieces(alloc, pairs, &pieces)
+}
+
+/// The operators of a run whose pieces have codes.
+fn write_run(
+    alloc: Global,
+    font: Font<'_>,
+    direction: Direction,
+    order: Order,
+    size: u32,
+    pairs: &Remapper<u16, Pair>,
+    items: &[Item<'_>],
+    operations: &[Operation<'_>],
+) -> Result<Vec<u8>, RunError>
+    requires acts { acts_of operations.now ≡ run_acts font direction order items.now }
+    requires coded { AreCoded pairs.now (pieces_of_run direction font.inked.now items.now) }
+    ensures text { IfOk result (λ text. text.items ≡ operators size pairs.now (run_acts font.entry direction order items.now)) }
+    ensures shown { IfOk result (λ text. IsShown font.entry direction order size pairs.now items.now text.items) }
+    ensures err { IfErr result (λ e. e ≡ OutOfMemory) }
+{
+    match write_operators(alloc, size, pairs, operations) {
+        Ok(text) => Ok(text),
+        Err(_) => Err(RunError::OutOfMemory),
+    }
 }
 
 /// The operators that show a run, for a content stream: between BT and ET, behind Tf and Td or Tm, where the character and
@@ -381,30 +346,46 @@ fn add_codes(
 /// # Errors
 ///
 /// - `InvalidText`: the glyphs are no run of the font, a number hasn't 32 bits, or an ActualText has more than 32,767 bytes.
-///   Some of the new pairs may be there.
+///   The pairs are as they were.
 /// - `Overfull`: there would be more than 65,535 codes. The pairs are as they were.
-/// - `OutOfMemory`: a request for memory was refused. Some of the new pairs may be there.
-#[tactic(auto, using(crate::proofs::RunSteps::not_run, crate::proofs::RunSteps::is_shown, crate::proofs::RunSteps::uncoded, crate::proofs::RunSteps::unshown))]
+/// - `OutOfMemory`: a request for memory was refused. The pairs of the first pieces may be there, and then have their codes.
+#[tactic(auto, using(crate::proofs::RunSteps::refused, crate::proofs::RunSteps::is_shown, crate::proofs::RunSteps::no_memory, crate::proofs::RunSteps::unshown, crate::proofs::RunSteps::unwritten))]
 pub fn show_run<'a>(
     alloc: Global,
     font: Font<'_>,
     direction: Direction,
+    order: Order,
     size: u32,
     pairs: &mut Remapper<u16, Pair>,
     items: &'a [Item<'a>],
 ) -> Result<Vec<u8>, RunError>
     requires { 0 < font.units }
-    ensures text { IfOk result (λ text. text.items ≡ operators size (run_acts font.entry direction pairs.new items.now)) }
-    ensures valid { OnOk result (is_valid font.entry direction items.now ≡ true) }
+    ensures text { IfOk result (λ text. text.items ≡ operators size pairs.new (run_acts font.entry direction order items.now)) }
+    ensures shown { IfOk result (λ text. IsShown font.entry direction order size pairs.new items.now text.items) }
+    ensures valid { OnOk result (is_valid font.entry direction order items.now ≡ true) }
     ensures pairs { OnOk result (pairs.new ≡ with_pairs pairs.old (pieces_of_run direction font.entry.inked.now items.now)) }
     ensures coded { OnOk result (AreCoded pairs.new (pieces_of_run direction font.entry.inked.now items.now)) }
     ensures few { OnOk result (length pairs.new ≤ 65535) }
     ensures stay { KeepsCodes pairs.old pairs.new }
-    ensures err { IfErr result (λ e. IsRefused font.entry direction pairs.old pairs.new items.now e) }
+    ensures err { IfErr result (λ e. IsRefused font.entry direction order pairs.old pairs.new items.now e) }
 {
     if !is_run(direction, font.metrics.len(), items) {
         return Err(RunError::InvalidText);
     }
+    let found = match clusters_of_run(alloc, items) {
+        Ok(found) => found,
+        Err(_) => return Err(RunError::OutOfMemory),
+    };
+    let operations = operations_of_run(alloc, font, direction, order, items, &found)?;
     add_codes(alloc, font, direction, pairs, items)?;
-    write_run(alloc, font, direction, size, pairs, items)
+    write_run(
+        alloc,
+        font,
+        direction,
+        order,
+        size,
+        pairs,
+        items,
+        &operations,
+    )
 }

@@ -7,3 +7,5 @@ pub mod SpreadLaws
 pub mod RunLaws
 pub mod PairLaws
 pub mod NewPairs
+pub mod WordLaws
+pub mod ShapedLaws

@@ -9,7 +9,7 @@ both : (a b : Bool) → a && b ≡ true → (a ≡ true) × (b ≡ true)
 both true b e = (refl, e)
 both false b e = absurd cc
 
-abbrev ascends : ℕ → List ℕ → Bool
+abbrev pub ascends : ℕ → List ℕ → Bool
 ascends low [] = true
 ascends low (x ∷ xs) = nat_le low x && ascends x xs
 
@@ -21,7 +21,7 @@ above low (x ∷ xs) (suc i) d e l =
     let later : x ≤ get_or xs i d = above x xs i d (both (nat_le low x) (ascends x xs) e).1 (omega arith) in
     omega arith
 
-rises : (low : ℕ) (xs : List ℕ) → ascends low xs ≡ true → IsNonDecreasing xs
+pub rises : (low : ℕ) (xs : List ℕ) → ascends low xs ≡ true → IsNonDecreasing xs
 rises low [] e i j d o l = absurd (omega arith)
 rises low (x ∷ xs) e zero zero d o l = omega arith
 rises low (x ∷ xs) e zero (suc j) d o l = above x xs j d (both (nat_le low x) (ascends x xs) e).1 (omega arith)

@@ -1,6 +1,6 @@
 -- Pairs of a figure and a character, numbered in order of use.
-use Rattle.std.proofs.Common.{◌≡◌, ℕ, ◌+◌, ◌<◌, ◌≤◌, Bool, true, false, cond, List, [], ◌∷◌, ◌++◌, length, map, get_or, drop, Option, Some, None, option_map, ◌&&◌, inl, inr, Result, Ok, Err, refl, sym, ap, ◌∙◌, append_assoc, arith, length-append}
-use Rattle.std.specs.Prelude.{is_ok, is_some, IfOk, IsSome, OnOk, ◌⊎◌}
+use Rattle.std.proofs.Common.{◌≡◌, ℕ, zero, suc, ◌+◌, ◌<◌, ◌≤◌, Bool, true, false, cond, List, [], ◌∷◌, ◌++◌, length, map, get_or, take, drop, Option, Some, None, option_map, ◌&&◌, inl, inr, Result, Ok, Err, refl, sym, ap, ◌∙◌, append_assoc, arith, add-one, length-append}
+use Rattle.std.specs.Prelude.{is_ok, is_some, IfOk, IsSome, OnErr, OnOk, ◌⊎◌}
 use Rattle.std.proofs.lemmas.List.{drop_more, map-append}
 use Rattle.subsetter_base.specs.Remap.{index_by, with_value}
 use Rattle.pdf_runs.specs.declared.codes.Pair.{Pair}
@@ -8,7 +8,7 @@ use Rattle.pdf_runs.specs.declared.pieces.Piece.{Piece}
 use Rattle.pdf_runs.specs.contracts.codes.PairPartialEq.TheImpl.{eq-value}
 use Rattle.pdf_runs.specs.declared.pieces.Figure.{Figure}
 use Rattle.pdf_runs.specs.declared.pieces.Figure.TheVariants.{Source, Blank}
-use Rattle.pdf_runs.specs.Codes.{KeepsCodes, pair_of, same, same_character, same_figure, with_pairs}
+use Rattle.pdf_runs.specs.Codes.{HasFirst, IsOverfull, IsUncoded, KeepsCodes, pair_of, same, same_character, same_figure, with_pairs}
 use Rattle.subsetter_base.specs.declared.error.Error.{Error}
 use Rattle.subsetter_base.specs.declared.error.Error.TheVariants.{OutOfMemory, OverflowError}
 
@@ -61,6 +61,19 @@ all_more ps k d was now total q l is put all =
     ∙ sym (ap (with_pairs was) (drop_more ps k d l))
     ∙ all
 
+-- with the pair of one piece more, they are those of the first pieces
+first_next : (ps : List Piece) (k : ℕ) (d : Piece) (xs : List Pair) → k < length ps → with_value same (with_pairs xs (take k ps)) (pair_of (get_or ps k d)) ≡ with_pairs xs (take (suc k) ps)
+first_next [] k d xs l = absurd (omega arith)
+first_next (p ∷ ps) zero d xs l = refl
+first_next (p ∷ ps) (suc k) d xs l = first_next ps k d (with_value same xs (pair_of p)) (omega arith)
+
+pub first_more : (ps : List Piece) (k : ℕ) (d : Piece) (xs : List Pair) → k < length ps → with_value same (with_pairs xs (take k ps)) (pair_of (get_or ps k d)) ≡ with_pairs xs (take (k + 1) ps)
+first_more ps k d xs l = first_next ps k d xs l ∙ sym (ap (λ (n : ℕ). with_pairs xs (take n ps)) (add-one k))
+
+pub first_put : (ps : List Piece) (k : ℕ) (d : Piece) (xs was now : List Pair) (q : Pair) → k < length ps → q ≡ pair_of (get_or ps k d) → was ≡ with_pairs xs (take k ps) → now ≡ with_value same was q → now ≡ with_pairs xs (take (k + 1) ps)
+first_put ps k d xs was now q l is before put =
+    put ∙ ap (λ (l : List Pair). with_value same l q) before ∙ ap (with_value same (with_pairs xs (take k ps))) is ∙ first_more ps k d xs l
+
 -- the code of one piece more
 pub codes_more : (ps : List Piece) (k : ℕ) (d : Piece) (now total : List Pair) (q : Pair) (codes : List ℕ) (n : ℕ) (whole : List (Option ℕ)) → k < length ps → q ≡ pair_of (get_or ps k d)
     → index_by same now q ≡ Some n → with_pairs now (drop (k + 1) ps) ≡ total
@@ -109,10 +122,6 @@ put_same xs x = ap (λ (o : Option ℕ). cond (is_some o) xs (xs ++ x ∷ [])) (
 pub room_same : (xs : List Pair) (x : Pair) → (IsSome (index_by same xs x)) ⊎ (length xs + 1 < 65536) → (IsSome (index_by equal xs x)) ⊎ (length xs + 1 < 65536)
 room_same xs x h = rw (index_same xs x) h
 
-pub known_same : (o : Option ℕ) (xs : List Pair) (x : Pair) → option_map (λ n. n) o ≡ index_by equal xs x → is_some o ≡ is_some (index_by same xs x)
-known_same None xs x e = ap is_some (e ∙ index_same xs x)
-known_same (Some n) xs x e = ap is_some (e ∙ index_same xs x)
-
 pub found_same : (o : Option ℕ) (xs : List Pair) (x : Pair) → option_map (λ n. n) o ≡ index_by equal xs x → o ≡ index_by same xs x
 found_same None xs x e = e ∙ index_same xs x
 found_same (Some n) xs x e = e ∙ index_same xs x
@@ -124,6 +133,14 @@ list_put (Err e) xs ys x h = tt
 pub number_put : (r : Result ℕ Error) (ys : List Pair) (x : Pair) → IfOk r (λ n. index_by equal ys x ≡ Some n) → IfOk r (λ n. index_by same ys x ≡ Some n)
 number_put (Ok n) ys x e = sym (index_same ys x) ∙ e
 number_put (Err e) ys x h = tt
+
+pub list_kept : (r : Result ℕ Error) (xs ys : List Pair) (x : Pair) → ys ≡ cond (is_ok r) (with_value equal xs x) xs → OnErr r (ys ≡ xs)
+list_kept (Ok n) xs ys x e = tt
+list_kept (Err f) xs ys x e = e
+
+pub on_err : {A E : Type 0} (r : Result A E) {P : Type 0} → P → OnErr r P
+on_err (Ok x) p = tt
+on_err (Err e) p = p
 
 pub stay_put : (r : Result ℕ Error) (xs ys : List Pair) (x : Pair) → ys ≡ cond (is_ok r) (with_value equal xs x) xs → KeepsCodes xs ys
 stay_put (Ok n) xs ys x e q m found = ap (λ (l : List Pair). index_by same l q) (e ∙ put_same xs x) ∙ value_stays same xs x q m found
@@ -176,3 +193,12 @@ has_room ps k d was total q l is all few =
     let whole : with_pairs next rest ≡ total = all_more ps k d was next total q l is refl all in
     let more : length next ≤ length (with_pairs next rest) = grows rest next in
     few_or (index_by same was q) (length was) (room_by (index_by same was q) was q 65535 refl (omega (arith, ap length whole)))
+
+-- ---- why pieces have no codes
+
+pub uncoded_early : (ps : List Piece) (xs : List Pair) (e : Error) → (e ≡ OutOfMemory) ⊎ ((e ≡ OverflowError) × IsOverfull xs ps) → IsUncoded xs xs ps e
+uncoded_early ps xs e (inl memory) = inl (memory, record { count = 0; first = refl })
+uncoded_early ps xs e (inr full) = inr (full.0, full.1, refl)
+
+pub uncoded_late : (ps : List Piece) (xs new : List Pair) (e : Error) → e ≡ OutOfMemory → HasFirst xs new ps → IsUncoded xs new ps e
+uncoded_late ps xs new e memory first = inl (memory, first)

@@ -5,3 +5,5 @@ pub mod Shares
 pub mod Pieces
 pub mod Laws
 pub mod Codes
+pub mod Words
+pub mod Shaped

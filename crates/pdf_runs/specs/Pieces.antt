@@ -49,5 +49,8 @@ shares_of d is = map (visual d) (visual d (shares (length is) (text_of is)))
 abbrev pub pieces_of_cluster : Direction → List Bool → List Item → List Piece
 pieces_of_cluster d inked is = spread_all inked is (shares_of d is)
 
+abbrev pub pieces_of_clusters : Direction → List Bool → List (List Item) → List Piece
+pieces_of_clusters d inked cs = flat_map (pieces_of_cluster d inked) cs
+
 abbrev pub pieces_of_run : Direction → List Bool → List Item → List Piece
-pieces_of_run d inked is = flat_map (pieces_of_cluster d inked) (clusters is)
+pieces_of_run d inked is = pieces_of_clusters d inked (clusters is)

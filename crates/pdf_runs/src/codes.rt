@@ -1,9 +1,9 @@
 //! The codes of what is drawn and said.
 
-ghost use Rattle.std.specs.Prelude.{◌≡◌, ◌<◌, ◌≤◌, ◌+◌, ◌⊎◌, ◌↔◌, length, is_some, IsTrue, IfOk, IfErr, IsSome, OnOk, Some, [], ◌∷◌};
+ghost use Rattle.std.specs.Prelude.{◌≡◌, ◌<◌, ◌≤◌, ◌+◌, ◌⊎◌, ◌↔◌, length, is_some, IsTrue, IfOk, IfErr, IsSome, OnErr, OnOk, Some, [], ◌∷◌};
 ghost use Rattle.subsetter_base.specs.Remap.{index_by, with_value};
 ghost use Rattle.subsetter_base.specs.declared.error.Error.TheVariants.{OutOfMemory, OverflowError};
-ghost use Rattle.pdf_runs.specs.Codes.{AreCodes, IsOverfull, IsUncoded, KeepsCodes, is_zeroth, pair_of, same, with_new, with_pairs, zeroth};
+ghost use Rattle.pdf_runs.specs.Codes.{AreCodes, HasFirst, IsOverfull, IsUncoded, KeepsCodes, is_zeroth, pair_of, same, with_new, with_pairs, zeroth};
 
 use crate::pieces::{Figure, Piece};
 use std::alloc::Global;
@@ -38,7 +38,7 @@ fn is_zeroth(figure: Figure) -> bool
 }
 
 /// What the code of a piece draws and says.
-fn pair_of(piece: Piece) -> Pair
+pub fn pair_of(piece: Piece) -> Pair
     ensures { result ≡ pair_of piece }
 {
     if is_zeroth(piece.figure) {
@@ -64,20 +64,12 @@ pub fn no_pairs(alloc: Global) -> Result<Remapper<u16, Pair>, Error>
     Ok(pairs)
 }
 
-/// Whether a pair has a code.
-#[tactic(auto, using(crate::proofs::PairLaws::known_same))]
-fn is_known(pairs: &Remapper<u16, Pair>, pair: Pair) -> bool
-    ensures { result ≡ is_some (index_by same pairs.now pair) }
-{
-    pairs.get(pair).is_some()
-}
-
-/// The code of a piece, if its pair has one.
+/// The code of a pair, if it has one.
 #[tactic(auto, using(crate::proofs::PairLaws::found_same))]
-pub fn code_in(pairs: &Remapper<u16, Pair>, piece: Piece) -> Option<u16>
-    ensures { result ≡ index_by same pairs.now (pair_of piece) }
+pub fn code_in(pairs: &Remapper<u16, Pair>, pair: Pair) -> Option<u16>
+    ensures { result ≡ index_by same pairs.now pair }
 {
-    pairs.get(pair_of(piece))
+    pairs.get(pair)
 }
 
 /// The code of a pair, which goes last if it is new.
@@ -86,6 +78,7 @@ fn code_of(pairs: &mut Remapper<u16, Pair>, pair: Pair) -> Result<u16, Error>
     ensures list { OnOk result (pairs.new ≡ with_value same pairs.old pair) }
     ensures number { IfOk result (λ n. index_by same pairs.new pair ≡ Some n) }
     ensures stay { KeepsCodes pairs.old pairs.new }
+    ensures same { OnErr result (pairs.new ≡ pairs.old) }
     ensures err { IfErr result (λ e. e ≡ OutOfMemory) }
 {
     pairs.remap(pair)
@@ -102,7 +95,7 @@ fn add_new(
     ensures ok { OnOk result (new.new ≡ with_new same pairs.now new.old pair) }
     ensures err { IfErr result (λ e. e ≡ OutOfMemory) }
 {
-    if is_known(pairs, pair) {
+    if code_in(pairs, pair).is_some() {
         return Ok(());
     }
     new.remap(pair)?;
@@ -164,6 +157,7 @@ fn codes_with_room(
     ensures codes { IfOk result (λ codes. AreCodes pairs.new pieces.now codes.items) }
     ensures few { OnOk result (length pairs.new ≤ 65535) }
     ensures stay { KeepsCodes pairs.old pairs.new }
+    ensures first { OnErr result (HasFirst pairs.old pairs.new pieces.now) }
     ensures err { IfErr result (λ e. e ≡ OutOfMemory) }
 {
     let mut codes = Vec::with_capacity(alloc, pieces.len())?;
@@ -178,7 +172,7 @@ fn codes_with_room(
 /// # Errors
 ///
 /// - `OverflowError`: there would be more than 65,535 pairs, glyph 0 among them. The pairs are as they were.
-/// - `OutOfMemory`: a request for memory was refused. Some of the new pairs may be there.
+/// - `OutOfMemory`: a request for memory was refused. The pairs of the first pieces may be there, and then have their codes.
 pub fn codes_of(
     alloc: Global,
     pairs: &mut Remapper<u16, Pair>,

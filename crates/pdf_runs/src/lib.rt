@@ -11,20 +11,26 @@
 
 mod clusters;
 mod codes;
+mod error;
 mod items;
 mod laws;
 mod marks;
 mod pieces;
+mod shaped;
 mod shares;
 mod tables;
 #[cfg(test)]
 mod tests;
+mod words;
 
 pub use clusters::clusters_of_run;
-pub use codes::{Pair, code_in, codes_of, no_pairs};
+pub use codes::{Pair, code_in, codes_of, no_pairs, pair_of};
+pub use error::RunError;
 pub use items::{Direction, Item, is_run};
 pub use laws::{
     clusters_are_the_run, clusters_begin_once, glyphs_are_drawn, pen_goes_on, text_is_said,
 };
 pub use marks::is_mark;
-pub use pieces::{Figure, Piece, pieces_of_cluster, pieces_of_run, text_of};
+pub use pieces::{Figure, Piece, pieces_of_clusters, pieces_of_run, text_of};
+pub use shaped::{Shaped, Unit, items_of};
+pub use words::words_of_run;

@@ -2,9 +2,10 @@
 
 ghost use Rattle.std.specs.Prelude.{◌≡◌, ◌<◌, ◌≤◌, ◌-◌, ◌+◌, ◌++◌, ◌∷◌, [], true, not, get_or, length, map, take, drop, IfErr, IfOk, OnOk, Some};
 ghost use Rattle.subsetter_base.specs.declared.error.Error.TheVariants.{OutOfMemory};
+ghost use Rattle.pdf_runs.specs.Clusters.{lists};
 ghost use Rattle.pdf_runs.specs.Items.{text_in, text_of, visual};
 ghost use Rattle.pdf_runs.specs.Marks.{is_mark};
-ghost use Rattle.pdf_runs.specs.Pieces.{bearer, blank_of, figure_of, is_bare, piece_of, pieces_of_cluster, pieces_of_run, shares_of, spread, spread_all};
+ghost use Rattle.pdf_runs.specs.Pieces.{bearer, blank_of, figure_of, is_bare, piece_of, pieces_of_cluster, pieces_of_clusters, pieces_of_run, shares_of, spread, spread_all};
 
 use crate::clusters::clusters_of_run;
 use crate::items::{Direction, Item};
@@ -207,22 +208,25 @@ fn push_cluster(
     Ok(())
 }
 
-/// What stands for the glyphs of a cluster, in visual order. `inked` says of each glyph of the font whether it has ink.
+/// What stands for the glyphs of clusters, in visual order. `inked` says of each glyph of the font whether it has ink.
 ///
 /// # Errors
 ///
 /// `OutOfMemory` alone.
-pub fn pieces_of_cluster(
+#[tactic(auto, using(crate::proofs::PieceSteps::run_more))]
+pub fn pieces_of_clusters(
     alloc: Global,
     direction: Direction,
     inked: &[bool],
-    items: &[Item<'_>],
+    clusters: &[&[Item<'_>]],
 ) -> Result<Vec<Piece>, Error>
-    ensures ok { IfOk result (λ pieces. pieces.items ≡ pieces_of_cluster direction inked.now items.now) }
+    ensures ok { IfOk result (λ pieces. pieces.items ≡ pieces_of_clusters direction inked.now (lists clusters.now)) }
     ensures err { IfErr result (λ e. e ≡ OutOfMemory) }
 {
-    let mut pieces = Vec::with_capacity(alloc, items.len())?;
-    push_cluster(&mut pieces, direction, inked, items)?;
+    let mut pieces = Vec::with_capacity(alloc, clusters.len())?;
+    for cluster in clusters {
+        push_cluster(&mut pieces, direction, inked, cluster)?;
+    }
     Ok(pieces)
 }
 
@@ -231,7 +235,6 @@ pub fn pieces_of_cluster(
 /// # Errors
 ///
 /// `OutOfMemory` alone.
-#[tactic(auto, using(crate::proofs::PieceSteps::run_more))]
 pub fn pieces_of_run(
     alloc: Global,
     direction: Direction,
@@ -241,10 +244,6 @@ pub fn pieces_of_run(
     ensures ok { IfOk result (λ pieces. pieces.items ≡ pieces_of_run direction inked.now items.now) }
     ensures err { IfErr result (λ e. e ≡ OutOfMemory) }
 {
-    let mut pieces = Vec::with_capacity(alloc, items.len())?;
-    let found = clusters_of_run(alloc, items)?;
-    for cluster in &found {
-        push_cluster(&mut pieces, direction, inked, cluster)?;
-    }
-    Ok(pieces)
+    let clusters = clusters_of_run(alloc, items)?;
+    pieces_of_clusters(alloc, direction, inked, &clusters)
 }

@@ -8,8 +8,8 @@ use Rattle.subsetter_sfnt.specs.Extras.{all_extras}
 use Rattle.subsetter_sfnt.specs.Read.{Font as Face, find_record, records, stored}
 use Rattle.subsetter_sfnt.specs.declared.face.TableRecord.{TableRecord}
 use Rattle.font_reasons.specs.Directory.{bytes_or_none, records_in}
+use Rattle.font_reasons.specs.Explained.{no_cmap}
 use Rattle.font_reasons.specs.File.{or_else, no_font, missing_table}
-use Rattle.font_reasons.specs.Parts.{no_table}
 use Rattle.font_reasons.specs.Request.{reason_of}
 use Rattle.subset_lines.specs.declared.faces.outlines.Outlines.{Outlines}
 use Rattle.subset_lines.specs.declared.faces.outlines.Outlines.TheVariants.{TrueType, Cff, Cff2 as HasCff2, Missing}
@@ -76,7 +76,7 @@ hint_of_error OutOfMemory task bytes = reason_in OutOfMemory task bytes
 
 -- why a face has no mapping of Unicode characters: there is no face, no cmap, or none of its tables that are read
 unfoldable pub no_mapping : Face → Option Hint
-no_mapping font = or_else (option_map Font (no_table font (record { 0 = codes "cmap" }))) (Some NoUnicode)
+no_mapping font = or_else (option_map Font (no_cmap font)) (Some NoUnicode)
 
 abbrev pub hint_of_mapping : Face → Option Hint
 hint_of_mapping font = or_else (option_map Font (no_font font)) (no_mapping font)

@@ -1,6 +1,5 @@
 use Rattle.std.proofs.lemmas.Result.{err_from_is_err_and}
 use Rattle.pdf_operators.specs.Operators.{acts_of}
-use Rattle.pdf_operators.specs.Runs.{code_of}
 use Rattle.pdf_operators.proofs.RunSteps.{near_more, piece_more, piece_refused, stop_more}
 use Rattle.pdf_operators.proofs.runs.push_pieces.Goals as goal
 
@@ -14,7 +13,7 @@ loop-piece-preserved c =
     let n = c.in_ok-behind.behind in
     record {
       acts =
-          piece_more f d (code_of c.args.pairs.now) ps k _ s n (acts_of c.loop-piece.operations.items) (acts_of c.push_piece.new.operations.items) _ c.loop-piece-test.true c.in_ok-behind.ensures.next c.in_ok-behind.ensures.ok c.loop-piece.invariant.acts;
+          piece_more f d ps k _ s n (acts_of c.loop-piece.operations.items) (acts_of c.push_piece.new.operations.items) _ c.loop-piece-test.true c.in_ok-behind.ensures.next c.in_ok-behind.ensures.ok c.loop-piece.invariant.acts;
       stop = stop_more f d ps k _ s n _ c.loop-piece-test.true c.in_ok-behind.ensures.next c.loop-piece.invariant.stop;
       near = near_more f d ps k _ s n _ c.loop-piece-test.true c.in_ok-behind.ensures.next c.in_ok-behind.ensures.near c.loop-piece.invariant.near;
     }

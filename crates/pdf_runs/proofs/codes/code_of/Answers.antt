@@ -1,4 +1,4 @@
-use Rattle.pdf_runs.proofs.PairLaws.{list_put, number_put, room_same, stay_put}
+use Rattle.pdf_runs.proofs.PairLaws.{list_kept, list_put, number_put, room_same, stay_put}
 use Rattle.pdf_runs.proofs.codes.code_of.Goals as goal
 
 pub remap-requires : goal.remap-requires
@@ -12,3 +12,6 @@ returns-clause-number c = number_put c.remap.result c.remap.new.self c.args.pair
 
 pub returns-clause-stay : goal.returns-clause-stay
 returns-clause-stay c = stay_put c.remap.result c.args.pairs.now c.remap.new.self c.args.pair c.remap.ensures.list
+
+pub returns-clause-same : goal.returns-clause-same
+returns-clause-same c = list_kept c.remap.result c.args.pairs.now c.remap.new.self c.args.pair c.remap.ensures.list

@@ -3,7 +3,7 @@ use Rattle.subsetter_base.specs.Remap.{index_by}
 use Rattle.pdf_runs.specs.declared.codes.Pair.{Pair}
 use Rattle.pdf_runs.specs.declared.pieces.Piece.{Piece}
 use Rattle.pdf_runs.specs.Codes.{pair_of, same, with_pairs}
-use Rattle.pdf_runs.proofs.PairLaws.{all_more, codes_more, has_room}
+use Rattle.pdf_runs.proofs.PairLaws.{all_more, codes_more, first_put, has_room, on_err}
 use Rattle.pdf_runs.proofs.codes.codes_with_room.Goals as goal
 
 pub code_of-requires : goal.code_of-requires
@@ -20,6 +20,7 @@ loop-piece-preserved c =
     in
     record {
       all = all;
+      first = first_put ps k _ c.args.pairs.now c.loop-piece.pairs now c.pair_of.result c.loop-piece-test.true c.pair_of.ensures c.loop-piece.invariant.first c.in_ok-code_of.ensures.list;
       stay = λ p n e. c.code_of.ensures.stay p n (c.loop-piece.invariant.stay p n e);
       so_far =
           ap (λ (l : List ℕ). map Some l ++ map (λ (p : Piece). index_by same total (pair_of p)) (drop (k + 1) ps)) c.in_ok-push.ensures.items
@@ -31,3 +32,14 @@ returns-in_err-code_of-clause-stay c = λ p n e. c.code_of.ensures.stay p n (c.l
 
 pub returns-in_err-push-clause-stay : goal.returns-in_err-push-clause-stay
 returns-in_err-push-clause-stay c = λ p n e. c.code_of.ensures.stay p n (c.loop-piece.invariant.stay p n e)
+
+pub returns-in_err-code_of-clause-first : goal.returns-in_err-code_of-clause-first
+returns-in_err-code_of-clause-first c =
+    on_err c.from_residual-in_err-code_of.result (record { count = c.loop-piece.piece-index; first = c.in_err-code_of.ensures.same ∙ c.loop-piece.invariant.first })
+
+pub returns-in_err-push-clause-first : goal.returns-in_err-push-clause-first
+returns-in_err-push-clause-first c =
+    on_err c.from_residual-in_err-push.result (record {
+      count = c.loop-piece.piece-index + 1;
+      first = first_put c.args.pieces.now c.loop-piece.piece-index _ c.args.pairs.now c.loop-piece.pairs c.code_of.new.pairs c.pair_of.result c.loop-piece-test.true c.pair_of.ensures c.loop-piece.invariant.first c.in_ok-code_of.ensures.list;
+    })

@@ -3,6 +3,7 @@
 ghost use Rattle.std.specs.Prelude.{◌≡◌};
 ghost use Rattle.std.specs.Option.{option_map};
 ghost use Rattle.subsetter_sfnt.specs.Extras.{all_extras};
+ghost use Rattle.font_reasons.specs.Explained.{no_cmap};
 ghost use Rattle.subset_task.specs.declared.refusals.hint.text.Hint.TheVariants.{Font};
 ghost use Rattle.subset_font.specs.Refusals.Hint.{listed, for_widths, needed_table, reason_in, is_cff2, no_coordinates, hint_of_error, no_mapping, hint_of_mapping, no_axes, axes_hint_of_error, axes_hint, forbidden_bit, hint_of};
 
@@ -99,12 +100,19 @@ fn hint_of_error(error: Error, font: &[u8], task: &Task<'_>) -> Option<Hint>
     }
 }
 
+/// Whether a face has no `cmap`.
+fn no_cmap(font: &[u8], index: u32) -> Option<Reason>
+    ensures { result ≡ no_cmap (record { bytes = font.now; index = index; extras = all_extras }) }
+{
+    no_table(font, index, Tag::new(b"cmap"))
+}
+
 /// What is known of a face without a mapping of Unicode characters.
 #[tactic(auto, unfolding(crate::specs::Refusals::Hint::no_mapping))]
 fn no_mapping(font: &[u8], index: u32) -> Option<Hint>
     ensures { result ≡ no_mapping (record { bytes = font.now; index = index; extras = all_extras }) }
 {
-    shown(no_table(font, index, Tag::new(b"cmap"))).or(Some(Hint::NoUnicode))
+    shown(no_cmap(font, index)).or(Some(Hint::NoUnicode))
 }
 
 /// What more is known of a font without a mapping of Unicode characters.

@@ -84,9 +84,14 @@ fn hint_of_error(error: Error, font: &[u8], task: &Task<'_>) -> Option<Hint> {
     }
 }
 
+/// Whether a face has no `cmap`.
+fn no_cmap(font: &[u8], index: u32) -> Option<Reason> {
+    no_table(font, index, Tag::new(b"cmap"))
+}
+
 /// What is known of a face without a mapping of Unicode characters.
 fn no_mapping(font: &[u8], index: u32) -> Option<Hint> {
-    shown(no_table(font, index, Tag::new(b"cmap"))).or(Some(Hint::NoUnicode))
+    shown(no_cmap(font, index)).or(Some(Hint::NoUnicode))
 }
 
 /// What more is known of a font without a mapping of Unicode characters.

@@ -1,0 +1,12 @@
+mod Values
+mod Faults
+mod Loca
+mod Outlines
+mod Steps
+mod Metrics
+mod Fields
+mod Composites
+mod Boxes
+mod Laid
+mod Afresh
+mod Making

@@ -1,0 +1,4 @@
+pub mod CallSteps
+pub mod DrawnSteps
+pub mod MapLaws
+pub mod TextLaws

@@ -1,0 +1,6 @@
+pub mod Drawn
+pub mod GlyphMap
+pub mod Laws
+pub mod Pairs
+pub mod TextFont
+pub mod Texts

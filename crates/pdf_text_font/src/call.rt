@@ -1,0 +1,102 @@
+//! The call.
+
+ghost use Rattle.std.specs.Prelude.{◌≡◌, ◌⊎◌, ◌<◌, ◌≤◌, length, IfOk, IfErr};
+ghost use Rattle.subsetter_base.specs.declared.error.Error.TheVariants.{OutOfMemory};
+ghost use Rattle.pdf_font.specs.PdfFont.{IsPdfFont, font_of};
+ghost use Rattle.pdf_font.specs.declared.error.FontError.TheVariants.{Subset};
+ghost use Rattle.pdf_text_font.specs.Pairs.{by_code, uses_of};
+ghost use Rattle.pdf_text_font.specs.TextFont.{HasTextFault, IsTextFont, subset_options};
+
+use crate::font::{TextFont, font_by_code};
+use crate::pairs::{by_code, shown_of};
+use pdf_font::{Codes, FontError, FontOptions, PdfFont, ProgramChoice, Tag, pdf_font};
+use pdf_runs::Pair;
+use std::alloc::Global;
+use subsetter_base::remapper::Remapper;
+
+/// What is chosen of the subset: it has no codes of its own, nor a CIDSet, and outlines of CFF as the bare table.
+fn subset_options(options: &FontOptions) -> FontOptions
+    ensures { result ≡ subset_options options.now }
+{
+    FontOptions {
+        program: ProgramChoice::Smallest,
+        codes: Codes::Consecutive,
+        cid_set: false,
+        ..*options
+    }
+}
+
+/// The subset of glyph 0 and the glyphs that codes want.
+fn subset_of(
+    alloc: Global,
+    data: &[u8],
+    index: u32,
+    coordinates: &[(Tag, i32)],
+    pairs: &[Pair],
+    options: &FontOptions,
+) -> Result<PdfFont, FontError>
+    ensures ok { IfOk result (λ f. IsPdfFont (font_of «data».now index options.now) coordinates.now (subset_options options.now) (uses_of pairs.now) f) }
+    ensures err { IfErr result (λ e. (e ≡ Subset OutOfMemory) ⊎ HasTextFault (font_of «data».now index options.now) coordinates.now options.now pairs.now e) }
+{
+    match shown_of(alloc, pairs) {
+        Ok(shown) => pdf_font(
+            alloc,
+            data,
+            index,
+            coordinates,
+            &shown,
+            &subset_options(options),
+        ),
+        Err(error) => Err(FontError::Subset(error)),
+    }
+}
+
+/// What a PDF has of the font of a text with these pairs by code.
+fn made(
+    alloc: Global,
+    data: &[u8],
+    index: u32,
+    coordinates: &[(Tag, i32)],
+    pairs: &[Pair],
+    options: &FontOptions,
+) -> Result<TextFont, FontError>
+    requires some { 0 < length pairs.now }
+    requires few { length pairs.now ≤ 65535 }
+    ensures ok { IfOk result (λ t. IsTextFont (font_of «data».now index options.now) coordinates.now options.now pairs.now t) }
+    ensures err { IfErr result (λ e. (e ≡ Subset OutOfMemory) ⊎ HasTextFault (font_of «data».now index options.now) coordinates.now options.now pairs.now e) }
+{
+    let subset = subset_of(alloc, data, index, coordinates, pairs, options)?;
+    match font_by_code(alloc, subset, pairs, options) {
+        Ok(font) => Ok(font),
+        Err(error) => Err(FontError::Subset(error)),
+    }
+}
+
+/// What a PDF has of the font of a text: of the subset of glyph 0 and the glyphs that its codes draw, by these codes, which are
+/// its CIDs.
+///
+/// `data`, `index` and `coordinates` are as for `pdf_font`; the pairs are those of the runs. Of the options `codes` has no effect,
+/// nor has `program`: outlines of CFF are the bare table.
+///
+/// # Errors
+///
+/// - those of `pdf_font`, but for `TextTooLong`
+/// - `Subset`: all glyphs are in use, so that none is left for a blank (`OverflowError`); or with outlines of CFF what
+///   `with_repeats` answers
+/// - `Subset`: a request for memory was refused (`OutOfMemory`)
+pub fn text_font(
+    alloc: Global,
+    data: &[u8],
+    index: u32,
+    coordinates: &[(Tag, i32)],
+    pairs: &Remapper<u16, Pair>,
+    options: &FontOptions,
+) -> Result<TextFont, FontError>
+    ensures ok { IfOk result (λ t. IsTextFont (font_of «data».now index options.now) coordinates.now options.now (by_code pairs.now) t) }
+    ensures err { IfErr result (λ e. (e ≡ Subset OutOfMemory) ⊎ HasTextFault (font_of «data».now index options.now) coordinates.now options.now (by_code pairs.now) e) }
+{
+    match by_code(alloc, pairs) {
+        Ok(pairs) => made(alloc, data, index, coordinates, &pairs, options),
+        Err(error) => Err(FontError::Subset(error)),
+    }
+}

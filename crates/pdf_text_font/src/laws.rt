@@ -1,0 +1,13 @@
+//! Laws of the font of a text, which no code runs.
+
+ghost use Rattle.pdf_text_font.specs.Laws.{MapsAreRead, TextsAreRead};
+
+/// CIDToGIDMap leads each code to the number of its glyph.
+pub fn maps_are_read()
+    ensures { MapsAreRead }
+{}
+
+/// ToUnicode has a line for each code above 0, and no other.
+pub fn texts_are_read()
+    ensures { TextsAreRead }
+{}
