@@ -1,6 +1,5 @@
 """Puts files together into packages, so that the same files always give the same bytes: names in order, one date for all, one owner, no name of a
 machine. A tree is a dict from a path to a `File`."""
-import base64
 import gzip
 import hashlib
 import io
@@ -11,8 +10,8 @@ import tempfile
 import zipfile
 from typing import NamedTuple, Optional
 
-# The date of every file in a package: 1980-01-01, the first that a zip can say.
-DATE, ZIP_DATE, DATE_TEXT = 315532800, (1980, 1, 1, 0, 0, 0), "1980-01-01T00:00:00Z"
+# The date of every file in a package: 1980-01-01, the first that a zip can say (bindings/python/subsetter_build.py writes those).
+DATE, DATE_TEXT = 315532800, "1980-01-01T00:00:00Z"
 # Of manylinux the tags that have a second, older name. Those before 2.17 are for x86-64 alone.
 OLDER_NAMES = {(2, 5): "manylinux1", (2, 12): "manylinux2010", (2, 17): "manylinux2014"}
 
@@ -39,30 +38,8 @@ def tar_gz(tree):
     return packed.getvalue()
 
 
-def zipped(tree):
-    """A zip of a tree, in the tree's order."""
-    made = io.BytesIO()
-    with zipfile.ZipFile(made, "w", zipfile.ZIP_DEFLATED, compresslevel=9) as out:
-        for path, file in tree.items():
-            head = zipfile.ZipInfo(path, ZIP_DATE)
-            head.create_system, head.external_attr = 3, (0o100000 | file.mode) << 16
-            head.compress_type = zipfile.ZIP_DEFLATED
-            out.writestr(head, file.data, compresslevel=9)
-    return made.getvalue()
-
-
 def sha256(data):
     return hashlib.sha256(data).hexdigest()
-
-
-def wheel(tree, info, metadata, tags, licences):
-    """A wheel of a tree for any Python 3 on the platforms of `tags`; `info` is the name of its folder with METADATA, in which the tree `licences` is, too."""
-    said = "Wheel-Version: 1.0\nGenerator: release/make\nRoot-Is-Purelib: false\n" + "".join(f"Tag: py3-none-{it}\n" for it in tags)
-    whole = {**dict(sorted(tree.items())), **{f"{info}/{path}": licences[path] for path in sorted(licences)}}
-    whole.update({f"{info}/METADATA": File(metadata.encode()), f"{info}/WHEEL": File(said.encode())})
-    sums = {path: base64.urlsafe_b64encode(hashlib.sha256(file.data).digest()).rstrip(b"=").decode() for path, file in whole.items()}
-    record = "".join(f"{path},sha256={sums[path]},{len(file.data)}\n" for path, file in whole.items())
-    return zipped({**whole, f"{info}/RECORD": File(f"{record}{info}/RECORD,,\n".encode())})
 
 
 def unpacked(name, data):

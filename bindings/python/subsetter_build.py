@@ -85,7 +85,7 @@ def below(folder, name):
 
 def metadata():
     head = {
-        "Metadata-Version": "2.1", "Name": NAME, "Version": version(), "Summary": SUMMARY, "License": licence(),
+        "Metadata-Version": "2.4", "Name": NAME, "Version": version(), "Summary": SUMMARY, "License-Expression": licence(),
         "Requires-Python": ">=3.8", "Description-Content-Type": "text/markdown",
     }
     lines = "".join(f"{name}: {value}\n" for name, value in head.items())
@@ -144,9 +144,9 @@ def recorded(path, data):
     return f"{path},sha256={sum_of},{len(data)}\n"
 
 
-def information(target):
-    """The folder of a wheel that describes it, without RECORD."""
-    said = f"Wheel-Version: 1.0\nGenerator: subsetter_build\nRoot-Is-Purelib: false\nTag: py3-none-{tag(target)}\n"
+def information(platforms):
+    """The folder of a wheel that describes it, without RECORD, for platforms by their tags."""
+    said = "Wheel-Version: 1.0\nGenerator: subsetter_build\nRoot-Is-Purelib: false\n" + "".join(f"Tag: py3-none-{it}\n" for it in platforms)
     return {**{f"licenses/{name}": data for name, data in licences().items()}, "METADATA": metadata(), "WHEEL": said.encode()}
 
 
@@ -154,22 +154,27 @@ def setting(settings):
     return (settings or {}).get("target", "")
 
 
-def build_wheel(wheel_directory, config_settings=None, metadata_directory=None):
-    target, info = setting(config_settings), f"{NAME}-{version()}.dist-info"
-    platform = tag(target)
-    name, data = library(target)
-    files = {**module(), f"{NAME}/{name}": data, **{f"{info}/{path}": it for path, it in information(target).items()}}
+def wheel(name, data, platforms):
+    """The wheel with a library, by its name in the module, for platforms by their tags: its name and its bytes."""
+    info = f"{NAME}-{version()}.dist-info"
+    files = {**module(), f"{NAME}/{name}": data, **{f"{info}/{path}": it for path, it in information(platforms).items()}}
     record = "".join(recorded(path, it) for path, it in files.items()) + f"{info}/RECORD,,\n"
     files[f"{info}/RECORD"] = record.encode()
-    wheel = f"{NAME}-{version()}-py3-none-{platform}.whl"
-    with open(os.path.join(wheel_directory, wheel), "wb") as file:
-        file.write(zipped(files, [f"{NAME}/{name}"]))
-    return wheel
+    return f"{NAME}-{version()}-py3-none-{'.'.join(platforms)}.whl", zipped(files, [f"{NAME}/{name}"])
+
+
+def build_wheel(wheel_directory, config_settings=None, metadata_directory=None):
+    target = setting(config_settings)
+    platform = tag(target)
+    name, made = wheel(*library(target), [platform])
+    with open(os.path.join(wheel_directory, name), "wb") as file:
+        file.write(made)
+    return name
 
 
 def prepare_metadata_for_build_wheel(metadata_directory, config_settings=None):
     folder = f"{NAME}-{version()}.dist-info"
-    for path, data in information(setting(config_settings)).items():
+    for path, data in information([tag(setting(config_settings))]).items():
         whole = os.path.join(metadata_directory, folder, *path.split("/"))
         os.makedirs(os.path.dirname(whole), exist_ok=True)
         with open(whole, "wb") as file:

@@ -69,7 +69,7 @@ def check_wheel(path, platform, traces):
     sums = [(name, base64.urlsafe_b64encode(hashlib.sha256(data).digest()).decode().rstrip("="), len(data)) for name, data in parts.items() if name != record]
     assert parts[record].decode().splitlines() == [*(f"{name},sha256={sum_of},{size}" for name, sum_of, size in sums), f"{record},,"]
     head, _, text = parts[f"{INFO}/METADATA"].decode().partition("\n\n")
-    assert {"Metadata-Version: 2.1", "Name: subsetter", f"Version: {VERSION}", "License: MIT OR Apache-2.0", "Requires-Python: >=3.8"} <= {*head.split("\n")}
+    assert {"Metadata-Version: 2.4", "Name: subsetter", f"Version: {VERSION}", "License-Expression: MIT OR Apache-2.0", "Requires-Python: >=3.8"} <= {*head.split("\n")}
     assert text == (MODULE / "README.md").read_text()
     assert parts[f"{INFO}/WHEEL"].decode().split("\n")[2:] == ["Root-Is-Purelib: false", f"Tag: py3-none-{platform}", ""]
     assert len(parts[library]) > 100_000 and not any(str(trace).encode() in parts[library] for trace in traces)

@@ -1,5 +1,5 @@
-/* A program of somebody who installed the package for C: user FONT OUT GLYPH.. It prints what every user's program here
- * prints: the version, the error for the font's first hundred bytes, the CIDs and the widths. */
+/* A program of somebody who installed the package for C: user FONT OUT GLYPH.. It prints the
+ * version, the error for the font's first hundred bytes, the CIDs and the widths. */
 #include <subsetter.h>
 
 #include <stdio.h>
