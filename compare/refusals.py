@@ -1,15 +1,11 @@
-"""Refuses each request for memory of the C library and the program, one at a time: refusals --only WORD
+"""Refuses each request for memory of the program, one at a time: refusals --only WORD
 
-refuse.c is loaded before the C library of the system. Each run has the next request refused, until one ends in which none was. What is demanded:
-
-    library       `subset` and `embed` (drivers/call.c calls them), as the font is and at coordinates, answer `out of memory` or as ever
-    no memory     with every request refused `subset` answers as ever on fonts that are refused by the first checks
-    program       a run ends as ever, or with status 1 and `out of memory`, while a file is read status 3 and `cannot read IN`, and neither OUT nor a PDF
-                  is touched; where no named instance has a name, the line that lists the names is whole or left out
-    given back    no block of memory is held at the end that isn't held at the end of a run without a refusal
+refuse.c is loaded before the C library of the system. Each run has the next request refused, until one ends in which none was. It has to end as ever, or with
+status 1 and `out of memory`, while a file is read status 3 and `cannot read IN`, and neither OUT nor a PDF is touched; where no named instance has a name,
+the line that lists the names is whole or left out. No block of memory is held at the end that isn't held at the end of a run without a refusal.
 
 The fonts are small ones of lib/made.py, and without --short Debian's (lib/fonts.py) and those of lib/kinds.py. Where Rust's standard library ends the build
-by Cargo, as its own requests can't fail, nothing may be written.
+by Cargo, as its own requests can't fail, nothing may be written. (tests/c refuses each request of the library.)
 """
 import itertools
 import os
@@ -25,7 +21,7 @@ import report as reports
 from fault_runs import CMAP, FONT
 
 REFUSE = os.path.join(build.BUILD, "refuse.so")
-NO_MEMORY, OLD = b"error 7\n", b"what stood there before"
+OLD = b"what stood there before"
 VARIABLE, CFF2 = (os.path.join(build.ROOT, "bindings", "rust", "tests", "data", name) for name in ("made_variable.ttf", "made_cff2.otf"))
 CANARY = build.Canary()
 
@@ -46,19 +42,12 @@ class Ended:
         return self.status, self.out, self.err, self.files
 
 
-def put(room, name, data):
-    path = os.path.join(room, name)
-    with open(path, "wb") as file:
-        file.write(data)
-    return path
-
-
 def run(words, room, before, **wishes):
     """A run over these files, with wishes of refuse.c."""
     for name in os.listdir(room):
         os.unlink(os.path.join(room, name))
     for name, data in before.items():
-        put(room, name, data)
+        fonts.put(os.path.join(room, name), data)
     env = {"PATH": os.environ["PATH"], "LD_PRELOAD": REFUSE, "TOLD": os.path.join(room, "told"), **{name: str(value) for name, value in wishes.items()}}
     ran = subprocess.run(words, cwd=room, env=env, capture_output=True, timeout=100)
     files = {name: fonts.content(os.path.join(room, name)) for name in sorted(os.listdir(room))}
@@ -69,45 +58,7 @@ def run(words, room, before, **wishes):
     return Ended(ran.returncode, ran.stdout, ran.stderr, files, *counts)
 
 
-def refuse_each(report, label, words, room, before, may_be, **wishes):
-    """A run for each request that can be refused: it ends as without, or as `may_be` says; how the one without ended."""
-    base = run(words, room, before, **wishes)
-    for number in itertools.count(1):
-        got = run(words, room, before, REFUSE=number, **wishes)
-        if got.refused == 0:
-            break
-        report.counts["refused"] += 1
-        is_given_back = got.status < 0 or (got.blocks <= base.blocks and got.held <= base.held)
-        if not (got.answer() == base.answer() or may_be(got)) or not is_given_back:
-            report.say(label, f"request {number}: {(got.status, got.out[:60], got.err[:200], {name: len(it) for name, it in got.files.items()}, got.blocks, base.blocks)}")
-    return base
-
-
-# ---- the library
-
-def check_call(report, call, name, data, glyphs, room, *settings, index=0):
-    """A call of the library between two readings of the clock."""
-    words = [*call, "font", str(index), glyphs, "out", *settings]
-    before = {"font": data}
-    base = refuse_each(report, f"{call[-1]} of {name}", words, room, before, lambda it: it.answer() == (0, NO_MEMORY, b"", before), WITHIN="clock")
-    if base.status or not base.out.startswith(b"ok "):
-        report.say(f"{call[-1]} of {name}", f"{base.out} {base.err}")
-
-
-# The first word, a collection in a collection (also with the last entry of all), and tables that aren't known.
-NESTED = b"ttcf" + made.u32s(0x00010000, 1, 16) + b"ttcf"
-REFUSED = [(b"", 0, 1), (NESTED, 0, 2), (NESTED, 4294967295, 2), (made.font([("CFF2", b"")], b"OTTO"), 0, 3), (made.font([("head", made.HEAD)], b"OTTO"), 0, 1)]
-
-
-def check_without_memory(report, call, room):
-    """What takes no memory answers with every request refused; what takes some wants it."""
-    for data, index, glyphs, said in [*((data, index, "0", b"error %d\n" % status) for data, index, status in REFUSED), *((data, 0, glyphs, NO_MEMORY) for data, glyphs in made.WORKED.values())]:
-        got = run([*call, "font", str(index), glyphs, "out"], room, {"font": data}, WITHIN="clock", REFUSE="all")
-        if (got.status, got.out) != (0, said):
-            report.say("no memory", f"{data[:40]!r}: {got.out}")
-
-
-# ---- the program
+# ---- the fonts and the runs
 
 def fixed(*values):
     """Numbers of 65536ths."""
@@ -131,56 +82,47 @@ NO_INSTANCE, NAMES = b"no such instance in font\n", b"named instances: Semi Bold
 WIDE_RUNS = [["--pdf", "page", *it] for it in (["--text", "A"], ["--json", "--codes", "text", "--text", "A"], ["--vertical", "--codes", "source", "--text", "AA"])]
 
 
-def check_program(report, program, name, data, words, room, glyphs=""):
+def compare_run(program, name, data, words, glyphs):
     """A run over an OUT that is there, and a PDF. By Cargo Rust's library may end it, before something is written."""
+    report, label = reports.Report("refusals"), f"subset_font {' '.join(words)}, {name}"
     before = {"in": data, "out": OLD, "list": glyphs.encode(), **({"page": OLD} if "--pdf" in words else {})}
-    memory = [(1, b"out of memory\n"), *((3, b"cannot read %s\nout of memory\n" % it) for it in (b"in", b"list"))]
-    ends = memory + [(1, NO_INSTANCE)] * ("bold" in words)
+    ends = [(1, b"out of memory\n"), *((3, b"cannot read %s\nout of memory\n" % it) for it in (b"in", b"list"))] + [(1, NO_INSTANCE)] * ("bold" in words)
 
     def may_be(it):
         is_std = "SUBSET_FONT" not in os.environ and it.status == -6 and it.err.startswith(b"memory allocation of ")
         return it.out == b"" and it.files == before and (is_std or (it.status, it.err) in ends)
 
-    base = refuse_each(report, f"subset_font {' '.join(words)}, {name}", [program, *words], room, before, may_be)
+    with tempfile.TemporaryDirectory(prefix="refusals-") as room:
+        base = run([program, *words], room, before)
+        for number in itertools.count(1):
+            got = run([program, *words], room, before, REFUSE=number)
+            if got.refused == 0:
+                break
+            report.counts["refused"] += 1
+            is_given_back = got.status < 0 or (got.blocks <= base.blocks and got.held <= base.held)
+            if not (got.answer() == base.answer() or may_be(got)) or not is_given_back:
+                report.say(label, f"request {number}: {(got.status, got.out[:60], got.err[:200], {name: len(it) for name, it in got.files.items()}, got.blocks, base.blocks)}")
     wanted = (1, NO_INSTANCE + NAMES) if "bold" in words else (0, b"")
     if (base.status, base.err) != wanted or (base.files == before) != ("bold" in words):
-        report.say(f"subset_font {' '.join(words)}, {name}", f"{base.status} {base.err}")
-
-
-def library_task(call, library, which, name, data, glyphs, index, *settings):
-    report = reports.Report("refusals")
-    with tempfile.TemporaryDirectory(prefix="refusals-") as room:
-        if which == "none":
-            check_without_memory(report, [call, library, "subset"], room)
-        else:
-            check_call(report, [call, library, which], name, data, glyphs, room, *settings, index=index)
-    return report
-
-
-def program_task(program, name, data, words, glyphs):
-    report = reports.Report("refusals")
-    with tempfile.TemporaryDirectory(prefix="refusals-") as room:
-        check_program(report, program, name, data, words, room, glyphs)
+        report.say(label, f"{base.status} {base.err}")
     return report
 
 
 def main():
     words = reports.words()
     build.gcc("refuse.c", "-shared", "-fPIC", to="refuse.so")
-    program, call, library = build.program(), build.gcc("call.c", "-ldl", to="call"), build.library()
+    program = build.program()
     cases = [(name, data, glyphs, 0) for name, (data, glyphs) in made.WORKED.items()]
     if not words.short:
         fonts.install([*kinds.PACKAGES, *(it[0] for it in fonts.TRUETYPE_FONTS + fonts.CFF_FONTS)])
         for path, index in [it[1:] for it in fonts.TRUETYPE_FONTS + fonts.CFF_FONTS] + [(it[1], 0) for it in kinds.all_fonts() if it[0] not in ("CFF2", "made")]:
             cases.append((fonts.label(path, index), fonts.content(path), fonts.spread(min(fonts.glyph_count(path, index), 65535), 20), index))
     cases = [it for it in cases if words.only in it[0]]
-    # (`embed` wants metrics, which most of the small fonts lack)
-    calls = [(call, library, which, *case) for which in ("subset", "embedded") for case in cases if which == "subset" or case[0] not in made.WORKED]
-    calls += [(call, library, which, os.path.basename(path), fonts.content(path), glyphs, 0, "wght", "42598400") for which in ("subset", "embedded") for path, glyphs in ((VARIABLE, "1,2,3"), (CFF2, "0,1"))]
     runs = [(name, data, ["in", "out", str(index), glyphs], "") for name, data, glyphs, index in cases]
     runs += [("a font with cmap", WITH_CMAP, ["--text", "A", "in", "out", "0"], "2"), ("a variable font", INSTANCES, ["--at", "bold", "in", "out", "0", "1"], "2")]
     runs += [("simple glyphs", made.WORKED["simple glyphs"][0], [*front, "--gids-file", "list", "in", "out", "0"], "2") for front in (["--json"], ["--quiet", "--no-names"])]
     runs += [("a variable font", INSTANCES, ["--at", at, *pdf, "in", "out", "0", "1,2"], "2") for at in ("wght=650", "semi bold") for pdf in ([], ["--pdf", "page"])]
+    runs += [("a font with CFF2", fonts.content(CFF2), ["--at", "wght=650", "in", "out", "0", "0,1"], "")]
     runs += [("a font with widths", FONT, [*front, "in", "out", "0"], "2") for front in WIDE_RUNS]
-    found = reports.beside(words, library_task, [(call, library, "none", "", b"", "", 0), *calls], 0.5) + reports.beside(words, program_task, [(program, *it) for it in runs[::-1]])
-    reports.end(found, reports.total(found)["refused"], "requests for memory refused of the library and the program")
+    found = reports.beside(words, compare_run, [(program, *it) for it in runs[::-1]])
+    reports.end(found, reports.total(found)["refused"], "requests for memory refused of the program")

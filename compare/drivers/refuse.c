@@ -1,10 +1,9 @@
 /* Refuses requests for memory one at a time, and counts them. Loaded before the C library, for programs of one thread:
- * LD_PRELOAD=refuse.so TOLD=FILE [REFUSE=N | REFUSE=all] [ROOM=BYTES] [SPARE=BYTES] [WITHIN=clock] [FAIL=WHAT:N] [INODE=N] PROGRAM WORDS.
+ * LD_PRELOAD=refuse.so TOLD=FILE [REFUSE=N] [ROOM=BYTES] [SPARE=BYTES] [FAIL=WHAT:N] [INODE=N] PROGRAM WORDS.
  *
- *     REFUSE=N       the Nth request for memory is refused; with `all` each is
+ *     REFUSE=N       the Nth request for memory is refused
  *     ROOM=BYTES     a request is refused where more than so many bytes would be held
  *     SPARE=BYTES    the same from when a file is made on, with so many bytes above what is held then
- *     WITHIN=clock   requests count from the first reading of the clock to the second: what a program times
  *     FAIL=WHAT:N    the Nth call of WHAT fails: write, and write1 and write2 for the standard streams
  *     INODE=N        each file has the inode number N
  *     WATCH=1        requests and blocks count that come from a part of the program's memory, which it names by `watch`
@@ -19,7 +18,6 @@
 #include <string.h>
 #include <sys/stat.h>
 #include <sys/syscall.h>
-#include <time.h>
 #include <unistd.h>
 
 extern void *__libc_malloc(size_t);
@@ -31,7 +29,7 @@ struct head {
 };
 
 static size_t held, peak, blocks, requests, refused, writes[3], wanted_request, wanted_write, room = SIZE_MAX, spare = SIZE_MAX;
-static int refuses_all, within_clock, clock_readings, is_ready, is_ended, wanted_stream = -1;
+static int is_ready, is_ended, wanted_stream = -1;
 static unsigned long inode;
 static uintptr_t watched, watched_end = UINTPTR_MAX;
 
@@ -42,13 +40,11 @@ static size_t number_of(const char *name, size_t otherwise) { return getenv(name
 
 /* The C library's own start isn't the program's: what it asks for before this is given. */
 __attribute__((constructor)) static void start(void) {
-    const char *refuse = getenv("REFUSE"), *fail = getenv("FAIL");
-    refuses_all = refuse && !strcmp(refuse, "all");
+    const char *fail = getenv("FAIL");
     wanted_request = number_of("REFUSE", 0);
     room = number_of("ROOM", SIZE_MAX);
     spare = number_of("SPARE", SIZE_MAX);
     inode = number_of("INODE", 0);
-    within_clock = getenv("WITHIN") != NULL;
     if (getenv("WATCH")) watched_end = 0;
     if (fail) wanted_stream = fail[5] == ':' ? 0 : fail[5] - '0', wanted_write = strtoul(strchr(fail, ':') + 1, NULL, 10);
     is_ready = 1;
@@ -58,9 +54,9 @@ static int is_watched(uintptr_t at) { return is_ready && watched <= at && at < w
 
 /* Whether a request for so many bytes is to be refused. */
 static int is_refused(size_t asked, uintptr_t at) {
-    if (!is_watched(at) || is_ended || (within_clock && clock_readings != 1)) return 0;
+    if (!is_watched(at) || is_ended) return 0;
     requests++;
-    if (!refuses_all && requests != wanted_request && (asked <= room && held <= room - asked)) return 0;
+    if (requests != wanted_request && (asked <= room && held <= room - asked)) return 0;
     refused++;
     errno = ENOMEM;
     return 1;
@@ -108,11 +104,6 @@ void *realloc(void *block, size_t asked) {
     memcpy(fresh, block, head_of(block)->asked < asked ? head_of(block)->asked : asked);
     free(block);
     return fresh;
-}
-
-int clock_gettime(clockid_t id, struct timespec *now) {
-    clock_readings++;
-    return syscall(SYS_clock_gettime, id, now);
 }
 
 int openat(int folder, const char *name, int how, ...) {
