@@ -96,14 +96,6 @@ def test_a_buffer_is_held_during_a_call_and_released_after_it(monkeypatch):
     held.append(0)
 
 
-def test_arguments_and_answers_are_copies():
-    data, glyphs, place = bytearray(TTF), [1, 5], {"wght": 1}
-    one = subsetter.embed(data, glyphs, coordinates=place)
-    assert (bytes(data), glyphs, place) == (TTF, [1, 5], {"wght": 1})
-    data[:] = bytes(len(data))
-    assert one == subsetter.embed(TTF, [1, 5])
-
-
 # ---- glyph numbers
 
 @given(st.lists(st.integers() | st.integers(-2, 70000)))
@@ -232,31 +224,17 @@ def test_no_coordinates():
 
 # ---- errors and names
 
-def forbidding(fs_type):
-    """The font with another fsType."""
-    at = int.from_bytes(TTF[TTF.index(b"OS/2") + 8:][:4], "big") + 8
-    return TTF[:at] + fs_type.to_bytes(2, "big") + TTF[at + 2:]
-
-
 @pytest.mark.parametrize("kind, message, call", [
     (subsetter.MalformedFont, "malformed font: glyph 60000: the font's glyphs are 0 to 11", lambda: subsetter.subset(TTF, [1, 60000])),
     (subsetter.MalformedFont, "malformed font: glyph 12: the font's glyphs are 0 to 11", lambda: subsetter.pdf_font(TTF, [(12, "")])),
     (subsetter.MalformedFont, "malformed font: glyph 12: the font's glyphs are 0 to 11", lambda: subsetter.advances(TTF, [12], coordinates={})),
     (subsetter.MalformedFont, "malformed font: face 1: the collection's faces are 0 to 0", lambda: subsetter.embed(made("made.ttc"), [1], 1)),
     (subsetter.MalformedFont, "malformed font: the face has no table cmap", lambda: subsetter.glyphs_of(TTF.replace(b"cmap", b"none"), "A")),
-    (subsetter.UnknownKind, "unknown font kind: a WOFF2 file: unpack it first", lambda: subsetter.subset(b"wOF2" + TTF[4:], [])),
     (subsetter.Unimplemented, "unsupported feature in font: CFF2: its outlines are taken at coordinates alone", lambda: subsetter.subset(made("made_cff2.otf"), [])),
     (subsetter.CFFError, "processing CFF table failed: glyph 0: its charstring can't be run within the limits",
      lambda: subsetter.embed(made("made_version_1.otf"), [1], coordinates={}, tokens=5)),
-    (subsetter.NotPermitted, "embedding not permitted: OS/2: fsType 0x0002 forbids embedding", lambda: subsetter.pdf_font(forbidding(2), SHOWN)),
-    (subsetter.InvalidText, "invalid text", lambda: subsetter.glyphs_of(TTF, "\ud800")),
-    (TypeError, 'a font is its bytes, as open(path, "rb").read() has them, and no str', lambda: subsetter.subset("font.ttf", [1])),
-    (TypeError, "glyphs are a list of ints, as [36, 68] (glyphs_of has those of a text), and no str", lambda: subsetter.subset(TTF, "AB")),
-    (TypeError, "a glyph is an int, and no str", lambda: subsetter.subset(TTF, ["A"])),
-    (ValueError, "a glyph is -1, and none from 0 to 65535", lambda: subsetter.embed(TTF, [1, -1])),
-    (TypeError, 'shown are pairs of a glyph and its text, as [(36, "A")] (glyphs_of makes them of a text), and no str', lambda: subsetter.pdf_font(TTF, "AB")),
 ])
-def test_messages_say_why_and_what_is_wanted(kind, message, call):
+def test_messages_say_why(kind, message, call):
     error = raised(call)
     assert type(error) is kind and alone(error) and str(error) == message
 

@@ -23,7 +23,6 @@ def test_glyphs_of_a_text():
     assert subsetter.glyphs_of(TTF, text) == list(zip([1, 9, 5, 6, 8, 0, 1], text))
     assert subsetter.glyphs_of(memoryview(TTF), "") == []
     assert subsetter.pdf_font(TTF, iter(subsetter.glyphs_of(TTF, text))).codes == [1, 2, 3, 4, 5, 0, 1]
-    assert type(raised(subsetter.glyphs_of, TTF.replace(b"cmap", b"none"), "A")) is subsetter.MalformedFont
     assert type(raised(subsetter.glyphs_of, b"no", "A")) is subsetter.UnknownKind
 
 
@@ -55,14 +54,6 @@ def test_faces():
     for call in (lambda *index: subsetter.pdf_font(one, SHOWN, *index).program, lambda *index: subsetter.glyphs_of(one, "A", *index)):
         assert call(0) == call()
         assert type(raised(call, 1)) is type(raised(call, 1 << 31)) is subsetter.MalformedFont
-
-
-def test_a_font_that_may_not_be_embedded():
-    """(By fsType of `OS/2`.)"""
-    at = int.from_bytes(TTF[TTF.index(b"OS/2") + 8:TTF.index(b"OS/2") + 12], "big") + 8
-    font = TTF[:at] + b"\x03\x02" + TTF[at + 2:]
-    assert subsetter.pdf_font(font, SHOWN, rights="held").permission == ("restricted", False, False)
-    assert type(raised(subsetter.pdf_font, font, SHOWN)) is subsetter.NotPermitted
 
 
 def test_limits_and_hinting():
