@@ -15,7 +15,8 @@ ROWS = ROOT / "crates/dev_rows/data/subset.txt"
 # The rows for PDF, and their fonts.
 PDF_DATA = ROOT / "bindings/rust/tests/data"
 
-ERRORS = [None, "UnknownKind", "MalformedFont", "Unimplemented", "SubsetError", "OverflowError", "CFFError", "OutOfMemory"]
+ERRORS = {1: "UnknownKind", 2: "MalformedFont", 3: "Unimplemented", 4: "SubsetError", 5: "OverflowError", 6: "CFFError", 7: "OutOfMemory",
+          11: "NotPermitted", 12: "InvalidText"}
 # What a kind of row has between its glyphs and its status.
 FIELDS = {"": [], "limits": ["tokens", "depth"], "options": ["tokens", "depth", "drop"],
           "bounded_options": ["tokens", "depth", "drop", "most_bytes"], "at": ["coordinates", "tokens", "depth", "drop", "most_bytes"]}

@@ -13,7 +13,7 @@ import types
 
 import pytest
 import subsetter
-from common import ROOT, made, raised, read_rows
+from common import ERRORS, ROOT, made, raised, read_rows
 from hypothesis import example, given, strategies as st
 
 ROWS, FONTS, TEXTS = read_rows()
@@ -241,13 +241,12 @@ def test_messages_say_why(kind, message, call):
 
 def test_errors():
     bases = {"OverflowError": builtins.OverflowError, "OutOfMemory": MemoryError, "InvalidText": ValueError}
-    library, numbers = subsetter._library(), {1: "UnknownKind", 2: "MalformedFont", 3: "Unimplemented", 4: "SubsetError", 5: "OverflowError",
-                                              6: "CFFError", 7: "OutOfMemory", 11: "NotPermitted", 12: "InvalidText"}
+    library = subsetter._library()
     assert raised(subsetter._check, library, 0) is None
     for status in [*range(1, 20), 255, 256, 2**32 - 1]:
         error = raised(subsetter._check, library, status)
-        if status in numbers:
-            kind = getattr(subsetter, numbers[status])
+        if status in ERRORS:
+            kind = getattr(subsetter, ERRORS[status])
             assert type(error) is kind and str(error) == TEXTS[status]
             assert kind.__bases__ == (subsetter.Error, *[it for name, it in bases.items() if name == kind.__name__])
             again = pickle.loads(pickle.dumps(error))
