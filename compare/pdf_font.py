@@ -71,8 +71,7 @@ def judged(case, pages):
     found, by_mupdf = faults_of_text(case, font)
     drawn, pictures = faults_of_ink(case, font) if case.shown and not case.source.is_moved else ([], 0)
     done.update({"files": 3, "texts": 1 + by_mupdf, "pictures": pictures})
-    # (a damaged `post` may say an angle past the reals of PDF/A-1, which are within 32767)
-    if not case.has("CIDSet") or case.has("OpenType") or abs(made.descriptor.italic_angle) > 32767:
+    if not case.has("CIDSet") or case.has("OpenType"):
         os.unlink(path)
     return wrong + found + drawn, done
 

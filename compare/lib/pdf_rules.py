@@ -180,12 +180,11 @@ def bounds(source, program, is_kept):
 
 
 def italic_angle(source):
-    if source.is_moved and "slnt" in source.at:
-        return int(half_up(fractions.Fraction(1000 * source.at["slnt"], 65536)))
-    if source.is_moved and source.at.get("ital", 32768) < 32768:
-        return 0
-    angle = field(source["post"], 4, "i")
-    return int(half_up(fractions.Fraction(1000 * angle, 65536))) if angle is not None else 0
+    """In thousandths of a degree; 0 where it isn't between -90 and 90 degrees (OpenType, "slnt")."""
+    angle = field(source["post"], 4, "i") or 0
+    if source.is_moved:
+        angle = source.at.get("slnt", angle if source.at.get("ital", 32768) >= 32768 else 0)
+    return int(half_up(fractions.Fraction(1000 * angle, 65536))) if abs(angle) < 90 * 65536 else 0
 
 
 def moved_by(source, value, tag):

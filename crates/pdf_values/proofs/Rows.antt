@@ -8,7 +8,7 @@ use Rattle.pdf_values.specs.Looks.Flags.{flags_by, is_italic}
 use Rattle.pdf_values.specs.Head.{units_per_em}
 use Rattle.pdf_values.specs.Looks.Heights.{first_moved, height, heights_by, heights_of, line_of, other_line, source_line}
 use Rattle.pdf_values.specs.Movement.{varied}
-use Rattle.pdf_values.specs.Looks.ItalicAngle.{angle}
+use Rattle.pdf_values.specs.Looks.ItalicAngle.{angle, angle_of}
 use Rattle.pdf_values.specs.Name.{postscript_name, string_from}
 use Rattle.pdf_values.specs.Permission.{permission, unsaid, is_permitted}
 use Rattle.pdf_values.specs.Rounding.{thousandths, lowered, raised}
@@ -144,6 +144,14 @@ nothing_has_heights = refl
 
 pub nothing_has_flags : flags_by None None (is_italic None None (pos 0)) ≡ 4
 nothing_has_flags = refl
+
+-- `post` says -32767.5 degrees; the last angles, of 90 degrees less a 65536th, and the first numbers that aren't
+pub damaged_has_no_angle : angle (Some (hex (codes "0003000080008000"))) ≡ pos 0
+damaged_has_no_angle = refl
+
+pub last_angles : angle_of (pos 5898239) ∷ angle_of (negsuc 5898238) ∷ angle_of (pos 5898240) ∷ angle_of (negsuc 5898239) ∷ [] ≡ pos 90000 ∷ negsuc 89999 ∷ pos 0 ∷ pos 0 ∷ []
+unfolding thousandths nearest
+last_angles = refl
 
 pub nothing_weighs : weight_of None None ≡ 400
 nothing_weighs = refl

@@ -3,7 +3,7 @@
 
 ghost use Rattle.std.specs.Prelude.{◌≡◌};
 ghost use Rattle.std.specs.Option.{option_copied, option_map};
-ghost use Rattle.pdf_values.specs.Looks.ItalicAngle.{angle, angle_at, angle_by, is_ital, is_italic_at, italic_by, leans};
+ghost use Rattle.pdf_values.specs.Looks.ItalicAngle.{angle, angle_at, angle_by, angle_of, is_ital, is_italic_at, italic_by, leans};
 ghost use Rattle.pdf_values.specs.Movement.{movement_view};
 
 use crate::looks::flags::is_italic;
@@ -12,12 +12,24 @@ use crate::rounding::thousandths;
 use subsetter_base::Tag;
 use subsetter_sfnt::fields;
 
+/// The angle that a number of 65536ths of a degree is, in thousandths; 0 where it isn't between -90 and 90 degrees (OpenType,
+/// "Registered design-variation axis tag: 'slnt'").
+fn angle_of(v: i32) -> i32
+    ensures { result ≡ angle_of v }
+{
+    if v.unsigned_abs() < 90 * 65536 {
+        thousandths(v, 65536)
+    } else {
+        0
+    }
+}
+
 /// ItalicAngle in thousandths of a degree, as `post` says, else 0.
 fn italic_angle(post: Option<&[u8]>) -> i32
     ensures { result ≡ angle (option_copied post.entry) }
 {
     match fields::post::italic_angle(post) {
-        Some(angle) => thousandths(angle, 65536),
+        Some(angle) => angle_of(angle),
         None => 0,
     }
 }
@@ -83,7 +95,7 @@ pub(crate) fn angle_at(movement: Option<Movement<'_>>, post: Option<&[u8]>) -> i
     ensures { result ≡ angle_at (option_map movement_view movement.entry) (option_copied post.entry) }
 {
     match coordinate_on(movement, Tag::new(b"slnt")) {
-        Some(coordinate) => thousandths(coordinate, 65536),
+        Some(coordinate) => angle_of(coordinate),
         None => angle_by(coordinate_on(movement, Tag::new(b"ital")), post),
     }
 }

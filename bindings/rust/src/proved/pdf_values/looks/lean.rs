@@ -8,10 +8,20 @@ use crate::proved::pdf_values::rounding::thousandths;
 use crate::proved::subsetter_base::Tag;
 use crate::proved::subsetter_sfnt::fields;
 
+/// The angle that a number of 65536ths of a degree is, in thousandths; 0 where it isn't between -90 and 90 degrees (OpenType,
+/// "Registered design-variation axis tag: 'slnt'").
+fn angle_of(v: i32) -> i32 {
+    if v.unsigned_abs() < 90 * 65536 {
+        thousandths(v, 65536)
+    } else {
+        0
+    }
+}
+
 /// ItalicAngle in thousandths of a degree, as `post` says, else 0.
 fn italic_angle(post: Option<&[u8]>) -> i32 {
     match fields::post::italic_angle(post) {
-        Some(angle) => thousandths(angle, 65536),
+        Some(angle) => angle_of(angle),
         None => 0,
     }
 }
@@ -65,7 +75,7 @@ pub(crate) fn is_italic_at(
 /// ItalicAngle in thousandths of a degree: the coordinate on `slnt`, where the font has this axis.
 pub(crate) fn angle_at(movement: Option<Movement<'_>>, post: Option<&[u8]>) -> i32 {
     match coordinate_on(movement, Tag::new(b"slnt")) {
-        Some(coordinate) => thousandths(coordinate, 65536),
+        Some(coordinate) => angle_of(coordinate),
         None => angle_by(coordinate_on(movement, Tag::new(b"ital")), post),
     }
 }
