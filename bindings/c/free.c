@@ -53,6 +53,7 @@ void subsetter_free_font(subsetter_font *made)
     give_back(made->glyphs, made->glyph_count);
     give_back(made->text, made->text_count);
     give_back(made->ends, made->end_count);
+    give_back(made->cid_to_gid_map, made->cid_to_gid_map_size);
     *made = nothing;
 }
 

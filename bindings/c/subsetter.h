@@ -25,7 +25,7 @@
  *     const char *text = "Hello";
  *     status = subsetter_make_pdf_font_of_utf8(data, size, 0, NULL, 0, text, strlen(text), NULL, &font);
  *     status = subsetter_make_sheet(&font, SUBSETTER_LAYOUT_LINE, &sheet);
- *     status = subsetter_make_pdf_objects(&font.pdf, 5, &objects);
+ *     status = subsetter_make_objects(&font, 5, &objects);
  *     ..
  *     subsetter_free_pdf_objects(&objects);
  *     subsetter_free_pdf_objects(&sheet);
@@ -449,6 +449,9 @@ typedef struct subsetter_font {
     size_t text_count;
     const size_t *ends;
     size_t end_count;
+    /* The bytes of CIDToGIDMap (9.7.4.2), where it is a stream: of a text's font with TrueType outlines. */
+    const uint8_t *cid_to_gid_map;
+    size_t cid_to_gid_map_size;
 } subsetter_font;
 
 /* All that a PDF has of a font for the glyphs in use, at coordinates (none: the font's default).
@@ -518,13 +521,15 @@ typedef struct subsetter_pdf_objects {
 } subsetter_pdf_objects;
 
 /* The objects of a font, whole, with numbers from `first` on: the Type 0 font, which pages name, its CIDFont, the font
- * descriptor, the font program, ToUnicode, CIDSet if there is one, and the CMap if the file has its own. Streams have no filter,
- * and it is for files that aren't encrypted. `font` is one that a `make` call made, unchanged: `&font.pdf` of a
- * `subsetter_font`.
+ * descriptor, the font program, ToUnicode, CIDToGIDMap if it is a stream, CIDSet if there is one, and the CMap if the file has its
+ * own. Streams have no filter, and it is for files that aren't encrypted. `font` is one that a `make` call made, unchanged.
  *   0: `*made` are the objects, one after the other.
- *   5: seven numbers from `first` on don't fit 32 bits; 7: malloc gave nothing. The size and the count of `*made` are 0, and
- *   nothing is to be freed.
+ *   5: seven numbers from `first` on, eight with a CIDToGIDMap as a stream, don't fit 32 bits; 7: malloc gave nothing; 10: an unknown
+ *   `font->size`. The size and the count of `*made` are 0, and nothing is to be freed.
  */
+uint32_t subsetter_make_objects(const subsetter_font *font, uint32_t first, subsetter_pdf_objects *made);
+
+/* The same of a font in the older struct, which is also `&font.pdf` of a `subsetter_font` that isn't a text's. */
 uint32_t subsetter_make_pdf_objects(const subsetter_pdf_font *font, uint32_t first, subsetter_pdf_objects *made);
 
 /* How a sheet shows glyphs. */
@@ -573,7 +578,9 @@ enum {
     /* CIDSet (9.8.3). */
     SUBSETTER_ROLE_CID_SET = 5,
     /* The CMap of the file's own (9.7.5). */
-    SUBSETTER_ROLE_ENCODING = 6
+    SUBSETTER_ROLE_ENCODING = 6,
+    /* CIDToGIDMap (9.7.4.2). */
+    SUBSETTER_ROLE_CID_TO_GID_MAP = 7
 };
 
 /* Bytes from `start` up to `end`, without that. */
@@ -608,10 +615,10 @@ typedef struct subsetter_pdf_parts {
     size_t part_count;
 } subsetter_pdf_parts;
 
-/* How many parts a font has: 5, one more with a CIDSet, and one more with a CMap of the file's own. */
+/* How many parts a font has: 5, one more with a CIDToGIDMap as a stream, with a CIDSet, and with a CMap of the file's own. */
 uint32_t subsetter_pdf_part_count(const subsetter_font *font);
 
-/* The parts of a font, in the order of their roles. `numbers` are `subsetter_pdf_part_count` numbers of objects, of generation 0, distinct
+/* The parts of a font, in the order of `subsetter_make_objects`. `numbers` are `subsetter_pdf_part_count` numbers of objects, of generation 0, distinct
  * and above 0, the Type 0 font's first.
  *   0: `*made` are the parts.
  *   7, 10 (an unknown `font->size`), 16: the count of `*made` is 0, and nothing is to be freed.

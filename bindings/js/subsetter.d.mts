@@ -186,7 +186,7 @@ export interface Objects {
 /** An object of a PDF, as data: a dictionary, or a stream with its dictionary. */
 export interface Part {
     /** What it is. */
-    role: "font" | "cid_font" | "descriptor" | "program" | "to_unicode" | "cid_set" | "encoding";
+    role: "font" | "cid_font" | "descriptor" | "program" | "to_unicode" | "cid_set" | "encoding" | "cid_to_gid_map";
     /** Its number, as the caller chose it. */
     number: number;
     /** The entries of its dictionary, without `<<`, `>>` and Length, and without Filter unless the stream is packed. */
@@ -257,11 +257,13 @@ export interface PdfFont {
     encodingName?: string;
     /** The bytes of CIDSet, if it was chosen. */
     cidSet?: Uint8Array;
+    /** The bytes of CIDToGIDMap (9.7.4.2), where it is a stream. */
+    cidToGidMap?: Uint8Array;
     /**
      * The font's objects, whole, with numbers from `first` on: the Type 0 font, which pages name, its CIDFont, the font
-     * descriptor, the font program, ToUnicode, CIDSet if there is one, and the CMap if the file has its own. Streams have no
-     * filter, and it is for files that aren't encrypted. OverflowError is thrown where seven numbers from `first` on don't fit 32
-     * bits. (What is changed in this object isn't written.)
+     * descriptor, the font program, ToUnicode, CIDToGIDMap if it is a stream, CIDSet if there is one, and the CMap if the file has
+     * its own. Streams have no filter, and it is for files that aren't encrypted. OverflowError is thrown where seven numbers from
+     * `first` on, eight with a CIDToGIDMap as a stream, don't fit 32 bits. (What is changed in this object isn't written.)
      */
     objects(first: number): Objects;
     /** How many objects it has. */

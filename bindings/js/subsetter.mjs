@@ -62,11 +62,11 @@ const CALLS = ["subset", "subset_at", "embed", "embed_at", "pdf_font", "glyphs_o
 const MADE = [0, 0, 0, 0, 0, 0];
 
 /** The lists of a font for a PDF, by the bytes of an item, and how many numbers there are behind them. */
-const PARTS = { program: 1, cids: 2, codes: 2, isSaid: 1, widths: 4, columns: 12, fontName: 1, toUnicode: 1, encoding: 1, encodingName: 1, cidSet: 1 };
+const PARTS = { program: 1, cids: 2, codes: 2, isSaid: 1, widths: 4, columns: 12, fontName: 1, toUnicode: 1, encoding: 1, encodingName: 1, cidSet: 1, cidToGidMap: 1 };
 const NUMBERS = 21;
 /** The codes of glyphs in use, and what the parts of a font are. */
 const CODES = ["consecutive", "source", "each_text"];
-const ROLES = ["font", "cid_font", "descriptor", "program", "to_unicode", "cid_set", "encoding"];
+const ROLES = ["font", "cid_font", "descriptor", "program", "to_unicode", "cid_set", "encoding", "cid_to_gid_map"];
 const USAGES = ["unsaid", "installable", "editable", "previewAndPrint", "restricted"];
 
 const aligned = (at) => Math.ceil(at / ALIGNMENT) * ALIGNMENT;
@@ -574,7 +574,7 @@ class PdfFont {
 
     constructor(library, raw, numbers, entries, added) {
         Object.assign(this, added);
-        this.partCount = 5 + (raw.cidSet.count ? 1 : 0) + (raw.encoding.count ? 1 : 0);
+        this.partCount = 5 + [raw.cidToGidMap, raw.cidSet, raw.encoding].filter(({ count }) => count).length;
         this.#library = library;
         this.#raw = raw;
         this.#numbers = numbers;
@@ -608,6 +608,9 @@ class PdfFont {
         }
         if (raw.cidSet.count) {
             this.cidSet = raw.cidSet.bytes.slice();
+        }
+        if (raw.cidToGidMap.count) {
+            this.cidToGidMap = raw.cidToGidMap.bytes.slice();
         }
     }
 

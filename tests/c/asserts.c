@@ -26,6 +26,7 @@ NUMBER(SUBSETTER_USAGE_PREVIEW_AND_PRINT, 3) NUMBER(SUBSETTER_USAGE_RESTRICTED, 
 NUMBER(SUBSETTER_LAYOUT_LINE, 0) NUMBER(SUBSETTER_LAYOUT_GRID, 1)
 NUMBER(SUBSETTER_ROLE_FONT, 0) NUMBER(SUBSETTER_ROLE_CID_FONT, 1) NUMBER(SUBSETTER_ROLE_DESCRIPTOR, 2) NUMBER(SUBSETTER_ROLE_PROGRAM, 3)
 NUMBER(SUBSETTER_ROLE_TO_UNICODE, 4) NUMBER(SUBSETTER_ROLE_CID_SET, 5) NUMBER(SUBSETTER_ROLE_ENCODING, 6)
+NUMBER(SUBSETTER_ROLE_CID_TO_GID_MAP, 7)
 
 /* The preprocessor knows the version; numbers of characters have each at its place, with its eight bits alone, in any expression. */
 #if SUBSETTER_VERSION >> 24 != SUBSETTER_VERSION_MAJOR || (SUBSETTER_VERSION >> 16 & 255) != SUBSETTER_VERSION_MINOR \
@@ -86,7 +87,8 @@ FIELD(subsetter_font, size, 0, uint32_t *) FIELD(subsetter_font, units_per_em, 4
     FIELD(subsetter_font, NAME, BEHIND + 2 * (AT) * WORD, const ITEM **) FIELD(subsetter_font, COUNT, BEHIND + (2 * (AT) + 1) * WORD, size_t *)
 FONT_LIST(0, exact_widths, uint16_t, exact_width_count) FONT_LIST(1, unknown_axes, uint32_t, unknown_axis_count)
 FONT_LIST(2, glyphs, uint16_t, glyph_count) FONT_LIST(3, text, uint32_t, text_count) FONT_LIST(4, ends, size_t, end_count)
-SIZE(subsetter_font, BEHIND + 10 * WORD) _Static_assert(WORD != 8 || sizeof(subsetter_font) == 352, "the size that the proved library knows");
+FONT_LIST(5, cid_to_gid_map, uint8_t, cid_to_gid_map_size)
+SIZE(subsetter_font, BEHIND + 12 * WORD) _Static_assert(WORD != 8 || sizeof(subsetter_font) == 368, "the size that the proved library knows");
 FIELD(subsetter_pdf_range, start, 0, size_t *) FIELD(subsetter_pdf_range, end, WORD, size_t *) SIZE(subsetter_pdf_range, 2 * WORD)
 FIELD(subsetter_pdf_part, role, 0, uint32_t *) FIELD(subsetter_pdf_part, number, 4, uint32_t *) FIELD(subsetter_pdf_part, entries, 8, const uint8_t **)
 FIELD(subsetter_pdf_part, entries_size, 8 + WORD, size_t *) FIELD(subsetter_pdf_part, strings, 8 + 2 * WORD, const subsetter_pdf_range **)
@@ -125,6 +127,7 @@ CALL(subsetter_make_pdf_font_by_words, uint32_t, FONT, AT, SHOWN, WORDS, subsett
 CALL(subsetter_make_pdf_font, uint32_t, FONT, AT, SHOWN, const subsetter_pdf_options *, subsetter_pdf_font *)
 CALL(subsetter_free_pdf_font, void, subsetter_pdf_font *)
 CALL(subsetter_make_pdf_objects, uint32_t, const subsetter_pdf_font *, uint32_t, subsetter_pdf_objects *)
+CALL(subsetter_make_objects, uint32_t, const subsetter_font *, uint32_t, subsetter_pdf_objects *)
 CALL(subsetter_make_pdf_sheet, uint32_t, const subsetter_pdf_font *, SHOWN, uint32_t, subsetter_pdf_objects *)
 CALL(subsetter_free_pdf_objects, void, subsetter_pdf_objects *) CALL(subsetter_make_font_by_words, uint32_t, FONT, AT, SHOWN, WORDS, subsetter_font *)
 CALL(subsetter_make_font, uint32_t, FONT, AT, SHOWN, const subsetter_pdf_options *, subsetter_font *)

@@ -312,7 +312,8 @@ static int is_no_whole(const subsetter_font *font)
 {
     return font->size == sizeof *font && font->units_per_em == 0 && is_nothing(&font->pdf) && is_empty(font->exact_widths, font->exact_width_count)
         && is_empty(font->unknown_axes, font->unknown_axis_count) && is_empty(font->glyphs, font->glyph_count)
-        && is_empty(font->text, font->text_count) && is_empty(font->ends, font->end_count);
+        && is_empty(font->text, font->text_count) && is_empty(font->ends, font->end_count)
+        && is_empty(font->cid_to_gid_map, font->cid_to_gid_map_size);
 }
 
 static uint32_t make_parts(const subsetter_font *font, const uint32_t *numbers, uint32_t count, subsetter_pdf_parts *parts)
@@ -326,11 +327,11 @@ static uint32_t make_parts(const subsetter_font *font, const uint32_t *numbers, 
 /* The parts of a font, written as objects, are its objects; other numbers are refused. */
 static void compare_parts(const struct row *row, const subsetter_font *font)
 {
-    uint32_t numbers[8] = {7, 8, 9, 10, 11, 12, 13, 14}, count = subsetter_pdf_part_count(font);
+    uint32_t numbers[9] = {7, 8, 9, 10, 11, 12, 13, 14, 15}, count = subsetter_pdf_part_count(font);
     subsetter_pdf_objects objects;
     subsetter_pdf_parts parts;
     check(make_parts(font, numbers, count, &parts) == 0 && parts.part_count == count, "parts", row->name);
-    check(subsetter_make_pdf_objects(&font->pdf, 7, &objects) == 0 && objects.offset_count == count, "objects", row->name);
+    check(subsetter_make_objects(font, 7, &objects) == 0 && objects.offset_count == count, "objects", row->name);
     for (size_t i = 0; i < parts.part_count; i++) {
         const subsetter_pdf_part *part = &parts.parts[i];
         const uint8_t *at = objects.bytes + objects.offsets[i], *end = i + 1 < count ? objects.bytes + objects.offsets[i + 1] : objects.bytes + objects.size;
@@ -360,6 +361,23 @@ static void compare_parts(const struct row *row, const subsetter_font *font)
     }
 }
 
+/* With a CIDToGIDMap as a stream there is one object more, to which a CIDFont of TrueType outlines refers. */
+static void compare_mapped(const struct row *row, subsetter_font *font)
+{
+    static const uint8_t map[] = {0, 0, 0, 1};
+    static const char mapped[] = "/CIDToGIDMap 12 0 R /DW ", object[] = "\n12 0 obj\n<< /Length 4 >>\nstream\n\0\0\0\1\nendstream\nendobj\n";
+    uint32_t count = subsetter_pdf_part_count(font);
+    subsetter_pdf_objects objects;
+    font->cid_to_gid_map = map;
+    font->cid_to_gid_map_size = sizeof map;
+    check(subsetter_pdf_part_count(font) == count + 1 && subsetter_make_objects(font, 7, &objects) == 0, "objects with a map", row->name);
+    check(contains(&objects, mapped, sizeof mapped - 1) == (font->pdf.kind == SUBSETTER_KIND_TRUETYPE) && contains(&objects, object, sizeof object - 1), "a map", row->name);
+    subsetter_free_pdf_objects(&objects);
+    compare_parts(row, font);
+    font->cid_to_gid_map = NULL;
+    font->cid_to_gid_map_size = 0;
+}
+
 /* The same font, what is new of it, and what needs no font. */
 static void compare_whole(const struct row *row, const subsetter_pdf_font *font)
 {
@@ -367,6 +385,7 @@ static void compare_whole(const struct row *row, const subsetter_pdf_font *font)
     uint32_t units;
     size_t length, count = row->glyph_count, differing = 0;
     subsetter_font whole;
+    subsetter_pdf_objects objects;
     check(make_whole(row, &row->options, &whole) == 0 && whole.size == sizeof whole && are_same(&whole.pdf, font), "the newer call", row->name);
     check(is_same(whole.glyphs, 2 * whole.glyph_count, row->glyphs, 2 * count) && is_same(whole.text, 4 * whole.text_count, row->text, 4 * row->text_count)
               && is_same(whole.ends, whole.end_count * sizeof *whole.ends, row->ends, count * sizeof *row->ends), "its entries", row->name);
@@ -380,6 +399,7 @@ static void compare_whole(const struct row *row, const subsetter_pdf_font *font)
         differing += font->widths[i] != (2000 * whole.exact_widths[i] + units) / (2 * units);
     check(differing == 0, "widths that differ", row->name);
     compare_parts(row, &whole);
+    compare_mapped(row, &whole);
     for (int turn = 0; turn < 2; turn++) {
         static const subsetter_font zero;
         subsetter_free_font(&whole);
@@ -388,7 +408,8 @@ static void compare_whole(const struct row *row, const subsetter_pdf_font *font)
     }
     whole.size--;
     check(subsetter_make_font_by_words(FONT, NOTHING, NULL, 0, &whole) == 10 && whole.size == sizeof whole - 1
-        && make_parts(&whole, NULL, 0, &(subsetter_pdf_parts){NULL, 0}) == 10, "another size", row->name);
+        && make_parts(&whole, NULL, 0, &(subsetter_pdf_parts){NULL, 0}) == 10 && subsetter_make_objects(&whole, 7, &objects) == 10
+        && are_no_objects(&objects), "another size", row->name);
 }
 
 /* A text in UTF-8: the same font as of its glyphs; an axis that the font doesn't have; and kinds of codes. */

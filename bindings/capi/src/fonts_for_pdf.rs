@@ -70,14 +70,15 @@ impl PdfMade {
         }
     }
 
-    /// The lists.
+    /// The lists, with those of a CIDToGIDMap.
     ///
     /// # Safety
     ///
     /// They were handed over by a call that makes a font, and aren't given back as long as they are used.
-    pub unsafe fn parts<'a>(&self) -> FontParts<'a> {
+    pub unsafe fn parts<'a>(&self, map: List<u8>) -> FontParts<'a> {
         unsafe {
             FontParts {
+                cid_to_gid_map: map.items(),
                 program: self.program.items(),
                 cids: self.cids.items(),
                 codes: self.codes.items(),
@@ -136,6 +137,12 @@ impl ObjectsMade {
         bytes: List::NONE,
         offsets: List::NONE,
     };
+
+    /// The objects of a font, with numbers from one on.
+    pub fn objects(font: FontParts<'_>, first: u32) -> Result<Self, u32> {
+        let (bytes, offsets) = font.objects(first).map_err(status_of)?;
+        Ok(Self::of(bytes, offsets))
+    }
 
     fn of(bytes: Vec<u8>, starts: Vec<usize>) -> Self {
         Self {
@@ -277,11 +284,8 @@ pub unsafe extern "C" fn subsetter_make_pdf_objects(
     first: u32,
     made: *mut ObjectsMade,
 ) -> u32 {
-    let parts = unsafe { (*font).parts() };
-    let answer = guarded(|| {
-        let (bytes, offsets) = parts.objects(first).map_err(status_of)?;
-        Ok(ObjectsMade::of(bytes, offsets))
-    });
+    let parts = unsafe { (*font).parts(List::NONE) };
+    let answer = guarded(|| ObjectsMade::objects(parts, first));
     unsafe { hand(answer, ObjectsMade::NOTHING, made) }
 }
 
@@ -302,7 +306,7 @@ pub unsafe extern "C" fn subsetter_make_pdf_sheet(
     layout: u32,
     made: *mut ObjectsMade,
 ) -> u32 {
-    let parts = unsafe { (*font).parts() };
+    let parts = unsafe { (*font).parts(List::NONE) };
     let entries = unsafe { entries_of(glyphs, glyph_count, text, text_count, ends, end_count) };
     let answer = guarded(|| {
         if layout > 1 {

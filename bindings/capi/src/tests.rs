@@ -102,6 +102,9 @@ fn in_memory(address: usize) -> Vec<(u32, usize)> {
         all.push((found, 0));
         all.push((subsetter_make_pdf_parts(&whole, [1, 2, 3, 4, 5].as_ptr(), 5, &mut parts), subsetter_pdf_part_count(&whole) as usize));
         subsetter_free_pdf_parts(&mut parts);
+        let found = subsetter_make_objects(&whole, 1, &mut objects);
+        all.push((found, objects.size()));
+        subsetter_free_pdf_objects(&mut objects);
         subsetter_free_font(&mut whole);
         length = 0;
         all.push((subsetter_codes_of(glyphs, 0, words, 0, ends, 0, 0, buffer, 0, &mut length), length));
@@ -126,7 +129,7 @@ fn no_panic_reaches_the_caller() {
         };
         assert_eq!(left, wanted, "call {call}");
     }
-    let mut wanted = [(PANICKED, 0); 13];
+    let mut wanted = [(PANICKED, 0); 14];
     // (how many parts there are is counted)
     wanted[10].1 = 5;
     assert_eq!(memory, wanted);
@@ -154,7 +157,7 @@ fn lists_of_no_items_may_be_anywhere() {
             [(DONE, 164), (DONE, 164), (2, 0), (2, 0), (2, 0), (2, 0)]
         );
         assert!(made[6].0 == DONE && made[6].1 > 500 && made[7].0 == DONE);
-        assert_eq!(made[8..], [(2, 0), (2, 0), (DONE, 5), (DONE, 0), (2, 0)]);
+        assert_eq!(made[8..], [(2, 0), (2, 0), (DONE, 5), made[6], (DONE, 0), (2, 0)]);
     }
 }
 

@@ -2,11 +2,11 @@
 
 use crate::buffers::{hand_items, list, Buffer};
 use crate::calls::guarded;
-use crate::fonts_for_pdf::{entries_of, hand, status_of_refusal, PdfMade};
+use crate::fonts_for_pdf::{entries_of, hand, status_of_refusal, ObjectsMade, PdfMade};
 use crate::making::List;
 use crate::options::{choices, font_choices};
 use crate::status::{status_of, DONE, INVALID_NUMBERS, TOO_SMALL, UNKNOWN_OPTION};
-use fonts::capi::pdf::{advances, codes_of, pdf_font, Entries, FontLists, FontNumbers, TextEntries};
+use fonts::capi::pdf::{advances, codes_of, pdf_font, Entries, FontLists, FontNumbers, FontParts, TextEntries};
 use fonts::capi::Coordinate;
 use fonts::pdf::{Part, PartsError};
 use fonts::Error;
@@ -25,6 +25,7 @@ pub struct FontMade {
     glyphs: List<u16>,
     text: List<u32>,
     ends: List<usize>,
+    cid_to_gid_map: List<u8>,
 }
 
 /// The one size that is known.
@@ -57,6 +58,7 @@ impl FontMade {
             glyphs: List::NONE,
             text: List::NONE,
             ends: List::NONE,
+            cid_to_gid_map: List::NONE,
         }
     }
 
@@ -72,8 +74,18 @@ impl FontMade {
             glyphs: List::of(glyphs),
             text: List::of(text),
             ends: List::of(ends),
+            cid_to_gid_map: List::of(take(&mut lists.cid_to_gid_map)),
             pdf: PdfMade::of(lists, numbers),
         })
+    }
+
+    /// The lists that its objects say.
+    ///
+    /// # Safety
+    ///
+    /// As of [`PdfMade::parts`].
+    unsafe fn parts<'a>(&self) -> FontParts<'a> {
+        unsafe { self.pdf.parts(self.cid_to_gid_map) }
     }
 
     /// A font of these entries, by the words of its options.
@@ -185,6 +197,7 @@ pub unsafe extern "C" fn subsetter_free_font(made: *mut FontMade) {
         font.glyphs.give_back();
         font.text.give_back();
         font.ends.give_back();
+        font.cid_to_gid_map.give_back();
     }
 }
 
@@ -255,7 +268,7 @@ impl PartsMade {
 /// What the header requires of a caller.
 #[no_mangle]
 pub unsafe extern "C" fn subsetter_pdf_part_count(font: *const FontMade) -> u32 {
-    unsafe { (*font).pdf.parts() }.part_count()
+    unsafe { (*font).parts() }.part_count()
 }
 
 /// See `subsetter.h`.
@@ -270,7 +283,7 @@ pub unsafe extern "C" fn subsetter_make_pdf_parts(
     number_count: usize,
     made: *mut PartsMade,
 ) -> u32 {
-    let (size, parts) = unsafe { ((*font).size, (*font).pdf.parts()) };
+    let (size, parts) = unsafe { ((*font).size, (*font).parts()) };
     let numbers = unsafe { list(numbers, number_count) };
     let answer = guarded(|| {
         if size != SIZE {
@@ -283,6 +296,27 @@ pub unsafe extern "C" fn subsetter_make_pdf_parts(
         PartsMade::of(found?)
     });
     unsafe { hand(answer, PartsMade::NOTHING, made) }
+}
+
+/// See `subsetter.h`.
+///
+/// # Safety
+///
+/// What the header requires of a caller.
+#[no_mangle]
+pub unsafe extern "C" fn subsetter_make_objects(
+    font: *const FontMade,
+    first: u32,
+    made: *mut ObjectsMade,
+) -> u32 {
+    let (size, parts) = unsafe { ((*font).size, (*font).parts()) };
+    let answer = guarded(|| {
+        if size != SIZE {
+            return Err(UNKNOWN_OPTION);
+        }
+        ObjectsMade::objects(parts, first)
+    });
+    unsafe { hand(answer, ObjectsMade::NOTHING, made) }
 }
 
 /// See `subsetter.h`.

@@ -162,6 +162,7 @@ pub struct PdfMade {
     encoding: List<u8>,
     encoding_name: List<u8>,
     cid_set: List<u8>,
+    cid_to_gid_map: List<u8>,
     numbers: FontNumbers,
 }
 
@@ -179,6 +180,7 @@ impl PdfMade {
             encoding: List::of(lists.encoding),
             encoding_name: List::of(lists.encoding_name),
             cid_set: List::of(lists.cid_set),
+            cid_to_gid_map: List::of(lists.cid_to_gid_map),
             numbers,
         }
     }
@@ -200,6 +202,7 @@ impl PdfMade {
                 encoding: self.encoding.items(),
                 encoding_name: self.encoding_name.items(),
                 cid_set: self.cid_set.items(),
+                cid_to_gid_map: self.cid_to_gid_map.items(),
                 numbers: self.numbers,
             }
         }

@@ -47,8 +47,8 @@ from typing import (
 Value = Union[SupportsFloat, SupportsIndex]
 Codes = Literal["consecutive", "source", "each_text"]
 _CODES: Tuple[Codes, ...] = ("consecutive", "source", "each_text")
-Role = Literal["font", "cid_font", "descriptor", "program", "to_unicode", "cid_set", "encoding"]
-_ROLES: Tuple[Role, ...] = ("font", "cid_font", "descriptor", "program", "to_unicode", "cid_set", "encoding")
+Role = Literal["font", "cid_font", "descriptor", "program", "to_unicode", "cid_set", "encoding", "cid_to_gid_map"]
+_ROLES: Tuple[Role, ...] = ("font", "cid_font", "descriptor", "program", "to_unicode", "cid_set", "encoding", "cid_to_gid_map")
 if TYPE_CHECKING:
     from _typeshed import ReadableBuffer as Buffer
 elif sys.version_info >= (3, 12):
@@ -179,7 +179,7 @@ class Advances(NamedTuple):
 class Part(NamedTuple):
     """An object of a PDF, as data: a dictionary, or a stream with its dictionary.
 
-    - `role`: "font", "cid_font", "descriptor", "program", "to_unicode", "cid_set" or "encoding".
+    - `role`: "font", "cid_font", "descriptor", "program", "to_unicode", "cid_set", "encoding" or "cid_to_gid_map".
     - `number`: as the caller chose it.
     - `entries`: those of its dictionary, without `<<`, `>>` and Length, and without Filter unless the stream is packed.
     - `strings`: where strings are in the entries, with their parentheses, from and up to. Encryption has to cover these too:
@@ -270,6 +270,7 @@ class _Font(ctypes.Structure):
         ("glyphs", ctypes.c_void_p), ("glyph_count", ctypes.c_size_t),
         ("text", ctypes.c_void_p), ("text_count", ctypes.c_size_t),
         ("ends", ctypes.c_void_p), ("end_count", ctypes.c_size_t),
+        ("cid_to_gid_map", ctypes.c_void_p), ("cid_to_gid_map_size", ctypes.c_size_t),
     ]
 
 
@@ -360,6 +361,7 @@ def _declare(library: ctypes.CDLL) -> ctypes.CDLL:
     new = {
         "subsetter_make_font_by_words": (make_at[:5] + [pointer, size] * 4 + [ctypes.POINTER(_Font)], ctypes.c_uint32),
         "subsetter_free_font": ([ctypes.POINTER(_Font)], None),
+        "subsetter_make_objects": ([pointer, ctypes.c_uint32, ctypes.POINTER(_Objects)], ctypes.c_uint32),
         "subsetter_pdf_part_count": ([pointer], ctypes.c_uint32),
         "subsetter_make_pdf_parts": ([pointer, pointer, size, ctypes.POINTER(_Parts)], ctypes.c_uint32),
         "subsetter_free_pdf_parts": ([ctypes.POINTER(_Parts)], None),
@@ -859,13 +861,17 @@ def _numbers(made: _PdfFont) -> array[int]:
     return array("I", bytes(made)[_PdfFont.kind.offset:_PdfFont.kind.offset + _NUMBERS])
 
 
+def _place(data: bytes) -> Optional[int]:
+    """Where bytes are in memory."""
+    return ctypes.cast(ctypes.c_char_p(data), ctypes.c_void_p).value
+
+
 def _with_lists(lists: Dict[str, Any], numbers: array[int]) -> _PdfFont:
     """The struct of a font of such copies, which have to stay as long as it is used."""
     made = _PdfFont()
     for field, size in _LISTS:
         items = lists[field]
-        at = items.buffer_info()[0] if isinstance(items, array) else ctypes.cast(ctypes.c_char_p(items), ctypes.c_void_p).value
-        setattr(made, field, at)
+        setattr(made, field, items.buffer_info()[0] if isinstance(items, array) else _place(items))
         setattr(made, size, len(items) // (3 if field == "columns" else 1))
     ctypes.memmove(ctypes.byref(made, _PdfFont.kind.offset), numbers.buffer_info()[0], _NUMBERS)
     return made
@@ -889,6 +895,7 @@ class PdfFont:
     - `descriptor`, `permission`, `to_unicode`: the font descriptor, what the font's maker permits, and ToUnicode (9.10.3).
     - `encoding`, `encoding_name`: the CMap from codes to CIDs; None where each code is its CID (`Identity-H` or `Identity-V`).
     - `cid_set`: the bytes of CIDSet, if it was chosen.
+    - `cid_to_gid_map`: the bytes of CIDToGIDMap (9.7.4.2), where it is a stream.
     - `units_per_em`, `exact_widths`: how many units of the font an em has, and the width of each CID in these.
     - `unknown_axes`: those of the coordinates that the font doesn't have.
     - `part_count`: how many objects it has.
@@ -910,6 +917,7 @@ class PdfFont:
     encoding: Optional[bytes]
     encoding_name: Optional[str]
     cid_set: Optional[bytes]
+    cid_to_gid_map: Optional[bytes]
     units_per_em: int
     exact_widths: List[int]
     unknown_axes: List[str]
@@ -919,6 +927,7 @@ class PdfFont:
         # (what is written is written of these copies, which nothing else changes)
         self._kept: Optional[Tuple[Dict[str, Any], array[int], _Entries]] = (_lists(made), _numbers(made), entries)
         lists = self._kept[0]
+        lists["cid_to_gid_map"] = b"" if new is None else ctypes.string_at(new.cid_to_gid_map, new.cid_to_gid_map_size)
         self.program = lists["program"]
         self.kind = _KINDS[made.kind]
         self.glyph_count = made.width_count
@@ -946,6 +955,7 @@ class PdfFont:
         self.encoding = lists["encoding"] or None
         self.encoding_name = lists["encoding_name"].decode("ascii") or None
         self.cid_set = lists["cid_set"] or None
+        self.cid_to_gid_map = lists["cid_to_gid_map"] or None
         if new is not None:
             self.units_per_em = new.units_per_em
             self.exact_widths = array("H", ctypes.string_at(new.exact_widths, 2 * new.exact_width_count)).tolist()
@@ -977,11 +987,15 @@ class PdfFont:
     def __repr__(self) -> str:
         return f"<PdfFont {self.descriptor.font_name}, {self.kind}, {self.glyph_count} glyphs>"
 
-    def _written(self, call: str, *arguments: Any) -> Objects:
+    def _struct(self) -> _Font:
         if self._kept is None:
             raise ValueError("the font is closed")
+        lists, numbers, _ = self._kept
+        data, pdf = lists["cid_to_gid_map"], _with_lists(lists, numbers)
+        return _Font(size=ctypes.sizeof(_Font), pdf=pdf, cid_to_gid_map=_place(data), cid_to_gid_map_size=len(data))
+
+    def _written(self, call: str, font: ctypes.Structure, *arguments: Any) -> Objects:
         library, made = _library_for_pdf(), _Objects()
-        font = _with_lists(self._kept[0], self._kept[1])
         status = getattr(library, call)(ctypes.byref(font), *arguments, ctypes.byref(made))
         try:
             _check(library, status)
@@ -991,12 +1005,17 @@ class PdfFont:
 
     def objects(self, first: SupportsIndex) -> Objects:
         """The font's objects, whole, with numbers from `first` on: the Type 0 font, which pages name, its CIDFont, the font
-        descriptor, the font program, ToUnicode, CIDSet if there is one, and the CMap if the file has its own.
+        descriptor, the font program, ToUnicode, CIDToGIDMap if it is a stream, CIDSet if there is one, and the CMap if the file
+        has its own.
 
         Streams have no filter, and it is for files that aren't encrypted. Raises `OverflowError` where seven numbers from
-        `first` on don't fit 32 bits.
+        `first` on, eight with a CIDToGIDMap as a stream, don't fit 32 bits.
         """
-        return self._written("subsetter_make_pdf_objects", _number("first", first, 1, 0xFFFFFFFF))
+        number, font = _number("first", first, 1, 0xFFFFFFFF), self._struct()
+        # (an older library has no such map)
+        if font.cid_to_gid_map_size:
+            return self._written("subsetter_make_objects", font, number)
+        return self._written("subsetter_make_pdf_objects", font.pdf, number)
 
     def parts(
         self, numbers: Iterable[SupportsIndex], *, compress: bool = False, pack: Optional[Callable[[bytes], bytes]] = None,
@@ -1011,10 +1030,8 @@ class PdfFont:
         if compress and pack is None:
             pack = zlib.compress
         given = array("I", [_number("a number of an object", it, 0, 0xFFFFFFFF) for it in numbers])
-        if self._kept is None:
-            raise ValueError("the font is closed")
+        font = self._struct()
         library, made = _library_with("subsetter_make_pdf_parts"), _Parts()
-        font = _Font(size=ctypes.sizeof(_Font), pdf=_with_lists(self._kept[0], self._kept[1]))
         status = library.subsetter_make_pdf_parts(ctypes.byref(font), given.buffer_info()[0], len(given), ctypes.byref(made))
         try:
             _check(library, status)
@@ -1037,8 +1054,9 @@ class PdfFont:
         """A whole PDF file that shows the entries in 36 points: in one line (in vertical writing in one column) on a page that
         is as long, or in a grid, 12 by 16 a page."""
         number = _choice("layout", layout, ("line", "grid"))
+        font = self._struct()
         entries = self._kept[2].arguments() if self._kept else ()
-        return self._written("subsetter_make_pdf_sheet", *entries, number).bytes
+        return self._written("subsetter_make_pdf_sheet", font.pdf, *entries, number).bytes
 
 
 def pdf_font(

@@ -120,7 +120,7 @@ mod pdf {
 
     /// The objects, the dictionaries and the sheets of a font.
     pub fn written(font: &PdfFont) -> Result<u64, Error> {
-        let references = References { cid_font: 2, descriptor: 3, program: 4, to_unicode: 5, cid_set: 6, encoding: 7 };
+        let references = References { cid_font: 2, descriptor: 3, program: 4, to_unicode: 5, cid_to_gid_map: 0, cid_set: 6, encoding: 7 };
         let shown = [Shown::new(1, "A"), Shown::new(5, "f"), Shown::new(1, "B")];
         let sheets = (font.sheet(&shown, Layout::Line)?, font.sheet(&shown, Layout::Grid)?);
         let objects = (font.objects(4)?, font.dictionaries(&references)?);

@@ -229,6 +229,7 @@ fn has_parts(font: &PdfFont) -> bool {
         descriptor: falling[2],
         program: falling[3],
         to_unicode: falling[4],
+        cid_to_gid_map: 0,
         cid_set: falling.get(5).copied().unwrap_or(0),
         encoding: falling[count - 1],
     };

@@ -1,5 +1,5 @@
 -- A font that is borrowed has what the font that was made has.
-use Rattle.std.specs.Prelude.{◌≡◌, ◌∷◌, [], ℕ, List}
+use Rattle.std.specs.Prelude.{◌≡◌, ◌∷◌, [], ℕ, List, Option, None}
 use Rattle.std.specs.Option.{option_copied, option_map}
 use Rattle.pdf_text.specs.declared.cmaps.named.NamedCmap.{NamedCmap}
 use Rattle.pdf_text.specs.declared.metrics.columns.Column.{Column}
@@ -30,7 +30,8 @@ each_of c = c.each.now
 abbrev pub default_of : FontColumns → DefaultColumn
 default_of c = c.default
 
-pub record IsViewOf (f : PdfFont) (w : FontView) : Type 0 where
+-- with these bytes of CIDToGIDMap, or with none
+pub record IsViewWith (f : PdfFont) (glyph_map : Option (List ℕ)) (w : FontView) : Type 0 where
   pub kind : w.values.kind ≡ f.kind
   pub descriptor : IsDescriptorOf f w.values.descriptor
   pub widths : w.values.widths.now ≡ f.widths.items
@@ -38,6 +39,7 @@ pub record IsViewOf (f : PdfFont) (w : FontView) : Type 0 where
   pub columns : option_map each_of w.values.columns ≡ option_map (λ (c : Columns). c.each.items) f.columns
   pub default_column : option_map default_of w.values.columns ≡ option_map (λ (c : Columns). c.default) f.columns
   pub program : w.values.program.now ≡ f.program.items
+  pub cid_to_gid_map : option_copied w.values.cid_to_gid_map ≡ glyph_map
   pub to_unicode : w.values.to_unicode.now ≡ f.to_unicode.items
   pub cmap_name : option_map name_of w.values.encoding ≡ option_map (λ (c : NamedCmap). c.name.items) f.encoding
   pub cmap_text : option_map text_of w.values.encoding ≡ option_map (λ (c : NamedCmap). c.text.items) f.encoding
@@ -45,3 +47,7 @@ pub record IsViewOf (f : PdfFont) (w : FontView) : Type 0 where
   pub cids : w.cids.now ≡ f.cids.items
   pub codes : w.codes.now ≡ f.codes.items
   pub is_said : w.is_said.now ≡ f.is_said.items
+
+-- a font of glyphs with their texts, of which each CID is the number of a glyph
+abbrev pub IsViewOf : PdfFont → FontView → Type 0
+IsViewOf f w = IsViewWith f None w

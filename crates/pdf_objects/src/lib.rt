@@ -19,4 +19,4 @@ pub use pdf_text::{
     part_count, part_value, write_dictionaries, write_objects, write_parts, write_w, write_w2,
 };
 pub use sheet::write_sheet;
-pub use view::{FontView, view_of};
+pub use view::{FontView, view_of, view_with};

@@ -2,7 +2,7 @@
 
 ghost use Rattle.std.specs.Prelude.{◌≡◌};
 ghost use Rattle.std.specs.Option.{option_copied, option_map};
-ghost use Rattle.pdf_objects.specs.View.{IsDescriptorOf, IsViewOf, default_of, each_of};
+ghost use Rattle.pdf_objects.specs.View.{IsDescriptorOf, IsViewOf, IsViewWith, default_of, each_of};
 ghost use Rattle.pdf_text.specs.View.{name_of, text_of};
 
 use pdf_font::{Columns, NamedCmap, PdfFont};
@@ -82,9 +82,9 @@ fn cid_set_of(set: &Option<Vec<u8>>) -> Option<&[u8]>
     }
 }
 
-/// A font that was made.
-pub fn view_of(font: &PdfFont) -> FontView<'_>
-    ensures { IsViewOf font.now result }
+/// A font that was made, and the bytes of its CIDToGIDMap, if that is a stream.
+pub fn view_with<'a>(font: &'a PdfFont, cid_to_gid_map: Option<&'a [u8]>) -> FontView<'a>
+    ensures { IsViewWith font.now (option_copied cid_to_gid_map.entry) result }
 {
     let values = FontValues {
         kind: font.kind,
@@ -93,6 +93,7 @@ pub fn view_of(font: &PdfFont) -> FontView<'_>
         default_width: font.default_width,
         columns: columns_of(&font.columns),
         program: &font.program,
+        cid_to_gid_map,
         to_unicode: &font.to_unicode,
         encoding: cmap_of(&font.encoding),
         cid_set: cid_set_of(&font.cid_set),
@@ -103,4 +104,11 @@ pub fn view_of(font: &PdfFont) -> FontView<'_>
         codes: &font.codes,
         is_said: &font.is_said,
     }
+}
+
+/// A font that was made of glyphs with their texts.
+pub fn view_of(font: &PdfFont) -> FontView<'_>
+    ensures { IsViewOf font.now result }
+{
+    view_with(font, None)
 }

@@ -3,7 +3,7 @@ use Rattle.std.specs.Prelude.{◌≤◌, ◌⊎◌, ◌^◌, ℕ, zero, suc, ◌
 use Rattle.pdf_text.specs.declared.values.FontValues.{FontValues}
 use Rattle.pdf_text.specs.Dictionaries.Entries.{reference}
 use Rattle.pdf_text.specs.Dictionaries.Widths.{HasManyColumns}
-use Rattle.pdf_text.specs.Objects.{stream_end, references_from, objects_of, values_of}
+use Rattle.pdf_text.specs.Objects.{most_objects, stream_end, references_from, objects_of, values_of}
 use Rattle.pdf_sheet.specs.declared.glyphs.SheetGlyph.{SheetGlyph}
 use Rattle.pdf_sheet.specs.declared.frame.Layout.{Layout}
 use Rattle.pdf_sheet.specs.declared.frame.Layout.TheVariants.{Line, Grid}
@@ -74,4 +74,4 @@ sheet_values layout v gs = front_values layout (frame_of layout (is_some v.colum
 
 -- why there is none: numbers of objects have 32 bits, offsets ten digits, and CIDs 16 bits
 abbrev pub IsTooLarge : Layout → FontValues → List SheetGlyph → Type 0
-IsTooLarge layout v gs = (2 ^ 32 ≤ font_number (page_count layout (length gs)) + 7) ⊎ ((10000000000 ≤ length (body_of (sheet_values layout v gs))) ⊎ HasManyColumns v.columns)
+IsTooLarge layout v gs = (2 ^ 32 ≤ font_number (page_count layout (length gs)) + most_objects v) ⊎ ((10000000000 ≤ length (body_of (sheet_values layout v gs))) ⊎ HasManyColumns v.columns)

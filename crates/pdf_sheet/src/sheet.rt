@@ -4,7 +4,7 @@ ghost use Rattle.std.specs.Prelude.{◌≡◌, ◌≤◌, ◌<◌, ◌+◌, ◌^
 ghost use Rattle.std.specs.List.{concat};
 ghost use Rattle.subsetter_base.specs.declared.error.Error.TheVariants.{OutOfMemory, OverflowError};
 ghost use Rattle.pdf_text.specs.Dictionaries.Widths.{HasManyColumns};
-ghost use Rattle.pdf_text.specs.Objects.{font_objects, objects_of};
+ghost use Rattle.pdf_text.specs.Objects.{font_objects, most_objects, objects_of};
 ghost use Rattle.pdf_sheet.specs.Content.{frame_of};
 ghost use Rattle.pdf_sheet.specs.Pages.{page_count, font_number, front_values, sheet_values, IsTooLarge};
 ghost use Rattle.pdf_sheet.specs.File.{body_of, offsets_of, file_of, AreInTable, ObjectsAreInTable};
@@ -15,17 +15,18 @@ use crate::file::{Body, body_of, checked, push_objects, write_table};
 use crate::frame::{Frame, Layout, frame_of};
 use crate::glyphs::SheetGlyph;
 use crate::pages::{front_values, page_count};
-use pdf_text::{FontValues, write_objects};
+use pdf_text::{FontValues, most_objects, write_objects};
 use std::alloc::Global;
 use subsetter_base::Error;
 
-/// The number of the font's first object.
-fn font_number(layout: Layout, size: usize) -> Result<u32, Error>
+/// The number of the font's first object, which has so many at most.
+fn font_number(layout: Layout, size: usize, most: u32) -> Result<u32, Error>
+    requires { most ≤ 8 }
     ensures ok { IfOk result (λ first. first ≡ font_number (page_count layout size)) }
-    ensures err { IfErr result (λ e. (e ≡ OverflowError) × (2 ^ 32 ≤ font_number (page_count layout size) + 7)) }
+    ensures err { IfErr result (λ e. (e ≡ OverflowError) × (2 ^ 32 ≤ font_number (page_count layout size) + most)) }
 {
     let number = 3 + 2 * page_count(layout, size) as u64;
-    if number + 7 >= 4_294_967_296 {
+    if number + u64::from(most) >= 4_294_967_296 {
         return Err(Error::OverflowError);
     }
     Ok(number as u32)
@@ -49,7 +50,7 @@ fn sheet_body(
     requires { first ≡ font_number (page_count layout (length glyphs.now)) }
     ensures text { IfOk result (λ body. body.text.items ≡ body_of (sheet_values layout values.entry glyphs.now)) }
     ensures offsets { IfOk result (λ body. body.offsets.items ≡ offsets_of (sheet_values layout values.entry glyphs.now)) }
-    ensures err { IfErr result (λ e. (e ≡ OutOfMemory) ⊎ ((e ≡ OverflowError) × ((2 ^ 32 ≤ first + 7) ⊎ HasManyColumns values.entry.columns))) }
+    ensures err { IfErr result (λ e. (e ≡ OutOfMemory) ⊎ ((e ≡ OverflowError) × ((2 ^ 32 ≤ first + most_objects values.entry) ⊎ HasManyColumns values.entry.columns))) }
 {
     let frame = frame_for(layout, values, glyphs);
     let front = front_values(alloc, layout, frame, first as usize, glyphs)?;
@@ -78,7 +79,7 @@ pub fn write_sheet(
     ensures at { IfOk result (λ file. AreInTable file.items (length (body_of (sheet_values layout values.entry glyphs.now))) (sheet_values layout values.entry glyphs.now)) }
     ensures err { IfErr result (λ e. (e ≡ OutOfMemory) ⊎ ((e ≡ OverflowError) × IsTooLarge layout values.entry glyphs.now)) }
 {
-    let first = font_number(layout, glyphs.len())?;
+    let first = font_number(layout, glyphs.len(), most_objects(values))?;
     let mut body = sheet_body(alloc, values, glyphs, layout, first)?;
     checked(body.text.len() as u64)?;
     write_table(&mut body.text, &body.offsets)?;

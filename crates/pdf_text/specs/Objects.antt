@@ -8,7 +8,7 @@ use Rattle.pdf_text.specs.declared.values.FontValues.{FontValues}
 use Rattle.pdf_text.specs.declared.values.References.{References}
 use Rattle.pdf_text.specs.declared.objects.Object.{Object}
 use Rattle.pdf_text.specs.declared.objects.FontDictionaries.{FontDictionaries}
-use Rattle.pdf_text.specs.declared.objects.Object.TheVariants.{Font, CidFont, FontDescriptor, FontFile, ToUnicode, CidSet, Cmap}
+use Rattle.pdf_text.specs.declared.objects.Object.TheVariants.{Font, CidFont, FontDescriptor, FontFile, ToUnicode, CidToGidMap, CidSet, Cmap}
 use Rattle.pdf_text.specs.Dictionaries.Descriptor.{descriptor_entries}
 use Rattle.pdf_text.specs.Dictionaries.Entries.{entry, dictionary}
 use Rattle.pdf_text.specs.Dictionaries.Fonts.{font_entries, cid_font_entries}
@@ -23,6 +23,7 @@ entries_of CidFont v r = cid_font_entries v r
 entries_of FontDescriptor v r = descriptor_entries v r
 entries_of FontFile v r = program_entries v.kind (length v.program.now)
 entries_of ToUnicode v r = []
+entries_of CidToGidMap v r = []
 entries_of CidSet v r = []
 entries_of Cmap v r = cmap_entries v.encoding (is_some v.columns)
 
@@ -37,6 +38,7 @@ bytes_of CidFont v = None
 bytes_of FontDescriptor v = None
 bytes_of FontFile v = Some v.program.now
 bytes_of ToUnicode v = Some v.to_unicode.now
+bytes_of CidToGidMap v = option_copied v.cid_to_gid_map
 bytes_of CidSet v = option_copied v.cid_set
 bytes_of Cmap v = text_of_cmap v.encoding
 
@@ -61,17 +63,28 @@ abbrev pub when : Bool → Object → List Object
 when true o = o ∷ []
 when false o = []
 
-abbrev pub objects_by : Bool → Bool → List Object
-objects_by cid_set cmap = Font ∷ CidFont ∷ FontDescriptor ∷ FontFile ∷ ToUnicode ∷ (when cid_set CidSet ++ when cmap Cmap)
+abbrev pub objects_by : Bool → Bool → Bool → List Object
+objects_by has_map cid_set cmap = Font ∷ CidFont ∷ FontDescriptor ∷ FontFile ∷ ToUnicode ∷ (when has_map CidToGidMap ++ (when cid_set CidSet ++ when cmap Cmap))
 
 abbrev pub objects_of : FontValues → List Object
-objects_of v = objects_by (is_some v.cid_set) (is_some v.encoding)
+objects_of v = objects_by (is_some v.cid_to_gid_map) (is_some v.cid_set) (is_some v.encoding)
 
-abbrev pub references_by : ℕ → Bool → References
-references_by first cid_set = record { cid_font = first + 1; descriptor = first + 2; program = first + 3; to_unicode = first + 4; cid_set = first + 5; encoding = first + (5 + length (when cid_set CidSet)) }
+-- how many objects such a font has at most: eight with a CIDToGIDMap as a stream, seven without
+abbrev pub most_objects : FontValues → ℕ
+most_objects v = 7 + length (when (is_some v.cid_to_gid_map) CidToGidMap)
+
+-- how many objects stand before a CIDSet, and before a CMap
+abbrev pub before_set : Bool → ℕ
+before_set has_map = 5 + length (when has_map CidToGidMap)
+
+abbrev pub before_cmap : Bool → Bool → ℕ
+before_cmap has_map cid_set = before_set has_map + length (when cid_set CidSet)
+
+abbrev pub references_by : ℕ → Bool → Bool → References
+references_by first has_map cid_set = record { cid_font = first + 1; descriptor = first + 2; program = first + 3; to_unicode = first + 4; cid_to_gid_map = first + 5; cid_set = first + before_set has_map; encoding = first + before_cmap has_map cid_set }
 
 abbrev pub references_from : ℕ → FontValues → References
-references_from first v = references_by first (is_some v.cid_set)
+references_from first v = references_by first (is_some v.cid_to_gid_map) (is_some v.cid_set)
 
 -- the number by which others refer to an object
 abbrev pub number_of : ℕ → References → Object → ℕ
@@ -80,6 +93,7 @@ number_of first r CidFont = r.cid_font
 number_of first r FontDescriptor = r.descriptor
 number_of first r FontFile = r.program
 number_of first r ToUnicode = r.to_unicode
+number_of first r CidToGidMap = r.cid_to_gid_map
 number_of first r CidSet = r.cid_set
 number_of first r Cmap = r.encoding
 
@@ -141,5 +155,6 @@ pub record AreDictionaries (v : FontValues) (r : References) (d : FontDictionari
   pub descriptor : d.descriptor.items ≡ dictionary (entries_of FontDescriptor v r)
   pub program : d.program.items ≡ dictionary (entries_of FontFile v r)
   pub to_unicode : d.to_unicode.items ≡ dictionary (entries_of ToUnicode v r)
+  pub cid_to_gid_map : IsDictionaryWhen (is_some v.cid_to_gid_map) (entries_of CidToGidMap v r) d.cid_to_gid_map
   pub cid_set : IsDictionaryWhen (is_some v.cid_set) (entries_of CidSet v r) d.cid_set
   pub encoding : IsDictionaryWhen (is_some v.encoding) (entries_of Cmap v r) d.encoding

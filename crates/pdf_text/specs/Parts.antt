@@ -3,7 +3,7 @@ use Rattle.std.specs.Prelude.{◌≡◌, ◌<◌, ◌==◌, ◌&&◌, not, nat_l
 use Rattle.std.specs.Option.{option_copied}
 use Rattle.subsetter_base.specs.Indexes.{is_listed}
 use Rattle.pdf_text.specs.declared.objects.Object.{Object}
-use Rattle.pdf_text.specs.declared.objects.Object.TheVariants.{Font, CidSet}
+use Rattle.pdf_text.specs.declared.objects.Object.TheVariants.{Font}
 use Rattle.pdf_text.specs.declared.parts.FontPart.{FontPart}
 use Rattle.pdf_text.specs.declared.parts.PartsError.{PartsError}
 use Rattle.pdf_text.specs.declared.parts.PartsError.TheVariants.{InvalidNumbers, Subset}
@@ -11,7 +11,7 @@ use Rattle.pdf_text.specs.declared.strings.StringRange.{StringRange}
 use Rattle.pdf_text.specs.declared.values.FontValues.{FontValues}
 use Rattle.pdf_text.specs.declared.values.References.{References}
 use Rattle.pdf_text.specs.Dictionaries.Widths.{IsRefused}
-use Rattle.pdf_text.specs.Objects.{bytes_of, entries_of, font_objects, number_of, numbers, object_text, objects_of, value_end, when}
+use Rattle.pdf_text.specs.Objects.{bytes_of, entries_of, font_objects, number_of, numbers, object_text, objects_of, value_end, before_cmap, before_set}
 use Rattle.pdf_text.specs.Strings.{strings_in}
 
 -- ---- numbers
@@ -29,15 +29,16 @@ are_distinct (n ∷ ns) = nat_lt 0 n && (not (is_listed ns n) && are_distinct ns
 abbrev pub are_numbers : ℕ → List ℕ → Bool
 are_numbers count ns = length ns == count && are_distinct ns
 
--- the numbers of the objects that others refer to, with a CIDSet or without
-abbrev pub references_in : List ℕ → Bool → References
-references_in ns cid_set = record {
+-- the numbers of the objects that others refer to, with a CIDToGIDMap as a stream or without, and with a CIDSet or without
+abbrev pub references_in : List ℕ → Bool → Bool → References
+references_in ns has_map cid_set = record {
   cid_font = get_or ns 1 0;
   descriptor = get_or ns 2 0;
   program = get_or ns 3 0;
   to_unicode = get_or ns 4 0;
-  cid_set = get_or ns 5 0;
-  encoding = get_or ns (5 + length (when cid_set CidSet)) 0;
+  cid_to_gid_map = get_or ns 5 0;
+  cid_set = get_or ns (before_set has_map) 0;
+  encoding = get_or ns (before_cmap has_map cid_set) 0;
 }
 
 -- ---- parts
@@ -59,7 +60,7 @@ parts_from (o ∷ os) ns v r = part_of o (get_or ns 0 0) v r ∷ parts_from os (
 
 -- the objects of a font that have these numbers
 abbrev pub parts_of : FontValues → List ℕ → List Part
-parts_of v ns = parts_from (objects_of v) ns v (references_in ns (is_some v.cid_set))
+parts_of v ns = parts_from (objects_of v) ns v (references_in ns (is_some v.cid_to_gid_map) (is_some v.cid_set))
 
 -- what the code makes
 abbrev pub part_view : FontPart → Part
@@ -89,4 +90,4 @@ PartsAreObjects = (first : ℕ) (v : FontValues) → map part_text (parts_of v (
 
 -- others refer to each part by its number
 abbrev pub PartsAreReferredTo : Type 0
-PartsAreReferredTo = (v : FontValues) (ns : List ℕ) (k : ℕ) → k < part_count v → number_of (get_or ns 0 0) (references_in ns (is_some v.cid_set)) (get_or (objects_of v) k Font) ≡ get_or ns k 0
+PartsAreReferredTo = (v : FontValues) (ns : List ℕ) (k : ℕ) → k < part_count v → number_of (get_or ns 0 0) (references_in ns (is_some v.cid_to_gid_map) (is_some v.cid_set)) (get_or (objects_of v) k Font) ≡ get_or ns k 0

@@ -6,7 +6,7 @@ ghost use Rattle.std.specs.Option.{option_copied};
 ghost use Rattle.subsetter_base.specs.declared.error.Error.TheVariants.{OutOfMemory, OverflowError};
 ghost use Rattle.pdf_text.specs.Dictionaries.Entries.{dictionary};
 ghost use Rattle.pdf_text.specs.Dictionaries.Widths.{HasManyColumns, IsRefused};
-ghost use Rattle.pdf_text.specs.Objects.{AreDictionaries, entries_of, bytes_of, text_of_cmap, stream_end, value_end, value_of, object_text, when, objects_of, references_from, objects_from, offsets_from, values_of, font_objects, AreFontObjectsAt, AreAt, AreReferredTo, IsDictionaryWhen};
+ghost use Rattle.pdf_text.specs.Objects.{AreDictionaries, entries_of, bytes_of, text_of_cmap, stream_end, value_end, value_of, object_text, when, objects_of, references_from, objects_from, offsets_from, values_of, font_objects, AreFontObjectsAt, AreAt, AreReferredTo, IsDictionaryWhen, before_cmap, before_set, most_objects};
 
 use crate::cmaps::lines::write_count;
 use crate::dictionaries::descriptor::write_descriptor;
@@ -25,6 +25,7 @@ pub enum Object {
     FontDescriptor,
     FontFile,
     ToUnicode,
+    CidToGidMap,
     CidSet,
     Cmap,
 }
@@ -55,7 +56,7 @@ pub(crate) fn write_entries(
         Object::CidFont => write_cid_font(alloc, text, values, references),
         Object::FontDescriptor => write_descriptor(text, values, references),
         Object::FontFile => write_program(text, values.kind, values.program.len()),
-        Object::ToUnicode | Object::CidSet => Ok(()),
+        Object::ToUnicode | Object::CidToGidMap | Object::CidSet => Ok(()),
         Object::Cmap => write_cmap(text, values.encoding, values.columns.is_some()),
     }
 }
@@ -78,6 +79,7 @@ pub(crate) fn bytes_of<'a>(object: Object, values: FontValues<'a>) -> Option<&'a
         Object::Font | Object::CidFont | Object::FontDescriptor => None,
         Object::FontFile => Some(values.program),
         Object::ToUnicode => Some(values.to_unicode),
+        Object::CidToGidMap => values.cid_to_gid_map,
         Object::CidSet => values.cid_set,
         Object::Cmap => text_of_cmap(values.encoding),
     }
@@ -175,31 +177,59 @@ pub(crate) fn objects_of(alloc: Global, values: FontValues<'_>) -> Result<Vec<Ob
             Object::ToUnicode,
         ],
     )?;
+    push_when(
+        &mut objects,
+        values.cid_to_gid_map.is_some(),
+        Object::CidToGidMap,
+    )?;
     push_when(&mut objects, values.cid_set.is_some(), Object::CidSet)?;
     push_when(&mut objects, values.encoding.is_some(), Object::Cmap)?;
     Ok(objects)
 }
 
-/// The number of a CMap, with which a CIDSet goes before or not.
-fn after_cid_set(first: u32, has_cid_set: bool) -> u32
-    requires { first + 7 < 2 ^ 32 }
-    ensures { result ≡ first + (5 + length (when has_cid_set Object.CidSet)) }
+/// How many objects are before a CIDSet: five, and a CIDToGIDMap if it is a stream.
+pub(crate) fn before_set(has_map: bool) -> usize
+    ensures is { result ≡ before_set has_map }
+    ensures few { result ≤ 6 }
 {
-    if has_cid_set { first + 6 } else { first + 5 }
+    if has_map { 6 } else { 5 }
+}
+
+/// How many objects are before a CMap: a CIDSet, too, if there is one.
+pub(crate) fn before_cmap(has_map: bool, has_cid_set: bool) -> usize
+    ensures is { result ≡ before_cmap has_map has_cid_set }
+    ensures few { result ≤ 7 }
+{
+    let before = before_set(has_map);
+    if has_cid_set { before + 1 } else { before }
+}
+
+/// How many objects a font has at most, with a CIDToGIDMap as a stream or without.
+pub fn most_objects(values: FontValues<'_>) -> u32
+    ensures is { result ≡ most_objects values.entry }
+    ensures few { result ≤ 8 }
+{
+    if values.cid_to_gid_map.is_some() {
+        8
+    } else {
+        7
+    }
 }
 
 /// The numbers of objects, of which the first has this one.
 fn references_from(first: u32, values: FontValues<'_>) -> References
-    requires { first + 7 < 2 ^ 32 }
+    requires { first + most_objects values < 2 ^ 32 }
     ensures { result ≡ references_from first values.entry }
 {
+    let has_map = values.cid_to_gid_map.is_some();
     References {
         cid_font: first + 1,
         descriptor: first + 2,
         program: first + 3,
         to_unicode: first + 4,
-        cid_set: first + 5,
-        encoding: after_cid_set(first, values.cid_set.is_some()),
+        cid_to_gid_map: first + 5,
+        cid_set: first + before_set(has_map) as u32,
+        encoding: first + before_cmap(has_map, values.cid_set.is_some()) as u32,
     }
 }
 
@@ -227,25 +257,28 @@ fn write_all(
     Ok(FontObjects { text, offsets })
 }
 
-/// Whether the numbers of seven objects fit 32 bits.
-fn checked(first: u32) -> Result<(), Error>
-    ensures ok { OnOk result (first + 7 < 2 ^ 32) }
-    ensures err { IfErr result (λ e. (e ≡ OverflowError) × (2 ^ 32 ≤ first + 7)) }
+/// Whether the numbers of so many objects fit 32 bits.
+fn checked(first: u32, most: u32) -> Result<(), Error>
+    ensures ok { OnOk result (first + most < 2 ^ 32) }
+    ensures err { IfErr result (λ e. (e ≡ OverflowError) × (2 ^ 32 ≤ first + most)) }
 {
-    if first > u32::MAX - 7 {
+    if first > u32::MAX - most {
         return Err(Error::OverflowError);
     }
     Ok(())
 }
 
 /// The objects of a font, whole, one behind the other, with numbers from `first` on: the composite font, its CIDFont, the font
-/// descriptor, the font program, ToUnicode, CIDSet if there is one, and the CMap if the file has its own. `first` is above 0, and
-/// each number has generation 0. For files that aren't encrypted: streams are as they are, with no filter.
+/// descriptor, the font program, ToUnicode, CIDToGIDMap if it is a stream, CIDSet if there is one, and the CMap if the file has
+/// its own. `first` is above 0, and each number has generation 0. For files that aren't encrypted: streams are as they are, with
+/// no filter.
 ///
 /// # Errors
 ///
-/// - `OverflowError`: seven numbers from `first` on don't fit 32 bits, or there are more columns than CIDs.
+/// - `OverflowError`: seven numbers from `first` on don't fit 32 bits, eight with a CIDToGIDMap as a stream, or there are more
+///   columns than CIDs.
 /// - `OutOfMemory`: a request for memory was refused.
+#[tactic(auto, using(crate::proofs::ObjectLaws::Counts::few_objects))]
 pub fn write_objects(
     alloc: Global,
     values: FontValues<'_>,
@@ -254,9 +287,9 @@ pub fn write_objects(
     ensures text { IfOk result (λ o. o.text.items ≡ concat (font_objects first values.entry)) }
     ensures offsets { IfOk result (λ o. o.offsets.items ≡ offsets_from 0 (font_objects first values.entry)) }
     ensures at { IfOk result (λ o. AreFontObjectsAt first values.entry o.text.items o.offsets.items) }
-    ensures err { IfErr result (λ e. (e ≡ OutOfMemory) ⊎ ((e ≡ OverflowError) × ((2 ^ 32 ≤ first + 7) ⊎ HasManyColumns values.entry.columns))) }
+    ensures err { IfErr result (λ e. (e ≡ OutOfMemory) ⊎ ((e ≡ OverflowError) × ((2 ^ 32 ≤ first + most_objects values.entry) ⊎ HasManyColumns values.entry.columns))) }
 {
-    checked(first)?;
+    checked(first, most_objects(values))?;
     let objects = objects_of(alloc, values)?;
     write_all(
         alloc,
@@ -287,6 +320,7 @@ pub struct FontDictionaries {
     pub descriptor: Vec<u8>,
     pub program: Vec<u8>,
     pub to_unicode: Vec<u8>,
+    pub cid_to_gid_map: Option<Vec<u8>>,
     pub cid_set: Option<Vec<u8>>,
     pub encoding: Option<Vec<u8>>,
 }
@@ -346,6 +380,13 @@ pub fn write_dictionaries(
         descriptor: dictionary_of(alloc, Object::FontDescriptor, values, references)?,
         program: dictionary_of(alloc, Object::FontFile, values, references)?,
         to_unicode: dictionary_of(alloc, Object::ToUnicode, values, references)?,
+        cid_to_gid_map: dictionary_when(
+            alloc,
+            values.cid_to_gid_map.is_some(),
+            Object::CidToGidMap,
+            values,
+            references,
+        )?,
         cid_set: dictionary_when(
             alloc,
             values.cid_set.is_some(),

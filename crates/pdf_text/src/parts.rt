@@ -3,13 +3,14 @@
 ghost use Rattle.std.specs.Prelude.{◌≡◌, ◌<◌, ◌≤◌, ◌+◌, false, true, length, get_or, is_some, IfErr, IfOk};
 ghost use Rattle.std.specs.Option.{option_copied};
 ghost use Rattle.subsetter_base.specs.declared.error.Error.TheVariants.{OutOfMemory};
-ghost use Rattle.pdf_text.specs.declared.objects.Object.TheVariants.{CidSet};
 ghost use Rattle.pdf_text.specs.Dictionaries.Widths.{IsRefused};
-ghost use Rattle.pdf_text.specs.Objects.{bytes_of, entries_of, objects_by, objects_of, when};
+ghost use Rattle.pdf_text.specs.Objects.{bytes_of, entries_of, objects_of};
 ghost use Rattle.pdf_text.specs.Parts.{are_distinct, are_numbers, part_count, part_value, parts_from, parts_of, parts_view, references_in, HasNoParts, PartsAreObjects, PartsAreReferredTo};
 ghost use Rattle.pdf_text.specs.Strings.{strings_in};
 
-use crate::objects::{Object, bytes_of, objects_of, write_entries, write_value_end};
+use crate::objects::{
+    Object, before_cmap, before_set, bytes_of, objects_of, write_entries, write_value_end,
+};
 use crate::strings::{StringRange, strings_of};
 use crate::values::{FontValues, References};
 use std::alloc::Global;
@@ -61,24 +62,17 @@ fn are_numbers(count: usize, numbers: &[u32]) -> bool
     numbers.len() == count && are_distinct(numbers)
 }
 
-/// How many objects a font has, with a CIDSet or without, and with a CMap of the file's own or without.
-fn count_by(has_cid_set: bool, has_cmap: bool) -> usize
-    ensures { result ≡ length (objects_by has_cid_set has_cmap) }
-{
-    if has_cid_set {
-        if has_cmap { 7 } else { 6 }
-    } else if has_cmap {
-        6
-    } else {
-        5
-    }
-}
-
 /// How many objects a font has.
+#[tactic(auto, using(crate::proofs::ObjectLaws::Counts::count_is))]
 pub fn part_count(values: FontValues<'_>) -> usize
     ensures { result ≡ part_count values.entry }
 {
-    count_by(values.cid_set.is_some(), values.encoding.is_some())
+    let before = before_cmap(values.cid_to_gid_map.is_some(), values.cid_set.is_some());
+    if values.encoding.is_some() {
+        before + 1
+    } else {
+        before
+    }
 }
 
 /// A number of a list; 0 past its end.
@@ -91,24 +85,19 @@ fn number_at(numbers: &[u32], place: usize) -> u32
     0
 }
 
-/// How many objects are before a CMap.
-fn cmap_place(has_cid_set: bool) -> usize
-    ensures { result ≡ 5 + length (when has_cid_set CidSet) }
-{
-    if has_cid_set { 6 } else { 5 }
-}
-
 /// The numbers of the objects that others refer to.
 fn references_in(numbers: &[u32], values: FontValues<'_>) -> References
-    ensures { result ≡ references_in numbers.now (is_some values.entry.cid_set) }
+    ensures { result ≡ references_in numbers.now (is_some values.entry.cid_to_gid_map) (is_some values.entry.cid_set) }
 {
+    let has_map = values.cid_to_gid_map.is_some();
     References {
         cid_font: number_at(numbers, 1),
         descriptor: number_at(numbers, 2),
         program: number_at(numbers, 3),
         to_unicode: number_at(numbers, 4),
-        cid_set: number_at(numbers, 5),
-        encoding: number_at(numbers, cmap_place(values.cid_set.is_some())),
+        cid_to_gid_map: number_at(numbers, 5),
+        cid_set: number_at(numbers, before_set(has_map)),
+        encoding: number_at(numbers, before_cmap(has_map, values.cid_set.is_some())),
     }
 }
 

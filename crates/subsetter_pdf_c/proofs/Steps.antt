@@ -14,7 +14,7 @@ use Rattle.pdf_objects.specs.Glyphs.{IsSheetOf as IsSheetOfView, IsTooLargeFor a
 use Rattle.pdf_objects.specs.declared.view.FontView.{FontView}
 use Rattle.pdf_sheet.specs.declared.frame.Layout.{Layout}
 use Rattle.pdf_text.specs.Dictionaries.Widths.{HasManyColumns}
-use Rattle.pdf_text.specs.Objects.{font_objects, offsets_from, AreFontObjectsAt}
+use Rattle.pdf_text.specs.Objects.{font_objects, most_objects, offsets_from, AreFontObjectsAt}
 use Rattle.pdf_text.specs.declared.objects.FontObjects.{FontObjects}
 use Rattle.subsetter_pdf_c.specs.Entries.{AreTexts, are_ascending, are_scalars, are_texts, text_between, texts_from, uses_with}
 use Rattle.subsetter_pdf_c.specs.Made.{IsViewOf}
@@ -78,19 +78,20 @@ next_each place count lt = rw add-one (each_suc place count lt)
 
 -- ---- what is answered of a font that C holds
 
-module _ (made : PdfMade) (w : FontView) (is : IsViewOf made w) where
-  pub objects_made : (first : ℕ) (answer : Result FontObjects Error) → IfOk answer (λ o. o.text.items ≡ concat (font_objects first w.values)) → IfOk answer (λ o. o.offsets.items ≡ offsets_from 0 (font_objects first w.values)) → IfOk answer (λ o. AreFontObjectsAt first w.values o.text.items o.offsets.items) → IfOk answer (λ o. AreObjectsOf made first o.text.items o.offsets.items)
+module _ (made : PdfMade) (glyph_map : List ℕ) (w : FontView) (is : IsViewOf made glyph_map w) where
+  pub objects_made : (first : ℕ) (answer : Result FontObjects Error) → IfOk answer (λ o. o.text.items ≡ concat (font_objects first w.values)) → IfOk answer (λ o. o.offsets.items ≡ offsets_from 0 (font_objects first w.values)) → IfOk answer (λ o. AreFontObjectsAt first w.values o.text.items o.offsets.items) → IfOk answer (λ o. AreObjectsOf made glyph_map first o.text.items o.offsets.items)
   objects_made first (Ok o) text offsets at = record { view = w; is = is; text_is = text; offsets_are = offsets; at = at }
   objects_made first (Err e) text offsets at = tt
 
-  objects_refused_by : (first : ℕ) (e : Error) → (e ≡ OutOfMemory) ⊎ ((e ≡ OverflowError) × ((2 ^ 32 ≤ first + 7) ⊎ HasManyColumns w.values.columns)) → (e ≡ OutOfMemory) ⊎ ((e ≡ OverflowError) × HaveNoNumbers made first)
+  objects_refused_by : (first : ℕ) (e : Error) → (e ≡ OutOfMemory) ⊎ ((e ≡ OverflowError) × ((2 ^ 32 ≤ first + most_objects w.values) ⊎ HasManyColumns w.values.columns)) → (e ≡ OutOfMemory) ⊎ ((e ≡ OverflowError) × HaveNoNumbers made glyph_map first)
   objects_refused_by first e (inl p) = inl p
   objects_refused_by first e (inr p) = inr (p.0, record { view = w; is = is; why = p.1 })
 
-  pub objects_refused : (first : ℕ) (answer : Result FontObjects Error) → IfErr answer (λ e. (e ≡ OutOfMemory) ⊎ ((e ≡ OverflowError) × ((2 ^ 32 ≤ first + 7) ⊎ HasManyColumns w.values.columns))) → IfErr answer (λ e. (e ≡ OutOfMemory) ⊎ ((e ≡ OverflowError) × HaveNoNumbers made first))
+  pub objects_refused : (first : ℕ) (answer : Result FontObjects Error) → IfErr answer (λ e. (e ≡ OutOfMemory) ⊎ ((e ≡ OverflowError) × ((2 ^ 32 ≤ first + most_objects w.values) ⊎ HasManyColumns w.values.columns))) → IfErr answer (λ e. (e ≡ OutOfMemory) ⊎ ((e ≡ OverflowError) × HaveNoNumbers made glyph_map first))
   objects_refused first (Ok o) h = tt
   objects_refused first (Err e) h = objects_refused_by first e h
 
+module _ (made : PdfMade) (w : FontView) (is : IsViewOf made [] w) where
   pub sheet_made : (ts : List (List ℕ)) (layout : Layout) (answer : Result (Vec ℕ Global) Error) → IfOk answer (λ file. IsSheetOfView w ts layout file.items) → IfOk answer (λ file. IsSheetOf made ts layout file.items)
   sheet_made ts layout (Ok file) h = record { view = w; is = is; sheet = h }
   sheet_made ts layout (Err e) h = tt

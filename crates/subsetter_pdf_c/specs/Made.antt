@@ -44,7 +44,8 @@ pub record IsDescriptorOf (made : PdfMade) (d : Descriptor) : Type 0 where
   pub stem_v : d.stem_v ≡ made.numbers.stem_v
   pub font_weight : d.font_weight ≡ weight_of made.numbers.font_weight
 
-pub record IsViewOf (made : PdfMade) (w : FontView) : Type 0 where
+-- with these bytes of CIDToGIDMap
+pub record IsViewOf (made : PdfMade) (glyph_map : List ℕ) (w : FontView) : Type 0 where
   pub kind : w.values.kind ≡ kind_of made.numbers.kind
   pub descriptor : IsDescriptorOf made w.values.descriptor
   pub widths : w.values.widths.now ≡ made.widths.now
@@ -52,6 +53,7 @@ pub record IsViewOf (made : PdfMade) (w : FontView) : Type 0 where
   pub columns : option_map each_of w.values.columns ≡ unless_zero made.numbers.is_vertical made.columns.now
   pub default_column : option_map default_of w.values.columns ≡ unless_zero made.numbers.is_vertical (record { y = default_y made.numbers; advance = default_advance made.numbers })
   pub program : w.values.program.now ≡ made.program.now
+  pub cid_to_gid_map : option_copied w.values.cid_to_gid_map ≡ unless_empty glyph_map glyph_map
   pub to_unicode : w.values.to_unicode.now ≡ made.to_unicode.now
   pub cmap_name : option_map name_of w.values.encoding ≡ unless_empty made.encoding.now made.encoding_name.now
   pub cmap_text : option_map text_of w.values.encoding ≡ unless_empty made.encoding.now made.encoding.now

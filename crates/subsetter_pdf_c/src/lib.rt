@@ -3,8 +3,8 @@
 //!
 //! ```text
 //! let shown = shown_of(alloc, glyphs, &characters, ends)?;           // from C
-//! let objects = write_objects(alloc, &made, 4)?;                     // of a font that C holds
-//! let parts = parts_of(alloc, &made, &[4, 9, 6, 7, 8])?;             // the same as data, with these numbers
+//! let objects = write_objects(alloc, &made, &[], 4)?;                // of a font that C holds
+//! let parts = parts_of(alloc, &made, &[], &[4, 9, 6, 7, 8])?;        // the same as data, with these numbers
 //! ```
 #![tactic(auto)]
 

@@ -17,7 +17,8 @@ use subsetter_base::Error;
 #[derive(Clone, Copy)]
 #[repr(C)]
 pub struct PdfPart {
-    /// 0: the Type 0 font, 1: the CIDFont, 2: the font descriptor, 3: the font program, 4: ToUnicode, 5: CIDSet, 6: the CMap.
+    /// 0: the Type 0 font, 1: the CIDFont, 2: the font descriptor, 3: the font program, 4: ToUnicode, 5: CIDSet, 6: the CMap,
+    /// 7: CIDToGIDMap.
     pub role: u32,
     pub number: u32,
     /// The entries of its dictionary, each with a blank behind it, but for a stream's Length.
@@ -41,6 +42,7 @@ fn role_number(role: Object) -> u32
         Object::ToUnicode => 4,
         Object::CidSet => 5,
         Object::Cmap => 6,
+        Object::CidToGidMap => 7,
     }
 }
 
@@ -91,11 +93,11 @@ fn all_laid_out(alloc: Global, parts: Vec<FontPart<'static>>) -> Result<Vec<PdfP
     Ok(list)
 }
 
-/// How many objects a font has.
-pub fn part_count(made: &PdfMade) -> usize
-    ensures { IsPartCount made.now result }
+/// How many objects a font has, with these bytes of CIDToGIDMap.
+pub fn part_count(made: &PdfMade, cid_to_gid_map: &'static [u8]) -> usize
+    ensures { IsPartCount made.now cid_to_gid_map.now result }
 {
-    pdf_text::part_count(view_of(made).values)
+    pdf_text::part_count(view_of(made, cid_to_gid_map).values)
 }
 
 /// The objects of a font as data, with these numbers: as `pdf_text::write_parts` gives them. What the parts own stays until
@@ -105,11 +107,16 @@ pub fn part_count(made: &PdfMade) -> usize
 ///
 /// - `InvalidNumbers`: the numbers aren't distinct, one is 0, or they aren't as many as there are objects.
 /// - `Subset`: there are more columns than CIDs (`OverflowError`), or a request for memory was refused (`OutOfMemory`).
-pub fn parts_of(alloc: Global, made: &PdfMade, numbers: &[u32]) -> Result<Vec<PdfPart>, PartsError>
-    ensures ok { IfOk result (λ parts. ArePartsOf made.now numbers.now parts.items) }
-    ensures err { IfErr result (λ e. HasNoPartsOf made.now numbers.now e) }
+pub fn parts_of(
+    alloc: Global,
+    made: &PdfMade,
+    cid_to_gid_map: &'static [u8],
+    numbers: &[u32],
+) -> Result<Vec<PdfPart>, PartsError>
+    ensures ok { IfOk result (λ parts. ArePartsOf made.now cid_to_gid_map.now numbers.now parts.items) }
+    ensures err { IfErr result (λ e. HasNoPartsOf made.now cid_to_gid_map.now numbers.now e) }
 {
-    let parts = match write_parts(alloc, view_of(made).values, numbers) {
+    let parts = match write_parts(alloc, view_of(made, cid_to_gid_map).values, numbers) {
         Ok(parts) => parts,
         Err(error) => return Err(error),
     };

@@ -93,19 +93,19 @@ fn cmap_of(text: &'static [u8], name: &'static [u8]) -> Option<OwnCmap<'static>>
     Some(OwnCmap { name, text })
 }
 
-/// The bytes of CIDSet, if there is one.
-fn cid_set_of(set: &'static [u8]) -> Option<&'static [u8]>
-    ensures { option_copied result ≡ unless_empty set.now set.now }
+/// The bytes of a stream, if there are any.
+fn stream_of(bytes: &'static [u8]) -> Option<&'static [u8]>
+    ensures { option_copied result ≡ unless_empty bytes.now bytes.now }
 {
-    if set.is_empty() {
+    if bytes.is_empty() {
         return None;
     }
-    Some(set)
+    Some(bytes)
 }
 
-/// A font that C holds: its lists are C's own, and stay until C gives them back.
-pub fn view_of(made: &PdfMade) -> FontView<'static>
-    ensures { IsViewOf made.now result }
+/// A font that C holds, and the bytes of its CIDToGIDMap: its lists are C's own, and stay until C gives them back.
+pub fn view_of(made: &PdfMade, cid_to_gid_map: &'static [u8]) -> FontView<'static>
+    ensures { IsViewOf made.now cid_to_gid_map.now result }
 {
     let numbers = &made.numbers;
     let values = FontValues {
@@ -115,9 +115,10 @@ pub fn view_of(made: &PdfMade) -> FontView<'static>
         default_width: numbers.default_width,
         columns: columns_of(numbers.is_vertical, made.columns, default_of(numbers)),
         program: made.program,
+        cid_to_gid_map: stream_of(cid_to_gid_map),
         to_unicode: made.to_unicode,
         encoding: cmap_of(made.encoding, made.encoding_name),
-        cid_set: cid_set_of(made.cid_set),
+        cid_set: stream_of(made.cid_set),
     };
     FontView {
         values,

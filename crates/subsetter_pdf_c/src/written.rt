@@ -15,18 +15,24 @@ use pdf_text::FontObjects;
 use std::alloc::Global;
 use subsetter_base::Error;
 
-/// The objects of a font, whole, one behind the other, with numbers from `first` on, and where each begins: as
-/// `pdf_text::write_objects` writes them.
+/// The objects of a font with these bytes of CIDToGIDMap, whole, one behind the other, with numbers from `first` on, and where
+/// each begins: as `pdf_text::write_objects` writes them.
 ///
 /// # Errors
 ///
-/// - `OverflowError`: seven numbers from `first` on don't fit 32 bits, or there are more columns than CIDs.
+/// - `OverflowError`: seven numbers from `first` on don't fit 32 bits, eight with a CIDToGIDMap, or there are more columns than
+///   CIDs.
 /// - `OutOfMemory`: a request for memory was refused.
-pub fn write_objects(alloc: Global, made: &PdfMade, first: u32) -> Result<FontObjects, Error>
-    ensures ok { IfOk result (λ o. AreObjectsOf made.now first o.text.items o.offsets.items) }
-    ensures err { IfErr result (λ e. (e ≡ OutOfMemory) ⊎ ((e ≡ OverflowError) × HaveNoNumbers made.now first)) }
+pub fn write_objects(
+    alloc: Global,
+    made: &PdfMade,
+    cid_to_gid_map: &'static [u8],
+    first: u32,
+) -> Result<FontObjects, Error>
+    ensures ok { IfOk result (λ o. AreObjectsOf made.now cid_to_gid_map.now first o.text.items o.offsets.items) }
+    ensures err { IfErr result (λ e. (e ≡ OutOfMemory) ⊎ ((e ≡ OverflowError) × HaveNoNumbers made.now cid_to_gid_map.now first)) }
 {
-    pdf_text::write_objects(alloc, view_of(made).values, first)
+    pdf_text::write_objects(alloc, view_of(made, cid_to_gid_map).values, first)
 }
 
 /// A sheet of glyphs with their texts.
@@ -39,7 +45,7 @@ fn write_sheet(
     ensures ok { IfOk result (λ file. IsSheetOf made.now (texts_of shown.now) layout file.items) }
     ensures err { IfErr result (λ e. (e ≡ OutOfMemory) ⊎ ((e ≡ OverflowError) × IsTooLargeFor made.now (texts_of shown.now) layout)) }
 {
-    pdf_objects::write_sheet(alloc, view_of(made), shown, layout)
+    pdf_objects::write_sheet(alloc, view_of(made, &[]), shown, layout)
 }
 
 /// A whole PDF that shows the glyphs that a font was made for, with their texts as C has them: as `pdf_objects::write_sheet`

@@ -90,6 +90,8 @@ pub struct FontLists {
     pub encoding_name: Vec<u8>,
     /// CIDSet, or nothing.
     pub cid_set: Vec<u8>,
+    /// CIDToGIDMap, or nothing.
+    pub cid_to_gid_map: Vec<u8>,
     /// unitsPerEm.
     pub units_per_em: u16,
     /// The width of each CID, in the font's units.
@@ -288,6 +290,7 @@ fn parted(font: proved::PdfFont) -> Result<(FontLists, FontNumbers), Error> {
         encoding,
         encoding_name: name,
         cid_set: font.cid_set.map_or_else(Vec::new, |it| it.into_inner()),
+        cid_to_gid_map: Vec::new(),
         units_per_em: font.units_per_em,
         exact_widths: font.exact_widths.into_inner(),
         unknown_axes,
@@ -350,6 +353,8 @@ pub struct FontParts<'a> {
     pub encoding_name: &'a [u8],
     /// CIDSet, or nothing.
     pub cid_set: &'a [u8],
+    /// CIDToGIDMap, or nothing.
+    pub cid_to_gid_map: &'a [u8],
     /// The numbers.
     pub numbers: FontNumbers,
 }
@@ -375,7 +380,8 @@ impl<'a> FontParts<'a> {
         .filter(|_| self.numbers.is_vertical != 0)
     }
 
-    /// The font as the proved calls borrow it. There is a CMap, and a CIDSet, where it has bytes.
+    /// The font as the proved calls borrow it. There is a CMap, a CIDSet, and a CIDToGIDMap as a stream, where
+    /// it has bytes.
     fn view(&self) -> FontView<'a> {
         let numbers = self.numbers;
         let values = FontValues {
@@ -396,6 +402,7 @@ impl<'a> FontParts<'a> {
             default_width: numbers.default_width,
             columns: self.columns(),
             program: self.program,
+            cid_to_gid_map: Some(self.cid_to_gid_map).filter(|it| !it.is_empty()),
             to_unicode: self.to_unicode,
             encoding: Some(OwnCmap {
                 name: self.encoding_name,

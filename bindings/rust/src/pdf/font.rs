@@ -2,6 +2,7 @@
 
 use super::{with_room, Cmap, Column, Columns, Descriptor, Permission, ProgramKind};
 use crate::proved::pdf_font as proved;
+use crate::proved::pdf_objects::{view_with, FontView};
 use crate::{Error, Tag};
 use alloc::vec::Vec;
 use core::{fmt, str};
@@ -11,6 +12,7 @@ use core::{fmt, str};
 /// An entry is a glyph in use with its text, as the call was given them.
 pub struct PdfFont {
     made: proved::PdfFont,
+    cid_to_gid_map: Option<Vec<u8>>,
     columns: Vec<Column>,
     unknown_axes: Vec<Tag>,
 }
@@ -22,6 +24,14 @@ fn text(bytes: &[u8]) -> &str {
 
 impl PdfFont {
     pub(super) fn new(made: proved::PdfFont) -> Result<Self, Error> {
+        Self::with_map(made, None)
+    }
+
+    /// The font of a text.
+    pub(super) fn with_map(
+        made: proved::PdfFont,
+        cid_to_gid_map: Option<Vec<u8>>,
+    ) -> Result<Self, Error> {
         let each = made.columns.as_ref().map_or(&[][..], |it| &it.each);
         let mut columns = with_room(each.len())?;
         columns.extend(each.iter().map(|it| Column {
@@ -33,14 +43,15 @@ impl PdfFont {
         unknown_axes.extend(made.unknown_axes.iter().map(|it| Tag::new(it.get())));
         Ok(Self {
             made,
+            cid_to_gid_map,
             columns,
             unknown_axes,
         })
     }
 
-    /// What the proved call answered.
-    pub(super) fn made(&self) -> &proved::PdfFont {
-        &self.made
+    /// The font as what writes it borrows it.
+    pub(super) fn view(&self) -> FontView<'_> {
+        view_with(&self.made, self.cid_to_gid_map.as_deref())
     }
 
     /// The font program.
@@ -140,6 +151,11 @@ impl PdfFont {
     /// What the font's maker permits.
     pub fn permission(&self) -> Permission {
         Permission::of(self.made.permission)
+    }
+
+    /// The bytes of CIDToGIDMap (9.7.4.2), where it is a stream; none where each CID is the number of a glyph.
+    pub fn cid_to_gid_map(&self) -> Option<&[u8]> {
+        self.cid_to_gid_map.as_deref()
     }
 
     /// The ToUnicode CMap (9.10.3).

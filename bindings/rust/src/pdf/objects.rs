@@ -22,6 +22,8 @@ pub struct References {
     pub program: u32,
     /// Of ToUnicode.
     pub to_unicode: u32,
+    /// Of CIDToGIDMap as a stream; without one of no effect.
+    pub cid_to_gid_map: u32,
     /// Of CIDSet; without one of no effect.
     pub cid_set: u32,
     /// Of the CMap of the file's own; without one of no effect.
@@ -41,6 +43,8 @@ pub struct Dictionaries {
     pub program: Vec<u8>,
     /// The stream of ToUnicode.
     pub to_unicode: Vec<u8>,
+    /// The stream of CIDToGIDMap, if it is one.
+    pub cid_to_gid_map: Option<Vec<u8>>,
     /// The stream of CIDSet, if there is one.
     pub cid_set: Option<Vec<u8>>,
     /// The stream of the CMap, if the file has its own.

@@ -11,7 +11,7 @@ use alloc::vec::Vec;
 use core::fmt;
 use core::ops::Range;
 
-/// What an object of a font is, in the order of [`PdfFont::parts`].
+/// What an object of a font is, in the order of [`PdfFont::parts`] but for the last, which comes after ToUnicode.
 #[derive(Debug, Copy, Clone, Eq, PartialEq, Hash)]
 #[non_exhaustive]
 pub enum Role {
@@ -29,6 +29,8 @@ pub enum Role {
     CidSet,
     /// The CMap of the file's own, a stream (9.7.5).
     Encoding,
+    /// CIDToGIDMap, a stream (9.7.4.2).
+    CidToGidMap,
 }
 
 /// An object of a font.
@@ -132,6 +134,7 @@ impl Role {
             proved::Object::FontDescriptor => Self::Descriptor,
             proved::Object::FontFile => Self::Program,
             proved::Object::ToUnicode => Self::ToUnicode,
+            proved::Object::CidToGidMap => Self::CidToGidMap,
             proved::Object::CidSet => Self::CidSet,
             proved::Object::Cmap => Self::Encoding,
         }
@@ -139,9 +142,10 @@ impl Role {
 }
 
 impl PdfFont {
-    /// How many objects the font has: 5, and one more with a CIDSet, and with a CMap of the file's own.
+    /// How many objects the font has: 5, and one more with a CIDToGIDMap as a stream, with a CIDSet, and with a CMap of the file's
+    /// own.
     pub fn part_count(&self) -> usize {
-        proved::part_count(proved::view_of(self.made()).values)
+        proved::part_count(self.view().values)
     }
 
     /// The font's objects as data, with numbers that the writer chooses: [`part_count`](Self::part_count) of them, distinct and
@@ -169,7 +173,7 @@ impl PdfFont {
     ///
     /// [`PartsError::InvalidNumbers`]: the numbers are others; [`PartsError::Subset`] with [`Error::OutOfMemory`].
     pub fn parts(&self, numbers: &[u32]) -> Result<Vec<Part<'_>>, PartsError> {
-        parts_of(proved::view_of(self.made()).values, numbers)
+        parts_of(self.view().values, numbers)
     }
 }
 

@@ -14,7 +14,7 @@ impl PdfFont {
     ///
     /// [`Error::OutOfMemory`] alone.
     pub fn w(&self) -> Result<Vec<u8>, Error> {
-        let text = proved::write_w(Global, proved::view_of(self.made()).values);
+        let text = proved::write_w(Global, self.view().values);
         Ok(text.map_err(refused)?.into_inner())
     }
 
@@ -25,7 +25,7 @@ impl PdfFont {
     ///
     /// [`Error::OutOfMemory`] alone.
     pub fn w2(&self) -> Result<Option<Vec<u8>>, Error> {
-        let columns = proved::view_of(self.made()).values.columns;
+        let columns = self.view().values.columns;
         if columns.is_none() {
             return Ok(None);
         }
@@ -44,10 +44,11 @@ impl PdfFont {
             descriptor: references.descriptor,
             program: references.program,
             to_unicode: references.to_unicode,
+            cid_to_gid_map: references.cid_to_gid_map,
             cid_set: references.cid_set,
             encoding: references.encoding,
         };
-        let values = proved::view_of(self.made()).values;
+        let values = self.view().values;
         let made = proved::write_dictionaries(Global, values, numbers);
         let made = made.map_err(refused)?;
         Ok(Dictionaries {
@@ -56,13 +57,15 @@ impl PdfFont {
             descriptor: made.descriptor.into_inner(),
             program: made.program.into_inner(),
             to_unicode: made.to_unicode.into_inner(),
+            cid_to_gid_map: made.cid_to_gid_map.map(|it| it.into_inner()),
             cid_set: made.cid_set.map(|it| it.into_inner()),
             encoding: made.encoding.map(|it| it.into_inner()),
         })
     }
 
     /// The font's objects, whole, with numbers from `first` on: the Type 0 font, which pages name, its CIDFont, the font
-    /// descriptor, the font program, ToUnicode, CIDSet if there is one, and the CMap if the file has its own.
+    /// descriptor, the font program, ToUnicode, CIDToGIDMap if it is a stream, CIDSet if there is one, and the CMap if the file has
+    /// its own.
     ///
     /// Streams have no filter, and it is for files that aren't encrypted.
     ///
@@ -82,9 +85,10 @@ impl PdfFont {
     ///
     /// # Errors
     ///
-    /// [`Error::OverflowError`]: seven numbers from `first` on don't fit 32 bits; [`Error::OutOfMemory`].
+    /// [`Error::OverflowError`]: seven numbers from `first` on don't fit 32 bits, eight with a CIDToGIDMap as a stream;
+    /// [`Error::OutOfMemory`].
     pub fn objects(&self, first: u32) -> Result<Objects, Error> {
-        let made = proved::write_objects(Global, proved::view_of(self.made()).values, first);
+        let made = proved::write_objects(Global, self.view().values, first);
         let made = made.map_err(refused)?;
         Ok(Objects {
             bytes: made.text.into_inner(),
@@ -118,7 +122,7 @@ impl PdfFont {
             Layout::Line => proved::Layout::Line,
             Layout::Grid => proved::Layout::Grid,
         };
-        let made = proved::write_sheet(Global, proved::view_of(self.made()), &shown, layout);
+        let made = proved::write_sheet(Global, self.view(), &shown, layout);
         Ok(made.map_err(refused)?.into_inner())
     }
 }

@@ -48,14 +48,18 @@ are_at first values k l =
 
 -- ---- numbers
 
-referred_by : (first : ℕ) (a b : Bool) → map (number_of first (references_by first a)) (objects_by a b) ≡ numbers first 0 (objects_by a b)
-referred_by first false false = let e : first + 0 ≡ first = omega arith in rw e refl
-referred_by first false true = let e : first + 0 ≡ first = omega arith in rw e refl
-referred_by first true false = let e : first + 0 ≡ first = omega arith in rw e refl
-referred_by first true true = let e : first + 0 ≡ first = omega arith in rw e refl
+referred_by : (first : ℕ) (m a b : Bool) → map (number_of first (references_by first m a)) (objects_by m a b) ≡ numbers first 0 (objects_by m a b)
+referred_by first false false false = let e : first + 0 ≡ first = omega arith in rw e refl
+referred_by first false false true = let e : first + 0 ≡ first = omega arith in rw e refl
+referred_by first false true false = let e : first + 0 ≡ first = omega arith in rw e refl
+referred_by first false true true = let e : first + 0 ≡ first = omega arith in rw e refl
+referred_by first true false false = let e : first + 0 ≡ first = omega arith in rw e refl
+referred_by first true false true = let e : first + 0 ≡ first = omega arith in rw e refl
+referred_by first true true false = let e : first + 0 ≡ first = omega arith in rw e refl
+referred_by first true true true = let e : first + 0 ≡ first = omega arith in rw e refl
 
 pub are_referred_to : AreReferredTo
-are_referred_to first v = referred_by first (is_some v.cid_set) (is_some v.encoding)
+are_referred_to first v = referred_by first (is_some v.cid_to_gid_map) (is_some v.cid_set) (is_some v.encoding)
 
 -- ---- the objects of a font
 

@@ -45,15 +45,20 @@ cid_font_kind TrueType = codes "/CIDFontType2"
 cid_font_kind BareCff = codes "/CIDFontType0"
 cid_font_kind OpenType = codes "/CIDFontType0"
 
--- of TrueType outlines: each CID is the number of a glyph
-abbrev pub glyph_map : ProgramKind → List ℕ
-glyph_map TrueType = entry (codes "CIDToGIDMap") (codes "/Identity")
-glyph_map BareCff = []
-glyph_map OpenType = []
+-- a stream of glyphs, or else each CID is the number of a glyph
+abbrev pub map_value : Bool → ℕ → List ℕ
+map_value true n = reference n
+map_value false n = codes "/Identity"
+
+-- of TrueType outlines
+abbrev pub glyph_map : ProgramKind → Bool → ℕ → List ℕ
+glyph_map TrueType has_map n = entry (codes "CIDToGIDMap") (map_value has_map n)
+glyph_map BareCff has_map n = []
+glyph_map OpenType has_map n = []
 
 abbrev pub cid_heading : ProgramKind → List ℕ → List ℕ
 cid_heading kind name = entry (codes "Type") (codes "/Font") ++ (entry (codes "Subtype") (cid_font_kind kind) ++ entry (codes "BaseFont") (codes "/" ++ name))
 
 abbrev pub cid_font_entries : FontValues → References → List ℕ
 cid_font_entries v r = cid_heading v.kind v.descriptor.font_name.now ++ (entry (codes "CIDSystemInfo") system_info
-    ++ (entry (codes "FontDescriptor") (reference r.descriptor) ++ (glyph_map v.kind ++ metric_entries v)))
+    ++ (entry (codes "FontDescriptor") (reference r.descriptor) ++ (glyph_map v.kind (is_some v.cid_to_gid_map) r.cid_to_gid_map ++ metric_entries v)))

@@ -3,7 +3,7 @@
 ghost use Rattle.std.specs.Prelude.{◌≡◌, ◌++◌, IfErr, OnOk, codes, is_some};
 ghost use Rattle.subsetter_base.specs.declared.error.Error.TheVariants.{OutOfMemory};
 ghost use Rattle.pdf_text.specs.Dictionaries.Entries.{reference, array, entry};
-ghost use Rattle.pdf_text.specs.Dictionaries.Fonts.{base_font, cmap_name, name_end, identity_name, encoding_value, font_entries, cid_font_kind, glyph_map, cid_font_entries, cid_heading};
+ghost use Rattle.pdf_text.specs.Dictionaries.Fonts.{base_font, cmap_name, name_end, identity_name, encoding_value, font_entries, cid_font_kind, map_value, glyph_map, cid_font_entries, cid_heading};
 ghost use Rattle.pdf_text.specs.Dictionaries.Widths.{IsRefused};
 
 use crate::dictionaries::entries::{write_entry, write_name, write_reference, write_reference_to};
@@ -128,13 +128,24 @@ fn cid_font_kind(kind: ProgramKind) -> &'static [u8]
     }
 }
 
-/// Writes CIDToGIDMap, for TrueType outlines.
-fn write_glyph_map(text: &mut Vec<u8>, kind: ProgramKind) -> Result<(), Error>
-    ensures ok { OnOk result (text.new.items ≡ text.old.items ++ glyph_map kind) }
+/// Writes CIDToGIDMap: a stream, or that each CID is the number of a glyph.
+fn write_map(text: &mut Vec<u8>, map: Option<&[u8]>, n: u32) -> Result<(), Error>
+    ensures ok { OnOk result (text.new.items ≡ text.old.items ++ entry (codes "CIDToGIDMap") (map_value (is_some map.entry) n)) }
     ensures err { IfErr result (λ e. e ≡ OutOfMemory) }
 {
-    match kind {
-        ProgramKind::TrueType => write_entry(text, b"CIDToGIDMap", b"/Identity"),
+    match map {
+        Some(_) => write_reference(text, b"CIDToGIDMap", n),
+        None => write_entry(text, b"CIDToGIDMap", b"/Identity"),
+    }
+}
+
+/// Writes CIDToGIDMap, for TrueType outlines.
+fn write_glyph_map(text: &mut Vec<u8>, values: FontValues<'_>, n: u32) -> Result<(), Error>
+    ensures ok { OnOk result (text.new.items ≡ text.old.items ++ glyph_map values.entry.kind (is_some values.entry.cid_to_gid_map) n) }
+    ensures err { IfErr result (λ e. e ≡ OutOfMemory) }
+{
+    match values.kind {
+        ProgramKind::TrueType => write_map(text, values.cid_to_gid_map, n),
         ProgramKind::BareCff | ProgramKind::OpenType => Ok(()),
     }
 }
@@ -171,6 +182,6 @@ pub fn write_cid_font(
         b"/CIDSystemInfo << /Registry (Adobe) /Ordering (Identity) /Supplement 0 >> ",
     )?;
     write_reference(text, b"FontDescriptor", references.descriptor)?;
-    write_glyph_map(text, values.kind)?;
+    write_glyph_map(text, values, references.cid_to_gid_map)?;
     write_metrics(alloc, text, values)
 }

@@ -162,7 +162,7 @@ some_cid font settings options us f p =
 weight_is : (font : Font) (settings : List (Tag × ℤ)) (options : FontOptions) (us : List Used) (f : PdfFont) → IsPdfFont font settings options us f → weight_of f.descriptor.values.font_weight ≡ f.descriptor.values.font_weight
 weight_is font settings options us f p = rw p.made.values (weight_back (location_in (stored font) settings) (known_of (stored font) options.limits (font_stem (stored font) (stored (as_font p.made.new.font.items))) (kept_in (stored font) (stored (as_font p.made.new.font.items)) f.glyph_count)) (stored font) options.bounds settings)
 
-pub views_are_of_the_font : (font : Font) (settings : List (Tag × ℤ)) (options : FontOptions) (us : List Used) (f : PdfFont) (made : PdfMade) → IsPdfFont font settings options us f → IsLaidOut f made → (w : FontView) → IsViewOf made w → IsViewOfFont f w
+pub views_are_of_the_font : (font : Font) (settings : List (Tag × ℤ)) (options : FontOptions) (us : List Used) (f : PdfFont) (made : PdfMade) → IsPdfFont font settings options us f → IsLaidOut f made → (w : FontView) → IsViewOf made [] w → IsViewOfFont f w
 views_are_of_the_font font settings options us f made p laid w h =
     let ps = pairs_with f.codes.items f.cids.items in
     record {
@@ -173,6 +173,7 @@ views_are_of_the_font font settings options us f made p laid w h =
       columns = h.columns ∙ each_is f made laid;
       default_column = h.default_column ∙ default_is f made laid;
       program = h.program ∙ laid.program;
+      cid_to_gid_map = h.cid_to_gid_map;
       to_unicode = h.to_unicode ∙ laid.to_unicode;
       cmap_name = h.cmap_name ∙ name_is f made laid (is_vertical options.direction) ps p.made.filled.coded.encoding;
       cmap_text = h.cmap_text ∙ text_is f made laid (is_vertical options.direction) ps p.made.filled.coded.encoding;

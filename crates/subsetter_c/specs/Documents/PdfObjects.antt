@@ -24,9 +24,9 @@ pub record IsNoneWritten (why : ℕ) (made : ObjectsMade) (status : ℕ) : Type 
   pub nothing : IsNothing made
   pub status_is : status ≡ why
 
--- the objects of a font
-abbrev pub AreObjectsWritten : PdfMade → ℕ → ObjectsMade → ℕ → Type 0
-AreObjectsWritten font first = IsWritten (AreObjectsOf font first) (λ e. (e ≡ OutOfMemory) ⊎ ((e ≡ OverflowError) × HaveNoNumbers font first))
+-- the objects of a font with these bytes of CIDToGIDMap
+abbrev pub AreObjectsWritten : PdfMade → List ℕ → ℕ → ObjectsMade → ℕ → Type 0
+AreObjectsWritten font map first = IsWritten (AreObjectsOf font map first) (λ e. (e ≡ OutOfMemory) ⊎ ((e ≡ OverflowError) × HaveNoNumbers font map first))
 
 -- ---- a sheet
 

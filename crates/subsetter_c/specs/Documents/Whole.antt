@@ -15,13 +15,13 @@ use Rattle.subsetter_c.specs.declared.documents.whole.FontMade.{FontMade}
 
 -- the one size that is known: that of the struct in bytes, where a pointer has 8
 abbrev pub own_size : ℕ
-own_size = 352
+own_size = 368
 
 -- a tag as a number, its first byte the highest
 abbrev pub tag_number : Tag → ℕ
 tag_number tag = be tag.0
 
--- a font, and the lists that it was made of
+-- a font, and the lists that it was made of: a font of glyphs with their texts has no CIDToGIDMap as a stream
 pub record IsWholeLaidOut (f : PdfFont) (glyphs text ends : List ℕ) (made : FontMade) : Type 0 where
   pub size : made.size ≡ own_size
   pub units_per_em : made.units_per_em ≡ f.units_per_em
@@ -31,6 +31,7 @@ pub record IsWholeLaidOut (f : PdfFont) (glyphs text ends : List ℕ) (made : Fo
   pub glyphs_are : made.glyphs.now ≡ glyphs
   pub text_is : made.text.now ≡ text
   pub ends_are : made.ends.now ≡ ends
+  pub cid_to_gid_map : made.cid_to_gid_map.now ≡ []
 
 -- all lists are empty, and all numbers 0, but for the size
 pub record IsWholeEmpty (made : FontMade) : Type 0 where
@@ -42,6 +43,7 @@ pub record IsWholeEmpty (made : FontMade) : Type 0 where
   pub glyphs : made.glyphs.now ≡ []
   pub text : made.text.now ≡ []
   pub ends : made.ends.now ≡ []
+  pub cid_to_gid_map : made.cid_to_gid_map.now ≡ []
 
 -- a font is handed over, or an error
 pub data IsWholeHandedBy (Is : PdfFont → Type 0) (Why : FontError → Type 0) (glyphs text ends : List ℕ) (made : FontMade) (status : ℕ) : Type 0 where

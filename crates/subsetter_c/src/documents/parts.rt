@@ -1,16 +1,18 @@
-//! The parts of a font, handed to C.
+//! The parts and the objects of a font, handed to C.
 
 ghost use Rattle.std.specs.Prelude.{◌≡◌, ◌≢◌, Err};
 ghost use Rattle.subsetter_pdf_c.specs.Written.{ArePartsOf, HasNoPartsOf, IsPartCount};
+ghost use Rattle.subsetter_c.specs.Documents.PdfObjects.{AreObjectsWritten, IsNoneWritten};
 ghost use Rattle.subsetter_c.specs.Documents.Parts.{AreNoParts, ArePartsAnswered, ArePartsHanded, parts_status};
 ghost use Rattle.subsetter_c.specs.Documents.Whole.{own_size};
 ghost use Rattle.subsetter_c.specs.Answers.Status.{unknown_option};
 
 use crate::answers::kept::kept_parts;
 use crate::answers::status::{DONE, INVALID_NUMBERS, UNKNOWN_OPTION, status_of};
+use crate::documents::pdf_files::{ObjectsMade, hand_objects, nothing};
 use crate::documents::whole::{FontMade, SIZE};
 use std::alloc::Global;
-use subsetter_pdf_c::{PartsError, PdfPart, part_count, parts_of};
+use subsetter_pdf_c::{PartsError, PdfPart, part_count, parts_of, write_objects};
 
 /// All parts of a font, which the caller reads, and gives back by `subsetter_free_pdf_parts`.
 #[derive(Drop)]
@@ -55,11 +57,12 @@ fn hand_parts(answer: Result<Vec<PdfPart>, PartsError>, made: &mut PartsMade) ->
 }
 
 /// How many parts a font has.
+#[tactic(auto, using(crate::proofs::DocumentsLaws::Parts::few_parts))]
 #[unsafe(no_mangle)]
 pub extern "C" fn subsetter_pdf_part_count(font: &FontMade) -> u32
-    ensures { IsPartCount font.now.pdf result }
+    ensures { IsPartCount font.now.pdf font.now.cid_to_gid_map.now result }
 {
-    part_count(&font.pdf) as u32
+    part_count(&font.pdf, font.cid_to_gid_map) as u32
 }
 
 /// The parts of a font, with these numbers, in memory of the library, but for the streams, which are the font's.
@@ -74,11 +77,34 @@ pub extern "C" fn subsetter_make_pdf_parts(
     made: &mut PartsMade,
 ) -> u32
     ensures sized { font.now.size ≢ own_size → (AreNoParts made.new) × (result ≡ unknown_option) }
-    ensures made { font.now.size ≡ own_size → ArePartsHanded (ArePartsOf font.now.pdf numbers.now) (HasNoPartsOf font.now.pdf numbers.now) made.new result }
+    ensures made { font.now.size ≡ own_size → ArePartsHanded (ArePartsOf font.now.pdf font.now.cid_to_gid_map.now numbers.now) (HasNoPartsOf font.now.pdf font.now.cid_to_gid_map.now numbers.now) made.new result }
 {
     if font.size != SIZE {
         *made = no_parts();
         return UNKNOWN_OPTION;
     }
-    hand_parts(parts_of(alloc, &font.pdf, numbers), made)
+    let answer = parts_of(alloc, &font.pdf, font.cid_to_gid_map, numbers);
+    hand_parts(answer, made)
+}
+
+/// The objects of a font, with numbers from `first` on, and where each begins, in memory of the library.
+///
+/// Status 0: `made` is the objects. Another status: it is empty. Status 10: the size of the font is unknown. Status 5 or 7: an
+/// error.
+#[unsafe(no_mangle)]
+pub extern "C" fn subsetter_make_objects(
+    alloc: Global,
+    font: &FontMade,
+    first: u32,
+    made: &mut ObjectsMade,
+) -> u32
+    ensures sized { font.now.size ≢ own_size → IsNoneWritten unknown_option made.new result }
+    ensures made { font.now.size ≡ own_size → AreObjectsWritten font.now.pdf font.now.cid_to_gid_map.now first made.new result }
+{
+    if font.size != SIZE {
+        *made = nothing();
+        return UNKNOWN_OPTION;
+    }
+    let answer = write_objects(alloc, &font.pdf, font.cid_to_gid_map, first);
+    hand_objects(answer, made)
 }

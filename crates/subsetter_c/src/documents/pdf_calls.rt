@@ -1,6 +1,6 @@
 //! The calls for PDF.
 
-ghost use Rattle.std.specs.Prelude.{◌≡◌, ◌⊎◌, ◌<◌, length, false, true};
+ghost use Rattle.std.specs.Prelude.{◌≡◌, ◌⊎◌, ◌<◌, [], length, false, true};
 ghost use Rattle.subsetter_sfnt.specs.Extras.{all_extras};
 ghost use Rattle.subsetter_sfnt.specs.FontAt.{font_at};
 ghost use Rattle.pdf_font.specs.PdfFont.{IsPdfFont, font_of};
@@ -111,7 +111,8 @@ pub extern "C" fn subsetter_make_pdf_font_by_words(
     }
 }
 
-/// The objects of a font, with numbers from `first` on, and where each begins, in memory of the library.
+/// The objects of a font without CIDToGIDMap as a stream, with numbers from `first` on, and where each begins, in memory of the
+/// library.
 ///
 /// Status 0: `made` is the objects. Status 5 or 7: an error, and `made` is empty.
 #[unsafe(no_mangle)]
@@ -121,9 +122,9 @@ pub extern "C" fn subsetter_make_pdf_objects(
     first: u32,
     made: &mut ObjectsMade,
 ) -> u32
-    ensures { AreObjectsWritten font.now first made.new result }
+    ensures { AreObjectsWritten font.now [] first made.new result }
 {
-    hand_objects(write_objects(alloc, font, first), made)
+    hand_objects(write_objects(alloc, font, &[], first), made)
 }
 
 /// The layout of a number.

@@ -39,10 +39,12 @@ pub struct FontMade {
     pub text: &'static [u32],
     /// Where those of each glyph end.
     pub ends: &'static [usize],
+    /// The bytes of CIDToGIDMap; empty where it is no stream.
+    pub cid_to_gid_map: &'static [u8],
 }
 
 /// The one size that is known, where a pointer has 8 bytes.
-pub const SIZE: u32 = 352;
+pub const SIZE: u32 = 368;
 
 /// No font.
 pub fn no_whole() -> FontMade
@@ -57,6 +59,7 @@ pub fn no_whole() -> FontMade
         glyphs: &[],
         text: &[],
         ends: &[],
+        cid_to_gid_map: &[],
     }
 }
 
@@ -133,6 +136,7 @@ fn whole_laid_out(font: PdfFont, further: Further) -> FontMade
         glyphs: kept_shorts(further.glyphs),
         text: kept_words(further.text),
         ends: kept_sizes(further.ends),
+        cid_to_gid_map: &[],
     }
 }
 

@@ -19,4 +19,6 @@ pub use crate::proved::pdf_text::{
     Object, PartsError, References,
 };
 pub use sheet::write_sheet;
-pub use view::{view_of, FontView};
+#[cfg(feature = "program")]
+pub use view::view_of;
+pub use view::{view_with, FontView};

@@ -70,8 +70,8 @@ fn cid_set_of(set: &Option<Vec<u8>>) -> Option<&[u8]> {
     }
 }
 
-/// A font that was made.
-pub fn view_of(font: &PdfFont) -> FontView<'_> {
+/// A font that was made, and the bytes of its CIDToGIDMap, if that is a stream.
+pub fn view_with<'a>(font: &'a PdfFont, cid_to_gid_map: Option<&'a [u8]>) -> FontView<'a> {
     let values = FontValues {
         kind: font.kind,
         descriptor: descriptor_of(font),
@@ -79,6 +79,7 @@ pub fn view_of(font: &PdfFont) -> FontView<'_> {
         default_width: font.default_width,
         columns: columns_of(&font.columns),
         program: &font.program,
+        cid_to_gid_map,
         to_unicode: &font.to_unicode,
         encoding: cmap_of(&font.encoding),
         cid_set: cid_set_of(&font.cid_set),
@@ -89,4 +90,10 @@ pub fn view_of(font: &PdfFont) -> FontView<'_> {
         codes: &font.codes,
         is_said: &font.is_said,
     }
+}
+
+/// A font that was made of glyphs with their texts.
+#[cfg(feature = "program")]
+pub fn view_of(font: &PdfFont) -> FontView<'_> {
+    view_with(font, None)
 }

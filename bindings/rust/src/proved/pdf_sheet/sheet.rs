@@ -7,14 +7,14 @@ use crate::proved::pdf_sheet::file::{body_of, checked, push_objects, write_table
 use crate::proved::pdf_sheet::frame::{frame_of, Frame, Layout};
 use crate::proved::pdf_sheet::glyphs::SheetGlyph;
 use crate::proved::pdf_sheet::pages::{front_values, page_count};
-use crate::proved::pdf_text::{write_objects, FontValues};
+use crate::proved::pdf_text::{most_objects, write_objects, FontValues};
 use crate::proved::subsetter_base::Error;
 use crate::rattle::alloc::Global;
 
-/// The number of the font's first object.
-fn font_number(layout: Layout, size: usize) -> Result<u32, Error> {
+/// The number of the font's first object, which has so many at most.
+fn font_number(layout: Layout, size: usize, most: u32) -> Result<u32, Error> {
     let number = 3 + 2 * page_count(layout, size) as u64;
-    if number + 7 >= 4_294_967_296 {
+    if number + u64::from(most) >= 4_294_967_296 {
         return Err(Error::OverflowError);
     }
     Ok(number as u32)
@@ -56,7 +56,7 @@ pub fn write_sheet(
     glyphs: &[SheetGlyph<'_>],
     layout: Layout,
 ) -> Result<Vec<u8>, Error> {
-    let first = font_number(layout, glyphs.len())?;
+    let first = font_number(layout, glyphs.len(), most_objects(values))?;
     let mut body = sheet_body(alloc, values, glyphs, layout, first)?;
     checked(body.text.len() as u64)?;
     write_table(&mut body.text, &body.offsets)?;

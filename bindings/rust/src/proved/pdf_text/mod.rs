@@ -26,7 +26,7 @@ pub use cmaps::to_unicode::{write_to_unicode, Mapping};
 pub use dictionaries::widths::{write_w, write_w2};
 pub use metrics::columns::{Column, DefaultColumn};
 pub use numbers::write_sign;
-pub use objects::{write_dictionaries, write_objects, Object};
+pub use objects::{most_objects, write_dictionaries, write_objects, Object};
 pub use parts::{part_count, part_value, write_parts, PartsError};
 pub use tag::{font_name, tag_of};
 pub use values::{Descriptor, FontColumns, FontValues, OwnCmap, ProgramKind, References};

@@ -20,6 +20,7 @@ pub enum Object {
     FontDescriptor,
     FontFile,
     ToUnicode,
+    CidToGidMap,
     CidSet,
     Cmap,
 }
@@ -46,7 +47,7 @@ pub(crate) fn write_entries(
         Object::CidFont => write_cid_font(alloc, text, values, references),
         Object::FontDescriptor => write_descriptor(text, values, references),
         Object::FontFile => write_program(text, values.kind, values.program.len()),
-        Object::ToUnicode | Object::CidSet => Ok(()),
+        Object::ToUnicode | Object::CidToGidMap | Object::CidSet => Ok(()),
         Object::Cmap => write_cmap(text, values.encoding, values.columns.is_some()),
     }
 }
@@ -65,6 +66,7 @@ pub(crate) fn bytes_of<'a>(object: Object, values: FontValues<'a>) -> Option<&'a
         Object::Font | Object::CidFont | Object::FontDescriptor => None,
         Object::FontFile => Some(values.program),
         Object::ToUnicode => Some(values.to_unicode),
+        Object::CidToGidMap => values.cid_to_gid_map,
         Object::CidSet => values.cid_set,
         Object::Cmap => text_of_cmap(values.encoding),
     }
@@ -141,29 +143,55 @@ pub(crate) fn objects_of(alloc: Global, values: FontValues<'_>) -> Result<Vec<Ob
             Object::ToUnicode,
         ],
     )?;
+    push_when(
+        &mut objects,
+        values.cid_to_gid_map.is_some(),
+        Object::CidToGidMap,
+    )?;
     push_when(&mut objects, values.cid_set.is_some(), Object::CidSet)?;
     push_when(&mut objects, values.encoding.is_some(), Object::Cmap)?;
     Ok(objects)
 }
 
-/// The number of a CMap, with which a CIDSet goes before or not.
-fn after_cid_set(first: u32, has_cid_set: bool) -> u32 {
-    if has_cid_set {
-        first + 6
+/// How many objects are before a CIDSet: five, and a CIDToGIDMap if it is a stream.
+pub(crate) fn before_set(has_map: bool) -> usize {
+    if has_map {
+        6
     } else {
-        first + 5
+        5
+    }
+}
+
+/// How many objects are before a CMap: a CIDSet, too, if there is one.
+pub(crate) fn before_cmap(has_map: bool, has_cid_set: bool) -> usize {
+    let before = before_set(has_map);
+    if has_cid_set {
+        before + 1
+    } else {
+        before
+    }
+}
+
+/// How many objects a font has at most, with a CIDToGIDMap as a stream or without.
+pub fn most_objects(values: FontValues<'_>) -> u32 {
+    if values.cid_to_gid_map.is_some() {
+        8
+    } else {
+        7
     }
 }
 
 /// The numbers of objects, of which the first has this one.
 fn references_from(first: u32, values: FontValues<'_>) -> References {
+    let has_map = values.cid_to_gid_map.is_some();
     References {
         cid_font: first + 1,
         descriptor: first + 2,
         program: first + 3,
         to_unicode: first + 4,
-        cid_set: first + 5,
-        encoding: after_cid_set(first, values.cid_set.is_some()),
+        cid_to_gid_map: first + 5,
+        cid_set: first + before_set(has_map) as u32,
+        encoding: first + before_cmap(has_map, values.cid_set.is_some()) as u32,
     }
 }
 
@@ -186,28 +214,30 @@ fn write_all(
     Ok(FontObjects { text, offsets })
 }
 
-/// Whether the numbers of seven objects fit 32 bits.
-fn checked(first: u32) -> Result<(), Error> {
-    if first > u32::MAX - 7 {
+/// Whether the numbers of so many objects fit 32 bits.
+fn checked(first: u32, most: u32) -> Result<(), Error> {
+    if first > u32::MAX - most {
         return Err(Error::OverflowError);
     }
     Ok(())
 }
 
 /// The objects of a font, whole, one behind the other, with numbers from `first` on: the composite font, its CIDFont, the font
-/// descriptor, the font program, ToUnicode, CIDSet if there is one, and the CMap if the file has its own. `first` is above 0, and
-/// each number has generation 0. For files that aren't encrypted: streams are as they are, with no filter.
+/// descriptor, the font program, ToUnicode, CIDToGIDMap if it is a stream, CIDSet if there is one, and the CMap if the file has
+/// its own. `first` is above 0, and each number has generation 0. For files that aren't encrypted: streams are as they are, with
+/// no filter.
 ///
 /// # Errors
 ///
-/// - `OverflowError`: seven numbers from `first` on don't fit 32 bits, or there are more columns than CIDs.
+/// - `OverflowError`: seven numbers from `first` on don't fit 32 bits, eight with a CIDToGIDMap as a stream, or there are more
+///   columns than CIDs.
 /// - `OutOfMemory`: a request for memory was refused.
 pub fn write_objects(
     alloc: Global,
     values: FontValues<'_>,
     first: u32,
 ) -> Result<FontObjects, Error> {
-    checked(first)?;
+    checked(first, most_objects(values))?;
     let objects = objects_of(alloc, values)?;
     write_all(
         alloc,
@@ -227,6 +257,7 @@ pub struct FontDictionaries {
     pub descriptor: Vec<u8>,
     pub program: Vec<u8>,
     pub to_unicode: Vec<u8>,
+    pub cid_to_gid_map: Option<Vec<u8>>,
     pub cid_set: Option<Vec<u8>>,
     pub encoding: Option<Vec<u8>>,
 }
@@ -276,6 +307,13 @@ pub fn write_dictionaries(
         descriptor: dictionary_of(alloc, Object::FontDescriptor, values, references)?,
         program: dictionary_of(alloc, Object::FontFile, values, references)?,
         to_unicode: dictionary_of(alloc, Object::ToUnicode, values, references)?,
+        cid_to_gid_map: dictionary_when(
+            alloc,
+            values.cid_to_gid_map.is_some(),
+            Object::CidToGidMap,
+            values,
+            references,
+        )?,
         cid_set: dictionary_when(
             alloc,
             values.cid_set.is_some(),

@@ -4,7 +4,7 @@
 use crate::rattle::prelude::Vec;
 
 use crate::proved::pdf_text::objects::{
-    bytes_of, objects_of, write_entries, write_value_end, Object,
+    before_cmap, before_set, bytes_of, objects_of, write_entries, write_value_end, Object,
 };
 use crate::proved::pdf_text::strings::{strings_of, StringRange};
 use crate::proved::pdf_text::values::{FontValues, References};
@@ -52,24 +52,14 @@ fn are_numbers(count: usize, numbers: &[u32]) -> bool {
     numbers.len() == count && are_distinct(numbers)
 }
 
-/// How many objects a font has, with a CIDSet or without, and with a CMap of the file's own or without.
-fn count_by(has_cid_set: bool, has_cmap: bool) -> usize {
-    if has_cid_set {
-        if has_cmap {
-            7
-        } else {
-            6
-        }
-    } else if has_cmap {
-        6
-    } else {
-        5
-    }
-}
-
 /// How many objects a font has.
 pub fn part_count(values: FontValues<'_>) -> usize {
-    count_by(values.cid_set.is_some(), values.encoding.is_some())
+    let before = before_cmap(values.cid_to_gid_map.is_some(), values.cid_set.is_some());
+    if values.encoding.is_some() {
+        before + 1
+    } else {
+        before
+    }
 }
 
 /// A number of a list; 0 past its end.
@@ -80,24 +70,17 @@ fn number_at(numbers: &[u32], place: usize) -> u32 {
     0
 }
 
-/// How many objects are before a CMap.
-fn cmap_place(has_cid_set: bool) -> usize {
-    if has_cid_set {
-        6
-    } else {
-        5
-    }
-}
-
 /// The numbers of the objects that others refer to.
 fn references_in(numbers: &[u32], values: FontValues<'_>) -> References {
+    let has_map = values.cid_to_gid_map.is_some();
     References {
         cid_font: number_at(numbers, 1),
         descriptor: number_at(numbers, 2),
         program: number_at(numbers, 3),
         to_unicode: number_at(numbers, 4),
-        cid_set: number_at(numbers, 5),
-        encoding: number_at(numbers, cmap_place(values.cid_set.is_some())),
+        cid_to_gid_map: number_at(numbers, 5),
+        cid_set: number_at(numbers, before_set(has_map)),
+        encoding: number_at(numbers, before_cmap(has_map, values.cid_set.is_some())),
     }
 }
 

@@ -64,6 +64,8 @@ pub struct FontValues<'a> {
     pub columns: Option<FontColumns<'a>>,
     /// The font program.
     pub program: &'a [u8],
+    /// CIDToGIDMap as a stream, of a TrueType program. None: each CID is the number of its glyph.
+    pub cid_to_gid_map: Option<&'a [u8]>,
     /// The ToUnicode CMap, as `write_to_unicode` gives it.
     pub to_unicode: &'a [u8],
     /// None: each code is its CID (`Identity-H` or `Identity-V`).
@@ -79,6 +81,8 @@ pub struct References {
     pub descriptor: u32,
     pub program: u32,
     pub to_unicode: u32,
+    /// Of no effect without a CIDToGIDMap as a stream.
+    pub cid_to_gid_map: u32,
     /// Of no effect without a CIDSet.
     pub cid_set: u32,
     /// Of no effect without a CMap of the file's own.

@@ -99,10 +99,18 @@ fn cid_font_kind(kind: ProgramKind) -> &'static [u8] {
     }
 }
 
+/// Writes CIDToGIDMap: a stream, or that each CID is the number of a glyph.
+fn write_map(text: &mut Vec<u8>, map: Option<&[u8]>, n: u32) -> Result<(), Error> {
+    match map {
+        Some(_) => write_reference(text, b"CIDToGIDMap", n),
+        None => write_entry(text, b"CIDToGIDMap", b"/Identity"),
+    }
+}
+
 /// Writes CIDToGIDMap, for TrueType outlines.
-fn write_glyph_map(text: &mut Vec<u8>, kind: ProgramKind) -> Result<(), Error> {
-    match kind {
-        ProgramKind::TrueType => write_entry(text, b"CIDToGIDMap", b"/Identity"),
+fn write_glyph_map(text: &mut Vec<u8>, values: FontValues<'_>, n: u32) -> Result<(), Error> {
+    match values.kind {
+        ProgramKind::TrueType => write_map(text, values.cid_to_gid_map, n),
         ProgramKind::BareCff | ProgramKind::OpenType => Ok(()),
     }
 }
@@ -131,6 +139,6 @@ pub fn write_cid_font(
         b"/CIDSystemInfo << /Registry (Adobe) /Ordering (Identity) /Supplement 0 >> ",
     )?;
     write_reference(text, b"FontDescriptor", references.descriptor)?;
-    write_glyph_map(text, values.kind)?;
+    write_glyph_map(text, values, references.cid_to_gid_map)?;
     write_metrics(alloc, text, values)
 }

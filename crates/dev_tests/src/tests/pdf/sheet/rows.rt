@@ -47,6 +47,7 @@ pub fn values(vertical: bool) -> FontValues<'static> {
         default_width: 667,
         columns: vertical_columns(vertical),
         program: b"true font",
+        cid_to_gid_map: None,
         to_unicode: b"begincmap",
         encoding: None,
         cid_set: None,
