@@ -1,4 +1,4 @@
-/** A PDF of a line that hb-shape shapes, with kerning and ligatures (marks need `dy`, too: by Ts). Its streams are compressed. */
+/** A PDF of a line that HarfBuzz shapes; readers copy and find its text. Its streams are compressed. */
 import { execFileSync } from "node:child_process";
 import { readFileSync, writeFileSync } from "node:fs";
 import { deflateSync } from "node:zlib";
@@ -6,18 +6,11 @@ import { load } from "subsetter-proved";
 
 const FONT = "/usr/share/fonts/truetype/dejavu/DejaVuSans.ttf", TEXT = "Hello, Ελλάδα!";
 
-// The glyphs, placed in thousandths of the size. The text of a cluster goes to its first glyph.
-const words = ["--output-format=json", "--no-glyph-names", "--font-size=1000", FONT, TEXT];
-const glyphs = JSON.parse(execFileSync("hb-shape", words)), characters = [...TEXT], met = new Set();
-const starts = glyphs.map(it => it.cl), after = start => Math.min(characters.length, ...starts.filter(it => it > start));
-const textOf = start => met.has(start) ? "" : (met.add(start), characters.slice(start, after(start)).join(""));
-const shown = glyphs.map(it => ({ glyph: it.g, text: textOf(it.cl) }));
-
-const subsetter = await load(), font = subsetter.pdfFont(readFileSync(FONT), shown, { codes: "each_text" });
-// A number in TJ moves back: by what is left of the glyph's width.
-const code = index => font.codes[index].toString(16).padStart(4, "0"), width = index => font.widths[font.cids[index]];
-const line = glyphs.map((it, index) => `${-it.dx} <${code(index)}> ${it.dx + width(index) - it.ax}`).join(" ");
-const content = deflateSync(`BT /F1 24 Tf 36 60 Td [${line}] TJ ET`);
+// What harfbuzzjs has as buffer.json(), by hb-shape. The page comes first, and then a font for all runs of the text.
+const glyphs = JSON.parse(execFileSync("hb-shape", ["--output-format=json", "--no-glyph-names", FONT, TEXT]));
+const subsetter = await load(), text = new subsetter.PdfText(readFileSync(FONT));
+const shows = Buffer.from(text.shaped(TEXT, glyphs, { size: 24 })).toString("latin1"), font = text.font();
+const content = deflateSync(`BT /F1 24 Tf 36 60 Td ${shows} ET`);
 
 const numbers = Array.from({ length: font.partCount }, (_, index) => 5 + index);
 const objects = [

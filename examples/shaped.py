@@ -1,37 +1,53 @@
-"""A PDF of a line that hb-shape shapes, with kerning and ligatures (marks need `dy`, too: by Ts). Its streams are compressed."""
+"""A PDF of lines in four scripts that HarfBuzz shapes; readers copy and find their text. Its streams are compressed."""
 import json
 import subprocess
+import types
 import zlib
 
 import subsetter
 
-FONT, TEXT = "/usr/share/fonts/truetype/dejavu/DejaVuSans.ttf", "Hello, Ελλάδα!"
+FOLDER = "/usr/share/fonts/truetype"
+DEJAVU, LOHIT, GARUDA = f"{FOLDER}/dejavu/DejaVuSans.ttf", f"{FOLDER}/lohit-devanagari/Lohit-Devanagari.ttf", f"{FOLDER}/tlwg/Garuda.ttf"
+LINES = [
+    (DEJAVU, "ltr", "Hello, Ελλάδα, office"),
+    (DEJAVU, "rtl", "سلام لا"),
+    (LOHIT, "ltr", "हिन्दी क्षत्रिय"),
+    (GARUDA, "ltr", "ภาษาไทยที่นี่"),
+]
 
-# The glyphs, placed in thousandths of the size. The text of a cluster goes to its first glyph.
-shape = ["hb-shape", "--output-format=json", "--no-glyph-names", "--font-size=1000", FONT, TEXT]
-glyphs = json.loads(subprocess.run(shape, check=True, stdout=subprocess.PIPE).stdout)
-starts = sorted({glyph["cl"] for glyph in glyphs})
-ends = dict(zip(starts, [*starts[1:], len(TEXT)]))
-shown = [(it["g"], TEXT[it["cl"]:ends.pop(it["cl"], it["cl"])]) for it in glyphs]
 
-with open(FONT, "rb") as file:
-    font = subsetter.pdf_font(file.read(), shown, codes="each_text")
-# A number in TJ moves back: by what is left of the glyph's width.
-moves = [(-it["dx"], it["dx"] + font.widths[cid] - it["ax"]) for it, cid in zip(glyphs, font.cids)]
-line = " ".join(f"{before} <{code:04X}> {after}" for code, (before, after) in zip(font.codes, moves))
-content = zlib.compress(f"BT /F1 24 Tf 36 60 Td [{line}] TJ ET".encode())
+def shape(path, line):
+    """What uharfbuzz has as `buffer.glyph_infos` and `buffer.glyph_positions`, by hb-shape."""
+    words = ["hb-shape", "--output-format=json", "--no-glyph-names", path, line]
+    glyphs = json.loads(subprocess.run(words, check=True, stdout=subprocess.PIPE).stdout)
+    infos = [types.SimpleNamespace(codepoint=it["g"], cluster=it["cl"]) for it in glyphs]
+    return infos, [types.SimpleNamespace(x_advance=it["ax"], y_advance=it["ay"], x_offset=it["dx"], y_offset=it["dy"]) for it in glyphs]
 
-objects = {
+
+# The pages come first, and then a font for all runs of a text.
+texts, shows = {}, b"BT 36 200 Td"
+for path, direction, line in LINES:
+    if path not in texts:
+        with open(path, "rb") as file:
+            texts[path] = subsetter.PdfText(file.read())
+    shows += b" 0 -40 Td /F%d 24 Tf " % list(texts).index(path) + texts[path].shaped(line, *shape(path, line), direction, size=24)
+content = zlib.compress(shows + b"ET")
+
+objects, fonts = {}, b""
+for name, text in enumerate(texts.values()):
+    font, first = text.font(), 5 + len(objects)
+    fonts += b"/F%d %d 0 R " % (name, first)
+    for part in font.parts(range(first, first + font.part_count), compress=True):
+        objects[part.number] = part.value
+objects.update({
     1: b"<< /Type /Catalog /Pages 2 0 R >>",
     2: b"<< /Type /Pages /Count 1 /Kids [3 0 R] >>",
-    3: b"<< /Type /Page /Parent 2 0 R /MediaBox [0 0 300 144] /Contents 4 0 R /Resources << /Font << /F1 5 0 R >> >> >>",
+    3: b"<< /Type /Page /Parent 2 0 R /MediaBox [0 0 400 240] /Contents 4 0 R /Resources << /Font << %s>> >> >>" % fonts,
     4: b"<< /Filter /FlateDecode /Length %d >>\nstream\n%s\nendstream" % (len(content), content),
-}
-for part in font.parts(range(5, 5 + font.part_count), compress=True):
-    objects[part.number] = part.value
+})
 
 pdf, table = b"%PDF-1.7\n%\xe2\xe3\xcf\xd3\n", b""
-for number, value in objects.items():
+for number, value in sorted(objects.items()):
     table += b"%010d 00000 n \n" % len(pdf)
     pdf += b"%d 0 obj\n%s\nendobj\n" % (number, value)
 size, start = len(objects) + 1, len(pdf)

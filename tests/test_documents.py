@@ -37,14 +37,19 @@ def blocks(document, *languages):
     return found
 
 
-def demand_pdf(room):
-    """hello.pdf is sound, its one subset is embedded, the text comes back, and something is drawn."""
+def lines_of(text):
+    """Its lines, without marks of direction."""
+    return [line for line in re.sub("[\f\u202a-\u202e]", "", text).split("\n") if line]
+
+
+def demand_pdf(room, lines=(TEXT,), seen=(TEXT,), count=1):
+    """hello.pdf is sound, its subsets are embedded, the text comes back (from MuPDF as it is seen), and something is drawn."""
     assert "No syntax or stream encoding errors found" in run(room, "qpdf", "--check", "hello.pdf")
     fonts = [line for line in run(room, "pdffonts", "hello.pdf").splitlines()[2:] if not line.startswith("Helvetica ")]
-    assert len(fonts) == 1 and re.search(r"^[A-Z]{6}\+.* yes yes yes +\d+ +\d+$", fonts[0]), fonts
-    assert run(room, "pdftotext", "-enc", "UTF-8", "hello.pdf", "-").strip() == TEXT
+    assert len(fonts) == count and all(re.search(r"^[A-Z]{6}\+.* yes yes yes +\d+ +\d+$", it) for it in fonts), fonts
+    assert lines_of(run(room, "pdftotext", "-enc", "UTF-8", "hello.pdf", "-")) == list(lines)
     run(room, "mutool", "draw", "-q", "-F", "txt", "-o", "mupdf.txt", "hello.pdf")
-    assert (room / "mupdf.txt").read_text(encoding="utf-8").strip() == TEXT
+    assert lines_of((room / "mupdf.txt").read_text(encoding="utf-8")) == list(seen)
     run(room, "pdftoppm", "-gray", "-r", "50", "-singlefile", "hello.pdf", "page")
     assert sum(point < 128 for point in (room / "page.pgm").read_bytes().split(b"\n", 3)[-1]) > 100
 
@@ -108,13 +113,15 @@ def test_programs_of_documents(tmp_path, how, document, language):
         demand_pdf(tmp_path)
 
 
+LINES = ["Hello, Ελλάδα, office", "سلام لا", "हिन्दी क्षत्रिय", "ภาษาไทยที่นี่"]
+DEMANDED = {"shaped.py": (LINES, [LINES[0], LINES[1][::-1], *LINES[2:]], 3)}
 EXAMPLES = {"writer.rs": rust, "plain.c": c, "with_qpdf.cc": with_qpdf, "with_podofo.cc": with_podofo, "shaped.mjs": js}
 
 
 @pytest.mark.parametrize("name", sorted(it for it in os.listdir(os.path.join(ROOT, "examples")) if it != "README.md"))
 def test_examples(tmp_path, name):
     EXAMPLES.get(name, python)(tmp_path, read("examples", name))
-    demand_pdf(tmp_path)
+    demand_pdf(tmp_path, *DEMANDED.get(name, ()))
 
 
 def test_commands_of_the_readme(tmp_path):

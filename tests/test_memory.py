@@ -29,6 +29,7 @@ ALLOWED = {
     ("pdf_operators", "show_run"): (1, "`clusters_of_run` has no other error"),
     ("pdf_operators", "write_run"): (1, "`write_operators` has no other error"),
     ("pdf_operators", "write_integer"): (1, "`write!` reports a refused request as fmt::Error, and a number's text has no other error"),
+    ("pdf_operators", "write_whole"): (1, "`write!` reports a refused request as fmt::Error, and a number's text has no other error"),
     ("subset_args", "enum ArgsError"): (1, "the case itself"),
     ("subset_args", "glyphs_of"): (1, "`push` takes memory and has no other error"),
     ("subset_task", "no_memory"): (2, "its argument is an allocator's refusal"),
@@ -69,6 +70,12 @@ ALLOWED = {
     ("pdf_cff", "unless_memory"): (2, "passes on that of its argument"),
     ("subsetter_boxes", "unless_memory"): (2, "passes on that of its argument"),
     ("glyph_names", "read_charset"): (2, "passes on that of `Table::parse`"),
+    ("subsetter_text_c", "add_pairs"): (1, "of `codes_of` without OverflowError"),
+    ("subsetter_text_c", "pairs_of"): (1, "`no_pairs` has no other error"),
+    ("subsetter_text_c", "characters_of_numbers"): (1, "`characters_of` has no other error"),
+    ("subsetter_c", "run_status"): (1, "its status"),
+    ("text_metrics", "columns_there"): (2, "`tops_of` and `columns_at` of glyphs below 65,535 have no other error"),
+    ("subsetter_c", "font_for"): (2, "passes on that of `pairs_of`"),
 }
 WORDS = re.compile(r"\bOutOfMemory\b|\bNoMemory\b|\b(?:AllocError|AllocFailed)\b(?!\s*[>,}]|<\w)")
 # `Unwritten` of subset_lines is that a writer failed: a write or a request that failed is right before it.

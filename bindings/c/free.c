@@ -1,5 +1,5 @@
 /* Gives memory back that the library has handed over. It took it by malloc, as the kit's C files do for it, so that free
- * takes it back. */
+ * takes it back. A run may give a text other pairs: then those that it had are given back here. */
 #include "subsetter.h"
 
 #include <stdlib.h>
@@ -78,4 +78,58 @@ void subsetter_free_pdf_objects(subsetter_pdf_objects *made)
     give_back(made->bytes, made->size);
     give_back(made->offsets, made->offset_count);
     *made = nothing;
+}
+
+void subsetter_free_text(subsetter_text *text)
+{
+    if (text == NULL)
+        return;
+    subsetter_text nothing = {0};
+    nothing.size = text->size;
+    give_back(text->coordinates, text->coordinate_count);
+    give_back(text->metrics, text->metric_count);
+    give_back(text->inked, text->inked_count);
+    give_back(text->pairs, text->pair_count);
+    *text = nothing;
+}
+
+/* Pairs that a text has no more. */
+struct left {
+    const subsetter_pair *pairs;
+    size_t count;
+};
+
+/* The proved calls (crates/subsetter_c/src/documents/runs.rt). Of the three lists of units the one of the width is the text. */
+uint32_t text_show_run(subsetter_text *text, const subsetter_item *items, size_t item_count,
+                       const uint32_t *characters, size_t character_count, uint32_t direction, uint32_t order, uint32_t size,
+                       subsetter_pdf_objects *made, struct left *left);
+uint32_t text_show_shaped(subsetter_text *text, const subsetter_shaped *glyphs, size_t glyph_count,
+                          const uint8_t *utf8, size_t utf8_count, const uint16_t *utf16, size_t utf16_count,
+                          const uint32_t *utf32, size_t utf32_count, uint32_t unit_width,
+                          uint32_t direction, uint32_t order, uint32_t size,
+                          subsetter_pdf_objects *made, struct left *left);
+
+uint32_t subsetter_show_run(subsetter_text *text, const subsetter_item *items, size_t item_count,
+                            const uint32_t *characters, size_t character_count,
+                            uint32_t direction, uint32_t order, uint32_t size,
+                            subsetter_pdf_objects *made)
+{
+    struct left left = {NULL, 0};
+    uint32_t status = text_show_run(text, items, item_count, characters, character_count, direction, order, size, made, &left);
+    give_back(left.pairs, left.count);
+    return status;
+}
+
+uint32_t subsetter_show_shaped(subsetter_text *text, const subsetter_shaped *glyphs, size_t glyph_count,
+                               const void *units, size_t unit_count, uint32_t unit_width,
+                               uint32_t direction, uint32_t order, uint32_t size,
+                               subsetter_pdf_objects *made)
+{
+    struct left left = {NULL, 0};
+    size_t bytes = unit_width == 8 ? unit_count : 0, words = unit_width == 16 ? unit_count : 0;
+    size_t numbers = unit_width == 32 ? unit_count : 0;
+    uint32_t status = text_show_shaped(text, glyphs, glyph_count, bytes ? units : NULL, bytes, words ? units : NULL, words,
+                                       numbers ? units : NULL, numbers, unit_width, direction, order, size, made, &left);
+    give_back(left.pairs, left.count);
+    return status;
 }

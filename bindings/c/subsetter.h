@@ -83,9 +83,11 @@ enum {
     SUBSETTER_UNKNOWN_OPTION = 10,
     /* The font's maker doesn't permit that it is embedded (`fsType` of the table `OS/2`); of the calls for PDF alone. */
     SUBSETTER_NOT_PERMITTED = 11,
-    /* A text has a number that is no character, an end that isn't in its order, or more than 256 UTF-16 units, or isn't UTF-8; of
-     * the calls for PDF alone. */
+    /* A text has a number that is no character, an end that isn't in its order, or more than 256 UTF-16 units, or isn't UTF-8; or
+     * glyphs are no run of the font and of their text; of the calls for PDF alone. */
     SUBSETTER_INVALID_TEXT = 12,
+    /* The font of a text would have more than 65,535 codes: the run is for another text. */
+    SUBSETTER_OVERFULL = 15,
     /* The numbers of objects are too few or too many, 0, or not distinct; of the calls for PDF alone. */
     SUBSETTER_INVALID_NUMBERS = 16
 };
@@ -98,7 +100,8 @@ static inline const char *subsetter_status_text(uint32_t status)
         "overflow occurred", "processing CFF table failed", "out of memory", "a buffer is too small",
         "the limit of the depth is 0", "unknown option", "embedding not permitted", "invalid text"
     };
-    return status < sizeof texts / sizeof *texts ? texts[status] : status == 16 ? "invalid numbers" : "unknown status";
+    return status < sizeof texts / sizeof *texts ? texts[status]
+           : status == 15 ? "too many codes" : status == 16 ? "invalid numbers" : "unknown status";
 }
 
 /* This text from the library, in ASCII, without a zero at the end: print it by "%.*s", with (int)length in front.
@@ -627,6 +630,197 @@ uint32_t subsetter_make_pdf_parts(const subsetter_font *font, const uint32_t *nu
 
 /* Gives the parts back, and sets both fields to 0. The font stays. */
 void subsetter_free_pdf_parts(subsetter_pdf_parts *made);
+
+/* ---- runs of shaped text
+ *
+ * The operators of a page for glyphs that a shaper such as HarfBuzz gave, so that readers copy and find their text, and then the
+ * font of all that was shown:
+ *
+ *     subsetter_text text;
+ *     subsetter_pdf_objects line;
+ *     subsetter_font made;
+ *     status = subsetter_new_text(data, size, 0, NULL, 0, NULL, &text);
+ *     hb_shape(..);
+ *     subsetter_hb_shaped(hb_buffer_get_glyph_infos(..), hb_buffer_get_glyph_positions(..), count, shaped);
+ *     status = subsetter_show_shaped(&text, shaped, count, "fi", 2, 8, SUBSETTER_LEFT_TO_RIGHT, SUBSETTER_ORDER_VISUAL, 12000, &line);
+ *     .. "BT /F1 12 Tf 72 720 Td ", the bytes of `line`, "ET" ..
+ *     status = subsetter_make_text_font(&text, NULL, &made);
+ *     .. the objects or the parts of `made` ..
+ *     subsetter_free_font(&made);
+ *     subsetter_free_pdf_objects(&line);
+ *     subsetter_free_text(&text);
+ */
+
+/* How the glyphs of a run follow each other (`direction` of the calls for runs). They are in visual order, as a shaper gives them. */
+enum {
+    SUBSETTER_LEFT_TO_RIGHT = 0,
+    /* From left to right, and the text is read from the last glyph to the first. */
+    SUBSETTER_RIGHT_TO_LEFT = 1,
+    /* From top to bottom: of a vertical text alone, which has no others. */
+    SUBSETTER_TOP_TO_BOTTOM = 2
+};
+
+/* The order in which the glyphs of a run are written (`order`). */
+enum {
+    /* As they are seen. More readers copy the text rightly so. */
+    SUBSETTER_ORDER_VISUAL = 0,
+    /* As the text is read, for a tagged PDF: those of a run from right to left from the last to the first. */
+    SUBSETTER_ORDER_LOGICAL = 1
+};
+
+/* A glyph's metrics, in thousandths of the em. */
+typedef struct subsetter_metrics {
+    /* How far the pen goes on: the width in W, or in vertical writing w1y in W2 (9.7.4.3). */
+    int32_t displacement;
+    /* In vertical writing the y of the position vector, else 0. */
+    int32_t position;
+} subsetter_metrics;
+
+/* What a code draws and says. */
+typedef struct subsetter_pair {
+    /* 0: `glyph`; 1: a blank, which has no ink and no advance. Later versions may have further kinds. */
+    uint32_t kind;
+    /* A glyph of the font; of a blank 0. */
+    uint32_t glyph;
+    /* A character; 0xFFFFFFFF: the code says nothing. */
+    uint32_t character;
+} subsetter_pair;
+
+/* A text: what its runs need of the font, and which codes they have. The caller only reads the fields, hands it to one call at a
+ * time, and gives it back by `subsetter_free_text`. It borrows the font, which has to stay, unchanged, as long as calls take the
+ * text. */
+typedef struct subsetter_text {
+    /* sizeof (subsetter_text), which the inline call writes; for another the calls answer 10. Later versions put further fields
+     * after these, and go on to take this size. */
+    uint32_t size;
+    /* unitsPerEm. 0: there is no text, and the calls answer 10. */
+    uint32_t units_per_em;
+    /* The font, which is the caller's. */
+    const uint8_t *font;
+    size_t font_size;
+    /* The coordinates, a copy. */
+    const subsetter_coordinate *coordinates;
+    size_t coordinate_count;
+    /* Of each glyph of the font. */
+    const subsetter_metrics *metrics;
+    size_t metric_count;
+    /* Of each glyph 1 where it has ink; past the end nothing is known. */
+    const uint8_t *inked;
+    size_t inked_count;
+    /* Of each code from 1 on. Code 0 is glyph 0, and says nothing. */
+    const subsetter_pair *pairs;
+    size_t pair_count;
+    /* The face of a collection. */
+    uint32_t index;
+    /* 1: text runs from top to bottom. */
+    uint32_t is_vertical;
+} subsetter_text;
+
+/* A text of a font, at coordinates (none: the font's default), before its first run. The options are those for the font; here
+ * `tokens` and `depth` count, as limits, and `direction`: with SUBSETTER_VERTICAL the text is vertical.
+ *   0: `*made` is the text.
+ *   1 to 7, 10: all of `*made` is 0 (but for `made->size`), and nothing is to be freed. 2 also where `maxp` is missing.
+ * `made` is written by each call and must not be null; what it held before isn't freed.
+ */
+uint32_t subsetter_new_text_by_words(const uint8_t *font, size_t font_size, uint32_t index,
+                                     const subsetter_coordinate *coordinates, size_t coordinate_count,
+                                     const uint32_t *options, size_t option_count,
+                                     subsetter_text *made);
+
+static inline uint32_t subsetter_new_text(const uint8_t *font, size_t font_size, uint32_t index,
+                                          const subsetter_coordinate *coordinates, size_t coordinate_count,
+                                          const subsetter_pdf_options *options, subsetter_text *made)
+{
+    made->size = sizeof(subsetter_text);
+    return subsetter_new_text_by_words(font, font_size, index, coordinates, coordinate_count, subsetter_pdf_option_words(options),
+                                       subsetter_pdf_option_count(options), made);
+}
+
+/* Gives a text back, and sets all but `size` to 0. Also after a call that failed, or with a null pointer. The font stays. */
+void subsetter_free_text(subsetter_text *text);
+
+/* A glyph of a run, in units of the font; y goes up. */
+typedef struct subsetter_item {
+    /* The number of the glyph in the font. */
+    uint32_t glyph;
+    /* 0: a cluster begins here, whose text are the characters from `start` up to `end`. Else the glyph continues a cluster. */
+    uint32_t continues;
+    uint32_t start;
+    uint32_t end;
+    /* How far the pen goes on; in horizontal writing y_advance is to be 0, in vertical writing x_advance. */
+    int32_t x_advance;
+    int32_t y_advance;
+    /* How far the glyph is from the pen. */
+    int32_t x_offset;
+    int32_t y_offset;
+} subsetter_item;
+
+/* The operators that show a run, for a content stream: between BT and ET, after Tf and Td or Tm, where Tc, Tw and Ts are 0 and Tz is
+ * 100. The pen goes on by the run's advance, and Ts is 0 then. `characters` are 32-bit characters, of which the items have ranges;
+ * `size` is that of the font, in thousandths of a unit of text space (12000 for 12 points); it counts for Ts alone.
+ *   0: `made->bytes` are the operators, the count of offsets is 0, and the text has the codes of the run. Codes of earlier runs stay.
+ *   7, 10 (a direction that isn't the text's, another order, or no text), 12 (a number is no character, a range isn't in order, a
+ *   glyph isn't the font's, the first one continues a cluster, an advance isn't along the line, a place doesn't fit 32 bits, or an
+ *   ActualText would have more than 32,767 bytes), 15: the size and the count of `*made` are 0, nothing is to be freed, and the text
+ *   is as it was.
+ */
+uint32_t subsetter_show_run(subsetter_text *text, const subsetter_item *items, size_t item_count,
+                            const uint32_t *characters, size_t character_count,
+                            uint32_t direction, uint32_t order, uint32_t size,
+                            subsetter_pdf_objects *made);
+
+/* A glyph as HarfBuzz gives it, in units of the font: of `hb_glyph_info_t` and `hb_glyph_position_t`. */
+typedef struct subsetter_shaped {
+    /* The number of the glyph in the font (`codepoint` of hb.h). */
+    uint32_t glyph;
+    /* How many units of the text are before its cluster. */
+    uint32_t cluster;
+    int32_t x_advance;
+    int32_t y_advance;
+    int32_t x_offset;
+    int32_t y_offset;
+} subsetter_shaped;
+
+/* The same of glyphs with cluster numbers, of a text of 8-bit, 16-bit or 32-bit units (UTF-8, UTF-16 or UTF-32; `unit_width` is 8, 16
+ * or 32), which the numbers count. A cluster's text goes from its number to the next greater one of the run, or to the end.
+ * Statuses are those of `subsetter_show_run`; 10 also for another width, 12 also where the units are no text, a number isn't where a
+ * character begins, or numbers fall in reading order.
+ */
+uint32_t subsetter_show_shaped(subsetter_text *text, const subsetter_shaped *glyphs, size_t glyph_count,
+                               const void *units, size_t unit_count, uint32_t unit_width,
+                               uint32_t direction, uint32_t order, uint32_t size,
+                               subsetter_pdf_objects *made);
+
+/* The glyphs that HarfBuzz has shaped, where hb.h was included before this header. Its font has the scale of units per em. */
+#ifdef HB_H
+static inline void subsetter_hb_shaped(const hb_glyph_info_t *infos, const hb_glyph_position_t *positions, size_t count,
+                                       subsetter_shaped *glyphs)
+{
+    for (size_t i = 0; i < count; i++) {
+        glyphs[i].glyph = infos[i].codepoint;
+        glyphs[i].cluster = infos[i].cluster;
+        glyphs[i].x_advance = positions[i].x_advance;
+        glyphs[i].y_advance = positions[i].y_advance;
+        glyphs[i].x_offset = positions[i].x_offset;
+        glyphs[i].y_offset = positions[i].y_offset;
+    }
+}
+#endif
+
+/* All that a PDF has of the font of a text, for the runs that were shown so far; it may be asked again after further ones. The codes
+ * are the CIDs, and it has no entries. Of the options `codes`, `program` and `direction` have no effect.
+ *   0: `*made` is the font, which is given back by `subsetter_free_font`.
+ *   1 to 7, 10 (also where there is no text), 11: as for `subsetter_make_font_by_words`.
+ */
+uint32_t subsetter_make_text_font_by_words(const subsetter_text *text, const uint32_t *options, size_t option_count,
+                                           subsetter_font *made);
+
+static inline uint32_t subsetter_make_text_font(const subsetter_text *text, const subsetter_pdf_options *options,
+                                                subsetter_font *made)
+{
+    made->size = sizeof(subsetter_font);
+    return subsetter_make_text_font_by_words(text, subsetter_pdf_option_words(options), subsetter_pdf_option_count(options), made);
+}
 
 /* ---- a font in the older struct */
 

@@ -33,8 +33,10 @@ export class OutOfMemory extends SubsetterError {}
 
 /** The font's maker doesn't permit that it is embedded (`fsType` of the table `OS/2`). */
 export class NotPermitted extends SubsetterError {}
-/** A text has an unpaired surrogate, or more than 256 UTF-16 units. */
+/** A text has an unpaired surrogate, or more than 256 UTF-16 units; or glyphs are no run of the font and of their text. */
 export class InvalidText extends SubsetterError {}
+/** The font of a PdfText would have more than 65,535 codes: the run is for another one. */
+export class Overfull extends OverflowError {}
 
 /** The bytes of a whole file, OpenType or a collection. They are copied, and never written. */
 export type FontData = ArrayBufferLike | ArrayBufferView;
@@ -217,7 +219,7 @@ export interface Advances {
     heights: number[];
 }
 
-/** All that a PDF has of a font for the glyphs in use. An entry is a glyph in use with its text. */
+/** All that a PDF has of a font for the glyphs in use. An entry is a glyph in use with its text; the font of a PdfText has none. */
 export interface PdfFont {
     /** The font program. */
     program: Uint8Array;
@@ -266,6 +268,8 @@ export interface PdfFont {
      * `first` on, eight with a CIDToGIDMap as a stream, don't fit 32 bits. (What is changed in this object isn't written.)
      */
     objects(first: number): Objects;
+    /** The string that shows these codes, as "<00010002>". */
+    string(codes: Iterable<number>): string;
     /** How many objects it has. */
     partCount: number;
     /**
@@ -280,6 +284,84 @@ export interface PdfFont {
      */
     sheet(layout?: "line" | "grid"): Uint8Array;
     /** Gives back what `objects` and `sheet` are written of: they throw a TypeError afterwards. All else stays. */
+    close(): void;
+}
+
+/** A glyph of a run. Lengths are in the font's units. */
+export interface Item {
+    /** The number of the glyph in the font, from 0 to 65535. */
+    readonly glyph: number;
+    /** The text of the cluster that begins here; none where the glyph continues a cluster. */
+    readonly text?: string;
+    /** How far the pen goes on. Without both advances it is the font's own one. */
+    readonly xAdvance?: number;
+    /** The same upwards, in vertical writing. */
+    readonly yAdvance?: number;
+    /** How far the glyph is from the pen. */
+    readonly xOffset?: number;
+    /** And above it. */
+    readonly yOffset?: number;
+}
+
+/** A glyph as harfbuzzjs has it in the list of `buffer.json()`, and `hb-shape` in its JSON. Lengths are in the font's units. */
+export interface ShapedGlyph {
+    /** The number of the glyph in the font. */
+    readonly g: number;
+    /** How many UTF-16 units of the text are before its cluster. */
+    readonly cl: number;
+    /** How far the pen goes on. */
+    readonly ax: number;
+    readonly ay: number;
+    /** How far the glyph is from the pen. */
+    readonly dx: number;
+    readonly dy: number;
+}
+
+/** How a run goes on. */
+export interface RunChoices {
+    /** "ltr", if nothing is said, or "rtl"; of a vertical text "ttb". */
+    readonly direction?: "ltr" | "rtl" | "ttb";
+    /** The size of Tf. Without it 12. */
+    readonly size?: number;
+}
+
+/** What a caller chooses of a text. */
+export interface TextChoices {
+    readonly limits?: Limits;
+    /** True: text runs from top to bottom. */
+    readonly vertical?: boolean;
+    /** As of `PdfChoices`. */
+    readonly rights?: PdfChoices["rights"];
+    /**
+     * How a run from right to left is written: as it is seen, which more readers copy rightly, or as it is read, for a tagged PDF.
+     * Without it as it is seen.
+     */
+    readonly order?: "visual" | "logical";
+}
+
+/** Text of a font in a PDF: runs of shaped glyphs, which readers copy and find, and then the font that they want. */
+export interface PdfText {
+    /** How many units of the font an em has. */
+    unitsPerEm: number;
+    /**
+     * What shows a run of glyphs, in the order in which they are seen, for a content stream: between BT and ET, after Tf and Td or
+     * Tm, where Tc, Tw and Ts are 0 and Tz is 100. The pen goes on by the run's advance.
+     *
+     * InvalidText is thrown where the first item continues a cluster, a glyph isn't the font's, an advance leaves the line, a text has
+     * an unpaired surrogate, or one that needs an ActualText is too long; and Overfull. After an error the text is as it was.
+     */
+    run(items: Iterable<Item>, options?: RunChoices): Uint8Array;
+    /**
+     * The same of what HarfBuzz has made of a text, where its font has the scale of units per em. A cluster's text goes from its number
+     * to the next greater one of the run, or to the end. InvalidText is also thrown where a number isn't where a character begins,
+     * or numbers fall in reading order.
+     */
+    shaped(text: string, glyphs: Iterable<ShapedGlyph>, options?: RunChoices): Uint8Array;
+    /** The advances of glyphs in thousandths of the em, as W has them. */
+    advances(glyphs: Iterable<number>): number[];
+    /** All that a PDF has of the font, for the runs so far; it may be asked again after further ones. Errors are those of `pdfFont`. */
+    font(options?: Pick<PdfChoices, "small" | "hinting" | "bounds" | "cidSet" | "tag">): PdfFont;
+    /** Gives the font's memory back. Its calls throw a TypeError afterwards; fonts that it made stay. */
     close(): void;
 }
 
@@ -321,6 +403,8 @@ export interface Subsetter {
      * has no `hmtx` or no `head`, or 0 units per em. With coordinates a width is the advance that its glyph has there.
      */
     embed(data: FontData, glyphs: Iterable<number>, options?: Face & Choices & Place): Embedded;
+    /** The text of a font, which is copied into the module. It throws what `advances` does. */
+    readonly PdfText: new (data: FontData, options?: Face & TextChoices & Place) => PdfText;
     /** Copies a font into the module, for any number of calls. The first of them reports what is wrong with it. */
     open(data: FontData, options?: Face): Font;
 }

@@ -33,13 +33,15 @@ export class CFFError extends SubsetterError {}
 export class OutOfMemory extends SubsetterError {}
 /** The font's maker doesn't permit that it is embedded. */
 export class NotPermitted extends SubsetterError {}
-/** A text has a surrogate that stands alone, or more than 256 UTF-16 units. */
+/** A text has a surrogate that stands alone, or more than 256 UTF-16 units; or glyphs are no run of the font and of their text. */
 export class InvalidText extends SubsetterError {}
+/** The font of a PdfText would have more than 65,535 codes: the run is for another one. */
+export class Overfull extends OverflowError {}
 
 // The names stand in strings, since tools that make scripts smaller rename classes.
 const NAMES = {
     SubsetterError, UnknownKind, MalformedFont, Unimplemented, SubsetError, OverflowError, CFFError, OutOfMemory, NotPermitted,
-    InvalidText,
+    InvalidText, Overfull,
 };
 for (const [name, error] of Object.entries(NAMES)) {
     Object.defineProperty(error.prototype, "name", { value: name, configurable: true, writable: true });
@@ -49,6 +51,7 @@ for (const [name, error] of Object.entries(NAMES)) {
 const ERRORS = [, UnknownKind, MalformedFont, Unimplemented, SubsetError, OverflowError, CFFError, OutOfMemory];
 ERRORS[11] = NotPermitted;
 ERRORS[12] = InvalidText;
+ERRORS[15] = Overfull;
 ERRORS[16] = RangeError;
 const DONE = 0, OUT_OF_MEMORY = 7;
 const PAGE = 65536, ALIGNMENT = 16, MEMORY_AT_MOST = 2 ** 31;
@@ -71,7 +74,7 @@ const USAGES = ["unsaid", "installable", "editable", "previewAndPrint", "restric
 
 const aligned = (at) => Math.ceil(at / ALIGNMENT) * ALIGNMENT;
 
-/** Numbers of `size` bytes each, 2 or 4, as the module has them: the lowest byte first. */
+/** Numbers of `size` bytes each, 2 or 4, as the module has them: the lowest byte first. (Those below 0 are two's complements.) */
 function listOf(size, numbers) {
     const list = new Uint8Array(size * numbers.length), view = new DataView(list.buffer);
     numbers.forEach((number, i) => (size === 2 ? view.setUint16(2 * i, number, true) : view.setUint32(4 * i, number, true)));
@@ -259,6 +262,26 @@ const codesOf = (codes) => oneOf(codes, CODES, "codes", { eachText: "each_text" 
 
 /** The choices of a font for a PDF. */
 const PDF_CHOICES = ["limits", "small", "hinting", "coordinates", "program", "codes", "vertical", "bounds", "cidSet", "tag", "rights"];
+
+/** What a glyph of a run may have besides its text, by the names of a caller's items and of harfbuzzjs. */
+const ITEM = ["xAdvance", "yAdvance", "xOffset", "yOffset"], SHAPED = ["ax", "ay", "dx", "dy"];
+const DIRECTIONS = ["ltr", "rtl", "ttb"];
+
+/** Objects with numbers, as a list; else TypeError. */
+function objectsOf(list, wanted) {
+    if (typeof list !== "object" || typeof list?.[Symbol.iterator] !== "function") {
+        throw new TypeError(`${wanted}, and not ${kindOf(list)}`);
+    }
+    return Array.from(list, (it) => {
+        if (typeof it !== "object" || it === null) {
+            throw new TypeError(`${wanted}, and not of ${kindOf(it)}`);
+        }
+        return it;
+    });
+}
+
+/** The places of a glyph: whole numbers of 32 bits, 0 where one isn't said. */
+const placesOf = (it, names) => names.map((name) => whole(it[name] ?? 0, -(2 ** 31), 2 ** 31 - 1, name));
 
 /** The same, and the further words of the options for a PDF. */
 function pdfChoicesOf(options) {
@@ -461,15 +484,24 @@ class Library {
     }
 
     /** A font for a PDF of one that is held here. */
-    pdfFont(font, index, entries, { tokens, depth, bytes, drop, coordinates = [], further }) {
-        const { glyphs, text, ends } = entries;
-        const lists = [listOf(4, coordinates), listOf(2, glyphs), listOf(4, text), listOf(4, ends)];
-        const given = (coordinatesAt, glyphsAt, textAt, endsAt) => [
-            font.at, font.size, index, coordinatesAt, coordinates.length / 2, glyphsAt, glyphs.length, textAt, text.length,
-            endsAt, ends.length, tokens, depth, bytes, drop, ...further,
-        ];
+    pdfFont(font, index, entries, choices) {
+        const { glyphs, text, ends } = entries, lists = [listOf(2, glyphs), listOf(4, text), listOf(4, ends)];
+        const counted = (glyphsAt, textAt, endsAt) => [glyphsAt, glyphs.length, textAt, text.length, endsAt, ends.length];
+        return this.#pdfFont("subsetter_pdf_font", font, index, lists, counted, glyphs, entries, choices);
+    }
+
+    /** The same of the codes of a text. */
+    textFont(font, index, pairs, choices) {
+        const glyphs = [...new Set(numbersOf(4, pairs.buffer, 0, pairs.length / 4).filter((_, i) => i % 3 === 1))];
+        const counted = (at) => [at, pairs.length / 12], none = { glyphs: [], text: [], ends: [] };
+        return this.#pdfFont("subsetter_text_font", font, index, [pairs], counted, glyphs, none, choices);
+    }
+
+    #pdfFont(name, font, index, lists, counted, glyphs, entries, { tokens, depth, bytes, drop, coordinates = [], further }) {
+        const given = (coordinatesAt, ...places) =>
+            [font.at, font.size, index, coordinatesAt, coordinates.length / 2, ...counted(...places), tokens, depth, bytes, drop, ...further];
         const parts = Object.entries(PARTS), room = Array(2 * parts.length + NUMBERS + 5).fill(0);
-        const { status, buffer, words } = this.#call("subsetter_pdf_font", lists, (...places) => [...given(...places), ...room]);
+        const { status, buffer, words } = this.#call(name, [listOf(4, coordinates), ...lists], (...places) => [...given(...places), ...room]);
         this.#check(status, "subsetter_pdf_font", font, index, glyphs, { tokens, depth });
         const made = words.slice(-room.length), raw = {};
         const [unitsPerEm, exactAt, exactCount, axesAt, axisCount] = made.splice(-5);
@@ -480,6 +512,28 @@ class Library {
             raw[name] = { count, bytes: new Uint8Array(buffer.slice(at, at + size * count)) };
         });
         return new PdfFont(this, raw, made.slice(2 * parts.length), entries, added);
+    }
+
+    /** What runs of text need of a font that is held here. */
+    newText(font, index, { tokens, depth, bytes, drop, coordinates = [], further }) {
+        const given = (at) => [font.at, font.size, index, at, coordinates.length / 2, tokens, depth, bytes, drop, ...further, 0, 0, 0, 0, 0];
+        const { status, buffer, words } = this.#call("subsetter_new_text", [listOf(4, coordinates)], given);
+        this.#check(status, "subsetter_advances", font, index, [], { tokens });
+        const [unitsPerEm, metricsAt, metricCount, inkedAt, inkedCount] = words.slice(-5);
+        const list = (at, size) => new Uint8Array(buffer.slice(at, at + size));
+        return { unitsPerEm, metrics: list(metricsAt, 8 * metricCount), inked: list(inkedAt, inkedCount) };
+    }
+
+    /** What shows a run, by `name`: the operators, and the codes of the text then. A glyph and a unit of its text have so many bytes. */
+    show(name, [glyphSize, unitSize], { unitsPerEm, metrics, inked }, pairs, glyphs, text, ...choices) {
+        const given = (metricsAt, inkedAt, pairsAt, glyphsAt, textAt) => [
+            unitsPerEm, metricsAt, metrics.length / 8, inkedAt, inked.length, pairsAt, pairs.length / 12,
+            glyphsAt, glyphs.length / glyphSize, textAt, text.length / unitSize, ...choices, 0, 0,
+        ];
+        const { status, buffer, words } = this.#call(name, [metrics, inked, pairs, glyphs, text], given);
+        this.#check(status);
+        const list = (at, size) => new Uint8Array(buffer.slice(at, at + size));
+        return { operators: list(...words.slice(-2)), pairs: list(words[5], 12 * words[6]) };
     }
 
     /** The codes of entries, without a font. */
@@ -651,6 +705,11 @@ class PdfFont {
         return parts;
     }
 
+    string(codes) {
+        const hexadecimal = (it) => whole(it, 0, 65535, "a code").toString(16).toUpperCase().padStart(4, "0");
+        return `<${Array.from(codes, hexadecimal).join("")}>`;
+    }
+
     objects(first) {
         const number = whole(first, 1, WORD_AT_MOST, "the first number");
         return this.#written("subsetter_pdf_objects", number, { glyphs: [], text: [], ends: [] });
@@ -720,6 +779,130 @@ class Font {
     }
 }
 
+/** The text of a font in a PDF. */
+class PdfText {
+    #library;
+    #index;
+    #place;
+    #choices;
+    #needs;
+    #isVertical;
+    #order;
+    /** What each code from 1 on draws and says, as the module has it. */
+    #pairs = new Uint8Array(0);
+
+    constructor(library, data, options) {
+        const bytes = bytesOf(data), given = named(options, ["index", "limits", "coordinates", "vertical", "rights", "order"], "options");
+        const { limits, coordinates, vertical = false, rights } = given;
+        this.#index = indexOf(given);
+        this.#choices = { limits, coordinates, vertical, rights };
+        this.#order = oneOf(given.order, ["visual", "logical"], "order");
+        this.#isVertical = kept(vertical, "vertical");
+        const choices = pdfChoicesOf(this.#choices);
+        this.#library = library;
+        this.#place = library.hold(bytes);
+        try {
+            this.#needs = library.newText(this.#place, this.#index, choices);
+        } catch (error) {
+            this.close();
+            throw error;
+        }
+        this.unitsPerEm = this.#needs.unitsPerEm;
+        // (a caller may change them)
+        this.#choices.coordinates = coordinates && { ...coordinates };
+        this.#choices.limits = limits && { ...limits };
+    }
+
+    #held() {
+        if (!this.#place) {
+            throw new TypeError("the text is closed");
+        }
+        return this.#place;
+    }
+
+    #show(name, sizes, glyphs, text, options) {
+        const known = this.#isVertical ? DIRECTIONS.slice(2) : DIRECTIONS.slice(0, 2);
+        const { direction, size: points = 12 } = named(options, ["direction", "size"], "options");
+        const number = DIRECTIONS.indexOf(known[oneOf(direction, known, "direction")]);
+        if (typeof points !== "number") {
+            throw new TypeError(`size must be a number, and not ${typeof points}`);
+        }
+        if (!(points >= 0 && points <= WORD_AT_MOST / 1000)) {
+            throw new RangeError(`size must be from 0 to ${WORD_AT_MOST / 1000}, and not ${points}`);
+        }
+        this.#held();
+        const lists = [this.#needs, this.#pairs, listOf(4, glyphs), listOf(sizes[1], text)];
+        const shown = this.#library.show(name, sizes, ...lists, number, this.#order, Math.round(1000 * points));
+        this.#pairs = shown.pairs;
+        return shown.operators;
+    }
+
+    run(items, options) {
+        const wanted = "items must be an iterable of objects, as [{ glyph: 5, text: \"fi\" }, { glyph: 7, xAdvance: 0 }]";
+        const list = objectsOf(items, wanted), text = [], own = [];
+        const rows = list.map((it) => {
+            const glyph = whole(it.glyph, 0, 65535, "a glyph"), start = text.length;
+            for (const character of it.text === undefined ? [] : charactersOf(it.text)) {
+                text.push(character);
+            }
+            const row = [glyph, it.text === undefined ? 1 : 0, start, text.length, ...placesOf(it, ITEM)];
+            if (it.xAdvance === undefined && it.yAdvance === undefined) {
+                own.push({ row, isPlaced: it.yOffset !== undefined });
+            }
+            return row;
+        });
+        if (own.length > 0) {
+            const { widths, heights } = this.#library.advances(this.#held(), this.#index, own.map(({ row }) => row[0]), pdfChoicesOf(this.#choices));
+            const view = new DataView(this.#needs.metrics.buffer), below = (glyph) => view.getInt32(8 * glyph + 4, true) * this.#needs.unitsPerEm;
+            own.forEach(({ row, isPlaced }, i) => {
+                row[this.#isVertical ? 5 : 4] = this.#isVertical ? -heights[i] : widths[i];
+                // (in a column the glyph's origin is below the pen)
+                row[7] = this.#isVertical && !isPlaced ? Math.floor((1000 - 2 * below(row[0])) / 2000) : row[7];
+            });
+        }
+        return this.#show("subsetter_show_run", [32, 4], rows.flat(), text, options);
+    }
+
+    shaped(text, glyphs, options) {
+        const wanted = "glyphs must be an iterable of objects with g, cl, ax, ay, dx and dy, as harfbuzzjs has them";
+        if (typeof text !== "string") {
+            throw new TypeError(`a text must be a string, and not ${typeof text}`);
+        }
+        const rows = objectsOf(glyphs, wanted).map((it) => {
+            if ([it.g, it.cl, ...SHAPED.map((name) => it[name])].includes(undefined)) {
+                throw new TypeError(wanted);
+            }
+            return [whole(it.g, 0, WORD_AT_MOST, "g"), whole(it.cl, 0, WORD_AT_MOST, "cl"), ...placesOf(it, SHAPED)];
+        });
+        const units = Array.from({ length: text.length }, (_, i) => text.charCodeAt(i));
+        return this.#show("subsetter_show_shaped", [24, 2], rows.flat(), units, options);
+    }
+
+    advances(glyphs) {
+        this.#held();
+        const { metrics } = this.#needs, view = new DataView(metrics.buffer), last = metrics.length / 8 - 1;
+        return glyphsOf(glyphs).map((glyph) => {
+            if (glyph > last) {
+                throw new MalformedFont(`malformed font: glyph ${glyph}: the font's glyphs are 0 to ${last}`);
+            }
+            return view.getInt32(8 * glyph, true);
+        });
+    }
+
+    font(options) {
+        const chosen = named(options, ["small", "hinting", "bounds", "cidSet", "tag"], "options");
+        const choices = pdfChoicesOf({ ...chosen, ...this.#choices });
+        return this.#library.textFont(this.#held(), this.#index, this.#pairs, choices);
+    }
+
+    close() {
+        if (this.#place) {
+            this.#library.release(this.#place);
+            this.#place = null;
+        }
+    }
+}
+
 /** The calls of a library, which need no `this`. */
 function callsOf(library) {
     /** One call on a font that is put into the memory for it. */
@@ -754,6 +937,11 @@ function callsOf(library) {
         advances: (data, glyphs, options) => once("advances", data, glyphs, options, ["limits", "coordinates"]),
         subset: (data, glyphs, options) => once("subset", data, glyphs, options),
         embed: (data, glyphs, options) => once("embed", data, glyphs, options),
+        PdfText: class extends PdfText {
+            constructor(data, options) {
+                super(library, data, options);
+            }
+        },
         open: (data, options) => new Font(library, bytesOf(data), indexOf(named(options, ["index"], "options"))),
     });
 }

@@ -14,7 +14,7 @@
 NUMBER(SUBSETTER_DONE, 0) NUMBER(SUBSETTER_UNKNOWN_KIND, 1) NUMBER(SUBSETTER_MALFORMED_FONT, 2) NUMBER(SUBSETTER_UNIMPLEMENTED, 3)
 NUMBER(SUBSETTER_SUBSET_ERROR, 4) NUMBER(SUBSETTER_OVERFLOW_ERROR, 5) NUMBER(SUBSETTER_CFF_ERROR, 6) NUMBER(SUBSETTER_OUT_OF_MEMORY, 7)
 NUMBER(SUBSETTER_BUFFER_TOO_SMALL, 8) NUMBER(SUBSETTER_NO_DEPTH, 9) NUMBER(SUBSETTER_UNKNOWN_OPTION, 10) NUMBER(SUBSETTER_NOT_PERMITTED, 11)
-NUMBER(SUBSETTER_INVALID_TEXT, 12) NUMBER(SUBSETTER_INVALID_NUMBERS, 16) NUMBER(SUBSETTER_SMALL, 7)
+NUMBER(SUBSETTER_INVALID_TEXT, 12) NUMBER(SUBSETTER_OVERFULL, 15) NUMBER(SUBSETTER_INVALID_NUMBERS, 16) NUMBER(SUBSETTER_SMALL, 7)
 NUMBER(SUBSETTER_DROP_HINTING, 1) NUMBER(SUBSETTER_DROP_NAMES, 2) NUMBER(SUBSETTER_DROP_GLYPH_NAMES, 4)
 NUMBER(SUBSETTER_PROGRAM_SMALLEST, 0) NUMBER(SUBSETTER_PROGRAM_OPENTYPE, 1)
 NUMBER(SUBSETTER_CODES_CONSECUTIVE, 0) NUMBER(SUBSETTER_CODES_SOURCE, 1) NUMBER(SUBSETTER_CODES_EACH_TEXT, 2)
@@ -27,6 +27,8 @@ NUMBER(SUBSETTER_LAYOUT_LINE, 0) NUMBER(SUBSETTER_LAYOUT_GRID, 1)
 NUMBER(SUBSETTER_ROLE_FONT, 0) NUMBER(SUBSETTER_ROLE_CID_FONT, 1) NUMBER(SUBSETTER_ROLE_DESCRIPTOR, 2) NUMBER(SUBSETTER_ROLE_PROGRAM, 3)
 NUMBER(SUBSETTER_ROLE_TO_UNICODE, 4) NUMBER(SUBSETTER_ROLE_CID_SET, 5) NUMBER(SUBSETTER_ROLE_ENCODING, 6)
 NUMBER(SUBSETTER_ROLE_CID_TO_GID_MAP, 7)
+NUMBER(SUBSETTER_LEFT_TO_RIGHT, 0) NUMBER(SUBSETTER_RIGHT_TO_LEFT, 1) NUMBER(SUBSETTER_TOP_TO_BOTTOM, 2)
+NUMBER(SUBSETTER_ORDER_VISUAL, 0) NUMBER(SUBSETTER_ORDER_LOGICAL, 1)
 
 /* The preprocessor knows the version; numbers of characters have each at its place, with its eight bits alone, in any expression. */
 #if SUBSETTER_VERSION >> 24 != SUBSETTER_VERSION_MAJOR || (SUBSETTER_VERSION >> 16 & 255) != SUBSETTER_VERSION_MINOR \
@@ -96,6 +98,24 @@ FIELD(subsetter_pdf_part, string_count, 8 + 3 * WORD, size_t *) FIELD(subsetter_
 FIELD(subsetter_pdf_part, stream, 8 + 5 * WORD, const uint8_t **) FIELD(subsetter_pdf_part, stream_size, 8 + 6 * WORD, size_t *) SIZE(subsetter_pdf_part, 8 + 7 * WORD)
 LIST(subsetter_pdf_parts, 0, parts, subsetter_pdf_part, part_count) SIZE(subsetter_pdf_parts, 2 * WORD)
 
+#define TEXT_LIST(AT, NAME, ITEM, COUNT)                                                                          \
+    FIELD(subsetter_text, NAME, 8 + 2 * (AT) * WORD, const ITEM **) FIELD(subsetter_text, COUNT, 8 + (2 * (AT) + 1) * WORD, size_t *)
+FIELD(subsetter_text, size, 0, uint32_t *) FIELD(subsetter_text, units_per_em, 4, uint32_t *)
+TEXT_LIST(0, font, uint8_t, font_size) TEXT_LIST(1, coordinates, subsetter_coordinate, coordinate_count)
+TEXT_LIST(2, metrics, subsetter_metrics, metric_count) TEXT_LIST(3, inked, uint8_t, inked_count) TEXT_LIST(4, pairs, subsetter_pair, pair_count)
+FIELD(subsetter_text, index, 8 + 10 * WORD, uint32_t *) FIELD(subsetter_text, is_vertical, 12 + 10 * WORD, uint32_t *) SIZE(subsetter_text, 16 + 10 * WORD)
+_Static_assert(WORD != 8 || sizeof(subsetter_text) == 96, "the size that the proved library knows");
+#define NUMBERS(STRUCT, AT, NAME, ...) FIELD(STRUCT, NAME, 4 * (AT), __VA_ARGS__)
+#define PLACES(STRUCT, AT)                                                                                        \
+    NUMBERS(STRUCT, AT, x_advance, int32_t *) NUMBERS(STRUCT, AT + 1, y_advance, int32_t *)                         \
+    NUMBERS(STRUCT, AT + 2, x_offset, int32_t *) NUMBERS(STRUCT, AT + 3, y_offset, int32_t *) SIZE(STRUCT, 4 * (AT + 4))
+NUMBERS(subsetter_item, 0, glyph, uint32_t *) NUMBERS(subsetter_item, 1, continues, uint32_t *) NUMBERS(subsetter_item, 2, start, uint32_t *)
+NUMBERS(subsetter_item, 3, end, uint32_t *) PLACES(subsetter_item, 4)
+NUMBERS(subsetter_shaped, 0, glyph, uint32_t *) NUMBERS(subsetter_shaped, 1, cluster, uint32_t *) PLACES(subsetter_shaped, 2)
+NUMBERS(subsetter_pair, 0, kind, uint32_t *) NUMBERS(subsetter_pair, 1, glyph, uint32_t *) NUMBERS(subsetter_pair, 2, character, uint32_t *)
+SIZE(subsetter_pair, 12)
+NUMBERS(subsetter_metrics, 0, displacement, int32_t *) NUMBERS(subsetter_metrics, 1, position, int32_t *) SIZE(subsetter_metrics, 8)
+
 /* ---- calls */
 
 #define FONT const uint8_t *, size_t, uint32_t
@@ -139,3 +159,10 @@ CALL(subsetter_make_pdf_parts, uint32_t, const subsetter_font *, WORDS, subsette
 CALL(subsetter_free_pdf_parts, void, subsetter_pdf_parts *) CALL(subsetter_codes_of, uint32_t, SHOWN, uint32_t, uint16_t *, size_t, size_t *)
 CALL(subsetter_advances_by_words, uint32_t, FONT, AT, GLYPHS, WORDS, uint16_t *, size_t, uint16_t *, size_t, uint32_t *)
 CALL(subsetter_advances, uint32_t, FONT, AT, GLYPHS, CHOSEN, uint16_t *, uint16_t *, uint32_t *)
+#define RUN uint32_t, uint32_t, uint32_t, subsetter_pdf_objects *
+CALL(subsetter_new_text_by_words, uint32_t, FONT, AT, WORDS, subsetter_text *)
+CALL(subsetter_new_text, uint32_t, FONT, AT, const subsetter_pdf_options *, subsetter_text *) CALL(subsetter_free_text, void, subsetter_text *)
+CALL(subsetter_show_run, uint32_t, subsetter_text *, const subsetter_item *, size_t, const uint32_t *, size_t, RUN)
+CALL(subsetter_show_shaped, uint32_t, subsetter_text *, const subsetter_shaped *, size_t, const void *, size_t, uint32_t, RUN)
+CALL(subsetter_make_text_font_by_words, uint32_t, const subsetter_text *, WORDS, subsetter_font *)
+CALL(subsetter_make_text_font, uint32_t, const subsetter_text *, const subsetter_pdf_options *, subsetter_font *)

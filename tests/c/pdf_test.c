@@ -2,6 +2,16 @@
  *
  * Then the sheet; options and texts that are refused; each request for memory refused in turn; and damaged fonts, without --brief.
  * FOLDER has pdf_rows.txt and its fonts. SUBSETTER_BY_CARGO is for the library of bindings/capi, whose empty lists are null. */
+/* What the header takes of hb.h: HarfBuzz's structs have these fields at their front. */
+#include <stdint.h>
+#define HB_H
+typedef struct {
+    uint32_t codepoint, mask, cluster, var1, var2;
+} hb_glyph_info_t;
+typedef struct {
+    int32_t x_advance, y_advance, x_offset, y_offset, var;
+} hb_glyph_position_t;
+
 #include "subsetter.h"
 
 #include "counted.h"
@@ -937,6 +947,138 @@ static void try_reasons(void)
     }
 }
 
+/* ---- runs of text */
+
+struct shown {
+    subsetter_text text;
+    subsetter_pdf_objects lines[4];
+    subsetter_font font;
+    uint32_t statuses[6];
+};
+
+/* A ligature, a pair drawn nearer by 100 of 2048 units (from 1841 on, not 1890); from right to left, by HarfBuzz's numbers; a mark 1024 back and
+ * 205 up, a tenth of the em, which is 1.2 at 12 points; and no run. W is 667 for glyphs 1 and 2 (1366), 556 for 5 (1139) and 333 for 7. */
+static void show(const uint8_t *bytes, size_t size, struct shown *it)
+{
+    static const uint32_t characters[] = {'A', 'f', 'i', 'A', 'B'}, accented[] = {'A', 0x301};
+    static const subsetter_item line[] = {
+        {1, 0, 0, 1, 1366, 0, 0, 0}, {5, 0, 1, 3, 1139, 0, 0, 0}, {1, 0, 3, 4, 1266, 0, 0, 0}, {2, 0, 4, 5, 1366, 0, 0, 0}};
+    static const subsetter_item marked[] = {{1, 0, 0, 2, 1366, 0, 0, 0}, {7, 1, 0, 0, 0, 0, -1024, 205}};
+    static const hb_glyph_info_t infos[] = {{5, 0, 1, 0, 0}, {1, 0, 0, 0, 0}};
+    static const hb_glyph_position_t positions[] = {{1139, 0, 0, 0, 0}, {1366, 0, 0, 0, 0}};
+    subsetter_shaped shaped[2];
+    subsetter_hb_shaped(infos, positions, 2, shaped);
+    memset(it, FILLED, sizeof *it);
+#define LEFT SUBSETTER_LEFT_TO_RIGHT, SUBSETTER_ORDER_VISUAL, 12000
+    it->statuses[0] = subsetter_new_text(bytes, size, 0, NO_PLACE, NULL, &it->text);
+    it->statuses[1] = subsetter_show_run(&it->text, line, 4, characters, 5, LEFT, &it->lines[0]);
+    it->statuses[2] = subsetter_show_shaped(&it->text, shaped, 2, "Aif", 3, 8, SUBSETTER_RIGHT_TO_LEFT, SUBSETTER_ORDER_VISUAL, 0, &it->lines[1]);
+    it->statuses[3] = subsetter_show_run(&it->text, marked, 2, accented, 2, LEFT, &it->lines[2]);
+    it->statuses[4] = subsetter_show_run(&it->text, marked + 1, 1, accented, 2, LEFT, &it->lines[3]);
+    it->statuses[5] = subsetter_make_text_font(&it->text, NULL, &it->font);
+}
+
+static void free_shown(struct shown *it)
+{
+    for (int i = 0; i < 4; i++)
+        subsetter_free_pdf_objects(&it->lines[i]);
+    subsetter_free_font(&it->font);
+    subsetter_free_text(&it->text);
+}
+
+static int is_line(const subsetter_pdf_objects *line, const char *operators)
+{
+    return is_same(line->bytes, line->size, operators, strlen(operators)) && is_empty(line->offsets, line->offset_count);
+}
+
+static void try_units(const uint8_t *bytes, size_t size)
+{
+    static const uint16_t words[] = {0xc1, 0xd83d, 0xde00, 'A'}, half[] = {0xc1, 0xd83d, 'A', 'A'};
+    static const uint32_t numbers[] = {0xc1, 0x1f600, 'A'}, wrong[] = {0xc1, 0xd83d, 'A'};
+    const struct {
+        const void *units;
+        size_t count;
+        uint32_t width, status, clusters[3];
+    } texts[] = {
+        {"\303\201\360\237\230\200A", 7, 8, 0, {0, 2, 6}}, {words, 4, 16, 0, {0, 1, 3}}, {numbers, 3, 32, 0, {0, 1, 2}},
+        {"\303\201\360\237\230\200A", 7, 8, 12, {0, 2, 5}}, {words, 4, 16, 12, {0, 2, 3}}, {numbers, 3, 32, 12, {0, 2, 1}},
+        {"\303\201\360\237\230", 5, 8, 12, {0, 2, 2}}, {half, 4, 16, 12, {0, 1, 3}}, {wrong, 3, 32, 12, {0, 1, 2}}, {numbers, 3, 24, 10, {0, 1, 2}},
+    };
+    for (size_t i = 0; i < sizeof texts / sizeof *texts; i++) {
+        const uint32_t *at = texts[i].clusters;
+        const subsetter_shaped glyphs[] = {{8, at[0], 1366, 0, 0, 0}, {6, at[1], 2048, 0, 0, 0}, {1, at[2], 1366, 0, 0, 0}};
+        subsetter_text text;
+        subsetter_pdf_objects line;
+        check(subsetter_new_text(bytes, size, 0, NO_PLACE, NULL, &text) == 0, "a text", "units");
+        uint32_t status = subsetter_show_shaped(&text, glyphs, 3, texts[i].units, texts[i].count, texts[i].width, LEFT, &line);
+        check(status == texts[i].status && is_line(&line, status == 0 ? "[ <000100020003> ] TJ\n" : ""), "operators", "units");
+        check(text.pair_count == (status == 0 ? 3 : 0) && (status != 0 || text.pairs[1].character == 0x1f600), "pairs", "units");
+        subsetter_free_pdf_objects(&line);
+        subsetter_free_text(&text);
+    }
+}
+
+/* Runs and their font, where each request for memory is refused in turn: what is answered is whole, or nothing with status 7, and the codes
+ * stay. Then units, and what is unknown. */
+static void try_runs(void)
+{
+    static const char *const lines[] = {
+        "[ <0001000200030001> ] TJ\n[ 49 <0004> ] TJ\n", "[ <000200030001> ] TJ\n",
+        "/Span << /ActualText <FEFF00410301> >> BDC\n[ <0001> ] TJ\n1.200000 Ts\n[ 500 <0005> ] TJ\nEMC\n[ -167 ] TJ\n0.000000 Ts\n", ""};
+    static const uint32_t widths[] = {500, 667, 556, 0, 667, 333};
+    size_t size;
+    uint8_t *bytes = file_of("made.ttf", &size);
+    struct shown it;
+    for (unsigned long request = 0;; request++) {
+        long before = held;
+        requests = 0;
+        refused = request;
+        show(bytes, size, &it);
+        int was_refused = request != 0 && requests >= request, is_whole = 1;
+        refused = 0;
+        check(it.statuses[0] == 0 || (was_refused && it.statuses[0] == 7), "a text", "runs");
+        check(it.text.units_per_em == (it.statuses[0] == 0 ? 2048u : 0), "units per em", "runs");
+        for (int i = 0; i < 4; i++) {
+            uint32_t wanted = it.statuses[0] != 0 ? 10 : i == 3 ? 12 : 0, found = it.statuses[i + 1];
+            check(found == wanted || (was_refused && found == 7), "a run", "runs");
+            is_whole = is_whole && found == wanted && it.statuses[0] == 0;
+            check(found != 0 ? are_no_objects(&it.lines[i]) : !is_whole || is_line(&it.lines[i], lines[i]), "operators", "runs");
+        }
+        check(!is_whole || (it.text.pair_count == 5 && it.text.pairs[2].kind == 1 && it.text.pairs[2].character == 'i'), "pairs", "runs");
+        check(it.statuses[5] == 0 || it.statuses[5] == (it.statuses[0] != 0 ? 10 : 7) ? is_whole || was_refused : 0, "a font", "runs");
+        if (it.statuses[5] != 0)
+            check(is_no_whole(&it.font), "no font", "runs");
+        else if (is_whole) {
+            const uint8_t *map = it.font.cid_to_gid_map;
+            check(is_same(it.font.pdf.widths, it.font.pdf.width_count * 4, widths, sizeof widths), "widths", "runs");
+            check(it.font.cid_to_gid_map_size == 12 && memcmp(map, (uint8_t[]){0, 0, 0, 1, 0, 2}, 6) == 0 && map[7] > 4 && map[9] == 3 && map[11] == 4,
+                "CIDToGIDMap", "runs");
+        }
+        free_shown(&it);
+        check(held == before && it.text.pair_count == 0, "memory that isn't given back", "runs");
+        if (!CAN_REFUSE || (request != 0 && !was_refused))
+            break;
+    }
+    try_units(bytes, size);
+    subsetter_text text;
+    subsetter_pdf_objects line;
+    subsetter_pdf_options options = defaults();
+    options.direction = SUBSETTER_VERTICAL;
+    check(subsetter_new_text(bytes, size, 0, NO_PLACE, &options, &text) == 0 && text.is_vertical == 1, "a vertical text", "runs");
+    check(subsetter_show_run(&text, NULL, 0, NULL, 0, LEFT, &line) == 10 && are_no_objects(&line), "another direction", "runs");
+    check(subsetter_show_run(&text, NULL, 0, NULL, 0, SUBSETTER_TOP_TO_BOTTOM, 2, 0, &line) == 10, "another order", "runs");
+    check(subsetter_show_run(&text, NULL, 0, NULL, 0, SUBSETTER_TOP_TO_BOTTOM, 0, 0, &line) == 0 && is_line(&line, ""), "no glyphs", "runs");
+    text.size--;
+    check(subsetter_show_run(&text, NULL, 0, NULL, 0, SUBSETTER_TOP_TO_BOTTOM, 0, 0, &line) == 10, "another size", "runs");
+    check(subsetter_new_text_by_words(bytes, size, 0, NO_PLACE, NULL, 0, &text) == 10 && text.units_per_em == 2048, "another size", "a text");
+    text.size++;
+    subsetter_free_text(&text);
+    check(subsetter_show_run(&text, NULL, 0, NULL, 0, LEFT, &line) == 10 && text.size == sizeof text, "a text that was given back", "runs");
+    check(subsetter_new_text(bytes, 4, 0, NO_PLACE, NULL, &text) != 0 && text.units_per_em == 0, "no font", "a text");
+    subsetter_free_text(NULL);
+    __real_free(bytes);
+}
+
 int main(int count, char **words)
 {
     static struct row row;
@@ -962,6 +1104,7 @@ int main(int count, char **words)
     try_limits();
     try_faces();
     try_reasons();
+    try_runs();
     try_lists_alone();
     try_empty();
     printf("C: %zu rows for PDF, %zu checks, %zu failed\n", rows, checks, failures);

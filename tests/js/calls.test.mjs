@@ -160,7 +160,7 @@ test("answers are copies", () => {
 });
 
 test("errors", () => {
-    const names = ["UnknownKind", "MalformedFont", "Unimplemented", "SubsetError", "OverflowError", "CFFError", "OutOfMemory", "NotPermitted", "InvalidText"];
+    const names = ["UnknownKind", "MalformedFont", "Unimplemented", "SubsetError", "OverflowError", "CFFError", "OutOfMemory", "NotPermitted", "InvalidText", "Overfull"];
     assert.deepEqual(Object.keys(library).sort(), [...names, "SubsetterError", "load"].sort());
     for (const name of [...names, "SubsetterError"]) {
         const error = new library[name]("why");
@@ -198,15 +198,17 @@ test("messages say why, and what is wanted", () => {
 });
 
 test("each status is thrown by its class, in its words", async () => {
-    let status;
-    const change = (exports) => ({ ...exports, ...Object.fromEntries(["subset", "subset_at", "embed", "embed_at", "glyphs_of", "pdf_font", "codes_of", "advances"].map((name) => [`subsetter_${name}`, () => status])) });
-    const kinds = { 1: "UnknownKind", 2: "MalformedFont", 3: "Unimplemented", 4: "SubsetError", 5: "OverflowError", 6: "CFFError", 7: "OutOfMemory", 11: "NotPermitted", 12: "InvalidText" };
+    let status = 0;
+    const names = ["subset", "subset_at", "embed", "embed_at", "glyphs_of", "pdf_font", "codes_of", "advances", "new_text", "show_run", "show_shaped", "text_font"];
+    const change = (exports) => ({ ...exports, ...Object.fromEntries(names.map((name) => [`subsetter_${name}`, () => status])) });
+    const kinds = { 1: "UnknownKind", 2: "MalformedFont", 3: "Unimplemented", 4: "SubsetError", 5: "OverflowError", 6: "CFFError", 7: "OutOfMemory", 11: "NotPermitted", 12: "InvalidText", 15: "Overfull" };
     await watched(async () => {
-        const it = await load(wasm), font = it.open(TTF), at = { coordinates: { wght: 1 } };
-        const calls = [() => it.subset(TTF, []), () => it.embed(TTF, []), () => font.subset([], at), () => font.embed([], at), () => it.glyphsOf(TTF, "A"), () => font.pdfFont([]), () => it.codesOf([]), () => it.advances(TTF, [])];
+        const it = await load(wasm), font = it.open(TTF), line = new it.PdfText(TTF), at = { coordinates: { wght: 1 } };
+        const calls = [() => it.subset(TTF, []), () => it.embed(TTF, []), () => font.subset([], at), () => font.embed([], at), () => it.glyphsOf(TTF, "A"), () => font.pdfFont([]), () => it.codesOf([]), () => it.advances(TTF, []),
+            () => new it.PdfText(TTF), () => line.run([]), () => line.shaped("", []), () => line.font()];
         for (status of [...Array(20).keys(), 99].slice(1)) {
             const kind = kinds[status] ?? "SubsetterError";
-            const text = status === 16 ? "invalid numbers" : kinds[status] ? texts[status] : `status ${status}`;
+            const text = status === 16 ? "invalid numbers" : kinds[status] ? texts[status] ?? "too many codes" : `status ${status}`;
             for (const call of calls) assert.equal(throws(call, status === 16 ? RangeError : library[kind], status).message, text);
         }
     }, change);

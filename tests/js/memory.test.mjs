@@ -102,7 +102,15 @@ test("with any cap on the memory a call answers what it does without, or OutOfMe
     const wantedSmall = subsetter.subset(small, [2]);
     const calls = (it) => {
         const font = orNothing(() => it.open(large));
-        const found = [font && (() => font.subset(all)), font && (() => font.embed(all)), () => it.pdfFont(TTF, shown, { codes: "each_text" }).toUnicode, () => it.glyphsOf(TTF, long)];
+        const runs = () => {
+            const text = new it.PdfText(TTF);
+            try {
+                return [text.run(shown), text.font().toUnicode];
+            } finally {
+                text.close();
+            }
+        };
+        const found = [runs, font && (() => font.subset(all)), font && (() => font.embed(all)), () => it.pdfFont(TTF, shown, { codes: "each_text" }).toUnicode, () => it.glyphsOf(TTF, long)];
         return [font, found.map((call) => (call ? orNothing(call) : null))];
     };
     const [, wanted] = calls(subsetter), refused = wanted.map(() => 0), done = wanted.map(() => 0);

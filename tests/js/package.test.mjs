@@ -35,12 +35,12 @@ test("a program that takes the package", () => {
 
 test("the examples of its README", () => {
     const blocks = [...read("bindings/js/README.md").toString().matchAll(/^```js\n(.*?)^```$/gms)].map(([, text]) => text);
-    const [first, ...others] = blocks, ends = ["font.length > 1000, made.cids", "latin.length > 500, greek.cids", "heavy.length > 1000"];
+    const [first, ...others] = blocks, ends = ["font.length > 1000, made.cids", "latin.length > 500, greek.cids", "heavy.length > 1000", "line.length > 10, font.glyphCount"];
     assert.equal(blocks.length, ends.length);
-    const front = 'import { readFileSync } from "node:fs";\nconst bytes = readFileSync("/usr/share/fonts/truetype/dejavu/DejaVuSans.ttf");\n';
+    const front = 'import { readFileSync } from "node:fs";\nconst bytes = readFileSync("/usr/share/fonts/truetype/dejavu/DejaVuSans.ttf");\nconst buffer = { json: () => [{ g: 5293, cl: 0, ax: 1716, ay: 0, dx: 0, dy: 0 }] };\n';
     const end = (i) => `console.log(JSON.stringify([${ends[i]}]));`;
     writeFileSync(join(folder, "readme.mjs"), `${front}${first}${end(0)}\n${others.map((text, i) => `{\n${text}${end(i + 1)}\n}`).join("\n")}`);
-    assert.equal(run(process.execPath, "readme.mjs"), "[true,[1,2]]\n[true,[1,2]]\n[true]\n");
+    assert.equal(run(process.execPath, "readme.mjs"), "[true,[1,2]]\n[true,[1,2]]\n[true]\n[true,5]\n");
 });
 
 test("the types", () => {
@@ -58,7 +58,9 @@ test("the types", () => {
     const font = read("bindings/rust/tests/data/made.ttf"), pdf = subsetter.pdfFont(font, [{ glyph: 1, text: "A" }, { glyph: 1, text: "a" }], { vertical: true, cidSet: true, codes: "each_text" });
     assert.deepEqual(members("Subsetter"), Object.keys(subsetter).sort());
     assert.deepEqual(members("Font"), own(subsetter.open(font)));
-    assert.deepEqual(members("PdfFont"), own(pdf));
+    const text = new subsetter.PdfText(font);
+    assert.deepEqual(members("PdfFont"), [...new Set([...own(pdf), ...own(text.font())])].sort());
+    assert.deepEqual(members("PdfText"), [...own(text), ...own(Object.getPrototypeOf(text))].sort());
     const answers = { Embedded: subsetter.embed(font, [1]), Descriptor: { xHeight: 0, ...pdf.descriptor }, Permission: pdf.permission, Column: pdf.columns[0], Objects: pdf.objects(1), Shown: subsetter.glyphsOf(font, "A")[0] };
     for (const [name, answer] of Object.entries(answers)) assert.deepEqual(members(name), Object.keys(answer).sort());
 });

@@ -8,7 +8,7 @@ import { test } from "node:test";
 import { deflateSync } from "node:zlib";
 import { fonts, latin1, library, made, subsetter, throws } from "./support.mjs";
 
-const { CFFError, InvalidText, MalformedFont, NotPermitted, OverflowError, UnknownKind } = library;
+const { CFFError, InvalidText, MalformedFont, NotPermitted, Overfull, OverflowError, UnknownKind } = library;
 const TTF = made("made.ttf"), SHOWN = [{ glyph: 1, text: "A" }, { glyph: 5, text: "fi" }, { glyph: 1, text: "a" }];
 
 test("texts", () => {
@@ -104,10 +104,13 @@ test("parts", () => {
     for (const wrong of [[5], [numbers, { pack: 5 }], [numbers, { compress: true }], [numbers, { filter: 5 }]]) throws(() => font.parts(...wrong), TypeError, "no parts");
 });
 
-test("a PDF of packed parts", () => {
-    const data = readFileSync("/usr/share/fonts/truetype/dejavu/DejaVuSans.ttf"), font = subsetter.pdfFont(data, subsetter.glyphsOf(data, "Hello, \u0395!"));
-    const parts = font.parts([30, 29, 28, 27, 26], { pack: deflateSync }), codes = font.codes.map((code) => code.toString(16).padStart(4, "0")).join("");
-    const shows = `BT /F1 24 Tf 36 60 Td <${codes}> Tj ET`, objects = [
+const DEJAVU = readFileSync("/usr/share/fonts/truetype/dejavu/DejaVuSans.ttf");
+
+/** What Poppler and MuPDF have of a page that shows this in a font. */
+function readBack(font, operators) {
+    const numbers = [30, 29, 28, 27, 26, 25].slice(0, font.partCount), parts = font.parts(numbers, { pack: deflateSync });
+    assert.match(latin1(parts[3].entries), /\/Filter \/FlateDecode $/);
+    const shows = `BT /F1 24 Tf 36 60 Td ${operators} ET`, objects = [
         [1, "<< /Type /Catalog /Pages 2 0 R >>"], [2, "<< /Type /Pages /Count 1 /Kids [3 0 R] >>"],
         [3, "<< /Type /Page /Parent 2 0 R /MediaBox [0 0 300 144] /Contents 4 0 R /Resources << /Font << /F1 30 0 R >> >> >>"],
         [4, `<< /Length ${shows.length} >>\nstream\n${shows}\nendstream`], ...parts.map((it) => [it.number, latin1(it.value)])];
@@ -116,11 +119,57 @@ test("a PDF of packed parts", () => {
         table += `${number} 1\n${String(pdf.length).padStart(10, "0")} 00000 n \n`;
         pdf += `${number} 0 obj\n${value}\nendobj\n`;
     }
-    const path = join(mkdtempSync(join(tmpdir(), "subsetter-")), "packed.pdf");
+    const path = join(mkdtempSync(join(tmpdir(), "subsetter-")), "packed.pdf"), said = (...words) => execFileSync(...words, { encoding: "utf8" });
     writeFileSync(path, `${pdf}${table}trailer\n<< /Size 31 /Root 1 0 R >>\nstartxref\n${pdf.length}\n%%EOF\n`, "latin1");
-    assert.match(execFileSync("qpdf", ["--check", path], { encoding: "utf8" }), /No syntax or stream encoding errors found/);
-    assert.equal(execFileSync("pdftotext", ["-enc", "UTF-8", path, "-"], { encoding: "utf8" }).trim(), "Hello, \u0395!");
-    assert.match(latin1(parts[3].entries), /\/Filter \/FlateDecode $/);
+    assert.match(said("qpdf", ["--check", path]), /No syntax or stream encoding errors found/);
+    return [said("pdftotext", ["-enc", "UTF-8", path, "-"]), said("mutool", ["draw", "-q", "-F", "txt", path])].map((it) => it.replace(/[\u202a-\u202e]/g, "").trim());
+}
+
+test("a PDF of packed parts", () => {
+    const font = subsetter.pdfFont(DEJAVU, subsetter.glyphsOf(DEJAVU, "Hello, \u0395!"));
+    assert.deepEqual(readBack(font, `${font.string(font.codes)} Tj`), ["Hello, \u0395!", "Hello, \u0395!"]);
+    for (const [kind, codes] of [[RangeError, [65536]], [TypeError, ["1"]]]) throws(() => font.string(codes), kind, codes);
+});
+
+test("runs of shaped text", () => {
+    const rows = ([g, cl, ax, dx = 0]) => ({ g, cl, ax, ay: 0, dx, dy: 0, flags: 0 }), text = new subsetter.PdfText(DEJAVU, { order: "visual" });
+    // What hb-shape has of two lines. (MuPDF knows no direction.)
+    const latin = [[82, 0, 1253], [5044, 1, 1980], [70, 4, 1126], [72, 5, 1260], [3, 6, 651], [84, 7, 1300], [693, 7, 0, -165], [91, 9, 1212]].map(rows);
+    const arabic = [[5365, 5, 1168], [3, 4, 651], [1390, 3, 1268], [5366, 1, 1222], [5293, 0, 1716]].map(rows);
+    const lines = [text.shaped("office q\u0304x", latin), text.shaped("\u0633\u0644\u0627\u0645 \u0644\u0627", new Set(arabic), { direction: "rtl", size: 24 })].map(latin1);
+    const font = text.font({ hinting: false, cidSet: false }), said = "\u0633\u0644\u0627\u0645 \u0644\u0627";
+    assert.deepEqual(readBack(font, lines[0]), ["office q\u0304x", "office q\u0304x"]);
+    assert.deepEqual(readBack(font, lines[1]), [said, [...said].reverse().join("")]);
+    assert.ok(font.cidToGidMap.length === 2 * font.glyphCount && font.parts([9, 8, 7, 6, 5, 4]).some(({ role }) => role === "cid_to_gid_map"));
+    const items = [{ glyph: 82, text: "o" }, { glyph: 5044, text: "ffi" }, { glyph: 70, text: "c" }, { glyph: 72, text: "e", xAdvance: 1260 }];
+    assert.deepEqual(text.run(items), text.shaped("office", latin.slice(0, 4)));
+    assert.deepEqual([text.unitsPerEm, text.advances([82, 3])], [2048, [612, 318]]);
+    // The numbers count UTF-16 units.
+    const three = [0, 1, 3].map((cl) => ({ ...latin[0], cl }));
+    assert.deepEqual(text.shaped("\xe9\u{1d4b3}a", three), text.run(["\xe9", "\u{1d4b3}", "a"].map((it) => ({ glyph: 82, text: it }))));
+    const columns = new subsetter.PdfText(DEJAVU, { vertical: true });
+    assert.equal(latin1(columns.run([items[0]])), "[ <0001> ] TJ\n");
+    assert.ok(columns.font().columns && throws(() => columns.run([], { direction: "ltr" }), RangeError, "a direction"));
+    text.close();
+    for (const call of [() => text.run([]), () => text.shaped("", []), () => text.font(), () => text.advances([1])]) throws(call, TypeError, "a closed text");
+});
+
+test("runs that are refused", () => {
+    const text = new subsetter.PdfText(TTF, { coordinates: {}, limits: {} }), run = (...items) => text.run(items), one = { g: 1, cl: 0, ax: 9, ay: 0, dx: 0, dy: 0 };
+    run({ glyph: 1, text: "A" });
+    const many = Array.from({ length: 65535 }, (_, i) => ({ glyph: 1, text: String.fromCodePoint(0x10000 + i), xAdvance: 9 })), wanted = text.font().toUnicode;
+    const wrong = [
+        [InvalidText, () => run({ glyph: 1 })], [InvalidText, () => run({ glyph: 1, text: "\ud800" })], [InvalidText, () => run({ glyph: 12, text: "A", xAdvance: 9 })],
+        [InvalidText, () => text.shaped("AB", [{ ...one, cl: 1 }, one])], [Overfull, () => text.run(many)], [MalformedFont, () => run({ glyph: 12, text: "A" })],
+        [MalformedFont, () => text.advances([12])], [RangeError, () => run({ glyph: 1, text: "A", xOffset: 2 ** 31 })], [RangeError, () => text.run([], { size: -1 })],
+        [RangeError, () => text.run([], { direction: "ttb" })], [TypeError, () => text.run([], { size: "12" })], [TypeError, () => text.run([], { order: "logical" })],
+        [TypeError, () => text.run("A")], [TypeError, () => run("A")], [TypeError, () => run({ glyph: 1, text: null })], [TypeError, () => text.shaped(["A"], [one])],
+        [TypeError, () => text.shaped("A", [{ glyph: 1, cluster: 0 }])], [TypeError, () => text.font({ codes: "source" })], [TypeError, () => new subsetter.PdfText(TTF, { tag: "ABCDEF" })],
+        [RangeError, () => new subsetter.PdfText(TTF, { order: "reading" })], [UnknownKind, () => new subsetter.PdfText(new Uint8Array(2))],
+    ];
+    for (const [kind, call] of wrong) throws(call, kind, `${call}`);
+    assert.match(throws(wrong[16][1], TypeError, "shaped").message, /with g, cl, ax, ay, dx and dy, as harfbuzzjs has them/);
+    assert.deepEqual(text.font().toUnicode, wanted);
 });
 
 test("codes and advances without a font", () => {

@@ -1,6 +1,6 @@
 /** Uses of the package: tsc has to accept each, but for the line behind each `@ts-expect-error`, which it has to refuse. */
 import { load, OutOfMemory, SubsetterError, UnknownKind } from "subsetter-proved";
-import type { Advances, Column, Embedded, Font, Objects, Part, PdfFont, Shown, Subsetter } from "subsetter-proved";
+import type { Advances, Column, Embedded, Font, Objects, Part, PdfFont, PdfText, Shown, Subsetter } from "subsetter-proved";
 
 export async function accepted(data: Uint8Array, module: WebAssembly.Module): Promise<void> {
     const subsetter: Subsetter = await load();
@@ -36,6 +36,12 @@ export function acceptedForPdf(subsetter: Subsetter, data: Uint8Array): void {
     bytes.push(parts[0].entries, parts[0].value, parts[0].stream ?? data);
     numbers.push(parts[0].number, parts[0].strings[0][1], font.partCount, font.unitsPerEm, ...font.exactWidths, ...advances.widths, ...subsetter.codesOf(shown, "each_text"));
     texts.push(parts[0].role, ...font.unknownAxes);
+    const text: PdfText = new subsetter.PdfText(data, { index: 0, coordinates: { wght: 1 }, vertical: false, rights: "held", order: "logical", limits: {} });
+    bytes.push(text.run(new Set([{ glyph: 5, text: "fi" }, { glyph: 7, xAdvance: 0, yOffset: 3 }]), { direction: "rtl", size: 9.5 }));
+    bytes.push(text.shaped("A", [{ g: 1, cl: 0, ax: 500, ay: 0, dx: 0, dy: 0 }]), text.font({ cidSet: true, tag: "ABCDEF" }).cidToGidMap ?? data);
+    numbers.push(text.unitsPerEm, ...text.advances([1]));
+    texts.push(font.string([1, 2]));
+    text.close();
     font.close();
     console.log(bytes, columns, numbers, texts, truths, font.defaultColumn?.[1], columns[0]?.advance);
 }
@@ -75,6 +81,10 @@ export function refused(subsetter: Subsetter, data: Uint8Array): void {
     subsetter.pdfFont(data, []).sheet("page");
     // @ts-expect-error
     subsetter.pdfFont(data, []).objects();
+    // @ts-expect-error
+    new subsetter.PdfText(data).run([{ text: "A" }]);
+    // @ts-expect-error
+    new subsetter.PdfText(data).shaped("A", [], { direction: "up" });
     // @ts-expect-error
     subsetter.version = "2";
     // @ts-expect-error

@@ -12,6 +12,11 @@ def pdf(module, name, **choices):
     return lambda: parts(module.pdf_font(made(name), [(1, "A"), (5, "fi"), (1, "a")], **choices))
 
 
+def runs(module):
+    with module.PdfText(made("made.ttf")) as text:
+        return text.run([(1, "A"), (5, "fi"), (9, "e\u0301"), (7, None, 0, 0, -9, 99)]), text.codes, parts(text.font(cid_set=True))
+
+
 def calls(module):
     return {
         "a subset": lambda: module.subset(made("made.ttf"), [1, 5]),
@@ -22,6 +27,7 @@ def calls(module):
         "glyphs of a text": lambda: module.glyphs_of(made("made.ttf"), "AH\ufb01"),
         "codes": lambda: module.codes_of([(1, "A"), (5, "fi")]),
         "advances": lambda: module.advances(made("made_variable.ttf"), [1, 5], coordinates={"wght": 650}),
+        "runs of a text": lambda: runs(module),
         "a font for a PDF": pdf(module, "made.ttf", cid_set=True, codes="each_text"),
         "a vertical font for a PDF": pdf(module, "made.otf", vertical=True, rights="held"),
     }

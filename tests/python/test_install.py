@@ -25,7 +25,7 @@ FONT = Path("/usr/share/fonts/truetype/dejavu/DejaVuSans.ttf")
 
 def examples():
     """The examples of the README and of the module's docstring."""
-    found = re.findall(r"^```python\n(.*?)^```$", (MODULE / "README.md").read_text(), re.M | re.S)
+    found = re.findall(r"^```python\n(import .*?)^```$", (MODULE / "README.md").read_text(), re.M | re.S)
     docstring = (MODULE / "subsetter/__init__.py").read_text().split('"""')[1]
     return found + [textwrap.dedent(it) for it in re.findall(r"(?<=\n\n)(?:    .*\n)+", docstring)]
 

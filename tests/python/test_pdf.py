@@ -181,12 +181,12 @@ def test_no_memory_for_a_copy_of_an_answer(monkeypatch):
 
 
 TYPES = {"uint8_t": ctypes.c_uint8, "uint16_t": ctypes.c_uint16, "uint32_t": ctypes.c_uint32, "int32_t": ctypes.c_int32,
-         "size_t": ctypes.c_size_t, "subsetter_pdf_font": subsetter._PdfFont, "subsetter_pdf_range": subsetter._Range, "subsetter_pdf_part": subsetter._Part}
+         "size_t": ctypes.c_size_t, "subsetter_pdf_font": subsetter._PdfFont, "subsetter_metrics": subsetter._Metrics, "subsetter_pdf_range": subsetter._Range, "subsetter_pdf_part": subsetter._Part}
 
 
 @pytest.mark.parametrize("name, own", [
     ("coordinate", subsetter._Coordinate), ("made", subsetter._Made), ("pdf_font", subsetter._PdfFont),
-    ("pdf_objects", subsetter._Objects), ("font", subsetter._Font), ("pdf_range", subsetter._Range), ("pdf_part", subsetter._Part), ("pdf_parts", subsetter._Parts),
+    ("pdf_objects", subsetter._Objects), ("font", subsetter._Font), ("metrics", subsetter._Metrics), ("text", subsetter._Text), ("pdf_range", subsetter._Range), ("pdf_part", subsetter._Part), ("pdf_parts", subsetter._Parts),
 ])
 def test_structs_are_those_of_the_header(name, own):
     """A sign, a width or an order that differs would read other numbers. (What is read as bytes may be any pointer.)"""

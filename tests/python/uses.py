@@ -49,6 +49,18 @@ def accepted_for_pdf(data: bytes, mapped: mmap.mmap, one: Index) -> None:
     print(lists, angle, columns, streams, advances.widths, parts[0].role, parts[0].strings[0][1], mapped_texts, font.sheet("grid") + font.program)
 
 
+class Glyph:
+    codepoint, cluster, x_advance, y_advance, x_offset, y_offset = 1, 0, 500, 0, 0, 0
+
+
+def accepted_for_text(data: bytes, one: Index) -> None:
+    with subsetter.PdfText(data, one, {"wght": 1}, vertical=False, rights="held", order="logical", tokens=one, depth=3, most_bytes=None) as text:
+        shown: bytes = text.run([(one, "fi"), (5, None, 1, 0, one, -3)], "rtl", 9.5) + text.shaped("A", [Glyph()], [Glyph()], size=Fraction(1, 2), units="utf16")
+        font: subsetter.PdfFont = text.font(hinting=False, cid_set=True, tag="ABCDEF", bounds="kept", small=True)
+        glyph, character = text.codes[0]
+    print(shown, text.advances([one]), text.units_per_em, glyph, character, font.string(range(3)), font.cid_to_gid_map)
+
+
 def refused(data: bytes) -> None:
     subsetter.subset(data, 5)  # type: ignore[arg-type]
     subsetter.subset(data, [1], hint=False)  # type: ignore[call-arg]
@@ -57,5 +69,8 @@ def refused(data: bytes) -> None:
     subsetter.pdf_font(data, [(36, b"A")])  # type: ignore[list-item]
     subsetter.pdf_font(data, [], codes="cids")  # type: ignore[arg-type]
     subsetter.pdf_font(data, []).parts([1], True)  # type: ignore[misc]
+    subsetter.PdfText(data).run([(1, "A")], "up")  # type: ignore[arg-type]
+    subsetter.PdfText(data).run([(1, "A", 5)])  # type: ignore[list-item]
+    subsetter.PdfText(data).shaped("A", [5], [])  # type: ignore[list-item]
     font: bytes = subsetter.embed(data, [1])  # type: ignore[assignment]
     print(font, subsetter.no_such_name)  # type: ignore[attr-defined]

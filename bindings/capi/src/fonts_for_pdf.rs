@@ -144,6 +144,11 @@ impl ObjectsMade {
         Ok(Self::of(bytes, offsets))
     }
 
+    /// Bytes without offsets.
+    pub fn bytes(bytes: Vec<u8>) -> Self {
+        Self::of(bytes, Vec::new())
+    }
+
     fn of(bytes: Vec<u8>, starts: Vec<usize>) -> Self {
         Self {
             bytes: List::of(bytes),
@@ -313,10 +318,7 @@ pub unsafe extern "C" fn subsetter_make_pdf_sheet(
             return Err(UNKNOWN_OPTION);
         }
         let file = parts.sheet(entries, layout == 1);
-        Ok(ObjectsMade::of(
-            file.map_err(status_of_refusal)?,
-            Vec::new(),
-        ))
+        Ok(ObjectsMade::bytes(file.map_err(status_of_refusal)?))
     });
     unsafe { hand(answer, ObjectsMade::NOTHING, made) }
 }

@@ -22,6 +22,7 @@ mod fonts_for_pdf;
 mod heap;
 mod making;
 mod options;
+mod runs;
 mod status;
 #[cfg(test)]
 mod tests;

@@ -40,7 +40,7 @@ fn with_room<T>(count: usize) -> Result<Vec<T>, u32> {
 }
 
 /// A copy of a list.
-fn copied<T: Copy>(items: &[T]) -> Result<Vec<T>, u32> {
+pub fn copied<T: Copy>(items: &[T]) -> Result<Vec<T>, u32> {
     let mut list = with_room(items.len())?;
     list.extend_from_slice(items);
     Ok(list)
@@ -63,7 +63,11 @@ impl FontMade {
     }
 
     /// A font of these entries that stays until it is given back.
-    fn of(mut lists: FontLists, numbers: FontNumbers, entries: Entries<'_>) -> Result<Self, u32> {
+    pub fn of(
+        mut lists: FontLists,
+        numbers: FontNumbers,
+        entries: Entries<'_>,
+    ) -> Result<Self, u32> {
         let (glyphs, text) = (copied(entries.glyphs)?, copied(entries.text)?);
         let ends = copied(entries.ends)?;
         Ok(Self {
@@ -108,7 +112,10 @@ impl FontMade {
 /// # Safety
 ///
 /// The size of what is made can be read, and so many bytes written.
-unsafe fn hand_font(call: impl FnOnce() -> Result<FontMade, u32>, made: *mut FontMade) -> u32 {
+pub unsafe fn hand_font(
+    call: impl FnOnce() -> Result<FontMade, u32>,
+    made: *mut FontMade,
+) -> u32 {
     if unsafe { (*made).size } != SIZE {
         return UNKNOWN_OPTION;
     }

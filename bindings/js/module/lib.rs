@@ -13,11 +13,12 @@ mod heap;
 mod status;
 
 use fonts::capi::pdf::{self, Column, Entries, FontChoices, FontLists, FontNumbers, FontParts, Refusal};
+use fonts::capi::pdf::{GlyphMetrics, RunError, Shaped, TextItem, TextPair, TextView, Units};
 use fonts::capi::{self, Choices, Coordinate};
 use fonts::pdf::{FontError, PartsError};
 use fonts::{Embedded, Error};
 use status::{
-    status_of, status_text, DONE, INVALID_NUMBERS, INVALID_TEXT, NOT_PERMITTED, NO_DEPTH, UNKNOWN_OPTION, VERSION,
+    status_of, status_text, DONE, INVALID_NUMBERS, INVALID_TEXT, NOT_PERMITTED, NO_DEPTH, OVERFULL, UNKNOWN_OPTION, VERSION,
 };
 use std::mem::take;
 use std::slice;
@@ -216,16 +217,51 @@ pub struct PdfCall {
     index: u32,
     coordinates: List<Coordinate>,
     entries: EntryLists,
+    chosen: Chosen,
+    made: FontMade,
+}
+
+/// The choices of a font for a PDF.
+#[repr(C)]
+pub struct Chosen {
     tokens: u32,
     depth: u32,
     bytes: u32,
     drop: u32,
     /// The words of `subsetter_pdf_options` behind those.
     further: [u32; 8],
-    made: PdfMade,
+}
+
+impl Chosen {
+    fn choices(&self) -> Result<FontChoices, u32> {
+        let limits = choices_of(self.tokens, self.depth, self.bytes, self.drop)?;
+        FontChoices::new(&limits, self.further).ok_or(UNKNOWN_OPTION)
+    }
+
+    fn is_vertical(&self) -> bool {
+        self.further[2] != 0
+    }
+}
+
+/// A font for a PDF, and what its older struct lacks.
+#[repr(C)]
+pub struct FontMade {
+    font: PdfMade,
     units_per_em: u32,
     exact_widths: List<u16>,
     unknown_axes: List<u32>,
+}
+
+impl FontMade {
+    fn of(made: Result<(FontLists, FontNumbers), Refusal>) -> Result<Self, u32> {
+        let (mut lists, numbers) = made.map_err(status_of_refusal)?;
+        Ok(Self {
+            units_per_em: u32::from(lists.units_per_em),
+            exact_widths: List::of(take(&mut lists.exact_widths)),
+            unknown_axes: List::of(take(&mut lists.unknown_axes)),
+            font: PdfMade::of(lists, numbers),
+        })
+    }
 }
 
 /// A call that writes of such a font: objects from `number` on, or a sheet of that layout.
@@ -295,30 +331,14 @@ fn status_of_refusal(refusal: Refusal) -> u32 {
     }
 }
 
-/// A font for a PDF.
-///
-/// # Safety
-///
-/// As of `List::items`.
-unsafe fn pdf_made(call: &mut PdfCall) -> Result<(), u32> {
-    let limits = choices_of(call.tokens, call.depth, call.bytes, call.drop)?;
-    let choices = FontChoices::new(&limits, call.further).ok_or(UNKNOWN_OPTION)?;
-    let (font, at) = unsafe { (call.font.items(), call.coordinates.items()) };
-    let made = pdf::pdf_font(font, call.index, at, unsafe { call.entries.entries() }, &choices);
-    let (mut lists, numbers) = made.map_err(status_of_refusal)?;
-    call.units_per_em = u32::from(lists.units_per_em);
-    call.exact_widths = List::of(take(&mut lists.exact_widths));
-    call.unknown_axes = List::of(take(&mut lists.unknown_axes));
-    call.made = PdfMade::of(lists, numbers);
-    Ok(())
-}
-
 /// # Safety
 ///
 /// As of `List::items`.
 #[no_mangle]
 pub unsafe extern "C" fn subsetter_pdf_font(call: &mut PdfCall) -> u32 {
-    status(unsafe { pdf_made(call) })
+    let (font, at, entries) = unsafe { (call.font.items(), call.coordinates.items(), call.entries.entries()) };
+    let made = call.chosen.choices().and_then(|choices| FontMade::of(pdf::pdf_font(font, call.index, at, entries, &choices)));
+    status(made.map(|made| call.made = made))
 }
 
 /// # Safety
@@ -400,6 +420,127 @@ pub unsafe extern "C" fn subsetter_glyphs_of(call: &mut GlyphCall) -> u32 {
     let (font, text) = unsafe { (call.font.items(), call.text.items()) };
     let found = pdf::glyphs_of(font, call.index, text);
     status(found.map_err(status_of_refusal).map(|glyphs| call.glyphs = List::of(glyphs)))
+}
+
+// ---- runs of text
+
+/// What runs of text need of a font.
+#[repr(C)]
+pub struct TextNeeds {
+    units_per_em: u32,
+    metrics: List<GlyphMetrics>,
+    inked: List<bool>,
+}
+
+/// A call that makes a text of a font.
+#[repr(C)]
+pub struct TextCall {
+    font: List<u8>,
+    index: u32,
+    coordinates: List<Coordinate>,
+    chosen: Chosen,
+    needs: TextNeeds,
+}
+
+/// A call that shows a run of a text, and gives it other pairs.
+#[repr(C)]
+pub struct ShowCall<G, U> {
+    needs: TextNeeds,
+    pairs: List<TextPair>,
+    glyphs: List<G>,
+    text: List<U>,
+    direction: u32,
+    order: u32,
+    size: u32,
+    bytes: List<u8>,
+}
+
+/// A call that makes the font of a text.
+#[repr(C)]
+pub struct TextFontCall {
+    font: List<u8>,
+    index: u32,
+    coordinates: List<Coordinate>,
+    pairs: List<TextPair>,
+    chosen: Chosen,
+    made: FontMade,
+}
+
+impl<G, U> ShowCall<G, U> {
+    /// # Safety
+    ///
+    /// As of `List::items`, for each.
+    unsafe fn view(&self) -> TextView<'_> {
+        unsafe {
+            TextView {
+                units_per_em: self.needs.units_per_em as u16,
+                metrics: self.needs.metrics.items(),
+                inked: self.needs.inked.items(),
+                pairs: self.pairs.items(),
+            }
+        }
+    }
+
+    /// Takes a run over.
+    fn take(&mut self, shown: Result<(Vec<u8>, Vec<TextPair>), RunError>) -> u32 {
+        let shown = shown.map_err(|error| match error {
+            RunError::InvalidText => INVALID_TEXT,
+            RunError::Overfull => OVERFULL,
+            RunError::OutOfMemory => status_of(Error::OutOfMemory),
+        });
+        status(shown.map(|(bytes, pairs)| {
+            self.bytes = List::of(bytes);
+            self.pairs = List::of(pairs);
+        }))
+    }
+}
+
+/// # Safety
+///
+/// As of `List::items`.
+#[no_mangle]
+pub unsafe extern "C" fn subsetter_new_text(call: &mut TextCall) -> u32 {
+    let (font, at) = unsafe { (call.font.items(), call.coordinates.items()) };
+    let made = call.chosen.choices().and_then(|choices| pdf::text_lists(font, call.index, at, &choices).map_err(status_of));
+    status(made.map(|made| {
+        call.needs = TextNeeds {
+            units_per_em: u32::from(made.units_per_em),
+            metrics: List::of(made.metrics),
+            inked: List::of(made.inked),
+        };
+    }))
+}
+
+/// # Safety
+///
+/// As of `List::items`.
+#[no_mangle]
+pub unsafe extern "C" fn subsetter_show_run(call: &mut ShowCall<TextItem, u32>) -> u32 {
+    let (view, items, text) = unsafe { (call.view(), call.glyphs.items(), call.text.items()) };
+    let shown = pdf::show_items(view, items, text, call.direction, call.order, call.size);
+    call.take(shown)
+}
+
+/// # Safety
+///
+/// As of `List::items`.
+#[no_mangle]
+pub unsafe extern "C" fn subsetter_show_shaped(call: &mut ShowCall<Shaped, u16>) -> u32 {
+    let (view, glyphs, text) = unsafe { (call.view(), call.glyphs.items(), Units::Utf16(call.text.items())) };
+    let shown = pdf::show_shaped(view, glyphs, text, call.direction, call.order, call.size);
+    call.take(shown)
+}
+
+/// # Safety
+///
+/// As of `List::items`.
+#[no_mangle]
+pub unsafe extern "C" fn subsetter_text_font(call: &mut TextFontCall) -> u32 {
+    let (font, at, pairs) = unsafe { (call.font.items(), call.coordinates.items(), call.pairs.items()) };
+    let made = call.chosen.choices().and_then(|choices| {
+        FontMade::of(pdf::text_font(font, call.index, at, pairs, call.chosen.is_vertical(), &choices))
+    });
+    status(made.map(|made| call.made = made))
 }
 
 /// A call that says why another was refused.

@@ -9,7 +9,7 @@ All that a PDF has of a font, and a PDF of one line:
     with open("hello.pdf", "wb") as file:
         file.write(font.sheet())
 
-The font alone, or with CIDs and widths:
+Text that a shaper such as HarfBuzz has placed is written by `PdfText`. The font alone, or with CIDs and widths:
 
     import subsetter
     with open("font.ttf", "rb") as file:
@@ -33,15 +33,17 @@ import ctypes
 import math
 import operator
 import os
+import struct
 import sys
 import threading
 import warnings
+import weakref
 import zlib
 from array import array
-from contextlib import contextmanager
+from contextlib import ExitStack, contextmanager
 from typing import (
-    TYPE_CHECKING, Any, Callable, Dict, Iterable, Iterator, List, Literal, Mapping, NamedTuple, NoReturn, Optional, SupportsFloat,
-    SupportsIndex, Tuple, Type, Union,
+    TYPE_CHECKING, Any, Callable, Dict, Iterable, Iterator, List, Literal, Mapping, NamedTuple, NoReturn, Optional, Protocol,
+    SupportsFloat, SupportsIndex, Tuple, Type, Union,
 )
 
 Value = Union[SupportsFloat, SupportsIndex]
@@ -49,6 +51,14 @@ Codes = Literal["consecutive", "source", "each_text"]
 _CODES: Tuple[Codes, ...] = ("consecutive", "source", "each_text")
 Role = Literal["font", "cid_font", "descriptor", "program", "to_unicode", "cid_set", "encoding", "cid_to_gid_map"]
 _ROLES: Tuple[Role, ...] = ("font", "cid_font", "descriptor", "program", "to_unicode", "cid_set", "encoding", "cid_to_gid_map")
+Bounds = Literal["font", "kept"]
+Rights = Literal["from_font", "held", "as_said"]
+Direction = Literal["ltr", "rtl", "ttb"]
+_DIRECTIONS: Tuple[Direction, ...] = ("ltr", "rtl", "ttb")
+Item = Union[
+    Tuple[SupportsIndex, Optional[str]],
+    Tuple[SupportsIndex, Optional[str], SupportsIndex, SupportsIndex, SupportsIndex, SupportsIndex],
+]
 if TYPE_CHECKING:
     from _typeshed import ReadableBuffer as Buffer
 elif sys.version_info >= (3, 12):
@@ -58,8 +68,8 @@ else:
 
 __all__ = [
     "pdf_font", "glyphs_of", "codes_of", "advances", "PdfFont", "Advances", "Column", "Descriptor", "Permission", "Objects", "Part",
-    "subset", "embed", "Embedded", "Error",
-    "UnknownKind", "MalformedFont", "Unimplemented", "SubsetError", "CFFError", "OutOfMemory", "NotPermitted", "InvalidText",
+    "PdfText", "subset", "embed", "Embedded", "Error",
+    "UnknownKind", "MalformedFont", "Unimplemented", "SubsetError", "CFFError", "OutOfMemory", "NotPermitted", "InvalidText", "Overfull",
 ]
 
 __version__ = "1.0.0"
@@ -104,7 +114,11 @@ class NotPermitted(Error):
 
 
 class InvalidText(Error, ValueError):
-    """A text has an unpaired surrogate, or more than 256 UTF-16 units."""
+    """A text has an unpaired surrogate, or more than 256 UTF-16 units; or glyphs are no run of the font and of their text."""
+
+
+class Overfull(OverflowError):
+    """The font of a `PdfText` would have more than 65,535 codes: the run is for another one."""
 
 
 class Embedded(NamedTuple):
@@ -215,7 +229,7 @@ class Objects(NamedTuple):
 _NAME = {"win32": "subsetter.dll", "darwin": "libsubsetter.dylib"}.get(sys.platform, "libsubsetter.so")
 _ERRORS: Dict[int, Type[Error]] = {
     1: UnknownKind, 2: MalformedFont, 3: Unimplemented, 4: SubsetError, 5: OverflowError, 6: CFFError, 7: OutOfMemory,
-    11: NotPermitted, 12: InvalidText,
+    11: NotPermitted, 12: InvalidText, 15: Overfull,
 }
 _DROP_HINTING, _DROP_NAMES, _DROP_GLYPH_NAMES, _DROP_ALL = 1, 2, 4, 7
 
@@ -271,6 +285,24 @@ class _Font(ctypes.Structure):
         ("text", ctypes.c_void_p), ("text_count", ctypes.c_size_t),
         ("ends", ctypes.c_void_p), ("end_count", ctypes.c_size_t),
         ("cid_to_gid_map", ctypes.c_void_p), ("cid_to_gid_map_size", ctypes.c_size_t),
+    ]
+
+
+class _Metrics(ctypes.Structure):
+    _fields_ = [("displacement", ctypes.c_int32), ("position", ctypes.c_int32)]
+
+
+class _Text(ctypes.Structure):
+    """What runs of text need of a font, and which codes they have."""
+
+    _fields_ = [
+        ("size", ctypes.c_uint32), ("units_per_em", ctypes.c_uint32),
+        ("font", ctypes.c_void_p), ("font_size", ctypes.c_size_t),
+        ("coordinates", ctypes.c_void_p), ("coordinate_count", ctypes.c_size_t),
+        ("metrics", ctypes.POINTER(_Metrics)), ("metric_count", ctypes.c_size_t),
+        ("inked", ctypes.c_void_p), ("inked_count", ctypes.c_size_t),
+        ("pairs", ctypes.c_void_p), ("pair_count", ctypes.c_size_t),
+        ("index", ctypes.c_uint32), ("is_vertical", ctypes.c_uint32),
     ]
 
 
@@ -370,8 +402,19 @@ def _declare(library: ctypes.CDLL) -> ctypes.CDLL:
         "subsetter_advances_by_words": (
             make_at[:5] + [pointer, size] * 4 + [ctypes.POINTER(ctypes.c_uint32)], ctypes.c_uint32),
     }
+    shows = [ctypes.c_uint32] * 3 + [ctypes.POINTER(_Objects)]
+    for_runs = {
+        "subsetter_new_text_by_words": (make_at[:5] + [pointer, size, ctypes.POINTER(_Text)], ctypes.c_uint32),
+        "subsetter_free_text": ([ctypes.POINTER(_Text)], None),
+        "subsetter_show_run": ([ctypes.POINTER(_Text), pointer, size, pointer, size] + shows, ctypes.c_uint32),
+        "subsetter_show_shaped": (
+            [ctypes.POINTER(_Text), pointer, size, pointer, size, ctypes.c_uint32] + shows, ctypes.c_uint32),
+        "subsetter_make_text_font_by_words": (
+            [ctypes.POINTER(_Text), pointer, size, ctypes.POINTER(_Font)], ctypes.c_uint32),
+    }
     # (a library has all calls of a group or, if it is older than they are, none)
-    for first, group in (("subsetter_glyphs_of", for_pdf), ("subsetter_make_font_by_words", new)):
+    groups = {"subsetter_glyphs_of": for_pdf, "subsetter_make_font_by_words": new, "subsetter_new_text_by_words": for_runs}
+    for first, group in groups.items():
         if hasattr(library, first):
             declared.update(group)
     if hasattr(library, "subsetter_explain"):
@@ -878,9 +921,10 @@ def _with_lists(lists: Dict[str, Any], numbers: array[int]) -> _PdfFont:
 
 
 class PdfFont:
-    """All that a PDF has of a font for the glyphs in use: what `pdf_font` answers.
+    """All that a PDF has of a font for the glyphs in use: what `pdf_font` and `PdfText.font` answer.
 
-    An entry is a glyph in use with its text. Lengths are in thousandths of the em, and sections those of ISO 32000-1.
+    An entry is a glyph in use with its text; the font of a `PdfText` has none. Lengths are in thousandths of the em, and sections
+    those of ISO 32000-1.
 
     - `program`: the font program, in bytes.
     - `kind`: "TrueType", a file; "CFF", the bytes of `CFF ` alone; or "OpenType", a file with outlines in `CFF ` (9.9).
@@ -987,6 +1031,10 @@ class PdfFont:
     def __repr__(self) -> str:
         return f"<PdfFont {self.descriptor.font_name}, {self.kind}, {self.glyph_count} glyphs>"
 
+    def string(self, codes: Iterable[SupportsIndex]) -> bytes:
+        """The string that shows these codes, as b"<00010002>"."""
+        return b"<%s>" % b"".join(b"%04X" % _number("a code", it, 0, 65535) for it in _listed(codes, "codes are a list of ints"))
+
     def _struct(self) -> _Font:
         if self._kept is None:
             raise ValueError("the font is closed")
@@ -1059,6 +1107,24 @@ class PdfFont:
         return self._written("subsetter_make_pdf_sheet", font.pdf, *entries, number).bytes
 
 
+def _rights(rights: Rights) -> int:
+    if rights == "as_said":
+        warnings.warn('the name of "as_said" is "from_font"', DeprecationWarning, stacklevel=3)
+        return 0
+    return _choice("rights", rights, ("from_font", "held"))
+
+
+def _pdf_words(
+    words: array[int], program: int, codes: int, vertical: bool, bounds: Bounds, cid_set: bool, rights: int, tag: Optional[str],
+) -> array[int]:
+    """The options of a font for a PDF as the library takes them."""
+    further = [
+        program, codes, _flag("vertical", vertical), _choice("bounds", bounds, ("font", "kept")), _flag("cid_set", cid_set), rights,
+        *_letters(tag),
+    ]
+    return array("I", [52, *words[1:], *further])
+
+
 def pdf_font(
     data: Buffer,
     shown: Iterable[Tuple[SupportsIndex, str]],
@@ -1072,10 +1138,10 @@ def pdf_font(
     program: Literal["smallest", "opentype"] = "smallest",
     codes: Codes = "consecutive",
     vertical: bool = False,
-    bounds: Literal["font", "kept"] = "font",
+    bounds: Bounds = "font",
     cid_set: bool = False,
     tag: Optional[str] = None,
-    rights: Literal["from_font", "held", "as_said"] = "from_font",
+    rights: Rights = "from_font",
     small: bool = False,
 ) -> PdfFont:
     """All that a PDF has of a font for the glyphs in use.
@@ -1096,20 +1162,10 @@ def pdf_font(
     with an unpaired surrogate. No value of the font descriptor is a reason: where a table is missing or cut, another
     source of the value is taken. `NotImplementedError` is raised as by `glyphs_of`.
     """
-    if rights == "as_said":
-        warnings.warn('the name of "as_said" is "from_font"', DeprecationWarning, stacklevel=2)
-        rights = "from_font"
-    words = _words(tokens, depth, most_bytes, hinting, True, True, small)
-    words[0] = 52
-    words.extend([
-        _choice("program", program, ("smallest", "opentype")),
-        _choice("codes", codes, _CODES),
-        _flag("vertical", vertical),
-        _choice("bounds", bounds, ("font", "kept")),
-        _flag("cid_set", cid_set),
-        _choice("rights", rights, ("from_font", "held")),
-        *_letters(tag),
-    ])
+    words = _pdf_words(
+        _words(tokens, depth, most_bytes, hinting, True, True, small), _choice("program", program, ("smallest", "opentype")),
+        _choice("codes", codes, _CODES), vertical, bounds, cid_set, _rights(rights), tag,
+    )
     entries, face = _Entries(shown), _number("index", index, 0, 0xFFFFFFFF)
     place = _coordinates({} if coordinates is None else coordinates)
     library = _library_for_pdf()
@@ -1131,3 +1187,253 @@ def pdf_font(
         return PdfFont(older, entries, None)
     finally:
         library.subsetter_free_pdf_font(ctypes.byref(older))
+
+
+# ---- runs of shaped text
+
+
+class GlyphInfo(Protocol):
+    """A glyph as HarfBuzz gives it: of uharfbuzz's `buffer.glyph_infos`."""
+
+    @property
+    def codepoint(self) -> int:
+        """The number of the glyph in the font."""
+
+    @property
+    def cluster(self) -> int:
+        """How many units of the text are before its cluster."""
+
+
+class GlyphPosition(Protocol):
+    """Where it goes, in the font's units: of uharfbuzz's `buffer.glyph_positions`."""
+
+    @property
+    def x_advance(self) -> int: ...
+
+    @property
+    def y_advance(self) -> int: ...
+
+    @property
+    def x_offset(self) -> int: ...
+
+    @property
+    def y_offset(self) -> int: ...
+
+
+_PLACES = ("x_advance", "y_advance", "x_offset", "y_offset")
+_ITEM, _SHAPED = struct.Struct("=4I4i").pack, struct.Struct("=2I4i").pack
+_SAYS_NOTHING = 0xFFFFFFFF
+
+
+def _packed(pack: Callable[..., bytes], rows: List[Tuple[Any, ...]], names: Tuple[str, ...]) -> bytes:
+    """Rows of numbers of 32 bits, of which the last four are signed."""
+    try:
+        return b"".join([pack(*row) for row in rows])
+    except struct.error:
+        for row in rows:
+            for name, value in zip(names, row):
+                _number(name, value, *((-0x80000000, 0x7FFFFFFF) if name in _PLACES else (0, 0xFFFFFFFF)))
+        raise
+
+
+def _thousandths(size: Value) -> int:
+    try:
+        scaled = 1000 * math.ldexp(size, 0)
+    except TypeError:
+        raise TypeError(f"size is a number, and no {type(size).__name__}") from None
+    except builtins.OverflowError:
+        scaled = math.inf
+    if not 0 <= scaled <= 0xFFFFFFFF:
+        raise ValueError(f"size is {_shown(size)}, and none from 0 to 4294967.295")
+    return round(scaled)
+
+
+class PdfText:
+    """Text of a font in a PDF: runs of glyphs that HarfBuzz has shaped, so that readers copy and find it, and then the font that they want.
+
+        text = subsetter.PdfText(data)
+        uharfbuzz.shape(font, buffer)  # of buffer.add_str("office")
+        line = text.shaped("office", buffer.glyph_infos, buffer.glyph_positions, size=12)
+        page = b"BT /F1 12 Tf 72 720 Td %s ET" % line
+        made = text.font()  # .objects(5), .parts(numbers)
+
+    `data`, `index`, `coordinates` and the limits are as for `subset`, `vertical` and `rights` as for `pdf_font`. The buffer of `data` is
+    held until the text is closed or forgotten.
+
+    - `order`: how a run from right to left is written: "visual", as it is seen, which more readers copy rightly; or "logical", as it is
+      read, for a tagged PDF.
+    - `units_per_em`: how many units of the font an em has.
+
+    Raises what `advances` does; and `NotImplementedError` where the library is of an older version.
+    """
+
+    units_per_em: int
+
+    def __init__(
+        self,
+        data: Buffer,
+        index: SupportsIndex = 0,
+        coordinates: Optional[Mapping[str, Value]] = None,
+        *,
+        vertical: bool = False,
+        rights: Rights = "from_font",
+        order: Literal["visual", "logical"] = "visual",
+        tokens: Optional[SupportsIndex] = None,
+        depth: Optional[SupportsIndex] = None,
+        most_bytes: Optional[SupportsIndex] = None,
+    ) -> None:
+        place = _coordinates({} if coordinates is None else coordinates)
+        self._data, self._index, self._coordinates = data, _number("index", index, 0, 0xFFFFFFFF), dict(coordinates or {})
+        self._limits, self._vertical = (tokens, depth, most_bytes), vertical
+        self._rights, self._order = _rights(rights), _choice("order", order, ("visual", "logical"))
+        words = self._words(True, False, "font", False, None)
+        self._library, self._lock = _library_with("subsetter_new_text_by_words"), threading.Lock()
+        self._text = _Text(size=ctypes.sizeof(_Text))
+        with ExitStack() as held:
+            self._font = held.enter_context(_bytes_of(data))
+            status = self._library.subsetter_new_text_by_words(
+                *self._font, self._index, place, len(place), words.buffer_info()[0], len(words), ctypes.byref(self._text))
+            _check(self._library, status, _Asked(_ADVANCES, *self._font, self._index, array("H"), words))
+            held.callback(self._library.subsetter_free_text, ctypes.byref(self._text))
+            self._give_back = weakref.finalize(self, held.pop_all().close)
+        self.units_per_em = self._text.units_per_em
+
+    def _words(self, hinting: bool, small: bool, bounds: Bounds, cid_set: bool, tag: Optional[str]) -> array[int]:
+        return _pdf_words(
+            _words(*self._limits, hinting, True, True, small), 0, 0, self._vertical, bounds, cid_set, self._rights, tag,
+        )
+
+    @contextmanager
+    def _opened(self) -> Iterator[ctypes._CArgObject]:
+        """The text, for one call at a time."""
+        with self._lock:
+            if not self._give_back.alive:
+                raise ValueError("the text is closed")
+            yield ctypes.byref(self._text)
+
+    def close(self) -> None:
+        """Gives the memory of the text back, and the buffer: its calls raise ValueError then. Fonts that it made stay."""
+        with self._lock:
+            self._give_back()
+
+    def __enter__(self) -> PdfText:
+        return self
+
+    def __exit__(self, *_: object) -> None:
+        self.close()
+
+    @property
+    def codes(self) -> List[Tuple[Optional[int], Optional[str]]]:
+        """What each code from 1 on draws and says, of the runs so far: a glyph, or None for a blank, and a character, or None."""
+        with self._opened():
+            words = array("I", ctypes.string_at(self._text.pairs, 12 * self._text.pair_count))
+        return [
+            (None if kind else glyph, None if character == _SAYS_NOTHING else chr(character))
+            for kind, glyph, character in zip(*[iter(words)] * 3)
+        ]
+
+    def advances(self, glyphs: Iterable[SupportsIndex]) -> List[int]:
+        """The advances of glyphs in thousandths of the em, as W has them."""
+        numbers = _glyph_numbers(glyphs)
+        with self._opened():
+            count = self._text.metric_count
+            if numbers and max(numbers) >= count:
+                raise MalformedFont(f"malformed font: glyph {max(numbers)}: the font's glyphs are 0 to {count - 1}")
+            return [self._text.metrics[it].displacement for it in numbers]
+
+    def run(self, items: Iterable[Item], direction: Optional[Direction] = None, size: Value = 12) -> bytes:
+        """What shows a run of glyphs, for a content stream: between BT and ET, after Tf and Td or Tm, where Tc, Tw and Ts are 0 and Tz
+        is 100. The pen goes on by the run's advance.
+
+        `items` are the glyphs in the order in which they are seen: (glyph, text, x_advance, y_advance, x_offset, y_offset) in the
+        font's units, as a shaper has them, or (glyph, text), with the font's own advance. The text is that of a cluster, at its
+        first glyph, and None at each other one. `direction` is "ltr", which is the default, or "rtl"; of a vertical text "ttb".
+        `size` is that of Tf.
+
+        Raises `InvalidText` where the first item continues a cluster, a glyph isn't the font's, the pen leaves the line, a text has an
+        unpaired surrogate, or one that needs an ActualText is too long; `Overfull`; and `ValueError` for another direction or size.
+        After an error the text is as it was.
+        """
+        wanted = 'items are (glyph, text) or (glyph, text, x_advance, y_advance, x_offset, y_offset), as [(36, "fi"), (5, None)]'
+        characters, own = array("I"), []
+        rows: List[Tuple[Any, ...]] = []
+        for it in _listed(items, wanted):
+            try:
+                glyph, text, *places = it
+            except (TypeError, ValueError):
+                raise ValueError(wanted) from None
+            if len(places) not in (0, 4):
+                raise ValueError(wanted)
+            start = len(characters)
+            if text is not None:
+                characters.extend(_characters(text))
+            if not places:
+                own.append((len(rows), glyph))
+            rows.append((_number("a glyph", glyph, 0, 65535), text is None, start, len(characters), *places))
+        if own:
+            found = advances(self._data, [glyph for _, glyph in own], self._index, coordinates=self._coordinates, tokens=self._limits[0])
+            for (place, glyph), width, height in zip(own, found.widths, found.heights):
+                rows[place] += (0, -height, 0, self._above(glyph)) if self._vertical else (width, 0, 0, 0)
+        given = _packed(_ITEM, rows, ("a glyph", "", "", "", *_PLACES))
+        return self._shown("subsetter_show_run", direction, size, given, len(rows), characters.buffer_info()[0], len(characters))
+
+    def _above(self, glyph: SupportsIndex) -> int:
+        """How far the origin of a glyph is above the pen in a column, in the font's units."""
+        with self._opened():
+            position: int = self._text.metrics[operator.index(glyph)].position
+        return (1000 - 2 * position * self.units_per_em) // 2000
+
+    def shaped(
+        self, text: str, infos: Iterable[GlyphInfo], positions: Iterable[GlyphPosition], direction: Optional[Direction] = None,
+        size: Value = 12, *, units: Literal["utf8", "utf16", "utf32"] = "utf32",
+    ) -> bytes:
+        """The same of what uharfbuzz has made of a text: `infos` are its `buffer.glyph_infos`, and `positions` its
+        `buffer.glyph_positions`, where the font's scale is units per em.
+
+        A cluster's text goes from its number to the next greater one of the run, or to the end. The numbers count characters, as after
+        `buffer.add_str`; else `units` say what: "utf8" after `add_utf8`, or "utf16". `InvalidText` is also raised where a number
+        isn't where a character begins, or numbers fall in reading order.
+        """
+        wanted = ("infos have codepoint and cluster, and positions, as many, x_advance, y_advance, x_offset and y_offset, as uharfbuzz's "
+                  "buffer.glyph_infos and buffer.glyph_positions")
+        each = _listed(infos, wanted), _listed(positions, wanted)
+        if len(each[0]) != len(each[1]):
+            raise ValueError(f"{wanted}: {len(each[0])} and {len(each[1])}")
+        try:
+            rows = [(info.codepoint, info.cluster, *(getattr(place, it) for it in _PLACES)) for info, place in zip(*each)]
+        except AttributeError as error:
+            raise TypeError(f"{wanted}: {error}") from None
+        width = 8 << _choice("units", units, ("utf8", "utf16", "utf32"))
+        if not isinstance(text, str):
+            raise TypeError(f"a text is a str, and no {type(text).__name__}")
+        order = "" if width == 8 else f"-{sys.byteorder[0]}e"
+        encoded = text.encode(f"utf-{width}{order}", "surrogatepass")
+        given = _packed(_SHAPED, rows, ("a codepoint", "a cluster", *_PLACES))
+        return self._shown("subsetter_show_shaped", direction, size, given, len(rows), encoded, 8 * len(encoded) // width, width)
+
+    def _shown(self, call: str, direction: Optional[Direction], size: Value, *given: Any) -> bytes:
+        known = _DIRECTIONS[2:] if self._vertical else _DIRECTIONS[:2]
+        number = _DIRECTIONS.index(known[_choice("direction", known[0] if direction is None else direction, known)])
+        thousandths, made = _thousandths(size), _Objects()
+        with self._opened() as text:
+            status = getattr(self._library, call)(text, *given, number, self._order, thousandths, ctypes.byref(made))
+        try:
+            _check(self._library, status)
+            return ctypes.string_at(made.bytes, made.size)
+        finally:
+            self._library.subsetter_free_pdf_objects(ctypes.byref(made))
+
+    def font(
+        self, *, hinting: bool = True, small: bool = False, bounds: Bounds = "font", cid_set: bool = False, tag: Optional[str] = None,
+    ) -> PdfFont:
+        """All that a PDF has of the font, for the runs so far; it may be asked again after further ones. The choices and errors are those
+        of `pdf_font`."""
+        words, made = self._words(hinting, small, bounds, cid_set, tag), _Font(size=ctypes.sizeof(_Font))
+        with self._opened() as text:
+            status = self._library.subsetter_make_text_font_by_words(text, words.buffer_info()[0], len(words), ctypes.byref(made))
+        try:
+            glyphs = array("H", [glyph or 0 for glyph, _ in self.codes if status])
+            _check(self._library, status, _Asked(_PDF_FONT, *self._font, self._index, glyphs, words))
+            return PdfFont(made.pdf, _Entries([]), made)
+        finally:
+            self._library.subsetter_free_font(ctypes.byref(made))

@@ -13,6 +13,7 @@ HEAD = """//! The proved sources, crate by crate, without their contracts.
 // Clippy's lints that these modules don't follow, each with its reason. The code is as the proofs take it apart.
 // Plain comparisons, matches and loops: the proofs follow each branch and each step.
 #![allow(
+    clippy::explicit_auto_deref,
     clippy::large_enum_variant,
     clippy::len_zero,
     clippy::manual_find,

@@ -115,8 +115,10 @@ class Reach:
             return [module]
         if head == "super":
             return [module.parent]
-        if head in module.names:
-            return module.names[head]
+        # A function that is imported from the crate of its name isn't what a longer path begins with.
+        things = [it for it in module.names.get(head, ()) if len(words) == 1 or getattr(it, "path", None) != [head, head]]
+        if things:
+            return things
         if module.root is not self.plain and head in self.crates:
             return [self.crates[head]]
         return []

@@ -29,17 +29,20 @@ mod objects;
 mod options;
 mod parts;
 mod shown;
+mod text;
 mod values;
 mod written;
 
 pub use advance::{advances, advances_with_limits, Advances};
-pub use error::FontError;
+pub use error::{FontError, TextError};
 pub use font::PdfFont;
 pub use objects::{Dictionaries, Layout, Objects, References};
-pub use options::{Bounds, Codes, Direction, FontOptions, ProgramChoice, Rights, SubsetTag};
+pub use options::{Bounds, ClusterUnit, Codes, Direction, FontOptions, Order, ProgramChoice};
+pub use options::{Rights, SubsetTag, TextOptions};
 pub(crate) use parts::parts_of;
 pub use parts::{Part, PartsError, Role};
 pub use shown::Shown;
+pub use text::{Item, Run, RunDirection, ShapedGlyph, Text};
 pub use values::{Cmap, Column, Columns, Descriptor, Permission, ProgramKind, Usage};
 
 use crate::proved::cmap;

@@ -93,8 +93,8 @@ fn each_request_of_an_instance_may_be_refused() {
 mod pdf {
     use std::hash::{Hash, Hasher};
     use subsetter::pdf::{
-        codes_of, glyphs_of, pdf_font, Codes, Direction, FontError, FontOptions, Layout, PartsError, PdfFont,
-        References, Shown,
+        codes_of, glyphs_of, pdf_font, Codes, Direction, FontError, FontOptions, Item, Layout, PartsError, PdfFont,
+        References, RunDirection, ShapedGlyph, Shown, Text, TextError, TextOptions,
     };
     use subsetter::{Error, Tag};
 
@@ -104,13 +104,17 @@ mod pdf {
         state.finish()
     }
 
+    fn refused(error: FontError) -> Error {
+        match error {
+            FontError::Subset(error) => error,
+            other => panic!("{other}"),
+        }
+    }
+
     pub fn made(font: &[u8], text: &str, options: &FontOptions) -> Result<u64, Error> {
         let shown = [Shown::new(1, text), Shown::new(5, "fi"), Shown::new(8, "")];
         let at = [(Tag::new(b"wght"), 650.0)];
-        let made = pdf_font(font, 0, &at, &shown, options).map_err(|error| match error {
-            FontError::Subset(error) => error,
-            other => panic!("{other}"),
-        })?;
+        let made = pdf_font(font, 0, &at, &shown, options).map_err(refused)?;
         let columns = made.columns().map(|it| number(&it));
         let encoding = made.encoding().map(|it| number(&it));
         let lists = (made.program(), made.cids(), made.codes(), made.text_is_mapped());
@@ -135,6 +139,25 @@ mod pdf {
             values ^= number(&(part.number, part.value()?));
         }
         Ok(number(&(sheets, objects, values, font.w()?, font.w2()?)))
+    }
+
+    /// Runs, and the font for them.
+    pub fn text(font: &[u8]) -> Result<u64, Error> {
+        let mut text = Text::new(font, 0, &[(Tag::new(b"wght"), 650.0)], &TextOptions::new())?;
+        let mut shown = || -> Result<_, TextError> {
+            let item = Item { glyph: 5, text: Some("fi"), x_advance: 900, y_offset: 100, ..Item::default() };
+            let glyph = ShapedGlyph { glyph_id: 1, x_advance: 900, ..ShapedGlyph::default() };
+            let run = text.run(&[item], RunDirection::LeftToRight, 1)?;
+            let shaped = text.shaped("B", &[glyph], RunDirection::RightToLeft, 1)?;
+            Ok((run, shaped, text.plain(&[Shown::new(1, "A")], 1)?))
+        };
+        let runs = shown().map_err(|error| match error {
+            TextError::Subset(error) => error,
+            other => panic!("{other}"),
+        })?;
+        let font = text.font(&FontOptions::new().cid_set(true)).map_err(refused)?;
+        let made = (font.program(), font.to_unicode(), font.widths(), font.cid_to_gid_map(), font.cid_set());
+        Ok(number(&(runs, made, text.advances(&[1])?)))
     }
 
     pub fn of(font: &[u8], options: &FontOptions) -> PdfFont {
@@ -177,6 +200,9 @@ fn each_request_of_a_pdf_font_may_be_refused() {
         let answer = pdf::glyphs(&font);
         let requests = refuse_each(|| pdf::glyphs(&font), &answer);
         assert!(answer.is_ok() && requests == 3, "{name}: {requests}");
+        let answer = pdf::text(&font);
+        let requests = refuse_each(|| pdf::text(&font), &answer);
+        assert!(answer.is_ok() && requests > 60, "{name}: {requests}");
     }
     for choice in [Codes::Consecutive, Codes::Source, Codes::EachText] {
         let answer = pdf::codes(choice);

@@ -1,12 +1,12 @@
 //! Numbers of operators (ISO 32000-1, 7.3.3).
 
-ghost use Rattle.std.specs.Prelude.{◌≡◌, ◌+◌, ◌*◌, ◌/◌, ◌%◌, ◌++◌, ◌∷◌, ◌<◌, ◌^◌, IfErr, OnOk, unsigned_abs};
+ghost use Rattle.std.specs.Prelude.{◌≡◌, ◌+◌, ◌*◌, ◌/◌, ◌%◌, ◌++◌, ◌∷◌, ◌<◌, ◌^◌, IfErr, OnOk, decimal, unsigned_abs};
 ghost use Rattle.std.specs.Fmt.{signed_decimal};
 ghost use Rattle.subsetter_base.specs.declared.error.Error.TheVariants.{OutOfMemory};
 ghost use Rattle.pdf_text.specs.Numbers.{sign};
 ghost use Rattle.pdf_operators.specs.Operators.{millionths, rise_text, six_digits};
 
-use pdf_text::{write_count, write_sign};
+use pdf_text::write_sign;
 use std::io::Write;
 use subsetter_base::Error;
 
@@ -16,6 +16,14 @@ pub fn write_integer(text: &mut Vec<u8>, z: i32) -> Result<(), Error>
     ensures err { IfErr result (λ e. e ≡ OutOfMemory) }
 {
     write!(text, "{z}").map_err(|_| Error::OutOfMemory)
+}
+
+/// Writes a number in decimal.
+fn write_whole(text: &mut Vec<u8>, n: u64) -> Result<(), Error>
+    ensures ok { OnOk result (text.new.items ≡ text.old.items ++ decimal n) }
+    ensures err { IfErr result (λ e. e ≡ OutOfMemory) }
+{
+    write!(text, "{n}").map_err(|_| Error::OutOfMemory)
 }
 
 /// A digit.
@@ -58,7 +66,7 @@ fn write_millionths(text: &mut Vec<u8>, z: i32, n: u64) -> Result<(), Error>
     ensures err { IfErr result (λ e. e ≡ OutOfMemory) }
 {
     write_sign(text, z)?;
-    write_count(text, (n / 1_000_000) as usize)?;
+    write_whole(text, n / 1_000_000)?;
     write_fraction(text, (n % 1_000_000) as u32)
 }
 

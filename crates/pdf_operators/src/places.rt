@@ -8,8 +8,10 @@ ghost use Rattle.pdf_operators.specs.Pens.{advance_of, are_pens, end_of, first_p
 use pdf_runs::{Direction, Figure, Item, Piece};
 use subsetter_variation::rounding::nearest;
 
-/// The metrics of a glyph in the direction of writing, in thousandths of the em (ISO 32000-1, 9.2.4 and 9.7.4.3).
+/// The metrics of a glyph in the direction of writing, in thousandths of the em (ISO 32000-1, 9.2.4 and 9.7.4.3). C has it as
+/// it is.
 #[derive(Clone, Copy)]
+#[repr(C)]
 pub struct GlyphMetrics {
     /// How far the pen goes on: the width in W, or w1y in W2.
     pub displacement: i32,

@@ -17,15 +17,21 @@ pub enum Unit {
     Utf32,
 }
 
-/// A glyph as HarfBuzz gives it, in units of the font.
+/// A glyph as HarfBuzz gives it, in units of the font. C has it as it is.
 #[derive(Clone, Copy)]
+#[repr(C)]
 pub struct Shaped {
+    /// Its number in the font.
     pub glyph: u32,
     /// How many units of the text are before its cluster.
     pub cluster: u32,
+    /// How far the pen goes on.
     pub x_advance: i32,
+    /// And upwards.
     pub y_advance: i32,
+    /// How far the glyph is from the pen.
     pub x_offset: i32,
+    /// And above it.
     pub y_offset: i32,
 }
 

@@ -5,3 +5,4 @@ pub mod PdfLaws
 pub mod PdfObjects
 pub mod Parts
 pub mod Whole
+pub mod Runs

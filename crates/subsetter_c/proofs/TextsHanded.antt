@@ -1,5 +1,5 @@
 -- A text that is answered, handed over.
-use Rattle.std.proofs.Common.{◌≡◌, ℕ, List, Result, Ok, Err, sym, subst, ◌∙◌}
+use Rattle.std.proofs.Common.{◌≡◌, ℕ, List, Result, Err, sym, subst, ◌∙◌}
 use Rattle.std.specs.Prelude.{IfOk, IfErr, String, string_bytes}
 use Rattle.std.specs.Global.{Global}
 use Rattle.subsetter_base.specs.declared.error.Error.{Error}

@@ -50,7 +50,7 @@ fn each_metrics(alloc: Global, units: u16, advances: &[u16]) -> Result<Vec<Glyph
 
 /// The numbers of so many glyphs.
 #[tactic(auto, using(crate::proofs::Each::each_more, crate::proofs::Each::each_done))]
-fn numbers(alloc: Global, count: u16) -> Result<Vec<u16>, Error>
+pub(crate) fn numbers(alloc: Global, count: u16) -> Result<Vec<u16>, Error>
     ensures ok { IfOk result (λ v. v.items ≡ each_from (λ g. g) 0 count) }
     ensures err { IfErr result (λ e. e ≡ OutOfMemory) }
 {
@@ -62,7 +62,7 @@ fn numbers(alloc: Global, count: u16) -> Result<Vec<u16>, Error>
 }
 
 /// How many glyphs a font has. `MalformedFont` where `maxp` is missing or cut.
-fn count_in(face: &Face<'_>) -> Result<u16, Error>
+pub(crate) fn count_in(face: &Face<'_>) -> Result<u16, Error>
     ensures { result ≡ count_in (table_in face.now.«data».now face.now.records.now) }
 {
     let maxp = face.stored(Tag::MAXP).ok_or(Error::MalformedFont)?;

@@ -7,8 +7,10 @@
 #![tactic(auto)]
 
 mod call;
+mod columns;
 mod ink;
 mod metrics;
 
 pub use call::text_metrics;
+pub use columns::column_metrics;
 pub use metrics::TextMetrics;

@@ -1,9 +1,12 @@
 //! The fonts for a PDF, as C has them: lists and numbers, and what is written of them.
 
 mod advance;
+mod runs;
 mod texts;
 
 pub use advance::advances;
+pub use runs::{show_items, show_shaped, text_font, text_lists};
+pub use runs::{GlyphMetrics, RunError, Shaped, TextItem, TextPair, TextView, Units};
 pub use texts::{codes_of, TextEntries};
 
 use super::{settings, Coordinate};
@@ -203,6 +206,13 @@ impl From<Error> for EntryError {
 }
 
 impl Entries<'_> {
+    /// No entries.
+    pub const NONE: Self = Self {
+        glyphs: &[],
+        text: &[],
+        ends: &[],
+    };
+
     /// Whether each number is a character, and each entry has an end that is in its order.
     pub fn are_known(&self) -> bool {
         let mut last = 0;

@@ -1,9 +1,10 @@
 //! Choices as the proved calls take them, and what these answer.
 
-use super::{Bounds, Codes, Direction, FontError, FontOptions, Permission, ProgramChoice};
-use super::{ProgramKind, Rights, Usage};
+use super::{Bounds, ClusterUnit, Codes, Direction, FontError, FontOptions, Order, Permission};
+use super::{ProgramChoice, ProgramKind, Rights, RunDirection, TextError, Usage};
 use crate::library::{refused, within};
-use crate::proved::pdf_font as proved;
+use crate::proved::{pdf_font as proved, pdf_operators, pdf_runs};
+use crate::Error;
 
 // ---- choices
 
@@ -49,6 +50,35 @@ impl FontOptions {
                 Rights::FromFont => proved::Rights::AsSaid,
                 Rights::Held => proved::Rights::Held,
             },
+        }
+    }
+}
+
+impl RunDirection {
+    pub(super) fn chosen(self) -> pdf_runs::Direction {
+        match self {
+            Self::LeftToRight => pdf_runs::Direction::LeftToRight,
+            Self::RightToLeft => pdf_runs::Direction::RightToLeft,
+            Self::TopToBottom => pdf_runs::Direction::TopToBottom,
+        }
+    }
+}
+
+impl Order {
+    pub(super) fn chosen(self) -> pdf_operators::Order {
+        match self {
+            Self::Visual => pdf_operators::Order::Visual,
+            Self::Logical => pdf_operators::Order::Logical,
+        }
+    }
+}
+
+impl ClusterUnit {
+    pub(super) fn chosen(self) -> pdf_runs::Unit {
+        match self {
+            Self::Utf8 => pdf_runs::Unit::Utf8,
+            Self::Utf16 => pdf_runs::Unit::Utf16,
+            Self::Utf32 => pdf_runs::Unit::Utf32,
         }
     }
 }
@@ -99,6 +129,26 @@ impl std::error::Error for FontError {
         match self {
             Self::Subset(error) => Some(error),
             Self::NotPermitted(_) | Self::TextTooLong => None,
+        }
+    }
+}
+
+impl TextError {
+    pub(super) fn of(error: pdf_runs::RunError) -> Self {
+        match error {
+            pdf_runs::RunError::InvalidText => Self::InvalidText,
+            pdf_runs::RunError::Overfull => Self::Overfull,
+            pdf_runs::RunError::OutOfMemory => Self::Subset(Error::OutOfMemory),
+        }
+    }
+}
+
+#[cfg(feature = "std")]
+impl std::error::Error for TextError {
+    fn source(&self) -> Option<&(dyn std::error::Error + 'static)> {
+        match self {
+            Self::Subset(error) => Some(error),
+            Self::InvalidText | Self::Overfull => None,
         }
     }
 }

@@ -30,3 +30,31 @@ impl fmt::Display for FontError {
         }
     }
 }
+
+/// Why a run isn't shown.
+#[derive(Debug, Copy, Clone, Eq, PartialEq)]
+#[non_exhaustive]
+pub enum TextError {
+    /// The glyphs are no run of the font or not of their text, or a number is too large.
+    InvalidText,
+    /// The font of the text would have more than 65,535 codes: the run is for another one.
+    Overfull,
+    /// The error of a call that subsets a font.
+    Subset(Error),
+}
+
+impl From<Error> for TextError {
+    fn from(error: Error) -> Self {
+        Self::Subset(error)
+    }
+}
+
+impl fmt::Display for TextError {
+    fn fmt(&self, f: &mut fmt::Formatter<'_>) -> fmt::Result {
+        match self {
+            Self::InvalidText => f.write_str("invalid text"),
+            Self::Overfull => f.write_str("too many codes"),
+            Self::Subset(error) => error.fmt(f),
+        }
+    }
+}

@@ -58,6 +58,77 @@ impl Rights {
     pub const AsSaid: Self = Self::FromFont;
 }
 
+/// The order in which the glyphs of a run are written.
+#[derive(Debug, Copy, Clone, Eq, PartialEq, Hash)]
+pub enum Order {
+    /// As they are seen: from left to right, or from top to bottom.
+    Visual,
+    /// As the text is read: those of a run from right to left from the last to the first.
+    Logical,
+}
+
+/// What the cluster numbers of a shaper count.
+#[derive(Debug, Copy, Clone, Eq, PartialEq, Hash)]
+pub enum ClusterUnit {
+    /// Bytes, as rustybuzz and harfrust do.
+    Utf8,
+    /// UTF-16 units.
+    Utf16,
+    /// Characters.
+    Utf32,
+}
+
+/// All that a caller can choose of a [`Text`](super::Text).
+#[derive(Debug, Copy, Clone, Eq, PartialEq, Hash)]
+pub struct TextOptions {
+    pub(super) limits: Limits,
+    pub(super) direction: Direction,
+    pub(super) order: Order,
+    pub(super) clusters: ClusterUnit,
+}
+
+impl TextOptions {
+    /// The limits of [`subset`](crate::subset); of each other choice it is the first.
+    pub fn new() -> Self {
+        Self {
+            limits: Limits::default(),
+            direction: Direction::Horizontal,
+            order: Order::Visual,
+            clusters: ClusterUnit::Utf8,
+        }
+    }
+
+    /// How far the charstring of a glyph may run.
+    #[must_use]
+    pub fn limits(self, limits: Limits) -> Self {
+        Self { limits, ..self }
+    }
+
+    /// How text runs: runs from top to bottom are for a vertical text, and the others for a horizontal one.
+    #[must_use]
+    pub fn direction(self, direction: Direction) -> Self {
+        Self { direction, ..self }
+    }
+
+    /// The order in which the glyphs of a run are written.
+    #[must_use]
+    pub fn order(self, order: Order) -> Self {
+        Self { order, ..self }
+    }
+
+    /// What the cluster numbers of a shaper count.
+    #[must_use]
+    pub fn clusters(self, clusters: ClusterUnit) -> Self {
+        Self { clusters, ..self }
+    }
+}
+
+impl Default for TextOptions {
+    fn default() -> Self {
+        Self::new()
+    }
+}
+
 /// The tag in front of a subset's name: six capitals (9.6.4).
 ///
 /// ```

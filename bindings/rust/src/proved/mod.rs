@@ -4,6 +4,7 @@
 // Clippy's lints that these modules don't follow, each with its reason. The code is as the proofs take it apart.
 // Plain comparisons, matches and loops: the proofs follow each branch and each step.
 #![allow(
+    clippy::explicit_auto_deref,
     clippy::large_enum_variant,
     clippy::len_zero,
     clippy::manual_find,
@@ -26,6 +27,8 @@
 // Names of the crate's version 0.2.6.
 #![allow(clippy::enum_variant_names, clippy::wrong_self_convention)]
 
+#[cfg(feature = "variable-fonts")]
+pub mod cff_repeats;
 pub mod cid_embed;
 #[cfg(feature = "variable-fonts")]
 pub mod cid_embed_at;
@@ -37,6 +40,8 @@ pub mod font_reasons;
 pub mod glyph_names;
 #[cfg(feature = "program")]
 pub mod late_file;
+#[cfg(feature = "variable-fonts")]
+pub mod own_glyphs;
 #[cfg(feature = "variable-fonts")]
 pub mod pdf_boxes;
 pub mod pdf_cff;
@@ -51,11 +56,17 @@ pub mod pdf_names;
 #[cfg(feature = "variable-fonts")]
 pub mod pdf_objects;
 #[cfg(feature = "variable-fonts")]
+pub mod pdf_operators;
+#[cfg(feature = "variable-fonts")]
+pub mod pdf_runs;
+#[cfg(feature = "variable-fonts")]
 pub mod pdf_sheet;
 #[cfg(feature = "variable-fonts")]
 pub mod pdf_source;
 #[cfg(feature = "variable-fonts")]
 pub mod pdf_text;
+#[cfg(feature = "variable-fonts")]
+pub mod pdf_text_font;
 pub mod pdf_values;
 #[cfg(feature = "variable-fonts")]
 pub mod pdf_widths;
@@ -87,10 +98,16 @@ pub mod subsetter_cff_instance;
 pub mod subsetter_cffdata;
 #[cfg(feature = "variable-fonts")]
 pub mod subsetter_instance;
+#[cfg(feature = "variable-fonts")]
+pub mod subsetter_pdf_c;
 pub mod subsetter_points;
 pub mod subsetter_sfnt;
+#[cfg(feature = "variable-fonts")]
+pub mod subsetter_text_c;
 pub mod subsetter_type2;
 #[cfg(feature = "variable-fonts")]
 pub mod subsetter_variable;
 #[cfg(feature = "variable-fonts")]
 pub mod subsetter_variation;
+#[cfg(feature = "variable-fonts")]
+pub mod text_metrics;

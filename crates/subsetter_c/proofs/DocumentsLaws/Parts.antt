@@ -1,5 +1,5 @@
 -- What is said of parts that are handed over, in other words.
-use Rattle.std.proofs.Common.{◌≡◌, ◌≤◌, ℕ, Bool, true, false, List, length, subst, arith, Result, Ok, Err, Vec, Global}
+use Rattle.std.proofs.Common.{◌≡◌, ◌≤◌, ℕ, Bool, true, false, List, length, subst, arith, Result, Err, Vec, Global}
 use Rattle.std.specs.Prelude.{IfOk, IfErr}
 use Rattle.pdf_text.specs.Objects.{objects_by}
 use Rattle.pdf_text.specs.declared.parts.PartsError.{PartsError}

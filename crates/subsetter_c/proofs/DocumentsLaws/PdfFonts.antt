@@ -1,5 +1,5 @@
 -- What is said of a font for a PDF that is handed over, in other words.
-use Rattle.std.proofs.Common.{◌≡◌, ℕ, List, [], refl, sym, ap, subst, ◌∙◌, ◌⊎◌, inl, inr, Result, Ok, Err, ℤ, map, true, false}
+use Rattle.std.proofs.Common.{◌≡◌, ℕ, List, [], refl, ap, subst, ◌∙◌, ◌⊎◌, inl, inr, Result, Ok, Err, ℤ, map, true, false}
 use Rattle.std.specs.Prelude.{IfOk, IfErr, codes}
 use Rattle.subsetter_base.specs.declared.error.Error.{Error}
 use Rattle.subsetter_base.specs.declared.error.Error.TheVariants.{OutOfMemory}

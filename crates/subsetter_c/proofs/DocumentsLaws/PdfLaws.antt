@@ -1,5 +1,5 @@
 -- What is borrowed of a font that was laid out for C is what `pdf_objects` borrows of the font itself.
-use Rattle.std.proofs.Common.{◌≡◌, ◌<◌, ℕ, ◌+◌, Bool, true, false, List, [], ◌∷◌, ◌++◌, length, get_or, map, refl, ap, ◌∙◌, arith, ℤ, Option, Some, None, Vec, Global}
+use Rattle.std.proofs.Common.{◌≡◌, ◌<◌, ℕ, ◌+◌, Bool, true, false, List, [], ◌++◌, length, get_or, map, refl, ap, ◌∙◌, arith, ℤ, Option, Some, None, Vec, Global}
 use Rattle.std.specs.Prelude.{◌==◌, if◌then◌else◌, min, pos}
 use Rattle.std.specs.Option.{option_map}
 use Rattle.std.proofs.lemmas.List.{length-append, length-map}

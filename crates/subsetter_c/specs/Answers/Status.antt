@@ -14,6 +14,10 @@ status_of OverflowError = 5
 status_of CFFError = 6
 status_of OutOfMemory = 7
 
+-- a request for memory was refused
+abbrev pub out_of_memory : ℕ
+out_of_memory = 7
+
 -- a buffer is too small
 abbrev pub too_small : ℕ
 too_small = 8
@@ -33,6 +37,10 @@ not_permitted = 11
 -- a text isn't one, or is too long
 abbrev pub invalid_text : ℕ
 invalid_text = 12
+
+-- there would be more than 65,535 codes
+abbrev pub overfull : ℕ
+overfull = 15
 
 -- the numbers of objects aren't distinct, one is 0, or there are too few or too many
 abbrev pub invalid_numbers : ℕ
@@ -54,5 +62,6 @@ status_text status =
     else if status == unknown_option then codes "unknown option"
     else if status == not_permitted then codes "embedding not permitted"
     else if status == invalid_text then codes "invalid text"
+    else if status == overfull then codes "too many codes"
     else if status == invalid_numbers then codes "invalid numbers"
     else codes "unknown status"

@@ -6,7 +6,6 @@ use Rattle.pdf_font.specs.PdfFont.{IsPdfFont, font_of}
 use Rattle.pdf_font.specs.declared.error.FontError.{FontError}
 use Rattle.pdf_font.specs.declared.font.PdfFont.{PdfFont}
 use Rattle.pdf_source.specs.declared.choice.FontOptions.{FontOptions}
-use Rattle.subsetter_base.specs.declared.error.Error.{Error}
 use Rattle.std.specs.Prelude.{ℤ}
 use Rattle.subsetter_pdf_c.specs.Entries.{uses_in}
 use Rattle.subsetter_c.specs.Documents.PdfFonts.{IsEmpty, IsFontRefused, IsLaidOut, refusal_status}
@@ -21,8 +20,8 @@ own_size = 368
 abbrev pub tag_number : Tag → ℕ
 tag_number tag = be tag.0
 
--- a font, and the lists that it was made of: a font of glyphs with their texts has no CIDToGIDMap as a stream
-pub record IsWholeLaidOut (f : PdfFont) (glyphs text ends : List ℕ) (made : FontMade) : Type 0 where
+-- a font with these bytes of CIDToGIDMap, and the lists that it was made of
+pub record IsWholeLaidOut (f : PdfFont) (glyphs text ends glyph_map : List ℕ) (made : FontMade) : Type 0 where
   pub size : made.size ≡ own_size
   pub units_per_em : made.units_per_em ≡ f.units_per_em
   pub pdf : IsLaidOut f made.pdf
@@ -31,7 +30,7 @@ pub record IsWholeLaidOut (f : PdfFont) (glyphs text ends : List ℕ) (made : Fo
   pub glyphs_are : made.glyphs.now ≡ glyphs
   pub text_is : made.text.now ≡ text
   pub ends_are : made.ends.now ≡ ends
-  pub cid_to_gid_map : made.cid_to_gid_map.now ≡ []
+  pub cid_to_gid_map : made.cid_to_gid_map.now ≡ glyph_map
 
 -- all lists are empty, and all numbers 0, but for the size
 pub record IsWholeEmpty (made : FontMade) : Type 0 where
@@ -45,9 +44,9 @@ pub record IsWholeEmpty (made : FontMade) : Type 0 where
   pub ends : made.ends.now ≡ []
   pub cid_to_gid_map : made.cid_to_gid_map.now ≡ []
 
--- a font is handed over, or an error
+-- a font of glyphs with their texts is handed over, or an error
 pub data IsWholeHandedBy (Is : PdfFont → Type 0) (Why : FontError → Type 0) (glyphs text ends : List ℕ) (made : FontMade) (status : ℕ) : Type 0 where
-  whole : (f : PdfFont) → Is f → IsWholeLaidOut f glyphs text ends made → status ≡ 0 → IsWholeHandedBy Is Why glyphs text ends made status
+  whole : (f : PdfFont) → Is f → IsWholeLaidOut f glyphs text ends [] made → status ≡ 0 → IsWholeHandedBy Is Why glyphs text ends made status
   refused : (e : FontError) → Why e → IsWholeEmpty made → status ≡ refusal_status e → IsWholeHandedBy Is Why glyphs text ends made status
 
 -- what a PDF has of a font is handed over, for options that the words choose

@@ -2,9 +2,12 @@
 
 ghost use Rattle.std.specs.Prelude.{◌≡◌};
 
+use crate::settings::Coordinate;
+use pdf_operators::GlyphMetrics;
 use pdf_text::Column;
 use subsetter_pdf_c::PdfPart;
 pub use subsetter_pdf_c::kept_bytes;
+use subsetter_text_c::TextPair;
 
 /// Numbers of 16 bits.
 pub fn kept_shorts(numbers: Vec<u16>) -> &'static [u16]
@@ -64,4 +67,34 @@ pub fn kept_parts(parts: Vec<PdfPart>) -> &'static [PdfPart]
         return &[];
     }
     parts.leak()
+}
+
+/// Coordinates.
+pub fn kept_coordinates(coordinates: Vec<Coordinate>) -> &'static [Coordinate]
+    ensures { result.now ≡ coordinates.items }
+{
+    if coordinates.is_empty() {
+        return &[];
+    }
+    coordinates.leak()
+}
+
+/// Metrics of glyphs.
+pub fn kept_metrics(metrics: Vec<GlyphMetrics>) -> &'static [GlyphMetrics]
+    ensures { result.now ≡ metrics.items }
+{
+    if metrics.is_empty() {
+        return &[];
+    }
+    metrics.leak()
+}
+
+/// What codes draw and say.
+pub fn kept_pairs(pairs: Vec<TextPair>) -> &'static [TextPair]
+    ensures { result.now ≡ pairs.items }
+{
+    if pairs.is_empty() {
+        return &[];
+    }
+    pairs.leak()
 }

@@ -7,6 +7,8 @@ use subsetter::Error;
 
 /// Everything was done.
 pub const DONE: u32 = 0;
+/// A request for memory was refused.
+pub const OUT_OF_MEMORY: u32 = 7;
 /// A buffer is too small.
 pub const TOO_SMALL: u32 = 8;
 /// The limit of the depth is 0, at which no charstring can run.
@@ -18,6 +20,8 @@ pub const UNKNOWN_OPTION: u32 = 10;
 pub const NOT_PERMITTED: u32 = 11;
 /// A text isn't one, or is too long.
 pub const INVALID_TEXT: u32 = 12;
+/// There would be more than 65,535 codes.
+pub const OVERFULL: u32 = 15;
 /// The numbers of objects aren't distinct, one is 0, or there are too few or too many.
 pub const INVALID_NUMBERS: u32 = 16;
 
@@ -55,6 +59,7 @@ pub fn status_text(status: u32) -> &'static [u8]
         10 => b"unknown option",
         11 => b"embedding not permitted",
         12 => b"invalid text",
+        15 => b"too many codes",
         16 => b"invalid numbers",
         _ => b"unknown status",
     }

@@ -83,7 +83,7 @@ fn tag_numbers(alloc: Global, tags: &[Tag]) -> Result<Vec<u32>, AllocError>
 
 /// The lists of a font beside those for a PDF, and of what it was made of.
 #[derive(Drop)]
-struct Further {
+pub struct Further {
     exact_widths: Vec<u16>,
     unknown_axes: Vec<u32>,
     glyphs: Vec<u16>,
@@ -92,7 +92,7 @@ struct Further {
 }
 
 /// Copies of these lists.
-fn further_of(
+pub fn further_of(
     alloc: Global,
     font: &PdfFont,
     glyphs: &[u16],
@@ -120,11 +120,11 @@ fn further_of(
     })
 }
 
-/// A font that stays until the caller gives it back.
-fn whole_laid_out(font: PdfFont, further: Further) -> FontMade
+/// A font with these bytes of CIDToGIDMap that stays until the caller gives it back.
+pub fn whole_laid_out(font: PdfFont, further: Further, cid_to_gid_map: &'static [u8]) -> FontMade
     requires widths { further.exact_widths.items ≡ font.exact_widths.items }
     requires axes { further.unknown_axes.items ≡ map tag_number font.unknown_axes.items }
-    ensures { IsWholeLaidOut font further.glyphs.items further.text.items further.ends.items result }
+    ensures { IsWholeLaidOut font further.glyphs.items further.text.items further.ends.items cid_to_gid_map.now result }
 {
     let units_per_em = u32::from(font.units_per_em);
     FontMade {
@@ -136,7 +136,7 @@ fn whole_laid_out(font: PdfFont, further: Further) -> FontMade
         glyphs: kept_shorts(further.glyphs),
         text: kept_words(further.text),
         ends: kept_sizes(further.ends),
-        cid_to_gid_map: &[],
+        cid_to_gid_map,
     }
 }
 
@@ -160,7 +160,7 @@ fn hand_whole(
     };
     match further_of(alloc, &font, glyphs, text, ends) {
         Ok(further) => {
-            *made = whole_laid_out(font, further);
+            *made = whole_laid_out(font, further, &[]);
             DONE
         }
         Err(error) => {

@@ -19,6 +19,7 @@ pub use crate::proved::pdf_text::{NamedCmap, ProgramKind};
 pub use crate::proved::pdf_values::{Bounds, Permission, Rights, Usage};
 #[cfg(feature = "program")]
 pub use crate::proved::subsetter::Limits;
+pub use crate::proved::subsetter::Tag;
 pub use call::pdf_font;
 pub use error::FontError;
 pub use font::PdfFont;

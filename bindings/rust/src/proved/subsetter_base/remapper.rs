@@ -76,6 +76,13 @@ impl<C: CheckedAdd, T: Copy + Eq + Hash> Remapper<C, T> {
         self.counter = next;
         Ok(new)
     }
+
+    /// The values, by their new numbers.
+    pub fn sorted_iter(&self) -> SortedIter<'_, T> {
+        SortedIter {
+            rest: &self.backward,
+        }
+    }
 }
 
 /// Remappers are equal where their lists are.
@@ -91,5 +98,23 @@ impl<C: CheckedAdd, T: Copy + Eq + Hash> Eq for Remapper<C, T> {}
 impl<C: CheckedAdd, T: Copy + Eq + Hash> Hash for Remapper<C, T> {
     fn hash<H: Hasher>(&self, state: &mut H) {
         self.backward.hash(state);
+    }
+}
+
+/// The values of a remapper, by their new numbers.
+pub struct SortedIter<'a, T: Copy> {
+    rest: &'a [T],
+}
+
+impl<'a, T: Copy> Iterator for SortedIter<'a, T> {
+    type Item = T;
+
+    fn next(&mut self) -> Option<T> {
+        let rest = self.rest;
+        if rest.is_empty() {
+            return None;
+        }
+        self.rest = &rest[1..];
+        Some(rest[0])
     }
 }

@@ -19,6 +19,7 @@ returns-in-Ok-further_of c =
       glyphs_are = w.glyphs_are ∙ e.glyphs;
       text_is = w.text_is ∙ e.text;
       ends_are = w.ends_are ∙ e.ends;
+      cid_to_gid_map = w.cid_to_gid_map;
     }) refl
 
 pub returns-in-Err-further_of : goal.returns-in-Err-further_of

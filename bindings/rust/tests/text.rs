@@ -1,0 +1,253 @@
+//! The calls of `subsetter::pdf::Text`: operators that were worked by hand, and lines that readers find again.
+#![cfg(feature = "variable-fonts")]
+
+use std::fs;
+use std::process::Command;
+use subsetter::pdf::{
+    glyphs_of, ClusterUnit, Direction, FontError, FontOptions, Item, Order, Rights, Run, RunDirection, ShapedGlyph,
+    Text, TextError, TextOptions,
+};
+use subsetter::{Error, Limits, Tag};
+use RunDirection::{LeftToRight, RightToLeft, TopToBottom};
+
+const DATA: &str = concat!(env!("CARGO_MANIFEST_DIR"), "/tests/data/");
+
+fn made(name: &str) -> Vec<u8> {
+    fs::read(DATA.to_string() + name).unwrap()
+}
+
+fn item(glyph: u16, text: Option<&str>, x_advance: i32) -> Item<'_> {
+    Item { glyph, text, x_advance, ..Item::default() }
+}
+
+fn operators(run: Result<Run, TextError>) -> String {
+    String::from_utf8(run.unwrap().operators).unwrap()
+}
+
+/// The em has 2048 units; W is 667 for glyphs 1 and 2 (1366), 556 for 5 (1139) and 333 for 7 (683).
+#[test]
+fn runs_are_shown_as_worked_by_hand() {
+    let font = made("made.ttf");
+    let options = TextOptions::new();
+    let mut text = Text::new(&font, 0, &[], &options).unwrap();
+    // A ligature, a pair drawn nearer by 100 (from 1841 on, not 1890), and a B whose 0.67 thousandths come behind it.
+    let line =
+        [item(1, Some("A"), 1366), item(5, Some("fi"), 1139), item(1, Some("A"), 1266), item(2, Some("B"), 1366)];
+    let run = text.run(&line, LeftToRight, 12_000).unwrap();
+    assert_eq!(run.advance, 2508);
+    assert_eq!(operators(Ok(run)), "[ <0001000200030001> ] TJ\n[ 49 <0004> ] TJ\n");
+    // From right to left: the characters of a glyph go leftwards, and codes stay.
+    let word = [item(5, Some("if"), 1139), item(1, Some("A"), 1366)];
+    assert_eq!(operators(text.run(&word, RightToLeft, 12_000)), "[ <000200030001> ] TJ\n");
+    let font = text.font(&FontOptions::new()).unwrap();
+    assert_eq!(font.widths(), [500, 667, 556, 0, 667]);
+    // A mark 1024 back and 205 up, a tenth of the em: the rise of 12 points is 1.2.
+    let mark = Item { glyph: 7, x_offset: -1024, y_offset: 205, ..Item::default() };
+    let marked = [item(1, Some("A\u{301}"), 1366), mark];
+    let span = "/Span << /ActualText <FEFF00410301> >> BDC\n[ <0001> ] TJ\n1.200000 Ts\n[ 500 <0005> ] TJ\nEMC\n[ -167 ] TJ\n0.000000 Ts\n";
+    assert_eq!(operators(text.run(&marked, LeftToRight, 12_000)), span);
+    // A later font has the codes of the earlier one.
+    let later = text.font(&FontOptions::new()).unwrap();
+    assert_eq!(later.widths(), [500, 667, 556, 0, 667, 333]);
+    let line = later.to_unicode().windows(13).any(|it| it == b"<0005> <0301>");
+    assert!(line && text.font(&FontOptions::new()).unwrap().program() == later.program());
+    assert_eq!(text.advances(&[0, 5, 7, 11]), Ok(vec![500, 556, 333, 0]));
+    assert_eq!(text.advances(&[12]), Err(Error::MalformedFont));
+}
+
+#[test]
+fn logical_order_is_a_choice() {
+    let font = made("made.ttf");
+    let word = [item(2, Some("b"), 1366), item(1, Some("a"), 1024)];
+    for (order, wanted) in [
+        (Order::Visual, "[ <00010002> ] TJ\n[ 167 ] TJ\n"),
+        (Order::Logical, "[ -667 <0002> ] TJ\n[ 1334 <0001> ] TJ\n[ -500 ] TJ\n"),
+    ] {
+        let mut text = Text::new(&font, 0, &[], &TextOptions::new().order(order)).unwrap();
+        assert_eq!(operators(text.run(&word, RightToLeft, 12_000)), wanted);
+    }
+}
+
+/// What `hb-shape --direction=ttb` says of "Aﬁ😀": glyph, x_offset, y_offset, y_advance. Columns have the same origins.
+#[test]
+fn columns_go_downwards() {
+    for (name, line) in [
+        ("made.ttf", [(1, -683, -1802, -2048), (5, -569, -1802, -1024), (6, -1024, -1902, -2048)]),
+        ("made.otf", [(1, -333, -880, -1000), (5, -278, -700, -500), (6, -500, -880, -1000)]),
+    ] {
+        let font = made(name);
+        let mut text = Text::new(&font, 0, &[], &TextOptions::new().direction(Direction::Vertical)).unwrap();
+        let mut items = line.map(|(glyph, x_offset, y_offset, y_advance)| Item {
+            glyph,
+            text: None,
+            x_advance: 0,
+            y_advance,
+            x_offset,
+            y_offset,
+        });
+        for (item, text) in items.iter_mut().zip(["A", "\u{fb01}", "\u{1f600}"]) {
+            item.text = Some(text);
+        }
+        let run = text.run(&items, TopToBottom, 12_000).unwrap();
+        assert_eq!((run.advance, operators(Ok(run))), (-2500, "[ <000100020003> ] TJ\n".to_string()), "{name}");
+        let shown = glyphs_of(&font, 0, "A\u{fb01}\u{1f600}").unwrap();
+        assert_eq!(operators(text.plain(&shown, 12_000)), "[ <000100020003> ] TJ\n", "{name}");
+        assert_eq!(text.advances(&[1, 5]), Ok(vec![-1000, -500]));
+        let made = text.font(&FontOptions::new().rights(Rights::Held)).unwrap();
+        let downwards: Vec<i32> = made.columns().unwrap().each.iter().map(|it| it.advance).collect();
+        assert_eq!(downwards, [-1000, -1000, -500, -1000]);
+        assert_eq!(text.run(&items, LeftToRight, 12_000), Err(TextError::InvalidText));
+    }
+}
+
+#[test]
+fn clusters_are_counted_in_three_units() {
+    let font = made("made.ttf");
+    let text = "Á\u{1f600}A";
+    for (unit, clusters) in
+        [(ClusterUnit::Utf8, [0, 2, 6]), (ClusterUnit::Utf16, [0, 1, 3]), (ClusterUnit::Utf32, [0, 1, 2])]
+    {
+        let mut shown = Text::new(&font, 0, &[], &TextOptions::new().clusters(unit)).unwrap();
+        let glyphs = [(8, 1366), (6, 2048), (1, 1366)];
+        let mut line = [ShapedGlyph::default(); 3];
+        for ((glyph, cluster), (glyph_id, x_advance)) in line.iter_mut().zip(clusters).zip(glyphs) {
+            *glyph = ShapedGlyph { glyph_id, cluster, x_advance, ..ShapedGlyph::default() };
+        }
+        let run = shown.shaped(text, &line, LeftToRight, 12_000);
+        assert_eq!(operators(run), "[ <000100020003> ] TJ\n", "{unit:?}");
+        let plain = shown.plain(&glyphs_of(&font, 0, text).unwrap(), 12_000);
+        assert_eq!(operators(plain), "[ <000100020003> ] TJ\n", "{unit:?}");
+        line[2].cluster -= 1;
+        let inside = shown.shaped(text, &line, LeftToRight, 12_000);
+        let is_inside = unit != ClusterUnit::Utf32;
+        assert_eq!(inside == Err(TextError::InvalidText), is_inside, "{unit:?}");
+    }
+}
+
+#[test]
+fn what_is_no_run_is_refused() {
+    let font = made("made.ttf");
+    let mut text = Text::new(&font, 0, &[], &TextOptions::new()).unwrap();
+    let raised = Item { y_advance: 1, ..item(1, Some("A"), 1366) };
+    for (items, direction) in [
+        ([item(1, None, 1366), item(1, Some("A"), 1366)], LeftToRight),
+        ([item(1, Some("A"), 1366), item(12, Some("A"), 1366)], LeftToRight),
+        ([item(1, Some("A"), i32::MAX), item(1, Some("A"), i32::MAX)], LeftToRight),
+        ([item(1, Some("A"), 1366), raised], RightToLeft),
+        ([item(1, Some("A"), 0), item(1, Some("A"), 0)], TopToBottom),
+    ] {
+        let refused = text.run(&items, direction, 12_000);
+        assert_eq!(refused, Err(TextError::InvalidText), "{items:?}");
+    }
+    let none = text.run(&[], LeftToRight, 12_000);
+    assert_eq!(none, Ok(Run { operators: vec![], advance: 0 }));
+    // Nothing has a code but glyph 0.
+    assert_eq!(text.font(&FontOptions::new()).unwrap().glyph_count(), 1);
+    // More than 65,534 characters of a glyph.
+    let characters: Vec<String> = ('\u{e000}'..'\u{1f000}').map(String::from).collect();
+    let each: Vec<Item> = characters.iter().map(|it| item(1, Some(it), 1366)).collect();
+    assert!(text.run(&each[..40_000], LeftToRight, 1).is_ok());
+    assert_eq!(text.run(&each, LeftToRight, 1), Err(TextError::Overfull));
+    assert_eq!(text.run(&each[..40_000], LeftToRight, 1).map(|it| it.advance), Ok(26_679_688));
+}
+
+#[test]
+fn errors_and_rights() {
+    let limits = Limits::new(1, 1).unwrap();
+    let new = |data, limits| Text::new(data, 0, &[], &TextOptions::new().limits(limits)).err();
+    assert_eq!(new(b"no font", limits), Some(Error::UnknownKind));
+    // `fsType` counts when the font is made.
+    let closed = made("made.otf");
+    let mut text = Text::new(&closed, 0, &[], &TextOptions::new()).unwrap();
+    text.run(&[item(1, Some("A"), 667), item(1, Some("a"), 667)], LeftToRight, 1).unwrap();
+    let refused = text.font(&FontOptions::new());
+    assert!(matches!(refused, Err(FontError::NotPermitted(_))));
+    // The charstring of A again, for "a"; outlines in `CFF ` have no map.
+    let font = text.font(&FontOptions::new().rights(Rights::Held)).unwrap();
+    assert_eq!((font.glyph_count(), font.widths()), (3, &[500, 667, 667][..]));
+    assert_eq!(font.cid_to_gid_map(), None);
+    assert_eq!(TextError::InvalidText.to_string(), "invalid text");
+    assert_eq!(TextError::from(Error::CFFError).to_string(), Error::CFFError.to_string());
+}
+
+#[test]
+fn the_metrics_are_those_of_the_coordinates() {
+    let font = made("made_variable.ttf");
+    let at = [(Tag::new(b"wght"), 650.0)];
+    let mut text = Text::new(&font, 0, &at, &TextOptions::new()).unwrap();
+    let run = text.plain(&glyphs_of(&font, 0, "AB").unwrap(), 12_000).unwrap();
+    let made = text.font(&FontOptions::new()).unwrap();
+    assert_eq!(made.widths()[1..], text.advances(&[1, 2]).unwrap().iter().map(|it| *it as u32).collect::<Vec<_>>());
+    assert_eq!((made.widths()[1], run.operators), (716, b"[ <00010002> ] TJ\n".to_vec()));
+}
+
+// ---- readers
+
+/// A text, and what `hb-shape --no-glyph-names` says of it in DejaVu Sans: glyph, cluster, advance.
+type Line = (&'static str, RunDirection, &'static [(u32, u32, i32)]);
+
+const LINES: [Line; 2] = [
+    (
+        "office ffi",
+        LeftToRight,
+        &[(82, 0, 1253), (5044, 1, 1980), (70, 4, 1126), (72, 5, 1260), (3, 6, 651), (5044, 7, 1980)],
+    ),
+    ("سلام لا", RightToLeft, &[(5365, 5, 1168), (3, 4, 651), (1390, 3, 1268), (5366, 1, 1222), (5293, 0, 1716)]),
+];
+
+/// A file of a page with these operators.
+fn file(content: &str, text: &Text) -> Vec<u8> {
+    let font = text.font(&FontOptions::new()).unwrap().objects(5).unwrap();
+    let mut file = b"%PDF-1.7\n".to_vec();
+    let mut offsets = vec![];
+    let resources = "/Resources << /Font << /F0 5 0 R >> >>";
+    for object in [
+        "<< /Type /Catalog /Pages 2 0 R >>".to_string(),
+        "<< /Type /Pages /Count 1 /Kids [3 0 R] >>".to_string(),
+        format!("<< /Type /Page /Parent 2 0 R /MediaBox [0 0 300 144] /Contents 4 0 R {resources} >>"),
+        format!("<< /Length {} >>\nstream\n{content}\nendstream", content.len()),
+    ] {
+        offsets.push(file.len());
+        file.extend(format!("{} 0 obj\n{object}\nendobj\n", offsets.len()).bytes());
+    }
+    offsets.extend(font.offsets.iter().map(|it| it + file.len()));
+    file.extend(font.bytes);
+    let (start, size) = (file.len(), offsets.len() + 1);
+    file.extend(format!("xref\n0 {size}\n0000000000 65535 f \n").bytes());
+    file.extend(offsets.iter().flat_map(|it| format!("{it:010} 00000 n \n").into_bytes()));
+    file.extend(format!("trailer\n<< /Size {size} /Root 1 0 R >>\nstartxref\n{start}\n%%EOF\n").bytes());
+    file
+}
+
+/// The lines that a program prints, without marks of direction and blanks at the ends.
+fn printed(program: &str, words: &[&str]) -> Vec<String> {
+    let output = Command::new(program).args(words).output().unwrap();
+    assert!(output.status.success(), "{program}: {output:?}");
+    let text = String::from_utf8(output.stdout).unwrap();
+    let text = text.replace(['\u{202a}', '\u{202b}', '\u{202c}', '\u{200e}', '\u{200f}', '\u{c}'], "");
+    let lines = text.lines().map(|it| it.trim().to_string());
+    lines.filter(|it| !it.is_empty()).collect()
+}
+
+#[test]
+fn readers_find_the_text() {
+    let data = fs::read("/usr/share/fonts/truetype/dejavu/DejaVuSans.ttf").unwrap();
+    let mut text = Text::new(&data, 0, &[], &TextOptions::new().clusters(ClusterUnit::Utf32)).unwrap();
+    let mut content = "BT /F0 24 Tf 36 108 Td\n".to_string();
+    for (line, direction, glyphs) in LINES {
+        let glyph =
+            |&(glyph_id, cluster, x_advance)| ShapedGlyph { glyph_id, cluster, x_advance, ..ShapedGlyph::default() };
+        let glyphs: Vec<ShapedGlyph> = glyphs.iter().map(glyph).collect();
+        content += &operators(text.shaped(line, &glyphs, direction, 24_000));
+        content += "0 -48 Td\n";
+    }
+    let path = concat!(env!("CARGO_TARGET_TMPDIR"), "/text.pdf");
+    fs::write(path, file(&(content + "ET"), &text)).unwrap();
+    assert_eq!(printed("pdftotext", &["-enc", "UTF-8", path, "-"]), LINES.map(|it| it.0));
+    // MuPDF gives what is seen from left to right.
+    let seen = LINES.map(|(line, direction, _)| match direction {
+        RightToLeft => line.chars().rev().collect(),
+        _ => line.to_string(),
+    });
+    assert_eq!(printed("mutool", &["draw", "-q", "-F", "txt", path]), seen);
+}

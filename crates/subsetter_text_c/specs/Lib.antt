@@ -1,0 +1,4 @@
+pub mod Pairs
+pub mod Items
+pub mod Units
+pub mod Shown
