@@ -1,5 +1,4 @@
 """What differs between the values and the file of a case and the rules, and what readers see of it: for pdf_font.py."""
-import base64
 import io
 from fractions import Fraction
 
@@ -9,6 +8,7 @@ import pdf_rules as rules
 from fontTools.pens.basePen import NullPen
 from fontTools.ttLib import TTFont
 from pdf_file import Face, Pdf, archival, embedded, pages
+from pdf_readers import stream
 
 
 def outcome(case, made):
@@ -124,10 +124,6 @@ def faults_of_values(case, made, font):
 
 # ---- the objects of a file
 
-def stream(objects, reference):
-    return base64.b64decode(objects[reference]["stream"]["data"]), objects[reference]["stream"]["dict"]
-
-
 def faults_of_file(case, font, path):
     """What qpdf finds in a file otherwise than the rules."""
     wrong, objects = [], readers.objects_of(path)
@@ -197,8 +193,8 @@ def faults_of_text(case, font):
     wrong, wants = [], readers.letters("".join(text for _, text in case.shown))
     is_simple = all(rules.is_said(case.shown, font.codes)) and len(set(case.shown)) == len({glyph for glyph, _ in case.shown})
     is_simple = is_simple and all(len(text) == 1 or max(text) < "\U00010000" for _, text in case.shown)
-    for reader, read in (("Poppler", readers.text_by_poppler), ("MuPDF", readers.text_by_mupdf))[:1 + is_simple]:
-        has = readers.letters(read(case.file("grid.pdf")))
+    for reader, *more in (("Poppler", "-raw"), ("MuPDF",))[:1 + is_simple]:
+        has = readers.letters(readers.text_by(reader, case.file("grid.pdf"), *more))
         if has != wants and not (rules.is_right_to_left(wants) and sorted(has) == sorted(wants)):
             compared(wrong, f"the text by {reader}", has, wants)
     return wrong, is_simple

@@ -1,4 +1,5 @@
 """The PDF readers of Debian that the comparisons of PDF fonts ask: whether a file is in order, its text, its picture."""
+import base64
 import io
 import json
 import os
@@ -9,12 +10,13 @@ import tempfile
 import unicodedata
 from fractions import Fraction
 
+import build
 import fonts
 
-JAVA = "/usr/share/java"
-JARS = "preflight pdfbox2 pdfbox2-tools fontbox2 xmpbox commons-logging javax.activation jaxb-api".split()
+CLASSES = ":".join(f"/usr/share/java/{it}.jar" for it in "preflight pdfbox2 pdfbox2-tools fontbox2 xmpbox commons-logging javax.activation jaxb-api".split())
 PACKAGES = ["qpdf", "poppler-utils", "mupdf-tools", "ghostscript", "python3-pil", "python3-fonttools"]
 PDFBOX = ["libpdfbox2-java", "libactivation-java", "libjaxb-api-java"] + ([] if shutil.which("java") else ["default-jre-headless"])
+PDFJS = ["libjs-pdf"] + ([] if shutil.which("node") else ["nodejs"])
 DPI = 100
 
 
@@ -47,6 +49,12 @@ def objects_of(path):
     return {name.removeprefix("obj:"): it for name, it in said["qpdf"][1].items()}
 
 
+def stream(objects, reference):
+    """The bytes of a stream, without its filter, and its dictionary."""
+    found = objects[reference]["stream"]
+    return base64.b64decode(found["data"]), found["dict"]
+
+
 # ---- text
 
 def letters(text):
@@ -54,12 +62,19 @@ def letters(text):
     return "".join(it for it in text if not it.isspace() and unicodedata.category(it) not in ("Cc", "Cf"))
 
 
-def text_by_poppler(path):
-    return ran("pdftotext", "-raw", "-enc", "UTF-8", path, "-").decode("utf-8", "replace")
+# What prints the text of a file.
+TEXTS = {
+    "Poppler": ["pdftotext", "-enc", "UTF-8", "FILE", "-"],
+    "MuPDF": ["mutool", "draw", "-q", "-F", "txt", "FILE"],
+    "Ghostscript": ["gs", "-q", "-dSAFER", "-dNOPAUSE", "-dBATCH", "-sDEVICE=txtwrite", "-sOutputFile=-", "FILE"],
+    "PDFBox": ["java", "-Djava.awt.headless=true", "-cp", CLASSES, "org.apache.pdfbox.tools.ExtractText", "-console", "-encoding", "UTF-8", "FILE"],
+    "pdf.js": ["node", os.path.join(build.DRIVERS, "pdfjs.mjs"), "FILE"],
+}
 
 
-def text_by_mupdf(path):
-    return ran("mutool", "draw", "-q", "-F", "txt", path).decode("utf-8", "replace")
+def text_by(reader, path, *more):
+    program, *words = TEXTS[reader]
+    return ran(program, *more, *(path if it == "FILE" else it for it in words)).decode("utf-8", "replace")
 
 
 def picture(data):
@@ -114,7 +129,7 @@ def is_blank(it):
 def preflight(paths, room):
     """What PDFBox's preflight says of files as PDF/A-1b: a list of faults for each."""
     listed = fonts.put(os.path.join(room, "preflight"), "\n".join(paths) + "\n")
-    words = ["java", "-cp", ":".join(f"{JAVA}/{it}.jar" for it in JARS), "org.apache.pdfbox.preflight.Validator_A1b", "xml", "group", listed]
+    words = ["java", "-cp", CLASSES, "org.apache.pdfbox.preflight.Validator_A1b", "xml", "group", listed]
     done = subprocess.run(words, stdout=subprocess.PIPE, stderr=subprocess.PIPE, text=True)
     report = listed + ".preflight.xml"
     if not os.path.exists(report):

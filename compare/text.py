@@ -1,0 +1,249 @@
+"""Do PDF readers give lines of shaped text back, and is each glyph where the shaper has it?: text --lines N (of each script)
+
+Each line of text.tsv is shaped by HarfBuzz (hb-shape, its default clusters), shown by the Python call PdfText, and embedded in a PDF of its own.
+
+- `qpdf --check` finds nothing in it; with all lines PDFBox's preflight finds it valid as PDF/A-1b.
+- Each outline lies within half a thousandth of the em of where the shaper has it, and so does the pen at the end of a run: operators, widths, map and
+  program of the file are read here (ISO 32000-1, 9.4.4, 9.7.4), and HarfBuzz draws the glyphs of the program and of the source.
+- The reader's text is the line's: exactly (2), after marks of direction are taken out, NFC, each space of category Zs as U+0020, no blanks at the ends, and
+  no line ends in a column; or nearly (1), but for blanks and default ignorables. MuPDF and Ghostscript know no directions: of these the order in which
+  letters or clusters stand counts, too. It fails where a reader gives back less than text.tsv says, and says where it gives more.
+
+In text.tsv `runs` are a text, its direction, script and language each, as they stand on the line from the left; `texts` are those of single glyphs.
+"""
+import csv
+import functools
+import json
+import os
+import re
+import tempfile
+import unicodedata
+from fractions import Fraction
+from types import SimpleNamespace
+
+import build
+import fonts
+import made
+import pdf_readers as readers
+import pdf_rules as rules
+import report as reports
+from harfbuzz import HarfBuzz, path_distance
+from pdf_file import FIRST, Face, archival
+from report import Report
+
+SIZE = 24
+TOKEN = re.compile(r"<[0-9A-F]*>|/\w+|[][]|<<|>>|-?[\d.]+|\w+")
+DIRECTION = re.compile("[\u200e\u200f\u202a-\u202e\u2066-\u2069]")
+IGNORED = re.compile("[\u00ad\u034f\u200b-\u200d\u2060\ufe00-\ufe0f\ufeff\U000e0100-\U000e01ef\\s]")
+CANARY = build.Canary()
+
+
+@functools.cache
+def calls():
+    return build.Calls().module
+
+
+# ---- the lines
+
+class Run:
+    """A text, its direction, and its glyphs as hb-shape says them."""
+
+    def __init__(self, font, features, text, *words):
+        self.text, self.direction = text, words[0] if words else "ltr"
+        given = [f"--{name}={value}" for name, value in [*zip(("direction", "script", "language"), words), ("features", features)] if value]
+        said = readers.ran("hb-shape", "--output-format=json", "--no-glyph-names", f"--font-file={font}", f"--text={text}", *given)
+        self.glyphs = [SimpleNamespace(codepoint=it["g"], cluster=it["cl"], x_advance=it.get("ax", 0), y_advance=it.get("ay", 0), x_offset=it.get("dx", 0), y_offset=it.get("dy", 0))
+                       for it in json.loads(said)]
+
+    def clusters(self):
+        """Their texts, as they stand."""
+        begins = list(dict.fromkeys(it.cluster for it in self.glyphs))
+        ends = dict(zip(sorted(begins), [*sorted(begins)[1:], len(self.text)]))
+        return [self.text[it:ends[it]] for it in begins]
+
+    def drawn(self, source):
+        """The outlines as the shaper has them, in thousandths, and the end of the pen."""
+        x, y, found = 0, 0, []
+        for it in self.glyphs:
+            found += moved(source.drawn(it.codepoint), (x + it.x_offset) * source.thousandth, (y + it.y_offset) * source.thousandth, source.thousandth)
+            x, y = x + it.x_advance, y + it.y_advance
+        return found, (x + y) * source.thousandth
+
+
+class Line:
+    def __init__(self, row):
+        self.name, self.script, self.floor = row["name"], row["script"], {it: int(row[it]) for it in readers.TEXTS}
+        self.font, self.texts = os.path.join("/usr/share", row["font"]), json.loads(row["texts"] or "[]")
+        self.runs = [Run(self.font, row["features"], *it) for it in json.loads(row["runs"])]
+        self.is_vertical = self.runs[0].direction == "ttb"
+
+    def wanted(self, reader):
+        """The texts that count."""
+        if self.texts:
+            return {plain("".join(self.texts))}
+        backward = any(it.direction == "rtl" for it in self.runs)
+        found = {"".join(it.text for it in (self.runs[::-1] if backward else self.runs))}
+        if reader in ("MuPDF", "Ghostscript"):
+            found |= {"".join(it.text[::-1] if it.direction == "rtl" else it.text for it in self.runs), "".join("".join(it.clusters()) for it in self.runs)}
+        return set(map(plain, found))
+
+    def write(self, path):
+        """Writes the PDF; the operators of each run."""
+        shown, ends, data = [], [0, 0], fonts.content(self.font)
+        with calls().PdfText(data, vertical=self.is_vertical, rights="held") as text:
+            for run in self.runs:
+                if self.texts:
+                    shown.append(text.run([(it.codepoint, said) for it, said in zip(run.glyphs, self.texts)], run.direction, SIZE))
+                else:
+                    shown.append(text.shaped(run.text, run.glyphs, run.glyphs, run.direction, SIZE))
+                ends = [end + sum(getattr(it, name) for it in run.glyphs) * SIZE // text.units_per_em for end, name in zip(ends, ("x_advance", "y_advance"))]
+            objects = text.font(hinting=False, cid_set=True).objects(FIRST)
+        content = f"BT /F0 {SIZE} Tf {60 if ends[1] else 30} {40 - ends[1]} Td\n" + "".join(it.decode() for it in shown) + "ET"
+        fonts.put(path, archival(*objects, content, (120 + ends[0], 90 - ends[1])))
+        return [it.decode() for it in shown]
+
+
+def lines(words):
+    """So many rows of each script."""
+    with open(os.path.join(build.HERE, "text.tsv"), encoding="utf-8", newline="") as file:
+        rows, count = list(csv.DictReader(file, delimiter="\t", quoting=csv.QUOTE_NONE)), {}
+    for row in rows:
+        count[row["script"]] = count.get(row["script"], 0) + (words.only in row["name"])
+        if words.only in row["name"] and count[row["script"]] <= words.lines:
+            yield row
+
+
+# ---- a second reading of the file
+
+def moved(path, x, y, scale):
+    """A path at a place, and at a scale."""
+    return [(kind, *(value * scale + float((x, y)[k % 2]) for k, value in enumerate(numbers))) for kind, *numbers in path]
+
+
+def placed(operators, advances):
+    """Each code with how far along the pen is and how far up it stands, in thousandths; and where the pen ends."""
+    found, at, rise, is_array, tokens = [], 0, 0, False, TOKEN.findall(operators)
+    for before, token in zip(["", *tokens], tokens):
+        if token in ("[", "]"):
+            is_array = token == "["
+        elif re.match("<[0-9A-F]", token) and before != "/ActualText":
+            for code in (int(token[k:k + 4], 16) for k in range(1, len(token) - 1, 4)):
+                found.append((code, at, rise))
+                at += advances[code]
+        elif token == "Ts":
+            rise = 1000 * Fraction(before) / SIZE
+        elif is_array:
+            at -= Fraction(token)
+        elif token[0].isalpha() and token not in ("TJ", "Tj", "BDC", "EMC"):
+            raise readers.Unread(f"the operator {token}")
+    return found, at
+
+
+class Embedded:
+    """The font of a file: widths or columns, and the outline of each code."""
+
+    def __init__(self, path, source_tables):
+        objects = readers.objects_of(path)
+        values = [it["value"] for it in objects.values() if isinstance(it.get("value"), dict)]
+        below = next(it for it in values if it.get("/Subtype") in ("/CIDFontType0", "/CIDFontType2"))
+        self.widths = rules.widths_in(below.get("/W", []), below.get("/DW", 1000), 65536)
+        self.columns = rules.columns_in(below.get("/W2", []), below.get("/DW2", [880, -1000]), self.widths, 65536)
+        self.is_vertical = any(it.get("/Encoding") == "/Identity-V" for it in values)
+        descriptor = objects[below["/FontDescriptor"]]["value"]
+        if "/FontFile2" in descriptor:
+            data, numbers = readers.stream(objects, descriptor["/FontFile2"])[0], range(65536)
+            if below["/CIDToGIDMap"] != "/Identity":
+                data_of_map = readers.stream(objects, below["/CIDToGIDMap"])[0]
+                numbers = [fonts.u16(data_of_map, at) for at in range(0, len(data_of_map), 2)]
+        else:
+            cff = readers.stream(objects, descriptor["/FontFile3"])[0]
+            tables = [("CFF ", cff), ("head", source_tables["head"])]
+            numbers = {cid: glyph for glyph, cid in enumerate(Face(made.font(tables)).cids(65536))}
+            data = made.font([*tables, ("maxp", made.u16s(0, 0x5000, len(numbers)))], b"OTTO")
+        self.glyph, self.program = numbers, HarfBuzz(fonts.put(path + ".font", data))
+
+    def drawn(self, operators, thousandth):
+        """The outlines that a run draws, and the end of the pen."""
+        found = []
+        codes, end = placed(operators, [it[0] for it in self.columns] if self.is_vertical else self.widths)
+        for code, at, rise in codes:
+            x, y = (-self.columns[code][1], at - self.columns[code][2]) if self.is_vertical else (at, rise)
+            found += moved(self.program.drawn(self.glyph[code]), x, y, thousandth)
+        return found, end
+
+
+def faults_of_places(line, operators, path):
+    """Which runs draw otherwise than the shaper says."""
+    tables = fonts.tables_of(fonts.content(line.font))
+    source, embedded = HarfBuzz(line.font), Embedded(path, tables)
+    source.thousandth = 1000 / fonts.u16(tables["head"], 18)
+    for run, text in zip(line.runs, operators):
+        (ours, end), (theirs, pen) = embedded.drawn(text, source.thousandth), run.drawn(source)
+        far = path_distance(ours, theirs)
+        if far is None:
+            yield f"{run.text}: other outlines"
+        elif max(far, abs(end - pen)) > 0.500001:
+            yield f"{run.text}: {far:.3f} thousandths aside, {abs(end - pen):.3f} at the end"
+
+
+# ---- the texts
+
+def plain(text):
+    text = unicodedata.normalize("NFC", DIRECTION.sub("", text))
+    return "".join(" " if unicodedata.category(it) == "Zs" else it for it in text).strip(" \t\r\n\f")
+
+
+def grade(line, reader, path):
+    """2, 1 or 0, and the text."""
+    got, wanted = plain(readers.text_by(reader, path)), line.wanted(reader)
+    got = re.sub(r"[\r\n]", "", got) if line.is_vertical else got
+    return 2 if got in wanted else int(IGNORED.sub("", got) in {IGNORED.sub("", it) for it in wanted}), got
+
+
+def compare_line(row, asked, room):
+    report, path = Report(row["name"]), os.path.join(room, row["name"] + ".pdf")
+    try:
+        line = Line(row)
+        operators = line.write(path)
+        if CANARY.is_due:
+            CANARY.is_due, operators[0] = False, operators[0].replace("] TJ", "2] TJ", 1)
+        found = [("file", it) for it in readers.faults_by_qpdf(path)] + [("places", it) for it in faults_of_places(line, operators, path)]
+        for reader in asked:
+            came, got = grade(line, reader, path)
+            report.counts.update({(line.script, reader, "exact"): came == 2, (line.script, reader, "near"): came > 0})
+            found += [(reader, f"{came}, not {line.floor[reader]}: {got!r}")] * (came < line.floor[reader])
+            if came > line.floor[reader]:
+                print(f"{line.name}: {reader} {came}, more than {line.floor[reader]}", flush=True)
+        report.counts.update({"lines": 1, (line.script, "", ""): 1})
+    except (readers.Unread, calls().Error, LookupError, ValueError, StopIteration) as error:
+        found = [("not compared", repr(error))]
+    for it in found:
+        report.say(*it)
+    return report
+
+
+def main():
+    words = reports.words(lines=(1000, 2))
+    rows, asked = list(lines(words)), list(readers.TEXTS)[:2 if words.short else None]
+    fonts.install(["libharfbuzz-bin", *readers.PACKAGES, *([] if words.short else readers.PDFBOX + readers.PDFJS), *(it["package"] for it in rows)])
+    calls()
+    with tempfile.TemporaryDirectory(prefix="text-") as room:
+        found = reports.beside(words, compare_line, [(it, asked, room) for it in rows])
+        if 0 < len(found) < len(rows):
+            found[-1].say("time", f"it ended after {len(found)} of {len(rows)} lines")
+        paths = sorted(os.path.join(room, it) for it in os.listdir(room) if it.endswith(".pdf") and not words.short)
+        for path, faults in zip(paths, readers.preflight(paths, room) if paths else ()):
+            found.append(Report(os.path.basename(path)))
+            for it in faults:
+                found[-1].say("PDF/A-1b", it)
+    counts = reports.total(found)
+
+    def said(reader, scripts):
+        exact, near = (sum(counts[script, reader, it] for script in scripts) for it in ("exact", "near"))
+        return f"{exact} ({near})" if near > exact else f"{exact}"
+
+    scripts = list(dict.fromkeys(it["script"] for it in rows))
+    print("\n".join([f"| Script | Lines | {' | '.join(asked)} |", "|---|---:|" + "---:|" * len(asked),
+                     *(f"| {script} | {counts[script, '', '']} | {' | '.join(said(it, [script]) for it in asked)} |" for script in scripts)]))
+    reports.end(found, counts["lines"], f"{counts['lines']} lines of {len(scripts)} kinds of text, exact (or near) {', '.join(f'{said(it, scripts)} by {it}' for it in asked)}"
+                f"{f'; {len(paths)} files valid as PDF/A-1b' if paths else ''}")
