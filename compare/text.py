@@ -9,6 +9,7 @@ Each line of text.tsv is shaped by HarfBuzz (hb-shape, its default clusters), sh
   no line ends in a column; or nearly (1), but for blanks and default ignorables. MuPDF and Ghostscript know no directions: of these the order in which
   letters or clusters stand counts, too. It fails where a reader gives back less than text.tsv says, and says where it gives more.
 
+Whole runs have the lines made by four other programs beside it, as far as these can make them; nothing is demanded of them.
 In text.tsv `runs` are a text, its direction, script and language each, as they stand on the line from the left; `texts` are those of single glyphs.
 """
 import csv
@@ -27,6 +28,7 @@ import made
 import pdf_readers as readers
 import pdf_rules as rules
 import report as reports
+import writers
 from harfbuzz import HarfBuzz, path_distance
 from pdf_file import FIRST, Face, archival
 from report import Report
@@ -74,15 +76,17 @@ class Line:
     def __init__(self, row):
         self.name, self.script, self.floor = row["name"], row["script"], {it: int(row[it]) for it in readers.TEXTS}
         self.font, self.texts = os.path.join("/usr/share", row["font"]), json.loads(row["texts"] or "[]")
-        self.runs = [Run(self.font, row["features"], *it) for it in json.loads(row["runs"])]
-        self.is_vertical = self.runs[0].direction == "ttb"
+        given, self.features = json.loads(row["runs"]), row["features"]
+        self.runs = [Run(self.font, self.features, *it) for it in given]
+        self.is_vertical, self.is_backward = (any(it.direction == way for it in self.runs) for way in ("ttb", "rtl"))
+        self.text = "".join(it.text for it in (self.runs[::-1] if self.is_backward else self.runs))
+        self.language = next((it[3] for it in given if len(it) > 3), "")
 
     def wanted(self, reader):
         """The texts that count."""
         if self.texts:
             return {plain("".join(self.texts))}
-        backward = any(it.direction == "rtl" for it in self.runs)
-        found = {"".join(it.text for it in (self.runs[::-1] if backward else self.runs))}
+        found = {self.text}
         if reader in ("MuPDF", "Ghostscript"):
             found |= {"".join(it.text[::-1] if it.direction == "rtl" else it.text for it in self.runs), "".join("".join(it.clusters()) for it in self.runs)}
         return set(map(plain, found))
@@ -200,13 +204,25 @@ def grade(line, reader, path):
     return 2 if got in wanted else int(IGNORED.sub("", got) in {IGNORED.sub("", it) for it in wanted}), got
 
 
-def compare_line(row, asked, room):
+def grades_of_others(line, room):
+    """The text that readers find in what other programs make of a line."""
+    for name, write in writers.WRITERS.items() if not line.texts else ():
+        path = os.path.join(room, name, line.name + ".pdf")
+        os.makedirs(os.path.dirname(path), exist_ok=True)
+        try:
+            write(line, path)
+            yield from (((name, reader), grade(line, reader, path)[0]) for reader in readers.TEXTS)
+        except (readers.Unread, OSError) as error:
+            print(f"{line.name}: not made by {name}: {error}", flush=True)
+
+
+def compare_line(row, asked, is_short, room):
     report, path = Report(row["name"]), os.path.join(room, row["name"] + ".pdf")
     try:
         line = Line(row)
         operators = line.write(path)
         if CANARY.is_due:
-            CANARY.is_due, operators[0] = False, operators[0].replace("] TJ", "2] TJ", 1)
+            CANARY.is_due, operators[0] = False, operators[0].replace("]TJ", "2]TJ", 1)
         found = [("file", it) for it in readers.faults_by_qpdf(path)] + [("places", it) for it in faults_of_places(line, operators, path)]
         for reader in asked:
             came, got = grade(line, reader, path)
@@ -215,6 +231,8 @@ def compare_line(row, asked, room):
             if came > line.floor[reader]:
                 print(f"{line.name}: {reader} {came}, more than {line.floor[reader]}", flush=True)
         report.counts.update({"lines": 1, (line.script, "", ""): 1})
+        for (name, reader), came in () if is_short else grades_of_others(line, room):
+            report.counts.update({(name, reader, "exact"): came == 2, (name, reader, "near"): came > 0})
     except (readers.Unread, calls().Error, LookupError, ValueError, StopIteration) as error:
         found = [("not compared", repr(error))]
     for it in found:
@@ -225,10 +243,10 @@ def compare_line(row, asked, room):
 def main():
     words = reports.words(lines=(1000, 2))
     rows, asked = list(lines(words)), list(readers.TEXTS)[:2 if words.short else None]
-    fonts.install(["libharfbuzz-bin", *readers.PACKAGES, *([] if words.short else readers.PDFBOX + readers.PDFJS), *(it["package"] for it in rows)])
+    fonts.install(["libharfbuzz-bin", *readers.PACKAGES, *([] if words.short else readers.PDFBOX + readers.PDFJS + writers.PACKAGES), *(it["package"] for it in rows)])
     calls()
     with tempfile.TemporaryDirectory(prefix="text-") as room:
-        found = reports.beside(words, compare_line, [(it, asked, room) for it in rows])
+        found = reports.beside(words, compare_line, [(it, asked, words.short, room) for it in rows])
         if 0 < len(found) < len(rows):
             found[-1].say("time", f"it ended after {len(found)} of {len(rows)} lines")
         paths = sorted(os.path.join(room, it) for it in os.listdir(room) if it.endswith(".pdf") and not words.short)
@@ -244,6 +262,7 @@ def main():
 
     scripts = list(dict.fromkeys(it["script"] for it in rows))
     print("\n".join([f"| Script | Lines | {' | '.join(asked)} |", "|---|---:|" + "---:|" * len(asked),
-                     *(f"| {script} | {counts[script, '', '']} | {' | '.join(said(it, [script]) for it in asked)} |" for script in scripts)]))
+                     *(f"| {script} | {counts[script, '', '']} | {' | '.join(said(it, [script]) for it in asked)} |" for script in scripts),
+                     *(f"| made by {name} | | {' | '.join(said(it, [name]) for it in asked)} |" for name in writers.WRITERS if not words.short)]))
     reports.end(found, counts["lines"], f"{counts['lines']} lines of {len(scripts)} kinds of text, exact (or near) {', '.join(f'{said(it, scripts)} by {it}' for it in asked)}"
                 f"{f'; {len(paths)} files valid as PDF/A-1b' if paths else ''}")

@@ -1,4 +1,4 @@
-"""A PDF of lines in four scripts that HarfBuzz shapes; readers copy and find their text. Its streams are compressed."""
+"""A PDF of lines in five scripts that HarfBuzz shapes, one of them a column; readers copy and find their text. Its streams are compressed."""
 import json
 import subprocess
 import types
@@ -6,31 +6,34 @@ import zlib
 
 import subsetter
 
-FOLDER = "/usr/share/fonts/truetype"
-DEJAVU, LOHIT, GARUDA = f"{FOLDER}/dejavu/DejaVuSans.ttf", f"{FOLDER}/lohit-devanagari/Lohit-Devanagari.ttf", f"{FOLDER}/tlwg/Garuda.ttf"
+FOLDER = "/usr/share/fonts"
+DEJAVU, LOHIT = f"{FOLDER}/truetype/dejavu/DejaVuSans.ttf", f"{FOLDER}/truetype/lohit-devanagari/Lohit-Devanagari.ttf"
+GARUDA, MINCHO = f"{FOLDER}/truetype/tlwg/Garuda.ttf", f"{FOLDER}/opentype/ipaexfont-mincho/ipaexm.ttf"
 LINES = [
     (DEJAVU, "ltr", "Hello, Ελλάδα, office"),
     (DEJAVU, "rtl", "سلام لا"),
     (LOHIT, "ltr", "हिन्दी क्षत्रिय"),
     (GARUDA, "ltr", "ภาษาไทยที่นี่"),
+    (MINCHO, "ttb", "吾輩は猫である"),
 ]
 
 
-def shape(path, line):
+def shape(path, direction, line):
     """What uharfbuzz has as `buffer.glyph_infos` and `buffer.glyph_positions`, by hb-shape."""
-    words = ["hb-shape", "--output-format=json", "--no-glyph-names", path, line]
+    words = ["hb-shape", "--output-format=json", "--no-glyph-names", f"--direction={direction}", path, line]
     glyphs = json.loads(subprocess.run(words, check=True, stdout=subprocess.PIPE).stdout)
     infos = [types.SimpleNamespace(codepoint=it["g"], cluster=it["cl"]) for it in glyphs]
     return infos, [types.SimpleNamespace(x_advance=it["ax"], y_advance=it["ay"], x_offset=it["dx"], y_offset=it["dy"]) for it in glyphs]
 
 
 # The pages come first, and then a font for all runs of a text.
-texts, shows = {}, b"BT 36 200 Td"
-for path, direction, line in LINES:
+texts, shows = {}, b"BT"
+for k, (path, direction, line) in enumerate(LINES):
     if path not in texts:
         with open(path, "rb") as file:
-            texts[path] = subsetter.PdfText(file.read())
-    shows += b" 0 -40 Td /F%d 24 Tf " % list(texts).index(path) + texts[path].shaped(line, *shape(path, line), direction, size=24)
+            texts[path] = subsetter.PdfText(file.read(), vertical=direction == "ttb")
+    shows += b" 1 0 0 1 %d %d Tm" % ((48, 220) if direction == "ttb" else (80, 200 - 40 * k))
+    shows += b" /F%d 24 Tf " % list(texts).index(path) + texts[path].shaped(line, *shape(path, direction, line), direction, size=24)
 content = zlib.compress(shows + b"ET")
 
 objects, fonts = {}, b""

@@ -81,6 +81,10 @@ def c(room, program, compiler=("cc", "-std=c11", "-xc"), libraries=("-lz",)):
     run(room, "./program")
 
 
+def shaped(room, program):
+    c(room, program, libraries=("-I/usr/include/harfbuzz", "-lharfbuzz", "-lz"))
+
+
 def with_qpdf(room, program, libraries=("-lqpdf",)):
     c(room, program, ("c++", "-std=c++17", "-xc++"), libraries)
 
@@ -113,9 +117,9 @@ def test_programs_of_documents(tmp_path, how, document, language):
         demand_pdf(tmp_path)
 
 
-LINES = ["Hello, Ελλάδα, office", "سلام لا", "हिन्दी क्षत्रिय", "ภาษาไทยที่นี่"]
-DEMANDED = {"shaped.py": (LINES, [LINES[0], LINES[1][::-1], *LINES[2:]], 3)}
-EXAMPLES = {"writer.rs": rust, "plain.c": c, "with_qpdf.cc": with_qpdf, "with_podofo.cc": with_podofo, "shaped.mjs": js}
+LINES = ["Hello, Ελλάδα, office", "سلام لا", "हिन्दी क्षत्रिय", "ภาษาไทยที่นี่", "吾輩は猫である"]
+DEMANDED = {"shaped.py": ([LINES[4], *LINES[:4]], [LINES[0], LINES[1][::-1], *LINES[2:]], 4)}
+EXAMPLES = {"writer.rs": rust, "shaped.c": shaped, "with_qpdf.cc": with_qpdf, "with_podofo.cc": with_podofo, "shaped.mjs": js}
 
 
 @pytest.mark.parametrize("name", sorted(it for it in os.listdir(os.path.join(ROOT, "examples")) if it != "README.md"))

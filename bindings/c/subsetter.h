@@ -86,6 +86,8 @@ enum {
     /* A text has a number that is no character, an end that isn't in its order, or more than 256 UTF-16 units, or isn't UTF-8; or
      * glyphs are no run of the font and of their text; of the calls for PDF alone. */
     SUBSETTER_INVALID_TEXT = 12,
+    /* The font has no table by which characters have glyphs; of the calls that look them up alone. */
+    SUBSETTER_NO_CMAP = 13,
     /* The font of a text would have more than 65,535 codes: the run is for another text. */
     SUBSETTER_OVERFULL = 15,
     /* The numbers of objects are too few or too many, 0, or not distinct; of the calls for PDF alone. */
@@ -101,7 +103,7 @@ static inline const char *subsetter_status_text(uint32_t status)
         "the limit of the depth is 0", "unknown option", "embedding not permitted", "invalid text"
     };
     return status < sizeof texts / sizeof *texts ? texts[status]
-           : status == 15 ? "too many codes" : status == 16 ? "invalid numbers" : "unknown status";
+           : status == 13 ? "no usable cmap in font" : status == 15 ? "too many codes" : status == 16 ? "invalid numbers" : "unknown status";
 }
 
 /* This text from the library, in ASCII, without a zero at the end: print it by "%.*s", with (int)length in front.
@@ -216,11 +218,39 @@ typedef struct subsetter_coordinate {
  * The text isn't shaped: there are no ligatures, no kerning and no reordering, which Arabic or Devanagari need.
  *   0: `glyphs` begins with the glyphs, and `*length` is `text_count`.
  *   8: there is room for less than `text_count` glyphs; `glyphs` is as it was, and `*length` is `text_count`.
- *   1, 2, 7, 12: `glyphs` is as it was, and `*length` is 0. 2 also where the font has no Unicode table of the formats 4 and 12.
+ *   1, 2, 7, 12, 13: `glyphs` is as it was, and `*length` is 0.
+ * The table is the first Unicode one of format 12, else of format 4, else of format 0, 6 or 13; else a symbol table, which has the
+ * characters below U+0100 from U+F000 on; else one of Mac OS Roman.
  */
 uint32_t subsetter_glyphs_of(const uint8_t *font, size_t font_size, uint32_t index,
                              const uint32_t *text, size_t text_count,
                              uint16_t *glyphs, size_t glyph_count, size_t *length);
+
+/* A glyph, and the characters of a text that are its text: from `start` up to before `end`. */
+typedef struct subsetter_entry {
+    uint16_t glyph;
+    size_t start;
+    size_t end;
+} subsetter_entry;
+
+/* How many entries there are, and how many places of what the font lacks. */
+typedef struct subsetter_read_sizes {
+    size_t entries;
+    size_t missing;
+} subsetter_read_sizes;
+
+/* The same for what a page shows. A character with a variation selector is one entry, with the glyph of both. A default ignorable
+ * (a soft hyphen, a joiner, a mark of direction) has none: it is text of the entry before it, or of the one after it where none is
+ * before. A control, as a tab or a line end, has none. `missing` are the places of the controls and of the characters that the
+ * font lacks, whose entries have glyph 0. `text_count` items are room enough for each list.
+ *   0: both begin with their lists.
+ *   8: one is too small; both are as they were, and `*sizes` is exact.
+ *   1, 2, 7, 12, 13: both are as they were, and the sizes are 0.
+ */
+uint32_t subsetter_read_text(const uint8_t *font, size_t font_size, uint32_t index,
+                             const uint32_t *text, size_t text_count,
+                             subsetter_entry *entries, size_t entry_count,
+                             size_t *missing, size_t missing_count, subsetter_read_sizes *sizes);
 
 /* The advances of glyphs, horizontal and vertical, at coordinates (none: the font's default), in the font's units: exact, without
  * embedding, and whatever `fsType` permits. `widths` and `heights` have room for `glyph_count` each, and are in the order of

@@ -35,6 +35,13 @@ export class OutOfMemory extends SubsetterError {}
 export class NotPermitted extends SubsetterError {}
 /** A text has an unpaired surrogate, or more than 256 UTF-16 units; or glyphs are no run of the font and of their text. */
 export class InvalidText extends SubsetterError {}
+/** The font has no table by which characters have glyphs. */
+export class NoCmap extends SubsetterError {}
+/** The font lacks characters of a text. */
+export class MissingCharacters extends SubsetterError {
+    /** Their places, as of `TextGlyphs`. */
+    readonly missing: readonly number[];
+}
 /** The font of a PdfText would have more than 65,535 codes: the run is for another one. */
 export class Overfull extends OverflowError {}
 
@@ -109,6 +116,17 @@ export interface Shown {
     readonly glyph: number;
     /** Its text: none, a character, or several (a ligature). */
     readonly text: string;
+}
+
+/** The glyphs of a text. */
+export interface TextGlyphs extends Array<Shown> {
+    /** The places in the text of what the font lacks: controls, which have no entry, and characters whose entry has glyph 0. */
+    readonly missing: readonly number[];
+}
+
+/** What is done about characters that a font lacks: they get glyph 0, as without it, or MissingCharacters is thrown. */
+export interface MissingChoice {
+    readonly missing?: "glyph_0" | "error";
 }
 
 /** What a caller chooses of a font for a PDF. Names of the font and of its glyphs are never kept. */
@@ -383,9 +401,11 @@ export interface Subsetter {
     /**
      * The glyph of each character of a text, by the font's table `cmap`, with the character: what `pdfFont` takes. The text
      * isn't shaped: there are no ligatures, no kerning and no reordering, which Arabic or Devanagari need. A character that the
-     * font doesn't have gets glyph 0. MalformedFont is thrown where the font has no Unicode table of the formats 4 and 12.
+     * font lacks gets glyph 0, or MissingCharacters is thrown. A character with a variation selector is one entry. A default
+     * ignorable (a soft hyphen, a joiner, a mark of direction) is text of the entry before it, or of the one after it where none is
+     * before. A control has no entry, and is among the missing. NoCmap is thrown where the font has no usable table.
      */
-    glyphsOf(data: FontData, text: string, options?: Face): Shown[];
+    glyphsOf(data: FontData, text: string, options?: Face & MissingChoice): TextGlyphs;
     /**
      * The code of each entry, as `pdfFont` gives it: it takes no font, so that pages can be written first. Where a list goes on, the
      * codes of the entries before stay.
@@ -414,7 +434,7 @@ export interface Font {
     /** As `Subsetter.pdfFont`. */
     pdfFont(shown: Iterable<Shown>, options?: PdfChoices & Place): PdfFont;
     /** As `Subsetter.glyphsOf`. */
-    glyphsOf(text: string): Shown[];
+    glyphsOf(text: string, options?: MissingChoice): TextGlyphs;
     /** As `Subsetter.advances`. */
     advances(glyphs: Iterable<number>, options?: Place & { readonly limits?: Limits }): Advances;
     /** As `Subsetter.subset`. */

@@ -35,13 +35,22 @@ export class OutOfMemory extends SubsetterError {}
 export class NotPermitted extends SubsetterError {}
 /** A text has a surrogate that stands alone, or more than 256 UTF-16 units; or glyphs are no run of the font and of their text. */
 export class InvalidText extends SubsetterError {}
+/** The font has no table by which characters have glyphs. */
+export class NoCmap extends SubsetterError {}
+/** The font lacks characters of a text; `missing` are their places. */
+export class MissingCharacters extends SubsetterError {
+    constructor(message, missing = []) {
+        super(message);
+        this.missing = missing;
+    }
+}
 /** The font of a PdfText would have more than 65,535 codes: the run is for another one. */
 export class Overfull extends OverflowError {}
 
 // The names stand in strings, since tools that make scripts smaller rename classes.
 const NAMES = {
     SubsetterError, UnknownKind, MalformedFont, Unimplemented, SubsetError, OverflowError, CFFError, OutOfMemory, NotPermitted,
-    InvalidText, Overfull,
+    InvalidText, NoCmap, MissingCharacters, Overfull,
 };
 for (const [name, error] of Object.entries(NAMES)) {
     Object.defineProperty(error.prototype, "name", { value: name, configurable: true, writable: true });
@@ -51,6 +60,7 @@ for (const [name, error] of Object.entries(NAMES)) {
 const ERRORS = [, UnknownKind, MalformedFont, Unimplemented, SubsetError, OverflowError, CFFError, OutOfMemory];
 ERRORS[11] = NotPermitted;
 ERRORS[12] = InvalidText;
+ERRORS[13] = NoCmap;
 ERRORS[15] = Overfull;
 ERRORS[16] = RangeError;
 const DONE = 0, OUT_OF_MEMORY = 7;
@@ -474,13 +484,13 @@ class Library {
         return this.make(name, font, index, glyphs, choices);
     }
 
-    /** The glyphs of characters by a font that is held here. */
-    glyphsOf(font, index, text) {
-        const given = (at) => [font.at, font.size, index, at, text.length, 0, 0];
-        const { status, buffer, words } = this.#call("subsetter_glyphs_of", [listOf(4, text)], given);
+    /** The entries of characters by a font that is held here, each a glyph with two places, and the places of what it lacks. */
+    readText(font, index, text) {
+        const given = (at) => [font.at, font.size, index, at, text.length, 0, 0, 0, 0];
+        const { status, buffer, words } = this.#call("subsetter_read_text", [listOf(4, text)], given);
         this.#check(status, "subsetter_glyphs_of", font, index);
-        const [at, count] = words.slice(-2);
-        return numbersOf(2, buffer, at, count);
+        const [entriesAt, entryCount, missingAt, missingCount] = words.slice(-4);
+        return { entries: numbersOf(4, buffer, entriesAt, 3 * entryCount), missing: numbersOf(4, buffer, missingAt, missingCount) };
     }
 
     /** A font for a PDF of one that is held here. */
@@ -722,7 +732,25 @@ class PdfFont {
 }
 
 /** Each character of a text with its glyph. */
-const withGlyphs = (text, glyphs) => Array.from(text, (character, i) => ({ glyph: glyphs[i], text: character }));
+function withGlyphs(text, { entries, missing }, choice) {
+    const places = [0];
+    for (const character of text) {
+        places.push(places[places.length - 1] + character.length);
+    }
+    const lacking = missing.map((at) => places[at]);
+    if (choice === 1 && lacking.length > 0) {
+        const named = lacking.slice(0, 3).map((at) => `U+${text.codePointAt(at).toString(16).toUpperCase().padStart(4, "0")} at ${at}`);
+        throw new MissingCharacters(`missing characters: ${named.join(", ")}${lacking.length > 3 ? ", .." : ""}`, lacking);
+    }
+    const found = Array.from({ length: entries.length / 3 }, (_, i) => {
+        const [glyph, start, end] = entries.slice(3 * i, 3 * i + 3);
+        return { glyph, text: text.slice(places[start], places[end]) };
+    });
+    return Object.defineProperty(found, "missing", { value: lacking });
+}
+
+/** What is done about characters that a font lacks. */
+const missingOf = ({ missing }) => oneOf(missing, ["glyph_0", "error"], "missing");
 
 /** A font in the module's memory. */
 class Font {
@@ -749,8 +777,9 @@ class Font {
         return this.#library[name](this.#place, this.#index, ...given);
     }
 
-    glyphsOf(text) {
-        return withGlyphs(text, this.#called("glyphsOf", charactersOf(text)));
+    glyphsOf(text, options) {
+        const choice = missingOf(named(options, ["missing"], "options"));
+        return withGlyphs(text, this.#called("readText", charactersOf(text)), choice);
     }
 
     pdfFont(shown, options) {
@@ -921,8 +950,9 @@ function callsOf(library) {
         return called(name, bytes, index, glyphsOf(glyphs), choices);
     }
     function glyphs(data, text, options) {
-        const bytes = bytesOf(data), index = indexOf(named(options, ["index"], "options"));
-        return withGlyphs(text, called("glyphsOf", bytes, index, charactersOf(text)));
+        const bytes = bytesOf(data), given = named(options, ["index", "missing"], "options");
+        const index = indexOf(given), choice = missingOf(given);
+        return withGlyphs(text, called("readText", bytes, index, charactersOf(text)), choice);
     }
     function pdfFont(data, shown, options) {
         const bytes = bytesOf(data), given = named(options, ["index", ...PDF_CHOICES], "options");

@@ -567,7 +567,7 @@ static void damage(const struct row *row, int times)
         for (uint32_t bytes = below(8); bytes > 0 && other.font_size > 0; bytes--)
             other.font[below((uint32_t)other.font_size)] = (uint8_t)below(256);
         uint32_t found = subsetter_glyphs_of(other.font, other.font_size, 0, row->text, row->text_count, glyphs, CHARACTERS, &length);
-        check(found < 8 && (found == 0 ? length == row->text_count : length == 0), "its glyphs", name);
+        check((found < 8 || found == 13) && (found == 0 ? length == row->text_count : length == 0), "its glyphs", name);
         uint32_t status = make(&other, &other.options, &font);
         check(status < 8 || status == 11 || status == 12, "its status", name);
         check(status == 0 || is_nothing(&font), "what is left", name);
@@ -885,6 +885,31 @@ static void try_glyphs(const struct row *row)
     }
 }
 
+/* Entries of a text, and what the font lacks: with sequences, with too little room, and without a usable table. */
+static void try_reading(void)
+{
+    static const uint32_t text[] = {0xfeff, 'A', 0xfe00, 0x4e00, 0xe0101, '\t', 'z'};
+    size_t size;
+    uint8_t *bytes = file_of("made_cmaps.ttc", &size);
+    for (uint32_t face = 5; face < 7; face++)
+        for (size_t room = 1; room < 4; room++) {
+            subsetter_entry entries[4] = {{7, 7, 7}};
+            size_t missing[4] = {9, 9, 9, 9};
+            subsetter_read_sizes sizes = {9, 9};
+            uint32_t status = subsetter_read_text(bytes, size, face, text, 7, entries, room, missing, 3, &sizes);
+            if (face == 6)
+                check(status == 13 && sizes.entries == 0 && sizes.missing == 0 && entries[0].end == 7, "no table", "a text");
+            else
+                check(status == (room < 3 ? 8 : 0) && sizes.entries == 3 && sizes.missing == 2, "sizes", "a text");
+            if (status == 0)
+                check(entries[0].glyph == 1 && entries[0].start == 0 && entries[0].end == 3 && entries[1].glyph == 6 && entries[1].end == 5
+                      && entries[2].glyph == 0 && entries[2].start == 6 && missing[0] == 5 && missing[1] == 6 && missing[2] == 9, "entries", "a text");
+            else
+                check(entries[0].end == 7 && missing[0] == 9, "nothing is written", "a text");
+        }
+    __real_free(bytes);
+}
+
 /* A collection of one face: of another number of a face no bit is lost, and it is refused as such, whatever memory there is. */
 static void try_faces(void)
 {
@@ -1011,7 +1036,7 @@ static void try_units(const uint8_t *bytes, size_t size)
         subsetter_pdf_objects line;
         check(subsetter_new_text(bytes, size, 0, NO_PLACE, NULL, &text) == 0, "a text", "units");
         uint32_t status = subsetter_show_shaped(&text, glyphs, 3, texts[i].units, texts[i].count, texts[i].width, LEFT, &line);
-        check(status == texts[i].status && is_line(&line, status == 0 ? "[ <000100020003> ] TJ\n" : ""), "operators", "units");
+        check(status == texts[i].status && is_line(&line, status == 0 ? "[<000100020003>]TJ\n" : ""), "operators", "units");
         check(text.pair_count == (status == 0 ? 3 : 0) && (status != 0 || text.pairs[1].character == 0x1f600), "pairs", "units");
         subsetter_free_pdf_objects(&line);
         subsetter_free_text(&text);
@@ -1023,8 +1048,8 @@ static void try_units(const uint8_t *bytes, size_t size)
 static void try_runs(void)
 {
     static const char *const lines[] = {
-        "[ <0001000200030001> ] TJ\n[ 49 <0004> ] TJ\n", "[ <000200030001> ] TJ\n",
-        "/Span << /ActualText <FEFF00410301> >> BDC\n[ <0001> ] TJ\n1.200000 Ts\n[ 500 <0005> ] TJ\nEMC\n[ -167 ] TJ\n0.000000 Ts\n", ""};
+        "[<0001000200030001>49<0004>]TJ\n", "[<000200030001>]TJ\n",
+        "/Span << /ActualText <FEFF00410301> >> BDC\n[<0001>]TJ\n1.200 Ts\n[500<0005>]TJ\nEMC\n[-167]TJ\n0 Ts\n", ""};
     static const uint32_t widths[] = {500, 667, 556, 0, 667, 333};
     size_t size;
     uint8_t *bytes = file_of("made.ttf", &size);
@@ -1103,6 +1128,7 @@ int main(int count, char **words)
     __real_free(whole);
     try_limits();
     try_faces();
+    try_reading();
     try_reasons();
     try_runs();
     try_lists_alone();

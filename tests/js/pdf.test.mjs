@@ -8,7 +8,7 @@ import { test } from "node:test";
 import { deflateSync } from "node:zlib";
 import { fonts, latin1, library, made, subsetter, throws } from "./support.mjs";
 
-const { CFFError, InvalidText, MalformedFont, NotPermitted, Overfull, OverflowError, UnknownKind } = library;
+const { CFFError, InvalidText, MalformedFont, MissingCharacters, NoCmap, NotPermitted, Overfull, OverflowError, UnknownKind } = library;
 const TTF = made("made.ttf"), SHOWN = [{ glyph: 1, text: "A" }, { glyph: 5, text: "fi" }, { glyph: 1, text: "a" }];
 
 test("texts", () => {
@@ -18,6 +18,11 @@ test("texts", () => {
         assert.deepEqual(subsetter.pdfFont(TTF, found).codes, [1, 2, 3, 4, 5, 0, 1]);
     }
     assert.deepEqual([subsetter.glyphsOf(TTF, ""), subsetter.pdfFont(TTF, []).codes], [[], []]);
+    const read = opened.glyphsOf("\ufeff\u{1f600}\xad\tz");
+    assert.deepEqual([read, read.missing], [[{ glyph: 6, text: "\ufeff\u{1f600}\xad" }, { glyph: 0, text: "z" }], [4, 5]]);
+    throws(() => opened.glyphsOf("\u{1f600}\tz", { missing: "error" }), MissingCharacters, "missing characters");
+    assert.deepEqual(subsetter.glyphsOf(made("made_cmaps.ttc"), "A\ufe00\u4e00\ufe00", { index: 5, missing: "error" }), [{ glyph: 1, text: "A\ufe00" }, { glyph: 5, text: "\u4e00\ufe00" }]);
+    throws(() => subsetter.glyphsOf(made("made_cmaps.ttc"), "A", { index: 6 }), NoCmap, "no usable table");
     for (const wrong of ["\ud800", "A\udfff", "\ud83dA"]) {
         for (const call of [() => subsetter.glyphsOf(TTF, wrong), () => opened.glyphsOf(wrong), () => subsetter.pdfFont(TTF, [{ glyph: 1, text: wrong }])]) throws(call, InvalidText, "a surrogate");
     }
@@ -148,7 +153,7 @@ test("runs of shaped text", () => {
     const three = [0, 1, 3].map((cl) => ({ ...latin[0], cl }));
     assert.deepEqual(text.shaped("\xe9\u{1d4b3}a", three), text.run(["\xe9", "\u{1d4b3}", "a"].map((it) => ({ glyph: 82, text: it }))));
     const columns = new subsetter.PdfText(DEJAVU, { vertical: true });
-    assert.equal(latin1(columns.run([items[0]])), "[ <0001> ] TJ\n");
+    assert.equal(latin1(columns.run([items[0]])), "[<0001>]TJ\n");
     assert.ok(columns.font().columns && throws(() => columns.run([], { direction: "ltr" }), RangeError, "a direction"));
     text.close();
     for (const call of [() => text.run([]), () => text.shaped("", []), () => text.font(), () => text.advances([1])]) throws(call, TypeError, "a closed text");

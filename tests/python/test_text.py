@@ -28,7 +28,7 @@ def test_lines_and_their_font():
     with subsetter.PdfText(DEJAVU) as text:
         lines = [text.shaped(line, *arrays(rows), direction) for (line, rows), direction in ((LATIN, "ltr"), (ARABIC, "rtl"))]
         font, codes = text.font(cid_set=True, hinting=False), text.codes
-    codes_shown = [int(it, 16) for string in re.findall(b"<([0-9A-F]+)> ?\\]? TJ", lines[1]) for it in re.findall(b"....", string)]
+    codes_shown = [int(it, 16) for string in re.findall(b"<([0-9A-F]+)>", lines[1]) for it in re.findall(b"....", string)]
     assert b"/ActualText <FEFF007103040078>" in lines[0] and "".join(codes[code - 1][1] for code in codes_shown) == ARABIC[0][::-1]
     assert codes[:4] == [(82, "o"), (5044, "f"), (None, "f"), (None, "i")] and codes[8] == (693, "\u0304")
     assert font.string([1, 2]) == b"<00010002>" and font.widths[:5] == [600, 612, 967, 0, 0] and font.codes == []
@@ -46,7 +46,7 @@ def test_items_are_what_is_shaped():
         infos, positions = arrays([(82, number, 1253, 0, 0, 0) for number in numbers])
         assert text.shaped("\xe9\U0001d4b3a", infos, positions, units=units) == text.run([(82, "\xe9"), (82, "\U0001d4b3"), (82, "a")])
     columns = subsetter.PdfText(DEJAVU, 0, {}, vertical=True)
-    assert columns.run([(82, "o")]) == b"[ <0001> ] TJ\n" and columns.font().columns is not None and type(raised(columns.run, [], "ltr")) is ValueError
+    assert columns.run([(82, "o")]) == b"[<0001>]TJ\n" and columns.font().columns is not None and type(raised(columns.run, [], "ltr")) is ValueError
 
 
 def test_a_closed_text():

@@ -1,6 +1,7 @@
 //! Lists and buffers of the caller.
 
 use crate::status::{DONE, TOO_SMALL};
+use fonts::capi::pdf::{Entry, ReadLists};
 use fonts::Embedded;
 use std::{ptr, slice};
 
@@ -114,4 +115,36 @@ pub fn hand_embedded(answer: Result<Embedded, u32>, out: Buffers) -> (Sizes, u32
     cids.begin_with(&made.cids);
     widths.begin_with(&made.widths);
     (sizes, DONE)
+}
+
+/// How many entries there are, and how many places of what the font lacks.
+#[derive(Clone, Copy, Debug, Eq, PartialEq)]
+#[repr(C)]
+pub struct ReadSizes {
+    /// The entries.
+    pub entries: usize,
+    /// The places.
+    pub missing: usize,
+}
+
+/// Hands a text over that is read: its sizes, and the status. Both lists are written only where both have room.
+pub fn hand_read(
+    answer: Result<ReadLists, u32>,
+    entries: Buffer<Entry>,
+    missing: Buffer<usize>,
+) -> (ReadSizes, u32) {
+    let (read, status) = match answer {
+        Ok(read) => (read, DONE),
+        Err(status) => return (ReadSizes { entries: 0, missing: 0 }, status),
+    };
+    let sizes = ReadSizes {
+        entries: read.entries.len(),
+        missing: read.missing.len(),
+    };
+    if !entries.holds(&read.entries) || !missing.holds(&read.missing) {
+        return (sizes, TOO_SMALL);
+    }
+    entries.begin_with(&read.entries);
+    missing.begin_with(&read.missing);
+    (sizes, status)
 }

@@ -1,11 +1,11 @@
 //! The calls for PDF of the header, which says what each does.
 
-use crate::buffers::{hand_items, list, Buffer};
+use crate::buffers::{hand_items, hand_read, list, Buffer, ReadSizes};
 use crate::calls::guarded;
 use crate::making::List;
 use crate::options::font_choices;
-use crate::status::{status_of, DONE, INVALID_TEXT, NOT_PERMITTED, UNKNOWN_OPTION};
-use fonts::capi::pdf::{glyphs_of, pdf_font, Column, Entries, FontLists, FontNumbers, FontParts, Refusal};
+use crate::status::{status_of, DONE, INVALID_TEXT, NOT_PERMITTED, NO_CMAP, UNKNOWN_OPTION};
+use fonts::capi::pdf::{glyphs_of, pdf_font, read_text, Column, Entries, Entry, FontLists, FontNumbers, FontParts, Refusal};
 use fonts::capi::Coordinate;
 use fonts::pdf::FontError;
 
@@ -163,6 +163,8 @@ pub fn status_of_refusal(refusal: Refusal) -> u32 {
         Refusal::Text | Refusal::Font(FontError::TextTooLong) => INVALID_TEXT,
         Refusal::Font(FontError::NotPermitted(_)) => NOT_PERMITTED,
         Refusal::Font(FontError::Subset(error)) => status_of(error),
+        // (that is `NoCmap`; Rust wants an arm for what may come)
+        Refusal::Font(_) => NO_CMAP,
     }
 }
 
@@ -202,6 +204,32 @@ pub unsafe extern "C" fn subsetter_glyphs_of(
     let answer = answer.as_ref().map(Vec::as_slice).map_err(|status| *status);
     let (count, status) = hand_items(answer, out);
     unsafe { length.write(count) };
+    status
+}
+
+/// See `subsetter.h`.
+///
+/// # Safety
+///
+/// What the header requires of a caller.
+#[no_mangle]
+pub unsafe extern "C" fn subsetter_read_text(
+    font: *const u8,
+    font_size: usize,
+    index: u32,
+    text: *const u32,
+    text_count: usize,
+    entries: *mut Entry,
+    entry_count: usize,
+    missing: *mut usize,
+    missing_count: usize,
+    sizes: *mut ReadSizes,
+) -> u32 {
+    let (font, text) = unsafe { (list(font, font_size), list(text, text_count)) };
+    let answer = guarded(|| read_text(font, index, text).map_err(status_of_refusal));
+    let (entries, missing) = unsafe { (Buffer::new(entries, entry_count), Buffer::new(missing, missing_count)) };
+    let (told, status) = hand_read(answer, entries, missing);
+    unsafe { sizes.write(told) };
     status
 }
 

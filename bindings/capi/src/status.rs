@@ -14,6 +14,8 @@ pub const UNKNOWN_OPTION: u32 = 10;
 pub const NOT_PERMITTED: u32 = 11;
 /// A text isn't one, or is too long.
 pub const INVALID_TEXT: u32 = 12;
+/// The font has no table by which characters have glyphs.
+pub const NO_CMAP: u32 = 13;
 /// The font of a text would have too many codes.
 pub const OVERFULL: u32 = 15;
 /// The numbers of objects are too few or too many, 0, or not distinct.
@@ -50,6 +52,7 @@ pub fn status_text(status: u32) -> &'static [u8] {
         UNKNOWN_OPTION => b"unknown option",
         NOT_PERMITTED => b"embedding not permitted",
         INVALID_TEXT => b"invalid text",
+        NO_CMAP => b"no usable cmap in font",
         OVERFULL => b"too many codes",
         INVALID_NUMBERS => b"invalid numbers",
         _ => b"unknown status",

@@ -5,7 +5,7 @@ use crate::calls::*;
 use crate::fonts_for_pdf::*;
 use crate::making::{make, Made};
 use crate::whole_fonts::*;
-use crate::status::{status_text, version_of, DONE, PANICKED, TOO_SMALL};
+use crate::status::{status_text, version_of, DONE, NO_CMAP, PANICKED, TOO_SMALL};
 use fonts::capi::Coordinate;
 use fonts::Embedded;
 use std::alloc::{alloc, dealloc, realloc, Layout};
@@ -139,7 +139,7 @@ fn no_panic_reaches_the_caller() {
     );
 }
 
-/// The font has neither metrics nor characters, so all but the calls that subset it answer 2, and nothing has objects.
+/// The font has neither metrics nor characters, so all but the calls that subset it answer 2, or 13 where a text is given, and nothing has objects.
 #[test]
 fn lists_of_no_items_may_be_anywhere() {
     for address in [0, 1, 3, usize::MAX] {
@@ -154,10 +154,10 @@ fn lists_of_no_items_may_be_anywhere() {
         let made = in_memory(address);
         assert_eq!(
             made[..6],
-            [(DONE, 164), (DONE, 164), (2, 0), (2, 0), (2, 0), (2, 0)]
+            [(DONE, 164), (DONE, 164), (2, 0), (2, 0), (NO_CMAP, 0), (2, 0)]
         );
         assert!(made[6].0 == DONE && made[6].1 > 500 && made[7].0 == DONE);
-        assert_eq!(made[8..], [(2, 0), (2, 0), (DONE, 5), made[6], (DONE, 0), (2, 0)]);
+        assert_eq!(made[8..], [(2, 0), (NO_CMAP, 0), (DONE, 5), made[6], (DONE, 0), (2, 0)]);
     }
 }
 

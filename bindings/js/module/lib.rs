@@ -18,7 +18,7 @@ use fonts::capi::{self, Choices, Coordinate};
 use fonts::pdf::{FontError, PartsError};
 use fonts::{Embedded, Error};
 use status::{
-    status_of, status_text, DONE, INVALID_NUMBERS, INVALID_TEXT, NOT_PERMITTED, NO_DEPTH, OVERFULL, UNKNOWN_OPTION, VERSION,
+    status_of, status_text, DONE, INVALID_NUMBERS, INVALID_TEXT, NOT_PERMITTED, NO_CMAP, NO_DEPTH, OVERFULL, UNKNOWN_OPTION, VERSION,
 };
 use std::mem::take;
 use std::slice;
@@ -314,13 +314,29 @@ pub struct AdvancesCall {
     heights: List<u16>,
 }
 
-/// A call that looks glyphs up.
+/// A call that reads a text without shaping.
 #[repr(C)]
-pub struct GlyphCall {
+pub struct ReadCall {
     font: List<u8>,
     index: u32,
     text: List<u32>,
-    glyphs: List<u16>,
+    entries: List<ReadEntry>,
+    missing: List<usize>,
+}
+
+/// A glyph with the places of its characters.
+#[repr(C)]
+pub struct ReadEntry {
+    glyph: u32,
+    start: usize,
+    end: usize,
+}
+
+fn entries_of(read: &[pdf::Entry]) -> Result<Vec<ReadEntry>, u32> {
+    let mut entries = Vec::new();
+    entries.try_reserve_exact(read.len()).map_err(|_| status_of(Error::OutOfMemory))?;
+    entries.extend(read.iter().map(|it| ReadEntry { glyph: it.glyph.into(), start: it.start, end: it.end }));
+    Ok(entries)
 }
 
 fn status_of_refusal(refusal: Refusal) -> u32 {
@@ -328,6 +344,8 @@ fn status_of_refusal(refusal: Refusal) -> u32 {
         Refusal::Text | Refusal::Font(FontError::TextTooLong) => INVALID_TEXT,
         Refusal::Font(FontError::NotPermitted(_)) => NOT_PERMITTED,
         Refusal::Font(FontError::Subset(error)) => status_of(error),
+        // (that is `NoCmap`; Rust wants an arm for what may come)
+        Refusal::Font(_) => NO_CMAP,
     }
 }
 
@@ -416,10 +434,14 @@ pub unsafe extern "C" fn subsetter_advances(call: &mut AdvancesCall) -> u32 {
 ///
 /// As of `List::items`.
 #[no_mangle]
-pub unsafe extern "C" fn subsetter_glyphs_of(call: &mut GlyphCall) -> u32 {
+pub unsafe extern "C" fn subsetter_read_text(call: &mut ReadCall) -> u32 {
     let (font, text) = unsafe { (call.font.items(), call.text.items()) };
-    let found = pdf::glyphs_of(font, call.index, text);
-    status(found.map_err(status_of_refusal).map(|glyphs| call.glyphs = List::of(glyphs)))
+    let found = pdf::read_text(font, call.index, text);
+    status(found.map_err(status_of_refusal).and_then(|read| {
+        call.entries = List::of(entries_of(&read.entries)?);
+        call.missing = List::of(read.missing);
+        Ok(())
+    }))
 }
 
 // ---- runs of text

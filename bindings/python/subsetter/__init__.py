@@ -70,6 +70,7 @@ __all__ = [
     "pdf_font", "glyphs_of", "codes_of", "advances", "PdfFont", "Advances", "Column", "Descriptor", "Permission", "Objects", "Part",
     "PdfText", "subset", "embed", "Embedded", "Error",
     "UnknownKind", "MalformedFont", "Unimplemented", "SubsetError", "CFFError", "OutOfMemory", "NotPermitted", "InvalidText", "Overfull",
+    "NoCmap", "MissingCharacters", "TextGlyphs",
 ]
 
 __version__ = "1.0.0"
@@ -115,6 +116,16 @@ class NotPermitted(Error):
 
 class InvalidText(Error, ValueError):
     """A text has an unpaired surrogate, or more than 256 UTF-16 units; or glyphs are no run of the font and of their text."""
+
+
+class NoCmap(Error):
+    """The font has no table by which characters have glyphs."""
+
+
+class MissingCharacters(Error, ValueError):
+    """The font lacks characters of a text; `missing` are their places."""
+
+    missing: List[int] = []
 
 
 class Overfull(OverflowError):
@@ -229,7 +240,7 @@ class Objects(NamedTuple):
 _NAME = {"win32": "subsetter.dll", "darwin": "libsubsetter.dylib"}.get(sys.platform, "libsubsetter.so")
 _ERRORS: Dict[int, Type[Error]] = {
     1: UnknownKind, 2: MalformedFont, 3: Unimplemented, 4: SubsetError, 5: OverflowError, 6: CFFError, 7: OutOfMemory,
-    11: NotPermitted, 12: InvalidText, 15: Overfull,
+    11: NotPermitted, 12: InvalidText, 13: NoCmap, 15: Overfull,
 }
 _DROP_HINTING, _DROP_NAMES, _DROP_GLYPH_NAMES, _DROP_ALL = 1, 2, 4, 7
 
@@ -238,6 +249,18 @@ class _Coordinate(ctypes.Structure):
     """A value on an axis, in 65536ths."""
 
     _fields_ = [("tag", ctypes.c_uint32), ("value", ctypes.c_int32)]
+
+
+class _Entry(ctypes.Structure):
+    """A glyph with the places of its characters."""
+
+    _fields_ = [("glyph", ctypes.c_uint16), ("start", ctypes.c_size_t), ("end", ctypes.c_size_t)]
+
+
+class _ReadSizes(ctypes.Structure):
+    """How many entries there are, and how many places of what the font lacks."""
+
+    _fields_ = [("entries", ctypes.c_size_t), ("missing", ctypes.c_size_t)]
 
 
 class _Made(ctypes.Structure):
@@ -412,8 +435,15 @@ def _declare(library: ctypes.CDLL) -> ctypes.CDLL:
         "subsetter_make_text_font_by_words": (
             [ctypes.POINTER(_Text), pointer, size, ctypes.POINTER(_Font)], ctypes.c_uint32),
     }
+    for_texts = {
+        "subsetter_read_text": (
+            make[:3] + [pointer, size, ctypes.POINTER(_Entry), size, pointer, size, ctypes.POINTER(_ReadSizes)], ctypes.c_uint32),
+    }
     # (a library has all calls of a group or, if it is older than they are, none)
-    groups = {"subsetter_glyphs_of": for_pdf, "subsetter_make_font_by_words": new, "subsetter_new_text_by_words": for_runs}
+    groups: Dict[str, Any] = {
+        "subsetter_glyphs_of": for_pdf, "subsetter_make_font_by_words": new, "subsetter_new_text_by_words": for_runs,
+        "subsetter_read_text": for_texts,
+    }
     for first, group in groups.items():
         if hasattr(library, first):
             declared.update(group)
@@ -818,26 +848,44 @@ class _Entries:
         return (glyphs.buffer_info()[0], len(glyphs), text.buffer_info()[0], len(text), ends, len(ends))
 
 
-def glyphs_of(data: Buffer, text: str, index: SupportsIndex = 0) -> List[Tuple[int, str]]:
+class TextGlyphs(List[Tuple[int, str]]):
+    """The glyphs of a text, each with its part of the text."""
+
+    missing: List[int]
+    """The places of what the font lacks, in order: controls, which have no entry, and characters whose entry has glyph 0."""
+
+
+def glyphs_of(
+    data: Buffer, text: str, index: SupportsIndex = 0, *, missing: Literal["glyph_0", "error"] = "glyph_0"
+) -> TextGlyphs:
     """The glyph of each character of a text, by the font's table `cmap`, with the character: what `pdf_font` takes.
 
     The text isn't shaped: there are no ligatures, no kerning and no reordering, which Arabic or Devanagari need. A character
-    that the font doesn't have gets glyph 0. `data` and `index` are as for `subset`.
+    that the font lacks gets glyph 0, and the list's `missing` has its place; with `missing="error"` it raises
+    `MissingCharacters`. A character with a variation selector is one entry. A default ignorable (a soft hyphen, a joiner, a mark of
+    direction) is text of the entry before it, or of the one after it where none is before. A control, as a tab or a line end, has
+    no entry, and is among the missing. `data` and `index` are as for `subset`.
 
-    Raises an `Error` by its name: what comes of opening the font, `MalformedFont` also where it has no Unicode table of the
-    formats 4 and 12, and `InvalidText` for an unpaired surrogate. `NotImplementedError` is raised where the library is
-    of an older version, which has no calls for PDF.
+    Raises an `Error` by its name: what comes of opening the font, `NoCmap`, and `InvalidText` for an unpaired surrogate.
+    `NotImplementedError` is raised where the library is of an older version.
     """
+    is_strict = _choice("missing", missing, ("glyph_0", "error")) == 1
     characters, face = _characters(text), _number("index", index, 0, 0xFFFFFFFF)
-    library, length = _library_for_pdf(), ctypes.c_size_t()
-    glyphs = array("H", bytes(2 * len(characters)))
+    library, sizes, count = _library_with("subsetter_read_text"), _ReadSizes(), len(text)
+    entries, places = (_Entry * count)(), (ctypes.c_size_t * count)()
     with _bytes_of(data) as (font, size):
-        status = library.subsetter_glyphs_of(
-            font, size, face, characters.buffer_info()[0], len(characters), glyphs.buffer_info()[0], len(glyphs),
-            ctypes.byref(length),
+        status = library.subsetter_read_text(
+            font, size, face, characters.buffer_info()[0], count, entries, count, places, count, ctypes.byref(sizes),
         )
         _check(library, status, _Asked(_GLYPHS_OF, font, size, face, array("H"), array("I", [0] * 3)))
-    return list(zip(glyphs, text))
+    found = TextGlyphs((it.glyph, text[it.start:it.end]) for it in entries[:sizes.entries])
+    found.missing = places[:sizes.missing]
+    if is_strict and found.missing:
+        first = ", ".join(f"U+{ord(text[at]):04X} at {at}" for at in found.missing[:3])
+        error = MissingCharacters(f"missing characters: {first}{', ..' if len(found.missing) > 3 else ''}")
+        error.missing = found.missing
+        raise error
+    return found
 
 
 def codes_of(shown: Iterable[Tuple[SupportsIndex, str]], codes: Codes = "consecutive") -> List[int]:

@@ -34,6 +34,7 @@ pub enum Error {
     UnknownOption,
     NotPermitted,
     InvalidText,
+    NoCmap,
     /// Another status: the library is of another version, or its own code failed.
     Unknown(u32),
 }
@@ -51,6 +52,7 @@ impl Error {
             10 => Self::UnknownOption,
             11 => Self::NotPermitted,
             12 => Self::InvalidText,
+            13 => Self::NoCmap,
             _ => Self::Unknown(status),
         }
     }
@@ -69,6 +71,7 @@ impl fmt::Display for Error {
             Self::UnknownOption => "unknown option",
             Self::NotPermitted => "embedding not permitted",
             Self::InvalidText => "invalid text",
+            Self::NoCmap => "no usable cmap in font",
             Self::Unknown(status) => return write!(f, "unknown status {status}"),
         })
     }

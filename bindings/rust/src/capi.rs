@@ -201,8 +201,9 @@ pub fn explain(
     let limits = proved::Limits::new(tokens, if depth == 0 { 64 } else { depth })?;
     let reason = match status {
         11 => Ok(reasons::find_prohibition(data, index)),
-        1..=6 => {
-            let error = ERRORS[status as usize - 1];
+        // (a missing table is a malformed font there)
+        1..=6 | 13 => {
+            let error = ERRORS[if status == 13 { 1 } else { status as usize - 1 }];
             reasons::explain(Global, call, error, data, index, glyphs, &limits)
         }
         _ => Ok(None),

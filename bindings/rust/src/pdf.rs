@@ -41,15 +41,15 @@ pub use options::{Bounds, ClusterUnit, Codes, Direction, FontOptions, Order, Pro
 pub use options::{Rights, SubsetTag, TextOptions};
 pub(crate) use parts::parts_of;
 pub use parts::{Part, PartsError, Role};
-pub use shown::Shown;
+pub use shown::{Shown, TextGlyphs};
 pub use text::{Item, Run, RunDirection, ShapedGlyph, Text};
 pub use values::{Cmap, Column, Columns, Descriptor, Permission, ProgramKind, Usage};
 
-use crate::proved::cmap;
 use crate::proved::pdf_font as proved;
 use crate::proved::subsetter as subsetting;
 use crate::proved::subsetter_sfnt::parse::parse;
 use crate::proved::subsetter_variable::check_opening_at;
+use crate::proved::text_glyphs::{self as reading, find_source, TextSource};
 use crate::rattle::alloc::Global;
 use crate::{library, Error, Tag};
 use alloc::vec::Vec;
@@ -62,45 +62,91 @@ pub(crate) fn with_room<T>(count: usize) -> Result<Vec<T>, Error> {
     Ok(list)
 }
 
+/// A list of these characters.
+fn listed(characters: impl Iterator<Item = char> + Clone) -> Result<Vec<char>, Error> {
+    let mut list = with_room(characters.clone().count())?;
+    list.extend(characters);
+    Ok(list)
+}
+
+/// The tables of a font's `cmap` by which characters have glyphs.
+fn text_source(data: &[u8], index: u32) -> Result<TextSource<'_>, FontError> {
+    let all = subsetting::Extras::ALL;
+    check_opening_at(data, index, all).map_err(library::refused)?;
+    let face = parse(data, index, all).map_err(library::refused)?;
+    let bytes = face.stored(subsetting::Tag::new(b"cmap"));
+    bytes.and_then(find_source).ok_or(FontError::NoCmap)
+}
+
 /// The glyph of each of these characters, by the font's table `cmap`.
 pub(crate) fn glyphs_by_cmap(
     data: &[u8],
     index: u32,
     characters: impl Iterator<Item = char> + Clone,
-) -> Result<impl Iterator<Item = u16>, Error> {
-    let all = subsetting::Extras::ALL;
-    check_opening_at(data, index, all).map_err(library::refused)?;
-    let face = parse(data, index, all).map_err(library::refused)?;
-    let bytes = face.stored(subsetting::Tag::new(b"cmap"));
-    let table = bytes.and_then(cmap::find_subtable).ok_or(Error::MalformedFont)?;
-    let mut list = with_room(characters.clone().count())?;
-    list.extend(characters);
-    let glyphs = cmap::glyphs_of(Global, &table, &list).map_err(|_| Error::OutOfMemory)?;
+) -> Result<impl Iterator<Item = u16>, FontError> {
+    let source = text_source(data, index)?;
+    let list = listed(characters)?;
+    let glyphs = reading::glyphs_of(Global, &source.table, &list);
+    let glyphs = glyphs.map_err(|_| Error::OutOfMemory)?;
     Ok(glyphs.into_inner().into_iter())
+}
+
+/// The entries of these characters, and the places of what the font lacks.
+pub(crate) fn read_characters(
+    data: &[u8],
+    index: u32,
+    characters: impl Iterator<Item = char> + Clone,
+) -> Result<reading::ReadText, FontError> {
+    let source = text_source(data, index)?;
+    let list = listed(characters)?;
+    let read = reading::read_text(Global, &source, &list);
+    Ok(read.map_err(|_| Error::OutOfMemory)?)
 }
 
 /// The glyph of each character of a text, by the font's table `cmap`, with the character as its text.
 ///
 /// The text isn't shaped: there are no ligatures, no kerning, no reordering and no marks put in position, as a writer of Latin,
-/// Greek, Cyrillic or CJK mostly does without, and a writer of Arabic or Devanagari doesn't. A character that the font doesn't
-/// have gets glyph 0. The first Unicode table of format 12 is taken, else the first of format 4.
+/// Greek, Cyrillic or CJK mostly does without, and a writer of Arabic or Devanagari doesn't.
+///
+/// - A character that the font lacks gets glyph 0, and [`missing`](TextGlyphs::missing) has its place.
+/// - A character and a variation selector get one glyph: that of the table of format 14, else the character's.
+/// - Default ignorables (soft hyphens, joiners, marks of direction, selectors) get none: each belongs to the text of the entry
+///   before it, or of the one after it where none is before.
+/// - Controls, tabs and line ends too, get none, and are among the missing.
+///
+/// The first Unicode table of format 12 is taken, else the first of format 4, else one of format 0, 6 or 13; else a symbol table,
+/// which has the characters below U+0100 from U+F000 on; else one of Mac OS Roman.
+///
+/// ```
+/// use subsetter::pdf::{glyphs_of, Shown};
+///
+/// # fn main() -> Result<(), subsetter::pdf::FontError> {
+/// # let data = include_bytes!("../tests/data/made.ttf");
+/// let found = glyphs_of(data, 0, "A\u{ad}\tB\u{3b1}")?;
+/// assert_eq!(found[..], [Shown::new(1, "A\u{ad}"), Shown::new(2, "B"), Shown::new(0, "\u{3b1}")]);
+/// // Bytes of the text: the tab, and a letter that the font lacks.
+/// assert_eq!(found.missing(), [3, 5]);
+/// # Ok(())
+/// # }
+/// ```
 ///
 /// # Errors
 ///
-/// Those of [`subset`](crate::subset) that come of opening the font, where outlines in `CFF2` are taken too;
-/// [`Error::MalformedFont`] where it has no such table.
-pub fn glyphs_of<'a>(data: &[u8], index: u32, text: &'a str) -> Result<Vec<Shown<'a>>, Error> {
-    let glyphs = glyphs_by_cmap(data, index, text.chars())?;
-    let mut shown = with_room(text.chars().count())?;
-    shown.extend(
-        text.char_indices()
-            .zip(glyphs)
-            .map(|((at, character), glyph)| Shown {
-                glyph,
-                text: &text[at..at + character.len_utf8()],
-            }),
-    );
-    Ok(shown)
+/// [`FontError::Subset`]: what comes of opening the font, where outlines in `CFF2` are taken too; [`FontError::NoCmap`]: it has no
+/// such table.
+pub fn glyphs_of<'a>(data: &[u8], index: u32, text: &'a str) -> Result<TextGlyphs<'a>, FontError> {
+    let read = read_characters(data, index, text.chars())?;
+    let mut places = with_room(text.chars().count() + 1)?;
+    places.extend(text.char_indices().map(|(at, _)| at));
+    places.push(text.len());
+    let mut shown = with_room(read.entries.len())?;
+    shown.extend(read.entries.iter().map(|it| Shown {
+        glyph: it.glyph,
+        text: &text[places[it.start]..places[it.end]],
+    }));
+    let mut missing = with_room(read.missing.len())?;
+    missing.extend(read.missing.iter().map(|it| places[*it]));
+    Ok(TextGlyphs::new(shown, missing))
 }
 
 /// The characters of all texts, one after the other.

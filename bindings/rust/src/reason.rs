@@ -27,7 +27,7 @@ pub enum Call {
     PdfFont(FontError),
     /// [`glyphs_of`](crate::pdf::glyphs_of).
     #[cfg(feature = "variable-fonts")]
-    GlyphsOf(Error),
+    GlyphsOf(FontError),
     /// [`advances`](crate::pdf::advances).
     #[cfg(feature = "variable-fonts")]
     Advances(Error),
@@ -69,7 +69,14 @@ fn taken(call: Call) -> (proved::Call, Option<Error>) {
         #[cfg(feature = "variable-fonts")]
         Call::PdfFont(_) => (proved::Call::PdfFont, None),
         #[cfg(feature = "variable-fonts")]
-        Call::GlyphsOf(error) => (proved::Call::GlyphsOf, Some(error)),
+        Call::GlyphsOf(FontError::Subset(error)) => (proved::Call::GlyphsOf, Some(error)),
+        // (for the proved call a missing table is a malformed font)
+        #[cfg(feature = "variable-fonts")]
+        Call::GlyphsOf(FontError::NoCmap) => {
+            (proved::Call::GlyphsOf, Some(Error::MalformedFont))
+        }
+        #[cfg(feature = "variable-fonts")]
+        Call::GlyphsOf(_) => (proved::Call::GlyphsOf, None),
         #[cfg(feature = "variable-fonts")]
         Call::Advances(error) => (proved::Call::Advances, Some(error)),
     }

@@ -166,7 +166,7 @@ mod pdf {
     }
 
     pub fn glyphs(font: &[u8]) -> Result<u64, Error> {
-        Ok(number(&glyphs_of(font, 0, "AHxÁ")?))
+        Ok(number(&glyphs_of(font, 0, "AHxÁ").map_err(refused)?))
     }
 
     pub fn codes(choice: Codes) -> Result<u64, Error> {
@@ -199,7 +199,7 @@ fn each_request_of_a_pdf_font_may_be_refused() {
         }
         let answer = pdf::glyphs(&font);
         let requests = refuse_each(|| pdf::glyphs(&font), &answer);
-        assert!(answer.is_ok() && requests == 3, "{name}: {requests}");
+        assert!(answer.is_ok() && requests > 5, "{name}: {requests}");
         let answer = pdf::text(&font);
         let requests = refuse_each(|| pdf::text(&font), &answer);
         assert!(answer.is_ok() && requests > 60, "{name}: {requests}");

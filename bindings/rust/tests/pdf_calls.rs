@@ -33,19 +33,50 @@ fn each_character_has_its_glyph() {
     let font = made("made.ttf");
     let shown = glyphs_of(&font, 0, "AH\u{fb01}\u{1f600}ÁzA").unwrap();
     let wanted = [(1, "A"), (9, "H"), (5, "\u{fb01}"), (6, "\u{1f600}"), (8, "Á"), (0, "z"), (1, "A")];
-    assert_eq!(shown, wanted.map(|(glyph, text)| Shown::new(glyph, text)));
-    assert_eq!(glyphs_of(&font, 0, ""), Ok(vec![]));
+    assert_eq!(shown[..], wanted.map(|(glyph, text)| Shown::new(glyph, text)));
+    assert_eq!(shown.missing(), [11]);
+    assert_eq!(glyphs_of(&font, 0, "").unwrap().into_vec(), []);
+    // (default ignorables belong to what is before them, or else behind them; controls have no entry)
+    let shown = glyphs_of(&font, 0, "\u{feff}A\u{ad}\u{200b}\r\n\u{200e}B\t\u{200d}").unwrap();
+    assert_eq!(shown[..], [Shown::new(1, "\u{feff}A\u{ad}\u{200b}"), Shown::new(2, "\u{200e}B")]);
+    assert_eq!(shown.missing(), [9, 10, 15]);
+}
+
+#[test]
+fn other_tables_and_sequences() {
+    // A symbol table, two of Mac OS Roman (formats 0 and 6), Unicode ones of formats 13 and 6, and one with sequences: written by
+    // fontTools, and read by hb-shape but for Roman.
+    let fonts = made("made_cmaps.ttc");
+    type Wanted = (&'static str, &'static [(u16, &'static str)], &'static [usize]);
+    let wanted: [Wanted; 6] = [
+        ("A®\u{f041}α", &[(1, "A"), (3, "®"), (1, "\u{f041}"), (0, "α")], &[6]),
+        ("AÄ€\u{f8ff}B", &[(1, "A"), (2, "Ä"), (3, "€"), (4, "\u{f8ff}"), (0, "B")], &[9]),
+        ("ABC", &[(1, "A"), (2, "B"), (0, "C")], &[2]),
+        ("AZ[\u{10001}", &[(4, "A"), (4, "Z"), (0, "["), (5, "\u{10001}")], &[2]),
+        ("ABC", &[(1, "A"), (2, "B"), (0, "C")], &[2]),
+        (
+            "A\u{fe00}一\u{fe00}一\u{e0101}一\u{fe01}B\u{e0101}B\u{fe00}",
+            &[(1, "A\u{fe00}"), (5, "一\u{fe00}"), (6, "一\u{e0101}"), (3, "一\u{fe01}"), (7, "B\u{e0101}"), (2, "B\u{fe00}")],
+            &[],
+        ),
+    ];
+    for (index, (text, glyphs, missing)) in (0..).zip(wanted) {
+        let shown = glyphs_of(&fonts, index, text).unwrap();
+        let glyphs: Vec<_> = glyphs.iter().map(|(glyph, text)| Shown::new(*glyph, text)).collect();
+        assert_eq!((&shown[..], shown.missing()), (&glyphs[..], missing), "{index}");
+    }
+    assert_eq!(glyphs_of(&fonts, 6, "A"), Err(FontError::NoCmap));
 }
 
 #[test]
 fn the_index_of_a_face_has_32_bits() {
     let (fonts, options) = (made("made.ttc"), FontOptions::new());
-    assert_eq!(glyphs_of(&fonts, 0, "A"), Ok(vec![Shown::new(1, "A")]));
+    assert_eq!(glyphs_of(&fonts, 0, "A").unwrap()[..], [Shown::new(1, "A")]);
     assert!(pdf_font(&fonts, 0, &[], &SHOWN, &options).is_ok());
     // (with fewer bits the second would be that of the face)
     for index in [1, 1 << 31, u32::MAX] {
         let refused = glyphs_of(&fonts, index, "A");
-        assert_eq!(refused, Err(Error::MalformedFont), "{index}");
+        assert_eq!(refused, Err(Error::MalformedFont.into()), "{index}");
         let refused = pdf_font(&fonts, index, &[], &SHOWN, &options).unwrap_err();
         assert_eq!(refused, Error::MalformedFont.into(), "{index}");
     }
@@ -276,7 +307,7 @@ fn the_font_shows_why() {
     assert_eq!(why(Call::PdfFont(FontError::TextTooLong), &font, 12, 5), None);
     assert_eq!(why(Call::PdfFont(Error::MalformedFont.into()), &font, 12, 5), beyond);
     let lacking = found("the face has no table cmap", b"cmap", None);
-    assert_eq!(why(Call::GlyphsOf(Error::MalformedFont), &without(&font, b"cmap"), 1, 5), lacking);
+    assert_eq!(why(Call::GlyphsOf(FontError::NoCmap), &without(&font, b"cmap"), 1, 5), lacking);
     let fixed = found("CFF2: its outlines are taken at coordinates alone", b"CFF2", None);
     assert_eq!(why(Call::Embed(Error::Unimplemented), &cff2, 1, 5), fixed);
     let long = found("glyph 0: its charstring can't be run within the limits", b"CFF ", Some(0));

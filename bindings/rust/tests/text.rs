@@ -35,16 +35,16 @@ fn runs_are_shown_as_worked_by_hand() {
         [item(1, Some("A"), 1366), item(5, Some("fi"), 1139), item(1, Some("A"), 1266), item(2, Some("B"), 1366)];
     let run = text.run(&line, LeftToRight, 12_000).unwrap();
     assert_eq!(run.advance, 2508);
-    assert_eq!(operators(Ok(run)), "[ <0001000200030001> ] TJ\n[ 49 <0004> ] TJ\n");
+    assert_eq!(operators(Ok(run)), "[<0001000200030001>49<0004>]TJ\n");
     // From right to left: the characters of a glyph go leftwards, and codes stay.
     let word = [item(5, Some("if"), 1139), item(1, Some("A"), 1366)];
-    assert_eq!(operators(text.run(&word, RightToLeft, 12_000)), "[ <000200030001> ] TJ\n");
+    assert_eq!(operators(text.run(&word, RightToLeft, 12_000)), "[<000200030001>]TJ\n");
     let font = text.font(&FontOptions::new()).unwrap();
     assert_eq!(font.widths(), [500, 667, 556, 0, 667]);
     // A mark 1024 back and 205 up, a tenth of the em: the rise of 12 points is 1.2.
     let mark = Item { glyph: 7, x_offset: -1024, y_offset: 205, ..Item::default() };
     let marked = [item(1, Some("A\u{301}"), 1366), mark];
-    let span = "/Span << /ActualText <FEFF00410301> >> BDC\n[ <0001> ] TJ\n1.200000 Ts\n[ 500 <0005> ] TJ\nEMC\n[ -167 ] TJ\n0.000000 Ts\n";
+    let span = "/Span << /ActualText <FEFF00410301> >> BDC\n[<0001>]TJ\n1.200 Ts\n[500<0005>]TJ\nEMC\n[-167]TJ\n0 Ts\n";
     assert_eq!(operators(text.run(&marked, LeftToRight, 12_000)), span);
     // A later font has the codes of the earlier one.
     let later = text.font(&FontOptions::new()).unwrap();
@@ -60,8 +60,8 @@ fn logical_order_is_a_choice() {
     let font = made("made.ttf");
     let word = [item(2, Some("b"), 1366), item(1, Some("a"), 1024)];
     for (order, wanted) in [
-        (Order::Visual, "[ <00010002> ] TJ\n[ 167 ] TJ\n"),
-        (Order::Logical, "[ -667 <0002> ] TJ\n[ 1334 <0001> ] TJ\n[ -500 ] TJ\n"),
+        (Order::Visual, "[<00010002>167]TJ\n"),
+        (Order::Logical, "[-667<0002>1334<0001>-500]TJ\n"),
     ] {
         let mut text = Text::new(&font, 0, &[], &TextOptions::new().order(order)).unwrap();
         assert_eq!(operators(text.run(&word, RightToLeft, 12_000)), wanted);
@@ -89,9 +89,9 @@ fn columns_go_downwards() {
             item.text = Some(text);
         }
         let run = text.run(&items, TopToBottom, 12_000).unwrap();
-        assert_eq!((run.advance, operators(Ok(run))), (-2500, "[ <000100020003> ] TJ\n".to_string()), "{name}");
+        assert_eq!((run.advance, operators(Ok(run))), (-2500, "[<000100020003>]TJ\n".to_string()), "{name}");
         let shown = glyphs_of(&font, 0, "A\u{fb01}\u{1f600}").unwrap();
-        assert_eq!(operators(text.plain(&shown, 12_000)), "[ <000100020003> ] TJ\n", "{name}");
+        assert_eq!(operators(text.plain(&shown, 12_000)), "[<000100020003>]TJ\n", "{name}");
         assert_eq!(text.advances(&[1, 5]), Ok(vec![-1000, -500]));
         let made = text.font(&FontOptions::new().rights(Rights::Held)).unwrap();
         let downwards: Vec<i32> = made.columns().unwrap().each.iter().map(|it| it.advance).collect();
@@ -114,9 +114,9 @@ fn clusters_are_counted_in_three_units() {
             *glyph = ShapedGlyph { glyph_id, cluster, x_advance, ..ShapedGlyph::default() };
         }
         let run = shown.shaped(text, &line, LeftToRight, 12_000);
-        assert_eq!(operators(run), "[ <000100020003> ] TJ\n", "{unit:?}");
+        assert_eq!(operators(run), "[<000100020003>]TJ\n", "{unit:?}");
         let plain = shown.plain(&glyphs_of(&font, 0, text).unwrap(), 12_000);
-        assert_eq!(operators(plain), "[ <000100020003> ] TJ\n", "{unit:?}");
+        assert_eq!(operators(plain), "[<000100020003>]TJ\n", "{unit:?}");
         line[2].cluster -= 1;
         let inside = shown.shaped(text, &line, LeftToRight, 12_000);
         let is_inside = unit != ClusterUnit::Utf32;
@@ -178,7 +178,7 @@ fn the_metrics_are_those_of_the_coordinates() {
     let run = text.plain(&glyphs_of(&font, 0, "AB").unwrap(), 12_000).unwrap();
     let made = text.font(&FontOptions::new()).unwrap();
     assert_eq!(made.widths()[1..], text.advances(&[1, 2]).unwrap().iter().map(|it| *it as u32).collect::<Vec<_>>());
-    assert_eq!((made.widths()[1], run.operators), (716, b"[ <00010002> ] TJ\n".to_vec()));
+    assert_eq!((made.widths()[1], run.operators), (716, b"[<00010002>]TJ\n".to_vec()));
 }
 
 // ---- readers
@@ -195,30 +195,6 @@ const LINES: [Line; 2] = [
     ("سلام لا", RightToLeft, &[(5365, 5, 1168), (3, 4, 651), (1390, 3, 1268), (5366, 1, 1222), (5293, 0, 1716)]),
 ];
 
-/// A file of a page with these operators.
-fn file(content: &str, text: &Text) -> Vec<u8> {
-    let font = text.font(&FontOptions::new()).unwrap().objects(5).unwrap();
-    let mut file = b"%PDF-1.7\n".to_vec();
-    let mut offsets = vec![];
-    let resources = "/Resources << /Font << /F0 5 0 R >> >>";
-    for object in [
-        "<< /Type /Catalog /Pages 2 0 R >>".to_string(),
-        "<< /Type /Pages /Count 1 /Kids [3 0 R] >>".to_string(),
-        format!("<< /Type /Page /Parent 2 0 R /MediaBox [0 0 300 144] /Contents 4 0 R {resources} >>"),
-        format!("<< /Length {} >>\nstream\n{content}\nendstream", content.len()),
-    ] {
-        offsets.push(file.len());
-        file.extend(format!("{} 0 obj\n{object}\nendobj\n", offsets.len()).bytes());
-    }
-    offsets.extend(font.offsets.iter().map(|it| it + file.len()));
-    file.extend(font.bytes);
-    let (start, size) = (file.len(), offsets.len() + 1);
-    file.extend(format!("xref\n0 {size}\n0000000000 65535 f \n").bytes());
-    file.extend(offsets.iter().flat_map(|it| format!("{it:010} 00000 n \n").into_bytes()));
-    file.extend(format!("trailer\n<< /Size {size} /Root 1 0 R >>\nstartxref\n{start}\n%%EOF\n").bytes());
-    file
-}
-
 /// The lines that a program prints, without marks of direction and blanks at the ends.
 fn printed(program: &str, words: &[&str]) -> Vec<String> {
     let output = Command::new(program).args(words).output().unwrap();
@@ -233,16 +209,15 @@ fn printed(program: &str, words: &[&str]) -> Vec<String> {
 fn readers_find_the_text() {
     let data = fs::read("/usr/share/fonts/truetype/dejavu/DejaVuSans.ttf").unwrap();
     let mut text = Text::new(&data, 0, &[], &TextOptions::new().clusters(ClusterUnit::Utf32)).unwrap();
-    let mut content = "BT /F0 24 Tf 36 108 Td\n".to_string();
-    for (line, direction, glyphs) in LINES {
+    let lines = LINES.map(|(line, direction, glyphs)| {
         let glyph =
             |&(glyph_id, cluster, x_advance)| ShapedGlyph { glyph_id, cluster, x_advance, ..ShapedGlyph::default() };
         let glyphs: Vec<ShapedGlyph> = glyphs.iter().map(glyph).collect();
-        content += &operators(text.shaped(line, &glyphs, direction, 24_000));
-        content += "0 -48 Td\n";
-    }
+        text.shaped(line, &glyphs, direction, 36_000).unwrap()
+    });
     let path = concat!(env!("CARGO_TARGET_TMPDIR"), "/text.pdf");
-    fs::write(path, file(&(content + "ET"), &text)).unwrap();
+    fs::write(path, text.sheet(&lines, &FontOptions::new()).unwrap()).unwrap();
+    printed("qpdf", &["--check", path]);
     assert_eq!(printed("pdftotext", &["-enc", "UTF-8", path, "-"]), LINES.map(|it| it.0));
     // MuPDF gives what is seen from left to right.
     let seen = LINES.map(|(line, direction, _)| match direction {

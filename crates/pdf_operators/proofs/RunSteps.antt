@@ -19,12 +19,13 @@ use Rattle.pdf_runs.specs.Codes.{HasFirst, pair_of, same, with_pairs}
 use Rattle.pdf_runs.specs.Items.{is_run, text_of}
 use Rattle.pdf_runs.specs.Pieces.{pieces_of_run}
 use Rattle.pdf_runs.specs.Words.{groups}
+use Rattle.pdf_operators.specs.declared.operations.OpenArray.{OpenArray}
 use Rattle.pdf_operators.specs.declared.operations.Operation.{Operation}
 use Rattle.pdf_operators.specs.declared.order.Order.{Order}
 use Rattle.pdf_operators.specs.declared.places.Advance.{Advance}
 use Rattle.pdf_operators.specs.declared.places.Font.{Font}
 use Rattle.pdf_operators.specs.declared.places.Stop.{Stop}
-use Rattle.pdf_operators.specs.Operators.{Act, act_of, act_text, acts_of, held_after, text_of_all, units_of, written}
+use Rattle.pdf_operators.specs.Operators.{Act, act_of, act_text, acts_of, open_after, text_of_all, units_of, written}
 use Rattle.pdf_operators.specs.Order.{is_turned, turned}
 use Rattle.pdf_operators.specs.Pens.{advance_of, are_pens, end_of, start}
 use Rattle.pdf_operators.specs.Places.{are_near, fits, is_near, laid, last_back, next, shown_at, stop_behind}
@@ -172,15 +173,15 @@ character_put cs k e so_far new total l more h =
     ∙ sym (ap (λ (l : List ℕ). so_far ++ l) (ap (λ (l : List ℕ). words (units_of l)) (drop_more cs k e l) ∙ words_joined here rest))
     ∙ h
 
-pub operation_put : (size : ℕ) (pairs : List Pair) (ops : List Operation) (k : ℕ) (e : Operation) (held next_held : ℕ) (so_far new total : List ℕ) → k < length ops → new ≡ so_far ++ act_text size pairs held (act_of (get_or ops k e)) → next_held ≡ held_after held (act_of (get_or ops k e))
-    → so_far ++ written size pairs held (acts_of (drop k ops)) ≡ total → new ++ written size pairs next_held (acts_of (drop (k + 1) ops)) ≡ total
-operation_put size pairs ops k e held next_held so_far new total l more is h =
+pub operation_put : (size : ℕ) (pairs : List Pair) (ops : List Operation) (k : ℕ) (e : Operation) (o next_open : OpenArray) (so_far new total : List ℕ) → k < length ops → new ≡ so_far ++ act_text size pairs o (act_of (get_or ops k e)) → next_open ≡ open_after o (act_of (get_or ops k e))
+    → so_far ++ written size pairs o (acts_of (drop k ops)) ≡ total → new ++ written size pairs next_open (acts_of (drop (k + 1) ops)) ≡ total
+operation_put size pairs ops k e o next_open so_far new total l more is h =
     let a : Act = act_of (get_or ops k e) in
-    let rest : List ℕ = written size pairs (held_after held a) (acts_of (drop (k + 1) ops)) in
-    ap (λ (n : ℕ). new ++ written size pairs n (acts_of (drop (k + 1) ops))) is
+    let rest : List ℕ = written size pairs (open_after o a) (acts_of (drop (k + 1) ops)) in
+    ap (λ (n : OpenArray). new ++ written size pairs n (acts_of (drop (k + 1) ops))) is
     ∙ ap (λ (l : List ℕ). l ++ rest) more
-    ∙ append_assoc so_far (act_text size pairs held a) rest
-    ∙ sym (ap (λ (os : List Operation). so_far ++ written size pairs held (acts_of os)) (drop_more ops k e l))
+    ∙ append_assoc so_far (act_text size pairs o a) rest
+    ∙ sym (ap (λ (os : List Operation). so_far ++ written size pairs o (acts_of os)) (drop_more ops k e l))
     ∙ h
 
 pub texts_seen : (P : ℕ → Type 0) (cs : List (Bor (List Item))) (k : ℕ) (e : Bor (List Item)) → k < length cs → All P (text_of (get_or cs k e).now) → (All P (text_of_all (lists (drop k cs))) → All P (text_of_all (lists cs)))

@@ -7,6 +7,7 @@ use Rattle.pdf_runs.specs.declared.codes.Pair.{Pair}
 use Rattle.pdf_runs.specs.declared.items.Direction.{Direction}
 use Rattle.pdf_runs.specs.declared.items.Item.{Item}
 use Rattle.pdf_runs.specs.Pieces.{pieces_of_run}
+use Rattle.pdf_operators.specs.declared.operations.OpenArray.{OpenArray}
 use Rattle.pdf_operators.specs.declared.operations.Operation.{Operation}
 use Rattle.pdf_operators.specs.declared.order.Order.{Order}
 use Rattle.pdf_operators.specs.declared.places.Font.{Font}
@@ -30,8 +31,8 @@ all_acts size pairs (o ∷ os) h =
 pub read_back : (size : ℕ) (pairs : List Pair) (ops : List Operation) (bytes : List ℕ) → bytes ≡ operators size pairs (acts_of ops) → All (λ (o : Operation). IsWritable size pairs (act_of o)) ops → said_in bytes ≡ flat_map (marks_of size pairs) (acts_of ops)
 read_back size pairs ops bytes e h = ap said_in e ∙ operators_are_read size pairs (acts_of ops) (all_acts size pairs ops h)
 
-pub written_all : (size : ℕ) (pairs : List Pair) (ops : List Operation) (k held : ℕ) (so_far new total : List ℕ) → length ops ≤ k → new ≡ so_far ++ closing held → so_far ++ written size pairs held (acts_of (drop k ops)) ≡ total → new ≡ total
-written_all size pairs ops k held so_far new total l more h = more ∙ sym (ap (λ (os : List Operation). so_far ++ written size pairs held (acts_of os)) (drop_all k ops l)) ∙ h
+pub written_all : (size : ℕ) (pairs : List Pair) (ops : List Operation) (k : ℕ) (o : OpenArray) (so_far new total : List ℕ) → length ops ≤ k → new ≡ so_far ++ closing o → so_far ++ written size pairs o (acts_of (drop k ops)) ≡ total → new ≡ total
+written_all size pairs ops k o so_far new total l more h = more ∙ sym (ap (λ (os : List Operation). so_far ++ written size pairs o (acts_of os)) (drop_all k ops l)) ∙ h
 
 -- ---- a run
 

@@ -18,13 +18,23 @@ pub data Mark : Type 0 where
   actual : List ℕ → Mark
   ended : Mark
 
+-- ---- tokens
+
+-- a delimiter, apart from what is before it and behind it (7.2.2); each of `<<` and `>>` is two tokens then
+abbrev pub apart : ℕ → List ℕ
+apart b = if b == 91 || b == 93 then 32 ∷ b ∷ 32 ∷ [] else if b == 60 || b == 47 then 32 ∷ b ∷ [] else if b == 62 then b ∷ 32 ∷ [] else b ∷ []
+
+abbrev pub tokens_in : List ℕ → List (List ℕ)
+tokens_in text = tokens (flat_map apart text)
+
 -- ---- operands
 
--- the millionths of a real number with at most six digits behind its point (7.3.3)
+-- the millionths of a number with at most six digits behind its point, if it has one (7.3.3)
 abbrev pub fraction_in : List ℕ → List ℕ → Option ℤ
 fraction_in whole rest = if all_ascii_digits whole && (all_ascii_digits rest && nat_le (length rest) 6) then Some (pos (1000000 * digits_value 10 whole + digits_value 10 rest * 10 ^ (6 - length rest))) else None
 
 abbrev pub parts_in : List (List ℕ) → Option ℤ
+parts_in (whole ∷ []) = fraction_in whole []
 parts_in (whole ∷ rest ∷ []) = fraction_in whole rest
 parts_in _ = None
 
@@ -50,7 +60,7 @@ text_by _ = []
 
 -- of /Span << /ActualText <..> >>
 abbrev pub actual_in : List (List ℕ) → List Mark
-actual_in (tag ∷ begins ∷ key ∷ text ∷ close) = if bytes_eq key (codes "/ActualText") then text_by (hex_in text) else []
+actual_in (tag ∷ first ∷ second ∷ key ∷ text ∷ close) = if bytes_eq key (codes "/ActualText") then text_by (hex_in text) else []
 actual_in _ = []
 
 abbrev pub rise_in : List (List ℕ) → List Mark
@@ -77,7 +87,7 @@ said_from operands (t ∷ ts) = if is_operator t then said_by t operands ++ said
 
 -- what a content stream says, in order
 abbrev pub said_in : List ℕ → List Mark
-said_in text = said_from [] (tokens text)
+said_in text = said_from [] (tokens_in text)
 
 -- ---- what operations say
 

@@ -1,5 +1,5 @@
 -- The operators that show a run, as they are written (ISO 32000-1, 9.3.7, 9.4.3, 14.6 and 14.9.4).
-use Rattle.std.specs.Prelude.{ℕ, ◌+◌, ◌*◌, ◌/◌, ◌%◌, ◌==◌, ◌&&◌, nat_lt, Bool, if◌then◌else◌, List, [], ◌∷◌, ◌++◌, map, codes, decimal, Option, Some, None, ℤ, pos, unsigned_abs}
+use Rattle.std.specs.Prelude.{ℕ, ◌+◌, ◌*◌, ◌/◌, ◌%◌, ◌==◌, ◌&&◌, not, nat_lt, Bool, if◌then◌else◌, List, [], ◌∷◌, ◌++◌, map, codes, decimal, Option, Some, None, ℤ, pos, unsigned_abs}
 use Rattle.std.specs.Fmt.{signed_decimal}
 use Rattle.std.specs.List.{flat_map}
 use Rattle.std.specs.Ordering.{int_eq}
@@ -12,6 +12,7 @@ use Rattle.pdf_runs.specs.declared.items.Item.{Item}
 use Rattle.pdf_runs.specs.Clusters.{lists}
 use Rattle.pdf_runs.specs.Codes.{same}
 use Rattle.pdf_runs.specs.Items.{text_of}
+use Rattle.pdf_operators.specs.declared.operations.OpenArray.{OpenArray}
 use Rattle.pdf_operators.specs.declared.operations.Operation.{Operation}
 use Rattle.pdf_operators.specs.declared.operations.Operation.TheVariants.{Begin, End, Rise, Show, Back}
 
@@ -33,13 +34,17 @@ units_of cs = flat_map utf16 cs
 
 -- ---- numbers
 
--- six digits
-abbrev pub six_digits : ℕ → List ℕ
-six_digits n = (48 + n / 100000 % 10) ∷ (48 + n / 10000 % 10) ∷ (48 + n / 1000 % 10) ∷ (48 + n / 100 % 10) ∷ (48 + n / 10 % 10) ∷ (48 + n % 10) ∷ []
+-- the last three digits
+abbrev pub three_digits : ℕ → List ℕ
+three_digits n = (48 + n / 100 % 10) ∷ (48 + n / 10 % 10) ∷ (48 + n % 10) ∷ []
+
+-- so many millionths, with six digits behind the point, or three, or none and no point, as few as say them
+abbrev pub fraction : ℕ → List ℕ
+fraction n = if n == 0 then [] else if n % 1000 == 0 then 46 ∷ three_digits (n / 1000) else 46 ∷ (three_digits (n / 1000) ++ three_digits n)
 
 -- so many millionths, and their sign
 abbrev pub millionths : ℤ → ℕ → List ℕ
-millionths z n = sign z ++ (decimal (n / 1000000) ++ 46 ∷ six_digits (n % 1000000))
+millionths z n = sign z ++ (decimal (n / 1000000) ++ fraction (n % 1000000))
 
 -- so many thousandths of the em, at a size of so many thousandths
 abbrev pub rise_text : ℕ → ℤ → List ℕ
@@ -64,41 +69,64 @@ act_of (Back z) = back z
 abbrev pub acts_of : List Operation → List Act
 acts_of ops = map act_of ops
 
--- ---- one of them behind a string that has so many codes, or behind none
+-- ---- one of them, behind what is open
+
+-- nothing
+abbrev pub shut : OpenArray
+shut = record { strings = 0; codes = 0 }
 
 -- the string ends, and the array
-abbrev pub closing : ℕ → List ℕ
-closing held = if held == 0 then [] else codes "> ] TJ\n"
+abbrev pub closing : OpenArray → List ℕ
+closing o = if o.codes == 0 then [] else codes ">]TJ\n"
+
+abbrev pub number_text : ℤ → List ℕ
+number_text z = if int_eq z (pos 0) then [] else signed_decimal z
 
 -- an array and its string begin, the number before it
 abbrev pub opening : ℤ → List ℕ
-opening z = if int_eq z (pos 0) then codes "[ <" else codes "[ " ++ (signed_decimal z ++ codes " <")
+opening z = codes "[" ++ (number_text z ++ codes "<")
+
+-- the string ends, and behind a number another one begins
+abbrev pub further : ℤ → List ℕ
+further z = codes ">" ++ (signed_decimal z ++ codes "<")
 
 -- the code goes into the string, which has at most 32,767 bytes (Annex C)
-abbrev pub is_joined : ℕ → ℤ → Bool
-is_joined held z = nat_lt 0 held && (nat_lt held 16383 && int_eq z (pos 0))
+abbrev pub is_joined : OpenArray → ℤ → Bool
+is_joined o z = nat_lt 0 o.codes && (nat_lt o.codes 16383 && int_eq z (pos 0))
 
-abbrev pub own_text : ℕ → List Pair → Act → List ℕ
-own_text size pairs (begin text) = codes "/Span << /ActualText " ++ (hex_string (65279 ∷ units_of text) ++ codes " >> BDC\n")
-own_text size pairs finish = codes "EMC\n"
-own_text size pairs (raise z) = rise_text size z ++ codes " Ts\n"
-own_text size pairs (show z q) = opening z ++ word (code_of pairs q)
-own_text size pairs (back z) = codes "[ " ++ (signed_decimal z ++ codes " ] TJ\n")
+-- it goes into another string of the array, which has at most 8,191 elements (Annex C): 4,095 strings, a number before each, and one at the end
+abbrev pub is_further : OpenArray → ℤ → Bool
+is_further o z = nat_lt 0 o.codes && (nat_lt o.strings 4095 && not (int_eq z (pos 0)))
 
-abbrev pub act_text : ℕ → List Pair → ℕ → Act → List ℕ
-act_text size pairs held (show z q) = if is_joined held z then word (code_of pairs q) else closing held ++ own_text size pairs (show z q)
-act_text size pairs held act = closing held ++ own_text size pairs act
+abbrev pub leading : OpenArray → ℤ → List ℕ
+leading o z = if is_joined o z then [] else if is_further o z then further z else closing o ++ opening z
 
--- how many codes the string has then
-abbrev pub held_after : ℕ → Act → ℕ
-held_after held (show z q) = if is_joined held z then held + 1 else 1
-held_after held act = 0
+-- before a number at the end of the array, or in an array of its own
+abbrev pub last : OpenArray → ℕ
+last o = if o.codes == 0 then 91 else 62
 
-abbrev pub written : ℕ → List Pair → ℕ → List Act → List ℕ
-written size pairs held [] = closing held
-written size pairs held (act ∷ acts) = act_text size pairs held act ++ written size pairs (held_after held act) acts
+abbrev pub span_text : List ℕ → List ℕ
+span_text text = codes "/Span << /ActualText " ++ (hex_string (65279 ∷ units_of text) ++ codes " >> BDC\n")
+
+abbrev pub act_text : ℕ → List Pair → OpenArray → Act → List ℕ
+act_text size pairs o (begin text) = closing o ++ span_text text
+act_text size pairs o finish = closing o ++ codes "EMC\n"
+act_text size pairs o (raise z) = closing o ++ (rise_text size z ++ codes " Ts\n")
+act_text size pairs o (show z q) = leading o z ++ word (code_of pairs q)
+act_text size pairs o (back z) = last o ∷ (signed_decimal z ++ codes "]TJ\n")
+
+abbrev pub open_after_code : OpenArray → ℤ → OpenArray
+open_after_code o z = if is_joined o z then record { strings = o.strings; codes = o.codes + 1 } else if is_further o z then record { strings = o.strings + 1; codes = 1 } else record { strings = 1; codes = 1 }
+
+abbrev pub open_after : OpenArray → Act → OpenArray
+open_after o (show z q) = open_after_code o z
+open_after o act = shut
+
+abbrev pub written : ℕ → List Pair → OpenArray → List Act → List ℕ
+written size pairs o [] = closing o
+written size pairs o (act ∷ acts) = act_text size pairs o act ++ written size pairs (open_after o act) acts
 
 -- ---- all
 
 abbrev pub operators : ℕ → List Pair → List Act → List ℕ
-operators size pairs acts = written size pairs 0 acts
+operators size pairs acts = written size pairs shut acts

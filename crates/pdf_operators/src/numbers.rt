@@ -4,7 +4,7 @@ ghost use Rattle.std.specs.Prelude.{◌≡◌, ◌+◌, ◌*◌, ◌/◌, ◌%�
 ghost use Rattle.std.specs.Fmt.{signed_decimal};
 ghost use Rattle.subsetter_base.specs.declared.error.Error.TheVariants.{OutOfMemory};
 ghost use Rattle.pdf_text.specs.Numbers.{sign};
-ghost use Rattle.pdf_operators.specs.Operators.{millionths, rise_text, six_digits};
+ghost use Rattle.pdf_operators.specs.Operators.{fraction, millionths, rise_text, three_digits};
 
 use pdf_text::write_sign;
 use std::io::Write;
@@ -33,30 +33,48 @@ fn digit(n: u32) -> u8
     48 + (n % 10) as u8
 }
 
-/// Writes the last six digits.
-fn write_six_digits(text: &mut Vec<u8>, n: u32) -> Result<(), Error>
-    ensures ok { OnOk result (text.new.items ≡ text.old.items ++ six_digits n) }
+/// Writes the last three digits.
+fn write_three_digits(text: &mut Vec<u8>, n: u32) -> Result<(), Error>
+    ensures ok { OnOk result (text.new.items ≡ text.old.items ++ three_digits n) }
     ensures err { IfErr result (λ e. e ≡ OutOfMemory) }
 {
-    text.extend_from_slice(&[
-        digit(n / 100_000),
-        digit(n / 10_000),
-        digit(n / 1000),
-        digit(n / 100),
-        digit(n / 10),
-        digit(n),
-    ])?;
+    text.extend_from_slice(&[digit(n / 100), digit(n / 10), digit(n)])?;
     Ok(())
 }
 
-/// Writes a point and six digits.
-#[tactic(auto, using(pdf_text::proofs::Pieces::two_written))]
-fn write_fraction(text: &mut Vec<u8>, n: u32) -> Result<(), Error>
-    ensures ok { OnOk result (text.new.items ≡ text.old.items ++ 46 ∷ six_digits n) }
+/// Writes a point, and the last three digits of two numbers.
+#[tactic(auto, using(pdf_text::proofs::Written::three_written))]
+fn write_six_digits(text: &mut Vec<u8>, high: u32, low: u32) -> Result<(), Error>
+    ensures ok { OnOk result (text.new.items ≡ text.old.items ++ 46 ∷ (three_digits high ++ three_digits low)) }
     ensures err { IfErr result (λ e. e ≡ OutOfMemory) }
 {
     text.push(b'.')?;
-    write_six_digits(text, n)
+    write_three_digits(text, high)?;
+    write_three_digits(text, low)
+}
+
+/// Writes a point, and the last three digits.
+#[tactic(auto, using(pdf_text::proofs::Pieces::two_written))]
+fn write_thousandths(text: &mut Vec<u8>, n: u32) -> Result<(), Error>
+    ensures ok { OnOk result (text.new.items ≡ text.old.items ++ 46 ∷ three_digits n) }
+    ensures err { IfErr result (λ e. e ≡ OutOfMemory) }
+{
+    text.push(b'.')?;
+    write_three_digits(text, n)
+}
+
+/// Writes what is behind the whole of so many millionths.
+fn write_fraction(text: &mut Vec<u8>, n: u32) -> Result<(), Error>
+    ensures ok { OnOk result (text.new.items ≡ text.old.items ++ fraction n) }
+    ensures err { IfErr result (λ e. e ≡ OutOfMemory) }
+{
+    if n == 0 {
+        Ok(())
+    } else if n % 1000 == 0 {
+        write_thousandths(text, n / 1000)
+    } else {
+        write_six_digits(text, n / 1000, n)
+    }
 }
 
 /// Writes so many millionths, with the sign of a number.

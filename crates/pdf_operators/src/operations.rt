@@ -4,10 +4,10 @@ ghost use Rattle.std.specs.Prelude.{◌≡◌, ◌<◌, ◌*◌, ◌^◌, ◌++�
 ghost use Rattle.std.specs.Fmt.{signed_decimal};
 ghost use Rattle.std.specs.List.{flat_map};
 ghost use Rattle.subsetter_base.specs.declared.error.Error.TheVariants.{OutOfMemory};
-ghost use Rattle.pdf_text.specs.Cmaps.Cmap.{hex_string, word, words};
+ghost use Rattle.pdf_text.specs.Cmaps.Cmap.{word, words};
 ghost use Rattle.pdf_runs.specs.Clusters.{lists};
 ghost use Rattle.pdf_operators.specs.Content.{IsWritable, marks_of, said_in};
-ghost use Rattle.pdf_operators.specs.Operators.{act_of, act_text, acts_of, closing, code_of, is_joined, held_after, opening, operators, own_text, rise_text, text_of_all, units_of, written};
+ghost use Rattle.pdf_operators.specs.Operators.{act_of, act_text, acts_of, closing, code_of, further, is_further, is_joined, last, leading, number_text, open_after, open_after_code, opening, operators, rise_text, span_text, text_of_all, units_of, written};
 
 use crate::hex::write_characters;
 use crate::numbers::{write_integer, write_rise};
@@ -32,51 +32,125 @@ pub enum Operation<'a> {
     Back(i32),
 }
 
-/// Ends a string that has so many codes, and its array; 0 where there is none.
-fn write_closing(text: &mut Vec<u8>, held: usize) -> Result<(), Error>
-    ensures ok { OnOk result (text.new.items ≡ text.old.items ++ closing held) }
+/// The array of TJ that is open: how many strings it has, and how many codes the last of them; 0 of both where none is open.
+#[derive(Clone, Copy)]
+struct OpenArray {
+    strings: u32,
+    codes: u32,
+}
+
+/// Ends what is open.
+fn write_closing(text: &mut Vec<u8>, array: OpenArray) -> Result<(), Error>
+    ensures ok { OnOk result (text.new.items ≡ text.old.items ++ closing array) }
     ensures err { IfErr result (λ e. e ≡ OutOfMemory) }
 {
-    if held != 0 {
-        text.extend_from_slice(b"> ] TJ\n")?;
+    if array.codes != 0 {
+        text.extend_from_slice(b">]TJ\n")?;
     }
     Ok(())
 }
 
-/// Begins an array with a number.
-#[tactic(auto, using(pdf_text::proofs::Pieces::three_signed))]
-fn write_numbered(text: &mut Vec<u8>, back: i32) -> Result<(), Error>
-    ensures ok { OnOk result (text.new.items ≡ text.old.items ++ (codes "[ " ++ (signed_decimal back ++ codes " <"))) }
+/// Writes a number of an array, if the pen has to go.
+#[tactic(auto, using(pdf_text::proofs::Pieces::two_signed))]
+fn write_number(text: &mut Vec<u8>, back: i32) -> Result<(), Error>
+    ensures ok { OnOk result (text.new.items ≡ text.old.items ++ number_text back) }
     ensures err { IfErr result (λ e. e ≡ OutOfMemory) }
 {
-    text.extend_from_slice(b"[ ")?;
-    write_integer(text, back)?;
-    text.extend_from_slice(b" <")?;
+    if back != 0 {
+        write_integer(text, back)?;
+    }
     Ok(())
 }
 
 /// Begins an array and its string.
-#[tactic(auto, using(pdf_text::proofs::Pieces::two_signed))]
+#[tactic(auto, using(pdf_text::proofs::Pieces::three_signed))]
 fn write_opening(text: &mut Vec<u8>, back: i32) -> Result<(), Error>
     ensures ok { OnOk result (text.new.items ≡ text.old.items ++ opening back) }
     ensures err { IfErr result (λ e. e ≡ OutOfMemory) }
 {
-    if back == 0 {
-        text.extend_from_slice(b"[ <")?;
-        return Ok(());
-    }
-    write_numbered(text, back)
+    text.push(b'[')?;
+    write_number(text, back)?;
+    text.push(b'<')?;
+    Ok(())
 }
 
-/// Writes an array of one number.
+/// Ends a string, and begins another one of its array.
 #[tactic(auto, using(pdf_text::proofs::Pieces::three_signed))]
-fn write_back(text: &mut Vec<u8>, back: i32) -> Result<(), Error>
-    ensures ok { OnOk result (text.new.items ≡ text.old.items ++ (codes "[ " ++ (signed_decimal back ++ codes " ] TJ\n"))) }
+fn write_further(text: &mut Vec<u8>, back: i32) -> Result<(), Error>
+    ensures ok { OnOk result (text.new.items ≡ text.old.items ++ further back) }
     ensures err { IfErr result (λ e. e ≡ OutOfMemory) }
 {
-    text.extend_from_slice(b"[ ")?;
+    text.push(b'>')?;
     write_integer(text, back)?;
-    text.extend_from_slice(b" ] TJ\n")?;
+    text.push(b'<')?;
+    Ok(())
+}
+
+/// Ends what is open, and begins another array.
+#[tactic(auto, using(pdf_text::proofs::Pieces::two_signed))]
+fn write_apart(text: &mut Vec<u8>, array: OpenArray, back: i32) -> Result<(), Error>
+    ensures ok { OnOk result (text.new.items ≡ text.old.items ++ (closing array ++ opening back)) }
+    ensures err { IfErr result (λ e. e ≡ OutOfMemory) }
+{
+    write_closing(text, array)?;
+    write_opening(text, back)
+}
+
+/// Whether a code goes into the string that is open.
+fn is_joined(array: OpenArray, back: i32) -> bool
+    ensures { result ≡ is_joined array back }
+{
+    0 < array.codes && array.codes < 16_383 && back == 0
+}
+
+/// Whether it goes into another string of the array that is open.
+fn is_further(array: OpenArray, back: i32) -> bool
+    ensures { result ≡ is_further array back }
+{
+    0 < array.codes && array.strings < 4095 && back != 0
+}
+
+/// Writes what is before a code.
+#[tactic(auto, using(pdf_text::proofs::Pieces::two_signed))]
+fn write_leading(text: &mut Vec<u8>, array: OpenArray, back: i32) -> Result<(), Error>
+    ensures ok { OnOk result (text.new.items ≡ text.old.items ++ leading array back) }
+    ensures err { IfErr result (λ e. e ≡ OutOfMemory) }
+{
+    if is_joined(array, back) {
+        Ok(())
+    } else if is_further(array, back) {
+        write_further(text, back)
+    } else {
+        write_apart(text, array, back)
+    }
+}
+
+/// Writes a code.
+#[tactic(auto, using(pdf_text::proofs::Pieces::two_signed))]
+fn write_code(text: &mut Vec<u8>, array: OpenArray, back: i32, code: u16) -> Result<(), Error>
+    ensures ok { OnOk result (text.new.items ≡ text.old.items ++ (leading array back ++ word code)) }
+    ensures err { IfErr result (λ e. e ≡ OutOfMemory) }
+{
+    write_leading(text, array, back)?;
+    write_word(text, code)
+}
+
+/// What is before a number at the end of an array: the end of its string, or the beginning of an array of its own.
+fn last(array: OpenArray) -> u8
+    ensures { result ≡ last array }
+{
+    if array.codes == 0 { b'[' } else { b'>' }
+}
+
+/// Writes a number at the end of an array.
+#[tactic(auto, using(pdf_text::proofs::Pieces::three_signed))]
+fn write_back(text: &mut Vec<u8>, array: OpenArray, back: i32) -> Result<(), Error>
+    ensures ok { OnOk result (text.new.items ≡ text.old.items ++ last array ∷ (signed_decimal back ++ codes "]TJ\n")) }
+    ensures err { IfErr result (λ e. e ≡ OutOfMemory) }
+{
+    text.push(last(array))?;
+    write_integer(text, back)?;
+    text.extend_from_slice(b"]TJ\n")?;
     Ok(())
 }
 
@@ -105,7 +179,7 @@ fn write_texts(text: &mut Vec<u8>, clusters: &[&[Item<'_>]]) -> Result<(), Error
 /// Begins a span.
 #[tactic(auto, using(pdf_text::proofs::Written::three_written))]
 fn write_begin(text: &mut Vec<u8>, clusters: &[&[Item<'_>]]) -> Result<(), Error>
-    ensures ok { OnOk result (text.new.items ≡ text.old.items ++ (codes "/Span << /ActualText " ++ (hex_string (65279 ∷ units_of (text_of_all (lists clusters.now))) ++ codes " >> BDC\n"))) }
+    ensures ok { OnOk result (text.new.items ≡ text.old.items ++ span_text (text_of_all (lists clusters.now))) }
     ensures characters { OnOk result (All (λ c. c < 1114112) (text_of_all (lists clusters.now))) }
     ensures err { IfErr result (λ e. e ≡ OutOfMemory) }
 {
@@ -115,109 +189,96 @@ fn write_begin(text: &mut Vec<u8>, clusters: &[&[Item<'_>]]) -> Result<(), Error
     Ok(())
 }
 
-/// Sets the text rise.
-#[tactic(auto, using(pdf_text::proofs::Pieces::two_signed))]
-fn write_ts(text: &mut Vec<u8>, size: u32, z: i32) -> Result<(), Error>
-    ensures ok { OnOk result (text.new.items ≡ text.old.items ++ (rise_text size z ++ codes " Ts\n")) }
+/// Ends what is open, and begins a span.
+#[tactic(auto, using(pdf_text::proofs::Pieces::two_written))]
+fn write_span(text: &mut Vec<u8>, array: OpenArray, clusters: &[&[Item<'_>]]) -> Result<(), Error>
+    ensures ok { OnOk result (text.new.items ≡ text.old.items ++ (closing array ++ span_text (text_of_all (lists clusters.now)))) }
+    ensures characters { OnOk result (All (λ c. c < 1114112) (text_of_all (lists clusters.now))) }
+    ensures err { IfErr result (λ e. e ≡ OutOfMemory) }
+{
+    write_closing(text, array)?;
+    write_begin(text, clusters)
+}
+
+/// Ends what is open, and a span.
+#[tactic(auto, using(pdf_text::proofs::Pieces::two_written))]
+fn write_end(text: &mut Vec<u8>, array: OpenArray) -> Result<(), Error>
+    ensures ok { OnOk result (text.new.items ≡ text.old.items ++ (closing array ++ codes "EMC\n")) }
+    ensures err { IfErr result (λ e. e ≡ OutOfMemory) }
+{
+    write_closing(text, array)?;
+    text.extend_from_slice(b"EMC\n")?;
+    Ok(())
+}
+
+/// Ends what is open, and sets the text rise.
+#[tactic(auto, using(pdf_text::proofs::Pieces::three_signed))]
+fn write_ts(text: &mut Vec<u8>, array: OpenArray, size: u32, z: i32) -> Result<(), Error>
+    ensures ok { OnOk result (text.new.items ≡ text.old.items ++ (closing array ++ (rise_text size z ++ codes " Ts\n"))) }
     ensures bound { unsigned_abs z * size < 2 ^ 64 }
     ensures err { IfErr result (λ e. e ≡ OutOfMemory) }
 {
+    write_closing(text, array)?;
     write_rise(text, size, z)?;
     text.extend_from_slice(b" Ts\n")?;
     Ok(())
 }
 
-/// Begins a string with a code.
-#[tactic(auto, using(pdf_text::proofs::Pieces::two_signed))]
-fn write_first(text: &mut Vec<u8>, back: i32, code: u16) -> Result<(), Error>
-    ensures ok { OnOk result (text.new.items ≡ text.old.items ++ (opening back ++ word code)) }
-    ensures err { IfErr result (λ e. e ≡ OutOfMemory) }
-{
-    write_opening(text, back)?;
-    write_word(text, code)
-}
-
-/// Writes an operation that begins outside of a string.
-#[tactic(auto, using(pdf_text::proofs::Pieces::two_signed))]
-fn write_own(
-    text: &mut Vec<u8>,
-    size: u32,
-    pairs: &Remapper<u16, Pair>,
-    operation: Operation<'_>,
-) -> Result<(), Error>
-    ensures ok { OnOk result (text.new.items ≡ text.old.items ++ own_text size pairs.now (act_of operation.entry)) }
-    ensures writable { OnOk result (IsWritable size pairs.now (act_of operation.entry)) }
-    ensures err { IfErr result (λ e. e ≡ OutOfMemory) }
-{
-    match operation {
-        Operation::Begin(clusters) => write_begin(text, clusters),
-        Operation::End => {
-            text.extend_from_slice(b"EMC\n")?;
-            Ok(())
-        }
-        Operation::Rise(z) => write_ts(text, size, z),
-        Operation::Show(back, pair) => write_first(text, back, code_of(pairs, pair)),
-        Operation::Back(z) => write_back(text, z),
-    }
-}
-
-/// Whether a code goes into a string that has so many.
-fn is_joined(held: usize, back: i32) -> bool
-    ensures { result ≡ is_joined held back }
-{
-    0 < held && held < 16_383 && back == 0
-}
-
-/// Ends what is held, and writes an operation.
-#[tactic(auto, using(pdf_text::proofs::Pieces::two_written))]
-fn write_apart(
-    text: &mut Vec<u8>,
-    size: u32,
-    pairs: &Remapper<u16, Pair>,
-    held: usize,
-    operation: Operation<'_>,
-) -> Result<(), Error>
-    ensures ok { OnOk result (text.new.items ≡ text.old.items ++ (closing held ++ own_text size pairs.now (act_of operation.entry))) }
-    ensures writable { OnOk result (IsWritable size pairs.now (act_of operation.entry)) }
-    ensures err { IfErr result (λ e. e ≡ OutOfMemory) }
-{
-    write_closing(text, held)?;
-    write_own(text, size, pairs, operation)
-}
-
-/// Writes an operation behind a string that has so many codes.
+/// Writes an operation.
 #[tactic(auto, using(pdf_text::proofs::Pieces::two_signed))]
 fn write_operation(
     text: &mut Vec<u8>,
     size: u32,
     pairs: &Remapper<u16, Pair>,
-    held: usize,
+    array: OpenArray,
     operation: Operation<'_>,
 ) -> Result<(), Error>
-    ensures ok { OnOk result (text.new.items ≡ text.old.items ++ act_text size pairs.now held (act_of operation.entry)) }
+    ensures ok { OnOk result (text.new.items ≡ text.old.items ++ act_text size pairs.now array (act_of operation.entry)) }
     ensures writable { OnOk result (IsWritable size pairs.now (act_of operation.entry)) }
     ensures err { IfErr result (λ e. e ≡ OutOfMemory) }
 {
     match operation {
-        Operation::Show(back, pair) => {
-            if is_joined(held, back) {
-                write_word(text, code_of(pairs, pair))
-            } else {
-                write_apart(text, size, pairs, held, operation)
-            }
-        }
-        _ => write_apart(text, size, pairs, held, operation),
+        Operation::Begin(clusters) => write_span(text, array, clusters),
+        Operation::End => write_end(text, array),
+        Operation::Rise(z) => write_ts(text, array, size, z),
+        Operation::Show(back, pair) => write_code(text, array, back, code_of(pairs, pair)),
+        Operation::Back(back) => write_back(text, array, back),
     }
 }
 
-/// How many codes the string has behind an operation.
+/// What is open after a code.
+fn open_after_code(array: OpenArray, back: i32) -> OpenArray
+    ensures { result ≡ open_after_code array back }
+{
+    if is_joined(array, back) {
+        OpenArray {
+            strings: array.strings,
+            codes: array.codes + 1,
+        }
+    } else if is_further(array, back) {
+        OpenArray {
+            strings: array.strings + 1,
+            codes: 1,
+        }
+    } else {
+        OpenArray {
+            strings: 1,
+            codes: 1,
+        }
+    }
+}
+
+/// What is open after an operation.
 #[tactic(auto, using(pdf_text::proofs::Pieces::two_signed))]
-fn held_after(held: usize, operation: Operation<'_>) -> usize
-    ensures { result ≡ held_after held (act_of operation.entry) }
+fn open_after(array: OpenArray, operation: Operation<'_>) -> OpenArray
+    ensures { result ≡ open_after array (act_of operation.entry) }
 {
     match operation {
-        Operation::Show(back, _) => { if is_joined(held, back) { held + 1 } else { 1 } }
-        _ => 0,
+        Operation::Show(back, _) => open_after_code(array, back),
+        _ => OpenArray {
+            strings: 0,
+            codes: 0,
+        },
     }
 }
 
@@ -240,11 +301,14 @@ pub fn write_operators(
     ensures err { IfErr result (λ e. e ≡ OutOfMemory) }
 {
     let mut text = Vec::new(alloc);
-    let mut held = 0;
+    let mut array = OpenArray {
+        strings: 0,
+        codes: 0,
+    };
     for operation in operations {
-        write_operation(&mut text, size, pairs, held, *operation)?;
-        held = held_after(held, *operation);
+        write_operation(&mut text, size, pairs, array, *operation)?;
+        array = open_after(array, *operation);
     }
-    write_closing(&mut text, held)?;
+    write_closing(&mut text, array)?;
     Ok(text)
 }

@@ -1,10 +1,12 @@
 -- Texts and values that are made one behind the other.
-use Rattle.std.proofs.Common.{◌≡◌, ◌≤◌, ◌<◌, ℕ, zero, suc, ◌+◌, ◌-◌, ◌*◌, ◌/◌, Bool, true, false, List, [], ◌∷◌, ◌++◌, length, get_or, map, take, drop, decimal, refl, sym, ap, subst, ◌∙◌, append_assoc, ◌⊎◌, inl, inr, add-one, drop-cons, arith, length-append, length-drop, Vec, Global}
-use Rattle.std.specs.Prelude.{All, codes, is_some, min, if◌then◌else◌}
+use Rattle.std.proofs.Common.{◌≡◌, ◌≤◌, ◌<◌, ℕ, zero, suc, ◌+◌, ◌-◌, ◌*◌, ◌/◌, Bool, true, false, List, [], ◌∷◌, ◌++◌, length, get_or, map, take, drop, decimal, refl, sym, ap, subst, ◌∙◌, append_assoc, ◌⊎◌, inl, inr, add-one, drop-cons, arith, length-append, length-drop, Result, Vec, Global}
+use Rattle.std.specs.Prelude.{All, IfErr, IfOk, codes, is_some, min, if◌then◌else◌}
 use Rattle.std.specs.List.{concat}
 use Rattle.std.proofs.lemmas.List.{take_all, drop_all, map-append}
 use Rattle.std.proofs.lemmas.List.Elements.{All-nil, All-cons}
 use Rattle.std.proofs.lemmas.List.Folds.{concat-append}
+use Rattle.subsetter_base.specs.declared.error.Error.{Error}
+use Rattle.subsetter_base.specs.declared.error.Error.TheVariants.{OutOfMemory, OverflowError}
 use Rattle.pdf_text.specs.Cmaps.Cmap.{words}
 use Rattle.pdf_text.specs.Dictionaries.Entries.{reference}
 use Rattle.pdf_text.specs.Objects.{object_text, objects_from, offsets_from, font_objects}
@@ -14,10 +16,12 @@ use Rattle.pdf_text.proofs.MetricsLaws.WidthLaws.Read.{below_or_not}
 use Rattle.pdf_text.proofs.Written.{one_more_written, three_written, five_written}
 use Rattle.pdf_sheet.specs.Units.{units_of}
 use Rattle.pdf_sheet.specs.Content.{code_text, span_begin, shown_text, content, frame_of}
-use Rattle.pdf_sheet.specs.Pages.{kids, pages_value, stream_value, page_value, page_values, pages_by, pages_of, page_count, font_number, front_values, font_values, sheet_values}
-use Rattle.pdf_sheet.specs.File.{header, body_of, offsets_of, digits, row, rows, table_front, trailer, table_and_trailer}
+use Rattle.pdf_sheet.specs.Lines.{line_objects, line_pages, lines_front, lines_values}
+use Rattle.pdf_sheet.specs.Pages.{HasNoFile, kids, pages_value, stream_value, page_value, page_values, pages_by, pages_of, page_count, font_number, front_values, font_values, sheet_values}
+use Rattle.pdf_sheet.specs.File.{AreInTable, header, body_of, offsets_of, file_of, digits, row, rows, table_front, trailer, table_and_trailer}
 use Rattle.pdf_sheet.specs.View.{texts_view}
 use Rattle.pdf_sheet.specs.declared.glyphs.SheetGlyph.{SheetGlyph}
+use Rattle.pdf_sheet.specs.declared.lines.SheetLine.{SheetLine}
 use Rattle.pdf_sheet.specs.declared.frame.Frame.{Frame}
 use Rattle.pdf_sheet.specs.declared.frame.Layout.{Layout}
 use Rattle.pdf_sheet.specs.declared.frame.Layout.TheVariants.{Line, Grid}
@@ -188,22 +192,75 @@ font_within text offsets ts e f =
     let size : length text ≡ length (concat ts) = ap length e in
     subst (λ (os : List ℕ). All (λ o. o ≤ length text) os) (sym f) (offsets_within 0 ts (length text) (omega arith))
 
-pub sheet_text : (layout : Layout) (v : FontValues) (gs : List SheetGlyph) (frame : Frame) (front : List (List ℕ)) (first : ℕ) (old font new : List ℕ) → frame ≡ frame_of layout (is_some v.columns) gs → front ≡ front_values layout frame gs → first ≡ font_number (page_count layout (length gs)) → old ≡ body_of front → font ≡ concat (font_objects first v) → new ≡ old ++ font → new ≡ body_of (sheet_values layout v gs)
-sheet_text layout v gs frame front first old font new a b e f g h =
-    let P : Frame → Type 0 = λ (fr : Frame). body_of (front_values layout fr gs ++ font_values first v) ≡ body_of (front_values layout fr gs) ++ concat (font_objects first v) in
-    let own : P frame = body_joined (front_values layout frame gs) (font_values first v) first (e ∙ length-front layout frame gs) in
-    h ∙ ap (λ (l : List ℕ). l ++ font) (f ∙ ap body_of b) ∙ ap (λ (l : List ℕ). body_of (front_values layout frame gs) ++ l) g
-    ∙ sym own ∙ ap (λ n. body_of (front_values layout frame gs ++ font_values n v)) e
-    ∙ ap (λ (fr : Frame). body_of (front_values layout fr gs ++ font_values (font_number (page_count layout (length gs))) v)) a
+pub joined_text : (front : List (List ℕ)) (v : FontValues) (first : ℕ) (old font new : List ℕ) → first ≡ 1 + length front → old ≡ body_of front → font ≡ concat (font_objects first v) → new ≡ old ++ font → new ≡ body_of (front ++ font_values first v)
+joined_text front v first old font new e f g h =
+    h ∙ ap (λ (l : List ℕ). l ++ font) f ∙ ap (λ (l : List ℕ). body_of front ++ l) g ∙ sym (body_joined front (font_values first v) first e)
 
-pub sheet_offsets : (layout : Layout) (v : FontValues) (gs : List SheetGlyph) (frame : Frame) (front : List (List ℕ)) (first : ℕ) (text old font new : List ℕ) → frame ≡ frame_of layout (is_some v.columns) gs → front ≡ front_values layout frame gs → first ≡ font_number (page_count layout (length gs)) → text ≡ body_of front → old ≡ offsets_of front → font ≡ offsets_from 0 (font_objects first v) → new ≡ old ++ map (λ o. length text + o) font → new ≡ offsets_of (sheet_values layout v gs)
-sheet_offsets layout v gs frame front first text old font new a b e t f g h =
-    h ∙ ap (λ (l : List ℕ). l ++ map (λ o. length text + o) font) (f ∙ ap offsets_of b)
-    ∙ ap (λ (l : List ℕ). offsets_of (front_values layout frame gs) ++ map (λ o. length l + o) font) (t ∙ ap body_of b)
-    ∙ ap (λ (l : List ℕ). offsets_of (front_values layout frame gs) ++ map (λ o. length (body_of (front_values layout frame gs)) + o) l) g
-    ∙ sym (offsets_joined (front_values layout frame gs) (font_values first v) first (e ∙ length-front layout frame gs))
-    ∙ ap (λ n. offsets_of (front_values layout frame gs ++ font_values n v)) e
-    ∙ ap (λ (fr : Frame). offsets_of (front_values layout fr gs ++ font_values (font_number (page_count layout (length gs))) v)) a
+pub joined_offsets : (front : List (List ℕ)) (v : FontValues) (first : ℕ) (text old font new : List ℕ) → first ≡ 1 + length front → text ≡ body_of front → old ≡ offsets_of front → font ≡ offsets_from 0 (font_objects first v) → new ≡ old ++ map (λ o. length text + o) font → new ≡ offsets_of (front ++ font_values first v)
+joined_offsets front v first text old font new e t f g h =
+    h ∙ ap (λ (l : List ℕ). l ++ map (λ o. length text + o) font) f
+    ∙ ap (λ (l : List ℕ). offsets_of front ++ map (λ o. length l + o) font) t
+    ∙ ap (λ (l : List ℕ). offsets_of front ++ map (λ o. length (body_of front) + o) l) g
+    ∙ sym (offsets_joined front (font_values first v) first e)
+
+length-view : (texts : List (Vec ℕ Global)) → length (texts_view texts) ≡ length texts
+length-view [] = refl
+length-view (t ∷ ts) = ap suc (length-view ts)
+
+pub view_behind : (texts : List (Vec ℕ Global)) → 1 + length texts ≡ 1 + length (texts_view texts)
+view_behind texts = ap (λ n. 1 + n) (sym (length-view texts))
+
+pub sheet_first : (layout : Layout) (gs : List SheetGlyph) (frame : Frame) (front : List (Vec ℕ Global)) (first : ℕ) → texts_view front ≡ front_values layout frame gs → first ≡ font_number (page_count layout (length gs)) → first ≡ 1 + length front
+sheet_first layout gs frame front first f e = e ∙ length-front layout frame gs ∙ ap (λ (vs : List (List ℕ)). 1 + length vs) (sym f) ∙ ap (λ n. 1 + n) (length-view front)
+
+pub sheet_whole : (layout : Layout) (v : FontValues) (gs : List SheetGlyph) (frame : Frame) (front : List (List ℕ)) (first : ℕ) → frame ≡ frame_of layout (is_some v.columns) gs → front ≡ front_values layout frame gs → first ≡ font_number (page_count layout (length gs)) → front ++ font_values first v ≡ sheet_values layout v gs
+sheet_whole layout v gs frame front first a b e =
+    ap (λ (vs : List (List ℕ)). vs ++ font_values first v) b ∙ ap (λ n. front_values layout frame gs ++ font_values n v) e
+    ∙ ap (λ (fr : Frame). front_values layout fr gs ++ font_values (font_number (page_count layout (length gs))) v) a
+
+-- ---- lines
+
+length-line_pages : (vertical : Bool) (font n : ℕ) (ls : List SheetLine) → length (line_pages vertical font n ls) ≡ 2 * length ls
+length-line_pages vertical font n [] = refl
+length-line_pages vertical font n (l ∷ ls) = let rest : length (line_pages vertical font (n + 2) ls) ≡ 2 * length ls = length-line_pages vertical font (n + 2) ls in omega arith
+
+pub lines_first : (vertical : Bool) (ls : List SheetLine) (front : List (Vec ℕ Global)) (first : ℕ) → texts_view front ≡ lines_front vertical ls → first ≡ font_number (length ls) → first ≡ 1 + length front
+lines_first vertical ls front first f e =
+    let size : length (texts_view front) ≡ length (lines_front vertical ls) = ap length f in
+    let same : length (texts_view front) ≡ length front = length-view front in
+    let pages : length (line_pages vertical (font_number (length ls)) 3 ls) ≡ 2 * length ls = length-line_pages vertical (font_number (length ls)) 3 ls in
+    omega arith
+
+pub lines_whole : (v : FontValues) (ls : List SheetLine) (front : List (List ℕ)) (first : ℕ) → front ≡ lines_front (is_some v.columns) ls → first ≡ font_number (length ls) → front ++ font_values first v ≡ lines_values v ls
+lines_whole v ls front first b e =
+    ap (λ (vs : List (List ℕ)). vs ++ font_values first v) b ∙ ap (λ n. lines_front (is_some v.columns) ls ++ font_values n v) e
+
+-- ---- a file under another name of its values
+
+pub named_file : (r : Result (Vec ℕ Global) Error) (vs ws : List (List ℕ)) → vs ≡ ws → IfOk r (λ file. file.items ≡ file_of vs) → IfOk r (λ file. file.items ≡ file_of ws)
+named_file r vs ws e h = subst (λ (us : List (List ℕ)). IfOk r (λ file. file.items ≡ file_of us)) e h
+
+pub named_table : (r : Result (Vec ℕ Global) Error) (vs ws : List (List ℕ)) → vs ≡ ws → IfOk r (λ file. AreInTable file.items (length (body_of vs)) vs) → IfOk r (λ file. AreInTable file.items (length (body_of ws)) ws)
+named_table r vs ws e h = subst (λ (us : List (List ℕ)). IfOk r (λ file. AreInTable file.items (length (body_of us)) us)) e h
+
+pub named_fault : (r : Result (Vec ℕ Global) Error) (v : FontValues) (m n : ℕ) (vs ws : List (List ℕ)) → m ≡ n → vs ≡ ws → IfErr r (λ e. (e ≡ OutOfMemory) ⊎ ((e ≡ OverflowError) × HasNoFile m v vs)) → IfErr r (λ e. (e ≡ OutOfMemory) ⊎ ((e ≡ OverflowError) × HasNoFile n v ws))
+named_fault r v m n vs ws d f h =
+    let first : IfErr r (λ e. (e ≡ OutOfMemory) ⊎ ((e ≡ OverflowError) × HasNoFile n v vs)) = subst (λ k. IfErr r (λ e. (e ≡ OutOfMemory) ⊎ ((e ≡ OverflowError) × HasNoFile k v vs))) d h in
+    subst (λ (us : List (List ℕ)). IfErr r (λ e. (e ≡ OutOfMemory) ⊎ ((e ≡ OverflowError) × HasNoFile n v us))) f first
+
+line_by : (ls : List SheetLine) (i : ℕ) (d : SheetLine) → i < length ls → drop i ls ≡ get_or ls i d ∷ drop (suc i) ls
+line_by [] i d l = absurd (omega arith)
+line_by (x ∷ ls) zero d l = refl
+line_by (x ∷ ls) (suc i) d l = line_by ls i d (omega arith)
+
+-- one line more
+pub line_more : (vertical : Bool) (font : ℕ) (vs vs1 : List (List ℕ)) (n : ℕ) (ls : List SheetLine) (i : ℕ) (d : SheetLine) (all : List (List ℕ)) → i < length ls → vs1 ≡ vs ++ line_objects vertical font n (get_or ls i d) → vs ++ line_pages vertical font n (drop i ls) ≡ all → vs1 ++ line_pages vertical font (n + 2) (drop (i + 1) ls) ≡ all
+line_more vertical font vs vs1 n ls i d all l e f =
+    let same : i + 1 ≡ suc i = omega arith in
+    ap (λ m. vs1 ++ line_pages vertical font (n + 2) (drop m ls)) same
+    ∙ ap (λ (t : List (List ℕ)). t ++ line_pages vertical font (n + 2) (drop (suc i) ls)) e
+    ∙ list_assoc vs (line_objects vertical font n (get_or ls i d)) (line_pages vertical font (n + 2) (drop (suc i) ls))
+    ∙ ap (λ (t : List SheetLine). vs ++ line_pages vertical font n t) (sym (line_by ls i d l)) ∙ f
 
 -- ---- digits
 

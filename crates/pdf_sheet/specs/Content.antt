@@ -52,14 +52,18 @@ advance_of [] = 0
 advance_of (g ∷ gs) = g.advance + advance_of gs
 
 -- the points of a line, of 36 an em, and a margin of 36 on each side: at most 14,400, which is the most that a page takes (Annex C)
-abbrev pub line_extent : List SheetGlyph → ℕ
-line_extent gs = 72 + (36 * min (advance_of gs) 398000 + 999) / 1000
+abbrev pub extent : ℕ → ℕ
+extent advance = 72 + (36 * min advance 398000 + 999) / 1000
+
+-- the page of a line that goes on by thousandths of the em
+abbrev pub line_frame : Bool → ℕ → Frame
+line_frame false advance = record { layout = Line; vertical = false; width = extent advance; height = 144 }
+line_frame true advance = record { layout = Line; vertical = true; width = 144; height = extent advance }
 
 -- the page: A4, or as long as a line
 abbrev pub frame_of : Layout → Bool → List SheetGlyph → Frame
 frame_of Grid vertical gs = record { layout = Grid; vertical = vertical; width = 595; height = 842 }
-frame_of Line false gs = record { layout = Line; vertical = false; width = line_extent gs; height = 144 }
-frame_of Line true gs = record { layout = Line; vertical = true; width = 144; height = line_extent gs }
+frame_of Line vertical gs = line_frame vertical (advance_of gs)
 
 -- glyphs with so many before them
 abbrev pub glyphs_text : Frame → ℕ → List SheetGlyph → List ℕ

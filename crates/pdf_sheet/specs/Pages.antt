@@ -72,6 +72,10 @@ font_values first v = values_of v (references_from first v) (objects_of v)
 abbrev pub sheet_values : Layout → FontValues → List SheetGlyph → List (List ℕ)
 sheet_values layout v gs = front_values layout (frame_of layout (is_some v.columns) gs) gs ++ font_values (font_number (page_count layout (length gs))) v
 
--- why there is none: numbers of objects have 32 bits, offsets ten digits, and CIDs 16 bits
+-- why there is no file of such values, of a font with this number: numbers of objects have 32 bits, offsets ten digits, and CIDs 16 bits
+abbrev pub HasNoFile : ℕ → FontValues → List (List ℕ) → Type 0
+HasNoFile first v values = (2 ^ 32 ≤ first + most_objects v) ⊎ ((10000000000 ≤ length (body_of values)) ⊎ HasManyColumns v.columns)
+
+-- why there is no sheet
 abbrev pub IsTooLarge : Layout → FontValues → List SheetGlyph → Type 0
-IsTooLarge layout v gs = (2 ^ 32 ≤ font_number (page_count layout (length gs)) + most_objects v) ⊎ ((10000000000 ≤ length (body_of (sheet_values layout v gs))) ⊎ HasManyColumns v.columns)
+IsTooLarge layout v gs = HasNoFile (font_number (page_count layout (length gs))) v (sheet_values layout v gs)

@@ -2,7 +2,7 @@
 
 ghost use Rattle.std.specs.Prelude.{◌≡◌, ◌≤◌, ◌<◌, ◌+◌, ◌-◌, ◌*◌, ◌/◌, ◌++◌, IfErr, OnOk, min};
 ghost use Rattle.subsetter_base.specs.declared.error.Error.TheVariants.{OutOfMemory};
-ghost use Rattle.pdf_sheet.specs.Content.{position_text, cell_x, cell_y, line_position, glyph_position, advance_of, line_extent, frame_of};
+ghost use Rattle.pdf_sheet.specs.Content.{position_text, cell_x, cell_y, line_position, glyph_position, advance_of, extent, frame_of, line_frame};
 
 use crate::glyphs::SheetGlyph;
 use pdf_text::write_count;
@@ -39,15 +39,45 @@ fn advance_of(glyphs: &[SheetGlyph<'_>]) -> u64
     advance
 }
 
-/// The points of a line.
-fn line_extent(glyphs: &[SheetGlyph<'_>]) -> usize
-    ensures value { result ≡ line_extent glyphs.now }
+/// The points of a line that goes on by thousandths of the em, up to a bound.
+fn extent(advance: u64) -> usize
+    requires { advance ≤ 398000 }
+    ensures { result ≡ extent advance }
 {
-    let advance = advance_of(glyphs);
     72 + ((36 * advance + 999) / 1000) as usize
 }
 
+/// The page of a line that goes on by thousandths of the em, up to a bound.
+fn frame_of_line(vertical: bool, advance: u64) -> Frame
+    requires { advance ≤ 398000 }
+    ensures { result ≡ line_frame vertical advance }
+{
+    if vertical {
+        return Frame {
+            layout: Layout::Line,
+            vertical,
+            width: 144,
+            height: extent(advance),
+        };
+    }
+    Frame {
+        layout: Layout::Line,
+        vertical,
+        width: extent(advance),
+        height: 144,
+    }
+}
+
+/// The page of a line that goes on by thousandths of the em.
+#[tactic(auto, using(crate::proofs::Frames::same_frame))]
+pub fn line_frame(vertical: bool, advance: u32) -> Frame
+    ensures { result ≡ line_frame vertical advance }
+{
+    frame_of_line(vertical, u64::from(advance).min(398_000))
+}
+
 /// The page.
+#[tactic(auto, using(crate::proofs::Frames::same_frame))]
 pub fn frame_of(layout: Layout, vertical: bool, glyphs: &[SheetGlyph<'_>]) -> Frame
     ensures { result ≡ frame_of layout vertical glyphs.now }
 {
@@ -58,23 +88,7 @@ pub fn frame_of(layout: Layout, vertical: bool, glyphs: &[SheetGlyph<'_>]) -> Fr
             width: 595,
             height: 842,
         },
-        Layout::Line => {
-            if vertical {
-                Frame {
-                    layout,
-                    vertical,
-                    width: 144,
-                    height: line_extent(glyphs),
-                }
-            } else {
-                Frame {
-                    layout,
-                    vertical,
-                    width: line_extent(glyphs),
-                    height: 144,
-                }
-            }
-        }
+        Layout::Line => frame_of_line(vertical, advance_of(glyphs)),
     }
 }
 
@@ -111,7 +125,7 @@ fn cell_y(place: usize) -> usize
 }
 
 /// Writes where a line begins.
-fn write_line_position(text: &mut Vec<u8>, vertical: bool, height: usize) -> Result<(), Error>
+pub fn write_line_position(text: &mut Vec<u8>, vertical: bool, height: usize) -> Result<(), Error>
     ensures ok { OnOk result (text.new.items ≡ text.old.items ++ line_position vertical height) }
     ensures err { IfErr result (λ e. e ≡ OutOfMemory) }
 {

@@ -19,7 +19,7 @@ use subsetter_base::Error;
 
 /// Writes a reference to an object.
 #[tactic(auto, using(pdf_text::proofs::Pieces::two_written))]
-fn write_reference(text: &mut Vec<u8>, n: usize) -> Result<(), Error>
+pub fn write_reference(text: &mut Vec<u8>, n: usize) -> Result<(), Error>
     ensures ok { OnOk result (text.new.items ≡ text.old.items ++ reference n) }
     ensures err { IfErr result (λ e. e ≡ OutOfMemory) }
 {
@@ -53,7 +53,7 @@ fn write_kids(text: &mut Vec<u8>, count: usize) -> Result<(), Error>
 
 /// Writes how many pages there are, and which objects they are.
 #[tactic(auto, using(pdf_text::proofs::Written::four_written))]
-fn write_page_tree(text: &mut Vec<u8>, count: usize) -> Result<(), Error>
+pub fn write_page_tree(text: &mut Vec<u8>, count: usize) -> Result<(), Error>
     requires { count < 2 ^ 60 }
     ensures ok { OnOk result (text.new.items ≡ text.old.items ++ (codes "<< /Type /Pages /Count " ++ (decimal count ++ (codes " /Kids [" ++ kids 3 count)))) }
     ensures err { IfErr result (λ e. e ≡ OutOfMemory) }
@@ -121,7 +121,7 @@ fn write_stream_front(text: &mut Vec<u8>, size: usize) -> Result<(), Error>
 
 /// A stream of these bytes.
 #[tactic(auto, using(crate::proofs::Steps::stream_written))]
-fn stream_value(alloc: Global, bytes: &[u8]) -> Result<Vec<u8>, Error>
+pub fn stream_value(alloc: Global, bytes: &[u8]) -> Result<Vec<u8>, Error>
     ensures ok { IfOk result (λ text. text.items ≡ stream_value bytes.now) }
     ensures err { IfErr result (λ e. e ≡ OutOfMemory) }
 {

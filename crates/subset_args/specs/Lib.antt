@@ -1,5 +1,6 @@
 pub mod Limits
 pub mod Options
+pub mod Forms
 pub mod Request
 pub mod View
 pub mod Listing

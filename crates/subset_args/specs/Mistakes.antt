@@ -1,50 +1,52 @@
--- What is wrong with an argument, by itself.
-use Rattle.std.specs.Prelude.{◌≡◌, ◌≢◌, ◌⊎◌, ℕ, true, false, List, None}
-use Rattle.std.specs.Str.{IsUtf8}
-use Rattle.subset_args.specs.Listing.Lists.{ends_in, descends}
-use Rattle.subset_args.specs.Listing.Characters.{codes_in, codes_descend}
-use Rattle.subset_args.specs.Request.{topic_of, is_batch}
-use Rattle.subset_args.specs.Words.{number_in_bits}
-use Rattle.subset_args.specs.Coordinates.{coordinate_in}
-use Rattle.subset_args.specs.Options.{kind_of, looks_like_option, coding_in, holds_rights}
-use Rattle.subset_args.specs.declared.options.names.Kind.TheVariants.{Place}
-use Rattle.subset_args.specs.declared.mistakes.mistake.Wrong.{Wrong}
-use Rattle.subset_args.specs.declared.mistakes.mistake.Wrong.TheVariants.{NoInput, NoOutput, NoIndex, NoGlyphs, Further, BehindShown, Late, ShownLate, NoBatchFile, BehindBatch, BatchLate, Unknown, Twice, NoValue, GlyphsTwice, BesideOption, InputTwice, Index, FaceIndex, MostInput, Glyph, Limits, Coordinate, Part, Descends, Codes, CodesDescend, TooMany, BesideInput, NoOutputOption, NoSource, Coding, Rights, NoPdf, OutputTwice}
+-- What is wrong with the arguments, first.
+use Rattle.std.specs.Prelude.{◌≡◌, ℕ, List, Option, Some, None, Result, Ok, Err}
+use Rattle.subset_args.specs.declared.mistakes.Wrong.{Wrong}
+use Rattle.subset_args.specs.declared.mistakes.Mistake.{Mistake}
+use Rattle.subset_args.specs.declared.mistakes.Unread.{Unread}
+use Rattle.subset_args.specs.declared.mistakes.Unread.TheVariants as unread
 
--- what is said of an argument, or of a value that it lists, is so as far as its own bytes show
-abbrev pub IsWrong : Wrong → List ℕ → Type 0
-IsWrong NoInput word = Unit {0}
-IsWrong NoOutput word = Unit {0}
-IsWrong NoIndex word = Unit {0}
-IsWrong NoGlyphs word = Unit {0}
-IsWrong Further word = Unit {0}
-IsWrong BehindShown word = Unit {0}
-IsWrong Late word = kind_of word ≢ Place
-IsWrong ShownLate word = topic_of word ≢ None
-IsWrong NoBatchFile word = Unit {0}
-IsWrong BehindBatch word = Unit {0}
-IsWrong BatchLate word = is_batch word ≡ true
-IsWrong Unknown word = (kind_of word ≡ Place) × (looks_like_option word ≡ true)
-IsWrong Twice word = kind_of word ≢ Place
-IsWrong NoValue word = kind_of word ≢ Place
-IsWrong GlyphsTwice word = Unit {0}
-IsWrong BesideOption word = Unit {0}
-IsWrong InputTwice word = Unit {0}
-IsWrong Index word = number_in_bits 32 word ≡ None
-IsWrong FaceIndex word = number_in_bits 32 word ≡ None
-IsWrong MostInput word = number_in_bits 32 word ≡ None
-IsWrong Glyph word = number_in_bits 16 word ≡ None
-IsWrong Limits word = Unit {0}
-IsWrong Coordinate word = coordinate_in word ≡ None
-IsWrong Part word = ¬ (IsUtf8 word) ⊎ (ends_in word ≡ None)
-IsWrong Descends word = descends word ≡ true
-IsWrong Codes word = ¬ (IsUtf8 word) ⊎ (codes_in word ≡ None)
-IsWrong CodesDescend word = codes_descend word ≡ true
-IsWrong TooMany word = Unit {0}
-IsWrong BesideInput word = Unit {0}
-IsWrong NoOutputOption word = Unit {0}
-IsWrong NoSource word = Unit {0}
-IsWrong Coding word = coding_in word ≡ None
-IsWrong Rights word = holds_rights word ≡ false
-IsWrong NoPdf word = Unit {0}
-IsWrong OutputTwice word = Unit {0}
+-- what is wrong, and with which argument or part of a list; no bytes where one is missing
+pub record Fault : Type 0 where
+  pub wrong : Wrong
+  pub word : List ℕ
+
+abbrev pub refused : {A : Type 0} → Wrong → List ℕ → Result A Fault
+refused wrong word = Err (record { wrong = wrong; word = word })
+
+infixl 10 ◌>>=◌
+abbrev pub ◌>>=◌ : {A B : Type 0} → Result A Fault → (A → Result B Fault) → Result B Fault
+(Ok x) >>= f = f x
+(Err e) >>= f = Err e
+
+-- a value that is there, or what is wrong
+abbrev pub or_fault : {A : Type 0} → Fault → Option A → Result A Fault
+or_fault fault None = Err fault
+or_fault fault (Some x) = Ok x
+
+abbrev pub or_refused : {A : Type 0} → Wrong → List ℕ → Option A → Result A Fault
+or_refused wrong word None = refused wrong word
+or_refused wrong word (Some x) = Ok x
+
+-- the value, unless something is wrong
+abbrev pub unless : {A : Type 0} → Option Fault → Result A Fault → Result A Fault
+unless None more = more
+unless (Some fault) more = Err fault
+
+-- ---- what the code answers
+
+abbrev pub fault_view : Mistake → Fault
+fault_view m = record { wrong = m.wrong; word = m.word.now }
+
+abbrev pub read_view : {X Y : Type 0} → (X → Y) → Result X Mistake → Result Y Fault
+read_view view (Ok x) = Ok (view x)
+read_view view (Err m) = Err (fault_view m)
+
+-- the reading fails so, unless memory ran out
+abbrev pub Fails : {Y : Type 0} → Unread → Result Y Fault → Type 0
+Fails unread.OutOfMemory read = Unit {0}
+Fails (unread.Mistake m) read = read ≡ Err (fault_view m)
+
+-- what is answered, seen by view, is what the reading gives, unless memory ran out
+abbrev pub Gives : {X Y : Type 0} → (X → Y) → Result X Unread → Result Y Fault → Type 0
+Gives view (Ok x) read = read ≡ Ok (view x)
+Gives view (Err e) read = Fails e read

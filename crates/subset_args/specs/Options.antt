@@ -1,9 +1,11 @@
--- The options in front of IN.
-use Rattle.std.specs.Prelude.{Bool, true, false, not, ◌&&◌, ◌||◌, ◌==◌, nat_lt, if◌then◌else◌, ℕ, List, [], ◌∷◌, length, slice_index, Option, Some, None, codes, is_some}
-use Rattle.std.specs.Option.{option_map, option_and_then}
+-- The options, and what they choose.
+use Rattle.std.specs.Prelude.{Bool, true, false, if◌then◌else◌, ℕ, List, Option, Some, None, Result, Ok, codes, is_some}
 use Rattle.std.specs.Str.{bytes_eq}
 use Rattle.subset_args.specs.Words.{number_in_bits}
 use Rattle.subset_args.specs.Limits.{Bounds, limits_in}
+use Rattle.subset_args.specs.Mistakes.{Fault, refused, or_refused, ◌>>=◌}
+use Rattle.subset_args.specs.declared.mistakes.Wrong.TheVariants as wrong
+use Rattle.subset_args.specs.declared.mistakes.Wrong.TheVariants.{Twice, GlyphsTwice}
 use Rattle.subset_args.specs.declared.options.names.Switch.{Switch}
 use Rattle.subset_args.specs.declared.options.names.Switch.TheVariants.{Widths, NoHinting, NoNames, NoGlyphNames, Small, Json, Quiet, Verbose, Vertical}
 use Rattle.subset_args.specs.declared.options.names.Setting.{Setting}
@@ -117,37 +119,9 @@ pub record Choice : Type 0 where
 abbrev pub no_choice : Choice
 no_choice = record { switches = record { widths = false; no_hinting = false; no_names = false; no_glyph_names = false; small = false; json = false; quiet = false; verbose = false; vertical = false }; limits = None; source = None; at = None; output = None; index = None; most_input = None; pdf = None; coding = None; is_held = false }
 
--- with an option without a value; none where it was given before
-abbrev pub with_switch : Switch → Choice → Option Choice
-with_switch switch choice = if is_on switch choice.switches then None else Some (record choice { switches = switched_on switch choice.switches })
-
--- with limits; none where they were given before, or aren't as they should be
-abbrev pub with_limits : List ℕ → Choice → Option Choice
-with_limits value choice = if is_some choice.limits then None else option_map (λ limits. record choice { limits = Some limits }) (limits_in value)
-
--- with a place where the glyphs are found; none where one was given before
-abbrev pub with_source : GlyphSource → Choice → Option Choice
-with_source source choice = if is_some choice.source then None else Some (record choice { source = Some source })
-
--- with user coordinates; none where they were given before
-abbrev pub with_at : List ℕ → Choice → Option Choice
-with_at value choice = if is_some choice.at then None else Some (record choice { at = Some value })
-
--- with OUT; none where it was given before
-abbrev pub with_output : List ℕ → Choice → Option Choice
-with_output value choice = if is_some choice.output then None else Some (record choice { output = Some value })
-
--- with INDEX; none where it was given before, or is no number
-abbrev pub with_index : List ℕ → Choice → Option Choice
-with_index value choice = if is_some choice.index then None else option_map (λ index. record choice { index = Some index }) (number_in_bits 32 value)
-
--- with the most bytes of IN; none where they were given before, or are no number
-abbrev pub with_most_input : List ℕ → Choice → Option Choice
-with_most_input value choice = if is_some choice.most_input then None else option_map (λ most. record choice { most_input = Some most }) (number_in_bits 32 value)
-
--- with the file of a PDF; none where it was given before
-abbrev pub with_pdf : List ℕ → Choice → Option Choice
-with_pdf value choice = if is_some choice.pdf then None else Some (record choice { pdf = Some value })
+-- with an option without a value
+abbrev pub with_switch : Switch → List ℕ → Choice → Result Choice Fault
+with_switch switch word choice = if is_on switch choice.switches then refused Twice word else Ok (record choice { switches = switched_on switch choice.switches })
 
 -- how the glyphs of a PDF get codes
 abbrev pub coding_in : List ℕ → Option Coding
@@ -157,83 +131,30 @@ coding_in word =
     else if bytes_eq word (codes "text") then Some EachText
     else None
 
--- with that; none where it was given before, or is none of these
-abbrev pub with_coding : List ℕ → Choice → Option Choice
-with_coding value choice = if is_some choice.coding then None else option_map (λ coding. record choice { coding = Some coding }) (coding_in value)
-
 abbrev pub holds_rights : List ℕ → Bool
 holds_rights word = bytes_eq word (codes "held")
 
--- with the rights to embed the font; none where they were given before, or by another word
-abbrev pub with_rights : List ℕ → Choice → Option Choice
-with_rights value choice = if choice.is_held || not (holds_rights value) then None else Some (record choice { is_held = true })
+-- what follows an option that is given once
+abbrev pub once : Bool → List ℕ → Result Choice Fault → Result Choice Fault
+once given word more = if given then refused Twice word else more
+
+-- with a place where the glyphs are found
+abbrev pub with_source : List ℕ → GlyphSource → Choice → Result Choice Fault
+with_source word source choice = if is_some choice.source then refused GlyphsTwice word else Ok (record choice { source = Some source })
 
 -- with an option and its value
-abbrev pub with_setting : Setting → List ℕ → Choice → Option Choice
-with_setting Limits value choice = with_limits value choice
-with_setting GidsFile value choice = with_source (in_file OfGlyphs value) choice
-with_setting Text value choice = with_source (by_text value) choice
-with_setting At value choice = with_at value choice
-with_setting Gids value choice = with_source (in_list value) choice
-with_setting FaceIndex value choice = with_index value choice
-with_setting Output value choice = with_output value choice
-with_setting TextFile value choice = with_source (in_file OfText value) choice
-with_setting Unicodes value choice = with_source (in_codes value) choice
-with_setting UnicodesFile value choice = with_source (in_file OfCharacters value) choice
-with_setting Pdf value choice = with_pdf value choice
-with_setting Codes value choice = with_coding value choice
-with_setting Rights value choice = with_rights value choice
-with_setting MostInput value choice = with_most_input value choice
-
--- what the arguments with options in front say: that help or the version is wanted, or what is chosen, and the arguments behind the options
-pub data Options : Type 0 where
-  helped : Options
-  versioned : Options
-  chosen : Choice → List (List ℕ) → Options
-
--- the same for arguments behind an option that wants a value, where there is one, besides what is chosen already; none where an option is given twice, or a value is missing or isn't as it should be
-abbrev pub parsed : Option Setting → Choice → List (List ℕ) → Option Options
-parsed (Some setting) choice [] = None
-parsed (Some setting) choice (value ∷ words) = option_and_then (λ more. parsed None more words) (with_setting setting value choice)
-parsed None choice [] = Some (chosen choice [])
-parsed None choice (word ∷ words) = elim (kind_of word) [
-  | IsSwitch switch ↦ option_and_then (λ more. parsed None more words) (with_switch switch choice)
-  | IsSetting setting ↦ parsed (Some setting) choice words
-  | Help ↦ Some helped
-  | Version ↦ Some versioned
-  | End ↦ Some (chosen choice words)
-  | Place ↦ Some (chosen choice (word ∷ words))
-]
-
--- what is chosen by options before and after IN, and IN
-pub record Free : Type 0 where
-  pub choice : Choice
-  pub input : List ℕ
-
-abbrev pub free_with : Choice → List ℕ → Free
-free_with choice input = record { choice = choice; input = input }
-
--- IN may be behind `--`, alone
-abbrev pub behind_end : Choice → Option (List ℕ) → List (List ℕ) → Option Free
-behind_end choice input [] = option_map (free_with choice) input
-behind_end choice None (word ∷ []) = Some (free_with choice word)
-behind_end choice None (word ∷ other ∷ words) = None
-behind_end choice (Some input) (word ∷ words) = None
-
--- it begins with a minus (45), and has more
-abbrev pub looks_like_option : List ℕ → Bool
-looks_like_option word = nat_lt 1 (length word) && (slice_index word 0 == 45)
-
--- the same as `parsed` where options may also be behind IN, which is alone and doesn't look like one; none where help or the version is requested
-abbrev pub free : Option Setting → Choice → Option (List ℕ) → List (List ℕ) → Option Free
-free (Some setting) choice input [] = None
-free (Some setting) choice input (value ∷ words) = option_and_then (λ more. free None more input words) (with_setting setting value choice)
-free None choice input [] = option_map (free_with choice) input
-free None choice input (word ∷ words) = elim (kind_of word) [
-  | IsSwitch switch ↦ option_and_then (λ more. free None more input words) (with_switch switch choice)
-  | IsSetting setting ↦ free (Some setting) choice input words
-  | Help ↦ None
-  | Version ↦ None
-  | End ↦ behind_end choice input words
-  | Place ↦ if is_some input || looks_like_option word then None else free None choice (Some word) words
-]
+abbrev pub with_setting : Setting → List ℕ → List ℕ → Choice → Result Choice Fault
+with_setting Limits word value choice = once (is_some choice.limits) word (or_refused wrong.Limits value (limits_in value) >>= λ limits. Ok (record choice { limits = Some limits }))
+with_setting GidsFile word value choice = with_source word (in_file OfGlyphs value) choice
+with_setting Text word value choice = with_source word (by_text value) choice
+with_setting At word value choice = once (is_some choice.at) word (Ok (record choice { at = Some value }))
+with_setting Gids word value choice = with_source word (in_list value) choice
+with_setting FaceIndex word value choice = once (is_some choice.index) word (or_refused wrong.FaceIndex value (number_in_bits 32 value) >>= λ index. Ok (record choice { index = Some index }))
+with_setting Output word value choice = once (is_some choice.output) word (Ok (record choice { output = Some value }))
+with_setting TextFile word value choice = with_source word (in_file OfText value) choice
+with_setting Unicodes word value choice = with_source word (in_codes value) choice
+with_setting UnicodesFile word value choice = with_source word (in_file OfCharacters value) choice
+with_setting Pdf word value choice = once (is_some choice.pdf) word (Ok (record choice { pdf = Some value }))
+with_setting Codes word value choice = once (is_some choice.coding) word (or_refused wrong.Coding value (coding_in value) >>= λ coding. Ok (record choice { coding = Some coding }))
+with_setting Rights word value choice = once choice.is_held word (if holds_rights value then Ok (record choice { is_held = true }) else refused wrong.Rights value)
+with_setting MostInput word value choice = once (is_some choice.most_input) word (or_refused wrong.MostInput value (number_in_bits 32 value) >>= λ most. Ok (record choice { most_input = Some most }))

@@ -1,20 +1,26 @@
--- What the arguments after the program's name ask for.
-use Rattle.std.specs.Prelude.{ℕ, ℤ, Bool, true, false, not, nat_lt, ◌&&◌, ◌||◌, ◌==◌, if◌then◌else◌, List, [], ◌∷◌, map, length, Option, Some, None, codes, is_some, unwrap_or}
+-- What the arguments after the program's name ask for, or what is wrong with them first.
+use Rattle.std.specs.Prelude.{ℕ, ℤ, Bool, true, false, not, nat_lt, ◌&&◌, ◌||◌, ◌==◌, if◌then◌else◌, List, [], ◌∷◌, map, length, Option, Some, None, codes, is_some, unwrap_or, Result, Ok, Err}
 use Rattle.std.specs.Option.{option_map, option_and_then}
 use Rattle.std.specs.List.{slice_split}
 use Rattle.std.specs.Str.{bytes_eq}
 use Rattle.subset_args.specs.Words.{number_in_bits}
 use Rattle.subsetter_base.specs.declared.tag.Tag.{Tag}
 use Rattle.subset_args.specs.Coordinates.{has_byte, is_equals, coordinates_in}
+use Rattle.subset_args.specs.Forms.{Asked, Options, helped, versioned, chosen, looks_like_option, topic_of, is_batch, is_option, wrong_pdf, parsed, asked}
 use Rattle.subset_args.specs.Limits.{Bounds}
 use Rattle.subset_args.specs.Listing.Lists.{FileList, every, these, characters, text_of, argument_list}
 use Rattle.subset_args.specs.Listing.Characters.{argument_characters}
-use Rattle.subset_args.specs.Options.{GlyphSource, in_file, by_text, in_list, in_codes, Choice, Free, Options, helped, versioned, chosen, no_choice, parsed, free}
+use Rattle.subset_args.specs.Listing.Wrong.{list_fault}
+use Rattle.subset_args.specs.Mistakes.{Fault, refused, or_fault, unless, ◌>>=◌}
+use Rattle.subset_args.specs.Options.{GlyphSource, in_file, by_text, in_list, in_codes, Choice, kind_of, no_choice}
+use Rattle.subset_args.specs.declared.listing.lists.FileKind.{FileKind}
+use Rattle.subset_args.specs.declared.listing.lists.FileKind.TheVariants.{Glyphs as OfGlyphs, Characters as OfCharacters, Text as OfText}
+use Rattle.subset_args.specs.declared.listing.wrong.Listing.TheVariants.{Numbers, Glyphs, Codes, Coordinates}
+use Rattle.subset_args.specs.declared.mistakes.Wrong.TheVariants.{NoInput, NoGlyphs, InputTwice, Unknown, BehindShown, Index, NoBatchFile, BehindBatch}
 use Rattle.subset_args.specs.declared.options.names.Coding.TheVariants.{Consecutive}
 use Rattle.subset_args.specs.declared.options.chosen.PdfChoice.{PdfChoice}
 use Rattle.subset_args.specs.declared.options.chosen.Switches.{Switches}
 use Rattle.subset_args.specs.declared.jobs.command.Topic.{Topic}
-use Rattle.subset_args.specs.declared.jobs.command.Topic.TheVariants.{Axes, Info}
 
 -- the values, if there is one at each place
 abbrev pub all_some : List (Option ℕ) → Option (List ℕ)
@@ -63,6 +69,8 @@ pub record Request : Type 0 where
   -- where on the axes of a variable font, if that is specified
   pub position : Option Position
   pub pdf : Option PdfRequest
+  -- whether an option requests the glyphs
+  pub by_option : Bool
 
 -- what a run is to do
 pub data Command : Type 0 where
@@ -82,18 +90,17 @@ of_list (characters found) = of_characters found
 of_list (text_of text) = from (by_text text)
 
 -- which glyphs an option requests
-abbrev pub requested_by : GlyphSource → Option RequestedGlyphs
-requested_by (in_file kind name) = Some (from (in_file kind name))
-requested_by (by_text text) = Some (from (by_text text))
-requested_by (in_list text) = option_map of_list (argument_list text)
-requested_by (in_codes text) = option_map of_list (argument_characters text)
+abbrev pub requested_by : GlyphSource → Result RequestedGlyphs Fault
+requested_by (in_file kind name) = Ok (from (in_file kind name))
+requested_by (by_text text) = Ok (from (by_text text))
+requested_by (in_list text) = or_fault (list_fault Glyphs text) (option_map of_list (argument_list text))
+requested_by (in_codes text) = or_fault (list_fault Codes text) (option_map of_list (argument_characters text))
 
--- which glyphs the arguments behind INDEX ask for: one argument that lists them, or none where they are found elsewhere
-abbrev pub requested : Option GlyphSource → List (List ℕ) → Option RequestedGlyphs
-requested None (list ∷ []) = option_map listed (glyph_list list)
-requested None _ = None
-requested (Some source) [] = requested_by source
-requested (Some source) (word ∷ words) = None
+-- which glyphs are asked for: those that an argument lists, or an option
+abbrev pub requested : Option (List ℕ) → Option GlyphSource → Result RequestedGlyphs Fault
+requested (Some list) source = or_fault (list_fault Numbers list) (option_map listed (glyph_list list))
+requested None (Some source) = requested_by source
+requested None None = refused NoGlyphs []
 
 -- whether an argument means standard input or output
 abbrev pub is_stream : List ℕ → Bool
@@ -109,10 +116,25 @@ lists_in_stream (from (by_text text)) = false
 lists_in_stream (from (in_list text)) = false
 lists_in_stream (from (in_codes text)) = false
 
+-- an option for a file, which is standard input as IN is
+abbrev pub file_option : FileKind → List ℕ
+file_option OfGlyphs = codes "--gids-file"
+file_option OfCharacters = codes "--unicodes-file"
+file_option OfText = codes "--text-file"
+
+abbrev pub wrong_source : List ℕ → GlyphSource → Option Fault
+wrong_source input (in_file kind name) = if is_stream input && is_stream name then Some (record { wrong = InputTwice; word = file_option kind }) else None
+wrong_source input (by_text text) = None
+wrong_source input (in_list text) = None
+wrong_source input (in_codes text) = None
+
+abbrev pub wrong_stream : List ℕ → Option GlyphSource → Option Fault
+wrong_stream input source = option_and_then (wrong_source input) source
+
 -- the position that is requested, if any
-abbrev pub position_option : Option (List ℕ) → Option (Option Position)
-position_option None = Some None
-position_option (Some text) = option_map (λ p. Some p) (position_in text)
+abbrev pub position_option : Option (List ℕ) → Result (Option Position) Fault
+position_option None = Ok None
+position_option (Some text) = or_fault (list_fault Coordinates text) (option_map (λ p. Some p) (position_in text))
 
 -- ---- the PDF that is requested, if any
 
@@ -120,107 +142,65 @@ position_option (Some text) = option_map (λ p. Some p) (position_in text)
 abbrev pub pdf_choice : Choice → PdfChoice
 pdf_choice choice = record { vertical = choice.switches.vertical; coding = unwrap_or choice.coding Consecutive; is_held = choice.is_held }
 
--- options that say how want a PDF
-abbrev pub pdf_by : Option (List ℕ) → Choice → Option (Option PdfRequest)
-pdf_by None choice = if choice.switches.vertical || (is_some choice.coding || choice.is_held) then None else Some None
-pdf_by (Some file) choice = Some (Some (record { file = file; choice = pdf_choice choice }))
+abbrev pub pdf_of : Choice → Option PdfRequest
+pdf_of choice = option_map (λ file. record { file = file; choice = pdf_choice choice }) choice.pdf
 
--- whether both are one file, by their names
-abbrev pub is_same : Option (List ℕ) → Option (List ℕ) → Bool
-is_same (Some one) (Some other) = bytes_eq one other
-is_same (Some one) None = false
-is_same None other = false
+-- ---- what is requested
 
--- what is asked for, where standard input isn't to be read twice, and no file written twice
-abbrev pub request_of : Choice → List ℕ → Option (List ℕ) → ℕ → RequestedGlyphs → Option Request
-request_of choice input output index glyphs = if (is_stream input && lists_in_stream glyphs) || is_same output choice.pdf then None else option_and_then (λ pdf. option_map (λ at. record { switches = choice.switches; limits = choice.limits; input = input; output = output; index = index; most_input = choice.most_input; glyphs = glyphs; position = at; pdf = pdf }) (position_option choice.at)) (pdf_by choice.pdf choice)
+abbrev pub request_with : Asked → RequestedGlyphs → Option Position → Request
+request_with a glyphs at = record { switches = a.choice.switches; limits = a.choice.limits; input = a.input; output = a.output; index = a.index; most_input = a.choice.most_input; glyphs = glyphs; position = at; pdf = pdf_of a.choice; by_option = not (is_some a.listed) }
 
--- what is requested by IN, OUT, INDEX and the arguments behind them
-abbrev pub request_behind : Choice → List ℕ → Option (List ℕ) → ℕ → List (List ℕ) → Option Request
-request_behind choice input output index words = option_and_then (request_of choice input output index) (requested choice.source words)
+-- where no file is written twice
+abbrev pub request_at : Asked → RequestedGlyphs → Result Request Fault
+request_at a glyphs = position_option a.choice.at >>= λ at. unless (wrong_pdf a.choice a.output) (Ok (request_with a glyphs at))
 
--- what the arguments `IN OUT INDEX GID[,GID..]` ask for with these choices, or `IN OUT INDEX` where the glyphs are found elsewhere; none where their count is another, or one isn't as it should be
-abbrev pub request_plain : Choice → List (List ℕ) → Option Request
-request_plain choice (input ∷ output ∷ index ∷ words) = option_and_then (λ i. request_behind choice input (Some output) i words) (number_in_bits 32 index)
-request_plain choice _ = None
+-- and standard input isn't read twice
+unfoldable pub request_of : Asked → Result Request Fault
+request_of a = unless (wrong_stream a.input a.choice.source) (requested a.listed a.choice.source >>= request_at a)
 
--- none where an option says OUT or INDEX
-abbrev pub names_position : Choice → Bool
-names_position choice = is_some choice.output || is_some choice.index
-
-abbrev pub request_with : Choice → List (List ℕ) → Option Request
-request_with choice words = if names_position choice then None else request_plain choice words
+-- what the arguments from IN on ask for
+abbrev pub request_from : Choice → Bool → List (List ℕ) → Result Request Fault
+request_from choice is_ended words = asked choice is_ended words >>= request_of
 
 -- what the options and the arguments behind them ask for
-abbrev pub command_of : Options → Option Command
-command_of helped = Some help
-command_of versioned = Some version
-command_of (chosen choice words) = option_map subset (request_with choice words)
+abbrev pub command_of : Options → Result Command Fault
+command_of helped = Ok help
+command_of versioned = Ok version
+command_of (chosen choice is_ended words) = request_from choice is_ended words >>= λ r. Ok (subset r)
 
--- what the arguments `[OPTIONS] IN OUT INDEX [GID[,GID..]]` ask for
-abbrev pub command_by_options : List (List ℕ) → Option Command
-command_by_options words = option_and_then command_of (parsed None no_choice words)
+unfoldable pub command_by_options : List (List ℕ) → Result Command Fault
+command_by_options words = parsed None no_choice false words >>= command_of
 
--- whether an option says where the new font or a PDF goes
-abbrev pub has_output : Choice → Bool
-has_output choice = is_some choice.output || is_some choice.pdf
+-- ---- what is shown
 
--- what is requested with OUT or a PDF by an option, and INDEX too, if it isn't 0
-abbrev pub request_free : Free → Option Request
-request_free f = if has_output f.choice then option_and_then (request_of f.choice f.input f.choice.output (unwrap_or f.choice.index 0)) (requested f.choice.source []) else None
-
-abbrev pub command_free : List (List ℕ) → Option Command
-command_free words = option_and_then (λ f. option_map subset (request_free f)) (free None no_choice None words)
-
--- the plain form comes first
-abbrev pub command_or : Option Command → Option Command → Option Command
-command_or (Some command) other = Some command
-command_or None other = other
+-- an option is in the place of IN
+unfoldable pub instead_of : List ℕ → Fault → Fault
+instead_of input fault = if not (looks_like_option input) then fault else (if is_option (kind_of input) || is_some (topic_of input) then record { wrong = BehindShown; word = input } else record { wrong = Unknown; word = input })
 
 -- what is shown by the arguments `FONT [INDEX]`, with or without JSON; INDEX is 0 where it isn't given
-abbrev pub shown_of : Topic → Bool → List (List ℕ) → Option Command
-shown_of topic json (input ∷ []) = Some (show topic json input 0)
-shown_of topic json (input ∷ index ∷ []) = option_map (show topic json input) (number_in_bits 32 index)
-shown_of topic json _ = None
+abbrev pub shown_of : Topic → Bool → List (List ℕ) → Result Command Fault
+shown_of topic json [] = refused NoInput []
+shown_of topic json (input ∷ []) = Ok (show topic json input 0)
+shown_of topic json (input ∷ index ∷ []) = or_fault (instead_of input (record { wrong = Index; word = index })) (option_map (show topic json input) (number_in_bits 32 index))
+shown_of topic json (input ∷ index ∷ word ∷ words) = Err (instead_of input (record { wrong = BehindShown; word = word }))
 
 -- `--json` may be in front of them
-abbrev pub shown_by : Topic → List (List ℕ) → Option Command
-shown_by topic [] = None
+abbrev pub shown_by : Topic → List (List ℕ) → Result Command Fault
+shown_by topic [] = refused NoInput []
 shown_by topic (word ∷ words) = if bytes_eq word (codes "--json") then shown_of topic true words else shown_of topic false (word ∷ words)
 
--- what a first argument shows, if it is `--axes` or `--info`
-abbrev pub topic_of : List ℕ → Option Topic
-topic_of word = if bytes_eq word (codes "--axes") then Some Axes else (if bytes_eq word (codes "--info") then Some Info else None)
+-- ---- the whole
 
-abbrev pub first_topic : List (List ℕ) → Option Topic
-first_topic [] = None
-first_topic (word ∷ words) = topic_of word
+-- the file behind `--batch`, alone
+abbrev pub batch_of : List (List ℕ) → Result Command Fault
+batch_of [] = refused NoBatchFile []
+batch_of (file ∷ []) = Ok (batch file)
+batch_of (file ∷ word ∷ words) = refused BehindBatch word
 
--- the arguments behind the first
-abbrev pub behind_first : List (List ℕ) → List (List ℕ)
-behind_first [] = []
-behind_first (word ∷ words) = words
-
--- what the arguments request that don't begin with `--batch`: `--axes [--json] FONT [INDEX]` or `--info [--json] FONT [INDEX]`, `[OPTIONS] IN OUT INDEX [GID[,GID..]]`, or IN with options before and after it, one of which gives OUT or a PDF
-abbrev pub single_command : List (List ℕ) → Option Command
-single_command words = elim (first_topic words) [
-  | Some topic ↦ shown_by topic (behind_first words)
-  | None ↦ command_or (command_by_options words) (command_free words)
-]
-
--- whether the first argument is `--batch`
-abbrev pub is_batch : List ℕ → Bool
-is_batch word = bytes_eq word (codes "--batch")
-
-abbrev pub begins_batch : List (List ℕ) → Bool
-begins_batch [] = false
-begins_batch (word ∷ words) = is_batch word
-
--- the file behind it, alone
-abbrev pub batch_of : List (List ℕ) → Option Command
-batch_of (file ∷ []) = Some (batch file)
-batch_of _ = None
-
--- what the arguments request
-abbrev pub command : List (List ℕ) → Option Command
-command words = if begins_batch words then batch_of (behind_first words) else single_command words
+-- what the arguments request: `--batch FILE`, `--axes [--json] FONT [INDEX]` or `--info` in its place, or the making of a subset
+abbrev pub command : List (List ℕ) → Result Command Fault
+command [] = command_by_options []
+command (word ∷ words) = if is_batch word then batch_of words else (elim (topic_of word) [
+  | Some topic ↦ shown_by topic words
+  | None ↦ command_by_options (word ∷ words)
+])

@@ -1,15 +1,18 @@
 -- What was read of the arguments, as the definitions name it.
-use Rattle.std.specs.Prelude.{map, string_bytes}
+use Rattle.std.specs.Prelude.{ℕ, List, map, String, string_bytes}
+use Rattle.std.specs.Global.{Global}
 use Rattle.std.specs.Option.{option_copied, option_map}
 use Rattle.subset_args.specs.Limits.{limits_view}
-use Rattle.subset_args.specs.Options.{GlyphSource, in_file, by_text, in_list, in_codes, Choice, Free as FreeSaid, Options, helped, versioned, chosen}
+use Rattle.subset_args.specs.Forms.{Asked as AskedFor, Given as GivenValue, Options, helped, versioned, chosen}
+use Rattle.subset_args.specs.Options.{GlyphSource, in_file, by_text, in_list, in_codes, Choice}
 use Rattle.subset_args.specs.Request.{RequestedGlyphs, listed, every_glyph, of_characters, from, Position as Requested, at_coordinates, at_instance, PdfRequest, Request, Command as Wanted, help, version, subset, batch, show}
 use Rattle.subset_args.specs.declared.options.names.Source.{Source}
 use Rattle.subset_args.specs.declared.options.names.Source.TheVariants.{File, Text, InList, Characters as InCodes}
 use Rattle.subset_args.specs.declared.options.chosen.Chosen.{Chosen}
-use Rattle.subset_args.specs.declared.options.reading.Free.{Free}
-use Rattle.subset_args.specs.declared.options.reading.Parsed.{Parsed}
-use Rattle.subset_args.specs.declared.options.reading.Parsed.TheVariants.{Help, Version, Chosen as IsChosen}
+use Rattle.subset_args.specs.declared.jobs.forms.Asked.{Asked}
+use Rattle.subset_args.specs.declared.options.joined.Given.{Given}
+use Rattle.subset_args.specs.declared.jobs.forms.Parsed.{Parsed}
+use Rattle.subset_args.specs.declared.jobs.forms.Parsed.TheVariants.{Help, Version, Chosen as IsChosen}
 use Rattle.subset_args.specs.declared.jobs.command.Glyphs.{Glyphs}
 use Rattle.subset_args.specs.declared.jobs.command.Glyphs.TheVariants.{Listed, Characters, InFile, ByText, Every}
 use Rattle.subset_args.specs.declared.jobs.command.Position.{Position}
@@ -18,6 +21,9 @@ use Rattle.subset_args.specs.declared.jobs.command.PdfJob.{PdfJob}
 use Rattle.subset_args.specs.declared.jobs.command.Job.{Job}
 use Rattle.subset_args.specs.declared.jobs.command.Command.{Command}
 use Rattle.subset_args.specs.declared.jobs.command.Command.TheVariants.{Help as ForHelp, Version as ForVersion, Subset, Batch, Show}
+
+abbrev pub words_view : List (String Global) → List (List ℕ)
+words_view words = map (λ word. string_bytes word) words
 
 abbrev pub source_view : Source → GlyphSource
 source_view (File kind name) = in_file kind name.now
@@ -28,13 +34,16 @@ source_view (InCodes text) = in_codes text.now
 abbrev pub chosen_view : Chosen → Choice
 chosen_view c = record { switches = c.switches; limits = option_map limits_view c.limits; source = option_map source_view c.source; at = option_copied c.at; output = option_copied c.output; index = c.index; most_input = c.most_input; pdf = option_copied c.pdf; coding = c.coding; is_held = c.is_held }
 
+abbrev pub given_view : Given → GivenValue
+given_view g = record { setting = g.setting; word = g.word.now; value = g.value.now }
+
 abbrev pub parsed_view : Parsed → Options
 parsed_view Help = helped
 parsed_view Version = versioned
-parsed_view (IsChosen choice words) = chosen (chosen_view choice) (map (λ word. string_bytes word) words.now)
+parsed_view (IsChosen choice is_ended words) = chosen (chosen_view choice) is_ended (words_view words.now)
 
-abbrev pub free_view : Free → FreeSaid
-free_view f = record { choice = chosen_view f.chosen; input = f.input.now }
+abbrev pub asked_view : Asked → AskedFor
+asked_view a = record { choice = chosen_view a.chosen; input = a.input.now; output = option_copied a.output; index = a.index; listed = option_copied a.listed }
 
 abbrev pub requested_view : Glyphs → RequestedGlyphs
 requested_view (Listed glyphs) = listed glyphs.items
@@ -51,7 +60,7 @@ abbrev pub pdf_view : PdfJob → PdfRequest
 pdf_view pdf = record { file = string_bytes pdf.file; choice = pdf.choice }
 
 abbrev pub job_view : Job → Request
-job_view job = record { switches = job.switches; limits = option_map limits_view job.limits; input = string_bytes job.input; output = option_map (λ name. string_bytes name) job.output; index = job.index; most_input = job.most_input; glyphs = requested_view job.glyphs; position = option_map position_view job.position; pdf = option_map pdf_view job.pdf }
+job_view job = record { switches = job.switches; limits = option_map limits_view job.limits; input = string_bytes job.input; output = option_map (λ name. string_bytes name) job.output; index = job.index; most_input = job.most_input; glyphs = requested_view job.glyphs; position = option_map position_view job.position; pdf = option_map pdf_view job.pdf; by_option = job.by_option }
 
 abbrev pub command_view : Command → Wanted
 command_view ForHelp = help

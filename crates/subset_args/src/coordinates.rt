@@ -2,7 +2,7 @@
 //!
 //! A value is a decimal number of any length, rounded to the nearest 65536th without floats.
 
-ghost use Rattle.std.specs.Prelude.{◌≡◌, ◌⊎◌, ◌≤◌, ◌<◌, ◌*◌, ◌++◌, ◌&&◌, nat_lt, ◌∷◌, [], map, OnOk, IfOk, IfErr, IfSome, Some, None, length, pos, neg_ℤ, unsigned_abs, is_some};
+ghost use Rattle.std.specs.Prelude.{◌≡◌, ◌⊎◌, ◌≤◌, ◌<◌, ◌*◌, ◌++◌, ◌&&◌, nat_lt, ◌∷◌, [], map, OnOk, IfOk, IfErr, IfSome, Some, None, length, pos, neg_ℤ, unsigned_abs};
 ghost use Rattle.std.specs.Option.{option_map};
 ghost use Rattle.subset_args.specs.Coordinates.{decimal_of, size_in, fixed, below_zero, above_zero, with_minus, value_in, coordinate_of, coordinate_in, coordinates_of, coordinates_in};
 ghost use Rattle.subset_args.specs.Halves.{halves, behind_digit, halves_behind, quarters};
@@ -189,18 +189,11 @@ fn coordinate_from(name: &str, value: &str) -> Option<(Tag, i32)>
 }
 
 /// The coordinate that a part of a list says, as `wght=650`.
-fn coordinate_of(part: &str) -> Option<(Tag, i32)>
+pub fn coordinate_of(part: &str) -> Option<(Tag, i32)>
     ensures { result ≡ coordinate_in part.now }
 {
     let (name, value) = part.split_once('=')?;
     coordinate_from(name, value)
-}
-
-/// Whether a part of a list says a coordinate.
-pub fn is_coordinate(part: &str) -> bool
-    ensures { result ≡ is_some (coordinate_in part.now) }
-{
-    coordinate_of(part).is_some()
 }
 
 /// Adds a coordinate.

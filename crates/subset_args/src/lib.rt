@@ -3,10 +3,10 @@
 //! [`read_words`] reads them all; [`read_list`] reads the list that a file holds.
 //!
 //! ```text
-//! match read_words(alloc, &words)? {
-//!     Command::Subset(job) => ..,
-//!     Command::Batch(file) => ..,
-//!     Command::Help | Command::Version => ..,
+//! match read_words(alloc, &words) {
+//!     Ok(Command::Subset(job)) => ..,
+//!     Ok(Command::Batch(file)) => ..,
+//!     Err(Unread::Mistake(mistake)) => ..,
 //! }
 //! ```
 #![tactic(auto)]
@@ -29,8 +29,7 @@ pub use limits::RunLimits;
 pub use listing::characters::codes_descend;
 pub use listing::files::{find_wrong, read_list};
 pub use listing::lists::{FileKind, GlyphList, descends, is_blank};
-pub use mistakes::free::find_mistake;
-pub use mistakes::mistake::{Mistake, Wrong};
+pub use mistakes::{Mistake, Unread, Wrong};
 pub use options::chosen::{PdfChoice, Switches};
 pub use options::names::{Coding, OPTIONS};
 pub use texts::{

@@ -1,6 +1,6 @@
-//! The options before and after IN.
+//! The options, by name and with their values.
 
 pub(crate) mod chosen;
+pub(crate) mod joined;
 pub(crate) mod names;
-pub(crate) mod reading;
 pub(crate) mod values;

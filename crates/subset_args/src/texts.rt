@@ -1,6 +1,6 @@
 //! The texts of mistakes.
 
-use crate::mistakes::mistake::{Mistake, Wrong};
+use crate::mistakes::{Mistake, Wrong};
 use crate::nearest::{Remedy, remedy_of};
 use std::fmt;
 use subset_lines::characters::plain;
@@ -58,7 +58,6 @@ fn around(wrong: Wrong) -> (&'static str, Option<&'static str>) {
         Wrong::NoIndex => ("INDEX is missing", None),
         Wrong::NoGlyphs => ("GID is missing", None),
         Wrong::NoBatchFile => ("FILE is missing", None),
-        Wrong::NoOutputOption => ("-o OUT is missing", None),
         Wrong::NoSource => ("no option requests glyphs", None),
         Wrong::Further | Wrong::BehindShown | Wrong::BehindBatch | Wrong::BesideInput => {
             ("\"", Some("\" is one argument too many"))
@@ -77,6 +76,7 @@ fn around(wrong: Wrong) -> (&'static str, Option<&'static str>) {
         Wrong::Glyph => ("GID \"", Some("\" is not a glyph number")),
         Wrong::Limits => ("--limits: \"", Some("\" is not TOKENS,DEPTH[,BYTES]")),
         Wrong::Coordinate => ("--at: \"", Some("\" is not TAG=VALUE")),
+        Wrong::Tag => ("--at: \"", Some("\": a tag has four letters")),
         Wrong::Codes => ("--unicodes: \"", Some("\" is not a character number")),
         Wrong::CodesDescend => ("--unicodes: the range \"", Some("\" descends")),
         Wrong::TooMany => ("", Some(": more than 2000000 numbers")),
@@ -120,7 +120,9 @@ impl fmt::Display for Advice<'_> {
 fn expected(wrong: Wrong) -> &'static str {
     match wrong {
         Wrong::NoInput => "expected: the file of a font, or - for standard input",
-        Wrong::NoOutput => "expected: a file for the new font, or - for standard output",
+        Wrong::NoOutput => {
+            "expected: a file for the new font, by -o or behind IN; - is standard output"
+        }
         Wrong::NoIndex | Wrong::Index | Wrong::FaceIndex => {
             "expected: the face of a collection, from 0; of other fonts 0"
         }
@@ -145,7 +147,9 @@ fn expected(wrong: Wrong) -> &'static str {
         Wrong::MostInput => "expected: a number of bytes to 4294967295",
         Wrong::Glyph => "expected: numbers from 0 to 65535, with commas, as 36,37,38",
         Wrong::Limits => "expected: numbers, as 1000000,64, with DEPTH from 1 to 255",
-        Wrong::Coordinate => { "expected: coordinates as wght=650,wdth=87.5, or a name alone" }
+        Wrong::Coordinate | Wrong::Tag => {
+            "expected: coordinates as wght=650,wdth=87.5, or a name alone"
+        }
         Wrong::Part => PARTS_EXPECTED,
         Wrong::Codes => CODES_EXPECTED,
         Wrong::Descends | Wrong::CodesDescend => ORDER_EXPECTED,
@@ -156,7 +160,6 @@ fn expected(wrong: Wrong) -> &'static str {
         Wrong::Rights => "expected: held, where you may embed the font whatever it says",
         Wrong::NoPdf => "expected: --pdf FILE beside it",
         Wrong::OutputTwice => "expected: two files, for the new font and for the PDF",
-        Wrong::NoOutputOption => "expected: a file for the new font, or - for standard output",
         Wrong::NoSource => "expected: --gids, --text, --unicodes, or a file of one",
     }
 }

@@ -4,6 +4,7 @@ use Rattle.std.proofs.lemmas.List.{take_rest}
 use Rattle.std.specs.Prelude.{IfOk, IfErr, String, is_some, map, string_bytes}
 use Rattle.std.specs.Global.{Global}
 use Rattle.std.specs.Option.{option_map, option_and_then}
+use Rattle.std.specs.Result.{result_ok}
 use Rattle.subset_args.specs.Request.{Request as Requested, lists_in_stream, PdfRequest}
 use Rattle.subset_args.specs.View.{job_view, requested_view, pdf_view}
 use Rattle.subset_args.specs.declared.jobs.command.Glyphs.{Glyphs}
@@ -14,7 +15,7 @@ use Rattle.subset_batch.specs.Reading.{Fault, request_of}
 use Rattle.subset_batch.specs.View.{line_view, lines_view}
 use Rattle.subset_batch.specs.declared.lines.Line.{Line}
 use Rattle.subset_task.specs.Batch.Answers.{IsFailedBy}
-use Rattle.subset_task.specs.Batch.Orders.{is_given_stream, order_by, order_of, words_in, IsNoOrder}
+use Rattle.subset_task.specs.Batch.Orders.{is_given_stream, order_by, order_of, IsNoOrder}
 use Rattle.std.specs.HashMap.{HashMap, get_by_text}
 use Rattle.std.specs.Map.{update}
 use Rattle.std.specs.Str.{bytes_eq}
@@ -42,7 +43,7 @@ pdf_stream None = refl
 -- what a line requests is what its words do
 order_is : (line : List ℕ) (words : List (List ℕ)) → request_of line ≡ Ok words → order_by words ≡ order_of line
 unfolding order_of
-order_is line words h = ap (λ (read : Result (List (List ℕ)) Fault). option_and_then order_by (words_in read)) (sym h)
+order_is line words h = ap (λ (read : Result (List (List ℕ)) Fault). option_and_then order_by (result_ok read)) (sym h)
 
 order_as : (line : List ℕ) (words seen : List (String Global)) → request_of line ≡ Ok (map (λ word. string_bytes word) words) → seen ≡ words → order_by (map (λ word. string_bytes word) seen) ≡ order_of line
 order_as line words seen h s = order_is line (map (λ word. string_bytes word) seen) (h ∙ ap (λ (seen : List (String Global)). Ok (map (λ word. string_bytes word) seen)) (sym s))

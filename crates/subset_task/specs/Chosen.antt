@@ -104,3 +104,4 @@ pub record IsPlanOf (job : Job) (list : Option GlyphList) (plan : Plan) : Type 0
   pub instance : option_copied plan.instance ≡ option_and_then instance_chosen job.position
   pub verbose : plan.verbose ≡ job.switches.verbose
   pub pdf : plan.pdf ≡ option_map (λ p. p.choice) job.pdf
+  pub by_option : plan.by_option ≡ job.by_option

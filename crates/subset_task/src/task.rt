@@ -59,6 +59,8 @@ pub struct Plan<'a> {
     pub verbose: bool,
     /// How the PDF is made, if one is requested.
     pub pdf: Option<PdfChoice>,
+    /// Whether an option requests the glyphs: then a font with `CFF2` alone is taken at its default.
+    pub by_option: bool,
 }
 
 /// With a bound on the bytes of the font, if there is one.

@@ -3,6 +3,7 @@ pub mod PdfFonts
 pub mod PdfGlyphs
 pub mod PdfLaws
 pub mod PdfObjects
+pub mod Reading
 pub mod Parts
 pub mod Whole
 pub mod Runs

@@ -6,6 +6,7 @@ pub mod PdfGlyphs
 pub mod PdfLaws
 pub mod PdfObjects
 pub mod PdfOptions
+pub mod Reading
 pub mod Runs
 pub mod TextFonts
 pub mod Texts

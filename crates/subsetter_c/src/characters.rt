@@ -1,26 +1,31 @@
 //! The glyphs of characters.
 
-ghost use Rattle.std.specs.Prelude.{◌≡◌, ◌⊎◌, IfOk, IfErr, Some, codes, true};
+ghost use Rattle.std.specs.Prelude.{◌≡◌, map, IfOk, IfErr, IfSome, None, codes, true};
 ghost use Rattle.std.specs.Option.{option_and_then, option_map};
 ghost use Rattle.subsetter_base.specs.declared.error.Error.{Error as SpecError};
+ghost use Rattle.subsetter_base.specs.declared.error.Error.TheVariants.{OutOfMemory};
 ghost use Rattle.subsetter_sfnt.specs.Extras.{all_extras};
 ghost use Rattle.subsetter_sfnt.specs.FontAt.{font_at};
 ghost use Rattle.subsetter_sfnt.specs.Read.{table_in};
 ghost use Rattle.subsetter_variable.specs.Subset.{HasOpeningFaultAt};
-ghost use Rattle.cmap.specs.Faces.{face_mapping};
-ghost use Rattle.cmap.specs.Subtable.{mapping};
-ghost use Rattle.cmap.specs.View.{mapping_view};
+ghost use Rattle.text_glyphs.specs.Choice.{character_glyph};
+ghost use Rattle.text_glyphs.specs.Faces.{face_source};
+ghost use Rattle.text_glyphs.specs.Reading.{source_of};
+ghost use Rattle.text_glyphs.specs.View.{source_view};
 ghost use Rattle.pdf_font.specs.Opened.{IsOpened};
 ghost use Rattle.subsetter_pdf_c.specs.Entries.{are_scalars};
-ghost use Rattle.subsetter_c.specs.Documents.PdfGlyphs.{AreGlyphsOf, HasNoMapping, IsGlyphRefusal};
+ghost use Rattle.subsetter_c.specs.Answers.Handed.{IsHandedOver, IsNothingHanded};
+ghost use Rattle.subsetter_c.specs.Answers.Status.{no_cmap};
 
-use cmap::{Subtable, find_subtable};
+use crate::answers::handing::hand_glyphs;
+use crate::answers::status::NO_CMAP;
 use std::alloc::Global;
 use subsetter::{Error, Extras, Tag};
-use subsetter_pdf_c::glyphs_by;
+use subsetter_pdf_c::characters_of;
 use subsetter_sfnt::face::Face;
 use subsetter_sfnt::parse::parse;
 use subsetter_variable::check_opening_at;
+use text_glyphs::{TextSource, find_source, glyphs_of};
 
 /// The face of a font that can be opened.
 fn opened_face(font: &[u8], index: u32) -> Result<Face<'_>, Error>
@@ -31,33 +36,51 @@ fn opened_face(font: &[u8], index: u32) -> Result<Face<'_>, Error>
     parse(font, index, Extras::ALL)
 }
 
-/// The table of a face by which the glyphs of Unicode characters are found.
-fn mapping_by<'a>(face: &Face<'a>) -> Option<Subtable<'a>>
-    ensures { option_map mapping_view result ≡ option_and_then mapping (table_in face.now.«data».now face.now.records.now (codes "cmap")) }
+/// The tables of a face by which a text is read.
+fn source_by<'a>(face: &Face<'a>) -> Option<TextSource<'a>>
+    ensures { option_map source_view result ≡ option_and_then source_of (table_in face.now.«data».now face.now.records.now (codes "cmap")) }
 {
     let cmap = face.stored(Tag::new(b"cmap"))?;
-    find_subtable(cmap)
+    find_source(cmap)
 }
 
-/// The table of a font by which the glyphs of Unicode characters are found.
-pub fn mapping_for(font: &[u8], index: u32) -> Result<Subtable<'_>, Error>
-    ensures ok { IfOk result (λ table. face_mapping (font_at font.now index all_extras) ≡ Some (mapping_view table)) }
-    ensures opens { IfOk result (λ table. (e : SpecError) → ¬ (HasOpeningFaultAt (font_at font.now index all_extras) e)) }
-    ensures err { IfErr result (λ e. HasOpeningFaultAt (font_at font.now index all_extras) e ⊎ HasNoMapping (font_at font.now index all_extras) e) }
+/// The tables of a font by which a text is read, if it has them.
+pub fn source_for(font: &[u8], index: u32) -> Result<Option<TextSource<'_>>, Error>
+    ensures ok { IfOk result (λ found. face_source (font_at font.now index all_extras) ≡ option_map source_view found) }
+    ensures opens { IfOk result (λ found. (e : SpecError) → ¬ (HasOpeningFaultAt (font_at font.now index all_extras) e)) }
+    ensures err { IfErr result (λ e. HasOpeningFaultAt (font_at font.now index all_extras) e) }
 {
     let face = opened_face(font, index)?;
-    match mapping_by(&face) {
-        Some(table) => Ok(table),
-        None => Err(Error::MalformedFont),
-    }
+    Ok(source_by(&face))
 }
 
 /// The glyph of each character of a text.
-pub fn glyphs_for(alloc: Global, font: &[u8], index: u32, text: &[u32]) -> Result<Vec<u16>, Error>
+pub fn glyphs_by(alloc: Global, source: &TextSource<'_>, text: &[u32]) -> Result<Vec<u16>, Error>
     requires { are_scalars text.now ≡ true }
-    ensures ok { IfOk result (λ glyphs. AreGlyphsOf (font_at font.now index all_extras) text.now glyphs.items) }
-    ensures err { IfErr result (λ e. IsGlyphRefusal (font_at font.now index all_extras) e) }
+    ensures ok { IfOk result (λ glyphs. glyphs.items ≡ map (character_glyph (source_view source.now).table) text.now) }
+    ensures err { IfErr result (λ e. e ≡ OutOfMemory) }
 {
-    let table = mapping_for(font, index)?;
-    glyphs_by(alloc, table, text)
+    let characters = characters_of(alloc, text)?;
+    Ok(glyphs_of(alloc, &source.table, &characters)?)
+}
+
+/// Hands the glyph of each character of a text over: the status.
+pub fn hand_glyphs_by(
+    alloc: Global,
+    source: Option<TextSource<'_>>,
+    text: &[u32],
+    glyphs: &mut [u16],
+    length: &mut usize,
+) -> u32
+    requires { are_scalars text.now ≡ true }
+    ensures none { source.entry ≡ None → IsNothingHanded no_cmap glyphs.old glyphs.new length.new result }
+    ensures some { IfSome source.entry (λ s. IsHandedOver (λ found. found ≡ map (character_glyph (source_view s).table) text.now) (λ e. e ≡ OutOfMemory) glyphs.old glyphs.new length.new result) }
+{
+    match source {
+        Some(source) => hand_glyphs(glyphs_by(alloc, &source, text), glyphs, length),
+        None => {
+            *length = 0;
+            NO_CMAP
+        }
+    }
 }

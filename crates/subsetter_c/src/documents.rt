@@ -6,6 +6,7 @@ pub(crate) mod pdf_calls;
 pub(crate) mod pdf_files;
 pub(crate) mod pdf_fonts;
 pub(crate) mod pdf_options;
+pub(crate) mod reading;
 pub(crate) mod runs;
 pub(crate) mod text_fonts;
 pub(crate) mod text_kept;

@@ -11,7 +11,8 @@ pub use texts::{codes_of, TextEntries};
 
 use super::{settings, Coordinate};
 use crate::library::refused;
-use crate::pdf::{glyphs_by_cmap, parts_of, with_room, FontError, Part, PartsError};
+use crate::pdf::{glyphs_by_cmap, parts_of, read_characters, with_room};
+use crate::pdf::{FontError, Part, PartsError};
 use crate::proved::pdf_font::{
     self as proved, Bounds, Direction, ProgramChoice, ProgramKind, Rights, Usage,
 };
@@ -28,6 +29,7 @@ use ::alloc::vec::Vec;
 pub struct FontChoices(proved::FontOptions);
 
 pub use crate::proved::pdf_text::Column;
+pub use crate::proved::text_glyphs::Entry;
 
 /// 0 stands for the first, 1 for the second.
 fn first_or_second<T>(word: u32, first: T, second: T) -> Option<T> {
@@ -267,6 +269,12 @@ impl From<Error> for Refusal {
     }
 }
 
+impl From<FontError> for Refusal {
+    fn from(error: FontError) -> Self {
+        Self::Font(error)
+    }
+}
+
 impl From<EntryError> for Refusal {
     fn from(error: EntryError) -> Self {
         match error {
@@ -467,18 +475,43 @@ impl<'a> FontParts<'a> {
     }
 }
 
+/// These characters, as far as each number is one.
+fn known(characters: &[u32]) -> Result<impl Iterator<Item = char> + Clone + '_, Refusal> {
+    if characters.iter().any(|it| char::from_u32(*it).is_none()) {
+        return Err(Refusal::Text);
+    }
+    Ok(characters.iter().filter_map(|it| char::from_u32(*it)))
+}
+
 /// The glyph of each of these characters.
 ///
 /// # Errors
 ///
 /// Those of [`glyphs_of`](crate::pdf::glyphs_of), and first of all a number that is no character.
 pub fn glyphs_of(data: &[u8], index: u32, characters: &[u32]) -> Result<Vec<u16>, Refusal> {
-    if characters.iter().any(|it| char::from_u32(*it).is_none()) {
-        return Err(Refusal::Text);
-    }
-    let known = characters.iter().filter_map(|it| char::from_u32(*it));
-    let found = glyphs_by_cmap(data, index, known)?;
+    let found = glyphs_by_cmap(data, index, known(characters)?)?;
     let mut glyphs = with_room(characters.len())?;
     glyphs.extend(found);
     Ok(glyphs)
+}
+
+/// A text read without shaping: entries, and the places of what the font lacks.
+pub struct ReadLists {
+    /// The entries.
+    pub entries: Vec<Entry>,
+    /// The places, as numbers of characters.
+    pub missing: Vec<usize>,
+}
+
+/// Reads a text without shaping.
+///
+/// # Errors
+///
+/// Those of [`glyphs_of`](crate::pdf::glyphs_of), and first of all a number that is no character.
+pub fn read_text(data: &[u8], index: u32, characters: &[u32]) -> Result<ReadLists, Refusal> {
+    let read = read_characters(data, index, known(characters)?)?;
+    Ok(ReadLists {
+        entries: read.entries.into_inner(),
+        missing: read.missing.into_inner(),
+    })
 }

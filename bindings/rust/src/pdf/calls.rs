@@ -128,7 +128,7 @@ impl std::error::Error for FontError {
     fn source(&self) -> Option<&(dyn std::error::Error + 'static)> {
         match self {
             Self::Subset(error) => Some(error),
-            Self::NotPermitted(_) | Self::TextTooLong => None,
+            Self::NotPermitted(_) | Self::TextTooLong | Self::NoCmap => None,
         }
     }
 }

@@ -6,6 +6,7 @@ use core::fmt;
 
 /// Why a PDF gets nothing of a font.
 #[derive(Debug, Copy, Clone, Eq, PartialEq)]
+#[non_exhaustive]
 pub enum FontError {
     /// The error of a call that subsets a font.
     Subset(Error),
@@ -13,6 +14,8 @@ pub enum FontError {
     NotPermitted(Permission),
     /// A text has more than 256 UTF-16 units.
     TextTooLong,
+    /// The font has no table by which characters have glyphs.
+    NoCmap,
 }
 
 impl From<Error> for FontError {
@@ -27,6 +30,7 @@ impl fmt::Display for FontError {
             Self::Subset(error) => error.fmt(f),
             Self::NotPermitted(_) => f.write_str("embedding not permitted"),
             Self::TextTooLong => f.write_str("text too long"),
+            Self::NoCmap => f.write_str("no usable cmap in font"),
         }
     }
 }

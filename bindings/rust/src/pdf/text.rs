@@ -4,6 +4,7 @@ use super::{with_room, Direction, FontError, FontOptions, PdfFont, Shown, TextEr
 use crate::proved::font_advances;
 use crate::proved::pdf_operators::show_run;
 use crate::proved::pdf_runs as proved;
+use crate::proved::pdf_sheet::{write_lines, SheetLine};
 use crate::proved::pdf_text_font::text_font;
 use crate::proved::subsetter::Tag as ProvedTag;
 use crate::proved::subsetter_base::remapper::Remapper;
@@ -86,7 +87,7 @@ pub struct Run {
 ///     ShapedGlyph { glyph_id, cluster, x_advance, ..ShapedGlyph::default() }
 /// });
 /// let run = text.shaped("Afix", &line, RunDirection::LeftToRight, 12_000)?;
-/// assert_eq!(run.operators, b"[ <00010002> ] TJ\n[ 49 <00030004> ] TJ\n");
+/// assert_eq!(run.operators, b"[<00010002>49<00030004>]TJ\n");
 /// assert_eq!(run.advance, 1674);
 /// // .. other runs, and then the font of them all.
 /// let font = text.font(&FontOptions::new()).unwrap();
@@ -178,8 +179,8 @@ impl<'a> Text<'a> {
     /// let accent = Item { glyph: 7, x_offset: -1024, y_offset: 205, ..Item::default() };
     /// let run = text.run(&[letter, accent], RunDirection::LeftToRight, 12_000)?;
     /// let span = "/Span << /ActualText <FEFF00610301> >> BDC\n";
-    /// let shown = "[ <0001> ] TJ\n1.200000 Ts\n[ 500 <0002> ] TJ\nEMC\n";
-    /// assert_eq!(run.operators, [span, shown, "[ -167 ] TJ\n0.000000 Ts\n"].concat().as_bytes());
+    /// let shown = "[<0001>]TJ\n1.200 Ts\n[500<0002>]TJ\nEMC\n";
+    /// assert_eq!(run.operators, [span, shown, "[-167]TJ\n0 Ts\n"].concat().as_bytes());
     /// # Ok(())
     /// # }
     /// ```
@@ -244,8 +245,8 @@ impl<'a> Text<'a> {
     /// # fn main() -> Result<(), subsetter::pdf::TextError> {
     /// # let data = include_bytes!("../../tests/data/made.ttf");
     /// let mut text = Text::new(data, 0, &[], &TextOptions::new())?;
-    /// let run = text.plain(&glyphs_of(data, 0, "ABBA")?, 12_000)?;
-    /// assert_eq!(run.operators, b"[ <0001000200020001> ] TJ\n");
+    /// let run = text.plain(&glyphs_of(data, 0, "ABBA").unwrap(), 12_000)?;
+    /// assert_eq!(run.operators, b"[<0001000200020001>]TJ\n");
     /// # Ok(())
     /// # }
     /// ```
@@ -339,7 +340,7 @@ impl<'a> Text<'a> {
     /// of an earlier one.
     ///
     /// The codes are the CIDs, which [`glyph_count`](PdfFont::glyph_count) counts. It has no entries, so that
-    /// [`codes`](PdfFont::codes), [`cids`](PdfFont::cids), [`text_is_mapped`](PdfFont::text_is_mapped) and a
+    /// [`codes`](PdfFont::codes), [`cids`](PdfFont::cids), [`text_is_mapped`](PdfFont::text_is_mapped) and the font's own
     /// [`sheet`](PdfFont::sheet) are empty. Of the options [`codes`](FontOptions::codes),
     /// [`direction`](FontOptions::direction) and [`program`](FontOptions::program) have no effect: outlines in `CFF ` are the bare
     /// table.
@@ -355,6 +356,37 @@ impl<'a> Text<'a> {
         let made = made.map_err(FontError::of)?;
         let map = made.cid_to_gid_map.map(|it| it.into_inner());
         Ok(PdfFont::with_map(made.font, map)?)
+    }
+
+    /// A whole PDF file of runs, each on a page of its own, with the font for the runs so far. The font has 36 points there: the
+    /// runs are of this text, with 36,000 as their size. A page is as long as its line with margins of 36 points, and has at most
+    /// 14,400 points. Without runs there are no pages.
+    ///
+    /// ```
+    /// use subsetter::pdf::{glyphs_of, FontOptions, Text, TextError, TextOptions};
+    ///
+    /// # fn main() -> Result<(), TextError> {
+    /// # let data = include_bytes!("../../tests/data/made.ttf");
+    /// let mut text = Text::new(data, 0, &[], &TextOptions::new())?;
+    /// let run = text.plain(&glyphs_of(data, 0, "ABBA").unwrap(), 36_000)?;
+    /// let file = text.sheet(&[run], &FontOptions::new()).unwrap();
+    /// assert!(file.starts_with(b"%PDF-1.7") && file.ends_with(b"%%EOF\n"));
+    /// # Ok(())
+    /// # }
+    /// ```
+    ///
+    /// # Errors
+    ///
+    /// Those of [`font`](Self::font); [`Error::OverflowError`] also where the file would have 10,000,000,000 bytes or more.
+    pub fn sheet(&self, runs: &[Run], options: &FontOptions) -> Result<Vec<u8>, FontError> {
+        let font = self.font(options)?;
+        let mut lines = with_room(runs.len())?;
+        lines.extend(runs.iter().map(|it| SheetLine {
+            operators: &it.operators,
+            advance: it.advance.unsigned_abs(),
+        }));
+        let made = write_lines(Global, font.view().values, &lines);
+        Ok(made.map_err(library::refused)?.into_inner())
     }
 }
 

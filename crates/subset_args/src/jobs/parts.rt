@@ -1,22 +1,24 @@
 //! What single arguments request: glyphs, coordinates, a PDF.
 
-ghost use Rattle.std.specs.Prelude.{◌≡◌, ◌⊎◌, map, IfOk, IfErr, Some, None, string_bytes};
+ghost use Rattle.std.specs.Prelude.{◌≡◌, ◌⊎◌, IfOk, IfErr, Some, None, string_bytes};
 ghost use Rattle.std.specs.Option.{option_copied, option_map};
-ghost use Rattle.subset_args.specs.Listing.Lists.{argument_list};
-ghost use Rattle.subset_args.specs.Listing.Characters.{argument_characters};
-ghost use Rattle.subset_args.specs.Request.{glyph_list, of_list, requested, is_stream, lists_in_stream, position_option, pdf_choice, pdf_by, is_same, is_name, position_in};
+ghost use Rattle.subset_args.specs.Request.{glyph_list, of_list, requested, requested_by, is_stream, file_option, wrong_source, wrong_stream, position_option, pdf_choice, pdf_of, is_name, position_in};
 ghost use Rattle.subset_args.specs.Listing.ListView.{list_view};
+ghost use Rattle.subset_args.specs.Mistakes.{fault_view, Gives};
+ghost use Rattle.subset_args.specs.Options.{in_file, in_codes, in_list};
 ghost use Rattle.subset_args.specs.View.{source_view, chosen_view, requested_view, position_view, pdf_view};
 ghost use Rattle.subset_args.specs.declared.jobs.command.ArgsError.TheVariants.{Usage, OutOfMemory};
 
 use crate::coordinates::read_coordinates;
 use crate::jobs::command::{ArgsError, Glyphs, PdfJob, Position};
 use crate::listing::characters::read_characters;
-use crate::listing::lists::{GlyphList, read_argument};
+use crate::listing::lists::{FileKind, GlyphList, read_argument};
+use crate::listing::wrong::{Listing, wrong_list};
+use crate::mistakes::{Mistake, Unread, Wrong, mistake_in};
 use crate::options::chosen::{Chosen, PdfChoice};
 use crate::options::names::{Coding, Source};
 use crate::words::{parts_of, u16_of};
-use std::alloc::Global;
+use std::alloc::{AllocError, Global};
 
 /// The glyphs of a list with a comma between each two.
 fn glyphs_of(alloc: Global, list: &str) -> Result<Vec<u16>, ArgsError>
@@ -45,39 +47,62 @@ fn of_list(list: GlyphList) -> Glyphs
 }
 
 /// The glyphs of the characters that an argument lists.
-fn characters_listed(alloc: Global, text: &str) -> Result<Glyphs, ArgsError>
-    ensures ok { IfOk result (λ g. option_map of_list (argument_characters text.now) ≡ Some (requested_view g)) }
-    ensures err { IfErr result (λ e. (e ≡ OutOfMemory) ⊎ ((e ≡ Usage) × (argument_characters text.now ≡ None))) }
+fn characters_listed<'a>(alloc: Global, text: &'a str) -> Result<Glyphs, Unread<'a>>
+    ensures { Gives requested_view result (requested_by (in_codes text.now)) }
 {
-    Ok(of_list(read_characters(alloc, text)?))
+    match read_characters(alloc, text) {
+        Ok(list) => Ok(of_list(list)),
+        Err(ArgsError::OutOfMemory) => Err(Unread::OutOfMemory),
+        Err(ArgsError::Usage) => Err(Unread::Mistake(wrong_list(alloc, Listing::Codes, text)?)),
+    }
 }
 
 /// The glyphs that an argument lists.
-fn glyphs_listed(alloc: Global, text: &str) -> Result<Glyphs, ArgsError>
-    ensures ok { IfOk result (λ g. option_map of_list (argument_list text.now) ≡ Some (requested_view g)) }
-    ensures err { IfErr result (λ e. (e ≡ OutOfMemory) ⊎ ((e ≡ Usage) × (argument_list text.now ≡ None))) }
+fn glyphs_listed<'a>(alloc: Global, text: &'a str) -> Result<Glyphs, Unread<'a>>
+    ensures { Gives requested_view result (requested_by (in_list text.now)) }
 {
-    Ok(of_list(read_argument(alloc, text)?))
+    match read_argument(alloc, text) {
+        Ok(list) => Ok(of_list(list)),
+        Err(ArgsError::OutOfMemory) => Err(Unread::OutOfMemory),
+        Err(ArgsError::Usage) => Err(Unread::Mistake(wrong_list(alloc, Listing::Glyphs, text)?)),
+    }
 }
 
-/// Which glyphs the arguments behind INDEX request.
-pub fn read_glyphs(
-    alloc: Global,
-    source: Option<Source<'_>>,
-    words: &[String],
-) -> Result<Glyphs, ArgsError>
-    ensures ok { IfOk result (λ g. requested (option_map source_view source.entry) (map (λ word. string_bytes word) words.now) ≡ Some (requested_view g)) }
-    ensures err { IfErr result (λ e. (e ≡ OutOfMemory) ⊎ ((e ≡ Usage) × (requested (option_map source_view source.entry) (map (λ word. string_bytes word) words.now) ≡ None))) }
+/// The glyphs that an option requests.
+fn by_source<'a>(alloc: Global, source: Source<'a>) -> Result<Glyphs, Unread<'a>>
+    ensures { Gives requested_view result (requested_by (source_view source.entry)) }
 {
-    match (source, words) {
-        (None, [list]) => Ok(Glyphs::Listed(glyphs_of(alloc, list)?)),
-        (Some(Source::File(kind, name)), []) => {
-            Ok(Glyphs::InFile(kind, String::from_str(alloc, name)?))
-        }
-        (Some(Source::Text(text)), []) => Ok(Glyphs::ByText(String::from_str(alloc, text)?)),
-        (Some(Source::InList(text)), []) => glyphs_listed(alloc, text),
-        (Some(Source::Characters(text)), []) => characters_listed(alloc, text),
-        _ => Err(ArgsError::Usage),
+    match source {
+        Source::File(kind, name) => Ok(Glyphs::InFile(kind, String::from_str(alloc, name)?)),
+        Source::Text(text) => Ok(Glyphs::ByText(String::from_str(alloc, text)?)),
+        Source::InList(text) => glyphs_listed(alloc, text),
+        Source::Characters(text) => characters_listed(alloc, text),
+    }
+}
+
+/// The glyphs of a list that is an argument of its own.
+fn numbers_listed<'a>(alloc: Global, list: &'a str) -> Result<Glyphs, Unread<'a>>
+    ensures { Gives requested_view result (requested (Some list.now) None) }
+{
+    match glyphs_of(alloc, list) {
+        Ok(glyphs) => Ok(Glyphs::Listed(glyphs)),
+        Err(ArgsError::OutOfMemory) => Err(Unread::OutOfMemory),
+        Err(ArgsError::Usage) => Err(Unread::Mistake(wrong_list(alloc, Listing::Numbers, list)?)),
+    }
+}
+
+/// Which glyphs are requested: those that an argument lists, or an option.
+pub fn read_glyphs<'a>(
+    alloc: Global,
+    listed: Option<&'a str>,
+    source: Option<Source<'a>>,
+) -> Result<Glyphs, Unread<'a>>
+    ensures { Gives requested_view result (requested (option_copied listed.entry) (option_map source_view source.entry)) }
+{
+    match (listed, source) {
+        (Some(list), _) => numbers_listed(alloc, list),
+        (None, Some(source)) => by_source(alloc, source),
+        (None, None) => Err(Unread::Mistake(mistake_in(Wrong::NoGlyphs, ""))),
     }
 }
 
@@ -88,18 +113,42 @@ pub fn is_stream(word: &str) -> bool
     word == "-"
 }
 
-/// Whether the glyphs are listed in standard input.
-pub fn lists_in_stream(glyphs: &Glyphs) -> bool
-    ensures { result ≡ lists_in_stream (requested_view glyphs.now) }
+/// The option for a file of glyphs.
+fn file_option(kind: FileKind) -> &'static str
+    ensures { result.now ≡ file_option kind }
 {
-    match glyphs {
-        Glyphs::InFile(_, name) => is_stream(name),
-        _ => false,
+    match kind {
+        FileKind::Glyphs => "--gids-file",
+        FileKind::Characters => "--unicodes-file",
+        FileKind::Text => "--text-file",
+    }
+}
+
+/// A file of glyphs that is standard input, as IN is.
+fn wrong_file<'a>(input: &str, kind: FileKind, name: &str) -> Option<Mistake<'a>>
+    ensures { option_map fault_view result ≡ wrong_source input.now (in_file kind name.now) }
+{
+    if is_stream(input) && is_stream(name) {
+        return Some(mistake_in(Wrong::InputTwice, file_option(kind)));
+    }
+    None
+}
+
+/// The same of what an option requests.
+pub fn wrong_stream<'a>(input: &str, source: Option<Source<'_>>) -> Option<Mistake<'a>>
+    ensures { option_map fault_view result ≡ wrong_stream input.now (option_map source_view source.entry) }
+{
+    match source {
+        Some(Source::File(kind, name)) => wrong_file(input, kind, name),
+        Some(Source::Text(_)) => None,
+        Some(Source::InList(_)) => None,
+        Some(Source::Characters(_)) => None,
+        None => None,
     }
 }
 
 /// Whether a text is the name of a named instance, and not coordinates: it has no equals sign, and isn't empty.
-pub fn is_name(text: &str) -> bool
+fn is_name(text: &str) -> bool
     ensures { result ≡ is_name text.now }
 {
     text.len() > 0 && text.split_once('=').is_none()
@@ -117,13 +166,20 @@ fn position_of(alloc: Global, text: &str) -> Result<Position, ArgsError>
 }
 
 /// Where on its axes a variable font is requested, if that is specified.
-pub fn read_at(alloc: Global, at: Option<&str>) -> Result<Option<Position>, ArgsError>
-    ensures ok { IfOk result (λ v. position_option (option_copied at.entry) ≡ Some (option_map position_view v)) }
-    ensures err { IfErr result (λ e. (e ≡ OutOfMemory) ⊎ ((e ≡ Usage) × (position_option (option_copied at.entry) ≡ None))) }
+pub fn read_at<'a>(alloc: Global, at: Option<&'a str>) -> Result<Option<Position>, Unread<'a>>
+    ensures { Gives (λ v. option_map position_view v) result (position_option (option_copied at.entry)) }
 {
-    match at {
-        None => Ok(None),
-        Some(text) => Ok(Some(position_of(alloc, text)?)),
+    let Some(text) = at else {
+        return Ok(None);
+    };
+    match position_of(alloc, text) {
+        Ok(position) => Ok(Some(position)),
+        Err(ArgsError::OutOfMemory) => Err(Unread::OutOfMemory),
+        Err(ArgsError::Usage) => Err(Unread::Mistake(wrong_list(
+            alloc,
+            Listing::Coordinates,
+            text,
+        )?)),
     }
 }
 
@@ -138,37 +194,22 @@ fn pdf_choice(chosen: &Chosen<'_>) -> PdfChoice
     }
 }
 
-/// The PDF that is requested, if one is. Options that say how it is made want one.
-pub fn read_pdf(alloc: Global, chosen: &Chosen<'_>) -> Result<Option<PdfJob>, ArgsError>
-    ensures ok { IfOk result (λ pdf. pdf_by (option_copied chosen.now.pdf) (chosen_view chosen.now) ≡ Some (option_map pdf_view pdf)) }
-    ensures err { IfErr result (λ e. (e ≡ OutOfMemory) ⊎ ((e ≡ Usage) × (pdf_by (option_copied chosen.now.pdf) (chosen_view chosen.now) ≡ None))) }
+/// The PDF that is requested, if one is.
+pub fn read_pdf(alloc: Global, chosen: &Chosen<'_>) -> Result<Option<PdfJob>, AllocError>
+    ensures { IfOk result (λ pdf. option_map pdf_view pdf ≡ pdf_of (chosen_view chosen.now)) }
 {
     match chosen.pdf {
         Some(file) => Ok(Some(PdfJob {
             file: String::from_str(alloc, file)?,
             choice: pdf_choice(chosen),
         })),
-        None if chosen.switches.vertical || (chosen.coding.is_some() || chosen.is_held) => {
-            Err(ArgsError::Usage)
-        }
         None => Ok(None),
     }
 }
 
-/// Whether both are one file, by their names.
-pub fn is_same(one: Option<&str>, other: Option<&str>) -> bool
-    ensures { result ≡ is_same (option_copied one.entry) (option_copied other.entry) }
-{
-    match (one, other) {
-        (Some(one), Some(other)) => one == other,
-        _ => false,
-    }
-}
-
 /// The name of a file, if it is given.
-pub fn owned(alloc: Global, name: Option<&str>) -> Result<Option<String>, ArgsError>
-    ensures ok { IfOk result (λ o. option_map (λ name. string_bytes name) o ≡ option_copied name.entry) }
-    ensures err { IfErr result (λ e. e ≡ OutOfMemory) }
+pub fn owned(alloc: Global, name: Option<&str>) -> Result<Option<String>, AllocError>
+    ensures { IfOk result (λ o. option_map (λ name. string_bytes name) o ≡ option_copied name.entry) }
 {
     match name {
         Some(name) => Ok(Some(String::from_str(alloc, name)?)),

@@ -1,184 +1,151 @@
-//! What all arguments request.
+//! What all arguments request, or what is wrong with them first.
 
-ghost use Rattle.std.specs.Prelude.{◌≡◌, ◌⊎◌, map, IfOk, IfErr, IfSome, Some, None, string_bytes};
-ghost use Rattle.std.specs.Option.{option_copied, option_map};
-ghost use Rattle.subset_args.specs.Request.{request_of, request_behind, request_plain, names_position, has_output, request_with, request_free, command_by_options, command_free, command_or, shown_of, shown_by, topic_of, first_topic, behind_first, single_command, is_batch, begins_batch, batch_of, command};
-ghost use Rattle.subset_args.specs.View.{chosen_view, free_view, requested_view, job_view, command_view};
-ghost use Rattle.subset_args.specs.declared.jobs.command.ArgsError.TheVariants.{Usage, OutOfMemory};
+ghost use Rattle.std.specs.Prelude.{◌≡◌, IfOk};
+ghost use Rattle.std.specs.Option.{option_map};
+ghost use Rattle.subset_args.specs.Mistakes.{fault_view, Gives};
+ghost use Rattle.subset_args.specs.Request.{request_with, request_at, request_of, request_from, command_of, command_by_options, instead_of, shown_of, shown_by, batch_of, command};
+ghost use Rattle.subset_args.specs.declared.mistakes.Wrong.TheVariants.{BehindShown};
+ghost use Rattle.subset_args.specs.View.{chosen_view, parsed_view, asked_view, requested_view, position_view, job_view, command_view, words_view};
 
-use crate::jobs::command::{ArgsError, Command, Glyphs, Job, Topic};
-use crate::jobs::parts::{
-    is_same, is_stream, lists_in_stream, owned, read_at, read_glyphs, read_pdf,
-};
+use crate::jobs::command::{Command, Glyphs, Job, Position, Topic};
+use crate::jobs::forms::{Asked, Parsed, asked_by, parse_options, wrong_pdf};
+use crate::jobs::parts::{owned, read_at, read_glyphs, read_pdf, wrong_stream};
+use crate::mistakes::{Mistake, Unread, Wrong, mistake_in};
 use crate::options::chosen::Chosen;
-use crate::options::reading::{Free, Parsed, parse_free, parse_options};
+use crate::options::joined::{is_batch, is_option, looks_like_option, topic_of};
+use crate::options::names::kind_of;
 use crate::words::u32_of;
-use std::alloc::Global;
+use std::alloc::{AllocError, Global};
 
-/// What is to be done, where standard input isn't to be read twice, and no file written twice.
+/// What is to be done with these glyphs at this position.
 fn job_with(
     alloc: Global,
-    chosen: Chosen<'_>,
-    input: &str,
-    output: Option<&str>,
-    index: u32,
+    asked: Asked<'_>,
     glyphs: Glyphs,
-) -> Result<Job, ArgsError>
-    ensures ok { IfOk result (λ job. request_of (chosen_view chosen.entry) input.now (option_copied output.entry) index (requested_view glyphs) ≡ Some (job_view job)) }
-    ensures err { IfErr result (λ e. (e ≡ OutOfMemory) ⊎ ((e ≡ Usage) × (request_of (chosen_view chosen.entry) input.now (option_copied output.entry) index (requested_view glyphs) ≡ None))) }
+    position: Option<Position>,
+) -> Result<Job, AllocError>
+    ensures { IfOk result (λ job. job_view job ≡ request_with (asked_view asked.entry) (requested_view glyphs) (option_map position_view position)) }
 {
-    if (is_stream(input) && lists_in_stream(&glyphs)) || is_same(output, chosen.pdf) {
-        return Err(ArgsError::Usage);
-    }
-    let pdf = read_pdf(alloc, &chosen)?;
-    let position = read_at(alloc, chosen.at)?;
+    let chosen = asked.chosen;
     Ok(Job {
-        input: String::from_str(alloc, input)?,
-        output: owned(alloc, output)?,
-        index,
+        input: String::from_str(alloc, asked.input)?,
+        output: owned(alloc, asked.output)?,
+        index: asked.index,
         most_input: chosen.most_input,
         glyphs,
         limits: chosen.limits,
         switches: chosen.switches,
         position,
-        pdf,
+        pdf: read_pdf(alloc, &chosen)?,
+        by_option: asked.listed.is_none(),
     })
 }
 
-/// What is to be done by IN, OUT, INDEX and the arguments behind them.
-fn read_behind_index(
+/// What is to be done with these glyphs, where no file is written twice.
+fn job_at<'a>(alloc: Global, asked: Asked<'a>, glyphs: Glyphs) -> Result<Job, Unread<'a>>
+    ensures { Gives job_view result (request_at (asked_view asked.entry) (requested_view glyphs)) }
+{
+    let position = read_at(alloc, asked.chosen.at)?;
+    if let Some(wrong) = wrong_pdf(&asked.chosen, asked.output) {
+        return Err(Unread::Mistake(wrong));
+    }
+    Ok(job_with(alloc, asked, glyphs, position)?)
+}
+
+/// What is to be done, where standard input isn't read twice.
+#[tactic(auto, unfolding(crate::specs::Request::request_of))]
+fn job_of<'a>(alloc: Global, asked: Asked<'a>) -> Result<Job, Unread<'a>>
+    ensures { Gives job_view result (request_of (asked_view asked.entry)) }
+{
+    if let Some(wrong) = wrong_stream(asked.input, asked.chosen.source) {
+        return Err(Unread::Mistake(wrong));
+    }
+    let glyphs = read_glyphs(alloc, asked.listed, asked.chosen.source)?;
+    job_at(alloc, asked, glyphs)
+}
+
+/// What the arguments from IN on request.
+fn read_job<'a>(
     alloc: Global,
-    chosen: Chosen<'_>,
-    input: &str,
-    output: Option<&str>,
-    index: u32,
-    words: &[String],
-) -> Result<Job, ArgsError>
-    ensures ok { IfOk result (λ job. request_behind (chosen_view chosen.entry) input.now (option_copied output.entry) index (map (λ word. string_bytes word) words.now) ≡ Some (job_view job)) }
-    ensures err { IfErr result (λ e. (e ≡ OutOfMemory) ⊎ ((e ≡ Usage) × (request_behind (chosen_view chosen.entry) input.now (option_copied output.entry) index (map (λ word. string_bytes word) words.now) ≡ None))) }
+    chosen: Chosen<'a>,
+    is_ended: bool,
+    words: &'a [String],
+) -> Result<Job, Unread<'a>>
+    ensures { Gives job_view result (request_from (chosen_view chosen.entry) is_ended (words_view words.now)) }
 {
-    let glyphs = read_glyphs(alloc, chosen.source, words)?;
-    job_with(alloc, chosen, input, output, index, glyphs)
-}
-
-/// What the arguments `IN OUT INDEX GID[,GID..]` request, or `IN OUT INDEX` where the glyphs are found elsewhere.
-///
-/// `Usage` where their count is another, where INDEX or a GID isn't one or more ASCII digits whose value fits `u32` or
-/// `u16`, where the coordinates aren't as `read_coordinates` takes them, or where standard input is to be read twice.
-fn read_plain_job(alloc: Global, chosen: Chosen<'_>, words: &[String]) -> Result<Job, ArgsError>
-    ensures ok { IfOk result (λ job. request_plain (chosen_view chosen.entry) (map (λ word. string_bytes word) words.now) ≡ Some (job_view job)) }
-    ensures err { IfErr result (λ e. (e ≡ OutOfMemory) ⊎ ((e ≡ Usage) × (request_plain (chosen_view chosen.entry) (map (λ word. string_bytes word) words.now) ≡ None))) }
-{
-    let [input, output, index, rest @ ..] = words else {
-        return Err(ArgsError::Usage);
-    };
-    let index = u32_of(index).ok_or(ArgsError::Usage)?;
-    read_behind_index(alloc, chosen, input, Some(output.as_str()), index, rest)
-}
-
-/// Whether an option says OUT or INDEX.
-fn names_position(chosen: &Chosen<'_>) -> bool
-    ensures { result ≡ names_position (chosen_view chosen.now) }
-{
-    chosen.output.is_some() || chosen.index.is_some()
-}
-
-/// The same where no option says OUT or INDEX.
-fn read_job(alloc: Global, chosen: Chosen<'_>, words: &[String]) -> Result<Job, ArgsError>
-    ensures ok { IfOk result (λ job. request_with (chosen_view chosen.entry) (map (λ word. string_bytes word) words.now) ≡ Some (job_view job)) }
-    ensures err { IfErr result (λ e. (e ≡ OutOfMemory) ⊎ ((e ≡ Usage) × (request_with (chosen_view chosen.entry) (map (λ word. string_bytes word) words.now) ≡ None))) }
-{
-    if names_position(&chosen) {
-        return Err(ArgsError::Usage);
-    }
-    read_plain_job(alloc, chosen, words)
-}
-
-/// Whether an option says where the new font or a PDF goes.
-fn has_output(chosen: &Chosen<'_>) -> bool
-    ensures { result ≡ has_output (chosen_view chosen.now) }
-{
-    chosen.output.is_some() || chosen.pdf.is_some()
-}
-
-/// What is requested by options before and after IN, one of which says OUT or a PDF.
-fn read_free_job(alloc: Global, free: Free<'_>) -> Result<Job, ArgsError>
-    ensures ok { IfOk result (λ job. request_free (free_view free.entry) ≡ Some (job_view job)) }
-    ensures err { IfErr result (λ e. (e ≡ OutOfMemory) ⊎ ((e ≡ Usage) × (request_free (free_view free.entry) ≡ None))) }
-{
-    let chosen = free.chosen;
-    if !has_output(&chosen) {
-        return Err(ArgsError::Usage);
-    }
-    let glyphs = read_glyphs(alloc, chosen.source, &[])?;
-    job_with(
-        alloc,
-        chosen,
-        free.input,
-        chosen.output,
-        chosen.index.unwrap_or(0),
-        glyphs,
-    )
-}
-
-/// What arguments request with options before and after IN.
-fn read_free(alloc: Global, words: &[String]) -> Result<Command, ArgsError>
-    ensures ok { IfOk result (λ c. command_free (map (λ word. string_bytes word) words.now) ≡ Some (command_view c)) }
-    ensures err { IfErr result (λ e. (e ≡ OutOfMemory) ⊎ ((e ≡ Usage) × (command_free (map (λ word. string_bytes word) words.now) ≡ None))) }
-{
-    match parse_free(Chosen::NOTHING, None, words) {
-        Some(free) => Ok(Command::Subset(read_free_job(alloc, free)?)),
-        None => Err(ArgsError::Usage),
+    match asked_by(chosen, is_ended, words) {
+        Ok(asked) => job_of(alloc, asked),
+        Err(wrong) => Err(Unread::Mistake(wrong)),
     }
 }
 
-/// What the arguments `[OPTIONS] IN OUT INDEX [GID[,GID..]]` request.
-fn read_by_options(alloc: Global, words: &[String]) -> Result<Command, ArgsError>
-    ensures ok { IfOk result (λ c. command_by_options (map (λ word. string_bytes word) words.now) ≡ Some (command_view c)) }
-    ensures err { IfErr result (λ e. (e ≡ OutOfMemory) ⊎ ((e ≡ Usage) × (command_by_options (map (λ word. string_bytes word) words.now) ≡ None))) }
+/// What the options and the arguments behind them request.
+fn read_parsed<'a>(alloc: Global, parsed: Parsed<'a>) -> Result<Command, Unread<'a>>
+    ensures { Gives command_view result (command_of (parsed_view parsed.entry)) }
 {
-    match parse_options(Chosen::NOTHING, words) {
-        None => Err(ArgsError::Usage),
-        Some(Parsed::Help) => Ok(Command::Help),
-        Some(Parsed::Version) => Ok(Command::Version),
-        Some(Parsed::Chosen(chosen, rest)) => Ok(Command::Subset(read_job(alloc, chosen, rest)?)),
+    match parsed {
+        Parsed::Help => Ok(Command::Help),
+        Parsed::Version => Ok(Command::Version),
+        Parsed::Chosen(chosen, is_ended, words) => {
+            Ok(Command::Subset(read_job(alloc, chosen, is_ended, words)?))
+        }
     }
 }
 
-/// What the arguments request in the plain form, else with options before and after IN.
-fn read_either(alloc: Global, words: &[String]) -> Result<Command, ArgsError>
-    ensures ok { IfOk result (λ c. command_or (command_by_options (map (λ word. string_bytes word) words.now)) (command_free (map (λ word. string_bytes word) words.now)) ≡ Some (command_view c)) }
-    ensures err { IfErr result (λ e. (e ≡ OutOfMemory) ⊎ ((e ≡ Usage) × (command_or (command_by_options (map (λ word. string_bytes word) words.now)) (command_free (map (λ word. string_bytes word) words.now)) ≡ None))) }
+/// What the arguments request that begin with options or IN.
+#[tactic(auto, unfolding(crate::specs::Request::command_by_options))]
+fn read_by_options<'a>(alloc: Global, words: &'a [String]) -> Result<Command, Unread<'a>>
+    ensures { Gives command_view result (command_by_options (words_view words.now)) }
 {
-    match read_by_options(alloc, words) {
-        Ok(command) => Ok(command),
-        Err(ArgsError::Usage) => read_free(alloc, words),
-        Err(ArgsError::OutOfMemory) => Err(ArgsError::OutOfMemory),
+    match parse_options(Chosen::NOTHING, false, words) {
+        Ok(parsed) => read_parsed(alloc, parsed),
+        Err(wrong) => Err(Unread::Mistake(wrong)),
     }
+}
+
+/// What is wrong, unless it is that an option is in the place of IN.
+#[tactic(auto, unfolding(crate::specs::Request::instead_of))]
+fn instead_of<'a>(input: &'a str, wrong: Mistake<'a>) -> Mistake<'a>
+    ensures { fault_view result ≡ instead_of input.now (fault_view wrong.entry) }
+{
+    if !looks_like_option(input) {
+        return wrong;
+    }
+    if is_option(kind_of(input)) || topic_of(input).is_some() {
+        mistake_in(Wrong::BehindShown, input)
+    } else {
+        mistake_in(Wrong::Unknown, input)
+    }
+}
+
+/// What is wrong where an argument follows INDEX.
+fn after_index<'a>(input: &'a str, word: &'a str) -> Mistake<'a>
+    ensures { fault_view result ≡ instead_of input.now (record { wrong = BehindShown; word = word.now }) }
+{
+    instead_of(input, mistake_in(Wrong::BehindShown, word))
 }
 
 /// What the arguments `FONT [INDEX]` show. INDEX is 0 where it isn't given.
-fn read_shown(topic: Topic, json: bool, words: &[String]) -> Result<Command, ArgsError>
-    ensures ok { IfOk result (λ c. shown_of topic json (map (λ word. string_bytes word) words.now) ≡ Some (command_view c)) }
-    ensures err { IfErr result (λ e. (e ≡ OutOfMemory) ⊎ ((e ≡ Usage) × (shown_of topic json (map (λ word. string_bytes word) words.now) ≡ None))) }
+fn read_shown<'a>(topic: Topic, json: bool, words: &'a [String]) -> Result<Command, Unread<'a>>
+    ensures { Gives command_view result (shown_of topic json (words_view words.now)) }
 {
     match words {
+        [] => Err(Unread::Mistake(mistake_in(Wrong::NoInput, ""))),
         [input] => Ok(Command::Show(topic, json, input.clone()?, 0)),
-        [input, index] => {
-            let index = u32_of(index).ok_or(ArgsError::Usage)?;
-            Ok(Command::Show(topic, json, input.clone()?, index))
-        }
-        _ => Err(ArgsError::Usage),
+        [input, index] => match u32_of(index) {
+            Some(number) => Ok(Command::Show(topic, json, input.clone()?, number)),
+            None => Err(Unread::Mistake(instead_of(input, mistake_in(Wrong::Index, index)))),
+        },
+        [input, _, word, ..] => Err(Unread::Mistake(after_index(input, word))),
     }
 }
 
 /// What the arguments `[--json] FONT [INDEX]` show.
-fn read_topic(topic: Topic, words: &[String]) -> Result<Command, ArgsError>
-    ensures ok { IfOk result (λ c. shown_by topic (map (λ word. string_bytes word) words.now) ≡ Some (command_view c)) }
-    ensures err { IfErr result (λ e. (e ≡ OutOfMemory) ⊎ ((e ≡ Usage) × (shown_by topic (map (λ word. string_bytes word) words.now) ≡ None))) }
+fn read_topic<'a>(topic: Topic, words: &'a [String]) -> Result<Command, Unread<'a>>
+    ensures { Gives command_view result (shown_by topic (words_view words.now)) }
 {
     let [word, behind @ ..] = words else {
-        return Err(ArgsError::Usage);
+        return Err(Unread::Mistake(mistake_in(Wrong::NoInput, "")));
     };
     if word.as_str() == "--json" {
         read_shown(topic, true, behind)
@@ -187,85 +154,34 @@ fn read_topic(topic: Topic, words: &[String]) -> Result<Command, ArgsError>
     }
 }
 
-/// What an argument shows, if it is first.
-pub fn topic_of(word: &str) -> Option<Topic>
-    ensures { result ≡ topic_of word.now }
-{
-    match word {
-        "--axes" => Some(Topic::Axes),
-        "--info" => Some(Topic::Info),
-        _ => None,
-    }
-}
-
-/// What the first argument shows, and the arguments behind it.
-pub fn first_topic(words: &[String]) -> Option<(Topic, &[String])>
-    ensures topic { option_map (λ p. p.0) result ≡ first_topic (map (λ word. string_bytes word) words.now) }
-    ensures behind { IfSome result (λ p. map (λ word. string_bytes word) p.1.now ≡ behind_first (map (λ word. string_bytes word) words.now)) }
-{
-    let [word, behind @ ..] = words else {
-        return None;
-    };
-    match topic_of(word) {
-        Some(topic) => Some((topic, behind)),
-        None => None,
-    }
-}
-
-/// What arguments that don't begin with `--batch` request.
-fn read_single(alloc: Global, words: &[String]) -> Result<Command, ArgsError>
-    ensures ok { IfOk result (λ c. single_command (map (λ word. string_bytes word) words.now) ≡ Some (command_view c)) }
-    ensures err { IfErr result (λ e. (e ≡ OutOfMemory) ⊎ ((e ≡ Usage) × (single_command (map (λ word. string_bytes word) words.now) ≡ None))) }
-{
-    match first_topic(words) {
-        Some((topic, behind)) => read_topic(topic, behind),
-        None => read_either(alloc, words),
-    }
-}
-
-/// Whether an argument is `--batch`.
-pub fn is_batch(word: &str) -> bool
-    ensures { result ≡ is_batch word.now }
-{
-    word == "--batch"
-}
-
-/// Whether the first argument is `--batch`.
-pub fn begins_batch(words: &[String]) -> bool
-    ensures { result ≡ begins_batch (map (λ word. string_bytes word) words.now) }
+/// What the arguments behind `--batch` request: FILE.
+fn read_batch<'a>(words: &'a [String]) -> Result<Command, Unread<'a>>
+    ensures { Gives command_view result (batch_of (words_view words.now)) }
 {
     match words {
-        [] => false,
-        [word, ..] => is_batch(word),
-    }
-}
-
-/// What the arguments `--batch FILE` request.
-fn read_batch(words: &[String]) -> Result<Command, ArgsError>
-    ensures ok { IfOk result (λ c. batch_of (behind_first (map (λ word. string_bytes word) words.now)) ≡ Some (command_view c)) }
-    ensures err { IfErr result (λ e. (e ≡ OutOfMemory) ⊎ ((e ≡ Usage) × (batch_of (behind_first (map (λ word. string_bytes word) words.now)) ≡ None))) }
-{
-    match words {
-        [_, file] => Ok(Command::Batch(file.clone()?)),
-        _ => Err(ArgsError::Usage),
+        [] => Err(Unread::Mistake(mistake_in(Wrong::NoBatchFile, ""))),
+        [file] => Ok(Command::Batch(file.clone()?)),
+        [_, word, ..] => Err(Unread::Mistake(mistake_in(Wrong::BehindBatch, word))),
     }
 }
 
 /// What the arguments after the program's name request: `--batch FILE`, `--axes [--json] FONT [INDEX]` or `--info` in its place,
 /// or `[OPTIONS] IN OUT INDEX GID[,GID..]`, where the last one is left out with an option that requests glyphs; or IN with options
-/// before and after it, where one gives OUT or the file of a PDF.
+/// before and after it, where one gives OUT or the file of a PDF. An option and its value may be one word, `--name=value`, but
+/// where that is IN in the plain form.
 ///
-/// `Usage` where an option is given twice or isn't followed by its value, where the count of the other arguments is another,
-/// where INDEX or a GID isn't one or more ASCII digits whose value fits `u32` or `u16`, where the limits aren't such
-/// numbers that fit `u32` and `u8`, or the depth is 0, where standard input is to be read twice, where OUT and a PDF are one
-/// file, or where an option says how a PDF is made and there is none.
-pub fn read_words(alloc: Global, words: &[String]) -> Result<Command, ArgsError>
-    ensures ok { IfOk result (λ c. command (map (λ word. string_bytes word) words.now) ≡ Some (command_view c)) }
-    ensures err { IfErr result (λ e. (e ≡ OutOfMemory) ⊎ ((e ≡ Usage) × (command (map (λ word. string_bytes word) words.now) ≡ None))) }
+/// The error is what is wrong first, read from left to right.
+pub fn read_words<'a>(alloc: Global, words: &'a [String]) -> Result<Command, Unread<'a>>
+    ensures { Gives command_view result (command (words_view words.now)) }
 {
-    if begins_batch(words) {
-        read_batch(words)
-    } else {
-        read_single(alloc, words)
+    let [word, behind @ ..] = words else {
+        return read_by_options(alloc, words);
+    };
+    if is_batch(word) {
+        return read_batch(behind);
+    }
+    match topic_of(word) {
+        Some(topic) => read_topic(topic, behind),
+        None => read_by_options(alloc, words),
     }
 }

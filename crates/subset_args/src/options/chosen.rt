@@ -1,12 +1,13 @@
 //! What options choose.
 
 ghost use Rattle.std.specs.Prelude.{◌≡◌};
-ghost use Rattle.std.specs.Option.{option_map};
-ghost use Rattle.subset_args.specs.Options.{is_on, switched_on, with_switch, with_limits, with_source, with_at, with_output, with_index, with_most_input, with_pdf, with_coding, with_rights, with_setting};
+ghost use Rattle.subset_args.specs.Mistakes.{read_view};
+ghost use Rattle.subset_args.specs.Options.{is_on, switched_on, with_switch, with_source, with_setting};
 ghost use Rattle.subset_args.specs.View.{source_view, chosen_view};
 
 use crate::limits::RunLimits;
 use crate::listing::lists::FileKind;
+use crate::mistakes::{Mistake, Wrong, mistake_in};
 use crate::options::names::{Coding, Setting, Source, Switch};
 use crate::options::values::{coding_of, holds_rights, limits_of};
 use crate::words::u32_of;
@@ -87,7 +88,7 @@ pub struct PdfChoice {
     pub is_held: bool,
 }
 
-/// What the options in front of IN choose.
+/// What the options choose.
 #[derive(Clone, Copy, Debug)]
 pub struct Chosen<'a> {
     /// The options without a value.
@@ -127,153 +128,175 @@ impl<'a> Chosen<'a> {
         is_held: false,
     };
 
-    /// With an option without a value, which is given once.
-    pub fn with_switch(self, switch: Switch) -> Option<Chosen<'a>>
-        ensures { option_map chosen_view result ≡ with_switch switch (chosen_view self.entry) }
+    /// With an option without a value.
+    pub fn with_switch(self, switch: Switch, word: &'a str) -> Result<Chosen<'a>, Mistake<'a>>
+        ensures { read_view chosen_view result ≡ with_switch switch word.now (chosen_view self.entry) }
     {
         if self.switches.is_on(switch) {
-            return None;
+            return Err(mistake_in(Wrong::Twice, word));
         }
-        Some(Chosen {
+        Ok(Chosen {
             switches: self.switches.switched_on(switch),
             ..self
         })
     }
 
-    /// With an option and its value, which is given once.
-    pub fn with_setting(self, setting: Setting, value: &'a str) -> Option<Chosen<'a>>
-        ensures { option_map chosen_view result ≡ with_setting setting value.now (chosen_view self.entry) }
+    /// With an option, which is this word, and its value.
+    pub fn with_setting(
+        self,
+        setting: Setting,
+        word: &'a str,
+        value: &'a str,
+    ) -> Result<Chosen<'a>, Mistake<'a>>
+        ensures { read_view chosen_view result ≡ with_setting setting word.now value.now (chosen_view self.entry) }
     {
         match setting {
-            Setting::Limits => self.with_limits(value),
-            Setting::GidsFile => self.with_source(Source::File(FileKind::Glyphs, value)),
-            Setting::Text => self.with_source(Source::Text(value)),
-            Setting::At => self.with_at(value),
-            Setting::Gids => self.with_source(Source::InList(value)),
-            Setting::FaceIndex => self.with_index(value),
-            Setting::Output => self.with_output(value),
-            Setting::TextFile => self.with_source(Source::File(FileKind::Text, value)),
-            Setting::Unicodes => self.with_source(Source::Characters(value)),
-            Setting::UnicodesFile => self.with_source(Source::File(FileKind::Characters, value)),
-            Setting::Pdf => self.with_pdf(value),
-            Setting::Codes => self.with_coding(value),
-            Setting::Rights => self.with_rights(value),
-            Setting::MostInput => self.with_most_input(value),
+            Setting::Limits => self.with_limits(word, value),
+            Setting::GidsFile => self.with_source(word, Source::File(FileKind::Glyphs, value)),
+            Setting::Text => self.with_source(word, Source::Text(value)),
+            Setting::At => self.with_at(word, value),
+            Setting::Gids => self.with_source(word, Source::InList(value)),
+            Setting::FaceIndex => self.with_index(word, value),
+            Setting::Output => self.with_output(word, value),
+            Setting::TextFile => self.with_source(word, Source::File(FileKind::Text, value)),
+            Setting::Unicodes => self.with_source(word, Source::Characters(value)),
+            Setting::UnicodesFile => {
+                self.with_source(word, Source::File(FileKind::Characters, value))
+            }
+            Setting::Pdf => self.with_pdf(word, value),
+            Setting::Codes => self.with_coding(word, value),
+            Setting::Rights => self.with_rights(word, value),
+            Setting::MostInput => self.with_most_input(word, value),
         }
     }
 
     /// With limits.
-    fn with_limits(self, value: &str) -> Option<Chosen<'a>>
-        ensures { option_map chosen_view result ≡ with_limits value.now (chosen_view self.entry) }
+    fn with_limits(self, word: &'a str, value: &'a str) -> Result<Chosen<'a>, Mistake<'a>>
+        ensures { read_view chosen_view result ≡ with_setting Setting.Limits word.now value.now (chosen_view self.entry) }
     {
         if self.limits.is_some() {
-            return None;
+            return Err(mistake_in(Wrong::Twice, word));
         }
-        Some(Chosen {
-            limits: Some(limits_of(value)?),
-            ..self
-        })
+        match limits_of(value) {
+            Some(given) => Ok(Chosen {
+                limits: Some(given),
+                ..self
+            }),
+            None => Err(mistake_in(Wrong::Limits, value)),
+        }
     }
 
     /// With what says where the glyphs are found.
-    fn with_source(self, source: Source<'a>) -> Option<Chosen<'a>>
-        ensures { option_map chosen_view result ≡ with_source (source_view source.entry) (chosen_view self.entry) }
+    fn with_source(self, word: &'a str, source: Source<'a>) -> Result<Chosen<'a>, Mistake<'a>>
+        ensures { read_view chosen_view result ≡ with_source word.now (source_view source.entry) (chosen_view self.entry) }
     {
         if self.source.is_some() {
-            return None;
+            return Err(mistake_in(Wrong::GlyphsTwice, word));
         }
-        Some(Chosen {
+        Ok(Chosen {
             source: Some(source),
             ..self
         })
     }
 
     /// With user coordinates.
-    fn with_at(self, value: &'a str) -> Option<Chosen<'a>>
-        ensures { option_map chosen_view result ≡ with_at value.now (chosen_view self.entry) }
+    fn with_at(self, word: &'a str, value: &'a str) -> Result<Chosen<'a>, Mistake<'a>>
+        ensures { read_view chosen_view result ≡ with_setting Setting.At word.now value.now (chosen_view self.entry) }
     {
         if self.at.is_some() {
-            return None;
+            return Err(mistake_in(Wrong::Twice, word));
         }
-        Some(Chosen {
+        Ok(Chosen {
             at: Some(value),
             ..self
         })
     }
 
     /// With OUT.
-    fn with_output(self, value: &'a str) -> Option<Chosen<'a>>
-        ensures { option_map chosen_view result ≡ with_output value.now (chosen_view self.entry) }
+    fn with_output(self, word: &'a str, value: &'a str) -> Result<Chosen<'a>, Mistake<'a>>
+        ensures { read_view chosen_view result ≡ with_setting Setting.Output word.now value.now (chosen_view self.entry) }
     {
         if self.output.is_some() {
-            return None;
+            return Err(mistake_in(Wrong::Twice, word));
         }
-        Some(Chosen {
+        Ok(Chosen {
             output: Some(value),
             ..self
         })
     }
 
     /// With INDEX.
-    fn with_index(self, value: &str) -> Option<Chosen<'a>>
-        ensures { option_map chosen_view result ≡ with_index value.now (chosen_view self.entry) }
+    fn with_index(self, word: &'a str, value: &'a str) -> Result<Chosen<'a>, Mistake<'a>>
+        ensures { read_view chosen_view result ≡ with_setting Setting.FaceIndex word.now value.now (chosen_view self.entry) }
     {
         if self.index.is_some() {
-            return None;
+            return Err(mistake_in(Wrong::Twice, word));
         }
-        Some(Chosen {
-            index: Some(u32_of(value)?),
-            ..self
-        })
+        match u32_of(value) {
+            Some(given) => Ok(Chosen {
+                index: Some(given),
+                ..self
+            }),
+            None => Err(mistake_in(Wrong::FaceIndex, value)),
+        }
     }
 
     /// With the most bytes of IN.
-    fn with_most_input(self, value: &str) -> Option<Chosen<'a>>
-        ensures { option_map chosen_view result ≡ with_most_input value.now (chosen_view self.entry) }
+    fn with_most_input(self, word: &'a str, value: &'a str) -> Result<Chosen<'a>, Mistake<'a>>
+        ensures { read_view chosen_view result ≡ with_setting Setting.MostInput word.now value.now (chosen_view self.entry) }
     {
         if self.most_input.is_some() {
-            return None;
+            return Err(mistake_in(Wrong::Twice, word));
         }
-        Some(Chosen {
-            most_input: Some(u32_of(value)?),
-            ..self
-        })
+        match u32_of(value) {
+            Some(given) => Ok(Chosen {
+                most_input: Some(given),
+                ..self
+            }),
+            None => Err(mistake_in(Wrong::MostInput, value)),
+        }
     }
 
     /// With the file of a PDF.
-    fn with_pdf(self, value: &'a str) -> Option<Chosen<'a>>
-        ensures { option_map chosen_view result ≡ with_pdf value.now (chosen_view self.entry) }
+    fn with_pdf(self, word: &'a str, value: &'a str) -> Result<Chosen<'a>, Mistake<'a>>
+        ensures { read_view chosen_view result ≡ with_setting Setting.Pdf word.now value.now (chosen_view self.entry) }
     {
         if self.pdf.is_some() {
-            return None;
+            return Err(mistake_in(Wrong::Twice, word));
         }
-        Some(Chosen {
+        Ok(Chosen {
             pdf: Some(value),
             ..self
         })
     }
 
     /// With how the glyphs of a PDF get codes.
-    fn with_coding(self, value: &str) -> Option<Chosen<'a>>
-        ensures { option_map chosen_view result ≡ with_coding value.now (chosen_view self.entry) }
+    fn with_coding(self, word: &'a str, value: &'a str) -> Result<Chosen<'a>, Mistake<'a>>
+        ensures { read_view chosen_view result ≡ with_setting Setting.Codes word.now value.now (chosen_view self.entry) }
     {
         if self.coding.is_some() {
-            return None;
+            return Err(mistake_in(Wrong::Twice, word));
         }
-        Some(Chosen {
-            coding: Some(coding_of(value)?),
-            ..self
-        })
+        match coding_of(value) {
+            Some(given) => Ok(Chosen {
+                coding: Some(given),
+                ..self
+            }),
+            None => Err(mistake_in(Wrong::Coding, value)),
+        }
     }
 
     /// With the rights to embed the font.
-    fn with_rights(self, value: &str) -> Option<Chosen<'a>>
-        ensures { option_map chosen_view result ≡ with_rights value.now (chosen_view self.entry) }
+    fn with_rights(self, word: &'a str, value: &'a str) -> Result<Chosen<'a>, Mistake<'a>>
+        ensures { read_view chosen_view result ≡ with_setting Setting.Rights word.now value.now (chosen_view self.entry) }
     {
-        if self.is_held || !holds_rights(value) {
-            return None;
+        if self.is_held {
+            return Err(mistake_in(Wrong::Twice, word));
         }
-        Some(Chosen {
+        if !holds_rights(value) {
+            return Err(mistake_in(Wrong::Rights, value));
+        }
+        Ok(Chosen {
             is_held: true,
             ..self
         })

@@ -151,7 +151,7 @@ fn switch_of(word: &str) -> Option<Switch>
 }
 
 /// The option that a value follows, which an argument is.
-fn setting_of(word: &str) -> Option<Setting>
+pub fn setting_of(word: &str) -> Option<Setting>
     ensures { result ≡ setting_of word.now }
 {
     match word {

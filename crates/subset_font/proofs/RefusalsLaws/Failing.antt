@@ -1,8 +1,9 @@
 -- Which failures there are where nothing is made.
 use Rattle.std.proofs.Common.{◌≡◌, ◌≢◌, ◌⊎◌, inl, inr, ℕ, List, Option, Some, None, Result, Ok, Err, sym, subst}
 use Rattle.std.specs.Prelude.{IfErr, IfSome, OnOk}
-use Rattle.subsetter_sfnt.specs.Read.{Font}
-use Rattle.subset_task.specs.Making.Requested.{IsUnasked}
+use Rattle.subsetter_sfnt.specs.Read.{Font, kind_at}
+use Rattle.subsetter_sfnt.specs.declared.face.FontKind.{FontKind}
+use Rattle.subset_task.specs.Making.Requested.{unless_no_kind, IsUnasked}
 use Rattle.subsetter_base.specs.declared.error.Error.TheVariants.{UnknownKind, MalformedFont}
 use Rattle.subset_font.specs.Making.Made.{face_of, IsUnmade}
 use Rattle.subset_font.specs.Making.Outcome.{IsOutcome, IsNoOutcome}
@@ -20,11 +21,15 @@ use Rattle.subset_task.specs.declared.task.Plan.{Plan}
 use Rattle.subset_task.specs.declared.refusals.failure.Failure.{Failure}
 use Rattle.subset_task.specs.declared.refusals.failure.Failure.TheVariants.{Error, NoMapping, NoInstance, NotPermitted, Usage, List as WrongList, Read, ReadList, Write, WritePdf, Output, LongAnswer}
 
+no_kind : (kind : Option FontKind) (failure : Failure) → IsOfMaking failure → IsOfMaking (unless_no_kind kind failure)
+no_kind (Some kind) failure h = h
+no_kind None failure h = tt
+
 unasked_kind : (font : Font) (asked : RequestedGlyphs) (failure : Failure) → IsUnasked font asked failure → IsOfMaking failure
 unasked_kind font (These given) failure u = elim u [ ]
-unasked_kind font Every failure u = subst IsOfMaking (sym u.0) tt
-unasked_kind font (ByText text) failure u = subst IsOfMaking (sym u.0) tt
-unasked_kind font (ByCharacters given) failure u = subst IsOfMaking (sym u.0) tt
+unasked_kind font Every failure u = subst IsOfMaking (sym u.0) (no_kind (kind_at font.bytes 0) (Error MalformedFont) tt)
+unasked_kind font (ByText text) failure u = subst IsOfMaking (sym u.0) (no_kind (kind_at font.bytes 0) NoMapping tt)
+unasked_kind font (ByCharacters given) failure u = subst IsOfMaking (sym u.0) (no_kind (kind_at font.bytes 0) NoMapping tt)
 
 unmade_kind : (task : Task) (bytes : List ℕ) (failure : Failure) → IsUnmade task bytes failure → IsOfMaking failure
 unmade_kind task bytes failure (inl memory) = subst IsOfMaking (sym memory) tt

@@ -1,5 +1,5 @@
 -- What a plan makes of a font that is read, and why it doesn't.
-use Rattle.std.specs.Prelude.{◌≡◌, ◌⊎◌, ℕ, ℤ, Bool, if◌then◌else◌, List, [], ◌++◌, map, length, Option, Some, None, codes}
+use Rattle.std.specs.Prelude.{◌≡◌, ◌⊎◌, ℕ, ℤ, Bool, true, false, not, ◌&&◌, is_some, if◌then◌else◌, List, [], ◌++◌, map, length, Option, Some, None, codes}
 use Rattle.std.specs.Borrow.{Bor}
 use Rattle.std.specs.Option.{option_copied}
 use Rattle.subsetter_base.specs.declared.error.Error.TheVariants.{OutOfMemory, UnknownKind, MalformedFont}
@@ -11,8 +11,11 @@ use Rattle.subset_lines.specs.Faces.Sizes.{sizes_text}
 use Rattle.subset_lines.specs.declared.faces.sizes.TableSize.{TableSize}
 use Rattle.subset_task.specs.Faces.Axes.{axes_known}
 use Rattle.subset_font.specs.Making.Made.{face_of, IsMade, IsUnmade}
+use Rattle.subset_lines.specs.declared.faces.outlines.Outlines.{Outlines}
+use Rattle.subset_lines.specs.declared.faces.outlines.Outlines.TheVariants.{TrueType, Cff, Cff2, Missing}
 use Rattle.subset_task.specs.Faces.Missing.{missing}
 use Rattle.subset_task.specs.Faces.Named.{face_settings}
+use Rattle.subset_task.specs.Faces.Outlines.{outlines_of}
 use Rattle.subset_task.specs.Notes.{notes_for}
 use Rattle.subset_font.specs.Making.Sheet.{pdf_text, IsSheetIf, IsUnshownIf}
 use Rattle.subset_pdf.specs.declared.sheet.Sheet.{Sheet}
@@ -64,9 +67,21 @@ names_for plan bytes glyphs = names_by plan.task.form (face_of plan.task bytes) 
 
 -- ---- what is made
 
--- the task of a plan: as it is given, or at the coordinates of the named instance
+-- outlines in `CFF2` alone
+abbrev pub is_cff2 : Outlines → Bool
+is_cff2 TrueType = false
+is_cff2 Cff = false
+is_cff2 Cff2 = true
+is_cff2 Missing = false
+
+-- a font with these is taken at its default, where an option requests the glyphs and none says coordinates
+abbrev pub takes_default : Plan → List ℕ → Bool
+takes_default plan bytes = plan.by_option && (not (is_some plan.task.at) && is_cff2 (outlines_of (face_of plan.task bytes)))
+
+-- the task of a plan: as it is given, at the default, or at the coordinates of the named instance
 pub data IsTaskOfPlan (plan : Plan) (bytes : List ℕ) : Task → Type 0 where
-  as_given : option_copied plan.instance ≡ None → IsTaskOfPlan plan bytes plan.task
+  as_given : option_copied plan.instance ≡ None → takes_default plan bytes ≡ false → IsTaskOfPlan plan bytes plan.task
+  at_default : (at : Bor (List (Tag × ℤ))) → option_copied plan.instance ≡ None → takes_default plan bytes ≡ true → at.now ≡ [] → IsTaskOfPlan plan bytes (record plan.task { at = Some at })
   at_instance : (name : List ℕ) (at : Bor (List (Tag × ℤ))) → option_copied plan.instance ≡ Some name → face_settings (face_of plan.task bytes) name ≡ Some at.now → IsTaskOfPlan plan bytes (record plan.task { at = Some at })
 
 pub record IsOutcome (plan : Plan) (bytes : List ℕ) (outcome : Outcome) : Type 0 where

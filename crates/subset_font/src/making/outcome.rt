@@ -1,13 +1,13 @@
 //! What a plan makes of the font that is read: a subset, and what is printed behind its numbers.
 
-ghost use Rattle.std.specs.Prelude.{◌≡◌, ◌⊎◌, IfOk, IfErr, Some, None, length, map};
+ghost use Rattle.std.specs.Prelude.{◌≡◌, ◌⊎◌, true, false, IfOk, IfErr, Some, None, length, map};
 ghost use Rattle.std.specs.Option.{option_copied, option_map};
 ghost use Rattle.subset_lines.specs.Faces.Sizes.{sizes_text};
 ghost use Rattle.subsetter_sfnt.specs.Extras.{all_extras};
 ghost use Rattle.subset_font.specs.Making.Made.{face_of, IsMade, IsUnmade};
 ghost use Rattle.subset_task.specs.Faces.Named.{face_settings};
 ghost use Rattle.subsetter_sfnt.specs.Read.{stored};
-ghost use Rattle.subset_font.specs.Making.Outcome.{sizes_of, sizes_if, members_of, more_text, names_of, names_for, IsOutcome, IsNoOutcome};
+ghost use Rattle.subset_font.specs.Making.Outcome.{is_cff2, takes_default, sizes_of, sizes_if, members_of, more_text, names_of, names_for, IsOutcome, IsNoOutcome};
 ghost use Rattle.subset_font.specs.Making.Sheet.{IsSheetIf, IsUnshownIf};
 ghost use Rattle.font_reasons.specs.Directory.{bytes_or_none};
 ghost use Rattle.subset_task.specs.declared.refusals.failure.Failure.TheVariants.{Error as Refused};
@@ -18,10 +18,11 @@ use crate::making::subset::{Made, make_of};
 use font_reasons::directory_of;
 use glyph_names::glyph_names;
 use std::alloc::{AllocError, Global};
-use subset_lines::{TableSize, json_members, size_lines};
+use subset_lines::{Outlines, TableSize, json_members, size_lines};
 use subset_pdf::Sheet;
 use subset_task::faces::missing::missing;
 use subset_task::faces::named::face_settings;
+use subset_task::faces::outlines::outlines_of;
 use subset_task::faces::tables::table_sizes;
 use subset_task::notes::{known_axes, notes_for};
 use subset_task::refusals::failure::Failure;
@@ -258,15 +259,67 @@ fn make_at_instance<'a>(
     }
 }
 
+/// Whether outlines are in `CFF2` alone.
+fn is_cff2(outlines: Outlines) -> bool
+    ensures { result ≡ is_cff2 outlines }
+{
+    match outlines {
+        Outlines::Cff2 => true,
+        Outlines::TrueType => false,
+        Outlines::Cff => false,
+        Outlines::Missing => false,
+    }
+}
+
+/// Whether a font is taken at its default, which it has to be with `CFF2`: an option requests the glyphs, and none says
+/// coordinates.
+pub fn takes_default(font: &[u8], plan: &Plan<'_>) -> bool
+    ensures { result ≡ takes_default plan.now font.now }
+{
+    plan.by_option && (plan.task.at.is_none() && is_cff2(outlines_of(font, plan.task.index)))
+}
+
+/// What a plan makes of a font at its default.
+fn make_default<'a>(alloc: Global, font: &'a [u8], plan: &Plan<'_>) -> Result<Outcome<'a>, Failure>
+    requires instance { option_copied plan.now.instance ≡ None }
+    requires default { takes_default plan.now font.now ≡ true }
+    ensures ok { IfOk result (IsOutcome plan.now font.now) }
+    ensures err { IfErr result (IsNoOutcome plan.now font.now) }
+{
+    let task = task_at(&plan.task, &[]);
+    match make_of(alloc, font, &task) {
+        Ok(made) => with_more(alloc, font, plan, &task, made),
+        Err(failure) => Err(failure),
+    }
+}
+
 /// What a plan makes of a font that is taken as it is, or at given coordinates.
 fn make_as_given<'a>(alloc: Global, font: &'a [u8], plan: &Plan<'_>) -> Result<Outcome<'a>, Failure>
-    requires { option_copied plan.now.instance ≡ None }
+    requires instance { option_copied plan.now.instance ≡ None }
+    requires default { takes_default plan.now font.now ≡ false }
     ensures ok { IfOk result (IsOutcome plan.now font.now) }
     ensures err { IfErr result (IsNoOutcome plan.now font.now) }
 {
     match make_of(alloc, font, &plan.task) {
         Ok(made) => with_more(alloc, font, plan, &plan.task, made),
         Err(failure) => Err(failure),
+    }
+}
+
+/// What a plan without an instance makes of a font.
+fn make_without_name<'a>(
+    alloc: Global,
+    font: &'a [u8],
+    plan: &Plan<'_>,
+) -> Result<Outcome<'a>, Failure>
+    requires { option_copied plan.now.instance ≡ None }
+    ensures ok { IfOk result (IsOutcome plan.now font.now) }
+    ensures err { IfErr result (IsNoOutcome plan.now font.now) }
+{
+    if takes_default(font, plan) {
+        make_default(alloc, font, plan)
+    } else {
+        make_as_given(alloc, font, plan)
     }
 }
 
@@ -281,6 +334,6 @@ pub fn make_planned<'a>(
 {
     match plan.instance {
         Some(name) => make_at_instance(alloc, font, plan, name),
-        None => make_as_given(alloc, font, plan),
+        None => make_without_name(alloc, font, plan),
     }
 }

@@ -10,7 +10,7 @@ use crate::run::reports::report;
 use crate::run::showing::{print_text, run_shown};
 use std::process::{ExitCode, Termination};
 use std::rt::{Env, Files};
-use subset_args::{Advice, ArgsError, Command, find_mistake, read_words};
+use subset_args::{Advice, Command, Mistake, Unread, read_words};
 use subset_task::refusals::failure::Failure;
 use subset_task::run::request::read_arguments;
 use subset_task::streams::hold_streams;
@@ -31,15 +31,13 @@ impl Termination for Ended {
     }
 }
 
-/// Reports wrong arguments, and answers the status.
-fn refuse<R: Eprint>(rt: &R, words: &[String]) -> u8
+/// Reports a mistake in the arguments, and answers the status.
+fn refuse<R: Eprint>(rt: &R, mistake: &Mistake<'_>) -> u8
     ensures { result ≤ 3 }
 {
     let status = report(rt, &Err(Failure::Usage), None);
-    if let Some(mistake) = find_mistake(words) {
-        let _ = eprintln!(rt; "{mistake}");
-        let _ = eprintln!(rt; "{}", Advice(&mistake));
-    }
+    let _ = eprintln!(rt; "{mistake}");
+    let _ = eprintln!(rt; "{}", Advice(mistake));
     status
 }
 
@@ -53,10 +51,8 @@ fn run_words<R: Files + Print + Eprint + Input + AllocGlobal>(rt: &R, words: &[S
         Ok(Command::Subset(job)) => run_job(rt, &job),
         Ok(Command::Batch(file)) => run_batch(rt, &file),
         Ok(Command::Show(topic, json, input, index)) => run_shown(rt, topic, json, &input, index),
-        Err(ArgsError::Usage) => refuse(rt, words),
-        Err(ArgsError::OutOfMemory) => {
-            report(rt, &Err(Failure::Error(Error::OutOfMemory)), None)
-        }
+        Err(Unread::Mistake(mistake)) => refuse(rt, &mistake),
+        Err(Unread::OutOfMemory) => { report(rt, &Err(Failure::Error(Error::OutOfMemory)), None) }
     }
 }
 

@@ -4,6 +4,7 @@ ghost use Rattle.std.specs.Prelude.{◌≡◌};
 ghost use Rattle.subset_task.specs.Refusals.Failure.{status_of_end};
 ghost use Rattle.subset_font.specs.Report.{has_notes};
 
+use crate::making::outcome::takes_default;
 use crate::refusals::hint::found::{find_axes_hint, find_hint, no_axes};
 use crate::refusals::limit_hint::find_limit_hint;
 use std::io;
@@ -148,16 +149,17 @@ fn report_names<R: Eprint + AllocGlobal>(rt: &R, font: &[u8], index: u32) {
     }
 }
 
-/// The coordinates of a plan; none, but given, where they are those of a named instance.
-fn at_given<'a>(plan: &Plan<'a>) -> Option<&'a [(Tag, i32)]> {
+/// The coordinates of a plan; none, but given, where they are those of a named instance or the default.
+fn at_given<'a>(font: &[u8], plan: &Plan<'a>) -> Option<&'a [(Tag, i32)]> {
     match plan.instance {
         Some(_) => Some(&[]),
+        None if takes_default(font, plan) => Some(&[]),
         None => plan.task.at,
     }
 }
 
 /// The task of a plan as a hint sees it: with the widths, where they are printed, or a PDF has them.
-fn task_for_hint<'a>(plan: &Plan<'a>) -> Task<'a> {
+fn task_for_hint<'a>(font: &[u8], plan: &Plan<'a>) -> Task<'a> {
     let task = plan.task;
     Task {
         requested: task.requested,
@@ -165,13 +167,13 @@ fn task_for_hint<'a>(plan: &Plan<'a>) -> Task<'a> {
         options: task.options,
         widths: task.widths || plan.pdf.is_some(),
         form: task.form,
-        at: at_given(plan),
+        at: at_given(font, plan),
     }
 }
 
 /// Reports more of a run that failed, as far as it can be seen in the font.
 fn report_more<R: Eprint + AllocGlobal>(rt: &R, failure: &Failure, font: &[u8], plan: &Plan<'_>) {
-    match find_hint(failure, font, &task_for_hint(plan)) {
+    match find_hint(failure, font, &task_for_hint(font, plan)) {
         Some(hint) => report_hint(rt, Some(hint)),
         None => report_hint(rt, find_limit_hint(rt.alloc(), failure, font, plan)),
     }

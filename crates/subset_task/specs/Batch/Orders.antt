@@ -1,6 +1,7 @@
 -- What a line of a batch requests.
-use Rattle.std.specs.Prelude.{◌≡◌, ◌⊎◌, ℕ, Bool, true, false, ◌||◌, if◌then◌else◌, List, Option, Some, None, Result, Ok, Err}
+use Rattle.std.specs.Prelude.{◌≡◌, ◌⊎◌, ℕ, Bool, true, false, ◌||◌, if◌then◌else◌, List, Option, Some, None}
 use Rattle.std.specs.Option.{option_map, option_and_then}
+use Rattle.std.specs.Result.{result_ok}
 use Rattle.subset_args.specs.Request.{Request as Wanted, Command, subset, command, is_stream, lists_in_stream}
 use Rattle.subset_args.specs.declared.options.chosen.Switches.{Switches}
 use Rattle.subset_batch.specs.Reading.{request_of}
@@ -30,15 +31,10 @@ subset_in _ = None
 
 -- what a run of its own would be requested by these words, with `--json` beside them
 abbrev pub order_by : List (List ℕ) → Option Wanted
-order_by words = option_and_then subset_in (command words)
-
--- the words of a line, if it is read
-abbrev pub words_in : {E : Type 0} → Result (List (List ℕ)) E → Option (List (List ℕ))
-words_in (Ok words) = Some words
-words_in (Err e) = None
+order_by words = option_and_then subset_in (result_ok (command words))
 
 unfoldable pub order_of : List ℕ → Option Wanted
-order_of line = option_and_then order_by (words_in (request_of line))
+order_of line = option_and_then order_by (result_ok (request_of line))
 
 -- nothing is requested, which is answered with the status of wrong arguments; or memory ran out
 abbrev pub IsNoOrder : Option Wanted → Answer → Type 0

@@ -1,9 +1,10 @@
 -- Which glyphs a task asks for of a font.
-use Rattle.std.specs.Prelude.{◌≡◌, ℕ, List, [], map, Some, None}
+use Rattle.std.specs.Prelude.{◌≡◌, ℕ, List, [], map, Option, Some, None}
 use Rattle.std.specs.Option.{option_map}
 use Rattle.std.specs.Str.{encode_utf8_all}
-use Rattle.subsetter_base.specs.declared.error.Error.TheVariants.{MalformedFont}
-use Rattle.subsetter_sfnt.specs.Read.{Font}
+use Rattle.subsetter_base.specs.declared.error.Error.TheVariants.{UnknownKind, MalformedFont}
+use Rattle.subsetter_sfnt.specs.Read.{Font, kind_at}
+use Rattle.subsetter_sfnt.specs.declared.face.FontKind.{FontKind}
 use Rattle.font_reasons.specs.Parts.{face_glyphs}
 use Rattle.cmap.specs.Faces.{face_mapping}
 use Rattle.cmap.specs.Subtable.{glyph_of}
@@ -20,9 +21,17 @@ IsRequested font Every characters glyphs = (characters ≡ []) × (option_map (c
 IsRequested font (ByText text) characters glyphs = (encode_utf8_all characters ≡ text.now) × (option_map (λ m. map (glyph_of m) characters) (face_mapping font) ≡ Some glyphs)
 IsRequested font (ByCharacters given) characters glyphs = (characters ≡ given.now) × (option_map (λ m. map (glyph_of m) characters) (face_mapping font) ≡ Some glyphs)
 
+-- a file that is no font by its first bytes (OpenType, "Organization of an OpenType Font") lacks all tables
+abbrev pub unless_no_kind : Option FontKind → Failure → Failure
+unless_no_kind (Some kind) failure = failure
+unless_no_kind None failure = Error UnknownKind
+
+abbrev pub unless_no_font : List ℕ → Failure → Failure
+unless_no_font bytes failure = unless_no_kind (kind_at bytes 0) failure
+
 -- why no glyphs are found: the face doesn't say how many it has, or has no such table
 abbrev pub IsUnasked : Font → RequestedGlyphs → Failure → Type 0
 IsUnasked font (These given) failure = ⊥
-IsUnasked font Every failure = (failure ≡ Error MalformedFont) × (face_glyphs font ≡ None)
-IsUnasked font (ByText text) failure = (failure ≡ NoMapping) × (face_mapping font ≡ None)
-IsUnasked font (ByCharacters given) failure = (failure ≡ NoMapping) × (face_mapping font ≡ None)
+IsUnasked font Every failure = (failure ≡ unless_no_font font.bytes (Error MalformedFont)) × (face_glyphs font ≡ None)
+IsUnasked font (ByText text) failure = (failure ≡ unless_no_font font.bytes NoMapping) × (face_mapping font ≡ None)
+IsUnasked font (ByCharacters given) failure = (failure ≡ unless_no_font font.bytes NoMapping) × (face_mapping font ≡ None)

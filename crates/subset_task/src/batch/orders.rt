@@ -9,20 +9,17 @@ ghost use Rattle.subset_task.specs.Batch.Orders.{is_given_stream, uses_streams, 
 use crate::batch::answers::{Answer, failed};
 use crate::refusals::failure::{Failure, given, list_file, pdf_file};
 use std::alloc::Global;
-use subset_args::{ArgsError, Command, Job, Switches, find_mistake, is_stream, read_words};
-use subset_batch::{Unread, read_request};
+use subset_args::{Command, Job, Mistake, Switches, Unread, is_stream, read_words};
+use subset_batch::{Unread as UnreadLine, read_request};
 
 /// The status of a line that is wrong, as of wrong arguments.
 const WRONG: u8 = 2;
 
 /// Why a line requests nothing whose words are wrong.
-fn mistake_of(alloc: Global, words: &[String]) -> Answer
+fn mistake_of(alloc: Global, mistake: &Mistake<'_>) -> Answer
     ensures { IsFailedBy 2 result }
 {
-    match find_mistake(words) {
-        Some(mistake) => failed(WRONG, format!(in alloc; "{mistake}")),
-        None => failed(WRONG, format!(in alloc; "{}", Failure::Usage)),
-    }
+    failed(WRONG, format!(in alloc; "{mistake}"))
 }
 
 /// Whether the name of a file, if it is given, means standard input or output.
@@ -77,8 +74,8 @@ fn order_by(alloc: Global, words: &[String]) -> Result<Job, Answer>
         Ok(Command::Help | Command::Version | Command::Batch(_) | Command::Show(_, _, _, _)) => {
             Err(failed(WRONG, format!(in alloc; "{}", Failure::Usage)))
         }
-        Err(ArgsError::Usage) => Err(mistake_of(alloc, words)),
-        Err(ArgsError::OutOfMemory) => Err(Answer::NoMemory),
+        Err(Unread::Mistake(mistake)) => Err(mistake_of(alloc, &mistake)),
+        Err(Unread::OutOfMemory) => Err(Answer::NoMemory),
     }
 }
 
@@ -90,7 +87,7 @@ pub fn order_of(alloc: Global, line: &[u8]) -> Result<Job, Answer>
 {
     match read_request(alloc, line) {
         Ok(words) => order_by(alloc, &words),
-        Err(Unread::OutOfMemory) => Err(Answer::NoMemory),
-        Err(Unread::Fault(fault)) => Err(failed(WRONG, format!(in alloc; "{fault}"))),
+        Err(UnreadLine::OutOfMemory) => Err(Answer::NoMemory),
+        Err(UnreadLine::Fault(fault)) => Err(failed(WRONG, format!(in alloc; "{fault}"))),
     }
 }

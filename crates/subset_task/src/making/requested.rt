@@ -7,7 +7,7 @@ ghost use Rattle.cmap.specs.Faces.{face_mapping};
 ghost use Rattle.cmap.specs.View.{mapping_view};
 ghost use Rattle.subset_args.specs.Listing.Lists.{counting};
 ghost use Rattle.subsetter_sfnt.specs.Extras.{all_extras};
-ghost use Rattle.subset_task.specs.Making.Requested.{IsRequested, IsUnasked};
+ghost use Rattle.subset_task.specs.Making.Requested.{unless_no_font, IsRequested, IsUnasked};
 ghost use Rattle.subset_task.specs.declared.task.RequestedGlyphs.TheVariants.{Every, ByText, ByCharacters};
 ghost use Rattle.subset_task.specs.declared.refusals.failure.Failure.TheVariants.{Error as Refused};
 ghost use Rattle.subsetter_base.specs.declared.error.Error.TheVariants.{OutOfMemory};
@@ -18,7 +18,7 @@ use cmap::{Subtable, find_subtable, glyphs_of};
 use font_reasons::count_glyphs;
 use std::alloc::{AllocError, Global};
 use subsetter::{Error, Tag};
-use subsetter_sfnt::directory::table;
+use subsetter_sfnt::directory::{kind_at, table};
 
 /// The glyphs to keep, and the characters that they stand for, where a text or characters are given.
 #[derive(Drop)]
@@ -53,6 +53,16 @@ pub fn first_glyphs(alloc: Global, count: u16) -> Result<Vec<u16>, AllocError>
     Ok(glyphs)
 }
 
+/// Why a table isn't found: the file is no font, or else this.
+fn unless_no_font(font: &[u8], failure: Failure) -> Failure
+    ensures { result ≡ unless_no_font font.now failure }
+{
+    match kind_at(font, 0) {
+        Some(_) => failure,
+        None => Failure::Error(Error::UnknownKind),
+    }
+}
+
 /// What is answered where a request for memory was refused.
 fn no_memory(_error: AllocError) -> Failure
     ensures { result ≡ Refused OutOfMemory }
@@ -77,7 +87,9 @@ fn pick_all(alloc: Global, font: &[u8], index: u32) -> Result<Picked, Failure>
     ensures ok { IfOk result (λ p. IsRequested (record { bytes = font.now; index = index; extras = all_extras }) Every p.characters.items p.glyphs.items) }
     ensures err { IfErr result (λ e. (e ≡ Refused OutOfMemory) ⊎ IsUnasked (record { bytes = font.now; index = index; extras = all_extras }) Every e) }
 {
-    let count = count_glyphs(font, index).ok_or(Failure::Error(Error::MalformedFont))?;
+    let Some(count) = count_glyphs(font, index) else {
+        return Err(unless_no_font(font, Failure::Error(Error::MalformedFont)));
+    };
     let glyphs = first_glyphs(alloc, count).map_err(no_memory)?;
     Ok(Picked {
         characters: Vec::new(alloc),
@@ -90,7 +102,9 @@ fn pick_by_text(alloc: Global, font: &[u8], index: u32, text: &str) -> Result<Pi
     ensures ok { IfOk result (λ p. IsRequested (record { bytes = font.now; index = index; extras = all_extras }) (ByText text.entry) p.characters.items p.glyphs.items) }
     ensures err { IfErr result (λ e. (e ≡ Refused OutOfMemory) ⊎ IsUnasked (record { bytes = font.now; index = index; extras = all_extras }) (ByText text.entry) e) }
 {
-    let mapping = find_mapping(font, index).ok_or(Failure::NoMapping)?;
+    let Some(mapping) = find_mapping(font, index) else {
+        return Err(unless_no_font(font, Failure::NoMapping));
+    };
     let characters = characters_of(alloc, text).map_err(no_memory)?;
     let glyphs = glyphs_of(alloc, &mapping, &characters).map_err(no_memory)?;
     Ok(Picked { characters, glyphs })
@@ -106,7 +120,9 @@ fn pick_by_characters(
     ensures ok { IfOk result (λ p. IsRequested (record { bytes = font.now; index = index; extras = all_extras }) (ByCharacters given.entry) p.characters.items p.glyphs.items) }
     ensures err { IfErr result (λ e. (e ≡ Refused OutOfMemory) ⊎ IsUnasked (record { bytes = font.now; index = index; extras = all_extras }) (ByCharacters given.entry) e) }
 {
-    let mapping = find_mapping(font, index).ok_or(Failure::NoMapping)?;
+    let Some(mapping) = find_mapping(font, index) else {
+        return Err(unless_no_font(font, Failure::NoMapping));
+    };
     let characters = Vec::from_slice(alloc, given).map_err(no_memory)?;
     let glyphs = glyphs_of(alloc, &mapping, &characters).map_err(no_memory)?;
     Ok(Picked { characters, glyphs })
@@ -115,7 +131,7 @@ fn pick_by_characters(
 /// The glyphs to keep of a font.
 ///
 /// `NoMapping` where a text or characters are given and the face has no `cmap` for Unicode; `Error` where every glyph is
-/// requested and the face has no count of them, or where memory ran out.
+/// requested and the face has no count of them, where the file is no font by its first bytes, or where memory ran out.
 pub fn pick(
     alloc: Global,
     font: &[u8],

@@ -144,5 +144,6 @@ pub fn plan_of<'a>(job: &'a Job, list: &'a Option<GlyphList>) -> Plan<'a>
         instance: instance_of(&job.position),
         verbose: job.switches.verbose,
         pdf: pdf_of(&job.pdf),
+        by_option: job.by_option,
     }
 }

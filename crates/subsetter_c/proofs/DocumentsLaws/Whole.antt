@@ -3,7 +3,7 @@ use Rattle.std.proofs.Common.{◌≡◌, ◌≤◌, ℕ, zero, suc, ◌+◌, tru
 use Rattle.std.specs.Prelude.{IfOk, IfErr}
 use Rattle.std.proofs.lemmas.List.{length-map}
 use Rattle.subsetter_base.specs.declared.error.Error.TheVariants.{OutOfMemory}
-use Rattle.cmap.specs.Subtable.{Mapping, glyph_of}
+use Rattle.text_glyphs.specs.Choice.{Chosen, character_glyph}
 use Rattle.pdf_font.specs.declared.error.FontError.{FontError}
 use Rattle.pdf_font.specs.declared.error.FontError.TheVariants.{Subset}
 use Rattle.pdf_font.specs.declared.font.PdfFont.{PdfFont}
@@ -31,9 +31,9 @@ each_ascending start (suc count) bound h = let rest : are_ascending (suc start) 
 texts_by : (count : ℕ) (text ends : List ℕ) → count ≡ length ends → are_scalars text ≡ true → are_ascending 0 ends (length text) ≡ true → are_texts count text ends ≡ true
 texts_by count text ends n s a = grind arith
 
-pub looked_up_texts : (table : Mapping) (glyphs text ends : List ℕ) → glyphs ≡ map (glyph_of table) text → are_scalars text ≡ true → ends ≡ one_each 0 (length text) → are_texts (length glyphs) text ends ≡ true
+pub looked_up_texts : (table : Chosen) (glyphs text ends : List ℕ) → glyphs ≡ map (character_glyph table) text → are_scalars text ≡ true → ends ≡ one_each 0 (length text) → are_texts (length glyphs) text ends ≡ true
 looked_up_texts table glyphs text ends g s e =
-    let count : length glyphs ≡ length ends = ap length g ∙ length-map text (glyph_of table) ∙ sym (ap length e ∙ each_length 0 (length text)) in
+    let count : length glyphs ≡ length ends = ap length g ∙ length-map text (character_glyph table) ∙ sym (ap length e ∙ each_length 0 (length text)) in
     let above : are_ascending 0 ends (length text) ≡ true = subst (λ (l : List ℕ). are_ascending 0 l (length text) ≡ true) (sym e) (each_ascending 0 (length text) (length text) (omega arith)) in
     texts_by (length glyphs) text ends count s above
 

@@ -38,6 +38,10 @@ not_permitted = 11
 abbrev pub invalid_text : ℕ
 invalid_text = 12
 
+-- the font has no table by which characters have glyphs
+abbrev pub no_cmap : ℕ
+no_cmap = 13
+
 -- there would be more than 65,535 codes
 abbrev pub overfull : ℕ
 overfull = 15
@@ -62,6 +66,7 @@ status_text status =
     else if status == unknown_option then codes "unknown option"
     else if status == not_permitted then codes "embedding not permitted"
     else if status == invalid_text then codes "invalid text"
+    else if status == no_cmap then codes "no usable cmap in font"
     else if status == overfull then codes "too many codes"
     else if status == invalid_numbers then codes "invalid numbers"
     else codes "unknown status"

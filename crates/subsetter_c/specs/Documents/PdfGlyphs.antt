@@ -1,26 +1,30 @@
 -- The glyphs of characters, handed to C.
 use Rattle.std.specs.Prelude.{◌≡◌, ◌⊎◌, ℕ, List, map, Some, None}
 use Rattle.subsetter_base.specs.declared.error.Error.{Error}
-use Rattle.subsetter_base.specs.declared.error.Error.TheVariants.{MalformedFont}
 use Rattle.subsetter_sfnt.specs.Read.{Font}
 use Rattle.subsetter_variable.specs.Subset.{HasOpeningFaultAt}
-use Rattle.cmap.specs.Faces.{face_mapping}
-use Rattle.cmap.specs.Subtable.{Mapping, glyph_of}
-use Rattle.subsetter_c.specs.Answers.Handed.{IsOutOfMemory}
+use Rattle.text_glyphs.specs.Choice.{character_glyph}
+use Rattle.text_glyphs.specs.Faces.{face_source}
+use Rattle.text_glyphs.specs.Reading.{Source}
+use Rattle.subsetter_c.specs.Answers.Handed.{IsHandedOver, IsNothingHanded, IsOutOfMemory}
+use Rattle.subsetter_c.specs.Answers.Status.{no_cmap}
 
 -- the glyph of each character of a text
 pub record AreGlyphsOf (font : Font) (text glyphs : List ℕ) : Type 0 where
   pub opens : (e : Error) → ¬ (HasOpeningFaultAt font e)
-  pub table : Mapping
-  pub found : face_mapping font ≡ Some table
-  pub are : glyphs ≡ map (glyph_of table) text
+  pub source : Source
+  pub found : face_source font ≡ Some source
+  pub are : glyphs ≡ map (character_glyph source.table) text
 
--- a font that can be opened has no such table
-pub record HasNoMapping (font : Font) (e : Error) : Type 0 where
-  pub is : e ≡ MalformedFont
+-- a font that can be opened has no table by which characters have glyphs
+pub record HasNoCmap (font : Font) : Type 0 where
   pub opens : (why : Error) → ¬ (HasOpeningFaultAt font why)
-  pub none : face_mapping font ≡ None
+  pub none : face_source font ≡ None
 
--- why there are no glyphs
+-- why there are no glyphs but for this
 abbrev pub IsGlyphRefusal : Font → Error → Type 0
-IsGlyphRefusal font e = IsOutOfMemory (HasOpeningFaultAt font) e ⊎ (HasOpeningFaultAt font e ⊎ HasNoMapping font e)
+IsGlyphRefusal font e = IsOutOfMemory (HasOpeningFaultAt font) e ⊎ HasOpeningFaultAt font e
+
+-- glyphs are handed over, or the reason why there are none: the buffer before and after, the size, and the status
+abbrev pub AreGlyphsHanded : Font → List ℕ → List ℕ → List ℕ → ℕ → ℕ → Type 0
+AreGlyphsHanded font text before after told status = (HasNoCmap font × IsNothingHanded no_cmap before after told status) ⊎ IsHandedOver (AreGlyphsOf font text) (IsGlyphRefusal font) before after told status

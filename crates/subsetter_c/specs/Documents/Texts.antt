@@ -9,9 +9,9 @@ use Rattle.pdf_font.specs.PdfFont.{IsPdfFont, font_of}
 use Rattle.pdf_source.specs.declared.choice.FontOptions.{FontOptions}
 use Rattle.subsetter_pdf_c.specs.Entries.{uses_in}
 use Rattle.subsetter_pdf_c.specs.Texts.{one_each}
-use Rattle.subsetter_c.specs.Answers.Status.{status_of}
+use Rattle.subsetter_c.specs.Answers.Status.{no_cmap, status_of}
 use Rattle.subsetter_c.specs.Documents.PdfFonts.{IsFontRefused}
-use Rattle.subsetter_c.specs.Documents.PdfGlyphs.{AreGlyphsOf, IsGlyphRefusal}
+use Rattle.subsetter_c.specs.Documents.PdfGlyphs.{AreGlyphsOf, HasNoCmap, IsGlyphRefusal}
 use Rattle.subsetter_c.specs.Documents.PdfOptions.{AreFontOptionsChosen}
 use Rattle.subsetter_c.specs.Documents.Whole.{IsWholeEmpty, IsWholeHandedBy}
 use Rattle.subsetter_c.specs.declared.documents.whole.FontMade.{FontMade}
@@ -25,6 +25,7 @@ pub record AreLookedUp (bytes : List ℕ) (index : ℕ) (text glyphs characters 
 -- a font for these, or the reason why there is none; or the reason why there are no glyphs
 pub data IsTextHandedBy (bytes : List ℕ) (index : ℕ) (settings : List (Tag × ℤ)) (text : List ℕ) (options : FontOptions) (made : FontMade) (status : ℕ) : Type 0 where
   looked_up : (glyphs characters ends : List ℕ) → AreLookedUp bytes index text glyphs characters ends → IsWholeHandedBy (IsPdfFont (font_of bytes index options) settings options (uses_in glyphs characters ends)) (IsFontRefused (font_of bytes index options) settings options (uses_in glyphs characters ends)) glyphs characters ends made status → IsTextHandedBy bytes index settings text options made status
+  unmapped : HasNoCmap (font_at bytes index all_extras) → IsWholeEmpty made → status ≡ no_cmap → IsTextHandedBy bytes index settings text options made status
   no_glyphs : (e : Error) → IsGlyphRefusal (font_at bytes index all_extras) e → IsWholeEmpty made → status ≡ status_of e → IsTextHandedBy bytes index settings text options made status
 
 -- the same for options that the words choose

@@ -20,6 +20,8 @@ pub const UNKNOWN_OPTION: u32 = 10;
 pub const NOT_PERMITTED: u32 = 11;
 /// A text isn't one, or is too long.
 pub const INVALID_TEXT: u32 = 12;
+/// The font has no table by which characters have glyphs.
+pub const NO_CMAP: u32 = 13;
 /// There would be more than 65,535 codes.
 pub const OVERFULL: u32 = 15;
 /// The numbers of objects aren't distinct, one is 0, or there are too few or too many.
@@ -59,6 +61,7 @@ pub fn status_text(status: u32) -> &'static [u8]
         10 => b"unknown option",
         11 => b"embedding not permitted",
         12 => b"invalid text",
+        13 => b"no usable cmap in font",
         15 => b"too many codes",
         16 => b"invalid numbers",
         _ => b"unknown status",

@@ -5,17 +5,16 @@ ghost use Rattle.subsetter_sfnt.specs.Extras.{all_extras};
 ghost use Rattle.subsetter_sfnt.specs.FontAt.{font_at};
 ghost use Rattle.pdf_font.specs.PdfFont.{IsPdfFont, font_of};
 ghost use Rattle.subsetter_pdf_c.specs.Entries.{are_scalars, are_texts, texts_from, uses_in};
-ghost use Rattle.subsetter_c.specs.Answers.Handed.{IsHandedOver, IsNothingHanded};
+ghost use Rattle.subsetter_c.specs.Answers.Handed.{IsNothingHanded};
 ghost use Rattle.subsetter_c.specs.Documents.PdfFonts.{IsFontMade, IsFontRefused, IsHandedBy, IsNoFontMade};
-ghost use Rattle.subsetter_c.specs.Documents.PdfGlyphs.{AreGlyphsOf, IsGlyphRefusal};
+ghost use Rattle.subsetter_c.specs.Documents.PdfGlyphs.{AreGlyphsHanded};
 ghost use Rattle.subsetter_c.specs.Documents.PdfObjects.{AreObjectsWritten, IsNoneWritten, IsSheetWritten, layout_of};
 ghost use Rattle.subsetter_c.specs.Documents.PdfOptions.{AreFontWordsKnown};
 ghost use Rattle.subsetter_c.specs.Settings.{settings_of};
 ghost use Rattle.subsetter_c.specs.Answers.Status.{invalid_text, unknown_option};
 
-use crate::answers::handing::hand_glyphs;
-use crate::answers::status::{INVALID_TEXT, UNKNOWN_OPTION};
-use crate::characters::glyphs_for;
+use crate::answers::status::{INVALID_TEXT, UNKNOWN_OPTION, status_of};
+use crate::characters::{hand_glyphs_by, source_for};
 use crate::documents::pdf_files::{ObjectsMade, hand_file, hand_objects, nothing};
 use crate::documents::pdf_fonts::{font_for, hand_font, no_font};
 use crate::documents::pdf_options::font_options_of;
@@ -28,8 +27,8 @@ use subsetter_pdf_c::{PdfMade, are_scalars, are_texts, sheet_of, write_objects};
 /// The glyph of each character of a text, by the font's `cmap`, in the caller's buffer: 0 where the font has none.
 ///
 /// Status 0: the first numbers of `glyphs` are the glyphs, the rest of it is unchanged, and `length` is their count. Status 8:
-/// `glyphs` is too small and unchanged, and `length` is the exact count. Status 12: a number is no character; status 1, 2 or 7:
-/// an error; nothing is written, and `length` is 0.
+/// `glyphs` is too small and unchanged, and `length` is the exact count. Status 12: a number is no character; status 13: the font
+/// has no table by which characters have glyphs; status 1, 2 or 7: an error; nothing is written, and `length` is 0.
 #[unsafe(no_mangle)]
 pub extern "C" fn subsetter_glyphs_of(
     alloc: Global,
@@ -39,13 +38,19 @@ pub extern "C" fn subsetter_glyphs_of(
     glyphs: &mut [u16],
     length: &mut usize,
 ) -> u32
-    ensures { ((are_scalars text.now ≡ false) × IsNothingHanded invalid_text glyphs.old glyphs.new length.new result) ⊎ ((are_scalars text.now ≡ true) × IsHandedOver (AreGlyphsOf (font_at font.now index all_extras) text.now) (IsGlyphRefusal (font_at font.now index all_extras)) glyphs.old glyphs.new length.new result) }
+    ensures { ((are_scalars text.now ≡ false) × IsNothingHanded invalid_text glyphs.old glyphs.new length.new result) ⊎ ((are_scalars text.now ≡ true) × AreGlyphsHanded (font_at font.now index all_extras) text.now glyphs.old glyphs.new length.new result) }
 {
     if !are_scalars(text) {
         *length = 0;
         return INVALID_TEXT;
     }
-    hand_glyphs(glyphs_for(alloc, font, index, text), glyphs, length)
+    match source_for(font, index) {
+        Ok(source) => hand_glyphs_by(alloc, source, text, glyphs, length),
+        Err(error) => {
+            *length = 0;
+            status_of(error)
+        }
+    }
 }
 
 /// Makes a font with these options: the status.

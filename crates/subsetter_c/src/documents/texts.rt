@@ -1,27 +1,34 @@
 //! A font of a text in UTF-8, handed to C.
 
-ghost use Rattle.std.specs.Prelude.{◌≡◌, ◌≢◌, IfOk, IfErr, length, true};
+ghost use Rattle.std.specs.Prelude.{◌≡◌, ◌≢◌, IfOk, IfErr, Some, length, map, true};
+ghost use Rattle.std.specs.Option.{option_map};
 ghost use Rattle.std.specs.Str.{IsUtf8, encode_utf8_all};
+ghost use Rattle.subsetter_base.specs.declared.error.Error.{Error as SpecError};
+ghost use Rattle.subsetter_base.specs.declared.error.Error.TheVariants.{OutOfMemory};
 ghost use Rattle.subsetter_sfnt.specs.Extras.{all_extras};
 ghost use Rattle.subsetter_sfnt.specs.FontAt.{font_at};
+ghost use Rattle.subsetter_variable.specs.Subset.{HasOpeningFaultAt};
+ghost use Rattle.text_glyphs.specs.Choice.{character_glyph};
+ghost use Rattle.text_glyphs.specs.Faces.{face_source};
+ghost use Rattle.text_glyphs.specs.View.{source_view};
 ghost use Rattle.subsetter_pdf_c.specs.Entries.{are_scalars};
 ghost use Rattle.subsetter_pdf_c.specs.Texts.{one_each};
-ghost use Rattle.subsetter_c.specs.Documents.PdfGlyphs.{AreGlyphsOf, IsGlyphRefusal};
 ghost use Rattle.subsetter_c.specs.Documents.PdfOptions.{AreFontWordsKnown};
 ghost use Rattle.subsetter_c.specs.Documents.Texts.{IsTextHandedBy, IsTextMade};
 ghost use Rattle.subsetter_c.specs.Documents.Whole.{IsNoWholeMade, own_size};
 ghost use Rattle.subsetter_c.specs.Answers.Status.{invalid_text, unknown_option};
 ghost use Rattle.subsetter_c.specs.Settings.{settings_of};
 
-use crate::answers::status::{INVALID_TEXT, UNKNOWN_OPTION, status_of};
-use crate::characters::mapping_for;
+use crate::answers::status::{INVALID_TEXT, NO_CMAP, UNKNOWN_OPTION, status_of};
+use crate::characters::{glyphs_by, source_for};
 use crate::documents::pdf_options::font_options_of;
 use crate::documents::whole::{FontMade, SIZE, make_whole, no_whole};
 use crate::settings::Coordinate;
 use pdf_font::FontOptions;
 use std::alloc::Global;
 use subsetter::Error;
-use subsetter_pdf_c::{characters_in, ends_of, glyphs_by};
+use subsetter_pdf_c::{characters_in, ends_of};
+use text_glyphs::TextSource;
 
 /// The glyphs of a text, and the text as C has it.
 #[derive(Drop)]
@@ -32,18 +39,84 @@ struct LookedUp {
 }
 
 /// The glyph of each character of a text.
-fn looked_up(alloc: Global, font: &[u8], index: u32, text: &str) -> Result<LookedUp, Error>
+fn looked_up(alloc: Global, source: &TextSource<'_>, text: &str) -> Result<LookedUp, Error>
     ensures text { IfOk result (λ l. encode_utf8_all l.text.items ≡ text.now) }
-    ensures glyphs { IfOk result (λ l. AreGlyphsOf (font_at font.now index all_extras) l.text.items l.glyphs.items) }
+    ensures glyphs { IfOk result (λ l. l.glyphs.items ≡ map (character_glyph (source_view source.now).table) l.text.items) }
     ensures ends { IfOk result (λ l. l.ends.items ≡ one_each 0 (length l.text.items)) }
     ensures scalars { IfOk result (λ l. are_scalars l.text.items ≡ true) }
-    ensures err { IfErr result (λ e. IsGlyphRefusal (font_at font.now index all_extras) e) }
+    ensures err { IfErr result (λ e. e ≡ OutOfMemory) }
 {
-    let table = mapping_for(font, index)?;
     let text = characters_in(alloc, text)?;
-    let glyphs = glyphs_by(alloc, table, &text)?;
+    let glyphs = glyphs_by(alloc, source, &text)?;
     let ends = ends_of(alloc, text.len())?;
     Ok(LookedUp { glyphs, text, ends })
+}
+
+/// Makes a font of a text, whose characters have glyphs by these tables, with these options: the status.
+fn make_by(
+    alloc: Global,
+    font: &[u8],
+    index: u32,
+    coordinates: &[Coordinate],
+    source: &TextSource<'_>,
+    text: &str,
+    options: &FontOptions,
+    made: &mut FontMade,
+) -> u32
+    requires found { face_source (font_at font.now index all_extras) ≡ Some (source_view source.now) }
+    requires opens { (e : SpecError) → ¬ (HasOpeningFaultAt (font_at font.now index all_extras) e) }
+    ensures { IsTextHandedBy font.now index (settings_of coordinates.now) text.now options.now made.new result }
+{
+    match looked_up(alloc, source, text) {
+        Ok(found) => make_whole(
+            alloc,
+            font,
+            index,
+            coordinates,
+            &found.glyphs,
+            &found.text,
+            &found.ends,
+            options,
+            made,
+        ),
+        Err(error) => {
+            *made = no_whole();
+            status_of(error)
+        }
+    }
+}
+
+/// Makes a font of a text, if there are tables by which characters have glyphs: the status.
+fn make_if_mapped(
+    alloc: Global,
+    font: &[u8],
+    index: u32,
+    coordinates: &[Coordinate],
+    source: Option<TextSource<'_>>,
+    text: &str,
+    options: &FontOptions,
+    made: &mut FontMade,
+) -> u32
+    requires found { face_source (font_at font.now index all_extras) ≡ option_map source_view source }
+    requires opens { (e : SpecError) → ¬ (HasOpeningFaultAt (font_at font.now index all_extras) e) }
+    ensures { IsTextHandedBy font.now index (settings_of coordinates.now) text.now options.now made.new result }
+{
+    match source {
+        Some(source) => make_by(
+            alloc,
+            font,
+            index,
+            coordinates,
+            &source,
+            text,
+            options,
+            made,
+        ),
+        None => {
+            *made = no_whole();
+            NO_CMAP
+        }
+    }
 }
 
 /// Makes a font of a text with these options: the status.
@@ -58,18 +131,8 @@ fn make_of_text(
 ) -> u32
     ensures { IsTextHandedBy font.now index (settings_of coordinates.now) text.now options.now made.new result }
 {
-    match looked_up(alloc, font, index, text) {
-        Ok(found) => make_whole(
-            alloc,
-            font,
-            index,
-            coordinates,
-            &found.glyphs,
-            &found.text,
-            &found.ends,
-            options,
-            made,
-        ),
+    match source_for(font, index) {
+        Ok(source) => make_if_mapped(alloc, font, index, coordinates, source, text, options, made),
         Err(error) => {
             *made = no_whole();
             status_of(error)

@@ -25,5 +25,5 @@ mod segments;
 #[cfg(feature = "variable-fonts")]
 pub use characters::glyphs_of;
 pub use mapping::find_subtable;
-#[cfg(feature = "program")]
+#[cfg(feature = "variable-fonts")]
 pub use mapping::Subtable;

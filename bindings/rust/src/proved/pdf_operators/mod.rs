@@ -2,7 +2,7 @@
 //! The operators that show a run of shaped glyphs in a content stream (ISO 32000-1, 9.4), and what readers find in them.
 //!
 //! ```text
-//! show_run(alloc, font, Direction::LeftToRight, Order::Visual, 12_000, &mut pairs, &items)?;    // [ <00010002> ] TJ [ -12 <0003> ] TJ
+//! show_run(alloc, font, Direction::LeftToRight, Order::Visual, 12_000, &mut pairs, &items)?;    // [<00010002>-12<0003>]TJ
 //! ```
 
 mod hex;

@@ -22,23 +22,34 @@ fn digit(n: u32) -> u8 {
     48 + (n % 10) as u8
 }
 
-/// Writes the last six digits.
-fn write_six_digits(text: &mut Vec<u8>, n: u32) -> Result<(), Error> {
-    text.extend_from_slice(&[
-        digit(n / 100_000),
-        digit(n / 10_000),
-        digit(n / 1000),
-        digit(n / 100),
-        digit(n / 10),
-        digit(n),
-    ])?;
+/// Writes the last three digits.
+fn write_three_digits(text: &mut Vec<u8>, n: u32) -> Result<(), Error> {
+    text.extend_from_slice(&[digit(n / 100), digit(n / 10), digit(n)])?;
     Ok(())
 }
 
-/// Writes a point and six digits.
-fn write_fraction(text: &mut Vec<u8>, n: u32) -> Result<(), Error> {
+/// Writes a point, and the last three digits of two numbers.
+fn write_six_digits(text: &mut Vec<u8>, high: u32, low: u32) -> Result<(), Error> {
     text.push(b'.')?;
-    write_six_digits(text, n)
+    write_three_digits(text, high)?;
+    write_three_digits(text, low)
+}
+
+/// Writes a point, and the last three digits.
+fn write_thousandths(text: &mut Vec<u8>, n: u32) -> Result<(), Error> {
+    text.push(b'.')?;
+    write_three_digits(text, n)
+}
+
+/// Writes what is behind the whole of so many millionths.
+fn write_fraction(text: &mut Vec<u8>, n: u32) -> Result<(), Error> {
+    if n == 0 {
+        Ok(())
+    } else if n % 1000 == 0 {
+        write_thousandths(text, n / 1000)
+    } else {
+        write_six_digits(text, n / 1000, n)
+    }
 }
 
 /// Writes so many millionths, with the sign of a number.

@@ -26,36 +26,92 @@ pub enum Operation<'a> {
     Back(i32),
 }
 
-/// Ends a string that has so many codes, and its array; 0 where there is none.
-fn write_closing(text: &mut Vec<u8>, held: usize) -> Result<(), Error> {
-    if held != 0 {
-        text.extend_from_slice(b"> ] TJ\n")?;
+/// The array of TJ that is open: how many strings it has, and how many codes the last of them; 0 of both where none is open.
+#[derive(Clone, Copy)]
+struct OpenArray {
+    strings: u32,
+    codes: u32,
+}
+
+/// Ends what is open.
+fn write_closing(text: &mut Vec<u8>, array: OpenArray) -> Result<(), Error> {
+    if array.codes != 0 {
+        text.extend_from_slice(b">]TJ\n")?;
     }
     Ok(())
 }
 
-/// Begins an array with a number.
-fn write_numbered(text: &mut Vec<u8>, back: i32) -> Result<(), Error> {
-    text.extend_from_slice(b"[ ")?;
-    write_integer(text, back)?;
-    text.extend_from_slice(b" <")?;
+/// Writes a number of an array, if the pen has to go.
+fn write_number(text: &mut Vec<u8>, back: i32) -> Result<(), Error> {
+    if back != 0 {
+        write_integer(text, back)?;
+    }
     Ok(())
 }
 
 /// Begins an array and its string.
 fn write_opening(text: &mut Vec<u8>, back: i32) -> Result<(), Error> {
-    if back == 0 {
-        text.extend_from_slice(b"[ <")?;
-        return Ok(());
-    }
-    write_numbered(text, back)
+    text.push(b'[')?;
+    write_number(text, back)?;
+    text.push(b'<')?;
+    Ok(())
 }
 
-/// Writes an array of one number.
-fn write_back(text: &mut Vec<u8>, back: i32) -> Result<(), Error> {
-    text.extend_from_slice(b"[ ")?;
+/// Ends a string, and begins another one of its array.
+fn write_further(text: &mut Vec<u8>, back: i32) -> Result<(), Error> {
+    text.push(b'>')?;
     write_integer(text, back)?;
-    text.extend_from_slice(b" ] TJ\n")?;
+    text.push(b'<')?;
+    Ok(())
+}
+
+/// Ends what is open, and begins another array.
+fn write_apart(text: &mut Vec<u8>, array: OpenArray, back: i32) -> Result<(), Error> {
+    write_closing(text, array)?;
+    write_opening(text, back)
+}
+
+/// Whether a code goes into the string that is open.
+fn is_joined(array: OpenArray, back: i32) -> bool {
+    0 < array.codes && array.codes < 16_383 && back == 0
+}
+
+/// Whether it goes into another string of the array that is open.
+fn is_further(array: OpenArray, back: i32) -> bool {
+    0 < array.codes && array.strings < 4095 && back != 0
+}
+
+/// Writes what is before a code.
+fn write_leading(text: &mut Vec<u8>, array: OpenArray, back: i32) -> Result<(), Error> {
+    if is_joined(array, back) {
+        Ok(())
+    } else if is_further(array, back) {
+        write_further(text, back)
+    } else {
+        write_apart(text, array, back)
+    }
+}
+
+/// Writes a code.
+fn write_code(text: &mut Vec<u8>, array: OpenArray, back: i32, code: u16) -> Result<(), Error> {
+    write_leading(text, array, back)?;
+    write_word(text, code)
+}
+
+/// What is before a number at the end of an array: the end of its string, or the beginning of an array of its own.
+fn last(array: OpenArray) -> u8 {
+    if array.codes == 0 {
+        b'['
+    } else {
+        b'>'
+    }
+}
+
+/// Writes a number at the end of an array.
+fn write_back(text: &mut Vec<u8>, array: OpenArray, back: i32) -> Result<(), Error> {
+    text.push(last(array))?;
+    write_integer(text, back)?;
+    text.extend_from_slice(b"]TJ\n")?;
     Ok(())
 }
 
@@ -83,86 +139,72 @@ fn write_begin(text: &mut Vec<u8>, clusters: &[&[Item<'_>]]) -> Result<(), Error
     Ok(())
 }
 
-/// Sets the text rise.
-fn write_ts(text: &mut Vec<u8>, size: u32, z: i32) -> Result<(), Error> {
+/// Ends what is open, and begins a span.
+fn write_span(text: &mut Vec<u8>, array: OpenArray, clusters: &[&[Item<'_>]]) -> Result<(), Error> {
+    write_closing(text, array)?;
+    write_begin(text, clusters)
+}
+
+/// Ends what is open, and a span.
+fn write_end(text: &mut Vec<u8>, array: OpenArray) -> Result<(), Error> {
+    write_closing(text, array)?;
+    text.extend_from_slice(b"EMC\n")?;
+    Ok(())
+}
+
+/// Ends what is open, and sets the text rise.
+fn write_ts(text: &mut Vec<u8>, array: OpenArray, size: u32, z: i32) -> Result<(), Error> {
+    write_closing(text, array)?;
     write_rise(text, size, z)?;
     text.extend_from_slice(b" Ts\n")?;
     Ok(())
 }
 
-/// Begins a string with a code.
-fn write_first(text: &mut Vec<u8>, back: i32, code: u16) -> Result<(), Error> {
-    write_opening(text, back)?;
-    write_word(text, code)
-}
-
-/// Writes an operation that begins outside of a string.
-fn write_own(
-    text: &mut Vec<u8>,
-    size: u32,
-    pairs: &Remapper<u16, Pair>,
-    operation: Operation<'_>,
-) -> Result<(), Error> {
-    match operation {
-        Operation::Begin(clusters) => write_begin(text, clusters),
-        Operation::End => {
-            text.extend_from_slice(b"EMC\n")?;
-            Ok(())
-        }
-        Operation::Rise(z) => write_ts(text, size, z),
-        Operation::Show(back, pair) => write_first(text, back, code_of(pairs, pair)),
-        Operation::Back(z) => write_back(text, z),
-    }
-}
-
-/// Whether a code goes into a string that has so many.
-fn is_joined(held: usize, back: i32) -> bool {
-    0 < held && held < 16_383 && back == 0
-}
-
-/// Ends what is held, and writes an operation.
-fn write_apart(
-    text: &mut Vec<u8>,
-    size: u32,
-    pairs: &Remapper<u16, Pair>,
-    held: usize,
-    operation: Operation<'_>,
-) -> Result<(), Error> {
-    write_closing(text, held)?;
-    write_own(text, size, pairs, operation)
-}
-
-/// Writes an operation behind a string that has so many codes.
+/// Writes an operation.
 fn write_operation(
     text: &mut Vec<u8>,
     size: u32,
     pairs: &Remapper<u16, Pair>,
-    held: usize,
+    array: OpenArray,
     operation: Operation<'_>,
 ) -> Result<(), Error> {
     match operation {
-        Operation::Show(back, pair) => {
-            if is_joined(held, back) {
-                write_word(text, code_of(pairs, pair))
-            } else {
-                write_apart(text, size, pairs, held, operation)
-            }
-        }
-        _ => write_apart(text, size, pairs, held, operation),
+        Operation::Begin(clusters) => write_span(text, array, clusters),
+        Operation::End => write_end(text, array),
+        Operation::Rise(z) => write_ts(text, array, size, z),
+        Operation::Show(back, pair) => write_code(text, array, back, code_of(pairs, pair)),
+        Operation::Back(back) => write_back(text, array, back),
     }
 }
 
-/// How many codes the string has behind an operation.
-fn held_after(held: usize, operation: Operation<'_>) -> usize {
-    match operation {
-        Operation::Show(back, _) => {
-            if is_joined(held, back) {
-                held + 1
-            } else {
-                1
-            }
+/// What is open after a code.
+fn open_after_code(array: OpenArray, back: i32) -> OpenArray {
+    if is_joined(array, back) {
+        OpenArray {
+            strings: array.strings,
+            codes: array.codes + 1,
         }
-        _ => 0,
+    } else if is_further(array, back) {
+        OpenArray {
+            strings: array.strings + 1,
+            codes: 1,
+        }
+    } else {
+        OpenArray {
+            strings: 1,
+            codes: 1,
+        }
+    }
+}
+
+/// What is open after an operation.
+fn open_after(array: OpenArray, operation: Operation<'_>) -> OpenArray {
+    match operation {
+        Operation::Show(back, _) => open_after_code(array, back),
+        _ => OpenArray {
+            strings: 0,
+            codes: 0,
+        },
     }
 }
 
@@ -179,11 +221,14 @@ pub fn write_operators(
     operations: &[Operation<'_>],
 ) -> Result<Vec<u8>, Error> {
     let mut text = Vec::new(alloc);
-    let mut held = 0;
+    let mut array = OpenArray {
+        strings: 0,
+        codes: 0,
+    };
     for operation in operations {
-        write_operation(&mut text, size, pairs, held, *operation)?;
-        held = held_after(held, *operation);
+        write_operation(&mut text, size, pairs, array, *operation)?;
+        array = open_after(array, *operation);
     }
-    write_closing(&mut text, held)?;
+    write_closing(&mut text, array)?;
     Ok(text)
 }

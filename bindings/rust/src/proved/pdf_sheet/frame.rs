@@ -36,10 +36,32 @@ fn advance_of(glyphs: &[SheetGlyph<'_>]) -> u64 {
     advance
 }
 
-/// The points of a line.
-fn line_extent(glyphs: &[SheetGlyph<'_>]) -> usize {
-    let advance = advance_of(glyphs);
+/// The points of a line that goes on by thousandths of the em, up to a bound.
+fn extent(advance: u64) -> usize {
     72 + ((36 * advance + 999) / 1000) as usize
+}
+
+/// The page of a line that goes on by thousandths of the em, up to a bound.
+fn frame_of_line(vertical: bool, advance: u64) -> Frame {
+    if vertical {
+        return Frame {
+            layout: Layout::Line,
+            vertical,
+            width: 144,
+            height: extent(advance),
+        };
+    }
+    Frame {
+        layout: Layout::Line,
+        vertical,
+        width: extent(advance),
+        height: 144,
+    }
+}
+
+/// The page of a line that goes on by thousandths of the em.
+pub fn line_frame(vertical: bool, advance: u32) -> Frame {
+    frame_of_line(vertical, u64::from(advance).min(398_000))
 }
 
 /// The page.
@@ -51,23 +73,7 @@ pub fn frame_of(layout: Layout, vertical: bool, glyphs: &[SheetGlyph<'_>]) -> Fr
             width: 595,
             height: 842,
         },
-        Layout::Line => {
-            if vertical {
-                Frame {
-                    layout,
-                    vertical,
-                    width: 144,
-                    height: line_extent(glyphs),
-                }
-            } else {
-                Frame {
-                    layout,
-                    vertical,
-                    width: line_extent(glyphs),
-                    height: 144,
-                }
-            }
-        }
+        Layout::Line => frame_of_line(vertical, advance_of(glyphs)),
     }
 }
 
@@ -94,7 +100,7 @@ fn cell_y(place: usize) -> usize {
 }
 
 /// Writes where a line begins.
-fn write_line_position(text: &mut Vec<u8>, vertical: bool, height: usize) -> Result<(), Error> {
+pub fn write_line_position(text: &mut Vec<u8>, vertical: bool, height: usize) -> Result<(), Error> {
     if vertical {
         return write_position(text, 72, height.saturating_sub(36));
     }

@@ -13,7 +13,7 @@ use crate::rattle::alloc::Global;
 // ---- values
 
 /// Writes a reference to an object.
-fn write_reference(text: &mut Vec<u8>, n: usize) -> Result<(), Error> {
+pub fn write_reference(text: &mut Vec<u8>, n: usize) -> Result<(), Error> {
     write_count(text, n)?;
     text.extend_from_slice(b" 0 R")?;
     Ok(())
@@ -35,7 +35,7 @@ fn write_kids(text: &mut Vec<u8>, count: usize) -> Result<(), Error> {
 }
 
 /// Writes how many pages there are, and which objects they are.
-fn write_page_tree(text: &mut Vec<u8>, count: usize) -> Result<(), Error> {
+pub fn write_page_tree(text: &mut Vec<u8>, count: usize) -> Result<(), Error> {
     text.extend_from_slice(b"<< /Type /Pages /Count ")?;
     write_count(text, count)?;
     text.extend_from_slice(b" /Kids [")?;
@@ -83,7 +83,7 @@ fn write_stream_front(text: &mut Vec<u8>, size: usize) -> Result<(), Error> {
 }
 
 /// A stream of these bytes.
-fn stream_value(alloc: Global, bytes: &[u8]) -> Result<Vec<u8>, Error> {
+pub fn stream_value(alloc: Global, bytes: &[u8]) -> Result<Vec<u8>, Error> {
     let mut text = Vec::new(alloc);
     write_stream_front(&mut text, bytes.len())?;
     text.extend_from_slice(bytes)?;

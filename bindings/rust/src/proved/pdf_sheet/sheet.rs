@@ -6,14 +6,18 @@ use crate::rattle::prelude::Vec;
 use crate::proved::pdf_sheet::file::{body_of, checked, push_objects, write_table, Body};
 use crate::proved::pdf_sheet::frame::{frame_of, Frame, Layout};
 use crate::proved::pdf_sheet::glyphs::SheetGlyph;
+use crate::proved::pdf_sheet::lines::{lines_front, SheetLine};
 use crate::proved::pdf_sheet::pages::{front_values, page_count};
 use crate::proved::pdf_text::{most_objects, write_objects, FontValues};
 use crate::proved::subsetter_base::Error;
 use crate::rattle::alloc::Global;
 
-/// The number of the font's first object, which has so many at most.
-fn font_number(layout: Layout, size: usize, most: u32) -> Result<u32, Error> {
-    let number = 3 + 2 * page_count(layout, size) as u64;
+/// The number of the font's first object behind so many pages, which has so many at most.
+fn font_number(count: usize, most: u32) -> Result<u32, Error> {
+    if count >= 2_147_483_648 {
+        return Err(Error::OverflowError);
+    }
+    let number = 3 + 2 * count as u64;
     if number + u64::from(most) >= 4_294_967_296 {
         return Err(Error::OverflowError);
     }
@@ -25,20 +29,40 @@ fn frame_for(layout: Layout, values: FontValues<'_>, glyphs: &[SheetGlyph<'_>]) 
     frame_of(layout, values.columns.is_some(), glyphs)
 }
 
-/// Header and objects of a sheet, of whose font this is the number.
-fn sheet_body(
+/// The values before the font, whose number this is.
+fn front_for(
     alloc: Global,
     values: FontValues<'_>,
-    glyphs: &[SheetGlyph<'_>],
-    layout: Layout,
+    first: u32,
+    lines: &[SheetLine<'_>],
+) -> Result<Vec<Vec<u8>>, Error> {
+    lines_front(alloc, values.columns.is_some(), first, lines)
+}
+
+/// Header and objects of a file: these values, and behind them those of a font, of which this is the number.
+fn body_with(
+    alloc: Global,
+    front: &[Vec<u8>],
+    values: FontValues<'_>,
     first: u32,
 ) -> Result<Body, Error> {
-    let frame = frame_for(layout, values, glyphs);
-    let front = front_values(alloc, layout, frame, first as usize, glyphs)?;
-    let mut body = body_of(alloc, &front)?;
+    let mut body = body_of(alloc, front)?;
     let font = write_objects(alloc, values, first)?;
     push_objects(&mut body, &font.text, &font.offsets)?;
     Ok(body)
+}
+
+/// The file of these values, and of those of a font behind them, of which this is the number.
+fn file_with(
+    alloc: Global,
+    front: &[Vec<u8>],
+    values: FontValues<'_>,
+    first: u32,
+) -> Result<Vec<u8>, Error> {
+    let mut body = body_with(alloc, front, values, first)?;
+    checked(body.text.len() as u64)?;
+    write_table(&mut body.text, &body.offsets)?;
+    Ok(body.text)
 }
 
 /// A whole PDF that shows glyphs of a font in 36 points, in a line or in a grid of as many pages as they need, at least one.
@@ -56,9 +80,25 @@ pub fn write_sheet(
     glyphs: &[SheetGlyph<'_>],
     layout: Layout,
 ) -> Result<Vec<u8>, Error> {
-    let first = font_number(layout, glyphs.len(), most_objects(values))?;
-    let mut body = sheet_body(alloc, values, glyphs, layout, first)?;
-    checked(body.text.len() as u64)?;
-    write_table(&mut body.text, &body.offsets)?;
-    Ok(body.text)
+    let first = font_number(page_count(layout, glyphs.len()), most_objects(values))?;
+    let frame = frame_for(layout, values, glyphs);
+    let front = front_values(alloc, layout, frame, first as usize, glyphs)?;
+    file_with(alloc, &front, values, first)
+}
+
+/// A whole PDF that shows lines of a font in 36 points by their operators, each on a page of its own. The text runs as the font's
+/// values have it. A page is as long as its line with margins of 36 points, and has at most 14,400 points; what is longer is
+/// outside of it. Without lines there are no pages.
+///
+/// # Errors
+///
+/// Those of [`write_sheet`].
+pub fn write_lines(
+    alloc: Global,
+    values: FontValues<'_>,
+    lines: &[SheetLine<'_>],
+) -> Result<Vec<u8>, Error> {
+    let first = font_number(lines.len(), most_objects(values))?;
+    let front = front_for(alloc, values, first, lines)?;
+    file_with(alloc, &front, values, first)
 }

@@ -142,14 +142,9 @@ fn coordinate_from(name: &str, value: &str) -> Option<(Tag, i32)> {
 }
 
 /// The coordinate that a part of a list says, as `wght=650`.
-fn coordinate_of(part: &str) -> Option<(Tag, i32)> {
+pub fn coordinate_of(part: &str) -> Option<(Tag, i32)> {
     let (name, value) = part.split_once('=')?;
     coordinate_from(name, value)
-}
-
-/// Whether a part of a list says a coordinate.
-pub fn is_coordinate(part: &str) -> bool {
-    coordinate_of(part).is_some()
 }
 
 /// Adds a coordinate.

@@ -5,3 +5,4 @@ pub(crate) mod characters;
 pub(crate) mod few;
 pub(crate) mod files;
 pub(crate) mod lists;
+pub(crate) mod wrong;

@@ -26,7 +26,8 @@ for each of them.
   GID    the number of a glyph in IN
 
 Options are before IN, each at most once, in any order.
-With -o or --pdf they may also be after IN.
+With -o or --pdf they may also be after IN. --text=ABC is
+--text ABC, and so with each long option and its value.
 
 Which glyphs, where no GID is given:
   --gids LIST       numbers and ranges, as 3,5,10-20, or *
@@ -73,8 +74,8 @@ What the new font has:
                     a variable font at coordinates, as
                     wght=650,wdth=87.5, or at a named
                     instance, as Bold or bold; empty: at the
-                    default. CFF2 outlines need this option,
-                    and become CFF
+                    default. CFF2 outlines become CFF, and
+                    need this option where GID is given
   --no-hinting      leaves out the instructions of TrueType
                     outlines
   --no-names        leaves out the table name

@@ -1,19 +1,33 @@
-use Rattle.std.proofs.Common.{◌≡◌, length, ◌∙◌, rules}
-use Rattle.pdf_sheet.specs.File.{file_of}
-use Rattle.pdf_sheet.specs.Pages.{sheet_values}
-use Rattle.pdf_sheet.proofs.Table.{file_written, file_in_table}
+use Rattle.std.proofs.Common.{◌≡◌, ◌++◌, length, ap, ◌∙◌}
+use Rattle.pdf_sheet.specs.Pages.{font_number, font_values, page_count, sheet_values}
+use Rattle.pdf_sheet.specs.View.{texts_view}
+use Rattle.pdf_sheet.proofs.Steps.{named_fault, named_file, named_table, sheet_first, sheet_whole}
 use Rattle.pdf_sheet.proofs.sheet.write_sheet.Goals as goal
+
+pub file_with-requires : goal.file_with-requires
+file_with-requires c =
+    sheet_first c.args.layout c.args.glyphs.now c.frame_for-frame.result c.deref.result.now c.in_ok-first.first
+    (ap texts_view c.deref.ensures.value ∙ c.in_ok-front.ensures.ok) (c.in_ok-first.ensures.ok ∙ ap (λ n. font_number n) c.page_count.ensures.value)
 
 pub returns-clause-file : goal.returns-clause-file
 returns-clause-file c =
-    file_written (sheet_values c.args.layout c.args.values c.args.glyphs.now) c.in_ok-body.body.text.items c.deref.result.now c.write_table.new.text.items
-    c.in_ok-body.ensures.text (c.deref.ensures.value ∙ c.in_ok-body.ensures.offsets) c.in_ok-write_table.ensures.ok
+    named_file c.file_with.result (texts_view c.deref.result.now ++ font_values c.in_ok-first.first c.args.values) (sheet_values c.args.layout c.args.values c.args.glyphs.now)
+    (sheet_whole c.args.layout c.args.values c.args.glyphs.now c.frame_for-frame.result (texts_view c.deref.result.now) c.in_ok-first.first
+    c.frame_for-frame.ensures (ap texts_view c.deref.ensures.value ∙ c.in_ok-front.ensures.ok) (c.in_ok-first.ensures.ok ∙ ap (λ n. font_number n) c.page_count.ensures.value))
+    c.file_with.ensures.file
 
 pub returns-clause-at : goal.returns-clause-at
 returns-clause-at c =
-    let values = sheet_values c.args.layout c.args.values c.args.glyphs.now in
-    let size : c.len.result ≡ length c.in_ok-body.body.text.items = search rules in
-    let file : c.write_table.new.text.items ≡ file_of values =
-    file_written values c.in_ok-body.body.text.items c.deref.result.now c.write_table.new.text.items
-    c.in_ok-body.ensures.text (c.deref.ensures.value ∙ c.in_ok-body.ensures.offsets) c.in_ok-write_table.ensures.ok in
-    file_in_table values c.in_ok-body.body.text.items c.write_table.new.text.items c.len.result c.in_ok-body.ensures.text size c.in_ok-checked.ensures.ok file
+    named_table c.file_with.result (texts_view c.deref.result.now ++ font_values c.in_ok-first.first c.args.values) (sheet_values c.args.layout c.args.values c.args.glyphs.now)
+    (sheet_whole c.args.layout c.args.values c.args.glyphs.now c.frame_for-frame.result (texts_view c.deref.result.now) c.in_ok-first.first
+    c.frame_for-frame.ensures (ap texts_view c.deref.ensures.value ∙ c.in_ok-front.ensures.ok) (c.in_ok-first.ensures.ok ∙ ap (λ n. font_number n) c.page_count.ensures.value))
+    c.file_with.ensures.at
+
+pub returns-clause-err : goal.returns-clause-err
+returns-clause-err c =
+    named_fault c.file_with.result c.args.values c.in_ok-first.first (font_number (page_count c.args.layout (length c.args.glyphs.now)))
+    (texts_view c.deref.result.now ++ font_values c.in_ok-first.first c.args.values) (sheet_values c.args.layout c.args.values c.args.glyphs.now)
+    (c.in_ok-first.ensures.ok ∙ ap (λ n. font_number n) c.page_count.ensures.value)
+    (sheet_whole c.args.layout c.args.values c.args.glyphs.now c.frame_for-frame.result (texts_view c.deref.result.now) c.in_ok-first.first
+    c.frame_for-frame.ensures (ap texts_view c.deref.ensures.value ∙ c.in_ok-front.ensures.ok) (c.in_ok-first.ensures.ok ∙ ap (λ n. font_number n) c.page_count.ensures.value))
+    c.file_with.ensures.err

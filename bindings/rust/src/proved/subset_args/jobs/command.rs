@@ -9,10 +9,10 @@ use crate::proved::subset_args::options::chosen::{PdfChoice, Switches};
 use crate::proved::subsetter_base::Tag;
 use crate::rattle::alloc::AllocError;
 
-/// Why the arguments request nothing.
+/// Why a list isn't read.
 #[derive(Clone, Copy, PartialEq, Eq, Debug)]
 pub enum ArgsError {
-    /// They aren't as the usage says.
+    /// It isn't as the usage says.
     Usage,
     /// A request for memory was refused.
     OutOfMemory,
@@ -69,6 +69,8 @@ pub struct Job {
     pub position: Option<Position>,
     /// The PDF that is requested, if one is.
     pub pdf: Option<PdfJob>,
+    /// Whether an option requests the glyphs, in place of GID.
+    pub by_option: bool,
 }
 
 /// Where on its axes a variable font is requested.

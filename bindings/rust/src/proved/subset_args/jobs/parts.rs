@@ -6,11 +6,13 @@ use crate::rattle::prelude::{String, Vec};
 use crate::proved::subset_args::coordinates::read_coordinates;
 use crate::proved::subset_args::jobs::command::{ArgsError, Glyphs, PdfJob, Position};
 use crate::proved::subset_args::listing::characters::read_characters;
-use crate::proved::subset_args::listing::lists::{read_argument, GlyphList};
+use crate::proved::subset_args::listing::lists::{read_argument, FileKind, GlyphList};
+use crate::proved::subset_args::listing::wrong::{wrong_list, Listing};
+use crate::proved::subset_args::mistakes::{mistake_in, Mistake, Unread, Wrong};
 use crate::proved::subset_args::options::chosen::{Chosen, PdfChoice};
 use crate::proved::subset_args::options::names::{Coding, Source};
 use crate::proved::subset_args::words::{parts_of, u16_of};
-use crate::rattle::alloc::Global;
+use crate::rattle::alloc::{AllocError, Global};
 
 /// The glyphs of a list with a comma between each two.
 fn glyphs_of(alloc: Global, list: &str) -> Result<Vec<u16>, ArgsError> {
@@ -34,30 +36,52 @@ fn of_list(list: GlyphList) -> Glyphs {
 }
 
 /// The glyphs of the characters that an argument lists.
-fn characters_listed(alloc: Global, text: &str) -> Result<Glyphs, ArgsError> {
-    Ok(of_list(read_characters(alloc, text)?))
+fn characters_listed<'a>(alloc: Global, text: &'a str) -> Result<Glyphs, Unread<'a>> {
+    match read_characters(alloc, text) {
+        Ok(list) => Ok(of_list(list)),
+        Err(ArgsError::OutOfMemory) => Err(Unread::OutOfMemory),
+        Err(ArgsError::Usage) => Err(Unread::Mistake(wrong_list(alloc, Listing::Codes, text)?)),
+    }
 }
 
 /// The glyphs that an argument lists.
-fn glyphs_listed(alloc: Global, text: &str) -> Result<Glyphs, ArgsError> {
-    Ok(of_list(read_argument(alloc, text)?))
+fn glyphs_listed<'a>(alloc: Global, text: &'a str) -> Result<Glyphs, Unread<'a>> {
+    match read_argument(alloc, text) {
+        Ok(list) => Ok(of_list(list)),
+        Err(ArgsError::OutOfMemory) => Err(Unread::OutOfMemory),
+        Err(ArgsError::Usage) => Err(Unread::Mistake(wrong_list(alloc, Listing::Glyphs, text)?)),
+    }
 }
 
-/// Which glyphs the arguments behind INDEX request.
-pub fn read_glyphs(
+/// The glyphs that an option requests.
+fn by_source<'a>(alloc: Global, source: Source<'a>) -> Result<Glyphs, Unread<'a>> {
+    match source {
+        Source::File(kind, name) => Ok(Glyphs::InFile(kind, String::from_str(alloc, name)?)),
+        Source::Text(text) => Ok(Glyphs::ByText(String::from_str(alloc, text)?)),
+        Source::InList(text) => glyphs_listed(alloc, text),
+        Source::Characters(text) => characters_listed(alloc, text),
+    }
+}
+
+/// The glyphs of a list that is an argument of its own.
+fn numbers_listed<'a>(alloc: Global, list: &'a str) -> Result<Glyphs, Unread<'a>> {
+    match glyphs_of(alloc, list) {
+        Ok(glyphs) => Ok(Glyphs::Listed(glyphs)),
+        Err(ArgsError::OutOfMemory) => Err(Unread::OutOfMemory),
+        Err(ArgsError::Usage) => Err(Unread::Mistake(wrong_list(alloc, Listing::Numbers, list)?)),
+    }
+}
+
+/// Which glyphs are requested: those that an argument lists, or an option.
+pub fn read_glyphs<'a>(
     alloc: Global,
-    source: Option<Source<'_>>,
-    words: &[String],
-) -> Result<Glyphs, ArgsError> {
-    match (source, words) {
-        (None, [list]) => Ok(Glyphs::Listed(glyphs_of(alloc, list)?)),
-        (Some(Source::File(kind, name)), []) => {
-            Ok(Glyphs::InFile(kind, String::from_str(alloc, name)?))
-        }
-        (Some(Source::Text(text)), []) => Ok(Glyphs::ByText(String::from_str(alloc, text)?)),
-        (Some(Source::InList(text)), []) => glyphs_listed(alloc, text),
-        (Some(Source::Characters(text)), []) => characters_listed(alloc, text),
-        _ => Err(ArgsError::Usage),
+    listed: Option<&'a str>,
+    source: Option<Source<'a>>,
+) -> Result<Glyphs, Unread<'a>> {
+    match (listed, source) {
+        (Some(list), _) => numbers_listed(alloc, list),
+        (None, Some(source)) => by_source(alloc, source),
+        (None, None) => Err(Unread::Mistake(mistake_in(Wrong::NoGlyphs, ""))),
     }
 }
 
@@ -66,16 +90,36 @@ pub fn is_stream(word: &str) -> bool {
     word == "-"
 }
 
-/// Whether the glyphs are listed in standard input.
-pub fn lists_in_stream(glyphs: &Glyphs) -> bool {
-    match glyphs {
-        Glyphs::InFile(_, name) => is_stream(name),
-        _ => false,
+/// The option for a file of glyphs.
+fn file_option(kind: FileKind) -> &'static str {
+    match kind {
+        FileKind::Glyphs => "--gids-file",
+        FileKind::Characters => "--unicodes-file",
+        FileKind::Text => "--text-file",
+    }
+}
+
+/// A file of glyphs that is standard input, as IN is.
+fn wrong_file<'a>(input: &str, kind: FileKind, name: &str) -> Option<Mistake<'a>> {
+    if is_stream(input) && is_stream(name) {
+        return Some(mistake_in(Wrong::InputTwice, file_option(kind)));
+    }
+    None
+}
+
+/// The same of what an option requests.
+pub fn wrong_stream<'a>(input: &str, source: Option<Source<'_>>) -> Option<Mistake<'a>> {
+    match source {
+        Some(Source::File(kind, name)) => wrong_file(input, kind, name),
+        Some(Source::Text(_)) => None,
+        Some(Source::InList(_)) => None,
+        Some(Source::Characters(_)) => None,
+        None => None,
     }
 }
 
 /// Whether a text is the name of a named instance, and not coordinates: it has no equals sign, and isn't empty.
-pub fn is_name(text: &str) -> bool {
+fn is_name(text: &str) -> bool {
     text.len() > 0 && text.split_once('=').is_none()
 }
 
@@ -88,10 +132,21 @@ fn position_of(alloc: Global, text: &str) -> Result<Position, ArgsError> {
 }
 
 /// Where on its axes a variable font is requested, if that is specified.
-pub fn read_at(alloc: Global, at: Option<&str>) -> Result<Option<Position>, ArgsError> {
-    match at {
-        None => Ok(None),
-        Some(text) => Ok(Some(position_of(alloc, text)?)),
+pub fn read_at<'a>(alloc: Global, at: Option<&'a str>) -> Result<Option<Position>, Unread<'a>> {
+    let text = match at {
+        Some(text) => text,
+        _ => {
+            return Ok(None);
+        }
+    };
+    match position_of(alloc, text) {
+        Ok(position) => Ok(Some(position)),
+        Err(ArgsError::OutOfMemory) => Err(Unread::OutOfMemory),
+        Err(ArgsError::Usage) => Err(Unread::Mistake(wrong_list(
+            alloc,
+            Listing::Coordinates,
+            text,
+        )?)),
     }
 }
 
@@ -104,30 +159,19 @@ fn pdf_choice(chosen: &Chosen<'_>) -> PdfChoice {
     }
 }
 
-/// The PDF that is requested, if one is. Options that say how it is made want one.
-pub fn read_pdf(alloc: Global, chosen: &Chosen<'_>) -> Result<Option<PdfJob>, ArgsError> {
+/// The PDF that is requested, if one is.
+pub fn read_pdf(alloc: Global, chosen: &Chosen<'_>) -> Result<Option<PdfJob>, AllocError> {
     match chosen.pdf {
         Some(file) => Ok(Some(PdfJob {
             file: String::from_str(alloc, file)?,
             choice: pdf_choice(chosen),
         })),
-        None if chosen.switches.vertical || (chosen.coding.is_some() || chosen.is_held) => {
-            Err(ArgsError::Usage)
-        }
         None => Ok(None),
     }
 }
 
-/// Whether both are one file, by their names.
-pub fn is_same(one: Option<&str>, other: Option<&str>) -> bool {
-    match (one, other) {
-        (Some(one), Some(other)) => one == other,
-        _ => false,
-    }
-}
-
 /// The name of a file, if it is given.
-pub fn owned(alloc: Global, name: Option<&str>) -> Result<Option<String>, ArgsError> {
+pub fn owned(alloc: Global, name: Option<&str>) -> Result<Option<String>, AllocError> {
     match name {
         Some(name) => Ok(Some(String::from_str(alloc, name)?)),
         None => Ok(None),

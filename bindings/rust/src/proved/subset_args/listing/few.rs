@@ -46,16 +46,3 @@ pub fn are_few(kind: FileKind, parts: &[&str]) -> bool {
     }
     true
 }
-
-/// The same of the parts of a list between its commas.
-pub fn is_few(kind: FileKind, list: &str) -> bool {
-    let mut left = MOST;
-    for part in list.split(',') {
-        let size = size_of(kind, part);
-        if size > left {
-            return false;
-        }
-        left -= size;
-    }
-    true
-}

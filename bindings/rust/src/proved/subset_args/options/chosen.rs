@@ -3,6 +3,7 @@
 
 use crate::proved::subset_args::limits::RunLimits;
 use crate::proved::subset_args::listing::lists::FileKind;
+use crate::proved::subset_args::mistakes::{mistake_in, Mistake, Wrong};
 use crate::proved::subset_args::options::names::{Coding, Setting, Source, Switch};
 use crate::proved::subset_args::options::values::{coding_of, holds_rights, limits_of};
 use crate::proved::subset_args::words::u32_of;
@@ -79,7 +80,7 @@ pub struct PdfChoice {
     pub is_held: bool,
 }
 
-/// What the options in front of IN choose.
+/// What the options choose.
 #[derive(Clone, Copy, Debug)]
 pub struct Chosen<'a> {
     /// The options without a value.
@@ -119,131 +120,153 @@ impl<'a> Chosen<'a> {
         is_held: false,
     };
 
-    /// With an option without a value, which is given once.
-    pub fn with_switch(self, switch: Switch) -> Option<Chosen<'a>> {
+    /// With an option without a value.
+    pub fn with_switch(self, switch: Switch, word: &'a str) -> Result<Chosen<'a>, Mistake<'a>> {
         if self.switches.is_on(switch) {
-            return None;
+            return Err(mistake_in(Wrong::Twice, word));
         }
-        Some(Chosen {
+        Ok(Chosen {
             switches: self.switches.switched_on(switch),
             ..self
         })
     }
 
-    /// With an option and its value, which is given once.
-    pub fn with_setting(self, setting: Setting, value: &'a str) -> Option<Chosen<'a>> {
+    /// With an option, which is this word, and its value.
+    pub fn with_setting(
+        self,
+        setting: Setting,
+        word: &'a str,
+        value: &'a str,
+    ) -> Result<Chosen<'a>, Mistake<'a>> {
         match setting {
-            Setting::Limits => self.with_limits(value),
-            Setting::GidsFile => self.with_source(Source::File(FileKind::Glyphs, value)),
-            Setting::Text => self.with_source(Source::Text(value)),
-            Setting::At => self.with_at(value),
-            Setting::Gids => self.with_source(Source::InList(value)),
-            Setting::FaceIndex => self.with_index(value),
-            Setting::Output => self.with_output(value),
-            Setting::TextFile => self.with_source(Source::File(FileKind::Text, value)),
-            Setting::Unicodes => self.with_source(Source::Characters(value)),
-            Setting::UnicodesFile => self.with_source(Source::File(FileKind::Characters, value)),
-            Setting::Pdf => self.with_pdf(value),
-            Setting::Codes => self.with_coding(value),
-            Setting::Rights => self.with_rights(value),
-            Setting::MostInput => self.with_most_input(value),
+            Setting::Limits => self.with_limits(word, value),
+            Setting::GidsFile => self.with_source(word, Source::File(FileKind::Glyphs, value)),
+            Setting::Text => self.with_source(word, Source::Text(value)),
+            Setting::At => self.with_at(word, value),
+            Setting::Gids => self.with_source(word, Source::InList(value)),
+            Setting::FaceIndex => self.with_index(word, value),
+            Setting::Output => self.with_output(word, value),
+            Setting::TextFile => self.with_source(word, Source::File(FileKind::Text, value)),
+            Setting::Unicodes => self.with_source(word, Source::Characters(value)),
+            Setting::UnicodesFile => {
+                self.with_source(word, Source::File(FileKind::Characters, value))
+            }
+            Setting::Pdf => self.with_pdf(word, value),
+            Setting::Codes => self.with_coding(word, value),
+            Setting::Rights => self.with_rights(word, value),
+            Setting::MostInput => self.with_most_input(word, value),
         }
     }
 
     /// With limits.
-    fn with_limits(self, value: &str) -> Option<Chosen<'a>> {
+    fn with_limits(self, word: &'a str, value: &'a str) -> Result<Chosen<'a>, Mistake<'a>> {
         if self.limits.is_some() {
-            return None;
+            return Err(mistake_in(Wrong::Twice, word));
         }
-        Some(Chosen {
-            limits: Some(limits_of(value)?),
-            ..self
-        })
+        match limits_of(value) {
+            Some(given) => Ok(Chosen {
+                limits: Some(given),
+                ..self
+            }),
+            None => Err(mistake_in(Wrong::Limits, value)),
+        }
     }
 
     /// With what says where the glyphs are found.
-    fn with_source(self, source: Source<'a>) -> Option<Chosen<'a>> {
+    fn with_source(self, word: &'a str, source: Source<'a>) -> Result<Chosen<'a>, Mistake<'a>> {
         if self.source.is_some() {
-            return None;
+            return Err(mistake_in(Wrong::GlyphsTwice, word));
         }
-        Some(Chosen {
+        Ok(Chosen {
             source: Some(source),
             ..self
         })
     }
 
     /// With user coordinates.
-    fn with_at(self, value: &'a str) -> Option<Chosen<'a>> {
+    fn with_at(self, word: &'a str, value: &'a str) -> Result<Chosen<'a>, Mistake<'a>> {
         if self.at.is_some() {
-            return None;
+            return Err(mistake_in(Wrong::Twice, word));
         }
-        Some(Chosen {
+        Ok(Chosen {
             at: Some(value),
             ..self
         })
     }
 
     /// With OUT.
-    fn with_output(self, value: &'a str) -> Option<Chosen<'a>> {
+    fn with_output(self, word: &'a str, value: &'a str) -> Result<Chosen<'a>, Mistake<'a>> {
         if self.output.is_some() {
-            return None;
+            return Err(mistake_in(Wrong::Twice, word));
         }
-        Some(Chosen {
+        Ok(Chosen {
             output: Some(value),
             ..self
         })
     }
 
     /// With INDEX.
-    fn with_index(self, value: &str) -> Option<Chosen<'a>> {
+    fn with_index(self, word: &'a str, value: &'a str) -> Result<Chosen<'a>, Mistake<'a>> {
         if self.index.is_some() {
-            return None;
+            return Err(mistake_in(Wrong::Twice, word));
         }
-        Some(Chosen {
-            index: Some(u32_of(value)?),
-            ..self
-        })
+        match u32_of(value) {
+            Some(given) => Ok(Chosen {
+                index: Some(given),
+                ..self
+            }),
+            None => Err(mistake_in(Wrong::FaceIndex, value)),
+        }
     }
 
     /// With the most bytes of IN.
-    fn with_most_input(self, value: &str) -> Option<Chosen<'a>> {
+    fn with_most_input(self, word: &'a str, value: &'a str) -> Result<Chosen<'a>, Mistake<'a>> {
         if self.most_input.is_some() {
-            return None;
+            return Err(mistake_in(Wrong::Twice, word));
         }
-        Some(Chosen {
-            most_input: Some(u32_of(value)?),
-            ..self
-        })
+        match u32_of(value) {
+            Some(given) => Ok(Chosen {
+                most_input: Some(given),
+                ..self
+            }),
+            None => Err(mistake_in(Wrong::MostInput, value)),
+        }
     }
 
     /// With the file of a PDF.
-    fn with_pdf(self, value: &'a str) -> Option<Chosen<'a>> {
+    fn with_pdf(self, word: &'a str, value: &'a str) -> Result<Chosen<'a>, Mistake<'a>> {
         if self.pdf.is_some() {
-            return None;
+            return Err(mistake_in(Wrong::Twice, word));
         }
-        Some(Chosen {
+        Ok(Chosen {
             pdf: Some(value),
             ..self
         })
     }
 
     /// With how the glyphs of a PDF get codes.
-    fn with_coding(self, value: &str) -> Option<Chosen<'a>> {
+    fn with_coding(self, word: &'a str, value: &'a str) -> Result<Chosen<'a>, Mistake<'a>> {
         if self.coding.is_some() {
-            return None;
+            return Err(mistake_in(Wrong::Twice, word));
         }
-        Some(Chosen {
-            coding: Some(coding_of(value)?),
-            ..self
-        })
+        match coding_of(value) {
+            Some(given) => Ok(Chosen {
+                coding: Some(given),
+                ..self
+            }),
+            None => Err(mistake_in(Wrong::Coding, value)),
+        }
     }
 
     /// With the rights to embed the font.
-    fn with_rights(self, value: &str) -> Option<Chosen<'a>> {
-        if self.is_held || !holds_rights(value) {
-            return None;
+    fn with_rights(self, word: &'a str, value: &'a str) -> Result<Chosen<'a>, Mistake<'a>> {
+        if self.is_held {
+            return Err(mistake_in(Wrong::Twice, word));
         }
-        Some(Chosen {
+        if !holds_rights(value) {
+            return Err(mistake_in(Wrong::Rights, value));
+        }
+        Ok(Chosen {
             is_held: true,
             ..self
         })

@@ -147,7 +147,7 @@ fn switch_of(word: &str) -> Option<Switch> {
 }
 
 /// The option that a value follows, which an argument is.
-fn setting_of(word: &str) -> Option<Setting> {
+pub fn setting_of(word: &str) -> Option<Setting> {
     match word {
         "--limits" => Some(Setting::Limits),
         "--gids-file" => Some(Setting::GidsFile),

@@ -7,10 +7,11 @@ use crate::proved::font_reasons::directory_of;
 use crate::proved::glyph_names::glyph_names;
 use crate::proved::subset_font::making::sheet::{sheet_if, with_pdf};
 use crate::proved::subset_font::making::subset::{make_of, Made};
-use crate::proved::subset_lines::{json_members, size_lines, TableSize};
+use crate::proved::subset_lines::{json_members, size_lines, Outlines, TableSize};
 use crate::proved::subset_pdf::Sheet;
 use crate::proved::subset_task::faces::missing::missing;
 use crate::proved::subset_task::faces::named::face_settings;
+use crate::proved::subset_task::faces::outlines::outlines_of;
 use crate::proved::subset_task::faces::tables::table_sizes;
 use crate::proved::subset_task::notes::{known_axes, notes_for};
 use crate::proved::subset_task::refusals::failure::Failure;
@@ -220,6 +221,35 @@ fn make_at_instance<'a>(
     }
 }
 
+/// Whether outlines are in `CFF2` alone.
+fn is_cff2(outlines: Outlines) -> bool {
+    match outlines {
+        Outlines::Cff2 => true,
+        Outlines::TrueType => false,
+        Outlines::Cff => false,
+        Outlines::Missing => false,
+    }
+}
+
+/// Whether a font is taken at its default, which it has to be with `CFF2`: an option requests the glyphs, and none says
+/// coordinates.
+pub fn takes_default(font: &[u8], plan: &Plan<'_>) -> bool {
+    plan.by_option && (plan.task.at.is_none() && is_cff2(outlines_of(font, plan.task.index)))
+}
+
+/// What a plan makes of a font at its default.
+fn make_default<'a>(
+    alloc: Global,
+    font: &'a [u8],
+    plan: &Plan<'_>,
+) -> Result<Outcome<'a>, Failure> {
+    let task = task_at(&plan.task, &[]);
+    match make_of(alloc, font, &task) {
+        Ok(made) => with_more(alloc, font, plan, &task, made),
+        Err(failure) => Err(failure),
+    }
+}
+
 /// What a plan makes of a font that is taken as it is, or at given coordinates.
 fn make_as_given<'a>(
     alloc: Global,
@@ -232,6 +262,19 @@ fn make_as_given<'a>(
     }
 }
 
+/// What a plan without an instance makes of a font.
+fn make_without_name<'a>(
+    alloc: Global,
+    font: &'a [u8],
+    plan: &Plan<'_>,
+) -> Result<Outcome<'a>, Failure> {
+    if takes_default(font, plan) {
+        make_default(alloc, font, plan)
+    } else {
+        make_as_given(alloc, font, plan)
+    }
+}
+
 /// What a plan makes of the bytes of a font.
 pub fn make_planned<'a>(
     alloc: Global,
@@ -240,6 +283,6 @@ pub fn make_planned<'a>(
 ) -> Result<Outcome<'a>, Failure> {
     match plan.instance {
         Some(name) => make_at_instance(alloc, font, plan, name),
-        None => make_as_given(alloc, font, plan),
+        None => make_without_name(alloc, font, plan),
     }
 }

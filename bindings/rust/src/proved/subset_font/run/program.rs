@@ -3,7 +3,7 @@
 
 use crate::rattle::prelude::{AllocGlobal, Eprint, Input, Print, String, Vec};
 
-use crate::proved::subset_args::{find_mistake, read_words, Advice, ArgsError, Command};
+use crate::proved::subset_args::{read_words, Advice, Command, Mistake, Unread};
 use crate::proved::subset_font::batch::running::run_batch;
 use crate::proved::subset_font::help::{HELP, VERSION_LINE};
 use crate::proved::subset_font::run::job::run_job;
@@ -27,13 +27,11 @@ impl Termination for Ended {
     }
 }
 
-/// Reports wrong arguments, and answers the status.
-fn refuse<R: Eprint>(rt: &R, words: &[String]) -> u8 {
+/// Reports a mistake in the arguments, and answers the status.
+fn refuse<R: Eprint>(rt: &R, mistake: &Mistake<'_>) -> u8 {
     let status = report(rt, &Err(Failure::Usage), None);
-    if let Some(mistake) = find_mistake(words) {
-        let _ = eprintln!(rt; "{mistake}");
-        let _ = eprintln!(rt; "{}", Advice(&mistake));
-    }
+    let _ = eprintln!(rt; "{mistake}");
+    let _ = eprintln!(rt; "{}", Advice(mistake));
     status
 }
 
@@ -45,8 +43,8 @@ fn run_words<R: Files + Print + Eprint + Input + AllocGlobal>(rt: &R, words: &[S
         Ok(Command::Subset(job)) => run_job(rt, &job),
         Ok(Command::Batch(file)) => run_batch(rt, &file),
         Ok(Command::Show(topic, json, input, index)) => run_shown(rt, topic, json, &input, index),
-        Err(ArgsError::Usage) => refuse(rt, words),
-        Err(ArgsError::OutOfMemory) => report(rt, &Err(Failure::Error(Error::OutOfMemory)), None),
+        Err(Unread::Mistake(mistake)) => refuse(rt, &mistake),
+        Err(Unread::OutOfMemory) => report(rt, &Err(Failure::Error(Error::OutOfMemory)), None),
     }
 }
 

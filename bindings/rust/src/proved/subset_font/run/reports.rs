@@ -7,6 +7,7 @@ use crate::proved::subset_args::{
     codes_descend, descends, find_wrong, FileKind, Glyphs, Job, Shown, Topic, CODES_EXPECTED,
     FEW_EXPECTED, ORDER_EXPECTED, PARTS_EXPECTED,
 };
+use crate::proved::subset_font::making::outcome::takes_default;
 use crate::proved::subset_font::refusals::hint::found::{find_axes_hint, find_hint, no_axes};
 use crate::proved::subset_font::refusals::limit_hint::find_limit_hint;
 use crate::proved::subset_lines::note_lines;
@@ -151,16 +152,17 @@ fn report_names<R: Eprint + AllocGlobal>(rt: &R, font: &[u8], index: u32) {
     }
 }
 
-/// The coordinates of a plan; none, but given, where they are those of a named instance.
-fn at_given<'a>(plan: &Plan<'a>) -> Option<&'a [(Tag, i32)]> {
+/// The coordinates of a plan; none, but given, where they are those of a named instance or the default.
+fn at_given<'a>(font: &[u8], plan: &Plan<'a>) -> Option<&'a [(Tag, i32)]> {
     match plan.instance {
         Some(_) => Some(&[]),
+        None if takes_default(font, plan) => Some(&[]),
         None => plan.task.at,
     }
 }
 
 /// The task of a plan as a hint sees it: with the widths, where they are printed, or a PDF has them.
-fn task_for_hint<'a>(plan: &Plan<'a>) -> Task<'a> {
+fn task_for_hint<'a>(font: &[u8], plan: &Plan<'a>) -> Task<'a> {
     let task = plan.task;
     Task {
         requested: task.requested,
@@ -168,13 +170,13 @@ fn task_for_hint<'a>(plan: &Plan<'a>) -> Task<'a> {
         options: task.options,
         widths: task.widths || plan.pdf.is_some(),
         form: task.form,
-        at: at_given(plan),
+        at: at_given(font, plan),
     }
 }
 
 /// Reports more of a run that failed, as far as it can be seen in the font.
 fn report_more<R: Eprint + AllocGlobal>(rt: &R, failure: &Failure, font: &[u8], plan: &Plan<'_>) {
-    match find_hint(failure, font, &task_for_hint(plan)) {
+    match find_hint(failure, font, &task_for_hint(font, plan)) {
         Some(hint) => report_hint(rt, Some(hint)),
         None => report_hint(rt, find_limit_hint(rt.alloc(), failure, font, plan)),
     }

@@ -3,10 +3,8 @@
 
 use crate::rattle::prelude::String;
 
-use crate::proved::subset_args::{
-    find_mistake, is_stream, read_words, ArgsError, Command, Job, Switches,
-};
-use crate::proved::subset_batch::{read_request, Unread};
+use crate::proved::subset_args::{is_stream, read_words, Command, Job, Mistake, Switches, Unread};
+use crate::proved::subset_batch::{read_request, Unread as UnreadLine};
 use crate::proved::subset_task::batch::answers::{failed, Answer};
 use crate::proved::subset_task::refusals::failure::{given, list_file, pdf_file, Failure};
 use crate::rattle::alloc::Global;
@@ -15,11 +13,8 @@ use crate::rattle::alloc::Global;
 const WRONG: u8 = 2;
 
 /// Why a line requests nothing whose words are wrong.
-fn mistake_of(alloc: Global, words: &[String]) -> Answer {
-    match find_mistake(words) {
-        Some(mistake) => failed(WRONG, format!(in alloc; "{mistake}")),
-        None => failed(WRONG, format!(in alloc; "{}", Failure::Usage)),
-    }
+fn mistake_of(alloc: Global, mistake: &Mistake<'_>) -> Answer {
+    failed(WRONG, format!(in alloc; "{mistake}"))
 }
 
 /// Whether the name of a file, if it is given, means standard input or output.
@@ -61,8 +56,8 @@ fn order_by(alloc: Global, words: &[String]) -> Result<Job, Answer> {
         Ok(Command::Help | Command::Version | Command::Batch(_) | Command::Show(_, _, _, _)) => {
             Err(failed(WRONG, format!(in alloc; "{}", Failure::Usage)))
         }
-        Err(ArgsError::Usage) => Err(mistake_of(alloc, words)),
-        Err(ArgsError::OutOfMemory) => Err(Answer::NoMemory),
+        Err(Unread::Mistake(mistake)) => Err(mistake_of(alloc, &mistake)),
+        Err(Unread::OutOfMemory) => Err(Answer::NoMemory),
     }
 }
 
@@ -70,7 +65,7 @@ fn order_by(alloc: Global, words: &[String]) -> Result<Job, Answer> {
 pub fn order_of(alloc: Global, line: &[u8]) -> Result<Job, Answer> {
     match read_request(alloc, line) {
         Ok(words) => order_by(alloc, &words),
-        Err(Unread::OutOfMemory) => Err(Answer::NoMemory),
-        Err(Unread::Fault(fault)) => Err(failed(WRONG, format!(in alloc; "{fault}"))),
+        Err(UnreadLine::OutOfMemory) => Err(Answer::NoMemory),
+        Err(UnreadLine::Fault(fault)) => Err(failed(WRONG, format!(in alloc; "{fault}"))),
     }
 }

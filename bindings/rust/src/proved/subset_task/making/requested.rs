@@ -8,7 +8,7 @@ use crate::proved::font_reasons::count_glyphs;
 use crate::proved::subset_task::refusals::failure::Failure;
 use crate::proved::subset_task::task::RequestedGlyphs;
 use crate::proved::subsetter::{Error, Tag};
-use crate::proved::subsetter_sfnt::directory::table;
+use crate::proved::subsetter_sfnt::directory::{kind_at, table};
 use crate::rattle::alloc::{AllocError, Global};
 
 /// The glyphs to keep, and the characters that they stand for, where a text or characters are given.
@@ -37,6 +37,14 @@ pub fn first_glyphs(alloc: Global, count: u16) -> Result<Vec<u16>, AllocError> {
     Ok(glyphs)
 }
 
+/// Why a table isn't found: the file is no font, or else this.
+fn unless_no_font(font: &[u8], failure: Failure) -> Failure {
+    match kind_at(font, 0) {
+        Some(_) => failure,
+        None => Failure::Error(Error::UnknownKind),
+    }
+}
+
 /// What is answered where a request for memory was refused.
 fn no_memory(_error: AllocError) -> Failure {
     Failure::Error(Error::OutOfMemory)
@@ -53,7 +61,12 @@ fn pick_these(alloc: Global, given: &[u16]) -> Result<Picked, Failure> {
 
 /// Every glyph of the face.
 fn pick_all(alloc: Global, font: &[u8], index: u32) -> Result<Picked, Failure> {
-    let count = count_glyphs(font, index).ok_or(Failure::Error(Error::MalformedFont))?;
+    let count = match count_glyphs(font, index) {
+        Some(count) => count,
+        _ => {
+            return Err(unless_no_font(font, Failure::Error(Error::MalformedFont)));
+        }
+    };
     let glyphs = first_glyphs(alloc, count).map_err(no_memory)?;
     Ok(Picked {
         characters: Vec::new(alloc),
@@ -63,7 +76,12 @@ fn pick_all(alloc: Global, font: &[u8], index: u32) -> Result<Picked, Failure> {
 
 /// The glyphs of a text's characters.
 fn pick_by_text(alloc: Global, font: &[u8], index: u32, text: &str) -> Result<Picked, Failure> {
-    let mapping = find_mapping(font, index).ok_or(Failure::NoMapping)?;
+    let mapping = match find_mapping(font, index) {
+        Some(mapping) => mapping,
+        _ => {
+            return Err(unless_no_font(font, Failure::NoMapping));
+        }
+    };
     let characters = characters_of(alloc, text).map_err(no_memory)?;
     let glyphs = glyphs_of(alloc, &mapping, &characters).map_err(no_memory)?;
     Ok(Picked { characters, glyphs })
@@ -76,7 +94,12 @@ fn pick_by_characters(
     index: u32,
     given: &[char],
 ) -> Result<Picked, Failure> {
-    let mapping = find_mapping(font, index).ok_or(Failure::NoMapping)?;
+    let mapping = match find_mapping(font, index) {
+        Some(mapping) => mapping,
+        _ => {
+            return Err(unless_no_font(font, Failure::NoMapping));
+        }
+    };
     let characters = Vec::from_slice(alloc, given).map_err(no_memory)?;
     let glyphs = glyphs_of(alloc, &mapping, &characters).map_err(no_memory)?;
     Ok(Picked { characters, glyphs })
@@ -85,7 +108,7 @@ fn pick_by_characters(
 /// The glyphs to keep of a font.
 ///
 /// `NoMapping` where a text or characters are given and the face has no `cmap` for Unicode; `Error` where every glyph is
-/// requested and the face has no count of them, or where memory ran out.
+/// requested and the face has no count of them, where the file is no font by its first bytes, or where memory ran out.
 pub fn pick(
     alloc: Global,
     font: &[u8],

@@ -1,0 +1,233 @@
+-- The arguments, read from left to right: the plain form `[OPTIONS] IN OUT INDEX [GID[,GID..]]`, else IN with options before and after it.
+use Rattle.std.specs.Prelude.{ℕ, Bool, true, false, not, ◌&&◌, ◌||◌, ◌==◌, nat_lt, if◌then◌else◌, List, [], ◌∷◌, length, slice_index, Option, Some, None, codes, is_some, Result, Ok, Err, unwrap_or}
+use Rattle.std.specs.Option.{option_map, option_or}
+use Rattle.std.specs.List.{before_first, after_first}
+use Rattle.std.specs.Char.{is_ascii_digit}
+use Rattle.std.specs.Result.{is_ok}
+use Rattle.std.specs.Str.{bytes_eq}
+use Rattle.subset_args.specs.Words.{number_in_bits}
+use Rattle.subset_args.specs.Coordinates.{has_byte, is_equals}
+use Rattle.subset_args.specs.Mistakes.{Fault, refused, or_refused, unless, ◌>>=◌}
+use Rattle.subset_args.specs.Nearest.{front}
+use Rattle.subset_args.specs.Options.{GlyphSource, Choice, setting_of, kind_of, with_switch, with_setting}
+use Rattle.subset_args.specs.declared.jobs.command.Topic.{Topic}
+use Rattle.subset_args.specs.declared.jobs.command.Topic.TheVariants.{Axes, Info}
+use Rattle.subset_args.specs.declared.mistakes.Wrong.{Wrong}
+use Rattle.subset_args.specs.declared.mistakes.Wrong.TheVariants.{NoInput, NoOutput, NoIndex, NoGlyphs, Further, Late, ShownLate, BatchLate, Unknown, NoValue, BesideOption, Index, Glyph, BesideInput, NoSource, NoPdf, OutputTwice}
+use Rattle.subset_args.specs.declared.options.names.Setting.{Setting}
+use Rattle.subset_args.specs.declared.options.names.Kind.{Kind}
+use Rattle.subset_args.specs.declared.options.names.Kind.TheVariants.{Switch as IsSwitch, Setting as IsSetting, Help, Version, End, Place}
+
+-- ---- words
+
+-- what a first argument shows, if it is `--axes` or `--info`
+abbrev pub topic_of : List ℕ → Option Topic
+topic_of word = if bytes_eq word (codes "--axes") then Some Axes else (if bytes_eq word (codes "--info") then Some Info else None)
+
+-- whether the first argument is `--batch`
+abbrev pub is_batch : List ℕ → Bool
+is_batch word = bytes_eq word (codes "--batch")
+
+-- it begins with a minus (45), and has more
+abbrev pub looks_like_option : List ℕ → Bool
+looks_like_option word = nat_lt 1 (length word) && (slice_index word 0 == 45)
+
+-- an option, the word that it is, and its value
+pub record Given : Type 0 where
+  pub setting : Setting
+  pub word : List ℕ
+  pub value : List ℕ
+
+-- an option that a value follows, and that has a long name
+abbrev pub long_setting : List ℕ → Option Setting
+long_setting word = if bytes_eq word (codes "-o") then None else setting_of word
+
+-- an option and its value in one word, `--name=value`
+abbrev pub joined : List ℕ → Option Given
+joined word = if has_byte is_equals word then option_map (λ s. record { setting = s; word = before_first is_equals word; value = after_first is_equals word }) (long_setting (before_first is_equals word)) else None
+
+-- `--axes`, `--info` and `--batch` come first
+abbrev pub not_first : List ℕ → Option Wrong
+not_first word = if is_some (topic_of word) then Some ShownLate else (if is_batch word then Some BatchLate else None)
+
+-- what is wrong with an argument that is no other option, by itself
+abbrev pub wrong_place : List ℕ → Option Wrong
+wrong_place word = option_or (not_first word) (if looks_like_option word then Some Unknown else None)
+
+-- ---- OUT and a PDF
+
+-- whether both are one file, by their names
+abbrev pub is_same : Option (List ℕ) → Option (List ℕ) → Bool
+is_same (Some one) (Some other) = bytes_eq one other
+is_same (Some one) None = false
+is_same None other = false
+
+-- an option that says how a PDF is made, and there is none
+abbrev pub without_pdf : Choice → Option Fault
+without_pdf choice =
+    if choice.switches.vertical then Some (record { wrong = NoPdf; word = codes "--vertical" })
+    else if is_some choice.coding then Some (record { wrong = NoPdf; word = codes "--codes" })
+    else if choice.is_held then Some (record { wrong = NoPdf; word = codes "--rights" })
+    else None
+
+-- no file is written twice
+abbrev pub wrong_file : Option (List ℕ) → List ℕ → Option Fault
+wrong_file output file = if is_same output (Some file) then Some (record { wrong = OutputTwice; word = file }) else None
+
+abbrev pub wrong_pdf : Choice → Option (List ℕ) → Option Fault
+wrong_pdf choice output = elim choice.pdf [ Some file ↦ wrong_file output file | None ↦ without_pdf choice ]
+
+-- ---- the plain form
+
+-- what is requested, in either form: IN, OUT if it is given, INDEX, and the list of glyphs that is an argument of its own
+pub record Asked : Type 0 where
+  pub choice : Choice
+  pub input : List ℕ
+  pub output : Option (List ℕ)
+  pub index : ℕ
+  pub listed : Option (List ℕ)
+
+-- none where an option says OUT or INDEX
+abbrev pub names_position : Choice → Bool
+names_position choice = is_some choice.output || is_some choice.index
+
+-- a list of glyphs begins with a digit
+abbrev pub begins_with_digit : List ℕ → Bool
+begins_with_digit [] = false
+begins_with_digit (b ∷ text) = is_ascii_digit b
+
+abbrev pub numbers : List ℕ → Result (Option (List ℕ)) Fault
+numbers list = if begins_with_digit list then Ok (Some list) else refused Glyph list
+
+-- the list of glyphs behind INDEX, which an option may have in its place
+abbrev pub listed_behind : Option GlyphSource → List (List ℕ) → Result (Option (List ℕ)) Fault
+listed_behind None [] = refused NoGlyphs []
+listed_behind None (list ∷ []) = numbers list
+listed_behind (Some source) [] = Ok None
+listed_behind (Some source) (word ∷ []) = refused BesideOption word
+listed_behind None (list ∷ word ∷ words) = refused Further word
+listed_behind (Some source) (other ∷ word ∷ words) = refused Further word
+
+-- IN, OUT and INDEX, and what is behind them
+abbrev pub plain_with : Choice → List ℕ → List ℕ → ℕ → List (List ℕ) → Result Asked Fault
+plain_with choice input output index words = listed_behind choice.source words >>= λ listed. unless (wrong_pdf choice (Some output)) (Ok (record { choice = choice; input = input; output = Some output; index = index; listed = listed }))
+
+abbrev pub plain_at : Choice → List ℕ → List ℕ → List (List ℕ) → Result Asked Fault
+plain_at choice input output [] = refused NoIndex []
+plain_at choice input output (index ∷ words) = or_refused Index index (number_in_bits 32 index) >>= λ i. plain_with choice input output i words
+
+-- the arguments from IN on, in the plain form
+unfoldable pub plain : Choice → List (List ℕ) → Result Asked Fault
+plain choice [] = refused NoInput []
+plain choice (input ∷ []) = refused NoOutput []
+plain choice (input ∷ output ∷ words) = if names_position choice then refused BesideInput output else plain_at choice input output words
+
+-- ---- options
+
+-- what the options in front of arguments that are none say: that help or the version is wanted, or what is chosen, and whether `--` is in front of these arguments
+pub data Options : Type 0 where
+  helped : Options
+  versioned : Options
+  chosen : Choice → Bool → List (List ℕ) → Options
+
+-- a value in the same word, where the arguments from it on aren't of the plain form: then it is IN
+abbrev pub joined_at : Choice → Bool → List ℕ → List (List ℕ) → Option Given
+joined_at choice is_behind word words = if not is_behind && is_ok (plain choice words) then None else joined word
+
+-- help and the version aren't wanted behind IN
+abbrev pub unless_behind : Bool → List ℕ → Options → Result Options Fault
+unless_behind is_behind word options = if is_behind then refused Late word else Ok options
+
+-- the options in front of IN, or behind it, besides what is chosen already; where an option is in front of them, the first argument is its value
+abbrev pub parsed : Option (Setting × List ℕ) → Choice → Bool → List (List ℕ) → Result Options Fault
+parsed (Some option) choice is_behind [] = refused NoValue option.1
+parsed (Some option) choice is_behind (value ∷ words) = with_setting option.0 option.1 value choice >>= λ more. parsed None more is_behind words
+parsed None choice is_behind [] = Ok (chosen choice false [])
+parsed None choice is_behind (word ∷ words) = elim (kind_of word) [
+  | IsSwitch switch ↦ with_switch switch word choice >>= λ more. parsed None more is_behind words
+  | IsSetting setting ↦ parsed (Some (setting, word)) choice is_behind words
+  | Help ↦ unless_behind is_behind word helped
+  | Version ↦ unless_behind is_behind word versioned
+  | End ↦ Ok (chosen choice true words)
+  | Place ↦ elim (joined_at choice is_behind word (word ∷ words)) [
+    | Some given ↦ with_setting given.setting given.word given.value choice >>= λ more. parsed None more is_behind words
+    | None ↦ Ok (chosen choice false (word ∷ words))
+  ]
+]
+
+-- ---- IN with options before and after it
+
+-- whether an option says where the new font or a PDF goes
+abbrev pub has_output : Choice → Bool
+has_output choice = is_some choice.output || is_some choice.pdf
+
+abbrev pub free : Choice → List ℕ → Result Asked Fault
+free choice input =
+    if not (has_output choice) then refused NoOutput []
+    else if not (is_some choice.source) then refused NoSource []
+    else Ok (record { choice = choice; input = input; output = choice.output; index = unwrap_or choice.index 0; listed = None })
+
+-- ---- what is wrong where neither form is right
+
+-- whether an argument is an option, with its value in the same word or without it
+abbrev pub is_option : Kind → Bool
+is_option (IsSwitch switch) = true
+is_option (IsSetting setting) = true
+is_option Help = true
+is_option Version = true
+is_option End = false
+is_option Place = false
+
+-- an option behind IN, as `--axes` and `--batch` are
+abbrev pub wrong_behind : List ℕ → Option Wrong
+wrong_behind word = if is_option (kind_of word) || is_some (joined word) then Some Late else not_first word
+
+-- the first of these
+abbrev pub first_late : List (List ℕ) → Option Fault
+first_late [] = None
+first_late (word ∷ words) = elim (wrong_behind word) [ Some wrong ↦ Some (record { wrong = wrong; word = word }) | None ↦ first_late words ]
+
+-- whether an argument says OUT or INDEX, as `-o`, `-oFILE` or `--face-index=0`
+abbrev pub says_position : List ℕ → Bool
+says_position word = bytes_eq (front word) (codes "--output-file") || (bytes_eq (front word) (codes "--face-index") || (nat_lt 1 (length word) && (slice_index word 0 == 45 && slice_index word 1 == 111)))
+
+abbrev pub say_position : List (List ℕ) → Bool
+say_position [] = false
+say_position (word ∷ words) = says_position word || say_position words
+
+-- a second argument is beside IN: an option says OUT or INDEX; or else the plain form is meant, which is wrong so, or has an option behind IN
+abbrev pub beside_input : Fault → Choice → List (List ℕ) → List ℕ → List (List ℕ) → Fault
+beside_input fault choice behind word words = if names_position choice || say_position words then record { wrong = BesideInput; word = word } else unwrap_or (first_late behind) fault
+
+-- what is wrong with an argument in the place of IN or behind it, by itself: none where it is behind `--`
+abbrev pub wrong_at : Bool → List ℕ → Option Wrong
+wrong_at is_ended word = if is_ended then None else wrong_place word
+
+abbrev pub second : Fault → Choice → Bool → List (List ℕ) → List ℕ → List (List ℕ) → Fault
+second fault choice is_ended behind word words = elim (wrong_at is_ended word) [ Some wrong ↦ record { wrong = wrong; word = word } | None ↦ beside_input fault choice behind word words ]
+
+-- ---- both forms
+
+-- IN with all options, and the arguments behind these
+abbrev pub before : Fault → Choice → Bool → List ℕ → List (List ℕ) → List (List ℕ) → Result Asked Fault
+before fault choice is_ended input behind [] = free choice input
+before fault choice is_ended input behind (word ∷ words) = Err (second fault choice is_ended behind word words)
+
+-- IN is alone beside the options behind it
+abbrev pub alone : Fault → List ℕ → List (List ℕ) → Options → Result Asked Fault
+alone fault input behind helped = Err fault
+alone fault input behind versioned = Err fault
+alone fault input behind (chosen choice is_ended words) = before fault choice is_ended input behind words
+
+-- the options behind IN; there are none behind `--`
+abbrev pub parsed_behind : Choice → Bool → List (List ℕ) → Result Options Fault
+parsed_behind choice is_ended words = if is_ended then Ok (chosen choice true words) else parsed None choice true words
+
+-- the arguments from IN on, where they aren't of the plain form
+abbrev pub from_input : Fault → Choice → Bool → List (List ℕ) → Result Asked Fault
+from_input fault choice is_ended [] = Err fault
+from_input fault choice is_ended (input ∷ words) = elim (wrong_at is_ended input) [ Some wrong ↦ refused wrong input | None ↦ parsed_behind choice is_ended words >>= alone fault input words ]
+
+-- the arguments from IN on
+unfoldable pub asked : Choice → Bool → List (List ℕ) → Result Asked Fault
+asked choice is_ended words = elim (plain choice words) [ Ok found ↦ Ok found | Err fault ↦ from_input fault choice is_ended words ]

@@ -1,0 +1,12 @@
+use Rattle.std.proofs.Common.{◌≡◌, ◌+◌, ◌++◌, length}
+use Rattle.text_glyphs.specs.Reading.{at_front, entries_from}
+use Rattle.text_glyphs.proofs.reading.entries_by.Given as goal
+
+abbrev pub invariant-loop-rest : goal.invariant-loop-rest
+invariant-loop-rest l = record {
+  so_far : l.entries.items ++ entries_from l.begun l.place l.rest l.left ≡ entries_from at_front 0 l.text l.glyphs;
+  place : l.place + length l.rest ≡ length l.text;
+}
+
+abbrev pub decreases-loop-rest : goal.decreases-loop-rest
+decreases-loop-rest l = length l.rest

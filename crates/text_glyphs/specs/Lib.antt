@@ -1,0 +1,11 @@
+pub mod Choice
+pub mod Encodings
+pub mod Faces
+pub mod Formats
+pub mod Halves
+pub mod Kinds
+pub mod Laws
+pub mod Own
+pub mod Reading
+pub mod Sequences
+pub mod View
