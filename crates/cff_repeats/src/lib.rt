@@ -10,7 +10,5 @@ mod blanks;
 mod figures;
 mod keeping;
 mod repeating;
-#[cfg(test)]
-mod tests;
 
 pub use repeating::with_repeats;

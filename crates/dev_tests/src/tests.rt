@@ -5,3 +5,4 @@ mod blend;
 mod memory;
 mod pdf;
 mod subset;
+mod text;

@@ -19,8 +19,6 @@ mod pieces;
 mod shaped;
 mod shares;
 mod tables;
-#[cfg(test)]
-mod tests;
 mod words;
 
 pub use clusters::clusters_of_run;

@@ -9,7 +9,6 @@
 #![tactic(auto)]
 
 mod entries;
-mod found;
 mod kept;
 mod made;
 mod parts;
@@ -18,7 +17,6 @@ mod view;
 mod written;
 
 pub use entries::{are_scalars, are_texts, characters_of, shown_of};
-pub use found::glyphs_by;
 pub use kept::kept_bytes;
 pub use made::{PdfMade, PdfNumbers};
 pub use parts::{PdfPart, part_count, parts_of};

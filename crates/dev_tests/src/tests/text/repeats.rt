@@ -1,6 +1,6 @@
 //! A table of two glyphs, with charstrings worked out by hand.
 
-use crate::with_repeats;
+use cff_repeats::with_repeats;
 use std::test::*;
 use subsetter_base::Error;
 

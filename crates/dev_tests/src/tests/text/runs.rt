@@ -1,6 +1,8 @@
 //! Runs, against what an independent layout of the same clusters gives.
 
-use crate::{Direction, Figure, Item, Piece, codes_of, is_mark, is_run, no_pairs, pieces_of_run};
+use pdf_runs::{
+    Direction, Figure, Item, Piece, codes_of, is_mark, is_run, no_pairs, pieces_of_run,
+};
 use std::test::*;
 
 /// Glyph 3 has no ink.
