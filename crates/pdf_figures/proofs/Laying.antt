@@ -1,5 +1,5 @@
 -- The parts of a cluster, laid one after the other.
-use Rattle.std.proofs.Common.{◌≡◌, ℕ, zero, suc, ◌+◌, ◌-◌, ◌*◌, ◌^◌, ◌<◌, ◌≤◌, Bool, true, false, ◌&&◌, not, List, [], ◌∷◌, ◌++◌, length, map, get_or, drop, if◌then◌else◌, refl, sym, ap, ◌∙◌, append_assoc, arith, ℤ, pos, ◌+ℤ◌}
+use Rattle.std.proofs.Common.{◌≡◌, ℕ, suc, ◌+◌, ◌-◌, ◌*◌, ◌^◌, ◌<◌, ◌≤◌, Bool, true, false, ◌&&◌, List, [], ◌∷◌, ◌++◌, length, map, get_or, drop, if◌then◌else◌, refl, sym, ap, ◌∙◌, append_assoc, arith, ℤ, pos, ◌+ℤ◌}
 use Rattle.std.specs.Prelude.{unsigned_abs}
 use Rattle.std.specs.Ordering.{int_eq}
 use Rattle.std.proofs.lemmas.List.{drop_more, map-append}
@@ -65,7 +65,7 @@ laid_bare c is k e ps x y l b h =
     let i : Item = get_or is k e in
     let s = still c.inked.now i b in
     let same : wanted c.inked.now x y (drop k is) ≡ wanted c.inked.now x y (drop (k + 1) is) =
-        ap (λ (l : List Item). wanted c.inked.now x y l) (drop_more is k e l) ∙ wanted_bare c.inked.now x y i (drop (k + 1) is) b in
+    ap (λ (l : List Item). wanted c.inked.now x y l) (drop_more is k e l) ∙ wanted_bare c.inked.now x y i (drop (k + 1) is) b in
     record {
       parts = sym (ap (λ (ws : List Drawn). map drawn_of ps ++ ws) same) ∙ h.parts;
       are = sym (ap (λ (ws : List Drawn). are_parts c (c.most_parts - length ps) ws) same) ∙ h.are;
@@ -94,24 +94,24 @@ laid_part c is k e ps qs p x y v w l b room same is_one put on up near_x near_y 
     let rest : List Item = drop (k + 1) is in
     let d : Drawn = record { glyph = i.glyph; x = x +ℤ i.x_offset; y = y +ℤ i.y_offset } in
     let next : wanted c.inked.now x y (drop k is) ≡ d ∷ wanted c.inked.now v w rest =
-        ap (λ (l : List Item). wanted c.inked.now x y l) (drop_more is k e l)
-        ∙ wanted_inked c.inked.now x y i rest b
-        ∙ ap (λ (a : ℤ). d ∷ wanted c.inked.now a (y +ℤ i.y_advance) rest) (sym on)
-        ∙ ap (λ (a : ℤ). d ∷ wanted c.inked.now v a rest) (sym up) in
+    ap (λ (l : List Item). wanted c.inked.now x y l) (drop_more is k e l)
+    ∙ wanted_inked c.inked.now x y i rest b
+    ∙ ap (λ (a : ℤ). d ∷ wanted c.inked.now a (y +ℤ i.y_advance) rest) (sym on)
+    ∙ ap (λ (a : ℤ). d ∷ wanted c.inked.now v a rest) (sym up) in
     let count : length qs ≡ length ps + 1 = grind (arith, common_steps, put) in
     let drawn : map drawn_of qs ≡ map drawn_of ps ++ d ∷ [] =
-        ap (λ (l : List Placed). map drawn_of l) put ∙ map-append drawn_of ps (p ∷ []) ∙ ap (λ (q : Drawn). map drawn_of ps ++ q ∷ []) same in
+    ap (λ (l : List Placed). map drawn_of l) put ∙ map-append drawn_of ps (p ∷ []) ∙ ap (λ (q : Drawn). map drawn_of ps ++ q ∷ []) same in
     record {
       parts =
-        ap (λ (l : List Drawn). l ++ wanted c.inked.now v w rest) drawn
-        ∙ append_assoc (map drawn_of ps) (d ∷ []) (wanted c.inked.now v w rest)
-        ∙ sym (ap (λ (ws : List Drawn). map drawn_of ps ++ ws) next)
-        ∙ h.parts;
+          ap (λ (l : List Drawn). l ++ wanted c.inked.now v w rest) drawn
+          ∙ append_assoc (map drawn_of ps) (d ∷ []) (wanted c.inked.now v w rest)
+          ∙ sym (ap (λ (ws : List Drawn). map drawn_of ps ++ ws) next)
+          ∙ h.parts;
       are =
-        ap (λ (n : ℕ). are_parts c (c.most_parts - n) (wanted c.inked.now v w rest)) count
-        ∙ sym (taken c (length ps) c.most_parts d (wanted c.inked.now v w rest) room is_one)
-        ∙ sym (ap (λ (ws : List Drawn). are_parts c (c.most_parts - length ps) ws) next)
-        ∙ h.are;
+          ap (λ (n : ℕ). are_parts c (c.most_parts - n) (wanted c.inked.now v w rest)) count
+          ∙ sym (taken c (length ps) c.most_parts d (wanted c.inked.now v w rest) room is_one)
+          ∙ sym (ap (λ (ws : List Drawn). are_parts c (c.most_parts - length ps) ws) next)
+          ∙ h.are;
       room = omega (arith, count, room);
       x_near = rw count (nearer x v v (length ps) h.x_near near_x);
       y_near = rw count (nearer y w w (length ps) h.y_near near_y);

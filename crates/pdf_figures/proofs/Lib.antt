@@ -6,3 +6,5 @@ pub mod Laying
 pub mod WideCounts
 pub mod Seen
 pub mod Placing
+pub mod NumberSteps
+pub mod Known

@@ -1,7 +1,6 @@
 -- Figures of a cluster, of which one is cut.
 use Rattle.std.proofs.Common.{◌≡◌, ℕ, zero, suc, ◌+◌, ◌<◌, Bool, true, false, ◌&&◌, List, [], ◌∷◌, ◌++◌, append-nil, length, get_or, map, take, drop, refl, sym, ap, ◌∙◌, append_assoc, arith, add-one, ℤ, pos, negsuc}
 use Rattle.std.specs.Prelude.{unsigned_abs}
-use Rattle.std.proofs.lemmas.Grind.{common_steps}
 use Rattle.pdf_runs.specs.declared.items.Item.{Item}
 use Rattle.pdf_runs.specs.declared.items.Direction.{Direction}
 use Rattle.pdf_runs.specs.declared.items.Direction.TheVariants.{LeftToRight, RightToLeft, TopToBottom}

@@ -1,5 +1,5 @@
 -- Figures that are put after others.
-use Rattle.std.proofs.Common.{◌≡◌, List, [], ◌∷◌, ◌++◌, map, ap, ◌∙◌}
+use Rattle.std.proofs.Common.{◌≡◌, List, [], ◌∷◌, ◌++◌, ap, ◌∙◌}
 use Rattle.std.proofs.lemmas.List.{map-append}
 use Rattle.pdf_figures.specs.declared.ink.Figure.{Figure}
 use Rattle.pdf_figures.specs.Figures.{Figured}

@@ -1,5 +1,5 @@
 -- How many characters are no marks, in either order, and figures that are cut one character after the other.
-use Rattle.std.proofs.Common.{◌≡◌, ℕ, suc, ◌+◌, ◌-◌, ◌/◌, ◌*◌, ◌^◌, ◌<◌, ◌≤◌, Bool, true, false, cond, List, [], ◌∷◌, ◌++◌, length, get_or, drop, map, reverse, refl, sym, ap, ◌∙◌, append_assoc, arith, ℤ, pos, ◌-ℤ◌, None}
+use Rattle.std.proofs.Common.{◌≡◌, ℕ, suc, ◌+◌, ◌-◌, ◌/◌, ◌^◌, ◌<◌, ◌≤◌, Bool, true, false, cond, List, [], ◌∷◌, ◌++◌, length, get_or, drop, reverse, refl, sym, ap, ◌∙◌, append_assoc, arith, ℤ, pos, ◌-ℤ◌, None}
 use Rattle.std.specs.Prelude.{unsigned_abs}
 use Rattle.std.proofs.lemmas.Grind.{common_steps}
 use Rattle.std.proofs.lemmas.Int.{ints}
@@ -93,7 +93,7 @@ pub wide_on : (xs : List ℕ) (k e : ℕ) (old new : List Figured) (f g : Figure
 wide_on xs k e old new f g w v n m p all l h one is within put same left c =
     let count : n ≡ wide_count (drop (k + 1) xs) = omega (arith, c.more_are, wide_here xs k e l h, one) in
     let next : cut f w (drop k xs) ≡ part_with f p n ∷ cut (rest_with f p) (w - p) (drop (k + 1) xs) =
-        cut_wide f w xs k e n l h count ∙ sym (ap (λ (q : ℕ). part_with f q n ∷ cut (rest_with f q) (w - q) (drop (k + 1) xs)) is) in
+    cut_wide f w xs k e n l h count ∙ sym (ap (λ (q : ℕ). part_with f q n ∷ cut (rest_with f q) (w - q) (drop (k + 1) xs)) is) in
     rw same (rw left (record {
       figures = cut_on old new (part_with f p n) (cut f w (drop k xs)) (cut (rest_with f p) (w - p) (drop (k + 1) xs)) all put next c.figures;
       more_are = count;

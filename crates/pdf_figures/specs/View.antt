@@ -1,5 +1,5 @@
 -- What the code's figures mean.
-use Rattle.std.specs.Prelude.{List, map}
+use Rattle.std.specs.Prelude.{◌≡◌, ◌≤◌, ◌<◌, ◌+◌, ◌-◌, ◌++◌, ℕ, List, length, map}
 use Rattle.pdf_runs.specs.Laws.{Drawn}
 use Rattle.pdf_figures.specs.declared.cutting.Uncut.{Uncut}
 use Rattle.pdf_figures.specs.declared.ink.Figure.{Figure}
@@ -8,6 +8,7 @@ use Rattle.pdf_figures.specs.declared.ink.FigureInk.TheVariants.{Glyph, Own}
 use Rattle.pdf_figures.specs.declared.ink.OwnInk.{OwnInk}
 use Rattle.pdf_figures.specs.declared.ink.Placed.{Placed}
 use Rattle.pdf_figures.specs.Figures.{Figured, Ink, glyph, own}
+use Rattle.pdf_figures.specs.Numbers.{own_by}
 
 abbrev pub drawn_of : Placed → Drawn
 drawn_of p = record { glyph = p.glyph; x = p.x; y = p.y }
@@ -28,3 +29,19 @@ figures_seen fs = map figure_seen fs
 -- what is left of a figure that is cut
 abbrev pub cut_seen : Uncut → Figured
 cut_seen u = record { ink = own (map drawn_of u.parts.items) 0; text = u.text; x_advance = u.x_advance; y_advance = u.y_advance; x_offset = u.x_offset; y_offset = u.y_offset }
+
+-- ---- own glyphs by number
+
+abbrev pub inks_of : List OwnInk → List Ink
+inks_of os = map own_seen os
+
+-- further ones may have come
+pub record Extends (old new : List OwnInk) : Type 0 where
+  pub further : List OwnInk
+  pub are : new ≡ old ++ further
+
+-- after so many glyphs of the font this is the number of an own glyph
+pub record IsNumberOf (count : ℕ) (os : List OwnInk) (i : Ink) (n : ℕ) : Type 0 where
+  pub above : count ≤ n
+  pub below : n < count + length os
+  pub same : own_by (inks_of os) (n - count) ≡ i

@@ -81,11 +81,7 @@ fn one_part(alloc: Global, part: Placed, advance: u16) -> Result<OwnInk, Error>
 }
 
 /// A glyph far off its advance, as an own glyph, if it can be one.
-fn set_aside(
-    alloc: Global,
-    choice: &Choice<'_>,
-    item: &Item<'_>,
-) -> Result<Option<OwnInk>, Error>
+fn set_aside(alloc: Global, choice: &Choice<'_>, item: &Item<'_>) -> Result<Option<OwnInk>, Error>
     ensures some { IfOk result (λ found. IfSome found (λ o. (is_aside choice.now item.now ≡ true) × (own_seen o ≡ own (aside item.now) (unsigned_abs item.now.x_advance)))) }
     ensures none { IfOk result (λ found. IfNone found (is_aside choice.now item.now ≡ false)) }
     ensures err { IfErr result (λ e. e ≡ OutOfMemory) }
@@ -104,11 +100,7 @@ fn set_aside(
 }
 
 /// A glyph as it is, or far off its advance as an own one.
-pub fn beside<'a>(
-    alloc: Global,
-    choice: &Choice<'_>,
-    item: &Item<'a>,
-) -> Result<Figure<'a>, Error>
+pub fn beside<'a>(alloc: Global, choice: &Choice<'_>, item: &Item<'a>) -> Result<Figure<'a>, Error>
     ensures ok { IfOk result (λ f. figure_seen f ≡ beside choice.now item.now) }
     ensures err { IfErr result (λ e. e ≡ OutOfMemory) }
 {

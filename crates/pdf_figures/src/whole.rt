@@ -92,7 +92,12 @@ fn part_of(choice: &Choice<'_>, item: &Item<'_>, x: i64, y: i64) -> Option<Place
     ensures some { IfSome result (λ p. (drawn_of p ≡ record { glyph = item.now.glyph; x = x +ℤ item.now.x_offset; y = y +ℤ item.now.y_offset }) × (is_part choice.now (record { glyph = item.now.glyph; x = x +ℤ item.now.x_offset; y = y +ℤ item.now.y_offset }) ≡ true)) }
     ensures none { IfNone result (is_part choice.now (record { glyph = item.now.glyph; x = x +ℤ item.now.x_offset; y = y +ℤ item.now.y_offset }) ≡ false) }
 {
-    part_at(choice, item.glyph, moved(x, item.x_offset), moved(y, item.y_offset))
+    part_at(
+        choice,
+        item.glyph,
+        moved(x, item.x_offset),
+        moved(y, item.y_offset),
+    )
 }
 
 /// A cluster in one own glyph, if it can be one.

@@ -1,5 +1,5 @@
 use Rattle.std.proofs.Common.{◌≡◌, ◌++◌, drop, flat_map}
-use Rattle.pdf_runs.specs.Clusters.{clusters, lists}
+use Rattle.pdf_runs.specs.Clusters.{lists}
 use Rattle.pdf_figures.specs.Figures.{figured_cluster, figured_run}
 use Rattle.pdf_figures.specs.View.{figures_seen}
 use Rattle.pdf_figures.proofs.cluster.figures_of_run.Given as goal

@@ -1,4 +1,4 @@
-use Rattle.std.proofs.Common.{ℕ, List, ◌+◌, drop, ap, sym, ◌∙◌, arith, ◌≡◌}
+use Rattle.std.proofs.Common.{ℕ, drop, ap, sym, ◌∙◌, arith, ◌≡◌}
 use Rattle.std.proofs.lemmas.List.{drop_all}
 use Rattle.pdf_figures.specs.Figures.{wide_count}
 use Rattle.pdf_figures.proofs.WideCounts.{wide_visual}
