@@ -2,3 +2,9 @@ pub mod Cuts
 pub mod Figures
 pub mod Runs
 pub mod Numbered
+pub mod Laying
+pub mod WideCounts
+pub mod Seen
+pub mod Placing
+pub mod NumberSteps
+pub mod Known

@@ -116,6 +116,11 @@ set_aside i = record { ink = own (aside i) (unsigned_abs i.x_advance); text = i.
 abbrev pub beside : Choice → Item → Figured
 beside c i = if is_aside c i then set_aside i else plain i
 
+-- a glyph as it is, or so
+abbrev pub beside_unless : Bool → Choice → Item → Figured
+beside_unless true c i = plain i
+beside_unless false c i = beside c i
+
 -- ---- a figure of several characters
 
 abbrev pub ink_parts : Ink → List Drawn

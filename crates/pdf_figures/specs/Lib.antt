@@ -1,3 +1,4 @@
 pub mod Figures
 pub mod Numbers
 pub mod Laws
+pub mod View

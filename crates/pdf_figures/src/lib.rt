@@ -7,10 +7,24 @@
 //! are blanks. Own glyphs have the numbers behind those of the font, so that the run they are in is one of a font with more glyphs.
 #![tactic(auto)]
 
+mod asides;
 mod choice;
+mod cluster;
+mod cutting;
+mod ink;
 mod laws;
+mod numbers;
+mod parts;
+mod whole;
 
+pub use asides::beside;
 pub use choice::Choice;
+pub use cluster::figures_of_run;
+pub use cutting::Uncut;
+pub use ink::{Figure, FigureInk, OwnInk, Placed};
 pub use laws::{
     figures_draw_the_run, items_draw_the_run, items_say_the_run, pen_goes_on, text_is_kept,
 };
+pub use numbers::{OwnGlyphs, figured_items};
+pub use parts::{advance_in, can_be_part, part_at, place_of};
+pub use whole::{wants_one, whole_of};
