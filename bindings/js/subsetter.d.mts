@@ -325,7 +325,7 @@ export interface Item {
 export interface ShapedGlyph {
     /** The number of the glyph in the font. */
     readonly g: number;
-    /** How many UTF-16 units of the text are before its cluster. */
+    /** How many UTF-16 units of the text are before its cluster. (`hb-shape` counts characters: one beyond U+FFFF is two units.) */
     readonly cl: number;
     /** How far the pen goes on. */
     readonly ax: number;

@@ -33,7 +33,7 @@ export class CFFError extends SubsetterError {}
 export class OutOfMemory extends SubsetterError {}
 /** The font's maker doesn't permit that it is embedded. */
 export class NotPermitted extends SubsetterError {}
-/** A text has a surrogate that stands alone, or more than 256 UTF-16 units; or glyphs are no run of the font and of their text. */
+/** A text has an unpaired surrogate, or more than 256 UTF-16 units; or glyphs are no run of the font and of their text. */
 export class InvalidText extends SubsetterError {}
 /** The font has no table by which characters have glyphs. */
 export class NoCmap extends SubsetterError {}
@@ -47,7 +47,7 @@ export class MissingCharacters extends SubsetterError {
 /** The font of a PdfText would have more than 65,535 codes: the run is for another one. */
 export class Overfull extends OverflowError {}
 
-// The names stand in strings, since tools that make scripts smaller rename classes.
+// The names are strings, since tools that make scripts smaller rename classes.
 const NAMES = {
     SubsetterError, UnknownKind, MalformedFont, Unimplemented, SubsetError, OverflowError, CFFError, OutOfMemory, NotPermitted,
     InvalidText, NoCmap, MissingCharacters, Overfull,
@@ -74,7 +74,7 @@ const CALLS = ["subset", "subset_at", "embed", "embed_at", "pdf_font", "glyphs_o
 /** The words of a call that it writes: for the font, the CIDs and the widths where the list lies, and its count. */
 const MADE = [0, 0, 0, 0, 0, 0];
 
-/** The lists of a font for a PDF, by the bytes of an item, and how many numbers there are behind them. */
+/** The lists of a font for a PDF, by the bytes of an item, and how many numbers there are after them. */
 const PARTS = { program: 1, cids: 2, codes: 2, isSaid: 1, widths: 4, columns: 12, fontName: 1, toUnicode: 1, encoding: 1, encodingName: 1, cidSet: 1, cidToGidMap: 1 };
 const NUMBERS = 21;
 /** The codes of glyphs in use, and what the parts of a font are. */
@@ -343,7 +343,7 @@ function pdfChoicesOf(options) {
 const indexOf = ({ index = 0 }) => whole(index, 0, WORD_AT_MOST, "index");
 
 /**
- * An instance of the module. Its memory holds the module's own data, then the fonts, and behind them what one call needs:
+ * An instance of the module. Its memory holds the module's own data, then the fonts, and after them what one call needs:
  * its arguments, and the heap, which begins anew with each call.
  */
 class Library {
@@ -431,7 +431,7 @@ class Library {
     }
 
     /**
-     * Calls `name` on a struct of words of 32 bits, which lies behind the fonts and behind these lists: its status, and the
+     * Calls `name` on a struct of words of 32 bits, which is after the fonts and these lists: its status, and the
      * struct afterwards. `words` gives the words by where the lists lie; `first` are the arguments before the struct.
      */
     #call(name, lists, words, ...first) {
@@ -641,7 +641,7 @@ class Library {
 
 const latin1 = (text) => Uint8Array.from(text, (it) => it.charCodeAt(0));
 
-/** Bytes one behind the other. */
+/** Bytes, one after the other. */
 function joined(...lists) {
     const all = new Uint8Array(lists.reduce((size, list) => size + list.length, 0));
     lists.reduce((at, list) => (all.set(list, at), at + list.length), 0);
