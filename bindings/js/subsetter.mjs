@@ -937,7 +937,9 @@ class PdfText {
         });
         if (own.length > 0) {
             const { widths, heights } = this.#library.advances(this.#held(), this.#index, own.map(({ row }) => row[0]), pdfChoicesOf(this.#choices));
-            const view = new DataView(this.#needs.metrics.buffer), below = (glyph) => view.getInt32(8 * glyph + 4, true) * this.#needs.unitsPerEm;
+            // (a font may have more outlines than `maxp` counts; the library refuses such a glyph)
+            const view = new DataView(this.#needs.metrics.buffer), { unitsPerEm } = this.#needs;
+            const below = (glyph) => (8 * glyph < view.byteLength ? view.getInt32(8 * glyph + 4, true) * unitsPerEm : 0);
             own.forEach(({ row, isPlaced }, i) => {
                 row[this.#isVertical ? 5 : 4] = this.#isVertical ? -heights[i] : widths[i];
                 // (in a column the glyph's origin is below the pen)

@@ -182,6 +182,12 @@ test("runs that are refused", () => {
         ["cluster 1 isn't where a character begins in a text of 3 units", () => text.shaped("\u{1d4b3}A", [one, { ...one, cl: 1 }])],
     ];
     for (const [message, call] of explained) assert.equal(throws(call, InvalidText, message).message, `invalid text: ${message}`);
+    const few = TTF.slice(), view = new DataView(few.buffer);
+    view.setUint16(view.getUint32(latin1(TTF).indexOf("maxp") + 8) + 4, 0);
+    for (const vertical of [false, true]) {
+        const error = throws(() => new subsetter.PdfText(few, { vertical }).run([{ glyph: 9, text: "H" }]), InvalidText, "more outlines than maxp counts");
+        assert.equal(error.message, "invalid text: glyph 9: the font has no glyph");
+    }
     const far = { glyph: 1, text: "A", xAdvance: 2 ** 31 - 1, xOffset: 2 ** 31 - 1 };
     assert.equal(throws(() => run(far, far, far), InvalidText, "far away").message, "invalid text");
     const shaped = wrong.find(([, call]) => `${call}`.includes("cluster"))[1];

@@ -49,6 +49,16 @@ def test_items_are_what_is_shaped():
     assert columns.run([(82, "o")]) == b"[<0001>]TJ\n" and columns.font().columns is not None and type(raised(columns.run, [], "ltr")) is ValueError
 
 
+def test_a_font_with_more_outlines_than_maxp_counts():
+    data = bytearray(TTF)
+    at = int.from_bytes(data[data.index(b"maxp") + 8:][:4], "big") + 4
+    for count, said in ((0, "the font has no glyph"), (3, "the font's glyphs are 0 to 2")):
+        data[at:at + 2] = count.to_bytes(2, "big")
+        for vertical in (False, True):
+            error = raised(subsetter.PdfText(bytes(data), vertical=vertical).run, [(9, "H")])
+            assert (type(error), str(error)) == (subsetter.InvalidText, f"invalid text: glyph 9: {said}")
+
+
 def test_a_closed_text():
     data = bytearray(TTF)
     text = subsetter.PdfText(data)

@@ -1135,7 +1135,8 @@ class PdfFont:
         font first. They are in the order of `objects`, and each has the `value` that is written there for the same numbers.
 
         `compress` packs each stream by zlib, or `pack` does, whose Filter is `filter`: "/FlateDecode", if nothing else is said.
-        Raises `ValueError` for other numbers and for a filter that is no name or array of PDF, and `NotImplementedError` where the library is of an older version.
+        Raises `ValueError` for other numbers and for a filter that is no name or array of PDF, and `NotImplementedError` where the
+        library is of an older version.
         """
         if _flag("compress", compress) and pack is None:
             pack = zlib.compress
@@ -1294,9 +1295,6 @@ class GlyphPosition(Protocol):
 
 
 _PLACES = ("x_advance", "y_advance", "x_offset", "y_offset")
-_UNITS: Dict[int, Callable[[str], int]] = {
-    8: lambda it: len(it.encode("utf-8", "surrogatepass")), 16: lambda it: 1 + (it > "\uffff"), 32: len,
-}
 _ITEM, _SHAPED = struct.Struct("=4I4i").pack, struct.Struct("=2I4i").pack
 _SAYS_NOTHING = 0xFFFFFFFF
 
@@ -1321,7 +1319,7 @@ def _cluster_fault(text: str, width: int, clusters: List[int], direction: str) -
     begins, at = set(), 0
     for it in text:
         begins.add(at)
-        at += _UNITS[width](it)
+        at += 8 * len(it.encode("utf-8" if width == 8 else f"utf-{width}-le", "surrogatepass")) // width
     wrong = [it for it in clusters if it not in begins]
     if wrong:
         return f"cluster {wrong[0]} isn't where a character begins in a text of {at} units"
@@ -1469,6 +1467,7 @@ class PdfText:
             found = advances(self._data, [glyph for _, glyph in own], self._index, coordinates=self._coordinates, tokens=self._limits[0])
             for (place, glyph), width, height in zip(own, found.widths, found.heights):
                 rows[place] += (0, -height, 0, self._above(glyph)) if self._vertical else (width, 0, 0, 0)
+
         def fault(_: str) -> str:
             return "the first item continues a cluster, as its text is None" if rows and rows[0][1] else self._fault(rows, characters)
 
@@ -1487,8 +1486,10 @@ class PdfText:
 
     def _above(self, glyph: SupportsIndex) -> int:
         """How far the origin of a glyph is above the pen in a column, in the font's units."""
+        number = operator.index(glyph)
         with self._opened():
-            position: int = self._text.metrics[operator.index(glyph)].position
+            # (a font may have more outlines than `maxp` counts; the library refuses such a glyph)
+            position: int = self._text.metrics[number].position if number < self._glyph_count else 0
         return (1000 - 2 * position * self.units_per_em) // 2000
 
     def shaped(
@@ -1516,6 +1517,7 @@ class PdfText:
             raise TypeError(f"a text is a str, and no {type(text).__name__}")
         order = "" if width == 8 else f"-{sys.byteorder[0]}e"
         encoded = text.encode(f"utf-{width}{order}", "surrogatepass")
+
         def fault(direction: str) -> str:
             return self._fault(rows, map(ord, text)) or _cluster_fault(text, width, [row[1] for row in rows], direction)
 
