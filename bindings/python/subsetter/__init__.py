@@ -673,7 +673,7 @@ def _check(library: ctypes.CDLL, status: int, asked: Optional[_Asked] = None, fa
     if status == 16:
         raise ValueError("numbers of objects are distinct and above 0, and as many as there are parts (part_count)")
     if status != 0:
-        raise RuntimeError(f"{_NAME} answers status {status}: it is of another version")
+        raise RuntimeError(f"{_NAME} answers status {status}: it is of another version, or its own code failed")
 
 
 _MAKES = [f"subsetter_make_{it}_by_words" for it in ("subset", "subset_at", "embedded", "embedded_at")]
