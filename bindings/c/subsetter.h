@@ -79,7 +79,8 @@ enum {
     SUBSETTER_BUFFER_TOO_SMALL = 8,
     /* The limit of the depth is 0. */
     SUBSETTER_NO_DEPTH = 9,
-    /* The options have a size, a depth or a bit that this library doesn't know. */
+    /* The options have a size, a depth or a bit that this library doesn't know; or another choice or the size of a struct is wrong, or
+     * a text isn't there, as after `subsetter_free_text`. */
     SUBSETTER_UNKNOWN_OPTION = 10,
     /* The font's maker doesn't permit that it is embedded (`fsType` of the table `OS/2`); of the calls for PDF alone. */
     SUBSETTER_NOT_PERMITTED = 11,
@@ -553,9 +554,10 @@ typedef struct subsetter_pdf_objects {
     size_t offset_count;
 } subsetter_pdf_objects;
 
-/* The objects of a font, whole, with numbers from `first` on: the Type 0 font, which pages name, its CIDFont, the font
- * descriptor, the font program, ToUnicode, CIDToGIDMap if it is a stream, CIDSet if there is one, and the CMap if the file has its
- * own. Streams have no filter, and it is for files that aren't encrypted. `font` is one that a `make` call made, unchanged.
+/* The objects of a font, whole, with numbers from `first` on, which is above 0 (that isn't checked): the Type 0 font, which pages
+ * name, its CIDFont, the font descriptor, the font program, ToUnicode, CIDToGIDMap if it is a stream, CIDSet if there is one, and
+ * the CMap if the file has its own. Streams have no filter, and it is for files that aren't encrypted. `font` is one that a `make`
+ * call made, unchanged.
  *   0: `*made` are the objects, one after the other.
  *   5: seven numbers from `first` on, eight with a CIDToGIDMap as a stream, don't fit 32 bits; 7: malloc gave nothing; 10: an unknown
  *   `font->size`. The size and the count of `*made` are 0, and nothing is to be freed.

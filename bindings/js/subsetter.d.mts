@@ -221,7 +221,10 @@ export interface Part {
 
 /** How the streams of parts are packed. */
 export interface Packing {
-    /** Packs the bytes of a stream, as Node's `deflateSync` does. Without it nothing is packed. */
+    /**
+     * Packs the bytes of a stream, as Node's `deflateSync` does. Without it nothing is packed. (A browser's `CompressionStream` answers
+     * later: set `entries` and `stream` of each part then.)
+     */
     readonly pack?: (bytes: Uint8Array) => Uint8Array;
     /** The Filter of that, as PDF writes it. Without it "/FlateDecode". */
     readonly filter?: string;
@@ -293,7 +296,7 @@ export interface PdfFont {
     /**
      * The font's objects as data, with numbers of the caller's: `partCount` of them, distinct and above 0, that of the Type 0 font
      * first. They are in the order of `objects`, and each has the `value` that is written there for the same numbers. A RangeError is
-     * thrown for other numbers.
+     * thrown for other numbers, and for a filter without a slash or bracket in front.
      */
     parts(numbers: Iterable<number>, options?: Packing): Part[];
     /**
@@ -325,7 +328,7 @@ export interface Item {
 export interface ShapedGlyph {
     /** The number of the glyph in the font. */
     readonly g: number;
-    /** How many UTF-16 units of the text are before its cluster. */
+    /** How many UTF-16 units of the text are before its cluster. (`hb-shape` counts characters: one beyond U+FFFF is two units.) */
     readonly cl: number;
     /** How far the pen goes on. */
     readonly ax: number;

@@ -33,7 +33,7 @@ export class CFFError extends SubsetterError {}
 export class OutOfMemory extends SubsetterError {}
 /** The font's maker doesn't permit that it is embedded. */
 export class NotPermitted extends SubsetterError {}
-/** A text has a surrogate that stands alone, or more than 256 UTF-16 units; or glyphs are no run of the font and of their text. */
+/** A text has an unpaired surrogate, or more than 256 UTF-16 units; or glyphs are no run of the font and of their text. */
 export class InvalidText extends SubsetterError {}
 /** The font has no table by which characters have glyphs. */
 export class NoCmap extends SubsetterError {}
@@ -47,7 +47,7 @@ export class MissingCharacters extends SubsetterError {
 /** The font of a PdfText would have more than 65,535 codes: the run is for another one. */
 export class Overfull extends OverflowError {}
 
-// The names stand in strings, since tools that make scripts smaller rename classes.
+// The names are strings, since tools that make scripts smaller rename classes.
 const NAMES = {
     SubsetterError, UnknownKind, MalformedFont, Unimplemented, SubsetError, OverflowError, CFFError, OutOfMemory, NotPermitted,
     InvalidText, NoCmap, MissingCharacters, Overfull,
@@ -63,7 +63,7 @@ ERRORS[12] = InvalidText;
 ERRORS[13] = NoCmap;
 ERRORS[15] = Overfull;
 ERRORS[16] = RangeError;
-const DONE = 0, OUT_OF_MEMORY = 7;
+const DONE = 0, OVERFLOW = 5, OUT_OF_MEMORY = 7, NOT_PERMITTED = 11, INVALID_NUMBERS = 16;
 const PAGE = 65536, ALIGNMENT = 16, MEMORY_AT_MOST = 2 ** 31;
 const WORD_AT_MOST = 2 ** 32 - 1;
 const TOKENS = 1000000, DEPTH = 64;
@@ -74,7 +74,7 @@ const CALLS = ["subset", "subset_at", "embed", "embed_at", "pdf_font", "glyphs_o
 /** The words of a call that it writes: for the font, the CIDs and the widths where the list lies, and its count. */
 const MADE = [0, 0, 0, 0, 0, 0];
 
-/** The lists of a font for a PDF, by the bytes of an item, and how many numbers there are behind them. */
+/** The lists of a font for a PDF, by the bytes of an item, and how many numbers there are after them. */
 const PARTS = { program: 1, cids: 2, codes: 2, isSaid: 1, widths: 4, columns: 12, fontName: 1, toUnicode: 1, encoding: 1, encodingName: 1, cidSet: 1, cidToGidMap: 1 };
 const NUMBERS = 21;
 /** The codes of glyphs in use, and what the parts of a font are. */
@@ -102,7 +102,7 @@ const shown = (value) => (typeof value === "string" ? JSON.stringify(value) : St
 /** A whole number from `low` to `high`; else TypeError for what is no number, and RangeError. */
 function whole(value, low, high, what) {
     if (typeof value !== "number") {
-        throw new TypeError(`${what} must be a number, and not ${typeof value}`);
+        throw new TypeError(`${what} must be a number, and not ${kindOf(value)}`);
     }
     if (!Number.isInteger(value) || value < low || value > high) {
         throw new RangeError(`${what} must be a whole number from ${low} to ${high}, and not ${value}`);
@@ -130,37 +130,38 @@ function bytesOf(data) {
     throw new TypeError(`a font must be the bytes of a file, an ArrayBuffer or a view of one, and not ${kindOf(data)}`);
 }
 
-/** Glyph numbers, as a list; else TypeError or RangeError. */
-function glyphsOf(glyphs) {
-    if (typeof glyphs !== "object" || typeof glyphs?.[Symbol.iterator] !== "function") {
-        throw new TypeError(`glyphs must be an iterable of numbers, as [36, 68], and not ${kindOf(glyphs)} (glyphsOf has those of a text)`);
+/** The items of what is no text, each taken by a function; else TypeError. */
+function listed(list, wanted, taken) {
+    if (typeof list !== "object" || typeof list?.[Symbol.iterator] !== "function") {
+        throw new TypeError(`${wanted}, and not ${kindOf(list)}`);
     }
-    const numbers = [];
-    for (const glyph of glyphs) {
-        numbers.push(whole(glyph, 0, 65535, "a glyph"));
-    }
-    return numbers;
+    return Array.from(list, taken);
 }
 
-/** The characters of a text as numbers; the library refuses a surrogate that stands alone. */
+/** Objects, as a list; else TypeError. */
+const objectsOf = (list, wanted) => listed(list, wanted, (it) => {
+    if (typeof it !== "object" || it === null || Array.isArray(it)) {
+        throw new TypeError(`${wanted}, and not of ${kindOf(it)}`);
+    }
+    return it;
+});
+
+/** Glyph numbers, as a list; else TypeError or RangeError. */
+const glyphsOf = (glyphs) => listed(glyphs, "glyphs must be an iterable of numbers, as [36, 68] (glyphsOf has those of a text)", (it) => whole(it, 0, 65535, "a glyph"));
+
+/** The characters of a text as numbers; the library refuses an unpaired surrogate. */
 function charactersOf(text) {
     if (typeof text !== "string") {
-        throw new TypeError(`a text must be a string, and not ${typeof text}`);
+        throw new TypeError(`a text must be a string, and not ${kindOf(text)}`);
     }
     return Array.from(text, (character) => character.codePointAt(0));
 }
 
 /** Glyphs with their texts as the library takes them; else TypeError or RangeError. */
 function entriesOf(shown) {
-    if (typeof shown !== "object" || typeof shown?.[Symbol.iterator] !== "function") {
-        const wanted = "glyphs with their texts must be an iterable of objects, as [{ glyph: 36, text: \"A\" }]";
-        throw new TypeError(`${wanted}, and not ${kindOf(shown)} (glyphsOf makes them of a text)`);
-    }
+    const wanted = "glyphs with their texts must be an iterable of objects, as [{ glyph: 36, text: \"A\" }] (glyphsOf makes them of a text)";
     const glyphs = [], text = [], ends = [];
-    for (const entry of shown) {
-        if (typeof entry !== "object" || entry === null) {
-            throw new TypeError(`a glyph with its text must be an object, and not ${typeof entry}`);
-        }
+    for (const entry of objectsOf(shown, wanted)) {
         glyphs.push(whole(entry.glyph, 0, 65535, "a glyph"));
         for (const character of charactersOf(entry.text)) {
             text.push(character);
@@ -203,7 +204,7 @@ function coordinatesOf(coordinates) {
         return undefined;
     }
     if (typeof coordinates !== "object" || coordinates === null || Symbol.iterator in coordinates) {
-        throw new TypeError("coordinates must be an object of tags with numbers");
+        throw new TypeError("coordinates must be an object of tags with numbers, as { wght: 650 }");
     }
     const words = [];
     for (const [tag, value] of Object.entries(coordinates)) {
@@ -211,7 +212,7 @@ function coordinatesOf(coordinates) {
             throw new RangeError(`the tag of an axis must have four ASCII characters, and not be ${shown(tag)}`);
         }
         if (typeof value !== "number") {
-            throw new TypeError(`the value of ${tag} must be a number, and not ${typeof value}`);
+            throw new TypeError(`the value of ${tag} must be a number, and not ${kindOf(value)}`);
         }
         if (!Number.isFinite(value)) {
             throw new RangeError(`the value of ${tag} must be finite, and not ${value}`);
@@ -244,7 +245,7 @@ function oneOf(value, names, what, older = {}) {
         return 0;
     }
     if (typeof value !== "string") {
-        throw new TypeError(`${what} must be a string, and not ${typeof value}`);
+        throw new TypeError(`${what} must be a string, and not ${kindOf(value)}`);
     }
     const name = Object.hasOwn(older, value) ? older[value] : value;
     if (!names.includes(name)) {
@@ -259,7 +260,7 @@ function tagOf(tag) {
         return [0, 0];
     }
     if (typeof tag !== "string") {
-        throw new TypeError(`a tag must be a string, and not ${typeof tag}`);
+        throw new TypeError(`a tag must be a string, and not ${kindOf(tag)}`);
     }
     if (!/^[A-Z]{6}$/.test(tag)) {
         throw new RangeError(`a tag must have six capitals, and not be ${shown(tag)}`);
@@ -277,21 +278,51 @@ const PDF_CHOICES = ["limits", "small", "hinting", "coordinates", "program", "co
 const ITEM = ["xAdvance", "yAdvance", "xOffset", "yOffset"], SHAPED = ["ax", "ay", "dx", "dy"];
 const DIRECTIONS = ["ltr", "rtl", "ttb"];
 
-/** Objects with numbers, as a list; else TypeError. */
-function objectsOf(list, wanted) {
-    if (typeof list !== "object" || typeof list?.[Symbol.iterator] !== "function") {
-        throw new TypeError(`${wanted}, and not ${kindOf(list)}`);
-    }
-    return Array.from(list, (it) => {
-        if (typeof it !== "object" || it === null) {
-            throw new TypeError(`${wanted}, and not of ${kindOf(it)}`);
-        }
-        return it;
-    });
-}
-
 /** The places of a glyph: whole numbers of 32 bits, 0 where one isn't said. */
 const placesOf = (it, names) => names.map((name) => whole(it[name] ?? 0, -(2 ** 31), 2 ** 31 - 1, name));
+
+/** Calls, and adds what is wrong with the text to the message of InvalidText. */
+function explained(call, fault) {
+    try {
+        return call();
+    } catch (error) {
+        const why = error instanceof InvalidText && fault();
+        if (why) {
+            error.message += `: ${why}`;
+        }
+        throw error;
+    }
+}
+
+/** What is wrong with characters or UTF-16 units that are no text. */
+function surrogateOf(characters) {
+    const found = characters.find((it) => it >= 0xd800 && it < 0xe000);
+    return found && `U+${found.toString(16).toUpperCase()} is an unpaired surrogate`;
+}
+
+/** What is wrong with entries: a text that is too long, where it isn't a surrogate. */
+function faultOf({ text, ends }) {
+    const units = ends.map((end, i) => text.slice(ends[i - 1] ?? 0, end).reduce((sum, it) => sum + (it > 0xffff ? 2 : 1), 0));
+    return surrogateOf(text) ?? (units.some((it) => it > 256) ? "a text has more than 256 UTF-16 units" : "");
+}
+
+/** What is wrong with cluster numbers of a text. */
+function clusterFaultOf(text, clusters, direction) {
+    const begins = new Set();
+    let size = 0;
+    for (const character of text) {
+        begins.add(size);
+        size += character.length;
+    }
+    const wrong = clusters.find((it) => !begins.has(it));
+    if (wrong !== undefined) {
+        return `cluster ${wrong} isn't where a character begins in a text of ${size} units`;
+    }
+    const at = clusters.findIndex((it, i) => (direction === "rtl" ? it > clusters[i - 1] : it < clusters[i - 1]));
+    return at < 0 ? "" : `cluster ${clusters[at]} comes after cluster ${clusters[at - 1]}, and direction is ${direction}`;
+}
+
+const noGlyph = (glyph, count) => `glyph ${glyph}: ${count > 0 ? `the font's glyphs are 0 to ${count - 1}` : "the font has no glyph"}`;
 
 /** The same, and the further words of the options for a PDF. */
 function pdfChoicesOf(options) {
@@ -312,7 +343,7 @@ function pdfChoicesOf(options) {
 const indexOf = ({ index = 0 }) => whole(index, 0, WORD_AT_MOST, "index");
 
 /**
- * An instance of the module. Its memory holds the module's own data, then the fonts, and behind them what one call needs:
+ * An instance of the module. Its memory holds the module's own data, then the fonts, and after them what one call needs:
  * its arguments, and the heap, which begins anew with each call.
  */
 class Library {
@@ -330,6 +361,7 @@ class Library {
         this.#module = module;
         this.#exports = instance.exports;
         this.#texts = ERRORS.map((_, status) => this.#text(status));
+        this.#texts[INVALID_NUMBERS] = "numbers of objects must be distinct and above 0, and as many as there are parts (partCount)";
         const version = instance.exports.subsetter_version();
         this.version = `${version >>> 24}.${(version >> 16) & 255}.${(version >> 8) & 255}`;
     }
@@ -399,7 +431,7 @@ class Library {
     }
 
     /**
-     * Calls `name` on a struct of words of 32 bits, which lies behind the fonts and behind these lists: its status, and the
+     * Calls `name` on a struct of words of 32 bits, which is after the fonts and these lists: its status, and the
      * struct afterwards. `words` gives the words by where the lists lie; `first` are the arguments before the struct.
      */
     #call(name, lists, words, ...first) {
@@ -446,13 +478,18 @@ class Library {
         }
     }
 
-    /** What a font that is held here shows of why a call was refused; nothing where it doesn't, or memory is refused. */
-    #reason(status, name, font, index, glyphs = [], { tokens = 0, depth = 0 } = {}) {
+    /** What a font that is held here shows of why a call was refused, or which limits there were; nothing where memory is refused. */
+    #reason(status, name, font, index, glyphs = [], { tokens = 0, depth = 0, bytes = 0 } = {}) {
         const given = (at) => [CALLS.indexOf(name), status, font.at, font.size, index, at, glyphs.length, tokens, depth, 0, 0];
         try {
             const { status: done, buffer, words } = this.#call("subsetter_explain", [listOf(2, glyphs)], given);
             const [at, length] = words.slice(-2);
-            return done === DONE && length > 0 ? `: ${new TextDecoder().decode(new Uint8Array(buffer.slice(at, at + length)))}` : "";
+            if (done === DONE && length > 0) {
+                const found = new TextDecoder().decode(new Uint8Array(buffer.slice(at, at + length)));
+                return `: ${found}${status === NOT_PERMITTED ? ": if you hold the rights, rights: \"held\"" : ""}`;
+            }
+            const limits = [tokens && tokens !== TOKENS ? `tokens is ${tokens}` : "", bytes ? `mostBytes is ${bytes}` : ""].filter(Boolean);
+            return status === OVERFLOW && limits.length > 0 ? `: ${limits.join(" and ")}` : "";
         } catch {
             return "";
         }
@@ -465,7 +502,7 @@ class Library {
         const given = (glyphsAt, coordinatesAt) =>
             [font.at, font.size, index, glyphsAt, glyphs.length, coordinatesAt, coordinates.length / 2, tokens, depth, bytes, drop];
         const { status, buffer, words } = this.#call(name, lists, (...places) => [...given(...places), ...MADE]);
-        this.#check(status, name, font, index, glyphs, { tokens, depth });
+        this.#check(status, name, font, index, glyphs, { tokens, depth, bytes });
         const [at, size, cidsAt, cidCount, widthsAt, widthCount] = words.slice(-MADE.length);
         return {
             font: new Uint8Array(buffer.slice(at, at + size)),
@@ -488,7 +525,7 @@ class Library {
     readText(font, index, text) {
         const given = (at) => [font.at, font.size, index, at, text.length, 0, 0, 0, 0];
         const { status, buffer, words } = this.#call("subsetter_read_text", [listOf(4, text)], given);
-        this.#check(status, "subsetter_glyphs_of", font, index);
+        explained(() => this.#check(status, "subsetter_glyphs_of", font, index), () => surrogateOf(text));
         const [entriesAt, entryCount, missingAt, missingCount] = words.slice(-4);
         return { entries: numbersOf(4, buffer, entriesAt, 3 * entryCount), missing: numbersOf(4, buffer, missingAt, missingCount) };
     }
@@ -497,7 +534,7 @@ class Library {
     pdfFont(font, index, entries, choices) {
         const { glyphs, text, ends } = entries, lists = [listOf(2, glyphs), listOf(4, text), listOf(4, ends)];
         const counted = (glyphsAt, textAt, endsAt) => [glyphsAt, glyphs.length, textAt, text.length, endsAt, ends.length];
-        return this.#pdfFont("subsetter_pdf_font", font, index, lists, counted, glyphs, entries, choices);
+        return explained(() => this.#pdfFont("subsetter_pdf_font", font, index, lists, counted, glyphs, entries, choices), () => faultOf(entries));
     }
 
     /** The same of the codes of a text. */
@@ -512,7 +549,7 @@ class Library {
             [font.at, font.size, index, coordinatesAt, coordinates.length / 2, ...counted(...places), tokens, depth, bytes, drop, ...further];
         const parts = Object.entries(PARTS), room = Array(2 * parts.length + NUMBERS + 5).fill(0);
         const { status, buffer, words } = this.#call(name, [listOf(4, coordinates), ...lists], (...places) => [...given(...places), ...room]);
-        this.#check(status, "subsetter_pdf_font", font, index, glyphs, { tokens, depth });
+        this.#check(status, "subsetter_pdf_font", font, index, glyphs, { tokens, depth, bytes });
         const made = words.slice(-room.length), raw = {};
         const [unitsPerEm, exactAt, exactCount, axesAt, axisCount] = made.splice(-5);
         const axes = numbersOf(4, buffer, axesAt, axisCount).map((it) => String.fromCharCode(it >>> 24, (it >> 16) & 255, (it >> 8) & 255, it & 255));
@@ -551,7 +588,7 @@ class Library {
         const lists = [listOf(2, glyphs), listOf(4, text), listOf(4, ends)];
         const given = (glyphsAt, textAt, endsAt) => [glyphsAt, glyphs.length, textAt, text.length, endsAt, ends.length, kind, 0, 0];
         const { status, buffer, words } = this.#call("subsetter_codes_of", lists, given);
-        this.#check(status);
+        explained(() => this.#check(status), () => surrogateOf(text));
         const [at, count] = words.slice(-2);
         return numbersOf(2, buffer, at, count);
     }
@@ -604,7 +641,7 @@ class Library {
 
 const latin1 = (text) => Uint8Array.from(text, (it) => it.charCodeAt(0));
 
-/** Bytes one behind the other. */
+/** Bytes, one after the other. */
 function joined(...lists) {
     const all = new Uint8Array(lists.reduce((size, list) => size + list.length, 0));
     lists.reduce((at, list) => (all.set(list, at), at + list.length), 0);
@@ -700,24 +737,27 @@ class PdfFont {
 
     parts(numbers, options) {
         const { pack, filter = "/FlateDecode" } = named(options, ["pack", "filter"], "options");
-        if (typeof numbers !== "object" || typeof numbers?.[Symbol.iterator] !== "function") {
-            throw new TypeError("numbers of objects must be an iterable of numbers");
-        }
         if (typeof filter !== "string" || (pack !== undefined && typeof pack !== "function")) {
             throw new TypeError("pack must be a function, and filter a string");
         }
-        const given = Array.from(numbers, (it) => whole(it, 0, WORD_AT_MOST, "a number of an object"));
+        if (!/^[/[]/.test(filter)) {
+            throw new RangeError(`filter must be as PDF writes it, as "/FlateDecode", and not ${shown(filter)}`);
+        }
+        const given = listed(numbers, "numbers of objects must be an iterable of numbers", (it) => whole(it, 0, WORD_AT_MOST, "a number of an object"));
         const parts = this.#library.parts(this.#kept(), this.#numbers, given);
         for (const part of pack ? parts.filter(({ stream }) => stream) : []) {
             part.entries = joined(part.entries, latin1(`/Filter ${filter} `));
             part.stream = pack(part.stream);
+            if (kindOf(part.stream) !== "Uint8Array") {
+                throw new TypeError(`pack must return a Uint8Array, and not ${kindOf(part.stream)}`);
+            }
         }
         return parts;
     }
 
     string(codes) {
         const hexadecimal = (it) => whole(it, 0, 65535, "a code").toString(16).toUpperCase().padStart(4, "0");
-        return `<${Array.from(codes, hexadecimal).join("")}>`;
+        return `<${listed(codes, "codes must be an iterable of numbers", hexadecimal).join("")}>`;
     }
 
     objects(first) {
@@ -849,19 +889,34 @@ class PdfText {
         return this.#place;
     }
 
-    #show(name, sizes, glyphs, text, options) {
+    /** What is wrong with the glyphs of a run, whose last four numbers are their places, or with its characters. */
+    #fault(rows, characters, names) {
+        const count = this.#needs.metrics.length / 8, across = this.#isVertical ? 0 : 1;
+        for (const row of rows) {
+            if (row[0] >= count) {
+                return noGlyph(row[0], count);
+            }
+            if (row.at(across - 4) !== 0) {
+                return `${names[across]} is ${row.at(across - 4)}, and 0 in ${this.#isVertical ? "vertical" : "horizontal"} text`;
+            }
+        }
+        return surrogateOf(characters);
+    }
+
+    #show(name, sizes, glyphs, text, options, fault) {
         const known = this.#isVertical ? DIRECTIONS.slice(2) : DIRECTIONS.slice(0, 2);
         const { direction, size: points = 12 } = named(options, ["direction", "size"], "options");
         const number = DIRECTIONS.indexOf(known[oneOf(direction, known, "direction")]);
         if (typeof points !== "number") {
-            throw new TypeError(`size must be a number, and not ${typeof points}`);
+            throw new TypeError(`size must be a number, and not ${kindOf(points)}`);
         }
         if (!(points >= 0 && points <= WORD_AT_MOST / 1000)) {
             throw new RangeError(`size must be from 0 to ${WORD_AT_MOST / 1000}, and not ${points}`);
         }
         this.#held();
         const lists = [this.#needs, this.#pairs, listOf(4, glyphs), listOf(sizes[1], text)];
-        const shown = this.#library.show(name, sizes, ...lists, number, this.#order, Math.round(1000 * points));
+        const show = () => this.#library.show(name, sizes, ...lists, number, this.#order, Math.round(1000 * points));
+        const shown = explained(show, () => fault(DIRECTIONS[number]));
         this.#pairs = shown.pairs;
         return shown.operators;
     }
@@ -882,20 +937,23 @@ class PdfText {
         });
         if (own.length > 0) {
             const { widths, heights } = this.#library.advances(this.#held(), this.#index, own.map(({ row }) => row[0]), pdfChoicesOf(this.#choices));
-            const view = new DataView(this.#needs.metrics.buffer), below = (glyph) => view.getInt32(8 * glyph + 4, true) * this.#needs.unitsPerEm;
+            // (a font may have more outlines than `maxp` counts; the library refuses such a glyph)
+            const view = new DataView(this.#needs.metrics.buffer), { unitsPerEm } = this.#needs;
+            const below = (glyph) => (8 * glyph < view.byteLength ? view.getInt32(8 * glyph + 4, true) * unitsPerEm : 0);
             own.forEach(({ row, isPlaced }, i) => {
                 row[this.#isVertical ? 5 : 4] = this.#isVertical ? -heights[i] : widths[i];
                 // (in a column the glyph's origin is below the pen)
                 row[7] = this.#isVertical && !isPlaced ? Math.floor((1000 - 2 * below(row[0])) / 2000) : row[7];
             });
         }
-        return this.#show("subsetter_show_run", [32, 4], rows.flat(), text, options);
+        const fault = () => (rows[0]?.[1] ? "the first item continues a cluster, as it has no text" : this.#fault(rows, text, ITEM));
+        return this.#show("subsetter_show_run", [32, 4], rows.flat(), text, options, fault);
     }
 
     shaped(text, glyphs, options) {
         const wanted = "glyphs must be an iterable of objects with g, cl, ax, ay, dx and dy, as harfbuzzjs has them";
         if (typeof text !== "string") {
-            throw new TypeError(`a text must be a string, and not ${typeof text}`);
+            throw new TypeError(`a text must be a string, and not ${kindOf(text)}`);
         }
         const rows = objectsOf(glyphs, wanted).map((it) => {
             if ([it.g, it.cl, ...SHAPED.map((name) => it[name])].includes(undefined)) {
@@ -904,7 +962,8 @@ class PdfText {
             return [whole(it.g, 0, WORD_AT_MOST, "g"), whole(it.cl, 0, WORD_AT_MOST, "cl"), ...placesOf(it, SHAPED)];
         });
         const units = Array.from({ length: text.length }, (_, i) => text.charCodeAt(i));
-        return this.#show("subsetter_show_shaped", [24, 2], rows.flat(), units, options);
+        const fault = (direction) => this.#fault(rows, charactersOf(text), SHAPED) ?? clusterFaultOf(text, rows.map((row) => row[1]), direction);
+        return this.#show("subsetter_show_shaped", [24, 2], rows.flat(), units, options, fault);
     }
 
     advances(glyphs) {
@@ -912,7 +971,7 @@ class PdfText {
         const { metrics } = this.#needs, view = new DataView(metrics.buffer), last = metrics.length / 8 - 1;
         return glyphsOf(glyphs).map((glyph) => {
             if (glyph > last) {
-                throw new MalformedFont(`malformed font: glyph ${glyph}: the font's glyphs are 0 to ${last}`);
+                throw new MalformedFont(`malformed font: ${noGlyph(glyph, last + 1)}`);
             }
             return view.getInt32(8 * glyph, true);
         });

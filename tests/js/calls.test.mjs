@@ -187,12 +187,18 @@ test("messages say why, and what is wanted", () => {
         ["MalformedFont", "malformed font: face 1: the collection's faces are 0 to 0", () => subsetter.glyphsOf(made("made.ttc"), "A", { index: 1 })],
         ["Unimplemented", "unsupported feature in font: CFF2: its outlines are taken at coordinates alone", () => subsetter.embed(made("made_cff2.otf"), [1])],
         ["CFFError", "processing CFF table failed: glyph 0: its charstring can't be run within the limits", () => subsetter.embed(made("made_version_1.otf"), [1], { ...at, limits: { tokens: 5 } })],
-        ["NotPermitted", "embedding not permitted: OS/2: fsType 0x0002 forbids embedding", () => subsetter.pdfFont(forbidding(2), SHOWN)],
-        ["InvalidText", "invalid text", () => subsetter.glyphsOf(TTF, "\ud800")],
+        ["OverflowError", "overflow occurred: mostBytes is 9", () => subsetter.subset(TTF, [1], { limits: { mostBytes: 9 } })],
+        ["OverflowError", "overflow occurred: tokens is 1", () => subsetter.pdfFont(made("made_variable.ttf"), SHOWN, { coordinates: { wght: 650 }, limits: { tokens: 1 } })],
+        ["NotPermitted", 'embedding not permitted: OS/2: fsType 0x0002 forbids embedding: if you hold the rights, rights: "held"', () => subsetter.pdfFont(forbidding(2), SHOWN)],
+        ["InvalidText", "invalid text: U+D800 is an unpaired surrogate", () => subsetter.glyphsOf(TTF, "\ud800")],
+        ["InvalidText", "invalid text: U+DFFF is an unpaired surrogate", () => subsetter.codesOf([{ glyph: 1, text: "A\udfff" }])],
+        ["InvalidText", "invalid text: a text has more than 256 UTF-16 units", () => subsetter.pdfFont(TTF, [...SHOWN, { glyph: 1, text: "\u{1f600}".repeat(129) }])],
         [TypeError, "a font must be the bytes of a file, an ArrayBuffer or a view of one, and not string", () => subsetter.subset("font.ttf", [1])],
-        [TypeError, "glyphs must be an iterable of numbers, as [36, 68], and not string (glyphsOf has those of a text)", () => subsetter.subset(TTF, "AB")],
+        [TypeError, "glyphs must be an iterable of numbers, as [36, 68] (glyphsOf has those of a text), and not string", () => subsetter.subset(TTF, "AB")],
         [RangeError, "a glyph must be a whole number from 0 to 65535, and not -1", () => subsetter.subset(TTF, [1, -1])],
-        [TypeError, 'glyphs with their texts must be an iterable of objects, as [{ glyph: 36, text: "A" }], and not string (glyphsOf makes them of a text)', () => subsetter.pdfFont(TTF, "AB")],
+        [TypeError, 'glyphs with their texts must be an iterable of objects, as [{ glyph: 36, text: "A" }] (glyphsOf makes them of a text), and not string', () => subsetter.pdfFont(TTF, "AB")],
+        [TypeError, 'glyphs with their texts must be an iterable of objects, as [{ glyph: 36, text: "A" }] (glyphsOf makes them of a text), and not of Array', () => subsetter.pdfFont(TTF, [[1, "A"]])],
+        [TypeError, "a text must be a string, and not null", () => subsetter.pdfFont(TTF, [{ glyph: 1, text: null }])],
     ];
     for (const [kind, message, call] of rows) assert.equal(throws(call, library[kind] ?? kind, message).message, message);
 });
@@ -208,7 +214,7 @@ test("each status is thrown by its class, in its words", async () => {
             () => new it.PdfText(TTF), () => line.run([]), () => line.shaped("", []), () => line.font()];
         for (status of [...Array(20).keys(), 99].slice(1)) {
             const kind = kinds[status] ?? "SubsetterError";
-            const text = status === 16 ? "invalid numbers" : kinds[status] ? texts[status] ?? "too many codes" : `status ${status}`;
+            const text = status === 16 ? "numbers of objects must be distinct and above 0, and as many as there are parts (partCount)" : kinds[status] ? texts[status] ?? "too many codes" : `status ${status}`;
             for (const call of calls) assert.equal(throws(call, status === 16 ? RangeError : library[kind], status).message, text);
         }
     }, change);

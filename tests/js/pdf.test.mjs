@@ -106,7 +106,9 @@ test("parts", () => {
     const strings = parts.flatMap((it) => it.strings.map(([start, end]) => latin1(it.entries.slice(start, end))));
     assert.deepEqual(new Set(strings), new Set(["(Adobe)", "(Identity)"]));
     for (const wrong of [[1, 2], numbers.map(() => 7), numbers.map((_, i) => i), numbers.map(() => 2 ** 32), numbers.map(() => 1.5)]) throws(() => font.parts(wrong), RangeError, `${wrong}`);
-    for (const wrong of [[5], [numbers, { pack: 5 }], [numbers, { compress: true }], [numbers, { filter: 5 }]]) throws(() => font.parts(...wrong), TypeError, "no parts");
+    throws(() => font.parts(numbers, { filter: "FlateDecode" }), RangeError, "a filter without a slash");
+    const packs = [async (it) => it, () => "text", () => {}, (it) => it.buffer].map((pack) => [numbers, { pack }]);
+    for (const wrong of [[5], [numbers, { pack: 5 }], [numbers, { compress: true }], [numbers, { filter: 5 }], ...packs]) throws(() => font.parts(...wrong), TypeError, "no parts");
 });
 
 const DEJAVU = readFileSync("/usr/share/fonts/truetype/dejavu/DejaVuSans.ttf");
@@ -133,7 +135,7 @@ function readBack(font, operators) {
 test("a PDF of packed parts", () => {
     const font = subsetter.pdfFont(DEJAVU, subsetter.glyphsOf(DEJAVU, "Hello, \u0395!"));
     assert.deepEqual(readBack(font, `${font.string(font.codes)} Tj`), ["Hello, \u0395!", "Hello, \u0395!"]);
-    for (const [kind, codes] of [[RangeError, [65536]], [TypeError, ["1"]]]) throws(() => font.string(codes), kind, codes);
+    for (const [kind, codes] of [[RangeError, [65536]], [TypeError, ["1"]], [TypeError, 5], [TypeError, "A"]]) throws(() => font.string(codes), kind, codes);
 });
 
 test("runs of shaped text", () => {
@@ -164,8 +166,7 @@ test("runs that are refused", () => {
     run({ glyph: 1, text: "A" });
     const many = Array.from({ length: 65535 }, (_, i) => ({ glyph: 1, text: String.fromCodePoint(0x10000 + i), xAdvance: 9 })), wanted = text.font().toUnicode;
     const wrong = [
-        [InvalidText, () => run({ glyph: 1 })], [InvalidText, () => run({ glyph: 1, text: "\ud800" })], [InvalidText, () => run({ glyph: 12, text: "A", xAdvance: 9 })],
-        [InvalidText, () => text.shaped("AB", [{ ...one, cl: 1 }, one])], [Overfull, () => text.run(many)], [MalformedFont, () => run({ glyph: 12, text: "A" })],
+        [Overfull, () => text.run(many)], [MalformedFont, () => run({ glyph: 12, text: "A" })],
         [MalformedFont, () => text.advances([12])], [RangeError, () => run({ glyph: 1, text: "A", xOffset: 2 ** 31 })], [RangeError, () => text.run([], { size: -1 })],
         [RangeError, () => text.run([], { direction: "ttb" })], [TypeError, () => text.run([], { size: "12" })], [TypeError, () => text.run([], { order: "logical" })],
         [TypeError, () => text.run("A")], [TypeError, () => run("A")], [TypeError, () => run({ glyph: 1, text: null })], [TypeError, () => text.shaped(["A"], [one])],
@@ -173,7 +174,24 @@ test("runs that are refused", () => {
         [RangeError, () => new subsetter.PdfText(TTF, { order: "reading" })], [UnknownKind, () => new subsetter.PdfText(new Uint8Array(2))],
     ];
     for (const [kind, call] of wrong) throws(call, kind, `${call}`);
-    assert.match(throws(wrong[16][1], TypeError, "shaped").message, /with g, cl, ax, ay, dx and dy, as harfbuzzjs has them/);
+    const explained = [
+        ["the first item continues a cluster, as it has no text", () => run({ glyph: 1 })], ["U+D800 is an unpaired surrogate", () => run({ glyph: 1, text: "\ud800" })],
+        ["glyph 12: the font's glyphs are 0 to 11", () => run({ glyph: 12, text: "A", xAdvance: 9 })], ["yAdvance is 9, and 0 in horizontal text", () => run({ glyph: 1, text: "A", yAdvance: 9 })],
+        ["cluster 0 comes after cluster 1, and direction is ltr", () => text.shaped("AB", [{ ...one, cl: 1 }, one])], ["ay is 9, and 0 in horizontal text", () => text.shaped("A", [{ ...one, ay: 9 }])],
+        ["cluster 1 comes after cluster 0, and direction is rtl", () => text.shaped("AB", [one, { ...one, cl: 1 }], { direction: "rtl" })],
+        ["cluster 1 isn't where a character begins in a text of 3 units", () => text.shaped("\u{1d4b3}A", [one, { ...one, cl: 1 }])],
+    ];
+    for (const [message, call] of explained) assert.equal(throws(call, InvalidText, message).message, `invalid text: ${message}`);
+    const few = TTF.slice(), view = new DataView(few.buffer);
+    view.setUint16(view.getUint32(latin1(TTF).indexOf("maxp") + 8) + 4, 0);
+    for (const vertical of [false, true]) {
+        const error = throws(() => new subsetter.PdfText(few, { vertical }).run([{ glyph: 9, text: "H" }]), InvalidText, "more outlines than maxp counts");
+        assert.equal(error.message, "invalid text: glyph 9: the font has no glyph");
+    }
+    const far = { glyph: 1, text: "A", xAdvance: 2 ** 31 - 1, xOffset: 2 ** 31 - 1 };
+    assert.equal(throws(() => run(far, far, far), InvalidText, "far away").message, "invalid text");
+    const shaped = wrong.find(([, call]) => `${call}`.includes("cluster"))[1];
+    assert.match(throws(shaped, TypeError, "shaped").message, /with g, cl, ax, ay, dx and dy, as harfbuzzjs has them/);
     assert.deepEqual(text.font().toUnicode, wanted);
 });
 

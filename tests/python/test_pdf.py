@@ -1,5 +1,6 @@
 """What the calls for PDF take and refuse, and what an answer is besides what the rows have of it."""
 
+import binascii
 import copy
 import ctypes
 import pickle
@@ -128,7 +129,7 @@ def test_older_names():
 
 
 @pytest.mark.parametrize("more, unpacked, name", [
-    ({"compress": True}, zlib.decompress, b"/FlateDecode"), ({"pack": bytes.hex, "filter": "/Own"}, bytes.fromhex, b"/Own")])
+    ({"compress": True}, zlib.decompress, b"/FlateDecode"), ({"pack": binascii.hexlify, "filter": "/Own"}, binascii.unhexlify, b"/Own")])
 def test_packed_parts(more, unpacked, name):
     """Each stream is packed, and its dictionary says how; nothing else is otherwise."""
     font = subsetter.pdf_font(TTF, SHOWN, cid_set=True, codes="each_text")
@@ -147,7 +148,10 @@ def test_parts_are_the_objects():
         assert {it.entries[start:end] for it in parts for start, end in it.strings} == {b"(Adobe)", b"(Identity)"}
         for wrong in ([1, 2], range(font.part_count), [7] * font.part_count, [2**32] * font.part_count, [-1] * font.part_count):
             assert type(raised(font.parts, wrong)) is ValueError
-        assert type(raised(font.parts, ["1"] * font.part_count)) is TypeError
+        for kind, wrong in [(TypeError, {"compress": 9}), (TypeError, {"pack": "zlib"}), (TypeError, {"pack": bytes.hex}), (TypeError, {"filter": b"/Own"}),
+                            (ValueError, {"filter": "FlateDecode"}), (ValueError, {"filter": "/\xc4"})]:
+            assert type(raised(font.parts, range(1, 1 + font.part_count), **wrong)) is kind, wrong
+        assert type(raised(font.parts, ["1"] * font.part_count)) is type(raised(font.parts, 5)) is TypeError
 
 
 def test_codes_and_advances_without_a_font():

@@ -49,6 +49,16 @@ def test_items_are_what_is_shaped():
     assert columns.run([(82, "o")]) == b"[<0001>]TJ\n" and columns.font().columns is not None and type(raised(columns.run, [], "ltr")) is ValueError
 
 
+def test_a_font_with_more_outlines_than_maxp_counts():
+    data = bytearray(TTF)
+    at = int.from_bytes(data[data.index(b"maxp") + 8:][:4], "big") + 4
+    for count, said in ((0, "the font has no glyph"), (3, "the font's glyphs are 0 to 2")):
+        data[at:at + 2] = count.to_bytes(2, "big")
+        for vertical in (False, True):
+            error = raised(subsetter.PdfText(bytes(data), vertical=vertical).run, [(9, "H")])
+            assert (type(error), str(error)) == (subsetter.InvalidText, f"invalid text: glyph 9: {said}")
+
+
 def test_a_closed_text():
     data = bytearray(TTF)
     text = subsetter.PdfText(data)
@@ -60,9 +70,19 @@ def test_a_closed_text():
 
 
 @pytest.mark.parametrize("kind, message, call", [
-    (subsetter.InvalidText, "invalid text", lambda text: text.run([(1, None)])),
-    (subsetter.InvalidText, "invalid text", lambda text: text.shaped("AB", *arrays([(1, 1, 9, 0, 0, 0), (1, 0, 9, 0, 0, 0)]))),
-    (subsetter.InvalidText, "invalid text", lambda text: text.shaped("\ud800", *arrays([(1, 0, 9, 0, 0, 0)]), units="utf8")),
+    (subsetter.InvalidText, "invalid text: the first item continues a cluster, as its text is None", lambda text: text.run([(1, None)])),
+    (subsetter.InvalidText, "invalid text: glyph 12: the font's glyphs are 0 to 11", lambda text: text.run([(12, "A", 9, 0, 0, 0)])),
+    (subsetter.InvalidText, "invalid text: y_advance is 9, and 0 in horizontal text", lambda text: text.run([(1, "A", 9, 9, 0, 0)])),
+    (subsetter.InvalidText, "invalid text", lambda text: text.run([(1, "A", 2**31 - 1, 0, 2**31 - 1, 0)] * 3)),
+    (subsetter.InvalidText, "invalid text: cluster 0 comes after cluster 1, and direction is ltr",
+     lambda text: text.shaped("AB", *arrays([(1, 1, 9, 0, 0, 0), (1, 0, 9, 0, 0, 0)]))),
+    (subsetter.InvalidText, "invalid text: cluster 1 comes after cluster 0, and direction is rtl",
+     lambda text: text.shaped("AB", *arrays([(1, 0, 9, 0, 0, 0), (1, 1, 9, 0, 0, 0)]), "rtl")),
+    (subsetter.InvalidText, "invalid text: cluster 1 isn't where a character begins in a text of 3 units",
+     lambda text: text.shaped("\xe9A", *arrays([(1, 0, 9, 0, 0, 0), (1, 1, 9, 0, 0, 0)]), units="utf8")),
+    (subsetter.InvalidText, "invalid text: cluster 3 isn't where a character begins in a text of 3 units",
+     lambda text: text.shaped("\U0001d4b3A", *arrays([(1, 0, 9, 0, 0, 0), (1, 3, 9, 0, 0, 0)]), units="utf16")),
+    (subsetter.InvalidText, "invalid text: U+D800 is an unpaired surrogate", lambda text: text.shaped("\ud800", *arrays([(1, 0, 9, 0, 0, 0)]), units="utf8")),
     (subsetter.Overfull, "too many codes", lambda text: text.run([(1, chr(0x10000 + it), 9, 0, 0, 0) for it in range(65535)])),
     (subsetter.MalformedFont, "malformed font: glyph 12: the font's glyphs are 0 to 11", lambda text: text.run([(12, "A")])),
     (subsetter.MalformedFont, "malformed font: glyph 12: the font's glyphs are 0 to 11", lambda text: text.advances([1, 12])),

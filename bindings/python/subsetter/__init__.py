@@ -386,7 +386,7 @@ def _open() -> ctypes.CDLL:
             tried.append(f"the system's loader, or {path}: {error}" if path == _NAME else f"{path}: {error}")
     raise OSError(
         f"{_NAME} isn't found. SUBSETTER_LIBRARY isn't set; tried were:\n  " + "\n  ".join(tried)
-        + "\nIn the repository `make` in bindings/c builds it."
+        + "\nIn a clone `pip install ./bindings/python` builds it, and with the kit `make` in bindings/c."
     )
 
 
@@ -590,7 +590,7 @@ def _fixed(tag: str, value: Value) -> int:
     except (ArithmeticError, ValueError):
         scaled = math.nan
     if not math.isfinite(scaled):
-        raise ValueError(f"the value of the axis {tag} is {_shown(value)}")
+        raise ValueError(f"the value of the axis {tag} is {_shown(value)}, and no finite float")
     below = math.floor(scaled)
     return max(-0x80000000, min(below + (scaled - below >= 0.5), 0x7FFFFFFF))
 
@@ -650,7 +650,7 @@ class _Asked(NamedTuple):
 
 
 def _reason(library: ctypes.CDLL, status: int, asked: _Asked) -> str:
-    """What the font shows of why a call was refused; nothing where it doesn't, or the library is older."""
+    """What the font shows of why a call was refused, or which limits there were; nothing where the library is older."""
     if _ERRORS[status] is OutOfMemory or not hasattr(library, "subsetter_explain"):
         return ""
     out, length, (tokens, depth) = ctypes.create_string_buffer(128), ctypes.c_size_t(), asked.words[1:3]
@@ -658,16 +658,22 @@ def _reason(library: ctypes.CDLL, status: int, asked: _Asked) -> str:
         asked.call, status, asked.font, asked.size, asked.face, asked.glyphs.buffer_info()[0], len(asked.glyphs), tokens, depth,
         out, len(out), ctypes.byref(length),
     )
-    return ": " + out.raw[:length.value].decode("utf-8", "replace") if done == 0 and length.value else ""
+    found = out.raw[:length.value].decode("utf-8", "replace") if done == 0 else ""
+    if found and _ERRORS[status] is NotPermitted:
+        return f'{found}: if you hold the rights, rights="held"'
+    limits = {"tokens": tokens, "most_bytes": asked.words[4]} if _ERRORS[status] is OverflowError else {}
+    return found or " and ".join(f"{name} is {limit}" for name, limit in limits.items() if limit)
 
 
-def _check(library: ctypes.CDLL, status: int, asked: Optional[_Asked] = None) -> None:
+def _check(library: ctypes.CDLL, status: int, asked: Optional[_Asked] = None, fault: Callable[[], str] = str) -> None:
+    """Raises the error of a status. `fault` says what is wrong with a text."""
     if status in _ERRORS:
-        raise _ERRORS[status](_text(library, status) + (_reason(library, status, asked) if asked else ""))
+        why = fault() if _ERRORS[status] is InvalidText else _reason(library, status, asked) if asked else ""
+        raise _ERRORS[status](": ".join(filter(None, (_text(library, status), why))))
     if status == 16:
-        raise ValueError("numbers of objects are distinct and above 0, and as many as there are parts")
+        raise ValueError("numbers of objects are distinct and above 0, and as many as there are parts (part_count)")
     if status != 0:
-        raise RuntimeError(f"{_NAME} answers status {status}: it is of another version")
+        raise RuntimeError(f"{_NAME} answers status {status}: it is of another version, or its own code failed")
 
 
 _MAKES = [f"subsetter_make_{it}_by_words" for it in ("subset", "subset_at", "embedded", "embedded_at")]
@@ -828,6 +834,10 @@ def _characters(text: str) -> array[int]:
     return array("I", map(ord, text))
 
 
+def _surrogate(characters: Iterable[int]) -> str:
+    return next((f"U+{it:04X} is an unpaired surrogate" for it in characters if 0xD800 <= it < 0xE000), "")
+
+
 class _Entries:
     """Glyphs with their texts, as the library takes them."""
 
@@ -842,6 +852,9 @@ class _Entries:
         for _, text in pairs:
             self.text.extend(_characters(text))
             self.ends.append(len(self.text))
+
+    def fault(self) -> str:
+        return _surrogate(self.text) or "a text has more than 256 UTF-16 units"
 
     def arguments(self) -> Tuple[Any, ...]:
         glyphs, text, ends = self.glyphs, self.text, (ctypes.c_size_t * len(self.ends))(*self.ends)
@@ -877,7 +890,8 @@ def glyphs_of(
         status = library.subsetter_read_text(
             font, size, face, characters.buffer_info()[0], count, entries, count, places, count, ctypes.byref(sizes),
         )
-        _check(library, status, _Asked(_GLYPHS_OF, font, size, face, array("H"), array("I", [0] * 3)))
+        asked = _Asked(_GLYPHS_OF, font, size, face, array("H"), array("I", [0] * 5))
+        _check(library, status, asked, lambda: _surrogate(characters))
     found = TextGlyphs((it.glyph, text[it.start:it.end]) for it in entries[:sizes.entries])
     found.missing = places[:sizes.missing]
     if is_strict and found.missing:
@@ -901,7 +915,7 @@ def codes_of(shown: Iterable[Tuple[SupportsIndex, str]], codes: Codes = "consecu
     status = library.subsetter_codes_of(
         *entries.arguments(), kind, found.buffer_info()[0], len(found), ctypes.byref(length),
     )
-    _check(library, status)
+    _check(library, status, None, lambda: _surrogate(entries.text))
     return found.tolist()
 
 
@@ -1121,11 +1135,19 @@ class PdfFont:
         font first. They are in the order of `objects`, and each has the `value` that is written there for the same numbers.
 
         `compress` packs each stream by zlib, or `pack` does, whose Filter is `filter`: "/FlateDecode", if nothing else is said.
-        Raises `ValueError` for other numbers, and `NotImplementedError` where the library is of an older version.
+        Raises `ValueError` for other numbers and for a filter that is no name or array of PDF, and `NotImplementedError` where the
+        library is of an older version.
         """
-        if compress and pack is None:
+        if _flag("compress", compress) and pack is None:
             pack = zlib.compress
-        given = array("I", [_number("a number of an object", it, 0, 0xFFFFFFFF) for it in numbers])
+        if pack is not None and not callable(pack):
+            raise TypeError(f"pack is a function, and no {type(pack).__name__}")
+        if not isinstance(filter, str):
+            raise TypeError(f"filter is a str, and no {type(filter).__name__}")
+        if not filter.isascii() or not filter.startswith(("/", "[")):
+            raise ValueError(f'filter is as PDF writes it, as "/FlateDecode", and not {filter!r}')
+        wanted = "numbers of objects are a list of ints"
+        given = array("I", [_number("a number of an object", it, 0, 0xFFFFFFFF) for it in _listed(numbers, wanted)])
         font = self._struct()
         library, made = _library_with("subsetter_make_pdf_parts"), _Parts()
         status = library.subsetter_make_pdf_parts(ctypes.byref(font), given.buffer_info()[0], len(given), ctypes.byref(made))
@@ -1144,7 +1166,11 @@ class PdfFont:
         if pack is None:
             return found
         said = b"/Filter %s " % filter.encode("ascii")
-        return [it if it.stream is None else it._replace(entries=it.entries + said, stream=pack(it.stream)) for it in found]
+        packed = [it if it.stream is None else it._replace(entries=it.entries + said, stream=pack(it.stream)) for it in found]
+        for was, it in zip(found, packed):
+            if was.stream is not None and not isinstance(it.stream, bytes):
+                raise TypeError(f"pack answers bytes, and no {type(it.stream).__name__}")
+        return packed
 
     def sheet(self, layout: Literal["line", "grid"] = "line") -> bytes:
         """A whole PDF file that shows the entries in 36 points: in one line (in vertical writing in one column) on a page that
@@ -1222,7 +1248,7 @@ def pdf_font(
         made = _Font(size=ctypes.sizeof(_Font))
         with _bytes_of(data) as (font, size):
             status = library.subsetter_make_font_by_words(font, size, face, *given, ctypes.byref(made))
-            _check(library, status, _Asked(_PDF_FONT, font, size, face, entries.glyphs, words))
+            _check(library, status, _Asked(_PDF_FONT, font, size, face, entries.glyphs, words), entries.fault)
         try:
             return PdfFont(made.pdf, entries, made)
         finally:
@@ -1231,7 +1257,7 @@ def pdf_font(
     with _bytes_of(data) as (font, size):
         status = library.subsetter_make_pdf_font_by_words(font, size, face, *given, ctypes.byref(older))
     try:
-        _check(library, status)
+        _check(library, status, None, entries.fault)
         return PdfFont(older, entries, None)
     finally:
         library.subsetter_free_pdf_font(ctypes.byref(older))
@@ -1282,6 +1308,25 @@ def _packed(pack: Callable[..., bytes], rows: List[Tuple[Any, ...]], names: Tupl
             for name, value in zip(names, row):
                 _number(name, value, *((-0x80000000, 0x7FFFFFFF) if name in _PLACES else (0, 0xFFFFFFFF)))
         raise
+
+
+def _no_glyph(glyph: int, count: int) -> str:
+    return f"glyph {glyph}: " + (f"the font's glyphs are 0 to {count - 1}" if count else "the font has no glyph")
+
+
+def _cluster_fault(text: str, width: int, clusters: List[int], direction: str) -> str:
+    """What is wrong with cluster numbers that count units of `width` bits."""
+    begins, at = set(), 0
+    for it in text:
+        begins.add(at)
+        at += 8 * len(it.encode("utf-8" if width == 8 else f"utf-{width}-le", "surrogatepass")) // width
+    wrong = [it for it in clusters if it not in begins]
+    if wrong:
+        return f"cluster {wrong[0]} isn't where a character begins in a text of {at} units"
+    for one, other in zip(clusters, clusters[1:]):
+        if other < one if direction != "rtl" else other > one:
+            return f"cluster {other} comes after cluster {one}, and direction is {direction}"
+    return ""
 
 
 def _thousandths(size: Value) -> int:
@@ -1344,7 +1389,7 @@ class PdfText:
             _check(self._library, status, _Asked(_ADVANCES, *self._font, self._index, array("H"), words))
             held.callback(self._library.subsetter_free_text, ctypes.byref(self._text))
             self._give_back = weakref.finalize(self, held.pop_all().close)
-        self.units_per_em = self._text.units_per_em
+        self.units_per_em, self._glyph_count = self._text.units_per_em, self._text.metric_count
 
     def _words(self, hinting: bool, small: bool, bounds: Bounds, cid_set: bool, tag: Optional[str]) -> array[int]:
         return _pdf_words(
@@ -1386,7 +1431,7 @@ class PdfText:
         with self._opened():
             count = self._text.metric_count
             if numbers and max(numbers) >= count:
-                raise MalformedFont(f"malformed font: glyph {max(numbers)}: the font's glyphs are 0 to {count - 1}")
+                raise MalformedFont(f"malformed font: {_no_glyph(max(numbers), count)}")
             return [self._text.metrics[it].displacement for it in numbers]
 
     def run(self, items: Iterable[Item], direction: Optional[Direction] = None, size: Value = 12) -> bytes:
@@ -1422,13 +1467,29 @@ class PdfText:
             found = advances(self._data, [glyph for _, glyph in own], self._index, coordinates=self._coordinates, tokens=self._limits[0])
             for (place, glyph), width, height in zip(own, found.widths, found.heights):
                 rows[place] += (0, -height, 0, self._above(glyph)) if self._vertical else (width, 0, 0, 0)
+
+        def fault(_: str) -> str:
+            return "the first item continues a cluster, as its text is None" if rows and rows[0][1] else self._fault(rows, characters)
+
         given = _packed(_ITEM, rows, ("a glyph", "", "", "", *_PLACES))
-        return self._shown("subsetter_show_run", direction, size, given, len(rows), characters.buffer_info()[0], len(characters))
+        return self._shown("subsetter_show_run", direction, size, fault, given, len(rows), characters.buffer_info()[0], len(characters))
+
+    def _fault(self, rows: List[Tuple[Any, ...]], characters: Iterable[int]) -> str:
+        """What is wrong with the glyphs or the characters of a run."""
+        across = -4 if self._vertical else -3
+        for row in rows:
+            if row[0] >= self._glyph_count:
+                return _no_glyph(row[0], self._glyph_count)
+            if row[across]:
+                return f"{_PLACES[across]} is {row[across]}, and 0 in {'vertical' if self._vertical else 'horizontal'} text"
+        return _surrogate(characters)
 
     def _above(self, glyph: SupportsIndex) -> int:
         """How far the origin of a glyph is above the pen in a column, in the font's units."""
+        number = operator.index(glyph)
         with self._opened():
-            position: int = self._text.metrics[operator.index(glyph)].position
+            # (a font may have more outlines than `maxp` counts; the library refuses such a glyph)
+            position: int = self._text.metrics[number].position if number < self._glyph_count else 0
         return (1000 - 2 * position * self.units_per_em) // 2000
 
     def shaped(
@@ -1456,17 +1517,21 @@ class PdfText:
             raise TypeError(f"a text is a str, and no {type(text).__name__}")
         order = "" if width == 8 else f"-{sys.byteorder[0]}e"
         encoded = text.encode(f"utf-{width}{order}", "surrogatepass")
-        given = _packed(_SHAPED, rows, ("a codepoint", "a cluster", *_PLACES))
-        return self._shown("subsetter_show_shaped", direction, size, given, len(rows), encoded, 8 * len(encoded) // width, width)
 
-    def _shown(self, call: str, direction: Optional[Direction], size: Value, *given: Any) -> bytes:
+        def fault(direction: str) -> str:
+            return self._fault(rows, map(ord, text)) or _cluster_fault(text, width, [row[1] for row in rows], direction)
+
+        given = _packed(_SHAPED, rows, ("a codepoint", "a cluster", *_PLACES))
+        return self._shown("subsetter_show_shaped", direction, size, fault, given, len(rows), encoded, 8 * len(encoded) // width, width)
+
+    def _shown(self, call: str, direction: Optional[Direction], size: Value, fault: Callable[[str], str], *given: Any) -> bytes:
         known = _DIRECTIONS[2:] if self._vertical else _DIRECTIONS[:2]
         number = _DIRECTIONS.index(known[_choice("direction", known[0] if direction is None else direction, known)])
         thousandths, made = _thousandths(size), _Objects()
         with self._opened() as text:
             status = getattr(self._library, call)(text, *given, number, self._order, thousandths, ctypes.byref(made))
         try:
-            _check(self._library, status)
+            _check(self._library, status, None, lambda: fault(_DIRECTIONS[number]))
             return ctypes.string_at(made.bytes, made.size)
         finally:
             self._library.subsetter_free_pdf_objects(ctypes.byref(made))

@@ -39,7 +39,8 @@ impl fmt::Display for FontError {
 #[derive(Debug, Copy, Clone, Eq, PartialEq)]
 #[non_exhaustive]
 pub enum TextError {
-    /// The glyphs are no run of the font or not of their text, or a number is too large.
+    /// The glyphs are no run of the font or not of their text, or a number is too large: [`run`](super::Text::run) and
+    /// [`shaped`](super::Text::shaped) list the causes. Often the direction is another one.
     InvalidText,
     /// The font of the text would have more than 65,535 codes: the run is for another one.
     Overfull,

@@ -2,7 +2,7 @@
 
 use alloc::vec::Vec;
 
-/// Whole indirect objects, one behind the other.
+/// Whole indirect objects, one after the other.
 #[derive(Debug, Clone, Eq, PartialEq, Hash)]
 pub struct Objects {
     /// Their bytes.

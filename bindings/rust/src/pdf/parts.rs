@@ -40,7 +40,7 @@ pub struct Part<'a> {
     pub role: Role,
     /// The number that it was given.
     pub number: u32,
-    /// The entries of its dictionary, each with a blank behind it: without `<<`, `>>`, Length and, unless it was packed, Filter.
+    /// The entries of its dictionary, each with a blank after it: without `<<`, `>>`, Length and, unless it was packed, Filter.
     pub entries: Vec<u8>,
     /// Where strings are in the entries, with the bytes that begin and end them. A file that is encrypted has these encrypted too.
     pub strings: Vec<Range<usize>>,

@@ -211,7 +211,7 @@ impl<'a> Text<'a> {
     ///
     /// # Errors
     ///
-    /// Those of [`run`](Self::run); [`TextError::InvalidText`] also where a cluster's number is behind the text or inside of
+    /// Those of [`run`](Self::run); [`TextError::InvalidText`] also where a cluster's number is after the text or inside of
     /// a character, or falls from one glyph to the next (rises, from right to left).
     pub fn shaped(
         &mut self,

@@ -41,7 +41,7 @@ pub struct Descriptor<'a> {
 pub struct Permission {
     /// What a document may do with the font.
     pub usage: Usage,
-    /// Whether a subset may stand for the font.
+    /// Whether a subset may be embedded for the font.
     pub subsetting: bool,
     /// Whether outlines may be embedded, and not bitmaps alone.
     pub outlines: bool,

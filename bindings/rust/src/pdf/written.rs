@@ -63,9 +63,9 @@ impl PdfFont {
         })
     }
 
-    /// The font's objects, whole, with numbers from `first` on: the Type 0 font, which pages name, its CIDFont, the font
-    /// descriptor, the font program, ToUnicode, CIDToGIDMap if it is a stream, CIDSet if there is one, and the CMap if the file has
-    /// its own.
+    /// The font's objects, whole, with numbers from `first` on, which is above 0 (that isn't checked): the Type 0 font, which pages
+    /// name, its CIDFont, the font descriptor, the font program, ToUnicode, CIDToGIDMap if it is a stream, CIDSet if there is one,
+    /// and the CMap if the file has its own.
     ///
     /// Streams have no filter, and it is for files that aren't encrypted.
     ///
