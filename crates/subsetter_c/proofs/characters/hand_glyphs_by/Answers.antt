@@ -7,4 +7,4 @@ use Rattle.subsetter_c.proofs.characters.hand_glyphs_by.Goals as goal
 
 pub returns-in-Some-clause-some : goal.returns-in-Some-clause-some
 returns-in-Some-clause-some c =
-    answer_handed (λ (found : List ℕ). found ≡ map (character_glyph (source_view c.in-Some.source).table) c.args.text.now) (λ e. e ≡ OutOfMemory) c.glyphs_by.result c.args.glyphs.now c.hand_glyphs.new.buffer c.hand_glyphs.new.told c.hand_glyphs.result c.glyphs_by.ensures.ok c.glyphs_by.ensures.err c.hand_glyphs.ensures
+    rw c.in-Some.is (answer_handed (λ (found : List ℕ). found ≡ map (character_glyph (source_view c.in-Some.source).table) c.args.text.now) (λ e. e ≡ OutOfMemory) c.glyphs_by.result c.args.glyphs.now c.hand_glyphs.new.buffer c.hand_glyphs.new.told c.hand_glyphs.result c.glyphs_by.ensures.ok c.glyphs_by.ensures.err c.hand_glyphs.ensures)
