@@ -82,7 +82,8 @@ enum {
     /* The options have a size, a depth or a bit that this library doesn't know; or another choice or the size of a struct is wrong, or
      * a text isn't there, as after `subsetter_free_text`. */
     SUBSETTER_UNKNOWN_OPTION = 10,
-    /* The font's maker doesn't permit that it is embedded (`fsType` of the table `OS/2`); of the calls for PDF alone. */
+    /* The font's maker doesn't permit that it is embedded (`fsType` of the table `OS/2`), and `rights` isn't
+     * SUBSETTER_RIGHTS_HELD; of the calls for PDF alone. */
     SUBSETTER_NOT_PERMITTED = 11,
     /* A text has a number that is no character, an end that isn't in its order, or more than 256 UTF-16 units, or isn't UTF-8; or
      * glyphs are no run of the font and of their text; of the calls for PDF alone. */

@@ -31,7 +31,7 @@ export class CFFError extends SubsetterError {}
 /** Memory ran out. The next call is as good as any. */
 export class OutOfMemory extends SubsetterError {}
 
-/** The font's maker doesn't permit that it is embedded (`fsType` of the table `OS/2`). */
+/** The font's maker doesn't permit that it is embedded (`fsType` of the table `OS/2`), and `rights` isn't "held". */
 export class NotPermitted extends SubsetterError {}
 /** A text has an unpaired surrogate, or more than 256 UTF-16 units; or glyphs are no run of the font and of their text. */
 export class InvalidText extends SubsetterError {}

@@ -111,7 +111,7 @@ class OutOfMemory(Error, MemoryError):
 
 
 class NotPermitted(Error):
-    """The font's maker doesn't permit that it is embedded (`fsType` of the table `OS/2`)."""
+    """The font's maker doesn't permit that it is embedded (`fsType` of the table `OS/2`), and `rights` isn't "held"."""
 
 
 class InvalidText(Error, ValueError):

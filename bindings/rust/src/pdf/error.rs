@@ -10,7 +10,8 @@ use core::fmt;
 pub enum FontError {
     /// The error of a call that subsets a font.
     Subset(Error),
-    /// The font's maker doesn't permit it (`fsType` of the table `OS/2`).
+    /// The font's maker doesn't permit it (`fsType` of the table `OS/2`), and the caller doesn't hold the
+    /// [rights](super::Rights::Held).
     NotPermitted(Permission),
     /// A text has more than 256 UTF-16 units.
     TextTooLong,
