@@ -1,6 +1,6 @@
 -- What draws the codes, step by step.
 use Rattle.std.proofs.Common.{◌≡◌, ℕ, ◌+◌, ◌<◌, List, [], ◌∷◌, length, Option, Some, Vec, Global, sym, ap, subst, ◌∙◌, ◌⊎◌, inl, inr, arith}
-use Rattle.std.specs.Prelude.{Result, Ok, IfOk}
+use Rattle.std.specs.Prelude.{Result, Ok, Err, IfOk, IfErr}
 use Rattle.std.specs.Option.{option_map}
 use Rattle.subsetter_base.specs.Gives.{Fails}
 use Rattle.subsetter_base.specs.declared.error.Error.{Error}
@@ -30,6 +30,11 @@ map_of d = option_map (λ (m : Vec ℕ Global). m.items) d.map
 pub with_others : (others : List OwnGlyph) (owns : ℕ) (ds : List Drawing) (seen file : List ℕ) (r : Result Drawn Error) → 0 < length others → seen ≡ file → IfOk r (λ d. HasMore seen others owns ds d.program.items (map_of d)) → IfOk r (λ d. AreMapped file others owns ds d.program.items (map_of d))
 with_others [] owns ds seen file r some same h = absurd (omega arith)
 with_others (o ∷ others) owns ds seen file r some same h = subst (λ (f : List ℕ). IfOk r (λ d. HasMore f (o ∷ others) owns ds d.program.items (map_of d))) same h
+
+pub others_refused : (others : List OwnGlyph) (owns : ℕ) (seen file : List ℕ) (r : Result Drawn Error) → 0 < length others → seen ≡ file → IfErr r (λ e. (e ≡ OutOfMemory) ⊎ IsUnmapped seen others owns e) → IfErr r (λ e. (e ≡ OutOfMemory) ⊎ ((0 < length others) × IsUnmapped file others owns e))
+others_refused others owns seen file (Ok d) some same h = tt
+others_refused others owns seen file (Err e) some same (inl m) = inl m
+others_refused others owns seen file (Err e) some same (inr f) = inr (some, subst (λ (l : List ℕ). IsUnmapped l others owns e) same f)
 
 -- ---- outlines in `CFF `
 

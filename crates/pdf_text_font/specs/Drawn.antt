@@ -1,5 +1,5 @@
 -- What draws the codes of a text: the program, and with TrueType outlines the map from CIDs to its glyphs (ISO 32000-1, 9.7.4.2).
-use Rattle.std.specs.Prelude.{◌≡◌, ◌≢◌, ◌⊎◌, ◌<◌, ◌+◌, ℕ, List, [], ◌∷◌, map, codes, Option, Some, None, Err}
+use Rattle.std.specs.Prelude.{◌≡◌, ◌≢◌, ◌⊎◌, ◌<◌, ◌+◌, ℕ, List, [], ◌∷◌, length, map, codes, Option, Some, None, Err}
 use Rattle.subsetter_base.specs.Options.{◌>>=◌}
 use Rattle.subsetter_base.specs.declared.error.Error.{Error}
 use Rattle.subsetter_base.specs.declared.error.Error.TheVariants.{MalformedFont, OverflowError}
@@ -46,7 +46,7 @@ abbrev pub AreMapped : List ℕ → List OwnGlyph → ℕ → List Drawing → L
 AreMapped file [] owns ds program map = HasNoMore file ds program map
 AreMapped file (o ∷ others) owns ds program map = HasMore file (o ∷ others) owns ds program map
 
--- why they aren't, under the name of the error
+-- why others don't come after them, under the name of the error
 pub data IsUnmapped (file : List ℕ) (others : List OwnGlyph) (owns : ℕ) : Error → Type 0 where
   uncounted : {e : Error} → IsUncounted file e → IsUnmapped file others owns e
   -- more than 65,535 glyphs
@@ -82,8 +82,8 @@ AreDrawn TrueType subset others owns ds program map = AreMapped subset others ow
 AreDrawn BareCff subset others owns ds program map = AreRepeated subset owns ds program map
 AreDrawn OpenType subset others owns ds program map = AreRepeated subset owns ds program map
 
--- why they aren't drawn, under the name of the error
+-- why they aren't drawn, under the name of the error; with TrueType outlines only others can be refused
 abbrev pub HasDrawingFault : ProgramKind → List ℕ → List OwnGlyph → ℕ → List Drawing → Error → Type 0
-HasDrawingFault TrueType subset others owns ds e = IsUnmapped subset others owns e
+HasDrawingFault TrueType subset others owns ds e = (0 < length others) × IsUnmapped subset others owns e
 HasDrawingFault BareCff subset others owns ds e = IsUnrepeated subset owns ds e
 HasDrawingFault OpenType subset others owns ds e = IsUnrepeated subset owns ds e

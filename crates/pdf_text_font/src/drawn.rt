@@ -87,7 +87,7 @@ fn mapped(
     drawings: &[Drawing],
 ) -> Result<Drawn, Error>
     ensures ok { IfOk result (λ d. AreMapped file.items others.now owns drawings.now d.program.items (option_map (λ m. m.items) d.map)) }
-    ensures err { IfErr result (λ e. (e ≡ OutOfMemory) ⊎ IsUnmapped file.items others.now owns e) }
+    ensures err { IfErr result (λ e. (e ≡ OutOfMemory) ⊎ ((0 < length others.now) × IsUnmapped file.items others.now owns e)) }
 {
     if others.len() != 0 {
         return with_more(alloc, &file, others, owns, drawings);
