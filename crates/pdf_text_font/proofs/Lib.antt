@@ -1,4 +1,5 @@
 pub mod CallSteps
 pub mod DrawnSteps
 pub mod MapLaws
+pub mod OwnLaws
 pub mod TextLaws

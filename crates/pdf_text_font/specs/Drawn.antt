@@ -1,8 +1,8 @@
 -- What draws the codes of a text: the program, and with TrueType outlines the map from CIDs to its glyphs (ISO 32000-1, 9.7.4.2).
-use Rattle.std.specs.Prelude.{◌≡◌, ◌⊎◌, ℕ, Bool, true, false, List, [], ◌∷◌, codes, Option, Some, None, Err}
+use Rattle.std.specs.Prelude.{◌≡◌, ◌≢◌, ◌⊎◌, ◌<◌, ◌+◌, ℕ, List, [], ◌∷◌, length, map, codes, Option, Some, None, Err}
 use Rattle.subsetter_base.specs.Options.{◌>>=◌}
 use Rattle.subsetter_base.specs.declared.error.Error.{Error}
-use Rattle.subsetter_base.specs.declared.error.Error.TheVariants.{MalformedFont}
+use Rattle.subsetter_base.specs.declared.error.Error.TheVariants.{MalformedFont, OverflowError}
 use Rattle.subsetter_sfnt.specs.Fields.Maxp.{num_glyphs}
 use Rattle.subsetter_sfnt.specs.Plain.{opened}
 use Rattle.subsetter_sfnt.specs.Read.{as_font, stored}
@@ -13,7 +13,9 @@ use Rattle.cff_repeats.specs.Laws.{HasFigures}
 use Rattle.cff_repeats.specs.Repeats.{with_repeats}
 use Rattle.pdf_text.specs.declared.values.ProgramKind.{ProgramKind}
 use Rattle.pdf_text.specs.declared.values.ProgramKind.TheVariants.{TrueType, BareCff, OpenType}
-use Rattle.pdf_text_font.specs.GlyphMap.{has_blank, map_bytes}
+use Rattle.pdf_text_font.specs.GlyphMap.{map_bytes}
+use Rattle.pdf_text_font.specs.declared.pairs.Drawing.{Drawing}
+use Rattle.pdf_text_font.specs.declared.pairs.Drawing.TheVariants.{Glyph, Own, Nothing}
 
 -- ---- TrueType outlines
 
@@ -28,48 +30,60 @@ glyph_count file = count_by (stored (as_font file))
 abbrev pub IsUncounted : List ℕ → Error → Type 0
 IsUncounted file e = (opened (as_font file) ≡ Err e) ⊎ ((e ≡ MalformedFont) × (glyph_count file ≡ None))
 
--- one glyph without parts and without advance
-pub record IsBlank (own : List OwnGlyph) : Type 0 where
-  pub glyph : OwnGlyph
-  pub one : own ≡ glyph ∷ []
-  pub empty : glyph.parts.now ≡ []
-  pub narrow : glyph.advance ≡ 0
-
--- the glyphs of a file, and a blank behind them, to which a map leads where a code draws nothing
-pub record HasBlank (file : List ℕ) (ns : List (Option ℕ)) (program : List ℕ) (map : Option (List ℕ)) : Type 0 where
-  pub own : List OwnGlyph
-  pub blank : IsBlank own
-  pub glyphs : HasOwnGlyphs file own program
+-- the glyphs of a file, and after them others, of which so many are own ones; a map leads there
+pub record HasMore (file : List ℕ) (others : List OwnGlyph) (owns : ℕ) (ds : List Drawing) (program : List ℕ) (map : Option (List ℕ)) : Type 0 where
+  pub glyphs : HasOwnGlyphs file others program
   pub number : ℕ
   pub number_is : glyph_count file ≡ Some number
-  pub map_is : map ≡ Some (map_bytes number ns)
+  pub map_is : map ≡ Some (map_bytes number owns ds)
 
 -- the glyphs of a file, to which a map leads
-pub record HasNoBlank (file : List ℕ) (ns : List (Option ℕ)) (program : List ℕ) (map : Option (List ℕ)) : Type 0 where
+pub record HasNoMore (file : List ℕ) (ds : List Drawing) (program : List ℕ) (map : Option (List ℕ)) : Type 0 where
   pub same : program ≡ file
-  pub map_is : map ≡ Some (map_bytes 0 ns)
+  pub map_is : map ≡ Some (map_bytes 0 0 ds)
 
-abbrev pub AreMapped : Bool → List ℕ → List (Option ℕ) → List ℕ → Option (List ℕ) → Type 0
-AreMapped true file ns program map = HasBlank file ns program map
-AreMapped false file ns program map = HasNoBlank file ns program map
+abbrev pub AreMapped : List ℕ → List OwnGlyph → ℕ → List Drawing → List ℕ → Option (List ℕ) → Type 0
+AreMapped file [] owns ds program map = HasNoMore file ds program map
+AreMapped file (o ∷ others) owns ds program map = HasMore file (o ∷ others) owns ds program map
 
--- ---- outlines in `CFF `, which have no map
+-- why others don't come after them, under the name of the error
+pub data IsUnmapped (file : List ℕ) (others : List OwnGlyph) (owns : ℕ) : Error → Type 0 where
+  uncounted : {e : Error} → IsUncounted file e → IsUnmapped file others owns e
+  -- more than 65,535 glyphs
+  crowded : (number : ℕ) → glyph_count file ≡ Some number → 65535 < number + owns → IsUnmapped file others owns OverflowError
+  -- the file gets no others
+  refused : {e : Error} → IsRefused file others e → IsUnmapped file others owns e
+
+-- ---- outlines in `CFF `, which have no map and get no own glyphs
+
+abbrev pub figure_of : Drawing → Option ℕ
+figure_of (Glyph n) = Some n
+figure_of (Own k) = None
+figure_of Nothing = None
+
+abbrev pub figures_of : List Drawing → List (Option ℕ)
+figures_of ds = map figure_of ds
 
 -- of each code the charstring of its figure, whose CID is the code
-pub record AreRepeated (cff : List ℕ) (ns : List (Option ℕ)) (program : List ℕ) (map : Option (List ℕ)) : Type 0 where
-  pub figures : HasFigures ns cff program
+pub record AreRepeated (cff : List ℕ) (owns : ℕ) (ds : List Drawing) (program : List ℕ) (map : Option (List ℕ)) : Type 0 where
+  pub no_own : owns ≡ 0
+  pub figures : HasFigures (figures_of ds) cff program
   pub none : map ≡ None
+
+pub data IsUnrepeated (cff : List ℕ) (owns : ℕ) (ds : List Drawing) : Error → Type 0 where
+  own_ones : owns ≢ 0 → IsUnrepeated cff owns ds OverflowError
+  unrepeated : {e : Error} → with_repeats cff (figures_of ds) ≡ Err e → IsUnrepeated cff owns ds e
 
 -- ---- both
 
--- each code draws its glyph of a subset, or a blank
-abbrev pub AreDrawn : ProgramKind → List ℕ → List (Option ℕ) → List ℕ → Option (List ℕ) → Type 0
-AreDrawn TrueType subset ns program map = AreMapped (has_blank ns) subset ns program map
-AreDrawn BareCff subset ns program map = AreRepeated subset ns program map
-AreDrawn OpenType subset ns program map = AreRepeated subset ns program map
+-- each code draws its glyph of a subset, or one of others that come after these, of which so many are own ones
+abbrev pub AreDrawn : ProgramKind → List ℕ → List OwnGlyph → ℕ → List Drawing → List ℕ → Option (List ℕ) → Type 0
+AreDrawn TrueType subset others owns ds program map = AreMapped subset others owns ds program map
+AreDrawn BareCff subset others owns ds program map = AreRepeated subset owns ds program map
+AreDrawn OpenType subset others owns ds program map = AreRepeated subset owns ds program map
 
--- why they aren't drawn, under the name of the error: the file gets no blank, has no `maxp`, or the `CFF ` has no such charstrings
-pub data HasDrawingFault (subset : List ℕ) (ns : List (Option ℕ)) : Error → Type 0 where
-  uncounted : {e : Error} → has_blank ns ≡ true → IsUncounted subset e → HasDrawingFault subset ns e
-  without_blank : {e : Error} (own : List OwnGlyph) → has_blank ns ≡ true → IsBlank own → IsRefused subset own e → HasDrawingFault subset ns e
-  unrepeated : {e : Error} → with_repeats subset ns ≡ Err e → HasDrawingFault subset ns e
+-- why they aren't drawn, under the name of the error; with TrueType outlines only others can be refused
+abbrev pub HasDrawingFault : ProgramKind → List ℕ → List OwnGlyph → ℕ → List Drawing → Error → Type 0
+HasDrawingFault TrueType subset others owns ds e = (0 < length others) × IsUnmapped subset others owns e
+HasDrawingFault BareCff subset others owns ds e = IsUnrepeated subset owns ds e
+HasDrawingFault OpenType subset others owns ds e = IsUnrepeated subset owns ds e

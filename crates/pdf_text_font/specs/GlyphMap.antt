@@ -1,26 +1,21 @@
 -- CIDToGIDMap as a stream: two bytes for each CID, the number of its glyph (ISO 32000-1, 9.7.4.2, Table 117).
-use Rattle.std.specs.Prelude.{◌*◌, ℕ, not, is_some, Bool, List, [], ◌∷◌, ◌++◌, Option}
+use Rattle.std.specs.Prelude.{ℕ, ◌+◌, ◌*◌, min, List, [], ◌∷◌, ◌++◌, Option}
 use Rattle.std.specs.Int.{w16, to_be_bytes}
-use Rattle.std.specs.List.{list_any}
-use Rattle.std.specs.Option.{unwrap_or}
 use Rattle.subsetter_base.specs.Bytes.{number}
+use Rattle.pdf_text_font.specs.declared.pairs.Drawing.{Drawing}
+use Rattle.pdf_text_font.specs.declared.pairs.Drawing.TheVariants.{Glyph, Own, Nothing}
 
-abbrev pub is_blank : Option ℕ → Bool
-is_blank n = not (is_some n)
-
--- whether one is a blank
-abbrev pub has_blank : List (Option ℕ) → Bool
-has_blank ns = list_any is_blank ns
-
--- the number of a code's glyph, where blanks have this one
-abbrev pub glyph_number : ℕ → Option ℕ → ℕ
-glyph_number blank n = unwrap_or n blank
+-- the number of the glyph that draws a code: so many own glyphs are after the others, from this number on, and after them the blank
+abbrev pub glyph_number : ℕ → ℕ → Drawing → ℕ
+glyph_number first owns (Glyph n) = n
+glyph_number first owns (Own k) = first + min k owns
+glyph_number first owns Nothing = first + owns
 
 -- ---- written
 
-abbrev pub map_bytes : ℕ → List (Option ℕ) → List ℕ
-map_bytes blank [] = []
-map_bytes blank (n ∷ ns) = to_be_bytes w16 (glyph_number blank n) ++ map_bytes blank ns
+abbrev pub map_bytes : ℕ → ℕ → List Drawing → List ℕ
+map_bytes first owns [] = []
+map_bytes first owns (d ∷ ds) = to_be_bytes w16 (glyph_number first owns d) ++ map_bytes first owns ds
 
 -- ---- read
 

@@ -1,6 +1,7 @@
 pub mod Drawn
 pub mod GlyphMap
 pub mod Laws
+pub mod Own
 pub mod Pairs
 pub mod TextFont
 pub mod Texts

@@ -1,17 +1,20 @@
 //! The font of a text, of the subset that its codes want.
 
-ghost use Rattle.std.specs.Prelude.{◌≡◌, ◌≤◌, ◌<◌, ◌⊎◌, length, drop, IfOk, IfErr};
+ghost use Rattle.std.specs.Prelude.{◌≡◌, ◌≤◌, ◌<◌, ◌+◌, ◌⊎◌, length, drop, map, IfOk, IfErr};
 ghost use Rattle.std.specs.Option.{option_map};
 ghost use Rattle.subsetter_base.specs.declared.error.Error.TheVariants.{OutOfMemory};
 ghost use Rattle.pdf_font.specs.PdfFont.{IsCidSetIf};
 ghost use Rattle.pdf_source.specs.Source.{tag_in};
 ghost use Rattle.pdf_text_font.specs.Drawn.{HasDrawingFault};
-ghost use Rattle.pdf_text_font.specs.Pairs.{numbers_of};
-ghost use Rattle.pdf_text_font.specs.TextFont.{IsByCode, columns_by, each_of, renamed};
+ghost use Rattle.pdf_text_font.specs.Own.{all_parts};
+ghost use Rattle.pdf_text_font.specs.TextFont.{HasSubsetFault, IsByCode, IsOfSubset, columns_by, drawn_by, each_of, parts_in, renamed};
 
 use crate::drawn::draw_codes;
-use crate::pairs::{numbers_of, values_of};
+use crate::own::{added, advances_of, parts_by, widths_of};
+use crate::pairs::{Drawing, drawings_of, has_blank, values_of};
 use crate::texts::to_unicode;
+use own_glyphs::{OwnGlyph, Part};
+use pdf_figures::{OwnInk, Placed};
 use pdf_font::{Columns, Descriptor, FontOptions, PdfFont, SubsetTag};
 use pdf_runs::Pair;
 use pdf_source::most_frequent;
@@ -28,7 +31,7 @@ pub struct TextFont {
     pub cid_to_gid_map: Option<Vec<u8>>,
 }
 
-/// A blank in vertical writing.
+/// A blank or an own glyph in vertical writing.
 const BLANK_COLUMN: Column = Column {
     advance: 0,
     x: 0,
@@ -39,16 +42,16 @@ const BLANK_COLUMN: Column = Column {
 fn columns_by(
     alloc: Global,
     columns: &Option<Columns>,
-    numbers: &[Option<u16>],
+    drawings: &[Drawing],
 ) -> Result<Option<Columns>, Error>
-    ensures each { IfOk result (λ by. option_map each_of by ≡ columns_by numbers.now columns.now) }
+    ensures each { IfOk result (λ by. option_map each_of by ≡ columns_by drawings.now columns.now) }
     ensures default { IfOk result (λ by. option_map (λ (c : Columns). c.default) by ≡ option_map (λ (c : Columns). c.default) columns.now) }
     ensures err { IfErr result (λ e. e ≡ OutOfMemory) }
 {
     match columns {
         None => Ok(None),
         Some(columns) => Ok(Some(Columns {
-            each: values_of(alloc, BLANK_COLUMN, &columns.each, numbers)?,
+            each: values_of(alloc, BLANK_COLUMN, &columns.each, &[], drawings)?,
             default: columns.default,
         })),
     }
@@ -101,28 +104,39 @@ fn renamed(
     Ok(renamed)
 }
 
-/// The font of a text, of a subset where the codes' glyphs have these numbers.
+/// The font of a text, of a subset that draws its codes so, with others after its glyphs, of which the first are these own ones.
 fn filled(
     alloc: Global,
     subset: PdfFont,
     pairs: &[Pair],
-    numbers: &[Option<u16>],
+    own: &[OwnInk],
+    drawings: &[Drawing],
+    others: &[OwnGlyph<'_>],
     options: &FontOptions,
 ) -> Result<TextFont, Error>
-    requires numbers { length numbers.now ≡ length pairs.now }
+    requires drawings { length drawings.now ≡ length pairs.now }
     requires some { 0 < length pairs.now }
     requires few { length pairs.now ≤ 65535 }
-    ensures ok { IfOk result (λ t. IsByCode options.now pairs.now numbers.now subset t) }
-    ensures err { IfErr result (λ e. (e ≡ OutOfMemory) ⊎ HasDrawingFault subset.program.items numbers.now e) }
+    ensures ok { IfOk result (λ t. IsByCode options.now own.now pairs.now drawings.now others.now subset t) }
+    ensures err { IfErr result (λ e. (e ≡ OutOfMemory) ⊎ HasDrawingFault subset.kind subset.program.items others.now (length own.now) drawings.now e) }
 {
     let count = pairs.len() as u16;
-    let widths = values_of(alloc, 0, &subset.widths, numbers)?;
-    let exact_widths = values_of(alloc, 0, &subset.exact_widths, numbers)?;
+    let own_widths = widths_of(alloc, subset.units_per_em, own)?;
+    let advances = advances_of(alloc, own)?;
+    let widths = values_of(alloc, 0, &subset.widths, &own_widths, drawings)?;
+    let exact_widths = values_of(alloc, 0, &subset.exact_widths, &advances, drawings)?;
     let default_width = most_frequent(alloc, &widths)?;
-    let columns = columns_by(alloc, &subset.columns, numbers)?;
+    let columns = columns_by(alloc, &subset.columns, drawings)?;
     let to_unicode = to_unicode(alloc, pairs)?;
     let cid_set = cid_set_if(alloc, options.cid_set, count)?;
-    let drawn = draw_codes(alloc, subset.kind, subset.program, numbers)?;
+    let drawn = draw_codes(
+        alloc,
+        subset.kind,
+        subset.program,
+        others,
+        own.len(),
+        drawings,
+    )?;
     let font_name = renamed(
         alloc,
         options.tag,
@@ -156,7 +170,16 @@ fn filled(
     })
 }
 
-/// The font of a text, of the subset of the glyphs that the codes want.
+/// The numbers after those of codes.
+fn after_codes(numbers: &[u16], codes: usize) -> &[u16]
+    requires { codes ≤ length numbers.now }
+    ensures { result.now ≡ drop codes numbers.now }
+{
+    &numbers[codes..]
+}
+
+/// The font of a text, of the subset of the glyphs that the codes want and of the parts of own glyphs, of a source with so many
+/// glyphs.
 ///
 /// # Errors
 ///
@@ -166,14 +189,21 @@ pub fn font_by_code(
     alloc: Global,
     subset: PdfFont,
     pairs: &[Pair],
+    count: usize,
+    own: &[OwnInk],
+    parts: &[Placed],
     options: &FontOptions,
 ) -> Result<TextFont, Error>
-    requires cids { length subset.cids.items ≡ length pairs.now }
+    requires parts { parts.now ≡ all_parts own.now }
+    requires cids { length subset.cids.items ≡ length pairs.now + length parts.now }
     requires some { 0 < length pairs.now }
     requires few { length pairs.now ≤ 65535 }
-    ensures ok { IfOk result (λ t. IsByCode options.now pairs.now (numbers_of pairs.now subset.cids.items) subset t) }
-    ensures err { IfErr result (λ e. (e ≡ OutOfMemory) ⊎ HasDrawingFault subset.program.items (numbers_of pairs.now subset.cids.items) e) }
+    ensures ok { IfOk result (λ t. IsOfSubset options.now count own.now pairs.now subset t) }
+    ensures err { IfErr result (λ e. (e ≡ OutOfMemory) ⊎ HasSubsetFault count own.now pairs.now subset e) }
 {
-    let numbers = numbers_of(alloc, pairs, &subset.cids)?;
-    filled(alloc, subset, pairs, &numbers, options)
+    let drawings = drawings_of(alloc, count, own.len(), pairs, &subset.cids)?;
+    let numbers = after_codes(&subset.cids, pairs.len());
+    let parts = parts_by(alloc, parts, numbers)?;
+    let others = added(alloc, own, &parts, has_blank(&drawings))?;
+    filled(alloc, subset, pairs, own, &drawings, &others, options)
 }

@@ -1,43 +1,44 @@
 //! CIDToGIDMap as a stream.
 
-ghost use Rattle.std.specs.Prelude.{◌≡◌, IfOk, IfErr};
+ghost use Rattle.std.specs.Prelude.{◌≡◌, ◌≤◌, ◌+◌, IfOk, IfErr};
 ghost use Rattle.subsetter_base.specs.declared.error.Error.TheVariants.{OutOfMemory};
-ghost use Rattle.pdf_text_font.specs.GlyphMap.{glyph_number, has_blank, map_bytes};
+ghost use Rattle.pdf_text_font.specs.GlyphMap.{glyph_number, map_bytes};
 
+use crate::pairs::Drawing;
 use std::alloc::Global;
 use subsetter_base::Error;
 
-/// Whether one of these is a blank.
-pub fn has_blank(numbers: &[Option<u16>]) -> bool
-    ensures { result ≡ has_blank numbers.now }
+/// The number of the glyph that draws a code: so many own glyphs are after the others, from this number on, and after them the
+/// blank.
+fn glyph_number(first: u16, owns: u16, drawing: Drawing) -> u16
+    requires { first + owns ≤ 65535 }
+    ensures { result ≡ glyph_number first owns drawing }
 {
-    for number in numbers {
-        if number.is_none() {
-            return true;
-        }
+    match drawing {
+        Drawing::Glyph(number) => number,
+        Drawing::Own(place) => first + place.min(owns),
+        Drawing::Nothing => first + owns,
     }
-    false
 }
 
-/// The number of a code's glyph, where blanks have this one.
-fn glyph_number(blank: u16, number: Option<u16>) -> u16
-    ensures { result ≡ glyph_number blank number }
-{
-    number.unwrap_or(blank)
-}
-
-/// The map from CIDs, which are codes, to the numbers of their glyphs, where blanks have this one.
+/// The map from CIDs, which are codes, to the numbers of their glyphs.
 ///
 /// # Errors
 ///
 /// `OutOfMemory` alone.
-pub fn map_to_glyphs(alloc: Global, blank: u16, numbers: &[Option<u16>]) -> Result<Vec<u8>, Error>
-    ensures ok { IfOk result (λ map. map.items ≡ map_bytes blank numbers.now) }
+pub fn map_to_glyphs(
+    alloc: Global,
+    first: u16,
+    owns: u16,
+    drawings: &[Drawing],
+) -> Result<Vec<u8>, Error>
+    requires { first + owns ≤ 65535 }
+    ensures ok { IfOk result (λ map. map.items ≡ map_bytes first owns drawings.now) }
     ensures err { IfErr result (λ e. e ≡ OutOfMemory) }
 {
     let mut map = Vec::new(alloc);
-    for number in numbers {
-        map.extend_from_slice(&glyph_number(blank, *number).to_be_bytes())?;
+    for drawing in drawings {
+        map.extend_from_slice(&glyph_number(first, owns, *drawing).to_be_bytes())?;
     }
     Ok(map)
 }

@@ -1,10 +1,15 @@
 //! Laws of the font of a text, which no code runs.
 
-ghost use Rattle.pdf_text_font.specs.Laws.{MapsAreRead, TextsAreRead};
+ghost use Rattle.pdf_text_font.specs.Laws.{MapsAreRead, OwnGlyphsAreKept, TextsAreRead};
 
 /// CIDToGIDMap leads each code to the number of its glyph.
 pub fn maps_are_read()
     ensures { MapsAreRead }
+{}
+
+/// Own glyphs have their parts, in order, under the numbers of these and in their places.
+pub fn own_glyphs_are_kept()
+    ensures { OwnGlyphsAreKept }
 {}
 
 /// ToUnicode has a line for each code above 0, and no other.

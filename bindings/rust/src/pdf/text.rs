@@ -352,7 +352,7 @@ impl<'a> Text<'a> {
     pub fn font(&self, options: &FontOptions) -> Result<PdfFont, FontError> {
         let options = options.direction(self.options.direction).chosen();
         let (data, index, at) = (self.data, self.index, &self.coordinates);
-        let made = text_font(Global, data, index, at, &self.pairs, &options);
+        let made = text_font(Global, data, index, at, &self.pairs, 65_536, &[], &options);
         let made = made.map_err(FontError::of)?;
         let map = made.cid_to_gid_map.map(|it| it.into_inner());
         Ok(PdfFont::with_map(made.font, map)?)

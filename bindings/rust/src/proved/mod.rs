@@ -48,6 +48,8 @@ pub mod pdf_cff;
 #[cfg(feature = "variable-fonts")]
 pub mod pdf_codes;
 #[cfg(feature = "variable-fonts")]
+pub mod pdf_figures;
+#[cfg(feature = "variable-fonts")]
 pub mod pdf_font;
 #[cfg(feature = "variable-fonts")]
 pub mod pdf_glyphs;

@@ -1,5 +1,5 @@
 -- What is said of runs of text, of a text and of its font that are handed over, in other words.
-use Rattle.std.proofs.Common.{◌≡◌, ℕ, Bool, List, map, sym, ap, subst, ◌∙◌, ◌⊎◌, inl, inr, Result, Ok, Err, ℤ}
+use Rattle.std.proofs.Common.{◌≡◌, ℕ, Bool, List, [], map, sym, ap, subst, ◌∙◌, ◌⊎◌, inl, inr, Result, Ok, Err, ℤ}
 use Rattle.std.specs.Prelude.{IfOk, IfErr}
 use Rattle.subsetter_base.specs.Gives.{Fails, Gives}
 use Rattle.subsetter_base.specs.declared.error.Error.{Error}
@@ -94,14 +94,14 @@ text_font_handed Is Why answer made status ok err memory (no_font e (inl w) empt
 text_font_handed Is Why answer made status ok err memory (no_font e (inr w) empty s) = no_font e (subst Why (sym w) memory) empty s
 
 -- what is answered at lists that equal others
-pub text_font_of : (font : Source) (given settings : List (Tag × ℤ)) (options : FontOptions) (ps qs : List Pair) (r : Result TextFont FontError) → given ≡ settings → ps ≡ qs → IfOk r (λ t. IsTextFont font given options (by_code ps) t) → IfOk r (λ t. IsTextFont font settings options (by_code qs) t)
+pub text_font_of : (font : Source) (given settings : List (Tag × ℤ)) (options : FontOptions) (ps qs : List Pair) (r : Result TextFont FontError) → given ≡ settings → ps ≡ qs → IfOk r (λ t. IsTextFont font given options 65536 [] (by_code ps) t) → IfOk r (λ t. IsTextFont font settings options 65536 [] (by_code qs) t)
 text_font_of font given settings options ps qs r g p h =
-    subst (λ (l : List Pair). IfOk r (λ t. IsTextFont font settings options (by_code l) t)) p
-    (subst (λ (s : List (Tag × ℤ)). IfOk r (λ t. IsTextFont font s options (by_code ps) t)) g h)
+    subst (λ (l : List Pair). IfOk r (λ t. IsTextFont font settings options 65536 [] (by_code l) t)) p
+    (subst (λ (s : List (Tag × ℤ)). IfOk r (λ t. IsTextFont font s options 65536 [] (by_code ps) t)) g h)
 
-pub no_text_font_of : (Other : FontError → Type 0) (font : Source) (given settings : List (Tag × ℤ)) (options : FontOptions) (ps qs : List Pair) (r : Result TextFont FontError) → given ≡ settings → ps ≡ qs → IfErr r (λ e. (e ≡ Subset OutOfMemory) ⊎ HasTextFault font given options (by_code ps) e)
-    → IfErr r (λ e. (e ≡ Subset OutOfMemory) ⊎ (Other e ⊎ HasTextFault font settings options (by_code qs) e))
+pub no_text_font_of : (Other : FontError → Type 0) (font : Source) (given settings : List (Tag × ℤ)) (options : FontOptions) (ps qs : List Pair) (r : Result TextFont FontError) → given ≡ settings → ps ≡ qs → IfErr r (λ e. (e ≡ Subset OutOfMemory) ⊎ HasTextFault font given options 65536 [] (by_code ps) e)
+    → IfErr r (λ e. (e ≡ Subset OutOfMemory) ⊎ (Other e ⊎ HasTextFault font settings options 65536 [] (by_code qs) e))
 no_text_font_of Other font given settings options ps qs (Ok t) g p h = tt
 no_text_font_of Other font given settings options ps qs (Err e) g p (inl memory) = inl memory
 no_text_font_of Other font given settings options ps qs (Err e) g p (inr fault) =
-    inr (inr (subst (λ (l : List Pair). HasTextFault font settings options (by_code l) e) p (subst (λ (s : List (Tag × ℤ)). HasTextFault font s options (by_code ps) e) g fault)))
+    inr (inr (subst (λ (l : List Pair). HasTextFault font settings options 65536 [] (by_code l) e) p (subst (λ (s : List (Tag × ℤ)). HasTextFault font s options 65536 [] (by_code ps) e) g fault)))

@@ -92,12 +92,13 @@ pub record IsTextMade (font : List ℕ) (index : ℕ) (coordinates : List Coordi
 abbrev pub directed : TextMade → FontOptions → FontOptions
 directed t o = record o { direction = direction_chosen t.is_vertical }
 
+-- glyphs have 16 bits, and none is an own one
 abbrev pub IsTextFontOf : TextMade → FontOptions → TextFont → Type 0
-IsTextFontOf t options = IsTextFont (font_of t.font.now t.index options) (settings_of t.coordinates.now) options (by_code (pairs_in t.pairs.now))
+IsTextFontOf t options = IsTextFont (font_of t.font.now t.index options) (settings_of t.coordinates.now) options 65536 [] (by_code (pairs_in t.pairs.now))
 
 -- memory ran out, there are more codes than a font can have, or the font or the codes have a fault
 abbrev pub HasNoTextFont : TextMade → FontOptions → FontError → Type 0
-HasNoTextFont t options e = (e ≡ Subset OutOfMemory) ⊎ (((e ≡ Subset OverflowError) × (65535 < length (pairs_in t.pairs.now))) ⊎ HasTextFault (font_of t.font.now t.index options) (settings_of t.coordinates.now) options (by_code (pairs_in t.pairs.now)) e)
+HasNoTextFont t options e = (e ≡ Subset OutOfMemory) ⊎ (((e ≡ Subset OverflowError) × (65535 < length (pairs_in t.pairs.now))) ⊎ HasTextFault (font_of t.font.now t.index options) (settings_of t.coordinates.now) options 65536 [] (by_code (pairs_in t.pairs.now)) e)
 
 -- a font of which `Is` holds, or an error of which `Why` holds, is handed over: it has no entries
 pub data IsTextFontHandedBy (Is : TextFont → Type 0) (Why : FontError → Type 0) (made : FontMade) (status : ℕ) : Type 0 where

@@ -234,7 +234,16 @@ fn font_for(alloc: Global, text: &TextMade, options: &FontOptions) -> Result<Tex
         Err(RunError::OutOfMemory) => return Err(FontError::Subset(Error::OutOfMemory)),
         Err(_) => return Err(FontError::Subset(Error::OverflowError)),
     };
-    text_font(alloc, text.font, text.index, &settings, &pairs, options)
+    text_font(
+        alloc,
+        text.font,
+        text.index,
+        &settings,
+        &pairs,
+        65536,
+        &[],
+        options,
+    )
 }
 
 /// The bytes of a map, if there is one.

@@ -178,7 +178,7 @@ pub fn text_font(
     } else {
         Direction::Horizontal
     };
-    let made = proved_font(Global, data, index, &at, &pairs, &options);
+    let made = proved_font(Global, data, index, &at, &pairs, 65_536, &[], &options);
     let made = made.map_err(|error| Refusal::Font(FontError::of(error)))?;
     let (mut lists, numbers) = parted(made.font)?;
     lists.cid_to_gid_map = made

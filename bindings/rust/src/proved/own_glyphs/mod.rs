@@ -15,4 +15,4 @@ mod profile;
 mod source;
 
 pub use adding::with_own_glyphs;
-pub use glyph::OwnGlyph;
+pub use glyph::{OwnGlyph, Part};

@@ -6,7 +6,8 @@ use crate::rattle::prelude::Vec;
 use crate::proved::cff_repeats::with_repeats;
 use crate::proved::own_glyphs::{with_own_glyphs, OwnGlyph};
 use crate::proved::pdf_text::ProgramKind;
-use crate::proved::pdf_text_font::glyph_map::{has_blank, map_to_glyphs};
+use crate::proved::pdf_text_font::glyph_map::map_to_glyphs;
+use crate::proved::pdf_text_font::pairs::Drawing;
 use crate::proved::subsetter_base::{Error, Tag};
 use crate::proved::subsetter_sfnt::extras::Extras;
 use crate::proved::subsetter_sfnt::face::Face;
@@ -19,14 +20,6 @@ pub struct Drawn {
     pub program: Vec<u8>,
     /// None of outlines in `CFF `.
     pub map: Option<Vec<u8>>,
-}
-
-/// A glyph without ink and without advance.
-fn blank() -> OwnGlyph<'static> {
-    OwnGlyph {
-        parts: &[],
-        advance: 0,
-    }
 }
 
 /// numGlyphs.
@@ -43,50 +36,95 @@ fn counted(file: &[u8]) -> Result<u16, Error> {
     }
 }
 
-/// The glyphs of a file, a blank behind them, and a map to them.
-fn with_blank(alloc: Global, file: &[u8], numbers: &[Option<u16>]) -> Result<Drawn, Error> {
+/// How many own glyphs there are, if they and so many glyphs before them are at most 65,535.
+fn few(count: u16, owns: usize) -> Result<u16, Error> {
+    if owns > usize::from(u16::MAX - count) {
+        return Err(Error::OverflowError);
+    }
+    Ok(owns as u16)
+}
+
+/// The glyphs of a file, others after them, of which so many are own ones, and a map to them.
+fn with_more(
+    alloc: Global,
+    file: &[u8],
+    others: &[OwnGlyph<'_>],
+    owns: usize,
+    drawings: &[Drawing],
+) -> Result<Drawn, Error> {
     let number = counted(file)?;
-    let program = with_own_glyphs(alloc, file, &[blank()])?;
-    let map = map_to_glyphs(alloc, number, numbers)?;
+    let owns = few(number, owns)?;
+    let program = with_own_glyphs(alloc, file, others)?;
+    let map = map_to_glyphs(alloc, number, owns, drawings)?;
     Ok(Drawn {
         program,
         map: Some(map),
     })
 }
 
-/// The glyphs of a file, a blank behind them if it is wanted, and a map to them.
-fn mapped(alloc: Global, file: Vec<u8>, numbers: &[Option<u16>]) -> Result<Drawn, Error> {
-    if has_blank(numbers) {
-        return with_blank(alloc, &file, numbers);
+/// The glyphs of a file, others after them, if there are any, of which so many are own ones, and a map to them.
+fn mapped(
+    alloc: Global,
+    file: Vec<u8>,
+    others: &[OwnGlyph<'_>],
+    owns: usize,
+    drawings: &[Drawing],
+) -> Result<Drawn, Error> {
+    if others.len() != 0 {
+        return with_more(alloc, &file, others, owns, drawings);
     }
-    let map = map_to_glyphs(alloc, 0, numbers)?;
+    let map = map_to_glyphs(alloc, 0, 0, drawings)?;
     Ok(Drawn {
         program: file,
         map: Some(map),
     })
 }
 
-/// A `CFF ` with the charstring of each code's figure.
-fn repeated(alloc: Global, cff: &[u8], numbers: &[Option<u16>]) -> Result<Drawn, Error> {
-    let program = with_repeats(alloc, cff, numbers)?;
+/// The glyph of a `CFF ` that draws a code.
+fn figure_of(drawing: Drawing) -> Option<u16> {
+    match drawing {
+        Drawing::Glyph(number) => Some(number),
+        Drawing::Own(_) | Drawing::Nothing => None,
+    }
+}
+
+/// The glyphs of a `CFF ` that draw the codes.
+fn figures_of(alloc: Global, drawings: &[Drawing]) -> Result<Vec<Option<u16>>, Error> {
+    let mut figures = Vec::with_capacity(alloc, drawings.len())?;
+    for drawing in drawings {
+        figures.push(figure_of(*drawing))?;
+    }
+    Ok(figures)
+}
+
+/// A `CFF ` with the charstring of each code's figure; it gets no own glyphs.
+fn repeated(alloc: Global, cff: &[u8], owns: usize, drawings: &[Drawing]) -> Result<Drawn, Error> {
+    if owns != 0 {
+        return Err(Error::OverflowError);
+    }
+    let figures = figures_of(alloc, drawings)?;
+    let program = with_repeats(alloc, cff, &figures)?;
     Ok(Drawn { program, map: None })
 }
 
-/// What draws the codes, of which these are the numbers of their glyphs in a subset; none is a blank.
+/// What draws the codes, of glyphs of a subset and others after these, of which so many are own ones.
 ///
 /// # Errors
 ///
-/// - `OverflowError`: there is no glyph left for a blank; with outlines in `CFF ` what `with_repeats` answers.
+/// - `OverflowError`: there would be more than 65,535 glyphs, or what else `with_own_glyphs` answers; with outlines in `CFF ` there
+///   are own ones, or what `with_repeats` answers.
 /// - `MalformedFont`: the program isn't that of a subset.
 /// - `OutOfMemory`: a request for memory was refused.
 pub fn draw_codes(
     alloc: Global,
     kind: ProgramKind,
     program: Vec<u8>,
-    numbers: &[Option<u16>],
+    others: &[OwnGlyph<'_>],
+    owns: usize,
+    drawings: &[Drawing],
 ) -> Result<Drawn, Error> {
     match kind {
-        ProgramKind::TrueType => mapped(alloc, program, numbers),
-        ProgramKind::BareCff | ProgramKind::OpenType => repeated(alloc, &program, numbers),
+        ProgramKind::TrueType => mapped(alloc, program, others, owns, drawings),
+        ProgramKind::BareCff | ProgramKind::OpenType => repeated(alloc, &program, owns, drawings),
     }
 }

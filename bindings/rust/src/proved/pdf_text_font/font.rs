@@ -3,12 +3,15 @@
 
 use crate::rattle::prelude::Vec;
 
+use crate::proved::own_glyphs::OwnGlyph;
+use crate::proved::pdf_figures::{OwnInk, Placed};
 use crate::proved::pdf_font::{Columns, Descriptor, FontOptions, PdfFont, SubsetTag};
 use crate::proved::pdf_runs::Pair;
 use crate::proved::pdf_source::most_frequent;
 use crate::proved::pdf_text::{cid_set, tag_of, Column};
 use crate::proved::pdf_text_font::drawn::draw_codes;
-use crate::proved::pdf_text_font::pairs::{numbers_of, values_of};
+use crate::proved::pdf_text_font::own::{added, advances_of, parts_by, widths_of};
+use crate::proved::pdf_text_font::pairs::{drawings_of, has_blank, values_of, Drawing};
 use crate::proved::pdf_text_font::texts::to_unicode;
 use crate::proved::subsetter_base::Error;
 use crate::rattle::alloc::Global;
@@ -21,7 +24,7 @@ pub struct TextFont {
     pub cid_to_gid_map: Option<Vec<u8>>,
 }
 
-/// A blank in vertical writing.
+/// A blank or an own glyph in vertical writing.
 const BLANK_COLUMN: Column = Column {
     advance: 0,
     x: 0,
@@ -32,12 +35,12 @@ const BLANK_COLUMN: Column = Column {
 fn columns_by(
     alloc: Global,
     columns: &Option<Columns>,
-    numbers: &[Option<u16>],
+    drawings: &[Drawing],
 ) -> Result<Option<Columns>, Error> {
     match columns {
         None => Ok(None),
         Some(columns) => Ok(Some(Columns {
-            each: values_of(alloc, BLANK_COLUMN, &columns.each, numbers)?,
+            each: values_of(alloc, BLANK_COLUMN, &columns.each, &[], drawings)?,
             default: columns.default,
         })),
     }
@@ -80,22 +83,33 @@ fn renamed(
     Ok(renamed)
 }
 
-/// The font of a text, of a subset where the codes' glyphs have these numbers.
+/// The font of a text, of a subset that draws its codes so, with others after its glyphs, of which the first are these own ones.
 fn filled(
     alloc: Global,
     subset: PdfFont,
     pairs: &[Pair],
-    numbers: &[Option<u16>],
+    own: &[OwnInk],
+    drawings: &[Drawing],
+    others: &[OwnGlyph<'_>],
     options: &FontOptions,
 ) -> Result<TextFont, Error> {
     let count = pairs.len() as u16;
-    let widths = values_of(alloc, 0, &subset.widths, numbers)?;
-    let exact_widths = values_of(alloc, 0, &subset.exact_widths, numbers)?;
+    let own_widths = widths_of(alloc, subset.units_per_em, own)?;
+    let advances = advances_of(alloc, own)?;
+    let widths = values_of(alloc, 0, &subset.widths, &own_widths, drawings)?;
+    let exact_widths = values_of(alloc, 0, &subset.exact_widths, &advances, drawings)?;
     let default_width = most_frequent(alloc, &widths)?;
-    let columns = columns_by(alloc, &subset.columns, numbers)?;
+    let columns = columns_by(alloc, &subset.columns, drawings)?;
     let to_unicode = to_unicode(alloc, pairs)?;
     let cid_set = cid_set_if(alloc, options.cid_set, count)?;
-    let drawn = draw_codes(alloc, subset.kind, subset.program, numbers)?;
+    let drawn = draw_codes(
+        alloc,
+        subset.kind,
+        subset.program,
+        others,
+        own.len(),
+        drawings,
+    )?;
     let font_name = renamed(
         alloc,
         options.tag,
@@ -129,7 +143,13 @@ fn filled(
     })
 }
 
-/// The font of a text, of the subset of the glyphs that the codes want.
+/// The numbers after those of codes.
+fn after_codes(numbers: &[u16], codes: usize) -> &[u16] {
+    &numbers[codes..]
+}
+
+/// The font of a text, of the subset of the glyphs that the codes want and of the parts of own glyphs, of a source with so many
+/// glyphs.
 ///
 /// # Errors
 ///
@@ -139,8 +159,14 @@ pub fn font_by_code(
     alloc: Global,
     subset: PdfFont,
     pairs: &[Pair],
+    count: usize,
+    own: &[OwnInk],
+    parts: &[Placed],
     options: &FontOptions,
 ) -> Result<TextFont, Error> {
-    let numbers = numbers_of(alloc, pairs, &subset.cids)?;
-    filled(alloc, subset, pairs, &numbers, options)
+    let drawings = drawings_of(alloc, count, own.len(), pairs, &subset.cids)?;
+    let numbers = after_codes(&subset.cids, pairs.len());
+    let parts = parts_by(alloc, parts, numbers)?;
+    let others = added(alloc, own, &parts, has_blank(&drawings))?;
+    filled(alloc, subset, pairs, own, &drawings, &others, options)
 }

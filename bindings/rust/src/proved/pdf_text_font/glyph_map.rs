@@ -3,33 +3,34 @@
 
 use crate::rattle::prelude::Vec;
 
+use crate::proved::pdf_text_font::pairs::Drawing;
 use crate::proved::subsetter_base::Error;
 use crate::rattle::alloc::Global;
 
-/// Whether one of these is a blank.
-pub fn has_blank(numbers: &[Option<u16>]) -> bool {
-    for number in numbers {
-        if number.is_none() {
-            return true;
-        }
+/// The number of the glyph that draws a code: so many own glyphs are after the others, from this number on, and after them the
+/// blank.
+fn glyph_number(first: u16, owns: u16, drawing: Drawing) -> u16 {
+    match drawing {
+        Drawing::Glyph(number) => number,
+        Drawing::Own(place) => first + place.min(owns),
+        Drawing::Nothing => first + owns,
     }
-    false
 }
 
-/// The number of a code's glyph, where blanks have this one.
-fn glyph_number(blank: u16, number: Option<u16>) -> u16 {
-    number.unwrap_or(blank)
-}
-
-/// The map from CIDs, which are codes, to the numbers of their glyphs, where blanks have this one.
+/// The map from CIDs, which are codes, to the numbers of their glyphs.
 ///
 /// # Errors
 ///
 /// `OutOfMemory` alone.
-pub fn map_to_glyphs(alloc: Global, blank: u16, numbers: &[Option<u16>]) -> Result<Vec<u8>, Error> {
+pub fn map_to_glyphs(
+    alloc: Global,
+    first: u16,
+    owns: u16,
+    drawings: &[Drawing],
+) -> Result<Vec<u8>, Error> {
     let mut map = Vec::new(alloc);
-    for number in numbers {
-        map.extend_from_slice(&glyph_number(blank, *number).to_be_bytes())?;
+    for drawing in drawings {
+        map.extend_from_slice(&glyph_number(first, owns, *drawing).to_be_bytes())?;
     }
     Ok(map)
 }

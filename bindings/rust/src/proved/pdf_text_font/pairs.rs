@@ -4,10 +4,22 @@
 use crate::rattle::prelude::Vec;
 
 use crate::proved::pdf_codes::Shown;
+use crate::proved::pdf_figures::Placed;
 use crate::proved::pdf_runs::{Figure, Pair};
 use crate::proved::subsetter_base::remapper::Remapper;
 use crate::proved::subsetter_base::Error;
 use crate::rattle::alloc::Global;
+
+/// What draws a code.
+#[derive(Clone, Copy)]
+pub enum Drawing {
+    /// A glyph of the subset.
+    Glyph(u16),
+    /// The own glyph with this place among them.
+    Own(u16),
+    /// A blank.
+    Nothing,
+}
 
 /// Glyph 0, which says nothing.
 fn zeroth() -> Pair {
@@ -30,69 +42,124 @@ pub fn by_code(alloc: Global, pairs: &Remapper<u16, Pair>) -> Result<Vec<Pair>, 
     Ok(coded)
 }
 
-/// The glyph of the source that a figure wants in the subset.
-fn glyph_of(figure: Figure) -> u16 {
+/// The glyph that a figure wants in the subset, of a source with so many glyphs.
+fn glyph_of(count: usize, figure: Figure) -> u16 {
     match figure {
-        Figure::Source(glyph) => glyph,
+        Figure::Source(glyph) => {
+            if usize::from(glyph) < count {
+                glyph
+            } else {
+                0
+            }
+        }
         Figure::Blank => 0,
     }
 }
 
-/// The glyphs in use, one of each code; they have no texts.
-pub fn shown_of(alloc: Global, pairs: &[Pair]) -> Result<Vec<Shown<'static>>, Error> {
+/// The glyphs in use, which have no texts: one of each code, of a source with so many glyphs, and after them these parts.
+pub fn shown_of(
+    alloc: Global,
+    count: usize,
+    pairs: &[Pair],
+    parts: &[Placed],
+) -> Result<Vec<Shown<'static>>, Error> {
     let mut shown = Vec::with_capacity(alloc, pairs.len())?;
     for pair in pairs {
         shown.push(Shown {
-            glyph: glyph_of(pair.figure),
+            glyph: glyph_of(count, pair.figure),
+            text: &[],
+        })?;
+    }
+    for part in parts {
+        shown.push(Shown {
+            glyph: part.glyph,
             text: &[],
         })?;
     }
     Ok(shown)
 }
 
-/// The glyph of the subset that draws a figure.
-fn number_of(figure: Figure, number: u16) -> Option<u16> {
+/// The own glyph with this place, of so many, or nothing.
+fn own_or_nothing(owns: usize, place: u16) -> Drawing {
+    if usize::from(place) < owns {
+        Drawing::Own(place)
+    } else {
+        Drawing::Nothing
+    }
+}
+
+/// What draws a figure, where the glyph that it wants has this number in the subset: glyphs after those of the source, so many,
+/// are own ones.
+fn drawing_of(count: usize, owns: usize, figure: Figure, number: u16) -> Drawing {
     match figure {
-        Figure::Source(_) => Some(number),
-        Figure::Blank => None,
-    }
-}
-
-/// Of each code the glyph of the subset that draws its figure, where these are the numbers there of the glyphs in use; a blank
-/// has none.
-pub fn numbers_of(alloc: Global, pairs: &[Pair], cids: &[u16]) -> Result<Vec<Option<u16>>, Error> {
-    let mut numbers = Vec::with_capacity(alloc, pairs.len())?;
-    for place in 0..pairs.len() {
-        numbers.push(number_of(pairs[place].figure, cids[place]))?;
-    }
-    Ok(numbers)
-}
-
-/// What a list has for a glyph, and for a blank another value.
-fn value_of<T: Copy>(none: T, values: &[T], number: Option<u16>) -> T {
-    match number {
-        None => none,
-        Some(number) => {
-            let place = usize::from(number);
-            if place < values.len() {
-                values[place]
+        Figure::Source(glyph) => {
+            let glyph = usize::from(glyph);
+            if glyph < count {
+                Drawing::Glyph(number)
             } else {
-                none
+                own_or_nothing(owns, (glyph - count) as u16)
             }
         }
+        Figure::Blank => Drawing::Nothing,
     }
 }
 
-/// Of each code what a list has for its glyph, and for a blank another value.
+/// What draws each code, where the glyphs that the codes want have these numbers in the subset, of a source with so many glyphs
+/// and with so many own ones.
+pub fn drawings_of(
+    alloc: Global,
+    count: usize,
+    owns: usize,
+    pairs: &[Pair],
+    numbers: &[u16],
+) -> Result<Vec<Drawing>, Error> {
+    let mut drawings = Vec::with_capacity(alloc, pairs.len())?;
+    for place in 0..pairs.len() {
+        drawings.push(drawing_of(count, owns, pairs[place].figure, numbers[place]))?;
+    }
+    Ok(drawings)
+}
+
+/// Whether a code draws nothing.
+pub fn has_blank(drawings: &[Drawing]) -> bool {
+    for drawing in drawings {
+        if matches!(drawing, Drawing::Nothing) {
+            return true;
+        }
+    }
+    false
+}
+
+/// What a list has at a place, or another value.
+fn value_at<T: Copy>(none: T, values: &[T], place: u16) -> T {
+    let place = usize::from(place);
+    if place < values.len() {
+        values[place]
+    } else {
+        none
+    }
+}
+
+/// What a list has for a glyph, another one for an own glyph, and for a blank a value of its own.
+fn value_of<T: Copy>(none: T, values: &[T], owns: &[T], drawing: Drawing) -> T {
+    match drawing {
+        Drawing::Glyph(number) => value_at(none, values, number),
+        Drawing::Own(place) => value_at(none, owns, place),
+        Drawing::Nothing => none,
+    }
+}
+
+/// Of each code what a list has for its glyph, another one for its own glyph, and for a blank a value of its own.
 pub fn values_of<T: Copy>(
     alloc: Global,
     none: T,
     values: &[T],
-    numbers: &[Option<u16>],
+    owns: &[T],
+    drawings: &[Drawing],
 ) -> Result<Vec<T>, Error> {
-    let mut by_code = Vec::with_capacity(alloc, numbers.len())?;
-    for number in numbers {
-        by_code.push(value_of(none, values, *number))?;
+    let mut by_code = Vec::with_capacity(alloc, drawings.len())?;
+    for drawing in drawings {
+        by_code.push(value_of(none, values, owns, *drawing))?;
     }
     Ok(by_code)
 }

@@ -1,12 +1,9 @@
-use Rattle.std.proofs.Common.{refl, sym, ap, ◌∙◌, Some}
-use Rattle.pdf_text_font.proofs.DrawnSteps.{refused_by, with_blanks, without_blanks}
+use Rattle.std.proofs.Common.{arith}
+use Rattle.pdf_text_font.proofs.DrawnSteps.{others_refused, with_others}
 use Rattle.pdf_text_font.proofs.drawn.mapped.Goals as goal
 
-pub returns-then-has_blank-clause-ok : goal.returns-then-has_blank-clause-ok
-returns-then-has_blank-clause-ok c = with_blanks c.args.numbers.now c.deref.result.now c.args.file.items c.deref.ensures.value c.with_blank.result (sym c.has_blank.ensures ∙ c.if-has_blank.true) c.with_blank.ensures.ok
+pub returns-then-others-ne0-clause-ok : goal.returns-then-others-ne0-clause-ok
+returns-then-others-ne0-clause-ok c = with_others c.args.others.now c.args.owns c.args.drawings.now c.deref.result.now c.args.file.items c.with_more.result (omega (arith, c.if-others-ne0.true)) c.deref.ensures.value c.with_more.ensures.ok
 
-pub returns-then-has_blank-clause-err : goal.returns-then-has_blank-clause-err
-returns-then-has_blank-clause-err c = refused_by c.args.numbers.now c.deref.result.now c.args.file.items c.deref.ensures.value c.with_blank.result c.with_blank.ensures.err
-
-pub returns-clause-ok : goal.returns-clause-ok
-returns-clause-ok c = without_blanks c.args.numbers.now c.args.file.items c.args.file.items _ (sym c.has_blank.ensures ∙ c.if-has_blank.false) (record { same = refl; map_is = ap Some c.in_ok-map.ensures.ok })
+pub returns-then-others-ne0-clause-err : goal.returns-then-others-ne0-clause-err
+returns-then-others-ne0-clause-err c = others_refused c.args.others.now c.args.owns c.deref.result.now c.args.file.items c.with_more.result (omega (arith, c.if-others-ne0.true)) c.deref.ensures.value c.with_more.ensures.err
