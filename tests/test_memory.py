@@ -30,6 +30,7 @@ ALLOWED = {
     ("pdf_operators", "write_run"): (1, "`write_operators` has no other error"),
     ("pdf_operators", "write_integer"): (1, "`write!` reports a refused request as fmt::Error, and a number's text has no other error"),
     ("pdf_operators", "write_whole"): (1, "`write!` reports a refused request as fmt::Error, and a number's text has no other error"),
+    ("pdf_own_runs", "items_with_own"): (1, "of `figured_items` without OverflowError"),
     ("subset_args", "enum ArgsError"): (1, "the case itself"),
     ("subset_args", "glyphs_of"): (1, "`push` takes memory and has no other error"),
     ("subset_task", "no_memory"): (2, "its argument is an allocator's refusal"),

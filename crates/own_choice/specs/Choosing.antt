@@ -1,0 +1,31 @@
+-- What runs with own glyphs need of a font.
+use Rattle.std.specs.Prelude.{ℕ, List, Bool, Result, Ok, ℤ}
+use Rattle.subsetter_base.specs.declared.tag.Tag.{Tag}
+use Rattle.subsetter_base.specs.declared.error.Error.{Error}
+use Rattle.subsetter_base.specs.Bytes.{◌>>=◌}
+use Rattle.subsetter_sfnt.specs.Plain.{opened}
+use Rattle.subsetter_sfnt.specs.Read.{Font, table_in}
+use Rattle.font_advances.specs.Advances.{advances_of}
+use Rattle.text_metrics.specs.Ink.{each_from}
+use Rattle.text_metrics.specs.Metrics.{Metrics, count_in, metrics_seen, text_metrics}
+use Rattle.own_choice.specs.Parts.{most_parts_in, parts_in}
+use Rattle.own_choice.specs.declared.choice.OwnChoice.{OwnChoice}
+
+-- what lines need, and of each glyph the advance in units of the font and whether it can be a part; how many parts own glyphs can have
+pub record Chosen : Type 0 where
+  pub lines : Metrics
+  pub advances : List ℕ
+  pub can_be_part : List Bool
+  pub most_parts : ℕ
+
+abbrev pub chosen_seen : OwnChoice → Chosen
+chosen_seen c = record { lines = metrics_seen c.lines; advances = c.advances.items; can_be_part = c.can_be_part.items; most_parts = c.most_parts }
+
+-- of all glyphs of a font at settings of its user coordinates, where a glyph of `glyf` may take so many steps
+unfoldable pub own_choice : Font → List (Tag × ℤ) → ℕ → Result Chosen Error
+own_choice font settings steps = do
+  lines ← text_metrics font settings steps
+  records ← opened font
+  count ← count_in (table_in font.bytes records)
+  advances ← advances_of font settings steps (each_from (λ g. g) 0 count)
+  Ok (record { lines = lines; advances = advances.widths; can_be_part = parts_in (table_in font.bytes records) settings count; most_parts = most_parts_in (table_in font.bytes records) count })

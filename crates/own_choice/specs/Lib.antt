@@ -1,0 +1,3 @@
+pub mod Choosing
+pub mod Laws
+pub mod Parts
