@@ -28,7 +28,7 @@ fn operators(run: Result<Run, TextError>) -> String {
 #[test]
 fn runs_are_shown_as_worked_by_hand() {
     let font = made("made.ttf");
-    let options = TextOptions::new();
+    let options = TextOptions::new().own_glyphs(false);
     let mut text = Text::new(&font, 0, &[], &options).unwrap();
     // A ligature, a pair drawn nearer by 100 (from 1841 on, not 1890), and a B whose 0.67 thousandths come behind it.
     let line =
@@ -55,6 +55,23 @@ fn runs_are_shown_as_worked_by_hand() {
     assert_eq!(text.advances(&[12]), Err(Error::MalformedFont));
 }
 
+/// An "fi" of 1139 units is a glyph of 569 and a blank of 570, 278 each; a letter with a mark is one glyph, and the mark says itself.
+#[test]
+fn own_glyphs_draw_parts_and_clusters() {
+    let font = made("made.ttf");
+    let mut text = Text::new(&font, 0, &[], &TextOptions::new()).unwrap();
+    let line = [item(1, Some("A"), 1366), item(5, Some("fi"), 1139)];
+    assert_eq!(operators(text.run(&line, LeftToRight, 12_000)), "[<000100020003>]TJ\n");
+    let mark = Item { glyph: 7, x_offset: -1024, y_offset: 205, ..Item::default() };
+    let marked = [item(1, Some("A\u{301}"), 1366), mark];
+    assert_eq!(operators(text.run(&marked, LeftToRight, 12_000)), "[<00040005>]TJ\n");
+    let font = text.font(&FontOptions::new()).unwrap();
+    assert_eq!(font.widths(), [500, 667, 278, 278, 667, 0]);
+    // Glyphs 0, 1, 5 and 7, three own ones, and the blank of the mark: codes lead to 0, 1, 4, 5, 6 and 7.
+    let map: Vec<u8> = [0, 1, 4, 5, 6, 7].iter().flat_map(|it: &u16| it.to_be_bytes()).collect();
+    assert_eq!(font.cid_to_gid_map(), Some(&map[..]));
+}
+
 #[test]
 fn logical_order_is_a_choice() {
     let font = made("made.ttf");
@@ -63,7 +80,8 @@ fn logical_order_is_a_choice() {
         (Order::Visual, "[<00010002>167]TJ\n"),
         (Order::Logical, "[-667<0002>1334<0001>-500]TJ\n"),
     ] {
-        let mut text = Text::new(&font, 0, &[], &TextOptions::new().order(order)).unwrap();
+        let options = TextOptions::new().own_glyphs(false).order(order);
+        let mut text = Text::new(&font, 0, &[], &options).unwrap();
         assert_eq!(operators(text.run(&word, RightToLeft, 12_000)), wanted);
     }
 }

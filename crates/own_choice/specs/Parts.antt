@@ -1,8 +1,9 @@
 -- Which glyphs can be parts of own ones, and of how many parts these can be (OpenType, "glyf", "loca", "maxp").
-use Rattle.std.specs.Prelude.{ℕ, ◌/◌, ◌&&◌, ◌||◌, max, min, nat_lt, nat_le, Bool, true, false, is_some, if◌then◌else◌, List, [], ◌∷◌, length, codes, Option, Some, None, ℤ, unsigned_abs}
+use Rattle.std.specs.Prelude.{ℕ, ◌/◌, ◌==◌, not, ◌&&◌, ◌||◌, max, min, nat_lt, nat_le, Bool, true, false, is_some, if◌then◌else◌, List, [], ◌∷◌, length, codes, Option, Some, None, ℤ, unsigned_abs}
 use Rattle.std.specs.Option.{option_map_or}
 use Rattle.subsetter_base.specs.Bytes.{signed_at}
 use Rattle.subsetter_base.specs.declared.tag.Tag.{Tag}
+use Rattle.subsetter_sfnt.specs.Fields.Head.{index_to_loc_format}
 use Rattle.subsetter.specs.Glyf.Read.{Outlines, outline_in, outlines_in}
 use Rattle.own_glyphs.specs.Profile.{field_at}
 use Rattle.text_metrics.specs.Ink.{each_from}
@@ -29,8 +30,12 @@ has_small_outline reach t g = option_map_or (is_small reach) (outline_in t g) fa
 
 -- ---- all glyphs
 
+-- indexToLocFormat isn't 0
+abbrev pub is_long : List ℕ → Bool
+is_long head = option_map_or (λ (format : ℕ). not (format == 0)) (index_to_loc_format head) false
+
 abbrev pub outlines_seen : GivenOutlines → Outlines
-outlines_seen t = record { loca = t.loca.now; glyf = t.glyf.now; head = t.head.now; long = t.long; hinting = true }
+outlines_seen t = record { loca = t.loca.now; glyf = t.glyf.now; head = t.head.now; long = is_long t.head.now; hinting = true }
 
 -- glyphs may have other pictures than outlines (OpenType, "COLR", "SVG ", "CBDT", "sbix")
 abbrev pub has_pictures : (List ℕ → Option (List ℕ)) → Bool

@@ -6,7 +6,7 @@ ghost use Rattle.subsetter_base.specs.declared.error.Error.TheVariants.{OutOfMem
 ghost use Rattle.subsetter_sfnt.specs.Read.{table_in};
 ghost use Rattle.subsetter.specs.Glyf.Read.{outline_in, outlines_in};
 ghost use Rattle.text_metrics.specs.Ink.{each_from};
-ghost use Rattle.own_choice.specs.Parts.{has_pictures, has_small_box, has_small_outline, is_small, is_within, may_move, outlines_seen, parts_in, reach_of};
+ghost use Rattle.own_choice.specs.Parts.{has_pictures, has_small_box, has_small_outline, is_long, is_small, is_within, may_move, outlines_seen, parts_in, reach_of};
 
 use std::alloc::Global;
 use subsetter_base::read::{between_offsets, signed_at};
@@ -24,8 +24,6 @@ pub struct Outlines<'a> {
     pub glyf: &'a [u8],
     pub loca: &'a [u8],
     pub head: &'a [u8],
-    /// Whether offsets of `loca` are long.
-    pub long: bool,
 }
 
 /// The tables of a font, unless one is missing or `head` is cut.
@@ -36,13 +34,18 @@ pub fn outlines_in<'a>(face: &Face<'a>) -> Option<Outlines<'a>>
     let loca = face.stored(Tag::LOCA)?;
     let glyf = face.stored(Tag::GLYF)?;
     let head = face.stored(Tag::HEAD)?;
-    let format = index_to_loc_format(head)?;
-    Some(Outlines {
-        glyf,
-        loca,
-        head,
-        long: format != 0,
-    })
+    index_to_loc_format(head)?;
+    Some(Outlines { glyf, loca, head })
+}
+
+/// Whether offsets of `loca` are long.
+fn is_long(head: &[u8]) -> bool
+    ensures { result ≡ is_long head.now }
+{
+    match index_to_loc_format(head) {
+        Some(format) => format != 0,
+        None => false,
+    }
 }
 
 /// The outline of a glyph, if there is one.
@@ -50,8 +53,9 @@ pub fn outlines_in<'a>(face: &Face<'a>) -> Option<Outlines<'a>>
 fn outline<'a>(tables: Outlines<'a>, glyph: u16) -> Option<&'a [u8]>
     ensures { option_copied result ≡ outline_in (outlines_seen tables.entry) glyph }
 {
-    let from = loca_offset(tables.loca, tables.long, usize::from(glyph))?;
-    let to = loca_offset(tables.loca, tables.long, usize::from(glyph) + 1)?;
+    let long = is_long(tables.head);
+    let from = loca_offset(tables.loca, long, usize::from(glyph))?;
+    let to = loca_offset(tables.loca, long, usize::from(glyph) + 1)?;
     between_offsets(tables.glyf, from, to)
 }
 

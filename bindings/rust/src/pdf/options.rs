@@ -85,16 +85,18 @@ pub struct TextOptions {
     pub(super) direction: Direction,
     pub(super) order: Order,
     pub(super) clusters: ClusterUnit,
+    pub(super) own_glyphs: bool,
 }
 
 impl TextOptions {
-    /// The limits of [`subset`](crate::subset); of each other choice it is the first.
+    /// The limits of [`subset`](crate::subset), and own glyphs; of each other choice it is the first.
     pub fn new() -> Self {
         Self {
             limits: Limits::default(),
             direction: Direction::Horizontal,
             order: Order::Visual,
             clusters: ClusterUnit::Utf8,
+            own_glyphs: true,
         }
     }
 
@@ -120,6 +122,14 @@ impl TextOptions {
     #[must_use]
     pub fn clusters(self, clusters: ClusterUnit) -> Self {
         Self { clusters, ..self }
+    }
+
+    /// Whether the font gets own glyphs, which draw glyphs of it together: for a cluster whose glyphs are moved or are more than
+    /// its characters, and for a part of a ligature. Readers find such text better. The choice counts for outlines in `glyf` and
+    /// text along a horizontal line; else there are none. A licence may forbid glyphs that the font doesn't have.
+    #[must_use]
+    pub fn own_glyphs(self, own_glyphs: bool) -> Self {
+        Self { own_glyphs, ..self }
     }
 }
 

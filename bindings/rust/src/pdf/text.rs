@@ -2,7 +2,10 @@
 
 use super::{with_room, Direction, FontError, FontOptions, PdfFont, Shown, TextError, TextOptions};
 use crate::proved::font_advances;
-use crate::proved::pdf_operators::show_run;
+use crate::proved::own_choice::{own_choice, OwnChoice};
+use crate::proved::pdf_figures::OwnGlyphs;
+use crate::proved::pdf_operators::{show_run, Font};
+use crate::proved::pdf_own_runs::show_own_run;
 use crate::proved::pdf_runs as proved;
 use crate::proved::pdf_sheet::{write_lines, SheetLine};
 use crate::proved::pdf_text_font::text_font;
@@ -74,7 +77,8 @@ pub struct Run {
 ///
 /// Readers of the PDF find the text, by copying and by searching, also those that don't know ActualText: each code says one
 /// character, and the characters of a cluster are shared among its glyphs. No glyph is further from where the shaper has it
-/// than half a thousandth of the em. A page can be written before the font is made, since codes stay.
+/// than half a thousandth of the em. A page can be written before the font is made, since codes stay. The font of TrueType
+/// outlines gets [own glyphs](TextOptions::own_glyphs), of marks with their letters and of parts of ligatures.
 ///
 /// ```
 /// use subsetter::pdf::{FontOptions, RunDirection, ShapedGlyph, Text, TextOptions};
@@ -87,11 +91,12 @@ pub struct Run {
 ///     ShapedGlyph { glyph_id, cluster, x_advance, ..ShapedGlyph::default() }
 /// });
 /// let run = text.shaped("Afix", &line, RunDirection::LeftToRight, 12_000)?;
-/// assert_eq!(run.operators, b"[<00010002>49<00030004>]TJ\n");
+/// // The ligature is cut in two: f has its ink, and i is a blank.
+/// assert_eq!(run.operators, b"[<000100020003>49<0004>]TJ\n");
 /// assert_eq!(run.advance, 1674);
 /// // .. other runs, and then the font of them all.
 /// let font = text.font(&FontOptions::new()).unwrap();
-/// assert_eq!(font.widths(), [500, 667, 556, 0, 500]);
+/// assert_eq!(font.widths(), [500, 667, 278, 278, 500]);
 /// # Ok(())
 /// # }
 /// ```
@@ -100,8 +105,25 @@ pub struct Text<'a> {
     index: u32,
     coordinates: Vec<(ProvedTag, i32)>,
     options: TextOptions,
-    metrics: TextMetrics,
+    metrics: Metrics,
     pairs: Remapper<u16, proved::Pair>,
+    own: OwnGlyphs,
+}
+
+/// What runs need of the font.
+enum Metrics {
+    /// Without own glyphs.
+    Plain(TextMetrics),
+    WithOwn(OwnChoice),
+}
+
+impl Metrics {
+    fn font(&self) -> Font<'_> {
+        match self {
+            Self::Plain(metrics) => metrics.font(),
+            Self::WithOwn(choice) => choice.font(),
+        }
+    }
 }
 
 /// The characters of all texts, one after the other.
@@ -153,8 +175,15 @@ impl<'a> Text<'a> {
         let coordinates = library::coordinates(variation_coordinates)?;
         let within = library::within(&options.limits);
         let metrics = match options.direction {
-            Direction::Horizontal => text_metrics(Global, data, index, &coordinates, &within),
-            Direction::Vertical => column_metrics(Global, data, index, &coordinates, &within),
+            Direction::Vertical => {
+                column_metrics(Global, data, index, &coordinates, &within).map(Metrics::Plain)
+            }
+            Direction::Horizontal if options.own_glyphs => {
+                own_choice(Global, data, index, &coordinates, &within).map(Metrics::WithOwn)
+            }
+            Direction::Horizontal => {
+                text_metrics(Global, data, index, &coordinates, &within).map(Metrics::Plain)
+            }
         };
         Ok(Self {
             data,
@@ -163,6 +192,7 @@ impl<'a> Text<'a> {
             options: *options,
             metrics: metrics.map_err(library::refused)?,
             pairs: proved::no_pairs(Global).map_err(library::refused)?,
+            own: OwnGlyphs::new(Global),
         })
     }
 
@@ -178,9 +208,8 @@ impl<'a> Text<'a> {
     /// let letter = Item { glyph: 1, text: Some("a\u{301}"), x_advance: 1366, ..Item::default() };
     /// let accent = Item { glyph: 7, x_offset: -1024, y_offset: 205, ..Item::default() };
     /// let run = text.run(&[letter, accent], RunDirection::LeftToRight, 12_000)?;
-    /// let span = "/Span << /ActualText <FEFF00610301> >> BDC\n";
-    /// let shown = "[<0001>]TJ\n1.200 Ts\n[500<0002>]TJ\nEMC\n";
-    /// assert_eq!(run.operators, [span, shown, "[-167]TJ\n0 Ts\n"].concat().as_bytes());
+    /// // One own glyph of both, which says a, and a blank, which says the accent.
+    /// assert_eq!(run.operators, b"[<00010002>]TJ\n");
     /// # Ok(())
     /// # }
     /// ```
@@ -306,7 +335,15 @@ impl<'a> Text<'a> {
         let font = self.metrics.font();
         let order = self.options.order.chosen();
         let (direction, pairs) = (direction.chosen(), &mut self.pairs);
-        let shown = show_run(Global, font, direction, order, size, pairs, items);
+        let shown = match &self.metrics {
+            Metrics::Plain(_) => show_run(Global, font, direction, order, size, pairs, items),
+            Metrics::WithOwn(found) => {
+                let (choice, own) = (found.choice(), &mut self.own);
+                show_own_run(
+                    Global, font, &choice, direction, order, size, pairs, own, items,
+                )
+            }
+        };
         let operators = shown.map_err(TextError::of)?.into_inner();
         // To the nearest, halves up, as the last operators have it.
         let units = i64::from(font.units);
@@ -352,7 +389,17 @@ impl<'a> Text<'a> {
     pub fn font(&self, options: &FontOptions) -> Result<PdfFont, FontError> {
         let options = options.direction(self.options.direction).chosen();
         let (data, index, at) = (self.data, self.index, &self.coordinates);
-        let made = text_font(Global, data, index, at, &self.pairs, 65_536, &[], &options);
+        let (count, own) = (self.metrics.font().metrics.len(), &self.own.list);
+        let made = text_font(
+            Global,
+            data,
+            index,
+            at,
+            &self.pairs,
+            count,
+            own,
+            &options,
+        );
         let made = made.map_err(FontError::of)?;
         let map = made.cid_to_gid_map.map(|it| it.into_inner());
         Ok(PdfFont::with_map(made.font, map)?)
