@@ -80,6 +80,11 @@ const NUMBERS = 21;
 /** The codes of glyphs in use, and what the parts of a font are. */
 const CODES = ["consecutive", "source", "each_text"];
 const ROLES = ["font", "cid_font", "descriptor", "program", "to_unicode", "cid_set", "encoding", "cid_to_gid_map"];
+/** The kinds of pictures of a glyph, by their bits. */
+const KINDS = [
+    "colr1", "colr0", "svg", "cbdt17", "cbdt18", "cbdt19", "cbdt", "sbix-png", "sbix-jpg", "sbix-tiff", "sbix-pdf", "sbix-mask", "sbix-dupe", "sbix", "ebdt",
+    "outline", "empty",
+];
 const USAGES = ["unsaid", "installable", "editable", "previewAndPrint", "restricted"];
 
 const aligned = (at) => Math.ceil(at / ALIGNMENT) * ALIGNMENT;
@@ -567,6 +572,15 @@ class Library {
         return { unitsPerEm, widths: numbersOf(2, buffer, widthsAt, widthCount), heights: numbersOf(2, buffer, heightsAt, heightCount) };
     }
 
+    /** The kinds of pictures of glyphs of a font that is held here. */
+    kindsOf(font, index, glyphs) {
+        const given = (glyphsAt) => [font.at, font.size, index, glyphsAt, glyphs.length, 0, 0];
+        const { status, buffer, words } = this.#call("subsetter_glyph_kinds", [listOf(2, glyphs)], given);
+        this.#check(status, "subsetter_glyphs_of", font, index);
+        const [at, count] = words.slice(-2);
+        return numbersOf(4, buffer, at, count).map((found) => KINDS.filter((_, bit) => (found >>> bit) & 1));
+    }
+
     /** The lists of such a font, and their words. */
     #lists(raw) {
         const parts = Object.values(raw);
@@ -792,6 +806,10 @@ class Font {
         return this.#called("advances", glyphsOf(glyphs), choices);
     }
 
+    kindsOf(glyphs) {
+        return this.#called("kindsOf", glyphsOf(glyphs));
+    }
+
     subset(glyphs, options) {
         return this.#made("subset", glyphs, options);
     }
@@ -965,6 +983,7 @@ function callsOf(library) {
         glyphsOf: (data, text, options) => glyphs(data, text, options),
         codesOf: (shown, codes) => library.codesOf(entriesOf(shown), codesOf(codes)),
         advances: (data, glyphs, options) => once("advances", data, glyphs, options, ["limits", "coordinates"]),
+        kindsOf: (data, glyphs, options) => once("kindsOf", data, glyphs, options, []),
         subset: (data, glyphs, options) => once("subset", data, glyphs, options),
         embed: (data, glyphs, options) => once("embed", data, glyphs, options),
         PdfText: class extends PdfText {

@@ -160,6 +160,7 @@ CALL(subsetter_make_pdf_parts, uint32_t, const subsetter_font *, WORDS, subsette
 CALL(subsetter_free_pdf_parts, void, subsetter_pdf_parts *) CALL(subsetter_codes_of, uint32_t, SHOWN, uint32_t, uint16_t *, size_t, size_t *)
 CALL(subsetter_advances_by_words, uint32_t, FONT, AT, GLYPHS, WORDS, uint16_t *, size_t, uint16_t *, size_t, uint32_t *)
 CALL(subsetter_advances, uint32_t, FONT, AT, GLYPHS, CHOSEN, uint16_t *, uint16_t *, uint32_t *)
+CALL(subsetter_glyph_kinds, uint32_t, FONT, GLYPHS, uint32_t *, size_t)
 #define RUN uint32_t, uint32_t, uint32_t, subsetter_pdf_objects *
 CALL(subsetter_new_text_by_words, uint32_t, FONT, AT, WORDS, subsetter_text *)
 CALL(subsetter_new_text, uint32_t, FONT, AT, const subsetter_pdf_options *, subsetter_text *) CALL(subsetter_free_text, void, subsetter_text *)

@@ -169,7 +169,7 @@ def test_over_an_older_library(monkeypatch):
     monkeypatch.setattr(subsetter, "_loaded", types.SimpleNamespace(_name="libolder.so", **{name: getattr(library, name) for name in names}))
     font = subsetter.pdf_font(TTF, SHOWN)
     assert font.objects(4) == wanted and pickle.loads(pickle.dumps(font)).objects(4) == wanted
-    for call in (lambda: font.exact_widths, lambda: font.part_count, lambda: font.parts([1]), lambda: subsetter.codes_of(SHOWN), lambda: subsetter.advances(TTF, [1])):
+    for call in (lambda: font.exact_widths, lambda: font.part_count, lambda: font.parts([1]), lambda: subsetter.codes_of(SHOWN), lambda: subsetter.advances(TTF, [1]), lambda: subsetter.kinds_of(TTF, [1])):
         assert type(raised(call)) is NotImplementedError
 
 

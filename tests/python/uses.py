@@ -4,7 +4,7 @@ import array
 import mmap
 from decimal import Decimal
 from fractions import Fraction
-from typing import List, Type
+from typing import List, Tuple, Type
 
 import subsetter
 
@@ -43,10 +43,11 @@ def accepted_for_pdf(data: bytes, mapped: mmap.mmap, one: Index) -> None:
     parts: List[subsetter.Part] = font.parts(range(1, 8), compress=True) + font.parts([one], pack=bytes.upper, filter="/X")
     streams = [part.entries + (part.stream or b"") + part.value for part in parts]
     advances: subsetter.Advances = subsetter.advances(data, [one], one, coordinates={"wght": 1}, tokens=one)
+    kinds: List[Tuple[subsetter.GlyphKind, ...]] = subsetter.kinds_of(data, [one], one)
     with font as opened:
         mapped_texts: List[bool] = opened.text_is_mapped
     font.close()
-    print(lists, angle, columns, streams, advances.widths, parts[0].role, parts[0].strings[0][1], mapped_texts, font.sheet("grid") + font.program)
+    print(lists, angle, columns, streams, advances.widths, kinds, parts[0].role, parts[0].strings[0][1], mapped_texts, font.sheet("grid") + font.program)
 
 
 class Glyph:

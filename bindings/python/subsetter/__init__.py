@@ -51,6 +51,10 @@ Codes = Literal["consecutive", "source", "each_text"]
 _CODES: Tuple[Codes, ...] = ("consecutive", "source", "each_text")
 Role = Literal["font", "cid_font", "descriptor", "program", "to_unicode", "cid_set", "encoding", "cid_to_gid_map"]
 _ROLES: Tuple[Role, ...] = ("font", "cid_font", "descriptor", "program", "to_unicode", "cid_set", "encoding", "cid_to_gid_map")
+GlyphKind = Literal[
+    "colr1", "colr0", "svg", "cbdt17", "cbdt18", "cbdt19", "cbdt", "sbix-png", "sbix-jpg", "sbix-tiff", "sbix-pdf", "sbix-mask",
+    "sbix-dupe", "sbix", "ebdt", "outline", "empty",
+]
 Bounds = Literal["font", "kept"]
 Rights = Literal["from_font", "held", "as_said"]
 Direction = Literal["ltr", "rtl", "ttb"]
@@ -67,7 +71,7 @@ else:
     Buffer = Any
 
 __all__ = [
-    "pdf_font", "glyphs_of", "codes_of", "advances", "PdfFont", "Advances", "Column", "Descriptor", "Permission", "Objects", "Part",
+    "pdf_font", "glyphs_of", "codes_of", "advances", "kinds_of", "PdfFont", "Advances", "Column", "Descriptor", "Permission", "Objects", "Part",
     "PdfText", "subset", "embed", "Embedded", "Error",
     "UnknownKind", "MalformedFont", "Unimplemented", "SubsetError", "CFFError", "OutOfMemory", "NotPermitted", "InvalidText", "Overfull",
     "NoCmap", "MissingCharacters", "TextGlyphs",
@@ -439,10 +443,11 @@ def _declare(library: ctypes.CDLL) -> ctypes.CDLL:
         "subsetter_read_text": (
             make[:3] + [pointer, size, ctypes.POINTER(_Entry), size, pointer, size, ctypes.POINTER(_ReadSizes)], ctypes.c_uint32),
     }
+    for_kinds = {"subsetter_glyph_kinds": (make[:3] + [pointer, size] * 2, ctypes.c_uint32)}
     # (a library has all calls of a group or, if it is older than they are, none)
     groups: Dict[str, Any] = {
         "subsetter_glyphs_of": for_pdf, "subsetter_make_font_by_words": new, "subsetter_new_text_by_words": for_runs,
-        "subsetter_read_text": for_texts,
+        "subsetter_read_text": for_texts, "subsetter_glyph_kinds": for_kinds,
     }
     for first, group in groups.items():
         if hasattr(library, first):
@@ -929,6 +934,32 @@ def advances(
         )
         _check(library, status, _Asked(_ADVANCES, font, size, face, numbers, words))
     return Advances(units.value, widths.tolist(), heights.tolist())
+
+
+_GLYPH_KINDS: Tuple[GlyphKind, ...] = (
+    "colr1", "colr0", "svg", "cbdt17", "cbdt18", "cbdt19", "cbdt", "sbix-png", "sbix-jpg", "sbix-tiff", "sbix-pdf", "sbix-mask",
+    "sbix-dupe", "sbix", "ebdt", "outline", "empty",
+)
+
+
+def kinds_of(data: Buffer, glyphs: Iterable[SupportsIndex], index: SupportsIndex = 0) -> List[Tuple[GlyphKind, ...]]:
+    """All kinds of pictures that a font has of each glyph, in the order in which a reader of OpenType prefers them: "colr1" (a paint
+    of `COLR`), "colr0" (layers), "svg", "cbdt17" to "cbdt19" or "cbdt" by the format of an image, "sbix-png" and others or "sbix" by
+    the type of a graphic, "ebdt", and last "outline" or "empty".
+
+    A PDF shows the outline alone, so a glyph that is "empty" and has another picture is blank there. A picture is what a table
+    lists, whether it can be drawn or not; a table that is cut or wrong lists none. The outline of a charstring is empty where it is
+    endchar alone, with or without a width. The arguments are those of `subset`, and the font needs no outlines.
+
+    Raises `UnknownKind` for what is no font, `MalformedFont` where its directory is cut or it has no such face, and
+    `NotImplementedError` where the library is of an older version.
+    """
+    numbers, face = _glyph_numbers(glyphs), _number("index", index, 0, 0xFFFFFFFF)
+    library, kinds = _library_with("subsetter_glyph_kinds"), (ctypes.c_uint32 * len(numbers))()
+    with _bytes_of(data) as (font, size):
+        status = library.subsetter_glyph_kinds(font, size, face, numbers.buffer_info()[0], len(numbers), kinds, len(kinds))
+        _check(library, status, _Asked(_GLYPHS_OF, font, size, face, array("H"), array("I", [0] * 3)))
+    return [tuple(kind for bit, kind in enumerate(_GLYPH_KINDS) if found >> bit & 1) for found in kinds]
 
 
 _ITEMS = {"cids": "H", "codes": "H", "widths": "I", "columns": "i"}

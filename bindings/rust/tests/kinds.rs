@@ -19,7 +19,11 @@ fn each_row_is_answered() {
         let found = kinds_of(&font, face, &glyphs).map(|all| {
             let each = all.iter().map(|it| it.iter().map(|kind| kind.to_string()).collect::<Vec<_>>().join("+"));
             let all: Vec<_> = each.collect();
-            if all.is_empty() { "-".to_string() } else { all.join(",") }
+            if all.is_empty() {
+                "-".to_string()
+            } else {
+                all.join(",")
+            }
         });
         let wanted = match words[4].parse().unwrap() {
             0 => Ok(words[5].to_string()),

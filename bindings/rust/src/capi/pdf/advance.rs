@@ -4,8 +4,8 @@ use crate::capi::{settings, Choices, Coordinate};
 use crate::library::refused;
 use crate::pdf::Advances;
 use crate::proved::font_advances as proved;
-use crate::rattle::alloc::Global;
 use crate::proved::glyph_kinds;
+use crate::rattle::alloc::Global;
 use crate::Error;
 use ::alloc::vec::Vec;
 
