@@ -314,6 +314,12 @@ enum {
 uint32_t subsetter_glyph_kinds(const uint8_t *font, size_t font_size, uint32_t index,
                                const uint16_t *glyphs, size_t glyph_count, uint32_t *kinds, size_t kind_count);
 
+/* Whether a PDF shows a glyph of these kinds as a blank though the font has a picture of it. */
+static inline int subsetter_is_unseen(uint32_t kinds)
+{
+    return (kinds & SUBSETTER_KIND_EMPTY) != 0 && kinds != SUBSETTER_KIND_EMPTY;
+}
+
 /* What the font program of a font with outlines in `CFF ` is (`program`). */
 enum {
     /* The bytes of `CFF ` alone. */

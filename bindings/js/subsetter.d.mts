@@ -269,6 +269,11 @@ export interface PdfFont {
     unitsPerEm: number;
     /** The axes of the coordinates that the font doesn't have. */
     unknownAxes: string[];
+    /**
+     * The places of the entries that are blank though the font has a picture of the glyph (`kindsOf`): its outline is empty, and a PDF
+     * shows nothing else.
+     */
+    unseen: number[];
     /** DW. */
     defaultWidth: number;
     /** In vertical writing of each CID from 0 on that a string can show. */

@@ -526,6 +526,9 @@ class Library {
             const [at, count] = made.slice(2 * i);
             raw[name] = { count, bytes: new Uint8Array(buffer.slice(at, at + size * count)) };
         });
+        // (the highest bit is that of an empty outline)
+        const isUnseen = (bits) => bits > 2 ** KINDS.indexOf("empty");
+        added.unseen = this.#kindBits(font, index, entries.glyphs).flatMap((bits, place) => (isUnseen(bits) ? [place] : []));
         return new PdfFont(this, raw, made.slice(2 * parts.length), entries, added);
     }
 
@@ -574,11 +577,15 @@ class Library {
 
     /** The kinds of pictures of glyphs of a font that is held here. */
     kindsOf(font, index, glyphs) {
+        return this.#kindBits(font, index, glyphs).map((found) => KINDS.filter((_, bit) => (found >>> bit) & 1));
+    }
+
+    #kindBits(font, index, glyphs) {
         const given = (glyphsAt) => [font.at, font.size, index, glyphsAt, glyphs.length, 0, 0];
         const { status, buffer, words } = this.#call("subsetter_glyph_kinds", [listOf(2, glyphs)], given);
         this.#check(status, "subsetter_glyphs_of", font, index);
         const [at, count] = words.slice(-2);
-        return numbersOf(4, buffer, at, count).map((found) => KINDS.filter((_, bit) => (found >>> bit) & 1));
+        return numbersOf(4, buffer, at, count);
     }
 
     /** The lists of such a font, and their words. */

@@ -34,7 +34,7 @@ export function acceptedForPdf(subsetter: Subsetter, data: Uint8Array): void {
     const parts: Part[] = [...font.parts([1, 2, 3, 4, 5]), ...font.parts(new Set([1]), { pack: (it: Uint8Array) => it.slice(), filter: "/X" })];
     const advances: Advances = subsetter.advances(data, [1], { index: 0, coordinates: { wght: 1 }, limits: { tokens: 5 } });
     bytes.push(parts[0].entries, parts[0].value, parts[0].stream ?? data);
-    numbers.push(parts[0].number, parts[0].strings[0][1], font.partCount, font.unitsPerEm, ...font.exactWidths, ...advances.widths, ...subsetter.codesOf(shown, "each_text"));
+    numbers.push(parts[0].number, parts[0].strings[0][1], font.partCount, font.unitsPerEm, ...font.exactWidths, ...advances.widths, ...font.unseen, ...subsetter.codesOf(shown, "each_text"));
     const kinds: GlyphKind[][] = [...subsetter.kindsOf(data, [1], { index: 0 }), ...subsetter.open(data).kindsOf(new Set([1]))];
     texts.push(parts[0].role, ...font.unknownAxes, ...kinds[0]);
     const text: PdfText = new subsetter.PdfText(data, { index: 0, coordinates: { wght: 1 }, vertical: false, rights: "held", order: "logical", limits: {} });

@@ -35,7 +35,7 @@ def accepted_for_pdf(data: bytes, mapped: mmap.mmap, one: Index) -> None:
     shown = subsetter.glyphs_of(data, "Hello", one)
     font: subsetter.PdfFont = subsetter.pdf_font(data, [*shown, (one, "A"), (True, "fi")], 0, tokens=5, coordinates={"wght": 650}, hinting=False, cid_set=True)
     font = subsetter.pdf_font(mapped, iter(shown), program="opentype", codes="each_text", vertical=True, bounds="kept", tag="ABCDEF", rights="held")
-    lists: List[List[int]] = [font.cids, font.codes, font.widths, font.objects(first=4).offsets, subsetter.codes_of(shown, "source"), font.exact_widths]
+    lists: List[List[int]] = [font.cids, font.codes, font.widths, font.objects(first=4).offsets, subsetter.codes_of(shown, "source"), font.exact_widths, font.unseen]
     angle: float = font.descriptor.italic_angle
     columns: List[subsetter.Column] = font.columns or []
     if font.permission.usage == "editable" and font.encoding is not None and font.encoding_name is not None:

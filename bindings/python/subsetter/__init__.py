@@ -942,6 +942,14 @@ _GLYPH_KINDS: Tuple[GlyphKind, ...] = (
 )
 
 
+def _kind_bits(library: ctypes.CDLL, font: Any, size: int, face: int, glyphs: array[int]) -> List[int]:
+    """Of each glyph a number with a bit for each kind."""
+    kinds = (ctypes.c_uint32 * len(glyphs))()
+    status = library.subsetter_glyph_kinds(font, size, face, glyphs.buffer_info()[0], len(glyphs), kinds, len(kinds))
+    _check(library, status, _Asked(_GLYPHS_OF, font, size, face, array("H"), array("I", [0] * 3)))
+    return list(kinds)
+
+
 def kinds_of(data: Buffer, glyphs: Iterable[SupportsIndex], index: SupportsIndex = 0) -> List[Tuple[GlyphKind, ...]]:
     """All kinds of pictures that a font has of each glyph, in the order in which a reader of OpenType prefers them: "colr1" (a paint
     of `COLR`), "colr0" (layers), "svg", "cbdt17" to "cbdt19" or "cbdt" by the format of an image, "sbix-png" and others or "sbix" by
@@ -955,11 +963,10 @@ def kinds_of(data: Buffer, glyphs: Iterable[SupportsIndex], index: SupportsIndex
     `NotImplementedError` where the library is of an older version.
     """
     numbers, face = _glyph_numbers(glyphs), _number("index", index, 0, 0xFFFFFFFF)
-    library, kinds = _library_with("subsetter_glyph_kinds"), (ctypes.c_uint32 * len(numbers))()
+    library = _library_with("subsetter_glyph_kinds")
     with _bytes_of(data) as (font, size):
-        status = library.subsetter_glyph_kinds(font, size, face, numbers.buffer_info()[0], len(numbers), kinds, len(kinds))
-        _check(library, status, _Asked(_GLYPHS_OF, font, size, face, array("H"), array("I", [0] * 3)))
-    return [tuple(kind for bit, kind in enumerate(_GLYPH_KINDS) if found >> bit & 1) for found in kinds]
+        found = _kind_bits(library, font, size, face, numbers)
+    return [tuple(kind for bit, kind in enumerate(_GLYPH_KINDS) if bits >> bit & 1) for bits in found]
 
 
 _ITEMS = {"cids": "H", "codes": "H", "widths": "I", "columns": "i"}
@@ -1021,6 +1028,8 @@ class PdfFont:
     - `cid_to_gid_map`: the bytes of CIDToGIDMap (9.7.4.2), where it is a stream.
     - `units_per_em`, `exact_widths`: how many units of the font an em has, and the width of each CID in these.
     - `unknown_axes`: those of the coordinates that the font doesn't have.
+    - `unseen`: the places of the entries that are blank though the font has a picture of the glyph (`kinds_of`): its outline is
+      empty, and a PDF shows nothing else.
     - `part_count`: how many objects it has.
     """
 
@@ -1044,6 +1053,7 @@ class PdfFont:
     units_per_em: int
     exact_widths: List[int]
     unknown_axes: List[str]
+    unseen: List[int]
     part_count: int
 
     def __init__(self, made: _PdfFont, entries: _Entries, new: Optional[_Font]) -> None:
@@ -1087,7 +1097,7 @@ class PdfFont:
             self.part_count = _library().subsetter_pdf_part_count(ctypes.byref(new))
 
     def __getattr__(self, name: str) -> NoReturn:
-        if name in ("units_per_em", "exact_widths", "unknown_axes", "part_count"):
+        if name in ("units_per_em", "exact_widths", "unknown_axes", "unseen", "part_count"):
             raise NotImplementedError(f"the font is of a library of an older version, which says no {name}")
         raise AttributeError(f"a PdfFont has no {name}")
 
@@ -1251,11 +1261,17 @@ def pdf_font(
     given = (place, len(place), *entries.arguments(), words.buffer_info()[0], len(words))
     if hasattr(library, "subsetter_make_font_by_words"):
         made = _Font(size=ctypes.sizeof(_Font))
-        with _bytes_of(data) as (font, size):
-            status = library.subsetter_make_font_by_words(font, size, face, *given, ctypes.byref(made))
-            _check(library, status, _Asked(_PDF_FONT, font, size, face, entries.glyphs, words))
         try:
-            return PdfFont(made.pdf, entries, made)
+            with _bytes_of(data) as (font, size):
+                status = library.subsetter_make_font_by_words(font, size, face, *given, ctypes.byref(made))
+                _check(library, status, _Asked(_PDF_FONT, font, size, face, entries.glyphs, words))
+                has_kinds = hasattr(library, "subsetter_glyph_kinds")
+                kinds = _kind_bits(library, font, size, face, entries.glyphs) if has_kinds else None
+            found = PdfFont(made.pdf, entries, made)
+            if kinds is not None:
+                # (the highest bit is that of an empty outline)
+                found.unseen = [place for place, bits in enumerate(kinds) if bits > 1 << _GLYPH_KINDS.index("empty")]
+            return found
         finally:
             library.subsetter_free_font(ctypes.byref(made))
     older = _PdfFont()
@@ -1513,6 +1529,8 @@ class PdfText:
         try:
             glyphs = array("H", [glyph or 0 for glyph, _ in self.codes if status])
             _check(self._library, status, _Asked(_PDF_FONT, *self._font, self._index, glyphs, words))
-            return PdfFont(made.pdf, _Entries([]), made)
+            font = PdfFont(made.pdf, _Entries([]), made)
+            font.unseen = []
+            return font
         finally:
             self._library.subsetter_free_font(ctypes.byref(made))

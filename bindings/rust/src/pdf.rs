@@ -232,8 +232,9 @@ pub fn pdf_font(
 ) -> Result<PdfFont, FontError> {
     let coordinates = library::coordinates(variation_coordinates)?;
     let characters = characters(shown)?;
-    let shown = taken(shown, &characters)?;
+    let list = taken(shown, &characters)?;
     let chosen = options.chosen();
-    let made = proved::pdf_font(Global, data, index, &coordinates, &shown, &chosen);
-    Ok(PdfFont::new(made.map_err(FontError::of)?)?)
+    let made = proved::pdf_font(Global, data, index, &coordinates, &list, &chosen);
+    let made = made.map_err(FontError::of)?;
+    Ok(PdfFont::new(made, kinds::unseen(data, index, shown)?)?)
 }

@@ -4,7 +4,7 @@
 mod table;
 
 use std::fs;
-use subsetter::pdf::kinds_of;
+use subsetter::pdf::{kinds_of, pdf_font, FontOptions, Shown};
 use table::words::{bytes, short_numbers};
 use table::ERRORS;
 
@@ -35,4 +35,15 @@ fn each_row_is_answered() {
             assert_eq!(kinds.is_unseen(), names.len() > 1 && names.last().unwrap() == "empty", "{}", words[0]);
         }
     }
+}
+
+#[test]
+fn entries_that_are_blank_are_listed() {
+    let unseen = |font: &[u8], glyphs: &[u16]| {
+        let shown: Vec<Shown> = glyphs.iter().map(|it| Shown::new(*it, "A")).collect();
+        pdf_font(font, 0, &[], &shown, &FontOptions::new()).unwrap().unseen().to_vec()
+    };
+    assert_eq!(unseen(include_bytes!("data/made_colour.ttf"), &[1, 11, 10, 11]), [1, 3]);
+    assert_eq!(unseen(include_bytes!("data/made_colour.ttf"), &[1, 10]), [0; 0]);
+    assert_eq!(unseen(include_bytes!("data/made.ttf"), &[1, 11, 10, 11]), [0; 0]);
 }

@@ -1,6 +1,6 @@
 //! Which pictures a font has of its glyphs.
 
-use super::with_room;
+use super::{with_room, Shown};
 use crate::proved::glyph_kinds as proved;
 use crate::rattle::alloc::Global;
 use crate::{library, Error};
@@ -146,4 +146,15 @@ pub fn kinds_of(data: &[u8], index: u32, glyphs: &[u16]) -> Result<Vec<GlyphKind
     let mut kinds = with_room(found.len())?;
     kinds.extend(found.iter().copied().map(GlyphKinds));
     Ok(kinds)
+}
+
+/// The places of the entries that are unseen.
+pub(super) fn unseen(data: &[u8], index: u32, shown: &[Shown<'_>]) -> Result<Vec<usize>, Error> {
+    let mut glyphs = with_room(shown.len())?;
+    glyphs.extend(shown.iter().map(|it| it.glyph));
+    let kinds = kinds_of(data, index, &glyphs)?;
+    let found = || kinds.iter().enumerate().filter(|(_, it)| it.is_unseen());
+    let mut places = with_room(found().count())?;
+    places.extend(found().map(|(place, _)| place));
+    Ok(places)
 }
