@@ -72,6 +72,7 @@ ALLOWED = {
     ("subset_font", "member_of"): (1, "`json_pdf` writes into a vector, which has no other error"),
     ("subset_font", "with_more"): (2, "`more_of` and `names_for` have no other error"),
     ("subset_task", "names_of_fvar"): (2, "passes on that of `read_axes`"),
+    ("glyph_kinds", "entries_of"): (2, "passes on that of `Table::parse`"),
     ("pdf_cff", "unless_memory"): (2, "passes on that of its argument"),
     ("subsetter_boxes", "unless_memory"): (2, "passes on that of its argument"),
     ("glyph_names", "read_charset"): (2, "passes on that of `Table::parse`"),

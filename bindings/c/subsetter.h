@@ -279,6 +279,49 @@ static inline uint32_t subsetter_advances(const uint8_t *font, size_t font_size,
                                        heights, glyph_count, units_per_em);
 }
 
+/* Kinds of pictures that a font can have of a glyph, as bits: the lowest is the one that a reader of OpenType prefers. */
+enum {
+    /* A paint of `COLR` version 1, layers of version 0. */
+    SUBSETTER_KIND_COLR_1 = 1,
+    SUBSETTER_KIND_COLR_0 = 2,
+    /* A document of `SVG `. */
+    SUBSETTER_KIND_SVG = 4,
+    /* An image of `CBDT` in format 17, 18, 19, or another. */
+    SUBSETTER_KIND_CBDT_17 = 8,
+    SUBSETTER_KIND_CBDT_18 = 16,
+    SUBSETTER_KIND_CBDT_19 = 32,
+    SUBSETTER_KIND_CBDT_OTHER = 64,
+    /* A graphic of `sbix` of the type `png `, `jpg `, `tiff`, `pdf `, `mask`, `dupe` (that of another glyph), or another. */
+    SUBSETTER_KIND_SBIX_PNG = 128,
+    SUBSETTER_KIND_SBIX_JPG = 256,
+    SUBSETTER_KIND_SBIX_TIFF = 512,
+    SUBSETTER_KIND_SBIX_PDF = 1024,
+    SUBSETTER_KIND_SBIX_MASK = 2048,
+    SUBSETTER_KIND_SBIX_DUPE = 4096,
+    SUBSETTER_KIND_SBIX_OTHER = 8192,
+    /* An image of `EBDT`. */
+    SUBSETTER_KIND_EBDT = 16384,
+    /* An outline; none, or an empty one. Each glyph has one of the two bits. With another bit beside, SUBSETTER_KIND_EMPTY is a
+     * glyph that a PDF shows as a blank. */
+    SUBSETTER_KIND_OUTLINE = 32768,
+    SUBSETTER_KIND_EMPTY = 65536
+};
+
+/* All kinds of pictures that a font has of each glyph, also where it has no outlines: one number for each of `glyphs`, in their
+ * order. A picture is what a table lists, whether it can be drawn or not; a table that is cut or wrong lists none. An outline of
+ * `CFF ` or `CFF2` is empty where its charstring is endchar alone, with or without a width.
+ *   0: `kinds` begins with the numbers.
+ *   1, 2, 7, 8 (`kind_count` is less than `glyph_count`): nothing is written.
+ */
+uint32_t subsetter_glyph_kinds(const uint8_t *font, size_t font_size, uint32_t index,
+                               const uint16_t *glyphs, size_t glyph_count, uint32_t *kinds, size_t kind_count);
+
+/* Whether a PDF shows a glyph of these kinds as a blank though the font has a picture of it. */
+static inline int subsetter_is_unseen(uint32_t kinds)
+{
+    return (kinds & SUBSETTER_KIND_EMPTY) != 0 && kinds != SUBSETTER_KIND_EMPTY;
+}
+
 /* What the font program of a font with outlines in `CFF ` is (`program`). */
 enum {
     /* The bytes of `CFF ` alone. */

@@ -230,6 +230,14 @@ export interface Packing {
     readonly filter?: string;
 }
 
+/**
+ * A kind of picture of a glyph: a paint or layers of `COLR`; `SVG `; an image of `CBDT` by its format; a graphic of `sbix` by its type
+ * ("dupe" is that of another glyph); an image of `EBDT`; an outline, or none or an empty one.
+ */
+export type GlyphKind =
+    | "colr1" | "colr0" | "svg" | "cbdt17" | "cbdt18" | "cbdt19" | "cbdt" | "sbix-png" | "sbix-jpg" | "sbix-tiff" | "sbix-pdf" | "sbix-mask"
+    | "sbix-dupe" | "sbix" | "ebdt" | "outline" | "empty";
+
 /** Advances of glyphs, in the font's units. */
 export interface Advances {
     /** How many units an em has. */
@@ -264,6 +272,11 @@ export interface PdfFont {
     unitsPerEm: number;
     /** The axes of the coordinates that the font doesn't have. */
     unknownAxes: string[];
+    /**
+     * The places of the entries that are blank though the font has a picture of the glyph (`kindsOf`): its outline is empty, and a PDF
+     * shows nothing else.
+     */
+    unseen: number[];
     /** DW. */
     defaultWidth: number;
     /** In vertical writing of each CID from 0 on that a string can show. */
@@ -419,6 +432,12 @@ export interface Subsetter {
      * limits `tokens` counts alone.
      */
     advances(data: FontData, glyphs: Iterable<number>, options?: Face & Place & { readonly limits?: Limits }): Advances;
+    /**
+     * All kinds of pictures that a font has of each glyph, in the order in which a reader of OpenType prefers them; the last is
+     * "outline" or "empty". A PDF shows the outline alone, so a glyph that is "empty" and has another picture is blank there. A picture
+     * is what a table lists, whether it can be drawn or not; a table that is cut or wrong lists none. The font needs no outlines.
+     */
+    kindsOf(data: FontData, glyphs: Iterable<number>, options?: Face): GlyphKind[][];
     /** The subset of a font for glyph 0 and the given glyphs. */
     subset(data: FontData, glyphs: Iterable<number>, options?: Face & Choices & Place): Uint8Array;
     /**
@@ -440,6 +459,8 @@ export interface Font {
     glyphsOf(text: string, options?: MissingChoice): TextGlyphs;
     /** As `Subsetter.advances`. */
     advances(glyphs: Iterable<number>, options?: Place & { readonly limits?: Limits }): Advances;
+    /** As `Subsetter.kindsOf`. */
+    kindsOf(glyphs: Iterable<number>): GlyphKind[][];
     /** As `Subsetter.subset`. */
     subset(glyphs: Iterable<number>, options?: Choices & Place): Uint8Array;
     /** As `Subsetter.embed`. */

@@ -80,6 +80,11 @@ const NUMBERS = 21;
 /** The codes of glyphs in use, and what the parts of a font are. */
 const CODES = ["consecutive", "source", "each_text"];
 const ROLES = ["font", "cid_font", "descriptor", "program", "to_unicode", "cid_set", "encoding", "cid_to_gid_map"];
+/** The kinds of pictures of a glyph, by their bits. */
+const KINDS = [
+    "colr1", "colr0", "svg", "cbdt17", "cbdt18", "cbdt19", "cbdt", "sbix-png", "sbix-jpg", "sbix-tiff", "sbix-pdf", "sbix-mask", "sbix-dupe", "sbix", "ebdt",
+    "outline", "empty",
+];
 const USAGES = ["unsaid", "installable", "editable", "previewAndPrint", "restricted"];
 
 const aligned = (at) => Math.ceil(at / ALIGNMENT) * ALIGNMENT;
@@ -558,6 +563,9 @@ class Library {
             const [at, count] = made.slice(2 * i);
             raw[name] = { count, bytes: new Uint8Array(buffer.slice(at, at + size * count)) };
         });
+        // (the highest bit is that of an empty outline)
+        const isUnseen = (bits) => bits > 2 ** KINDS.indexOf("empty");
+        added.unseen = this.#kindBits(font, index, entries.glyphs).flatMap((bits, place) => (isUnseen(bits) ? [place] : []));
         return new PdfFont(this, raw, made.slice(2 * parts.length), entries, added);
     }
 
@@ -602,6 +610,19 @@ class Library {
         this.#check(status, "subsetter_advances", font, index, glyphs, { tokens });
         const [unitsPerEm, widthsAt, widthCount, heightsAt, heightCount] = words.slice(-5);
         return { unitsPerEm, widths: numbersOf(2, buffer, widthsAt, widthCount), heights: numbersOf(2, buffer, heightsAt, heightCount) };
+    }
+
+    /** The kinds of pictures of glyphs of a font that is held here. */
+    kindsOf(font, index, glyphs) {
+        return this.#kindBits(font, index, glyphs).map((found) => KINDS.filter((_, bit) => (found >>> bit) & 1));
+    }
+
+    #kindBits(font, index, glyphs) {
+        const given = (glyphsAt) => [font.at, font.size, index, glyphsAt, glyphs.length, 0, 0];
+        const { status, buffer, words } = this.#call("subsetter_glyph_kinds", [listOf(2, glyphs)], given);
+        this.#check(status, "subsetter_glyphs_of", font, index);
+        const [at, count] = words.slice(-2);
+        return numbersOf(4, buffer, at, count);
     }
 
     /** The lists of such a font, and their words. */
@@ -832,6 +853,10 @@ class Font {
         return this.#called("advances", glyphsOf(glyphs), choices);
     }
 
+    kindsOf(glyphs) {
+        return this.#called("kindsOf", glyphsOf(glyphs));
+    }
+
     subset(glyphs, options) {
         return this.#made("subset", glyphs, options);
     }
@@ -1024,6 +1049,7 @@ function callsOf(library) {
         glyphsOf: (data, text, options) => glyphs(data, text, options),
         codesOf: (shown, codes) => library.codesOf(entriesOf(shown), codesOf(codes)),
         advances: (data, glyphs, options) => once("advances", data, glyphs, options, ["limits", "coordinates"]),
+        kindsOf: (data, glyphs, options) => once("kindsOf", data, glyphs, options, []),
         subset: (data, glyphs, options) => once("subset", data, glyphs, options),
         embed: (data, glyphs, options) => once("embed", data, glyphs, options),
         PdfText: class extends PdfText {

@@ -910,6 +910,80 @@ static void try_reading(void)
     __real_free(bytes);
 }
 
+/* The value of a digit of a hexadecimal number. */
+static uint8_t digit_of(char digit)
+{
+    return (uint8_t)(digit <= '9' ? digit - '0' : digit - 'a' + 10);
+}
+
+/* The bits of kinds by their names, joined by `+`, up to a comma or the end. */
+static uint32_t bits_of(const char **words)
+{
+    static const char *const names[] = {"colr1", "colr0", "svg", "cbdt17", "cbdt18", "cbdt19", "cbdt", "sbix-png", "sbix-jpg", "sbix-tiff", "sbix-pdf", "sbix-mask",
+        "sbix-dupe", "sbix", "ebdt", "outline", "empty"};
+    uint32_t bits = 0;
+    for (int is_more = 1; is_more;) {
+        size_t length = strcspn(*words, "+,\n");
+        for (size_t i = 0; i < sizeof names / sizeof *names; i++)
+            bits |= (uint32_t)(strlen(names[i]) == length && strncmp(*words, names[i], length) == 0) << i;
+        is_more = (*words)[length] == '+';
+        *words += length + (is_more || (*words)[length] == ',');
+    }
+    return bits;
+}
+
+/* Each row of kinds.txt, also with a buffer that is one too small, and with each request for memory refused. */
+static void try_kinds(void)
+{
+    size_t size, rows = 0;
+    char *whole = (char *)file_of("kinds.txt", &size), name[64];
+    for (char *line = strstr(whole, "\nkinds "); line != NULL; line = strstr(line + 1, "\nkinds "), rows++) {
+        uint8_t font[4096];
+        uint16_t glyphs[ENTRIES];
+        uint32_t kinds[ENTRIES], found = 0;
+        size_t font_size = 0, count = 0;
+        char *at = line + 7;
+        sscanf(at, "%63s", name);
+        for (at = strchr(at, ' ') + 1; *at != ' '; at++)
+            if (*at != '-') {
+                font[font_size++] = (uint8_t)(digit_of(at[0]) << 4 | digit_of(at[1]));
+                at++;
+            }
+        uint32_t face = (uint32_t)strtoul(at, &at, 10);
+        for (at++; *at != ' '; at += *at == ',') {
+            if (*at == '-') {
+                at++;
+                continue;
+            }
+            uint32_t first = (uint32_t)strtoul(at, &at, 10), last = at[0] == '.' ? (uint32_t)strtoul(at + 2, &at, 10) : first;
+            for (; first <= last; first++)
+                glyphs[count++] = (uint16_t)first;
+        }
+        uint32_t wanted = (uint32_t)strtoul(at, &at, 10);
+        const char *words = at + 1;
+        memset(kinds, FILLED, sizeof kinds);
+        check(subsetter_glyph_kinds(font, font_size, face, glyphs, count, kinds, count) == wanted, "status", name);
+        for (size_t i = 0; wanted == 0 && i < count; i++)
+            check(kinds[i] == (found = bits_of(&words)) && subsetter_is_unseen(kinds[i]) == (found > 65536), "kinds", name);
+        check(kinds[wanted == 0 ? count : 0] == 0xA5A5A5A5, "what is behind them", name);
+        if (wanted != 0 || count == 0)
+            continue;
+        memset(kinds, FILLED, sizeof kinds);
+        check(subsetter_glyph_kinds(font, font_size, face, glyphs, count, kinds, count - 1) == 8 && kinds[0] == 0xA5A5A5A5, "room", name);
+        for (unsigned long request = 1; CAN_REFUSE; request++) {
+            requests = 0;
+            refused = request;
+            found = subsetter_glyph_kinds(font, font_size, face, glyphs, count, kinds, count);
+            refused = 0;
+            if (found == 0)
+                break;
+            check(found == 7 && kinds[0] == 0xA5A5A5A5, "no memory", name);
+        }
+    }
+    check(rows > 20, "rows", "kinds");
+    __real_free(whole);
+}
+
 /* A collection of one face: of another number of a face no bit is lost, and it is refused as such, whatever memory there is. */
 static void try_faces(void)
 {
@@ -1129,6 +1203,7 @@ int main(int count, char **words)
     try_limits();
     try_faces();
     try_reading();
+    try_kinds();
     try_reasons();
     try_runs();
     try_lists_alone();

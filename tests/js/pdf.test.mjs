@@ -195,6 +195,12 @@ test("runs that are refused", () => {
     assert.deepEqual(text.font().toUnicode, wanted);
 });
 
+test("entries that are blank", () => {
+    const font = made("made_colour.ttf"), shown = [[1, "A"], [11, "B"], [10, "C"], [11, "B"]].map(([glyph, text]) => ({ glyph, text }));
+    assert.deepEqual([subsetter.pdfFont(font, shown).unseen, subsetter.pdfFont(TTF, shown).unseen, new subsetter.PdfText(font).font().unseen], [[1, 3], [], []]);
+    assert.deepEqual(subsetter.kindsOf(font, [10, 11]), [["svg", "outline"], ["svg", "empty"]]);
+});
+
 test("codes and advances without a font", () => {
     for (const codes of [undefined, "consecutive", "source", "each_text"]) assert.deepEqual(subsetter.codesOf(SHOWN, codes), subsetter.pdfFont(TTF, SHOWN, { codes }).codes);
     const variable = made("made_variable.ttf"), coordinates = { wght: 650, wgth: 1 }, font = subsetter.pdfFont(variable, SHOWN, { coordinates });

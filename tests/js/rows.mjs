@@ -164,3 +164,20 @@ export function wrongPdfRows(library, subsetter, text, files) {
     }
     return wrong;
 }
+
+/** What differs of the rows of kinds of pictures. */
+export function wrongKindRows(subsetter, table) {
+    const rows = table.split("\n").filter((it) => it.startsWith("kinds ")).map((it) => it.split(" ").slice(1));
+    return rows.flatMap(([name, font, index, glyphs, status, kinds]) => {
+        const data = bytesOf(font), numbers = numbersOf(glyphs), face = { index: Number(index) };
+        const calls = [() => subsetter.kindsOf(data, new Set(numbers).size < numbers.length ? numbers : new Set(numbers), face), () => subsetter.open(data, face).kindsOf(numbers)];
+        const wanted = status === "0" ? kinds.replace(/^-$/, "") : ERRORS[status];
+        return calls.map((call) => {
+            try {
+                return call().map((it) => it.join("+")).join(",");
+            } catch (error) {
+                return error.name;
+            }
+        }).filter((found) => found !== wanted).map((found) => `${name}: ${found}, and not ${wanted}`);
+    });
+}

@@ -1,7 +1,7 @@
 import assert from "node:assert/strict";
 import { test } from "node:test";
-import { readPdfRows, readRows, wrongPdfRows, wrongRows } from "./rows.mjs";
-import { library, made, path, pdfTable, read, subsetter, table, wasm } from "./support.mjs";
+import { readPdfRows, readRows, wrongKindRows, wrongPdfRows, wrongRows } from "./rows.mjs";
+import { library, made, path, PDF_DATA, pdfTable, read, subsetter, table, wasm } from "./support.mjs";
 
 test("each worked row", () => {
     assert.ok(readRows(table).rows.length > 450);
@@ -13,6 +13,12 @@ test("each row for PDF", () => {
     assert.equal(rows.length, pdfTable.match(/^row /gm).length);
     assert.ok(rows.length >= 20);
     assert.deepEqual(wrongPdfRows(library, subsetter, pdfTable, files), []);
+});
+
+test("each row of kinds of pictures", () => {
+    const kinds = read(`${PDF_DATA}/kinds.txt`).toString();
+    assert.ok(kinds.match(/^kinds /gm).length > 20);
+    assert.deepEqual(wrongKindRows(subsetter, kinds), []);
 });
 
 test("the module needs nothing, names no folder of this machine, and has the version", async () => {

@@ -1,6 +1,6 @@
 /** Uses of the package: tsc has to accept each, but for the line behind each `@ts-expect-error`, which it has to refuse. */
 import { load, OutOfMemory, SubsetterError, UnknownKind } from "subsetter-proved";
-import type { Advances, Column, Embedded, Font, Objects, Part, PdfFont, PdfText, Shown, Subsetter } from "subsetter-proved";
+import type { Advances, Column, Embedded, Font, GlyphKind, Objects, Part, PdfFont, PdfText, Shown, Subsetter } from "subsetter-proved";
 
 export async function accepted(data: Uint8Array, module: WebAssembly.Module): Promise<void> {
     const subsetter: Subsetter = await load();
@@ -34,8 +34,9 @@ export function acceptedForPdf(subsetter: Subsetter, data: Uint8Array): void {
     const parts: Part[] = [...font.parts([1, 2, 3, 4, 5]), ...font.parts(new Set([1]), { pack: (it: Uint8Array) => it.slice(), filter: "/X" })];
     const advances: Advances = subsetter.advances(data, [1], { index: 0, coordinates: { wght: 1 }, limits: { tokens: 5 } });
     bytes.push(parts[0].entries, parts[0].value, parts[0].stream ?? data);
-    numbers.push(parts[0].number, parts[0].strings[0][1], font.partCount, font.unitsPerEm, ...font.exactWidths, ...advances.widths, ...subsetter.codesOf(shown, "each_text"));
-    texts.push(parts[0].role, ...font.unknownAxes);
+    numbers.push(parts[0].number, parts[0].strings[0][1], font.partCount, font.unitsPerEm, ...font.exactWidths, ...advances.widths, ...font.unseen, ...subsetter.codesOf(shown, "each_text"));
+    const kinds: GlyphKind[][] = [...subsetter.kindsOf(data, [1], { index: 0 }), ...subsetter.open(data).kindsOf(new Set([1]))];
+    texts.push(parts[0].role, ...font.unknownAxes, ...kinds[0]);
     const text: PdfText = new subsetter.PdfText(data, { index: 0, coordinates: { wght: 1 }, vertical: false, rights: "held", order: "logical", limits: {} });
     bytes.push(text.run(new Set([{ glyph: 5, text: "fi" }, { glyph: 7, xAdvance: 0, yOffset: 3 }]), { direction: "rtl", size: 9.5 }));
     bytes.push(text.shaped("A", [{ g: 1, cl: 0, ax: 500, ay: 0, dx: 0, dy: 0 }]), text.font({ cidSet: true, tag: "ABCDEF" }).cidToGidMap ?? data);

@@ -166,6 +166,14 @@ def test_codes_and_advances_without_a_font():
     assert type(raised(subsetter.advances, TTF, [999])) is subsetter.MalformedFont and subsetter.advances(TTF, []).widths == []
 
 
+def test_entries_that_are_blank():
+    font = subsetter.pdf_font(made("made_colour.ttf"), [(1, "A"), (11, "B"), (10, "C"), (11, "B")])
+    assert font.unseen == pickle.loads(pickle.dumps(font)).unseen == [1, 3]
+    assert subsetter.kinds_of(made("made_colour.ttf"), [10, 11]) == [("svg", "outline"), ("svg", "empty")]
+    with subsetter.PdfText(made("made_colour.ttf")) as text:
+        assert text.font().unseen == subsetter.pdf_font(TTF, [(11, "B")]).unseen == []
+
+
 def test_over_an_older_library(monkeypatch):
     """One without the newer calls makes fonts all the same."""
     wanted, library = subsetter.pdf_font(TTF, SHOWN).objects(4), subsetter._library()
@@ -173,7 +181,7 @@ def test_over_an_older_library(monkeypatch):
     monkeypatch.setattr(subsetter, "_loaded", types.SimpleNamespace(_name="libolder.so", **{name: getattr(library, name) for name in names}))
     font = subsetter.pdf_font(TTF, SHOWN)
     assert font.objects(4) == wanted and pickle.loads(pickle.dumps(font)).objects(4) == wanted
-    for call in (lambda: font.exact_widths, lambda: font.part_count, lambda: font.parts([1]), lambda: subsetter.codes_of(SHOWN), lambda: subsetter.advances(TTF, [1])):
+    for call in (lambda: font.exact_widths, lambda: font.part_count, lambda: font.parts([1]), lambda: subsetter.codes_of(SHOWN), lambda: subsetter.advances(TTF, [1]), lambda: subsetter.kinds_of(TTF, [1]), lambda: font.unseen):
         assert type(raised(call)) is NotImplementedError
 
 

@@ -2,7 +2,8 @@
 
 import pytest
 import subsetter
-from common import made, pdf_rows, read_rows
+from common import ERRORS as STATUSES
+from common import PDF_DATA, hexadecimal, made, numbers, pdf_rows, read_rows
 
 ROWS, FONTS, TEXTS = read_rows()
 KINDS = {"TrueType": "TrueType", "CFF": "CIDFontType0C", "OpenType": "OpenType"}
@@ -12,6 +13,9 @@ OPTIONS = {
     "cid_set": {"cid_set": True},
 }
 ERRORS = {"NotPermitted": subsetter.NotPermitted, "TextTooLong": subsetter.InvalidText}
+
+
+KIND_ROWS = [line.split()[1:] for line in (PDF_DATA / "kinds.txt").read_text().splitlines() if line.startswith("kinds ")]
 
 
 def answer(call, *arguments, **choices):
@@ -106,3 +110,11 @@ def test_pdf_row(row):
     assert line.startswith(b"%PDF-1.7\n") and line.endswith(b"%%EOF\n")
     assert b"[0 0 595 842]" in grid and b"[0 0 595 842]" not in line
     assert (b"/ActualText" in line) == (not all(font.text_is_mapped))
+
+
+@pytest.mark.parametrize("name, font, face, glyphs, status, kinds", KIND_ROWS, ids=[row[0] for row in KIND_ROWS])
+def test_kinds(name, font, face, glyphs, status, kinds):
+    wanted = (STATUSES[int(status)], TEXTS[int(status)]) if status != "0" else tuple(tuple(it.split("+")) for it in kinds.split(",") if it != "-")
+    assert answer(subsetter.kinds_of, hexadecimal(font), numbers(glyphs), int(face)) == wanted
+    if face == "0":
+        assert answer(subsetter.kinds_of, hexadecimal(font), iter(numbers(glyphs))) == wanted

@@ -4,7 +4,7 @@ import array
 import mmap
 from decimal import Decimal
 from fractions import Fraction
-from typing import List, Type
+from typing import List, Tuple, Type
 
 import subsetter
 
@@ -35,7 +35,7 @@ def accepted_for_pdf(data: bytes, mapped: mmap.mmap, one: Index) -> None:
     shown = subsetter.glyphs_of(data, "Hello", one)
     font: subsetter.PdfFont = subsetter.pdf_font(data, [*shown, (one, "A"), (True, "fi")], 0, tokens=5, coordinates={"wght": 650}, hinting=False, cid_set=True)
     font = subsetter.pdf_font(mapped, iter(shown), program="opentype", codes="each_text", vertical=True, bounds="kept", tag="ABCDEF", rights="held")
-    lists: List[List[int]] = [font.cids, font.codes, font.widths, font.objects(first=4).offsets, subsetter.codes_of(shown, "source"), font.exact_widths]
+    lists: List[List[int]] = [font.cids, font.codes, font.widths, font.objects(first=4).offsets, subsetter.codes_of(shown, "source"), font.exact_widths, font.unseen]
     angle: float = font.descriptor.italic_angle
     columns: List[subsetter.Column] = font.columns or []
     if font.permission.usage == "editable" and font.encoding is not None and font.encoding_name is not None:
@@ -43,10 +43,11 @@ def accepted_for_pdf(data: bytes, mapped: mmap.mmap, one: Index) -> None:
     parts: List[subsetter.Part] = font.parts(range(1, 8), compress=True) + font.parts([one], pack=bytes.upper, filter="/X")
     streams = [part.entries + (part.stream or b"") + part.value for part in parts]
     advances: subsetter.Advances = subsetter.advances(data, [one], one, coordinates={"wght": 1}, tokens=one)
+    kinds: List[Tuple[subsetter.GlyphKind, ...]] = subsetter.kinds_of(data, [one], one)
     with font as opened:
         mapped_texts: List[bool] = opened.text_is_mapped
     font.close()
-    print(lists, angle, columns, streams, advances.widths, parts[0].role, parts[0].strings[0][1], mapped_texts, font.sheet("grid") + font.program)
+    print(lists, angle, columns, streams, advances.widths, kinds, parts[0].role, parts[0].strings[0][1], mapped_texts, font.sheet("grid") + font.program)
 
 
 class Glyph:

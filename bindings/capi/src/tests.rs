@@ -110,6 +110,7 @@ fn in_memory(address: usize) -> Vec<(u32, usize)> {
         all.push((subsetter_codes_of(glyphs, 0, words, 0, ends, 0, 0, buffer, 0, &mut length), length));
         let found = subsetter_advances_by_words(font, size, 0, at, 0, glyphs, 0, words, 0, buffer, 0, buffer, 0, &mut units);
         all.push((found, units as usize));
+        all.push((subsetter_glyph_kinds(font, size, 0, glyphs, 0, address as *mut u32, 0), 0));
     }
     all
 }
@@ -129,7 +130,7 @@ fn no_panic_reaches_the_caller() {
         };
         assert_eq!(left, wanted, "call {call}");
     }
-    let mut wanted = [(PANICKED, 0); 14];
+    let mut wanted = [(PANICKED, 0); 15];
     // (how many parts there are is counted)
     wanted[10].1 = 5;
     assert_eq!(memory, wanted);
@@ -157,7 +158,7 @@ fn lists_of_no_items_may_be_anywhere() {
             [(DONE, 164), (DONE, 164), (2, 0), (2, 0), (NO_CMAP, 0), (2, 0)]
         );
         assert!(made[6].0 == DONE && made[6].1 > 500 && made[7].0 == DONE);
-        assert_eq!(made[8..], [(2, 0), (NO_CMAP, 0), (DONE, 5), made[6], (DONE, 0), (2, 0)]);
+        assert_eq!(made[8..], [(2, 0), (NO_CMAP, 0), (DONE, 5), made[6], (DONE, 0), (2, 0), (DONE, 0)]);
     }
 }
 

@@ -6,7 +6,9 @@ use crate::fonts_for_pdf::{entries_of, hand, status_of_refusal, ObjectsMade, Pdf
 use crate::making::List;
 use crate::options::{choices, font_choices};
 use crate::status::{status_of, DONE, INVALID_NUMBERS, TOO_SMALL, UNKNOWN_OPTION};
-use fonts::capi::pdf::{advances, codes_of, pdf_font, Entries, FontLists, FontNumbers, FontParts, TextEntries};
+use fonts::capi::pdf::{
+    advances, codes_of, kinds_of, pdf_font, Entries, FontLists, FontNumbers, FontParts, TextEntries,
+};
 use fonts::capi::Coordinate;
 use fonts::pdf::{Part, PartsError};
 use fonts::Error;
@@ -112,10 +114,7 @@ impl FontMade {
 /// # Safety
 ///
 /// The size of what is made can be read, and so many bytes written.
-pub unsafe fn hand_font(
-    call: impl FnOnce() -> Result<FontMade, u32>,
-    made: *mut FontMade,
-) -> u32 {
+pub unsafe fn hand_font(call: impl FnOnce() -> Result<FontMade, u32>, made: *mut FontMade) -> u32 {
     if unsafe { (*made).size } != SIZE {
         return UNKNOWN_OPTION;
     }
@@ -421,4 +420,27 @@ pub unsafe extern "C" fn subsetter_advances_by_words(
         units_per_em.write(u32::from(made.units_per_em));
     }
     DONE
+}
+
+/// See `subsetter.h`.
+///
+/// # Safety
+///
+/// What the header requires of a caller.
+#[no_mangle]
+pub unsafe extern "C" fn subsetter_glyph_kinds(
+    font: *const u8,
+    font_size: usize,
+    index: u32,
+    glyphs: *const u16,
+    glyph_count: usize,
+    kinds: *mut u32,
+    kind_count: usize,
+) -> u32 {
+    let font = unsafe { list(font, font_size) };
+    let glyphs = unsafe { list(glyphs, glyph_count) };
+    let answer = guarded(|| kinds_of(font, index, glyphs).map_err(status_of));
+    let answer = answer.as_ref().map(Vec::as_slice).map_err(|status| *status);
+    let (_, status) = hand_items(answer, unsafe { Buffer::new(kinds, kind_count) });
+    status
 }

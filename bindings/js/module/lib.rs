@@ -314,6 +314,15 @@ pub struct AdvancesCall {
     heights: List<u16>,
 }
 
+/// A call that gives kinds of pictures.
+#[repr(C)]
+pub struct KindsCall {
+    font: List<u8>,
+    index: u32,
+    glyphs: List<u16>,
+    kinds: List<u32>,
+}
+
 /// A call that reads a text without shaping.
 #[repr(C)]
 pub struct ReadCall {
@@ -428,6 +437,16 @@ pub unsafe extern "C" fn subsetter_advances(call: &mut AdvancesCall) -> u32 {
         call.widths = List::of(made.widths);
         call.heights = List::of(made.heights);
     }))
+}
+
+/// # Safety
+///
+/// As of `List::items`.
+#[no_mangle]
+pub unsafe extern "C" fn subsetter_glyph_kinds(call: &mut KindsCall) -> u32 {
+    let (font, glyphs) = unsafe { (call.font.items(), call.glyphs.items()) };
+    let found = pdf::kinds_of(font, call.index, glyphs).map_err(status_of);
+    status(found.map(|kinds| call.kinds = List::of(kinds)))
 }
 
 /// # Safety

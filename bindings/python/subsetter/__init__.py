@@ -51,6 +51,10 @@ Codes = Literal["consecutive", "source", "each_text"]
 _CODES: Tuple[Codes, ...] = ("consecutive", "source", "each_text")
 Role = Literal["font", "cid_font", "descriptor", "program", "to_unicode", "cid_set", "encoding", "cid_to_gid_map"]
 _ROLES: Tuple[Role, ...] = ("font", "cid_font", "descriptor", "program", "to_unicode", "cid_set", "encoding", "cid_to_gid_map")
+GlyphKind = Literal[
+    "colr1", "colr0", "svg", "cbdt17", "cbdt18", "cbdt19", "cbdt", "sbix-png", "sbix-jpg", "sbix-tiff", "sbix-pdf", "sbix-mask",
+    "sbix-dupe", "sbix", "ebdt", "outline", "empty",
+]
 Bounds = Literal["font", "kept"]
 Rights = Literal["from_font", "held", "as_said"]
 Direction = Literal["ltr", "rtl", "ttb"]
@@ -67,7 +71,7 @@ else:
     Buffer = Any
 
 __all__ = [
-    "pdf_font", "glyphs_of", "codes_of", "advances", "PdfFont", "Advances", "Column", "Descriptor", "Permission", "Objects", "Part",
+    "pdf_font", "glyphs_of", "codes_of", "advances", "kinds_of", "PdfFont", "Advances", "Column", "Descriptor", "Permission", "Objects", "Part",
     "PdfText", "subset", "embed", "Embedded", "Error",
     "UnknownKind", "MalformedFont", "Unimplemented", "SubsetError", "CFFError", "OutOfMemory", "NotPermitted", "InvalidText", "Overfull",
     "NoCmap", "MissingCharacters", "TextGlyphs",
@@ -439,10 +443,11 @@ def _declare(library: ctypes.CDLL) -> ctypes.CDLL:
         "subsetter_read_text": (
             make[:3] + [pointer, size, ctypes.POINTER(_Entry), size, pointer, size, ctypes.POINTER(_ReadSizes)], ctypes.c_uint32),
     }
+    for_kinds = {"subsetter_glyph_kinds": (make[:3] + [pointer, size] * 2, ctypes.c_uint32)}
     # (a library has all calls of a group or, if it is older than they are, none)
     groups: Dict[str, Any] = {
         "subsetter_glyphs_of": for_pdf, "subsetter_make_font_by_words": new, "subsetter_new_text_by_words": for_runs,
-        "subsetter_read_text": for_texts,
+        "subsetter_read_text": for_texts, "subsetter_glyph_kinds": for_kinds,
     }
     for first, group in groups.items():
         if hasattr(library, first):
@@ -945,6 +950,39 @@ def advances(
     return Advances(units.value, widths.tolist(), heights.tolist())
 
 
+_GLYPH_KINDS: Tuple[GlyphKind, ...] = (
+    "colr1", "colr0", "svg", "cbdt17", "cbdt18", "cbdt19", "cbdt", "sbix-png", "sbix-jpg", "sbix-tiff", "sbix-pdf", "sbix-mask",
+    "sbix-dupe", "sbix", "ebdt", "outline", "empty",
+)
+
+
+def _kind_bits(library: ctypes.CDLL, font: Any, size: int, face: int, glyphs: array[int]) -> List[int]:
+    """Of each glyph a number with a bit for each kind."""
+    kinds = (ctypes.c_uint32 * len(glyphs))()
+    status = library.subsetter_glyph_kinds(font, size, face, glyphs.buffer_info()[0], len(glyphs), kinds, len(kinds))
+    _check(library, status, _Asked(_GLYPHS_OF, font, size, face, array("H"), array("I", [0] * 3)))
+    return list(kinds)
+
+
+def kinds_of(data: Buffer, glyphs: Iterable[SupportsIndex], index: SupportsIndex = 0) -> List[Tuple[GlyphKind, ...]]:
+    """All kinds of pictures that a font has of each glyph, in the order in which a reader of OpenType prefers them: "colr1" (a paint
+    of `COLR`), "colr0" (layers), "svg", "cbdt17" to "cbdt19" or "cbdt" by the format of an image, "sbix-png" and others or "sbix" by
+    the type of a graphic, "ebdt", and last "outline" or "empty".
+
+    A PDF shows the outline alone, so a glyph that is "empty" and has another picture is blank there. A picture is what a table
+    lists, whether it can be drawn or not; a table that is cut or wrong lists none. The outline of a charstring is empty where it is
+    endchar alone, with or without a width. The arguments are those of `subset`, and the font needs no outlines.
+
+    Raises `UnknownKind` for what is no font, `MalformedFont` where its directory is cut or it has no such face, and
+    `NotImplementedError` where the library is of an older version.
+    """
+    numbers, face = _glyph_numbers(glyphs), _number("index", index, 0, 0xFFFFFFFF)
+    library = _library_with("subsetter_glyph_kinds")
+    with _bytes_of(data) as (font, size):
+        found = _kind_bits(library, font, size, face, numbers)
+    return [tuple(kind for bit, kind in enumerate(_GLYPH_KINDS) if bits >> bit & 1) for bits in found]
+
+
 _ITEMS = {"cids": "H", "codes": "H", "widths": "I", "columns": "i"}
 _NUMBERS = 84
 _LISTS = [(field, size) for (field, _), (size, _) in zip(_PdfFont._fields_[0:22:2], _PdfFont._fields_[1:22:2])]
@@ -1004,6 +1042,8 @@ class PdfFont:
     - `cid_to_gid_map`: the bytes of CIDToGIDMap (9.7.4.2), where it is a stream.
     - `units_per_em`, `exact_widths`: how many units of the font an em has, and the width of each CID in these.
     - `unknown_axes`: those of the coordinates that the font doesn't have.
+    - `unseen`: the places of the entries that are blank though the font has a picture of the glyph (`kinds_of`): its outline is
+      empty, and a PDF shows nothing else.
     - `part_count`: how many objects it has.
     """
 
@@ -1027,6 +1067,7 @@ class PdfFont:
     units_per_em: int
     exact_widths: List[int]
     unknown_axes: List[str]
+    unseen: List[int]
     part_count: int
 
     def __init__(self, made: _PdfFont, entries: _Entries, new: Optional[_Font]) -> None:
@@ -1070,7 +1111,7 @@ class PdfFont:
             self.part_count = _library().subsetter_pdf_part_count(ctypes.byref(new))
 
     def __getattr__(self, name: str) -> NoReturn:
-        if name in ("units_per_em", "exact_widths", "unknown_axes", "part_count"):
+        if name in ("units_per_em", "exact_widths", "unknown_axes", "unseen", "part_count"):
             raise NotImplementedError(f"the font is of a library of an older version, which says no {name}")
         raise AttributeError(f"a PdfFont has no {name}")
 
@@ -1246,11 +1287,17 @@ def pdf_font(
     given = (place, len(place), *entries.arguments(), words.buffer_info()[0], len(words))
     if hasattr(library, "subsetter_make_font_by_words"):
         made = _Font(size=ctypes.sizeof(_Font))
-        with _bytes_of(data) as (font, size):
-            status = library.subsetter_make_font_by_words(font, size, face, *given, ctypes.byref(made))
-            _check(library, status, _Asked(_PDF_FONT, font, size, face, entries.glyphs, words), entries.fault)
         try:
-            return PdfFont(made.pdf, entries, made)
+            with _bytes_of(data) as (font, size):
+                status = library.subsetter_make_font_by_words(font, size, face, *given, ctypes.byref(made))
+                _check(library, status, _Asked(_PDF_FONT, font, size, face, entries.glyphs, words), entries.fault)
+                has_kinds = hasattr(library, "subsetter_glyph_kinds")
+                kinds = _kind_bits(library, font, size, face, entries.glyphs) if has_kinds else None
+            found = PdfFont(made.pdf, entries, made)
+            if kinds is not None:
+                # (the highest bit is that of an empty outline)
+                found.unseen = [place for place, bits in enumerate(kinds) if bits > 1 << _GLYPH_KINDS.index("empty")]
+            return found
         finally:
             library.subsetter_free_font(ctypes.byref(made))
     older = _PdfFont()
@@ -1547,6 +1594,8 @@ class PdfText:
         try:
             glyphs = array("H", [glyph or 0 for glyph, _ in self.codes if status])
             _check(self._library, status, _Asked(_PDF_FONT, *self._font, self._index, glyphs, words))
-            return PdfFont(made.pdf, _Entries([]), made)
+            font = PdfFont(made.pdf, _Entries([]), made)
+            font.unseen = []
+            return font
         finally:
             self._library.subsetter_free_font(ctypes.byref(made))

@@ -25,6 +25,7 @@ mod advance;
 mod calls;
 mod error;
 mod font;
+mod kinds;
 mod objects;
 mod options;
 mod parts;
@@ -36,6 +37,7 @@ mod written;
 pub use advance::{advances, advances_with_limits, Advances};
 pub use error::{FontError, TextError};
 pub use font::PdfFont;
+pub use kinds::{kinds_of, GlyphKind, GlyphKinds};
 pub use objects::{Dictionaries, Layout, Objects, References};
 pub use options::{Bounds, ClusterUnit, Codes, Direction, FontOptions, Order, ProgramChoice};
 pub use options::{Rights, SubsetTag, TextOptions};
@@ -230,8 +232,9 @@ pub fn pdf_font(
 ) -> Result<PdfFont, FontError> {
     let coordinates = library::coordinates(variation_coordinates)?;
     let characters = characters(shown)?;
-    let shown = taken(shown, &characters)?;
+    let list = taken(shown, &characters)?;
     let chosen = options.chosen();
-    let made = proved::pdf_font(Global, data, index, &coordinates, &shown, &chosen);
-    Ok(PdfFont::new(made.map_err(FontError::of)?)?)
+    let made = proved::pdf_font(Global, data, index, &coordinates, &list, &chosen);
+    let made = made.map_err(FontError::of)?;
+    Ok(PdfFont::new(made, kinds::unseen(data, index, shown)?)?)
 }

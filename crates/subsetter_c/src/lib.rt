@@ -14,6 +14,7 @@ mod answers;
 mod calls;
 mod characters;
 mod documents;
+mod kinds;
 mod laws;
 mod options;
 mod reasons;

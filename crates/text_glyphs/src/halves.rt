@@ -9,14 +9,14 @@ use subsetter_base::read::Reader;
 
 /// Records that begin with keys that ascend: where the first one is, how many bytes each has, and how many its key has.
 #[derive(Clone, Copy)]
-pub(crate) struct Records {
-    pub(crate) at: usize,
-    pub(crate) size: usize,
-    pub(crate) width: usize,
+pub struct Records {
+    pub at: usize,
+    pub size: usize,
+    pub width: usize,
 }
 
 /// The number of at most four bytes at an offset, if they are there.
-pub(crate) fn number_in(table: &[u8], at: usize, width: usize) -> Option<u32>
+pub fn number_in(table: &[u8], at: usize, width: usize) -> Option<u32>
     requires { width ≤ 4 }
     ensures { result ≡ number table.now at width }
 {
@@ -76,7 +76,7 @@ fn count_up_to(table: &[u8], records: Records, count: usize, wanted: u32) -> usi
 
 /// The place of the last of so many records whose key is at most a number.
 #[tactic(auto, unfolding(crate::specs::Halves::last_up_to))]
-pub(crate) fn last_up_to(table: &[u8], records: Records, count: u32, wanted: u32) -> Option<usize>
+pub fn last_up_to(table: &[u8], records: Records, count: u32, wanted: u32) -> Option<usize>
     requires some { 0 < records.size }
     requires near { records.at < 2 ^ 16 }
     requires small { records.size < 2 ^ 16 }

@@ -25,6 +25,7 @@ mod tables;
 pub use characters::glyphs_of;
 pub use choice::{CharacterTable, find_table};
 pub use encodings::Encoding;
+pub use halves::{Records, last_up_to, number_in};
 pub use laws::last_is_found;
 pub use reading::{Entry, ReadText, read_text};
 pub use source::{TextSource, find_source};

@@ -15,9 +15,11 @@ ROWS = {"subset": SUBSET + NEW, "limits": SUBSET + LIMITS + NEW, "options": SUBS
         "bounded_options": SUBSET + LIMITS + ["drop"] + BOUND + NEW, "embed": SUBSET + EMBEDDED,
         "embed_options": SUBSET + LIMITS + ["drop"] + EMBEDDED, "embed_bounded_options": SUBSET + LIMITS + ["drop"] + BOUND + EMBEDDED,
         "subset_at": SUBSET + ["at"] + LIMITS + ["drop"] + BOUND + NEW, "embed_at": SUBSET + ["at"] + LIMITS + ["drop"] + BOUND + EMBEDDED,
-        "instance": SUBSET + ["at", "steps"], "advances": SUBSET + ["at", "tokens", "status", "units", "widths", "heights"]}
+        "instance": SUBSET + ["at", "steps"], "advances": SUBSET + ["at", "tokens", "status", "units", "widths", "heights"],
+        "kinds": SUBSET + ["status", "kinds"]}
 DEFAULTS = {"font": None, "face": "0", "glyphs": "-", "tokens": "0", "depth": "0", "drop": "0", "most": "0", "at": "-", "steps": None,
-            "status": "DONE", "new": "-", "cids": "-", "widths": "-", "units": "-", "heights": "-"}
+            "status": "DONE", "new": "-", "cids": "-", "widths": "-", "units": "-", "heights": "-",
+            "kinds": "-"}
 # Rows that are as they are in today's file, but for words `TAG=VALUE` with values in units of the axis.
 PLAIN = {"nearest", "axes", "scalar", "numbers", "deltas", "tuple", "moved", "advance", "read", "written", "fits", "coordinates"}
 
@@ -134,7 +136,7 @@ class Library:
                 line.fails(f"{key}= is missing")
         if given["font"] not in self.fonts:
             line.fails(f"there is no font {given['font']} in front of it")
-        if kind == "advances":
+        if kind in ("advances", "kinds"):
             # (each test reads this file alone, so that the font is in the row)
             given["font"] = self.hex(self.fonts[given["font"]])
         if "status" in given:

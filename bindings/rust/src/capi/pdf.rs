@@ -4,7 +4,7 @@ mod advance;
 mod runs;
 mod texts;
 
-pub use advance::advances;
+pub use advance::{advances, kinds_of};
 pub use runs::{show_items, show_shaped, text_font, text_lists};
 pub use runs::{GlyphMetrics, RunError, Shaped, TextItem, TextPair, TextView, Units};
 pub use texts::{codes_of, TextEntries};

@@ -15,6 +15,7 @@ pub struct PdfFont {
     cid_to_gid_map: Option<Vec<u8>>,
     columns: Vec<Column>,
     unknown_axes: Vec<Tag>,
+    unseen: Vec<usize>,
 }
 
 /// A text of bytes between 33 and 126.
@@ -23,8 +24,11 @@ fn text(bytes: &[u8]) -> &str {
 }
 
 impl PdfFont {
-    pub(super) fn new(made: proved::PdfFont) -> Result<Self, Error> {
-        Self::with_map(made, None)
+    /// The font, whose entries at these places are unseen.
+    pub(super) fn new(made: proved::PdfFont, unseen: Vec<usize>) -> Result<Self, Error> {
+        let mut font = Self::with_map(made, None)?;
+        font.unseen = unseen;
+        Ok(font)
     }
 
     /// The font of a text.
@@ -46,6 +50,7 @@ impl PdfFont {
             cid_to_gid_map,
             columns,
             unknown_axes,
+            unseen: Vec::new(),
         })
     }
 
@@ -146,6 +151,12 @@ impl PdfFont {
     /// The axes that coordinates were given for and that the font doesn't have, in the order given, each once.
     pub fn unknown_axes(&self) -> &[Tag] {
         &self.unknown_axes
+    }
+
+    /// The places of the entries that are blank though the font has a picture of the glyph: its outline is empty, and a PDF shows
+    /// nothing else ([`kinds_of`](super::kinds_of) has the kinds). A blank alone, as a space, isn't among them.
+    pub fn unseen(&self) -> &[usize] {
+        &self.unseen
     }
 
     /// What the font's maker permits.

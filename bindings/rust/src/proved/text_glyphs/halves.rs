@@ -6,14 +6,14 @@ use crate::proved::subsetter_base::read::Reader;
 
 /// Records that begin with keys that ascend: where the first one is, how many bytes each has, and how many its key has.
 #[derive(Clone, Copy)]
-pub(crate) struct Records {
-    pub(crate) at: usize,
-    pub(crate) size: usize,
-    pub(crate) width: usize,
+pub struct Records {
+    pub at: usize,
+    pub size: usize,
+    pub width: usize,
 }
 
 /// The number of at most four bytes at an offset, if they are there.
-pub(crate) fn number_in(table: &[u8], at: usize, width: usize) -> Option<u32> {
+pub fn number_in(table: &[u8], at: usize, width: usize) -> Option<u32> {
     let bytes = Reader::new_at(table, at).read_bytes(width)?;
     Some(number_of(bytes))
 }
@@ -51,7 +51,7 @@ fn count_up_to(table: &[u8], records: Records, count: usize, wanted: u32) -> usi
 }
 
 /// The place of the last of so many records whose key is at most a number.
-pub(crate) fn last_up_to(table: &[u8], records: Records, count: u32, wanted: u32) -> Option<usize> {
+pub fn last_up_to(table: &[u8], records: Records, count: u32, wanted: u32) -> Option<usize> {
     let there = records_there(table, records, count);
     let places = count_up_to(table, records, there, wanted);
     if places == 0 {

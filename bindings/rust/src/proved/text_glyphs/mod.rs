@@ -22,5 +22,6 @@ mod source;
 mod tables;
 
 pub use characters::glyphs_of;
+pub use halves::{last_up_to, number_in, Records};
 pub use reading::{read_text, Entry, ReadText};
 pub use source::{find_source, TextSource};

@@ -1,0 +1,17 @@
+//! Which pictures a font has of its glyphs: paints and layers of `COLR`, documents of `SVG `, images of `CBDT` and `EBDT`,
+//! graphics of `sbix`, outlines.
+//!
+//! ```text
+//! let kinds = kinds_of(alloc, data, 0, &[36])?;
+//! let is_blank = kinds[0] == 1 << 16;          // an empty outline, and no other picture
+//! ```
+#![tactic(auto)]
+
+mod bitmaps;
+mod call;
+mod colour;
+mod graphics;
+mod outlines;
+mod strikes;
+
+pub use call::kinds_of;
