@@ -109,7 +109,6 @@ pub mod subsetter_type2;
 pub mod subsetter_variable;
 #[cfg(feature = "variable-fonts")]
 pub mod subsetter_variation;
-#[cfg(feature = "variable-fonts")]
 pub mod text_glyphs;
 #[cfg(feature = "variable-fonts")]
 pub mod text_metrics;
