@@ -11,6 +11,7 @@ use Rattle.font_reasons.specs.File.{or_else}
 use Rattle.font_reasons.specs.Parts.{no_metric, no_table, wrong_metrics}
 use Rattle.font_reasons.specs.Request.{no_font_or_glyph, not_kept, reason_of_unknown, wrong_source, wrong_table}
 use Rattle.font_reasons.specs.Short.{short_hhea}
+use Rattle.font_reasons.specs.Variations.{other_variations, wrong_variations}
 use Rattle.font_reasons.specs.declared.explained.Call.{Call}
 use Rattle.font_reasons.specs.declared.explained.Call.TheVariants.{Subset, SubsetAt, Embed, EmbedAt, PdfFont, GlyphsOf, Advances}
 use Rattle.font_reasons.specs.declared.reason.Reason.{Reason}
@@ -59,10 +60,12 @@ only_cff2_by glyf cff other = None
 abbrev pub only_cff2 : Font → Option Reason
 only_cff2 font = only_cff2_by (stored font (codes "glyf")) (stored font (codes "CFF ")) (stored font (codes "CFF2"))
 
-abbrev pub no_coordinates : Call → Font → Option Reason
-no_coordinates Subset font = only_cff2 font
-no_coordinates Embed font = only_cff2 font
-no_coordinates other font = None
+-- what isn't read: at coordinates tables of another version
+abbrev pub not_read : Call → Font → Option Reason
+not_read Subset font = only_cff2 font
+not_read Embed font = only_cff2 font
+not_read GlyphsOf font = None
+not_read other font = other_variations font
 
 -- the tables that are read for advances
 unfoldable pub wrong_advances : Font → Option Reason
@@ -85,7 +88,7 @@ malformed call font glyphs = or_else (no_font_or_glyph font glyphs) (or_else (la
 unfoldable pub shown : Call → Refusal → Font → List ℕ → Option Reason
 shown call UnknownKind font glyphs = reason_of_unknown font
 shown call MalformedFont font glyphs = malformed call font glyphs
-shown call Unimplemented font glyphs = no_coordinates call font
+shown call Unimplemented font glyphs = not_read call font
 shown call SubsetError font glyphs = None
 shown call OverflowError font glyphs = wrong_metrics font
 shown call CFFError font glyphs = None
@@ -111,8 +114,21 @@ not_kept_by PdfFont font glyphs = no_metric font glyphs
 not_kept_by GlyphsOf font glyphs = None
 not_kept_by Advances font glyphs = None
 
+-- and what varies, at coordinates
+unfoldable pub wrong_variations_for : Call → Font → Option Reason
+wrong_variations_for Subset font = None
+wrong_variations_for SubsetAt font = wrong_variations font
+wrong_variations_for Embed font = None
+wrong_variations_for EmbedAt font = wrong_variations font
+wrong_variations_for PdfFont font = wrong_variations font
+wrong_variations_for GlyphsOf font = None
+wrong_variations_for Advances font = wrong_variations font
+
+unfoldable pub malformed_last : Call → Font → List ℕ → Option Reason
+malformed_last call font glyphs = or_else (not_kept_by call font glyphs) (wrong_variations_for call font)
+
 abbrev pub shown_last : Call → Refusal → Font → List ℕ → Option Reason
-shown_last call MalformedFont font glyphs = not_kept_by call font glyphs
+shown_last call MalformedFont font glyphs = malformed_last call font glyphs
 shown_last call other font glyphs = None
 
 abbrev pub seen_last : Call → Refusal → Font → ℕ → ℕ → List ℕ → Option Reason

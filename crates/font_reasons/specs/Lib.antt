@@ -9,4 +9,5 @@ pub mod Permission
 pub mod Request
 pub mod Short
 pub mod Texts
+pub mod Variations
 pub mod View

@@ -4,7 +4,7 @@ use Rattle.std.specs.Fmt.{radix_digits}
 use Rattle.subsetter_base.specs.Texts.{tag_text}
 use Rattle.subsetter_base.specs.declared.tag.Tag.{Tag}
 use Rattle.font_reasons.specs.declared.reason.Reason.{Reason}
-use Rattle.font_reasons.specs.declared.reason.Reason.TheVariants.{Woff, Woff2, NotFont, Empty, NoFace, NoHeader, CutDirectory, Cut, NoOutlines, NoGlyph, NoTable, NoEntries, Descends, Outside, CutHeader, CutComponent, ByComponent, NoMetrics, FewMetrics, NoMetric, NoUnits, Short, NoUnicode, OnlyCff2, Forbidden, OtherCff, WrongCff, NoCharstring, WrongCharstring, Composed}
+use Rattle.font_reasons.specs.declared.reason.Reason.TheVariants.{Woff, Woff2, NotFont, Empty, NoFace, NoHeader, CutDirectory, Cut, NoOutlines, NoGlyph, NoTable, NoEntries, Descends, Outside, CutHeader, CutComponent, ByComponent, NoMetrics, FewMetrics, NoMetric, NoUnits, Short, NoUnicode, OnlyCff2, Forbidden, OtherVersion, AxisSize, AxisCount, WrongGvar, OtherCff, WrongCff, NoCharstring, WrongCharstring, Composed}
 
 -- a number between two texts
 abbrev pub between : List ℕ → ℕ → List ℕ → List ℕ
@@ -25,6 +25,9 @@ component_text glyph component = codes "glyph " ++ (decimal glyph ++ (codes ": i
 
 abbrev pub short_text : Tag → ℕ → ℕ → List ℕ
 short_text tag size needed = tag_text tag.0 ++ (codes ": " ++ (decimal size ++ (codes " bytes, needs " ++ decimal needed)))
+
+abbrev pub axes_text : Tag → ℕ → ℕ → List ℕ
+axes_text tag count axes = tag_text tag.0 ++ (codes ": axisCount is " ++ (decimal count ++ (codes ", that of fvar " ++ decimal axes)))
 
 -- four hexadecimal digits
 abbrev pub hex_text : ℕ → List ℕ
@@ -63,6 +66,10 @@ reason_text (Short tag size needed) = short_text tag size needed
 reason_text NoUnicode = codes "cmap: no table for Unicode, symbols or Mac Roman in format 0, 4, 6, 12 or 13"
 reason_text OnlyCff2 = codes "CFF2: its outlines are taken at coordinates alone"
 reason_text (Forbidden fs_type bit) = forbidden_text fs_type bit
+reason_text (OtherVersion tag) = tag_text tag.0 ++ codes ": its major version isn't 1"
+reason_text (AxisSize size) = between (codes "fvar: axisSize is ") size (codes ", needs 20")
+reason_text (AxisCount tag count axes) = axes_text tag count axes
+reason_text WrongGvar = codes "gvar: the table can't be read"
 reason_text OtherCff = codes "CFF: its major version isn't 1"
 reason_text WrongCff = codes "CFF: the table can't be read"
 reason_text (NoCharstring glyph) = between (codes "glyph ") glyph (codes ": CFF has no charstring or private dict for it")

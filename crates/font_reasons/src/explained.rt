@@ -3,13 +3,14 @@
 ghost use Rattle.std.specs.Prelude.{◌≡◌, codes, IfOk, IfErr};
 ghost use Rattle.subsetter_base.specs.declared.error.Error.TheVariants.{OutOfMemory};
 ghost use Rattle.subsetter_sfnt.specs.Extras.{all_extras};
-ghost use Rattle.font_reasons.specs.Explained.{explained, is_of_charstrings, lacks, malformed, no_cmap, no_coordinates, no_mapping, no_unicode, no_units, no_widths, not_kept_by, of_charstrings, only_cff2, seen_last, shown, shown_last, wrong_advances, wrong_for};
+ghost use Rattle.font_reasons.specs.Explained.{explained, is_of_charstrings, lacks, malformed, no_cmap, malformed_last, no_mapping, no_unicode, no_units, no_widths, not_kept_by, not_read, of_charstrings, only_cff2, seen_last, shown, shown_last, wrong_advances, wrong_for, wrong_variations_for};
 
 use crate::charstrings::cff_reason;
 use crate::parts::{no_metric, no_table, wrong_metrics};
 use crate::reason::Reason;
 use crate::request::{no_font_or_glyph, not_kept, reason_of_unknown, wrong_source, wrong_table};
 use crate::short::short_hhea;
+use crate::variations::{other_variations, wrong_variations};
 use std::alloc::Global;
 use subsetter_base::{Error, Tag};
 use subsetter_sfnt::directory::table;
@@ -114,13 +115,16 @@ fn only_cff2(font: &[u8], index: u32) -> Option<Reason>
     }
 }
 
-/// The same, where the call is none at coordinates.
-fn no_coordinates(call: Call, font: &[u8], index: u32) -> Option<Reason>
-    ensures { result ≡ no_coordinates call (record { bytes = font.now; index = index; extras = all_extras }) }
+/// What isn't read of a face.
+fn not_read(call: Call, font: &[u8], index: u32) -> Option<Reason>
+    ensures { result ≡ not_read call (record { bytes = font.now; index = index; extras = all_extras }) }
 {
     match call {
         Call::Subset | Call::Embed => only_cff2(font, index),
-        _ => None,
+        Call::GlyphsOf => None,
+        Call::SubsetAt | Call::EmbedAt | Call::PdfFont | Call::Advances => {
+            other_variations(font, index)
+        }
     }
 }
 
@@ -162,7 +166,7 @@ fn shown(call: Call, error: Error, font: &[u8], index: u32, glyphs: &[u16]) -> O
     match error {
         Error::UnknownKind => reason_of_unknown(font, index),
         Error::MalformedFont => malformed(call, font, index, glyphs),
-        Error::Unimplemented => no_coordinates(call, font, index),
+        Error::Unimplemented => not_read(call, font, index),
         Error::OverflowError => wrong_metrics(font, index),
         _ => None,
     }
@@ -210,12 +214,34 @@ fn not_kept_by(call: Call, font: &[u8], index: u32, glyphs: &[u16]) -> Option<Re
     }
 }
 
-/// The same, where the font is malformed.
+/// What is wrong with what varies, where a call is at coordinates.
+#[tactic(auto, unfolding(crate::specs::Explained::wrong_variations_for))]
+fn wrong_variations_for(call: Call, font: &[u8], index: u32) -> Option<Reason>
+    ensures { result ≡ wrong_variations_for call (record { bytes = font.now; index = index; extras = all_extras }) }
+{
+    match call {
+        Call::Subset | Call::Embed | Call::GlyphsOf => None,
+        Call::SubsetAt | Call::EmbedAt | Call::PdfFont | Call::Advances => {
+            wrong_variations(font, index)
+        }
+    }
+}
+
+/// What is looked at last of a face that is malformed.
+#[tactic(auto, unfolding(crate::specs::Explained::malformed_last))]
+fn malformed_last(call: Call, font: &[u8], index: u32, glyphs: &[u16]) -> Option<Reason>
+    ensures { result ≡ malformed_last call (record { bytes = font.now; index = index; extras = all_extras }) glyphs.now }
+{
+    let varying = wrong_variations_for(call, font, index);
+    not_kept_by(call, font, index, glyphs).or(varying)
+}
+
+/// What is looked at last, by the error.
 fn shown_last(call: Call, error: Error, font: &[u8], index: u32, glyphs: &[u16]) -> Option<Reason>
     ensures { result ≡ shown_last call error (record { bytes = font.now; index = index; extras = all_extras }) glyphs.now }
 {
     match error {
-        Error::MalformedFont => not_kept_by(call, font, index, glyphs),
+        Error::MalformedFont => malformed_last(call, font, index, glyphs),
         _ => None,
     }
 }

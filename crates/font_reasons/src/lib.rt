@@ -16,6 +16,7 @@ mod permission;
 mod reason;
 mod request;
 mod short;
+mod variations;
 
 pub use explained::{Call, explain};
 pub use file::{cut_table, directory_of, face_count, missing_table, no_font};

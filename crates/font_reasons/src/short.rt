@@ -21,7 +21,7 @@ const MAXP_END: u64 = 6;
 const HHEA_END: u64 = 36;
 
 /// Whether a table has fewer bytes than it needs.
-fn short(tag: Tag, needed: u64, bytes: &[u8]) -> Option<Reason>
+pub fn short(tag: Tag, needed: u64, bytes: &[u8]) -> Option<Reason>
     ensures { result ≡ short tag needed bytes.now }
 {
     let size = bytes.len() as u64;

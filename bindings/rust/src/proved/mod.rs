@@ -107,7 +107,6 @@ pub mod subsetter_text_c;
 pub mod subsetter_type2;
 #[cfg(feature = "variable-fonts")]
 pub mod subsetter_variable;
-#[cfg(feature = "variable-fonts")]
 pub mod subsetter_variation;
 pub mod text_glyphs;
 #[cfg(feature = "variable-fonts")]

@@ -8,6 +8,7 @@ use crate::proved::font_reasons::request::{
     no_font_or_glyph, not_kept, reason_of_unknown, wrong_source, wrong_table,
 };
 use crate::proved::font_reasons::short::short_hhea;
+use crate::proved::font_reasons::variations::{other_variations, wrong_variations};
 use crate::proved::subsetter_base::{Error, Tag};
 use crate::proved::subsetter_sfnt::directory::table;
 use crate::proved::subsetter_sfnt::fields::head::units_per_em;
@@ -94,11 +95,14 @@ fn only_cff2(font: &[u8], index: u32) -> Option<Reason> {
     }
 }
 
-/// The same, where the call is none at coordinates.
-fn no_coordinates(call: Call, font: &[u8], index: u32) -> Option<Reason> {
+/// What isn't read of a face.
+fn not_read(call: Call, font: &[u8], index: u32) -> Option<Reason> {
     match call {
         Call::Subset | Call::Embed => only_cff2(font, index),
-        _ => None,
+        Call::GlyphsOf => None,
+        Call::SubsetAt | Call::EmbedAt | Call::PdfFont | Call::Advances => {
+            other_variations(font, index)
+        }
     }
 }
 
@@ -129,7 +133,7 @@ fn shown(call: Call, error: Error, font: &[u8], index: u32, glyphs: &[u16]) -> O
     match error {
         Error::UnknownKind => reason_of_unknown(font, index),
         Error::MalformedFont => malformed(call, font, index, glyphs),
-        Error::Unimplemented => no_coordinates(call, font, index),
+        Error::Unimplemented => not_read(call, font, index),
         Error::OverflowError => wrong_metrics(font, index),
         _ => None,
     }
@@ -169,10 +173,26 @@ fn not_kept_by(call: Call, font: &[u8], index: u32, glyphs: &[u16]) -> Option<Re
     }
 }
 
-/// The same, where the font is malformed.
+/// What is wrong with what varies, where a call is at coordinates.
+fn wrong_variations_for(call: Call, font: &[u8], index: u32) -> Option<Reason> {
+    match call {
+        Call::Subset | Call::Embed | Call::GlyphsOf => None,
+        Call::SubsetAt | Call::EmbedAt | Call::PdfFont | Call::Advances => {
+            wrong_variations(font, index)
+        }
+    }
+}
+
+/// What is looked at last of a face that is malformed.
+fn malformed_last(call: Call, font: &[u8], index: u32, glyphs: &[u16]) -> Option<Reason> {
+    let varying = wrong_variations_for(call, font, index);
+    not_kept_by(call, font, index, glyphs).or(varying)
+}
+
+/// What is looked at last, by the error.
 fn shown_last(call: Call, error: Error, font: &[u8], index: u32, glyphs: &[u16]) -> Option<Reason> {
     match error {
-        Error::MalformedFont => not_kept_by(call, font, index, glyphs),
+        Error::MalformedFont => malformed_last(call, font, index, glyphs),
         _ => None,
     }
 }

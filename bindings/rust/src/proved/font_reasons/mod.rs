@@ -16,6 +16,7 @@ mod permission;
 mod reason;
 mod request;
 mod short;
+mod variations;
 
 pub use explained::{explain, Call};
 #[cfg(feature = "program")]

@@ -57,6 +57,14 @@ pub enum Reason {
     OnlyCff2,
     /// fsType of `OS/2` is this, and this bit of it forbids embedding, subsets (bit 8) or outlines (bit 9).
     Forbidden(u16, u8),
+    /// majorVersion of this table isn't 1.
+    OtherVersion(Tag),
+    /// axisSize of `fvar` is this, and 20 is the least.
+    AxisSize(u16),
+    /// axisCount of this table is this, and that of `fvar` another.
+    AxisCount(Tag, u16, u16),
+    /// `gvar` can't be read.
+    WrongGvar,
     /// majorVersion of `CFF ` isn't 1.
     OtherCff,
     /// `CFF ` can't be read.
@@ -90,6 +98,10 @@ impl Reason {
             Reason::NoUnicode => Some(Tag::new(b"cmap")),
             Reason::OnlyCff2 => Some(Tag::CFF2),
             Reason::Forbidden(_, _) => Some(Tag::new(b"OS/2")),
+            Reason::OtherVersion(tag) => Some(tag),
+            Reason::AxisSize(_) => Some(Tag::new(b"fvar")),
+            Reason::AxisCount(tag, _, _) => Some(tag),
+            Reason::WrongGvar => Some(Tag::new(b"gvar")),
             Reason::OtherCff => Some(Tag::CFF),
             Reason::WrongCff => Some(Tag::CFF),
             Reason::NoCharstring(_) => Some(Tag::CFF),
@@ -194,6 +206,17 @@ impl fmt::Display for ShortText {
     fn fmt(&self, f: &mut fmt::Formatter<'_>) -> fmt::Result {
         let ShortText(tag, size, needed) = *self;
         write!(f, "{tag}: {size} bytes, needs {needed}")
+    }
+}
+
+/// That a table has so many axes, and `fvar` others.
+#[derive(Clone, Copy)]
+struct AxesText(Tag, u16, u16);
+
+impl fmt::Display for AxesText {
+    fn fmt(&self, f: &mut fmt::Formatter<'_>) -> fmt::Result {
+        let AxesText(tag, count, axes) = *self;
+        write!(f, "{tag}: axisCount is {count}, that of fvar {axes}")
     }
 }
 
@@ -303,6 +326,13 @@ impl fmt::Display for Reason {
             ),
             Reason::OnlyCff2 => f.write_str("CFF2: its outlines are taken at coordinates alone"),
             Reason::Forbidden(fs_type, bit) => write!(f, "{}", ForbiddenText(fs_type, bit)),
+            Reason::OtherVersion(tag) => write!(f, "{tag}: its major version isn't 1"),
+            Reason::AxisSize(size) => {
+                let text = Between("fvar: axisSize is ", u32::from(size), ", needs 20");
+                write!(f, "{text}")
+            }
+            Reason::AxisCount(tag, count, axes) => write!(f, "{}", AxesText(tag, count, axes)),
+            Reason::WrongGvar => f.write_str("gvar: the table can't be read"),
             Reason::OtherCff => f.write_str("CFF: its major version isn't 1"),
             Reason::WrongCff => f.write_str("CFF: the table can't be read"),
             Reason::NoCharstring(glyph) => {

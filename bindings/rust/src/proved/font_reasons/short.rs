@@ -16,7 +16,7 @@ const MAXP_END: u64 = 6;
 const HHEA_END: u64 = 36;
 
 /// Whether a table has fewer bytes than it needs.
-fn short(tag: Tag, needed: u64, bytes: &[u8]) -> Option<Reason> {
+pub fn short(tag: Tag, needed: u64, bytes: &[u8]) -> Option<Reason> {
     let size = bytes.len() as u64;
     if size < needed {
         return Some(Reason::Short(tag, size, needed));
