@@ -31,7 +31,7 @@ def test_glyphs_of_a_text():
     sequences = "A\ufe00\u4e00\ufe00\u4e00\U000e0101"
     assert subsetter.glyphs_of(made("made_cmaps.ttc"), sequences, 5) == list(zip([1, 5, 6], re.findall("..", sequences)))
     error = raised(subsetter.glyphs_of, made("made_cmaps.ttc"), "A", 6)
-    assert (type(error), str(error)) == (subsetter.NoCmap, "no usable cmap in font: cmap: no table for Unicode in format 4 or 12")
+    assert (type(error), str(error)) == (subsetter.NoCmap, "no usable cmap in font: cmap: no table for Unicode, symbols or Mac Roman in format 0, 4, 6, 12 or 13")
     assert subsetter.pdf_font(TTF, iter(subsetter.glyphs_of(TTF, text))).codes == [1, 2, 3, 4, 5, 0, 1]
     assert type(raised(subsetter.glyphs_of, b"no", "A")) is subsetter.UnknownKind
 

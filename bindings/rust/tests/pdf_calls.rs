@@ -6,7 +6,7 @@ use subsetter::pdf::{
     codes_of, glyphs_of, pdf_font, Bounds, Codes, Direction, FontError, FontOptions, Layout, PartsError, PdfFont,
     ProgramChoice, Rights, Shown, SubsetTag,
 };
-use subsetter::{explain, Call, Error, Limits, Tag};
+use subsetter::{embed_with_variations, explain, Call, Error, Limits, Tag};
 
 fn made(name: &str) -> Vec<u8> {
     fs::read(concat!(env!("CARGO_MANIFEST_DIR"), "/tests/data/").to_string() + name).unwrap()
@@ -313,6 +313,39 @@ fn the_font_shows_why() {
     let long = found("glyph 0: its charstring can't be run within the limits", b"CFF ", Some(0));
     assert_eq!(why(Call::Subset(Error::CFFError), &cff, 1, 5), long);
     assert_eq!(why(Call::Subset(Error::CFFError), &cff, 1, 1_000_000), None);
+}
+
+/// The font with another number of 16 bits in a table.
+fn with_number(font: &[u8], tag: &[u8; 4], at: usize, number: u16) -> Vec<u8> {
+    let mut font = font.to_vec();
+    let record = font.windows(4).position(|it| it == tag).unwrap();
+    let offset = u32::from_be_bytes(font[record + 8..record + 12].try_into().unwrap()) as usize;
+    font[offset + at..offset + at + 2].copy_from_slice(&number.to_be_bytes());
+    font
+}
+
+#[test]
+fn tables_of_a_variable_font_show_why() {
+    let (font, heavy) = (made("made_variable.ttf"), [(Tag::new(b"wght"), 650.0)]);
+    assert!(embed_with_variations(&font, 0, &heavy, &[1]).is_ok());
+    let rows = [
+        (b"fvar", 0, 2, Error::Unimplemented, "fvar: its major version isn't 1"),
+        (b"gvar", 0, 2, Error::Unimplemented, "gvar: its major version isn't 1"),
+        (b"MVAR", 0, 2, Error::Unimplemented, "MVAR: its major version isn't 1"),
+        (b"fvar", 10, 19, Error::MalformedFont, "fvar: axisSize is 19, needs 20"),
+        (b"fvar", 8, 3, Error::MalformedFont, "fvar: 56 bytes, needs 76"),
+        (b"fvar", 8, 1, Error::MalformedFont, "gvar: axisCount is 2, that of fvar 1"),
+        (b"gvar", 12, 65535, Error::MalformedFont, "gvar: the table can't be read"),
+        (b"hmtx", 0, 0, Error::MalformedFont, ""),
+    ];
+    for (tag, at, number, error, text) in rows {
+        let changed = with_number(&font, tag, at, number);
+        let refused = embed_with_variations(&changed, 0, &heavy, &[1]).err();
+        assert_eq!(refused, Some(error).filter(|_| !text.is_empty()), "{text}");
+        let reason = explain(Call::EmbedWithVariations(error), &changed, 0, &[1], &Limits::default());
+        assert_eq!(reason.map_or(String::new(), |it| it.to_string()), text);
+        assert_eq!(explain(Call::Embed(error), &changed, 0, &[1], &Limits::default()), None);
+    }
 }
 
 #[test]

@@ -1,3 +1,4 @@
+pub mod Components
 pub mod Directory
 mod Numbering
 pub mod Unbounded

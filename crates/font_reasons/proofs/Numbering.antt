@@ -1,11 +1,10 @@
 -- Whether the given glyphs leave a number for glyph 0.
-use Rattle.std.proofs.Common.{◌≡◌, ℕ, ◌≤◌, cond, List, [], ◌∷◌, length, Option, None, sym, ap, subst, ◌∙◌, inl, inr}
+use Rattle.std.proofs.Common.{◌≡◌, ℕ, ◌≤◌, cond, List, [], ◌∷◌, length, None, sym, ap, subst, ◌∙◌, inl, inr}
 use Rattle.std.proofs.lemmas.Bool.{cases_lt, lt-ltb, le-ltb}
 use Rattle.subsetter_base.specs.Indexes.{with_glyphs, HasAllAboveZero}
 use Rattle.subsetter_base.proofs.GlyphLemmas.{room_left_for_zero}
 use Rattle.subsetter_cff.specs.Read.Cff.{Cff}
 use Rattle.font_reasons.specs.Charstrings.{first_refusal, reason_in}
-use Rattle.font_reasons.specs.declared.reason.Reason.{Reason}
 
 module _ (cff : Cff) (tokens depth : ℕ) (glyphs : List ℕ) where
   pub none_left : HasAllAboveZero glyphs → None ≡ reason_in cff tokens depth glyphs

@@ -2,7 +2,7 @@
 use Rattle.std.specs.Prelude.{ℕ, Option, Some, None, codes}
 use Rattle.subsetter_base.specs.declared.tag.Tag.{Tag}
 use Rattle.font_reasons.specs.declared.reason.Reason.{Reason}
-use Rattle.font_reasons.specs.declared.reason.Reason.TheVariants.{Cut, NoGlyph, NoTable, NoEntries, Descends, Outside, NoMetrics, FewMetrics, NoUnits, NoUnicode, OnlyCff2, Forbidden, OtherCff, WrongCff, NoCharstring, WrongCharstring, Composed}
+use Rattle.font_reasons.specs.declared.reason.Reason.TheVariants.{Cut, NoGlyph, NoTable, NoEntries, Descends, Outside, CutHeader, CutComponent, ByComponent, NoMetrics, FewMetrics, NoMetric, NoUnits, Short, NoUnicode, OnlyCff2, Forbidden, OtherVersion, AxisSize, AxisCount, WrongGvar, OtherCff, WrongCff, NoCharstring, WrongCharstring, Composed}
 
 -- the table whose bytes show it, or that isn't there
 abbrev pub reason_table : Reason → Option Tag
@@ -12,12 +12,21 @@ reason_table (NoGlyph glyph count) = Some (record { 0 = codes "maxp" })
 reason_table (NoEntries glyph) = Some (record { 0 = codes "loca" })
 reason_table (Descends glyph) = Some (record { 0 = codes "loca" })
 reason_table (Outside glyph) = Some (record { 0 = codes "glyf" })
+reason_table (CutHeader glyph) = Some (record { 0 = codes "glyf" })
+reason_table (CutComponent glyph) = Some (record { 0 = codes "glyf" })
+reason_table (ByComponent glyph component) = Some (record { 0 = codes "glyf" })
 reason_table NoMetrics = Some (record { 0 = codes "hhea" })
 reason_table (FewMetrics count) = Some (record { 0 = codes "hhea" })
+reason_table (NoMetric glyph) = Some (record { 0 = codes "hmtx" })
 reason_table NoUnits = Some (record { 0 = codes "head" })
+reason_table (Short tag size needed) = Some tag
 reason_table NoUnicode = Some (record { 0 = codes "cmap" })
 reason_table OnlyCff2 = Some (record { 0 = codes "CFF2" })
 reason_table (Forbidden fs_type bit) = Some (record { 0 = codes "OS/2" })
+reason_table (OtherVersion tag) = Some tag
+reason_table (AxisSize size) = Some (record { 0 = codes "fvar" })
+reason_table (AxisCount tag count axes) = Some tag
+reason_table WrongGvar = Some (record { 0 = codes "gvar" })
 reason_table OtherCff = Some (record { 0 = codes "CFF " })
 reason_table WrongCff = Some (record { 0 = codes "CFF " })
 reason_table (NoCharstring glyph) = Some (record { 0 = codes "CFF " })
@@ -31,6 +40,10 @@ reason_glyph (NoGlyph glyph count) = Some glyph
 reason_glyph (NoEntries glyph) = Some glyph
 reason_glyph (Descends glyph) = Some glyph
 reason_glyph (Outside glyph) = Some glyph
+reason_glyph (CutHeader glyph) = Some glyph
+reason_glyph (CutComponent glyph) = Some glyph
+reason_glyph (ByComponent glyph component) = Some glyph
+reason_glyph (NoMetric glyph) = Some glyph
 reason_glyph (NoCharstring glyph) = Some glyph
 reason_glyph (WrongCharstring glyph) = Some glyph
 reason_glyph (Composed glyph) = Some glyph

@@ -1,15 +1,17 @@
 -- Why a call is refused, by its error: the first of these that is there.
-use Rattle.std.specs.Prelude.{ℕ, ◌==◌, if◌then◌else◌, Bool, true, false, List, Option, Some, None, is_some, codes}
+use Rattle.std.specs.Prelude.{ℕ, ◌==◌, if◌then◌else◌, Bool, true, false, List, Option, Some, None, codes}
 use Rattle.std.specs.Option.{option_and_then}
 use Rattle.subsetter_base.specs.declared.error.Error.{Error as Refusal}
 use Rattle.subsetter_base.specs.declared.error.Error.TheVariants.{UnknownKind, MalformedFont, Unimplemented, SubsetError, OverflowError, CFFError, OutOfMemory}
 use Rattle.subsetter_sfnt.specs.Fields.Head.{units_per_em}
 use Rattle.subsetter_sfnt.specs.Read.{Font, stored}
-use Rattle.cmap.specs.Subtable.{Mapping, mapping}
+use Rattle.text_glyphs.specs.Choice.{Chosen, chosen}
 use Rattle.font_reasons.specs.Charstrings.{cff_reason}
-use Rattle.font_reasons.specs.File.{or_else, no_font}
-use Rattle.font_reasons.specs.Parts.{no_table, wrong_metrics}
-use Rattle.font_reasons.specs.Request.{no_font_or_glyph, wrong_outlines, reason_of_unknown}
+use Rattle.font_reasons.specs.File.{or_else}
+use Rattle.font_reasons.specs.Parts.{no_metric, no_table, wrong_metrics}
+use Rattle.font_reasons.specs.Request.{no_font_or_glyph, not_kept, reason_of_unknown, wrong_source, wrong_table}
+use Rattle.font_reasons.specs.Short.{short_hhea}
+use Rattle.font_reasons.specs.Variations.{other_variations, wrong_variations}
 use Rattle.font_reasons.specs.declared.explained.Call.{Call}
 use Rattle.font_reasons.specs.declared.explained.Call.TheVariants.{Subset, SubsetAt, Embed, EmbedAt, PdfFont, GlyphsOf, Advances}
 use Rattle.font_reasons.specs.declared.reason.Reason.{Reason}
@@ -26,13 +28,13 @@ no_units font = option_and_then if_no_units (option_and_then units_per_em (store
 abbrev pub no_widths : Font → Option Reason
 no_widths font = or_else (no_table font (record { 0 = codes "hmtx" })) (or_else (no_table font (record { 0 = codes "head" })) (no_units font))
 
--- what glyphs of characters are found by: a table for Unicode in `cmap`
-abbrev pub no_unicode_by : Option Mapping → Option Reason
+-- what glyphs of characters are found by: a table of `cmap` that is read
+abbrev pub no_unicode_by : Option Chosen → Option Reason
 no_unicode_by None = Some NoUnicode
 no_unicode_by (Some found) = None
 
 unfoldable pub no_unicode : Font → Option Reason
-no_unicode font = option_and_then (λ cmap. no_unicode_by (mapping cmap)) (stored font (codes "cmap"))
+no_unicode font = option_and_then (λ cmap. no_unicode_by (chosen cmap)) (stored font (codes "cmap"))
 
 abbrev pub no_cmap : Font → Option Reason
 no_cmap font = no_table font (record { 0 = codes "cmap" })
@@ -58,19 +60,35 @@ only_cff2_by glyf cff other = None
 abbrev pub only_cff2 : Font → Option Reason
 only_cff2 font = only_cff2_by (stored font (codes "glyf")) (stored font (codes "CFF ")) (stored font (codes "CFF2"))
 
-abbrev pub no_coordinates : Call → Font → Option Reason
-no_coordinates Subset font = only_cff2 font
-no_coordinates Embed font = only_cff2 font
-no_coordinates other font = None
+-- what isn't read: at coordinates tables of another version
+abbrev pub not_read : Call → Font → Option Reason
+not_read Subset font = only_cff2 font
+not_read Embed font = only_cff2 font
+not_read GlyphsOf font = None
+not_read other font = other_variations font
+
+-- the tables that are read for advances
+unfoldable pub wrong_advances : Font → Option Reason
+wrong_advances font = or_else (short_hhea font) (wrong_table font)
+
+-- what is wrong with the tables that a call reads; glyphs of characters are found by `cmap` alone
+unfoldable pub wrong_for : Call → Font → List ℕ → Option Reason
+wrong_for Subset font glyphs = wrong_source font glyphs
+wrong_for SubsetAt font glyphs = wrong_source font glyphs
+wrong_for Embed font glyphs = wrong_source font glyphs
+wrong_for EmbedAt font glyphs = wrong_source font glyphs
+wrong_for PdfFont font glyphs = wrong_source font glyphs
+wrong_for GlyphsOf font glyphs = None
+wrong_for Advances font glyphs = wrong_advances font
 
 -- what the tables show, but for charstrings
 abbrev pub malformed : Call → Font → List ℕ → Option Reason
-malformed call font glyphs = or_else (no_font_or_glyph font glyphs) (or_else (lacks call font) (wrong_outlines font glyphs))
+malformed call font glyphs = or_else (no_font_or_glyph font glyphs) (or_else (lacks call font) (wrong_for call font glyphs))
 
 unfoldable pub shown : Call → Refusal → Font → List ℕ → Option Reason
 shown call UnknownKind font glyphs = reason_of_unknown font
 shown call MalformedFont font glyphs = malformed call font glyphs
-shown call Unimplemented font glyphs = no_coordinates call font
+shown call Unimplemented font glyphs = not_read call font
 shown call SubsetError font glyphs = None
 shown call OverflowError font glyphs = wrong_metrics font
 shown call CFFError font glyphs = None
@@ -86,5 +104,35 @@ is_of_charstrings other = false
 abbrev pub of_charstrings : Refusal → Font → ℕ → ℕ → List ℕ → Option Reason
 of_charstrings e font tokens depth glyphs = if is_of_charstrings e then cff_reason font tokens depth glyphs else None
 
+-- what is looked at last: the metrics of each glyph, and names, which a font for a PDF doesn't have
+unfoldable pub not_kept_by : Call → Font → List ℕ → Option Reason
+not_kept_by Subset font glyphs = not_kept font glyphs
+not_kept_by SubsetAt font glyphs = not_kept font glyphs
+not_kept_by Embed font glyphs = not_kept font glyphs
+not_kept_by EmbedAt font glyphs = not_kept font glyphs
+not_kept_by PdfFont font glyphs = no_metric font glyphs
+not_kept_by GlyphsOf font glyphs = None
+not_kept_by Advances font glyphs = None
+
+-- and what varies, at coordinates
+unfoldable pub wrong_variations_for : Call → Font → Option Reason
+wrong_variations_for Subset font = None
+wrong_variations_for SubsetAt font = wrong_variations font
+wrong_variations_for Embed font = None
+wrong_variations_for EmbedAt font = wrong_variations font
+wrong_variations_for PdfFont font = wrong_variations font
+wrong_variations_for GlyphsOf font = None
+wrong_variations_for Advances font = wrong_variations font
+
+unfoldable pub malformed_last : Call → Font → List ℕ → Option Reason
+malformed_last call font glyphs = or_else (not_kept_by call font glyphs) (wrong_variations_for call font)
+
+abbrev pub shown_last : Call → Refusal → Font → List ℕ → Option Reason
+shown_last call MalformedFont font glyphs = malformed_last call font glyphs
+shown_last call other font glyphs = None
+
+abbrev pub seen_last : Call → Refusal → Font → ℕ → ℕ → List ℕ → Option Reason
+seen_last call e font tokens depth glyphs = or_else (of_charstrings e font tokens depth glyphs) (shown_last call e font glyphs)
+
 abbrev pub explained : Call → Refusal → Font → ℕ → ℕ → List ℕ → Option Reason
-explained call e font tokens depth glyphs = or_else (shown call e font glyphs) (of_charstrings e font tokens depth glyphs)
+explained call e font tokens depth glyphs = or_else (shown call e font glyphs) (seen_last call e font tokens depth glyphs)

@@ -3,7 +3,11 @@ pub mod Charstrings
 pub mod Directory
 pub mod Explained
 pub mod File
+pub mod Outlines
 pub mod Parts
 pub mod Permission
 pub mod Request
+pub mod Short
 pub mod Texts
+pub mod Variations
+pub mod View

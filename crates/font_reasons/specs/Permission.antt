@@ -1,5 +1,5 @@
 -- Why a font may not be embedded: what fsType of `OS/2` says (OpenType, "OS/2").
-use Rattle.std.specs.Prelude.{ℕ, if◌then◌else◌, List, Option, Some, None, codes}
+use Rattle.std.specs.Prelude.{ℕ, if◌then◌else◌, Option, Some, None, codes}
 use Rattle.subsetter_sfnt.specs.Fields.Os2.{fs_type}
 use Rattle.subsetter_sfnt.specs.Read.{Font, stored}
 use Rattle.pdf_values.specs.Permission.{is_permitted, is_usable, permission}

@@ -6,7 +6,9 @@ use Rattle.subsetter_base.specs.declared.tag.Tag.{Tag}
 use Rattle.subsetter_sfnt.specs.Extras.{all_extras}
 use Rattle.subsetter_sfnt.specs.Read.{Font}
 use Rattle.font_reasons.specs.File.{or_else, no_font, cut_table}
-use Rattle.font_reasons.specs.Parts.{no_glyph, no_needed_table, no_outline, no_outlines, wrong_metrics}
+use Rattle.font_reasons.specs.Outlines.{no_outline}
+use Rattle.font_reasons.specs.Parts.{no_glyph, no_metric, no_needed_table, no_outlines, wrong_metrics}
+use Rattle.font_reasons.specs.Short.{short_header, short_name, short_post}
 use Rattle.font_reasons.specs.declared.reason.Reason.{Reason}
 use Rattle.font_reasons.specs.declared.request.Request.{Request}
 
@@ -28,8 +30,23 @@ wrong_table font = or_else (cut_table font) (wrong_metrics font)
 abbrev pub wrong_outlines : Font → List ℕ → Option Reason
 wrong_outlines font glyphs = or_else (no_outline font glyphs) (wrong_table font)
 
+-- what a new font is made from: a table is shorter than what is read of it, or outlines, tables or metrics are wrong
+unfoldable pub wrong_source : Font → List ℕ → Option Reason
+wrong_source font glyphs = or_else (short_header font) (wrong_outlines font glyphs)
+
+-- what is kept of names
+unfoldable pub wrong_names : Font → Option Reason
+wrong_names font = or_else (short_post font) (short_name font)
+
+-- what is kept besides outlines: the metrics of each glyph, and names
+unfoldable pub not_kept : Font → List ℕ → Option Reason
+not_kept font glyphs = or_else (no_metric font glyphs) (wrong_names font)
+
+unfoldable pub wrong_content : Font → List ℕ → Option Reason
+wrong_content font glyphs = or_else (wrong_source font glyphs) (not_kept font glyphs)
+
 abbrev pub reason_of_malformed : Font → List ℕ → Option Tag → Option Reason
-reason_of_malformed font glyphs needs = or_else (no_part font glyphs needs) (wrong_outlines font glyphs)
+reason_of_malformed font glyphs needs = or_else (no_part font glyphs needs) (wrong_content font glyphs)
 
 -- or else there are no outlines
 unfoldable pub cut_or_bare : Font → Option Reason

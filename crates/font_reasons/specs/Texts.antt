@@ -4,7 +4,7 @@ use Rattle.std.specs.Fmt.{radix_digits}
 use Rattle.subsetter_base.specs.Texts.{tag_text}
 use Rattle.subsetter_base.specs.declared.tag.Tag.{Tag}
 use Rattle.font_reasons.specs.declared.reason.Reason.{Reason}
-use Rattle.font_reasons.specs.declared.reason.Reason.TheVariants.{Woff, Woff2, NotFont, Empty, NoFace, NoHeader, CutDirectory, Cut, NoOutlines, NoGlyph, NoTable, NoEntries, Descends, Outside, NoMetrics, FewMetrics, NoUnits, NoUnicode, OnlyCff2, Forbidden, OtherCff, WrongCff, NoCharstring, WrongCharstring, Composed}
+use Rattle.font_reasons.specs.declared.reason.Reason.TheVariants.{Woff, Woff2, NotFont, Empty, NoFace, NoHeader, CutDirectory, Cut, NoOutlines, NoGlyph, NoTable, NoEntries, Descends, Outside, CutHeader, CutComponent, ByComponent, NoMetrics, FewMetrics, NoMetric, NoUnits, Short, NoUnicode, OnlyCff2, Forbidden, OtherVersion, AxisSize, AxisCount, WrongGvar, OtherCff, WrongCff, NoCharstring, WrongCharstring, Composed}
 
 -- a number between two texts
 abbrev pub between : List ℕ → ℕ → List ℕ → List ℕ
@@ -19,6 +19,15 @@ no_glyph_text glyph count = if count == 0 then codes "glyph " ++ (decimal glyph 
 
 abbrev pub cut_text : Tag → ℕ → ℕ → List ℕ
 cut_text tag end size = codes "the file is cut: table " ++ (tag_text tag.0 ++ (codes " ends at byte " ++ (decimal end ++ (codes ", the file at " ++ decimal size))))
+
+abbrev pub component_text : ℕ → ℕ → List ℕ
+component_text glyph component = codes "glyph " ++ (decimal glyph ++ (codes ": its component is glyph " ++ (decimal component ++ codes ", whose outline isn't in the font")))
+
+abbrev pub short_text : Tag → ℕ → ℕ → List ℕ
+short_text tag size needed = tag_text tag.0 ++ (codes ": " ++ (decimal size ++ (codes " bytes, needs " ++ decimal needed)))
+
+abbrev pub axes_text : Tag → ℕ → ℕ → List ℕ
+axes_text tag count axes = tag_text tag.0 ++ (codes ": axisCount is " ++ (decimal count ++ (codes ", that of fvar " ++ decimal axes)))
 
 -- four hexadecimal digits
 abbrev pub hex_text : ℕ → List ℕ
@@ -46,12 +55,21 @@ reason_text (NoTable tag) = codes "the face has no table " ++ tag_text tag.0
 reason_text (NoEntries glyph) = between (codes "glyph ") glyph (codes ": loca has no entries for it")
 reason_text (Descends glyph) = between (codes "glyph ") glyph (codes ": its loca entries descend")
 reason_text (Outside glyph) = between (codes "glyph ") glyph (codes ": its outline isn't inside glyf")
+reason_text (CutHeader glyph) = between (codes "glyph ") glyph (codes ": the header of its outline is cut")
+reason_text (CutComponent glyph) = between (codes "glyph ") glyph (codes ": a component is cut")
+reason_text (ByComponent glyph component) = component_text glyph component
 reason_text NoMetrics = codes "hhea: numberOfHMetrics is 0"
 reason_text (FewMetrics count) = between (codes "hhea: numberOfHMetrics is ") count (codes ", and hmtx is shorter")
+reason_text (NoMetric glyph) = between (codes "glyph ") glyph (codes ": hmtx ends before its metrics")
 reason_text NoUnits = codes "head: unitsPerEm is 0"
-reason_text NoUnicode = codes "cmap: no table for Unicode in format 4 or 12"
+reason_text (Short tag size needed) = short_text tag size needed
+reason_text NoUnicode = codes "cmap: no table for Unicode, symbols or Mac Roman in format 0, 4, 6, 12 or 13"
 reason_text OnlyCff2 = codes "CFF2: its outlines are taken at coordinates alone"
 reason_text (Forbidden fs_type bit) = forbidden_text fs_type bit
+reason_text (OtherVersion tag) = tag_text tag.0 ++ codes ": its major version isn't 1"
+reason_text (AxisSize size) = between (codes "fvar: axisSize is ") size (codes ", needs 20")
+reason_text (AxisCount tag count axes) = axes_text tag count axes
+reason_text WrongGvar = codes "gvar: the table can't be read"
 reason_text OtherCff = codes "CFF: its major version isn't 1"
 reason_text WrongCff = codes "CFF: the table can't be read"
 reason_text (NoCharstring glyph) = between (codes "glyph ") glyph (codes ": CFF has no charstring or private dict for it")

@@ -1,20 +1,22 @@
 //! Why a call is refused, by its error.
 
-ghost use Rattle.std.specs.Prelude.{◌≡◌, IfOk, IfErr};
+ghost use Rattle.std.specs.Prelude.{◌≡◌, codes, IfOk, IfErr};
 ghost use Rattle.subsetter_base.specs.declared.error.Error.TheVariants.{OutOfMemory};
 ghost use Rattle.subsetter_sfnt.specs.Extras.{all_extras};
-ghost use Rattle.font_reasons.specs.Explained.{explained, is_of_charstrings, lacks, malformed, no_cmap, no_coordinates, no_mapping, no_unicode, no_units, no_widths, of_charstrings, only_cff2, shown};
+ghost use Rattle.font_reasons.specs.Explained.{explained, is_of_charstrings, lacks, malformed, no_cmap, malformed_last, no_mapping, no_unicode, no_units, no_widths, not_kept_by, not_read, of_charstrings, only_cff2, seen_last, shown, shown_last, wrong_advances, wrong_for, wrong_variations_for};
 
 use crate::charstrings::cff_reason;
-use crate::parts::{no_table, wrong_metrics};
+use crate::parts::{no_metric, no_table, wrong_metrics};
 use crate::reason::Reason;
-use crate::request::{no_font_or_glyph, reason_of_unknown, wrong_outlines};
-use cmap::find_subtable;
+use crate::request::{no_font_or_glyph, not_kept, reason_of_unknown, wrong_source, wrong_table};
+use crate::short::short_hhea;
+use crate::variations::{other_variations, wrong_variations};
 use std::alloc::Global;
 use subsetter_base::{Error, Tag};
 use subsetter_sfnt::directory::table;
 use subsetter_sfnt::fields::head::units_per_em;
 use subsetter_type2::limits::Limits;
+use text_glyphs::find_table;
 
 /// Which call was refused.
 #[derive(Clone, Copy, PartialEq, Eq, Debug)]
@@ -53,20 +55,27 @@ fn no_widths(font: &[u8], index: u32) -> Option<Reason>
     no_table(font, index, Tag::HMTX).or(no_table(font, index, Tag::HEAD).or(no_units(font, index)))
 }
 
+/// The tag of `cmap`.
+fn cmap_tag() -> Tag
+    ensures { result ≡ record { 0 = codes "cmap" } }
+{
+    Tag::new(b"cmap")
+}
+
 /// Whether a face has no `cmap`.
 fn no_cmap(font: &[u8], index: u32) -> Option<Reason>
     ensures { result ≡ no_cmap (record { bytes = font.now; index = index; extras = all_extras }) }
 {
-    no_table(font, index, Tag::new(b"cmap"))
+    no_table(font, index, cmap_tag())
 }
 
-/// Whether the `cmap` of a face has no table for Unicode.
+/// Whether the `cmap` of a face has no table that is read.
 #[tactic(auto, unfolding(crate::specs::Explained::no_unicode))]
 fn no_unicode(font: &[u8], index: u32) -> Option<Reason>
     ensures { result ≡ no_unicode (record { bytes = font.now; index = index; extras = all_extras }) }
 {
-    let cmap = table(font, index, Tag::new(b"cmap"))?;
-    match find_subtable(cmap) {
+    let cmap = table(font, index, cmap_tag())?;
+    match find_table(cmap) {
         Some(_) => None,
         None => Some(Reason::NoUnicode),
     }
@@ -106,13 +115,38 @@ fn only_cff2(font: &[u8], index: u32) -> Option<Reason>
     }
 }
 
-/// The same, where the call is none at coordinates.
-fn no_coordinates(call: Call, font: &[u8], index: u32) -> Option<Reason>
-    ensures { result ≡ no_coordinates call (record { bytes = font.now; index = index; extras = all_extras }) }
+/// What isn't read of a face.
+fn not_read(call: Call, font: &[u8], index: u32) -> Option<Reason>
+    ensures { result ≡ not_read call (record { bytes = font.now; index = index; extras = all_extras }) }
 {
     match call {
         Call::Subset | Call::Embed => only_cff2(font, index),
-        _ => None,
+        Call::GlyphsOf => None,
+        Call::SubsetAt | Call::EmbedAt | Call::PdfFont | Call::Advances => {
+            other_variations(font, index)
+        }
+    }
+}
+
+/// What is wrong with the tables that are read for advances.
+#[tactic(auto, unfolding(crate::specs::Explained::wrong_advances))]
+fn wrong_advances(font: &[u8], index: u32) -> Option<Reason>
+    ensures { result ≡ wrong_advances (record { bytes = font.now; index = index; extras = all_extras }) }
+{
+    short_hhea(font, index).or(wrong_table(font, index))
+}
+
+/// What is wrong with the tables that a call reads.
+#[tactic(auto, unfolding(crate::specs::Explained::wrong_for))]
+fn wrong_for(call: Call, font: &[u8], index: u32, glyphs: &[u16]) -> Option<Reason>
+    ensures { result ≡ wrong_for call (record { bytes = font.now; index = index; extras = all_extras }) glyphs.now }
+{
+    match call {
+        Call::GlyphsOf => None,
+        Call::Advances => wrong_advances(font, index),
+        Call::Subset | Call::SubsetAt | Call::Embed | Call::EmbedAt | Call::PdfFont => {
+            wrong_source(font, index, glyphs)
+        }
     }
 }
 
@@ -120,7 +154,7 @@ fn no_coordinates(call: Call, font: &[u8], index: u32) -> Option<Reason>
 fn malformed(call: Call, font: &[u8], index: u32, glyphs: &[u16]) -> Option<Reason>
     ensures { result ≡ malformed call (record { bytes = font.now; index = index; extras = all_extras }) glyphs.now }
 {
-    let lacking = lacks(call, font, index).or(wrong_outlines(font, index, glyphs));
+    let lacking = lacks(call, font, index).or(wrong_for(call, font, index, glyphs));
     no_font_or_glyph(font, index, glyphs).or(lacking)
 }
 
@@ -132,7 +166,7 @@ fn shown(call: Call, error: Error, font: &[u8], index: u32, glyphs: &[u16]) -> O
     match error {
         Error::UnknownKind => reason_of_unknown(font, index),
         Error::MalformedFont => malformed(call, font, index, glyphs),
-        Error::Unimplemented => no_coordinates(call, font, index),
+        Error::Unimplemented => not_read(call, font, index),
         Error::OverflowError => wrong_metrics(font, index),
         _ => None,
     }
@@ -166,6 +200,69 @@ fn of_charstrings(
     Ok(None)
 }
 
+/// What is wrong with what a call keeps besides outlines.
+#[tactic(auto, unfolding(crate::specs::Explained::not_kept_by))]
+fn not_kept_by(call: Call, font: &[u8], index: u32, glyphs: &[u16]) -> Option<Reason>
+    ensures { result ≡ not_kept_by call (record { bytes = font.now; index = index; extras = all_extras }) glyphs.now }
+{
+    match call {
+        Call::GlyphsOf | Call::Advances => None,
+        Call::PdfFont => no_metric(font, index, glyphs),
+        Call::Subset | Call::SubsetAt | Call::Embed | Call::EmbedAt => {
+            not_kept(font, index, glyphs)
+        }
+    }
+}
+
+/// What is wrong with what varies, where a call is at coordinates.
+#[tactic(auto, unfolding(crate::specs::Explained::wrong_variations_for))]
+fn wrong_variations_for(call: Call, font: &[u8], index: u32) -> Option<Reason>
+    ensures { result ≡ wrong_variations_for call (record { bytes = font.now; index = index; extras = all_extras }) }
+{
+    match call {
+        Call::Subset | Call::Embed | Call::GlyphsOf => None,
+        Call::SubsetAt | Call::EmbedAt | Call::PdfFont | Call::Advances => {
+            wrong_variations(font, index)
+        }
+    }
+}
+
+/// What is looked at last of a face that is malformed.
+#[tactic(auto, unfolding(crate::specs::Explained::malformed_last))]
+fn malformed_last(call: Call, font: &[u8], index: u32, glyphs: &[u16]) -> Option<Reason>
+    ensures { result ≡ malformed_last call (record { bytes = font.now; index = index; extras = all_extras }) glyphs.now }
+{
+    let varying = wrong_variations_for(call, font, index);
+    not_kept_by(call, font, index, glyphs).or(varying)
+}
+
+/// What is looked at last, by the error.
+fn shown_last(call: Call, error: Error, font: &[u8], index: u32, glyphs: &[u16]) -> Option<Reason>
+    ensures { result ≡ shown_last call error (record { bytes = font.now; index = index; extras = all_extras }) glyphs.now }
+{
+    match error {
+        Error::MalformedFont => malformed_last(call, font, index, glyphs),
+        _ => None,
+    }
+}
+
+/// What charstrings show, or what is kept besides outlines.
+fn seen_last(
+    alloc: Global,
+    call: Call,
+    error: Error,
+    font: &[u8],
+    index: u32,
+    limits: &Limits,
+    glyphs: &[u16],
+) -> Result<Option<Reason>, Error>
+    ensures ok { IfOk result (λ r. r ≡ seen_last call error (record { bytes = font.now; index = index; extras = all_extras }) limits.now.tokens limits.now.depth glyphs.now) }
+    ensures err { IfErr result (λ e. e ≡ OutOfMemory) }
+{
+    let found = of_charstrings(alloc, error, font, index, limits, glyphs)?;
+    Ok(found.or(shown_last(call, error, font, index, glyphs)))
+}
+
 /// Why a call on these glyphs is refused with an error, if the font shows it. A charstring of `CFF ` is run within the limits of the
 /// call, at most once, and none after the first that can't be.
 ///
@@ -186,6 +283,6 @@ pub fn explain(
 {
     match shown(call, error, font, index, glyphs) {
         Some(reason) => Ok(Some(reason)),
-        None => of_charstrings(alloc, error, font, index, limits, glyphs),
+        None => seen_last(alloc, call, error, font, index, limits, glyphs),
     }
 }

@@ -10,10 +10,13 @@
 mod charstrings;
 mod explained;
 mod file;
+mod outlines;
 mod parts;
 mod permission;
 mod reason;
 mod request;
+mod short;
+mod variations;
 
 pub use explained::{Call, explain};
 pub use file::{cut_table, directory_of, face_count, missing_table, no_font};

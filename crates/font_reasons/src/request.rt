@@ -2,11 +2,13 @@
 
 ghost use Rattle.std.specs.Prelude.{◌≡◌};
 ghost use Rattle.subsetter_sfnt.specs.Extras.{all_extras};
-ghost use Rattle.font_reasons.specs.Request.{face_in, no_font_or_glyph, no_part, wrong_table, wrong_outlines, reason_of_malformed, cut_or_bare, reason_of_unknown, reason_of};
+ghost use Rattle.font_reasons.specs.Request.{face_in, no_font_or_glyph, no_part, wrong_table, wrong_outlines, wrong_source, wrong_names, not_kept, wrong_content, reason_of_malformed, cut_or_bare, reason_of_unknown, reason_of};
 
 use crate::file::{cut_table, no_font};
-use crate::parts::{no_glyph, no_needed_table, no_outline, no_outlines, wrong_metrics};
+use crate::outlines::no_outline;
+use crate::parts::{no_glyph, no_metric, no_needed_table, no_outlines, wrong_metrics};
 use crate::reason::Reason;
+use crate::short::{short_header, short_name, short_post};
 use subsetter_base::{Error, Tag};
 
 /// What is requested of a font.
@@ -40,24 +42,56 @@ fn no_part(font: &[u8], request: Request<'_>) -> Option<Reason>
 
 /// What is wrong with a table that ends past the end of the file, or else with metrics.
 #[tactic(auto, unfolding(crate::specs::Request::wrong_table))]
-fn wrong_table(font: &[u8], index: u32) -> Option<Reason>
+pub fn wrong_table(font: &[u8], index: u32) -> Option<Reason>
     ensures { result ≡ wrong_table (record { bytes = font.now; index = index; extras = all_extras }) }
 {
     cut_table(font, index).or(wrong_metrics(font, index))
 }
 
 /// What is wrong with outlines, with a table that ends past the end of the file, or with metrics.
-pub fn wrong_outlines(font: &[u8], index: u32, glyphs: &[u16]) -> Option<Reason>
+fn wrong_outlines(font: &[u8], index: u32, glyphs: &[u16]) -> Option<Reason>
     ensures { result ≡ wrong_outlines (record { bytes = font.now; index = index; extras = all_extras }) glyphs.now }
 {
     no_outline(font, index, glyphs).or(wrong_table(font, index))
+}
+
+/// What is wrong with the tables that a new font is made from.
+#[tactic(auto, unfolding(crate::specs::Request::wrong_source))]
+pub fn wrong_source(font: &[u8], index: u32, glyphs: &[u16]) -> Option<Reason>
+    ensures { result ≡ wrong_source (record { bytes = font.now; index = index; extras = all_extras }) glyphs.now }
+{
+    short_header(font, index).or(wrong_outlines(font, index, glyphs))
+}
+
+/// What is wrong with names.
+#[tactic(auto, unfolding(crate::specs::Request::wrong_names))]
+fn wrong_names(font: &[u8], index: u32) -> Option<Reason>
+    ensures { result ≡ wrong_names (record { bytes = font.now; index = index; extras = all_extras }) }
+{
+    short_post(font, index).or(short_name(font, index))
+}
+
+/// What is wrong with what is kept besides outlines: the metrics of each glyph, and names.
+#[tactic(auto, unfolding(crate::specs::Request::not_kept))]
+pub fn not_kept(font: &[u8], index: u32, glyphs: &[u16]) -> Option<Reason>
+    ensures { result ≡ not_kept (record { bytes = font.now; index = index; extras = all_extras }) glyphs.now }
+{
+    no_metric(font, index, glyphs).or(wrong_names(font, index))
+}
+
+/// What is wrong with what a new font is made from, or with what is kept.
+#[tactic(auto, unfolding(crate::specs::Request::wrong_content))]
+fn wrong_content(font: &[u8], index: u32, glyphs: &[u16]) -> Option<Reason>
+    ensures { result ≡ wrong_content (record { bytes = font.now; index = index; extras = all_extras }) glyphs.now }
+{
+    wrong_source(font, index, glyphs).or(not_kept(font, index, glyphs))
 }
 
 /// Why a face is malformed.
 fn reason_of_malformed(font: &[u8], request: Request<'_>) -> Option<Reason>
     ensures { result ≡ reason_of_malformed (face_in request.entry font.now) request.entry.glyphs.now request.entry.needs }
 {
-    no_part(font, request).or(wrong_outlines(font, request.index, request.glyphs))
+    no_part(font, request).or(wrong_content(font, request.index, request.glyphs))
 }
 
 /// What is wrong with a table that ends past the end of the file, or else that there are no outlines.

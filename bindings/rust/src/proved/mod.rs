@@ -115,9 +115,7 @@ pub mod subsetter_text_c;
 pub mod subsetter_type2;
 #[cfg(feature = "variable-fonts")]
 pub mod subsetter_variable;
-#[cfg(feature = "variable-fonts")]
 pub mod subsetter_variation;
-#[cfg(feature = "variable-fonts")]
 pub mod text_glyphs;
 #[cfg(feature = "variable-fonts")]
 pub mod text_metrics;

@@ -24,6 +24,4 @@ mod segments;
 
 #[cfg(feature = "variable-fonts")]
 pub use characters::glyphs_of;
-pub use mapping::find_subtable;
-#[cfg(feature = "variable-fonts")]
-pub use mapping::Subtable;
+pub use mapping::{find_subtable, Subtable};

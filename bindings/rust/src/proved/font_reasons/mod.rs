@@ -10,10 +10,13 @@
 mod charstrings;
 mod explained;
 mod file;
+mod outlines;
 mod parts;
 mod permission;
 mod reason;
 mod request;
+mod short;
+mod variations;
 
 pub use explained::{explain, Call};
 #[cfg(feature = "program")]

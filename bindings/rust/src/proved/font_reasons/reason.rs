@@ -35,18 +35,36 @@ pub enum Reason {
     Descends(u16),
     /// The outline of this glyph isn't inside `glyf`.
     Outside(u16),
+    /// The header of this glyph's outline is cut.
+    CutHeader(u16),
+    /// A component of this glyph is cut.
+    CutComponent(u16),
+    /// A component of this glyph is that glyph, whose outline isn't inside `glyf`, or has no or wrong entries of `loca`.
+    ByComponent(u16, u16),
     /// numberOfHMetrics of `hhea` is 0.
     NoMetrics,
     /// numberOfHMetrics of `hhea` is this, and `hmtx` is shorter.
     FewMetrics(u16),
+    /// `hmtx` ends before the metrics of this glyph.
+    NoMetric(u16),
     /// unitsPerEm of `head` is 0.
     NoUnits,
-    /// `cmap` has no table for Unicode that is read.
+    /// This table has this many bytes, and what is read of it takes this many.
+    Short(Tag, u64, u64),
+    /// `cmap` has no table of an encoding and a format that are read.
     NoUnicode,
     /// The outlines are those of `CFF2`, which calls at coordinates take.
     OnlyCff2,
     /// fsType of `OS/2` is this, and this bit of it forbids embedding, subsets (bit 8) or outlines (bit 9).
     Forbidden(u16, u8),
+    /// majorVersion of this table isn't 1.
+    OtherVersion(Tag),
+    /// axisSize of `fvar` is this, and 20 is the least.
+    AxisSize(u16),
+    /// axisCount of this table is this, and that of `fvar` another.
+    AxisCount(Tag, u16, u16),
+    /// `gvar` can't be read.
+    WrongGvar,
     /// majorVersion of `CFF ` isn't 1.
     OtherCff,
     /// `CFF ` can't be read.
@@ -69,12 +87,21 @@ impl Reason {
             Reason::NoEntries(_) => Some(Tag::LOCA),
             Reason::Descends(_) => Some(Tag::LOCA),
             Reason::Outside(_) => Some(Tag::GLYF),
+            Reason::CutHeader(_) => Some(Tag::GLYF),
+            Reason::CutComponent(_) => Some(Tag::GLYF),
+            Reason::ByComponent(_, _) => Some(Tag::GLYF),
             Reason::NoMetrics => Some(Tag::HHEA),
             Reason::FewMetrics(_) => Some(Tag::HHEA),
+            Reason::NoMetric(_) => Some(Tag::HMTX),
             Reason::NoUnits => Some(Tag::HEAD),
+            Reason::Short(tag, _, _) => Some(tag),
             Reason::NoUnicode => Some(Tag::new(b"cmap")),
             Reason::OnlyCff2 => Some(Tag::CFF2),
             Reason::Forbidden(_, _) => Some(Tag::new(b"OS/2")),
+            Reason::OtherVersion(tag) => Some(tag),
+            Reason::AxisSize(_) => Some(Tag::new(b"fvar")),
+            Reason::AxisCount(tag, _, _) => Some(tag),
+            Reason::WrongGvar => Some(Tag::new(b"gvar")),
             Reason::OtherCff => Some(Tag::CFF),
             Reason::WrongCff => Some(Tag::CFF),
             Reason::NoCharstring(_) => Some(Tag::CFF),
@@ -91,6 +118,10 @@ impl Reason {
             Reason::NoEntries(glyph) => Some(glyph),
             Reason::Descends(glyph) => Some(glyph),
             Reason::Outside(glyph) => Some(glyph),
+            Reason::CutHeader(glyph) => Some(glyph),
+            Reason::CutComponent(glyph) => Some(glyph),
+            Reason::ByComponent(glyph, _) => Some(glyph),
+            Reason::NoMetric(glyph) => Some(glyph),
             Reason::NoCharstring(glyph) => Some(glyph),
             Reason::WrongCharstring(glyph) => Some(glyph),
             Reason::Composed(glyph) => Some(glyph),
@@ -150,6 +181,42 @@ impl fmt::Display for CutText {
             f,
             "the file is cut: table {tag} ends at byte {end}, the file at {size}"
         )
+    }
+}
+
+/// That a component is a glyph whose outline isn't there.
+#[derive(Clone, Copy)]
+struct ComponentText(u16, u16);
+
+impl fmt::Display for ComponentText {
+    fn fmt(&self, f: &mut fmt::Formatter<'_>) -> fmt::Result {
+        let ComponentText(glyph, component) = *self;
+        write!(
+            f,
+            "glyph {glyph}: its component is glyph {component}, whose outline isn't in the font"
+        )
+    }
+}
+
+/// That a table has so many bytes, and needs more.
+#[derive(Clone, Copy)]
+struct ShortText(Tag, u64, u64);
+
+impl fmt::Display for ShortText {
+    fn fmt(&self, f: &mut fmt::Formatter<'_>) -> fmt::Result {
+        let ShortText(tag, size, needed) = *self;
+        write!(f, "{tag}: {size} bytes, needs {needed}")
+    }
+}
+
+/// That a table has so many axes, and `fvar` others.
+#[derive(Clone, Copy)]
+struct AxesText(Tag, u16, u16);
+
+impl fmt::Display for AxesText {
+    fn fmt(&self, f: &mut fmt::Formatter<'_>) -> fmt::Result {
+        let AxesText(tag, count, axes) = *self;
+        write!(f, "{tag}: axisCount is {count}, that of fvar {axes}")
     }
 }
 
@@ -224,6 +291,21 @@ impl fmt::Display for Reason {
                 );
                 write!(f, "{text}")
             }
+            Reason::CutHeader(glyph) => {
+                let text = Between(
+                    "glyph ",
+                    u32::from(glyph),
+                    ": the header of its outline is cut",
+                );
+                write!(f, "{text}")
+            }
+            Reason::CutComponent(glyph) => {
+                let text = Between("glyph ", u32::from(glyph), ": a component is cut");
+                write!(f, "{text}")
+            }
+            Reason::ByComponent(glyph, component) => {
+                write!(f, "{}", ComponentText(glyph, component))
+            }
             Reason::NoMetrics => f.write_str("hhea: numberOfHMetrics is 0"),
             Reason::FewMetrics(count) => {
                 let text = Between(
@@ -233,10 +315,24 @@ impl fmt::Display for Reason {
                 );
                 write!(f, "{text}")
             }
+            Reason::NoMetric(glyph) => {
+                let text = Between("glyph ", u32::from(glyph), ": hmtx ends before its metrics");
+                write!(f, "{text}")
+            }
             Reason::NoUnits => f.write_str("head: unitsPerEm is 0"),
-            Reason::NoUnicode => f.write_str("cmap: no table for Unicode in format 4 or 12"),
+            Reason::Short(tag, size, needed) => write!(f, "{}", ShortText(tag, size, needed)),
+            Reason::NoUnicode => f.write_str(
+                "cmap: no table for Unicode, symbols or Mac Roman in format 0, 4, 6, 12 or 13",
+            ),
             Reason::OnlyCff2 => f.write_str("CFF2: its outlines are taken at coordinates alone"),
             Reason::Forbidden(fs_type, bit) => write!(f, "{}", ForbiddenText(fs_type, bit)),
+            Reason::OtherVersion(tag) => write!(f, "{tag}: its major version isn't 1"),
+            Reason::AxisSize(size) => {
+                let text = Between("fvar: axisSize is ", u32::from(size), ", needs 20");
+                write!(f, "{text}")
+            }
+            Reason::AxisCount(tag, count, axes) => write!(f, "{}", AxesText(tag, count, axes)),
+            Reason::WrongGvar => f.write_str("gvar: the table can't be read"),
             Reason::OtherCff => f.write_str("CFF: its major version isn't 1"),
             Reason::WrongCff => f.write_str("CFF: the table can't be read"),
             Reason::NoCharstring(glyph) => {

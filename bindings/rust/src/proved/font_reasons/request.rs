@@ -2,10 +2,12 @@
 //! Why a request is refused, by its error.
 
 use crate::proved::font_reasons::file::{cut_table, no_font};
+use crate::proved::font_reasons::outlines::no_outline;
 #[cfg(feature = "program")]
 use crate::proved::font_reasons::parts::no_needed_table;
-use crate::proved::font_reasons::parts::{no_glyph, no_outline, no_outlines, wrong_metrics};
+use crate::proved::font_reasons::parts::{no_glyph, no_metric, no_outlines, wrong_metrics};
 use crate::proved::font_reasons::reason::Reason;
+use crate::proved::font_reasons::short::{short_header, short_name, short_post};
 #[cfg(feature = "program")]
 use crate::proved::subsetter_base::{Error, Tag};
 
@@ -37,19 +39,40 @@ fn no_part(font: &[u8], request: Request<'_>) -> Option<Reason> {
 }
 
 /// What is wrong with a table that ends past the end of the file, or else with metrics.
-fn wrong_table(font: &[u8], index: u32) -> Option<Reason> {
+pub fn wrong_table(font: &[u8], index: u32) -> Option<Reason> {
     cut_table(font, index).or(wrong_metrics(font, index))
 }
 
 /// What is wrong with outlines, with a table that ends past the end of the file, or with metrics.
-pub fn wrong_outlines(font: &[u8], index: u32, glyphs: &[u16]) -> Option<Reason> {
+fn wrong_outlines(font: &[u8], index: u32, glyphs: &[u16]) -> Option<Reason> {
     no_outline(font, index, glyphs).or(wrong_table(font, index))
+}
+
+/// What is wrong with the tables that a new font is made from.
+pub fn wrong_source(font: &[u8], index: u32, glyphs: &[u16]) -> Option<Reason> {
+    short_header(font, index).or(wrong_outlines(font, index, glyphs))
+}
+
+/// What is wrong with names.
+fn wrong_names(font: &[u8], index: u32) -> Option<Reason> {
+    short_post(font, index).or(short_name(font, index))
+}
+
+/// What is wrong with what is kept besides outlines: the metrics of each glyph, and names.
+pub fn not_kept(font: &[u8], index: u32, glyphs: &[u16]) -> Option<Reason> {
+    no_metric(font, index, glyphs).or(wrong_names(font, index))
+}
+
+/// What is wrong with what a new font is made from, or with what is kept.
+#[cfg(feature = "program")]
+fn wrong_content(font: &[u8], index: u32, glyphs: &[u16]) -> Option<Reason> {
+    wrong_source(font, index, glyphs).or(not_kept(font, index, glyphs))
 }
 
 /// Why a face is malformed.
 #[cfg(feature = "program")]
 fn reason_of_malformed(font: &[u8], request: Request<'_>) -> Option<Reason> {
-    no_part(font, request).or(wrong_outlines(font, request.index, request.glyphs))
+    no_part(font, request).or(wrong_content(font, request.index, request.glyphs))
 }
 
 /// What is wrong with a table that ends past the end of the file, or else that there are no outlines.

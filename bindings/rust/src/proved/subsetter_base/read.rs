@@ -123,7 +123,6 @@ pub fn number_at(bytes: &[u8], at: usize) -> Option<u16> {
 }
 
 /// The bytes from an offset on, if it isn't past the end.
-#[cfg(feature = "variable-fonts")]
 pub fn from_offset(bytes: &[u8], at: usize) -> Option<&[u8]> {
     bytes.get(at..)
 }

@@ -7,5 +7,4 @@ pub const X_MIN: usize = 2;
 /// How many bytes it has.
 pub const HEADER_SIZE: usize = 10;
 /// The numbers of contours from here on, as 16 bits, are below 0: those of composite glyphs.
-#[cfg(feature = "variable-fonts")]
 pub const COMPOSITE: u16 = 0x8000;

@@ -10,8 +10,10 @@ const AXIS_COUNT: usize = 8;
 /// axisSize, two bytes.
 const AXIS_SIZE: usize = 10;
 /// instanceCount, two bytes.
+#[cfg(feature = "variable-fonts")]
 const INSTANCE_COUNT: usize = 12;
 /// instanceSize, two bytes.
+#[cfg(feature = "variable-fonts")]
 const INSTANCE_SIZE: usize = 14;
 
 /// axesArrayOffset: where the records of axes begin.
@@ -30,11 +32,13 @@ pub fn axis_size(fvar: &[u8]) -> Option<u16> {
 }
 
 /// instanceCount. The records of instances are behind those of axes.
+#[cfg(feature = "variable-fonts")]
 pub fn instance_count(fvar: &[u8]) -> Option<u16> {
     Reader::new_at(fvar, INSTANCE_COUNT).read::<u16>()
 }
 
 /// instanceSize: how many bytes the record of an instance has.
+#[cfg(feature = "variable-fonts")]
 pub fn instance_size(fvar: &[u8]) -> Option<u16> {
     Reader::new_at(fvar, INSTANCE_SIZE).read::<u16>()
 }

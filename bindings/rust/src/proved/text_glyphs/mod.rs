@@ -10,18 +10,31 @@
 //! // read.entries: the glyph of 'a' with the places 0 to 2, glyph 0 with 2 to 3; read.missing: 2
 //! ```
 
+#[cfg(feature = "variable-fonts")]
 mod characters;
 mod choice;
 mod encodings;
+#[cfg(feature = "variable-fonts")]
 mod formats;
+#[cfg(feature = "variable-fonts")]
 mod halves;
+#[cfg(feature = "variable-fonts")]
 mod kinds;
+#[cfg(feature = "variable-fonts")]
 mod reading;
+#[cfg(feature = "variable-fonts")]
 mod sequences;
+#[cfg(feature = "variable-fonts")]
 mod source;
+#[cfg(feature = "variable-fonts")]
 mod tables;
 
+#[cfg(feature = "variable-fonts")]
 pub use characters::glyphs_of;
+pub use choice::find_table;
+#[cfg(feature = "variable-fonts")]
 pub use halves::{last_up_to, number_in, Records};
+#[cfg(feature = "variable-fonts")]
 pub use reading::{read_text, Entry, ReadText};
+#[cfg(feature = "variable-fonts")]
 pub use source::{find_source, TextSource};

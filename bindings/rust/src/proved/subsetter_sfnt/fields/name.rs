@@ -8,8 +8,6 @@ use crate::proved::subsetter_base::Error;
 /// count, two bytes, and behind it storageOffset.
 pub const COUNT: usize = 2;
 /// storageOffset, two bytes.
-#[cfg(feature = "variable-fonts")]
-#[cfg(feature = "variable-fonts")]
 pub const STORAGE_OFFSET: usize = 4;
 /// Where the records begin.
 pub const HEADER_SIZE: usize = 6;

@@ -26,8 +26,6 @@ pub const UNDERLINE_POSITION: usize = 8;
 #[cfg(feature = "variable-fonts")]
 pub const UNDERLINE_THICKNESS: usize = 10;
 /// numGlyphs of version 2.0, two bytes, behind the header that each version has.
-#[cfg(feature = "program")]
-#[cfg(feature = "program")]
 const NUM_GLYPHS: usize = 32;
 /// Where the indexes of version 2.0 begin, two bytes each.
 pub const INDEXES: usize = 34;
@@ -54,8 +52,6 @@ pub fn is_fixed_pitch(post: Option<&[u8]>) -> Option<u32> {
 }
 
 /// numGlyphs of version 2.0.
-#[cfg(feature = "program")]
-#[cfg(feature = "program")]
 pub fn num_glyphs(post: &[u8]) -> Option<u16> {
     Reader::new_at(post, NUM_GLYPHS).read::<u16>()
 }

@@ -5,12 +5,19 @@
 //! is that of one glyph's points. Bytes left over after a tuple's deltas are passed over, and so are the deltas of a
 //! tuple whose scalar is 0: no library reads them, so a fault in them is none. The version of `gvar` isn't looked at.
 
+#[cfg(feature = "variable-fonts")]
 use crate::rattle::prelude::Vec;
 
-use crate::proved::subsetter_base::read::{between_offsets, from_offset, Reader};
+#[cfg(feature = "variable-fonts")]
+use crate::proved::subsetter_base::read::between_offsets;
+use crate::proved::subsetter_base::read::{from_offset, Reader};
+#[cfg(feature = "variable-fonts")]
 use crate::proved::subsetter_base::Error;
+#[cfg(feature = "variable-fonts")]
 use crate::proved::subsetter_variation::glyphs::tuple_region::{tuple_region, TupleRegion};
+#[cfg(feature = "variable-fonts")]
 use crate::proved::subsetter_variation::packing::packed::{deltas, point_numbers, word_in};
+#[cfg(feature = "variable-fonts")]
 use crate::rattle::alloc::{AllocError, Global};
 
 /// axisCount, two bytes.
@@ -33,21 +40,37 @@ const OFFSET32_SIZE: usize = 4;
 const OFFSET16_SIZE: usize = 2;
 
 /// dataOffset of a glyph's variations, two bytes, behind tupleVariationCount.
+#[cfg(feature = "variable-fonts")]
+#[cfg(feature = "variable-fonts")]
 const DATA_OFFSET: usize = 2;
 /// tupleVariationHeaders.
+#[cfg(feature = "variable-fonts")]
+#[cfg(feature = "variable-fonts")]
 const TUPLE_VARIATION_HEADERS: usize = 4;
 /// The flag of tupleVariationCount: the tuples share point numbers.
+#[cfg(feature = "variable-fonts")]
+#[cfg(feature = "variable-fonts")]
 const SHARED_POINT_NUMBERS: u16 = 0x8000;
 /// So many values are below the flags: one more than COUNT_MASK.
+#[cfg(feature = "variable-fonts")]
+#[cfg(feature = "variable-fonts")]
 const COUNTS: u16 = 0x1000;
 
 /// The flags of tupleIndex: a peak of its own is in the header.
+#[cfg(feature = "variable-fonts")]
+#[cfg(feature = "variable-fonts")]
 const EMBEDDED_PEAK_TUPLE: u16 = 0x8000;
 /// The ends of the region are in the header.
+#[cfg(feature = "variable-fonts")]
+#[cfg(feature = "variable-fonts")]
 const INTERMEDIATE_REGION: u16 = 0x4000;
 /// The tuple has point numbers of its own.
+#[cfg(feature = "variable-fonts")]
+#[cfg(feature = "variable-fonts")]
 const PRIVATE_POINT_NUMBERS: u16 = 0x2000;
 /// So many values are below the flags: one more than TUPLE_INDEX_MASK.
+#[cfg(feature = "variable-fonts")]
+#[cfg(feature = "variable-fonts")]
 const TUPLE_INDEXES: u16 = 0x1000;
 
 /// The table `gvar`.
@@ -65,6 +88,7 @@ pub struct Gvar<'a> {
 }
 
 /// The tuples that are left of a glyph.
+#[cfg(feature = "variable-fonts")]
 pub struct TupleHeaders<'a> {
     left: u16,
     headers: &'a [u8],
@@ -72,6 +96,8 @@ pub struct TupleHeaders<'a> {
 }
 
 /// The first bytes and those behind them, if there are as many.
+#[cfg(feature = "variable-fonts")]
+#[cfg(feature = "variable-fonts")]
 fn split(n: usize, bytes: &[u8]) -> Option<(&[u8], &[u8])> {
     if n <= bytes.len() {
         Some((&bytes[..n], &bytes[n..]))
@@ -118,6 +144,8 @@ impl<'a> Gvar<'a> {
     }
 
     /// The same table, at a location where scalars of its first shared tuples are known.
+    #[cfg(feature = "variable-fonts")]
+    #[cfg(feature = "variable-fonts")]
     pub fn located<'b>(&'b self, location: &'b [i32], scalars: &'b [i64]) -> Gvar<'b> {
         Gvar {
             axis_count: self.axis_count,
@@ -132,6 +160,8 @@ impl<'a> Gvar<'a> {
     }
 
     /// The scalars of the first shared tuples at a location, as far as they are known.
+    #[cfg(feature = "variable-fonts")]
+    #[cfg(feature = "variable-fonts")]
     pub fn scalars_at(&self, at: &[i32]) -> &'a [i64] {
         if self.location == at {
             self.scalars
@@ -141,6 +171,8 @@ impl<'a> Gvar<'a> {
     }
 
     /// The scalar of a shared tuple at a location, if it can be read.
+    #[cfg(feature = "variable-fonts")]
+    #[cfg(feature = "variable-fonts")]
     fn shared_scalar(&self, at: &[i32], index: u16) -> Option<i64> {
         let size = self.axis_count as usize * 2;
         let peaks = Reader::new_at(self.shared, usize::from(index) * size).read_bytes(size)?;
@@ -149,6 +181,8 @@ impl<'a> Gvar<'a> {
     }
 
     /// The scalars of the first shared tuples at a location, of all that tuples can name.
+    #[cfg(feature = "variable-fonts")]
+    #[cfg(feature = "variable-fonts")]
     pub fn shared_scalars(&self, alloc: Global, at: &[i32]) -> Result<Vec<i64>, AllocError> {
         let mut scalars = Vec::new(alloc);
         for index in 0..TUPLE_INDEXES {
@@ -173,6 +207,8 @@ impl<'a> Gvar<'a> {
     }
 
     /// The variations of a glyph, unless they aren't there; no bytes where it has none.
+    #[cfg(feature = "variable-fonts")]
+    #[cfg(feature = "variable-fonts")]
     pub fn variations_of(&self, glyph: u16) -> Option<&'a [u8]> {
         if glyph >= self.glyph_count {
             return None;
@@ -184,6 +220,8 @@ impl<'a> Gvar<'a> {
 }
 
 /// Whether point numbers are shared, and the tuples of a glyph, by the bytes of its variations.
+#[cfg(feature = "variable-fonts")]
+#[cfg(feature = "variable-fonts")]
 pub fn tuple_headers(bytes: &[u8]) -> Option<(bool, TupleHeaders<'_>)> {
     let count = Reader::new(bytes).read::<u16>()?;
     let at = Reader::new_at(bytes, DATA_OFFSET).read::<u16>()?;
@@ -199,6 +237,8 @@ pub fn tuple_headers(bytes: &[u8]) -> Option<(bool, TupleHeaders<'_>)> {
 }
 
 /// The peaks of a region, and the bytes of the header behind them.
+#[cfg(feature = "variable-fonts")]
+#[cfg(feature = "variable-fonts")]
 fn peaks_in<'a>(t: &Gvar<'a>, flags: u16, bytes: &'a [u8]) -> Option<(&'a [u8], &'a [u8])> {
     let size = t.axis_count as usize * 2;
     if flags >= EMBEDDED_PEAK_TUPLE {
@@ -211,6 +251,8 @@ fn peaks_in<'a>(t: &Gvar<'a>, flags: u16, bytes: &'a [u8]) -> Option<(&'a [u8], 
 }
 
 /// The region with these peaks, and the bytes of the header behind it.
+#[cfg(feature = "variable-fonts")]
+#[cfg(feature = "variable-fonts")]
 fn ends_in<'a>(
     axis_count: u16,
     flags: u16,
@@ -228,18 +270,23 @@ fn ends_in<'a>(
 }
 
 /// The region of a tuple, and the bytes of the header behind it.
+#[cfg(feature = "variable-fonts")]
+#[cfg(feature = "variable-fonts")]
 fn region_in<'a>(t: &Gvar<'a>, flags: u16, bytes: &'a [u8]) -> Option<(TupleRegion<'a>, &'a [u8])> {
     let (peaks, rest) = peaks_in(t, flags, bytes)?;
     ends_in(t.axis_count, flags, peaks, rest)
 }
 
 /// A tuple before its deltas are read.
+#[cfg(feature = "variable-fonts")]
 pub struct TupleHeader<'a> {
     region: TupleRegion<'a>,
     private_numbers: bool,
     packed: &'a [u8],
 }
 
+#[cfg(feature = "variable-fonts")]
+#[cfg(feature = "variable-fonts")]
 impl<'a> TupleHeader<'a> {
     /// How far it counts at a location, in parts of 2^30.
     pub fn scalar(&self, at: &[i32]) -> i64 {
@@ -257,6 +304,8 @@ impl<'a> TupleHeader<'a> {
     }
 }
 
+#[cfg(feature = "variable-fonts")]
+#[cfg(feature = "variable-fonts")]
 impl<'a> TupleHeaders<'a> {
     /// How many tuples are left.
     pub fn left(&self) -> u16 {
@@ -275,6 +324,8 @@ impl<'a> TupleHeaders<'a> {
 }
 
 /// The next tuple, without its deltas, and those behind it, unless it is cut.
+#[cfg(feature = "variable-fonts")]
+#[cfg(feature = "variable-fonts")]
 pub fn next_header<'a>(
     t: &Gvar<'a>,
     r: TupleHeaders<'a>,
@@ -300,6 +351,8 @@ pub fn next_header<'a>(
 }
 
 /// A scalar, if there are as many.
+#[cfg(feature = "variable-fonts")]
+#[cfg(feature = "variable-fonts")]
 fn scalar_at(scalars: &[i64], index: usize) -> Option<i64> {
     if index < scalars.len() {
         Some(scalars[index])
@@ -309,6 +362,8 @@ fn scalar_at(scalars: &[i64], index: usize) -> Option<i64> {
 }
 
 /// The scalar of the next tuple, where that is a shared one without ends of its own whose scalar is known.
+#[cfg(feature = "variable-fonts")]
+#[cfg(feature = "variable-fonts")]
 pub(crate) fn listed_scalar(
     _t: &Gvar<'_>,
     _at: &[i32],
@@ -324,6 +379,8 @@ pub(crate) fn listed_scalar(
 }
 
 /// The scalar of a tuple, which may be known.
+#[cfg(feature = "variable-fonts")]
+#[cfg(feature = "variable-fonts")]
 pub(crate) fn scalar_by(listed: Option<i64>, header: &TupleHeader<'_>, at: &[i32]) -> i64 {
     match listed {
         Some(scalar) => scalar,
@@ -332,6 +389,8 @@ pub(crate) fn scalar_by(listed: Option<i64>, header: &TupleHeader<'_>, at: &[i32
 }
 
 /// The deltas of x and those of y, one for each of so many points, in the memory of lists that are spare.
+#[cfg(feature = "variable-fonts")]
+#[cfg(feature = "variable-fonts")]
 pub fn both_deltas(
     spare_x: Vec<i16>,
     spare_y: Vec<i16>,
@@ -344,6 +403,8 @@ pub fn both_deltas(
 }
 
 /// How many points have deltas: all below the limit, or those that are listed.
+#[cfg(feature = "variable-fonts")]
+#[cfg(feature = "variable-fonts")]
 pub(crate) fn count_of(limit: u32, numbers: &Option<Vec<u32>>) -> usize {
     match numbers {
         None => limit as usize,
@@ -352,6 +413,8 @@ pub(crate) fn count_of(limit: u32, numbers: &Option<Vec<u32>>) -> usize {
 }
 
 /// The point numbers that the tuples share, none for all, in the memory of a list that is spare, and the tuples.
+#[cfg(feature = "variable-fonts")]
+#[cfg(feature = "variable-fonts")]
 pub fn shared_numbers<'a>(
     alloc: Global,
     spare: &mut Vec<u32>,

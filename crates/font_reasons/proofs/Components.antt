@@ -1,0 +1,30 @@
+-- Components of a composite, one after another.
+use Rattle.std.proofs.Common.{◌≡◌, ℕ, zero, suc, ◌<◌, Bool, cond, List, Option, Some, None, sym, ap, ◌∙◌, arith}
+use Rattle.font_reasons.specs.File.{or_else}
+use Rattle.font_reasons.specs.Outlines.{Component, component_at, has_more, by_component, wrong_first, wrong_components}
+use Rattle.font_reasons.specs.declared.reason.Reason.{Reason}
+use Rattle.font_reasons.specs.declared.reason.Reason.TheVariants.{CutComponent}
+
+module _ (glyf loca : List ℕ) (format g : ℕ) where
+  -- a component that is cut
+  pub cut_here : (n : ℕ) (bytes : List ℕ) (total : Option Reason) → 0 < n → component_at bytes ≡ None → wrong_components glyf loca format g n bytes ≡ total → Some (CutComponent g) ≡ total
+  cut_here zero bytes total lt e h = absurd (omega arith)
+  cut_here (suc n) bytes total lt e h = sym (ap (wrong_first g (by_component glyf loca format g) (wrong_components glyf loca format g n)) e) ∙ h
+
+  -- a component that is there: what is wrong with it, or else with those after it, if there are any
+  first_is : (n k : ℕ) (bytes : List ℕ) (c : Component) (total : Option Reason) → n ≡ suc k → Some c ≡ component_at bytes → wrong_components glyf loca format g n bytes ≡ total
+      → or_else (by_component glyf loca format g c.glyph) (cond (has_more c.flags) (wrong_components glyf loca format g k c.after) None) ≡ total
+  first_is n k bytes c total is e h =
+      ap (wrong_first g (by_component glyf loca format g) (wrong_components glyf loca format g k)) e
+      ∙ sym (ap (λ m. wrong_components glyf loca format g m bytes) is) ∙ h
+
+  pub wrong_here : (n k : ℕ) (bytes : List ℕ) (c : Component) (r : Reason) (total : Option Reason) → n ≡ suc k → Some c ≡ component_at bytes → Some r ≡ by_component glyf loca format g c.glyph
+      → wrong_components glyf loca format g n bytes ≡ total → Some r ≡ total
+  wrong_here n k bytes c r total is e w h =
+      ap (λ (x : Option Reason). or_else x (cond (has_more c.flags) (wrong_components glyf loca format g k c.after) None)) w ∙ first_is n k bytes c total is e h
+
+  pub sound_here : (n k : ℕ) (bytes : List ℕ) (c : Component) (more : Bool) (total : Option Reason) → n ≡ suc k → Some c ≡ component_at bytes → None ≡ by_component glyf loca format g c.glyph
+      → more ≡ has_more c.flags → wrong_components glyf loca format g n bytes ≡ total → cond more (wrong_components glyf loca format g k c.after) None ≡ total
+  sound_here n k bytes c more total is e w m h =
+      ap (λ (b : Bool). cond b (wrong_components glyf loca format g k c.after) None) m
+      ∙ ap (λ (x : Option Reason). or_else x (cond (has_more c.flags) (wrong_components glyf loca format g k c.after) None)) w ∙ first_is n k bytes c total is e h
