@@ -1,1 +1,2 @@
+pub mod FiguresRun
 pub mod WithOwn

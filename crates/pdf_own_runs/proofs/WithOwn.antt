@@ -22,7 +22,7 @@ use Rattle.pdf_operators.specs.declared.places.Font.{Font}
 use Rattle.pdf_operators.specs.Operators.{operators, text_of_all, units_of}
 use Rattle.pdf_operators.specs.Reading.{AreCoded, IsEnd, IsExtracted, IsShown}
 use Rattle.pdf_operators.specs.Pens.{advance_of, end_of, pen_of}
-use Rattle.pdf_operators.specs.Runs.{IsRefused, is_laid, is_valid, run_acts}
+use Rattle.pdf_operators.specs.Runs.{IsRefused, is_valid, run_acts}
 use Rattle.pdf_figures.specs.declared.choice.Choice.{Choice}
 use Rattle.pdf_figures.specs.declared.ink.OwnInk.{OwnInk}
 use Rattle.pdf_figures.specs.declared.ink.Placed.{Placed}
@@ -82,10 +82,6 @@ first_of : (a b c : Bool) → (a && b && c) ≡ true → a ≡ true
 first_of true b c e = refl
 first_of false b c e = absurd cc
 
-of_two : (a b : Bool) → (a && b) ≡ true → a ≡ true
-of_two true b e = refl
-of_two false b e = absurd cc
-
 pub begun : (d : Direction) (count : ℕ) (is : List Item) → is_run d count is ≡ true → is_begun is ≡ true
 begun d count is e = first_of (is_begun is) (are_known count is) (are_along d is) e
 
@@ -114,8 +110,7 @@ pub shown_with : (f : Font) (c : Choice) (d : Direction) (o : Order) (size : ℕ
     → IsShownBy f c.inked.now os d o size pairs new js bytes → IsShownWithOwn f c d o size pairs new os is bytes
 shown_with f c d o size pairs new os is js bytes run h s =
     let count : ℕ = length f.metrics.now in
-    let whole : is_run d (length s.font.metrics.now) js ≡ true = of_two (is_run d (length s.font.metrics.now) js) (is_laid s.font d o js) s.valid in
-    let said : map text_of (clusters js) ≡ map text_of (clusters is) = items_say_the_run d c count (inks_of os) is js (begun d count is run) (begun d (length s.font.metrics.now) js whole) h.figures in
+    let said : map text_of (clusters js) ≡ map text_of (clusters is) = items_say_the_run d c count (inks_of os) is js (begun d count is run) (begun d (count + length os) js h.run) h.figures in
     let pens : advance_of js ≡ advance_of is = same_pens is js (x_of_items d c count (inks_of os) is js h.figures) (y_of_items d c count (inks_of os) is js h.figures) in
     record {
       items = js;

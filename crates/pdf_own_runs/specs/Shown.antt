@@ -6,7 +6,7 @@ use Rattle.pdf_runs.specs.declared.error.RunError.TheVariants.{InvalidText, Over
 use Rattle.pdf_runs.specs.declared.items.Direction.{Direction}
 use Rattle.pdf_runs.specs.declared.items.Item.{Item}
 use Rattle.pdf_runs.specs.Codes.{with_pairs}
-use Rattle.pdf_runs.specs.Items.{are_known, is_run}
+use Rattle.pdf_runs.specs.Items.{is_run}
 use Rattle.pdf_runs.specs.Laws.{wanted}
 use Rattle.pdf_runs.specs.Pieces.{pieces_of_run}
 use Rattle.pdf_operators.specs.declared.order.Order.{Order}
@@ -48,10 +48,10 @@ IsUnshown f known own d o pairs new js e = ((e ≡ OutOfMemory) × (new ≡ pair
 
 -- ---- a run
 
--- items are the figures of a run
+-- items are the figures of a run, and a run of the font with own glyphs themselves
 pub record AreFigures (count : ℕ) (c : Choice) (own : List OwnInk) (d : Direction) (is js : List Item) : Type 0 where
   pub figures : map (figured_by count (inks_of own)) js ≡ figured_run d c is
-  pub known : are_known (count + length own) js ≡ true
+  pub run : is_run d (count + length own) js ≡ true
 
 -- operators show a run: by items that are its figures
 pub record IsShownWithOwn (f : Font) (c : Choice) (d : Direction) (o : Order) (size : ℕ) (pairs new : List Pair) (own : List OwnInk) (is : List Item) (bytes : List ℕ) : Type 0 where

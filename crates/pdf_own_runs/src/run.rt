@@ -34,6 +34,7 @@ fn count_of(font: Font<'_>, direction: Direction, items: &[Item<'_>]) -> Result<
 }
 
 /// The figures of a run as items of the font with own glyphs after its glyphs.
+#[tactic(auto, using(crate::proofs::FiguresRun::are_figures))]
 fn items_with_own<'a>(
     alloc: Global,
     own: &mut OwnGlyphs,
@@ -42,7 +43,7 @@ fn items_with_own<'a>(
     count: u16,
     items: &'a [Item<'a>],
 ) -> Result<Vec<Item<'a>>, RunError>
-    requires { are_known count items.now ≡ true }
+    requires { is_run direction count items.now ≡ true }
     ensures ok { IfOk result (λ js. AreFigures count choice.now own.new.list.items direction items.now js.items) }
     ensures extends { Extends own.old.list.items own.new.list.items }
     ensures err { IfErr result (λ e. (e ≡ OutOfMemory) ⊎ ((e ≡ Overfull) × (65535 ≤ count + length own.new.list.items))) }
