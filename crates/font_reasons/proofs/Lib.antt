@@ -1,4 +1,5 @@
 pub mod Components
 pub mod Directory
+pub mod NameSteps
 mod Numbering
 pub mod Unbounded

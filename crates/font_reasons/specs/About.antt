@@ -2,7 +2,7 @@
 use Rattle.std.specs.Prelude.{ℕ, Option, Some, None, codes}
 use Rattle.subsetter_base.specs.declared.tag.Tag.{Tag}
 use Rattle.font_reasons.specs.declared.reason.Reason.{Reason}
-use Rattle.font_reasons.specs.declared.reason.Reason.TheVariants.{Cut, NoGlyph, NoTable, NoEntries, Descends, Outside, CutHeader, CutComponent, ByComponent, NoMetrics, FewMetrics, NoMetric, NoUnits, Short, NoUnicode, OnlyCff2, Forbidden, OtherVersion, AxisSize, AxisCount, WrongGvar, OtherCff, WrongCff, NoCharstring, WrongCharstring, Composed}
+use Rattle.font_reasons.specs.declared.reason.Reason.TheVariants.{Cut, NoGlyph, NoTable, NoEntries, Descends, Outside, CutHeader, CutComponent, ByComponent, NoMetrics, FewMetrics, NoMetric, NoUnits, Short, LostName, NoUnicode, OnlyCff2, Forbidden, OtherVersion, AxisSize, AxisCount, WrongGvar, OtherCff, WrongCff, NoCharstring, WrongCharstring, Composed}
 
 -- the table whose bytes show it, or that isn't there
 abbrev pub reason_table : Reason → Option Tag
@@ -20,6 +20,7 @@ reason_table (FewMetrics count) = Some (record { 0 = codes "hhea" })
 reason_table (NoMetric glyph) = Some (record { 0 = codes "hmtx" })
 reason_table NoUnits = Some (record { 0 = codes "head" })
 reason_table (Short tag size needed) = Some tag
+reason_table (LostName id) = Some (record { 0 = codes "name" })
 reason_table NoUnicode = Some (record { 0 = codes "cmap" })
 reason_table OnlyCff2 = Some (record { 0 = codes "CFF2" })
 reason_table (Forbidden fs_type bit) = Some (record { 0 = codes "OS/2" })

@@ -8,6 +8,7 @@ use Rattle.subsetter_sfnt.specs.Read.{Font, stored}
 use Rattle.text_glyphs.specs.Choice.{Chosen, chosen}
 use Rattle.font_reasons.specs.Charstrings.{cff_reason}
 use Rattle.font_reasons.specs.File.{or_else}
+use Rattle.font_reasons.specs.Names.{lost_name}
 use Rattle.font_reasons.specs.Parts.{no_metric, no_table, wrong_metrics}
 use Rattle.font_reasons.specs.Request.{no_font_or_glyph, not_kept, reason_of_unknown, wrong_source, wrong_table}
 use Rattle.font_reasons.specs.Short.{short_hhea}
@@ -85,11 +86,19 @@ wrong_for Advances font glyphs = wrong_advances font
 abbrev pub malformed : Call → Font → List ℕ → Option Reason
 malformed call font glyphs = or_else (no_font_or_glyph font glyphs) (or_else (lacks call font) (wrong_for call font glyphs))
 
+-- names that aren't kept; a font for a PDF has none
+abbrev pub lost_for : Call → Font → Option Reason
+lost_for Subset font = lost_name font
+lost_for SubsetAt font = lost_name font
+lost_for Embed font = lost_name font
+lost_for EmbedAt font = lost_name font
+lost_for other font = None
+
 unfoldable pub shown : Call → Refusal → Font → List ℕ → Option Reason
 shown call UnknownKind font glyphs = reason_of_unknown font
 shown call MalformedFont font glyphs = malformed call font glyphs
 shown call Unimplemented font glyphs = not_read call font
-shown call SubsetError font glyphs = None
+shown call SubsetError font glyphs = lost_for call font
 shown call OverflowError font glyphs = wrong_metrics font
 shown call CFFError font glyphs = None
 shown call OutOfMemory font glyphs = None

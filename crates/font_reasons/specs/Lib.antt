@@ -3,6 +3,7 @@ pub mod Charstrings
 pub mod Directory
 pub mod Explained
 pub mod File
+pub mod Names
 pub mod Outlines
 pub mod Parts
 pub mod Permission

@@ -6,6 +6,7 @@ use Rattle.subsetter_base.specs.declared.tag.Tag.{Tag}
 use Rattle.subsetter_sfnt.specs.Extras.{all_extras}
 use Rattle.subsetter_sfnt.specs.Read.{Font}
 use Rattle.font_reasons.specs.File.{or_else, no_font, cut_table}
+use Rattle.font_reasons.specs.Names.{lost_name}
 use Rattle.font_reasons.specs.Outlines.{no_outline}
 use Rattle.font_reasons.specs.Parts.{no_glyph, no_metric, no_needed_table, no_outlines, wrong_metrics}
 use Rattle.font_reasons.specs.Short.{short_header, short_name, short_post}
@@ -59,7 +60,7 @@ abbrev pub reason_of : Refusal → Font → List ℕ → Option Tag → Option R
 reason_of UnknownKind font glyphs needs = reason_of_unknown font
 reason_of MalformedFont font glyphs needs = reason_of_malformed font glyphs needs
 reason_of Unimplemented font glyphs needs = None
-reason_of SubsetError font glyphs needs = None
+reason_of SubsetError font glyphs needs = lost_name font
 reason_of OverflowError font glyphs needs = wrong_metrics font
 reason_of CFFError font glyphs needs = None
 reason_of OutOfMemory font glyphs needs = None

@@ -3,9 +3,10 @@
 ghost use Rattle.std.specs.Prelude.{◌≡◌, codes, IfOk, IfErr};
 ghost use Rattle.subsetter_base.specs.declared.error.Error.TheVariants.{OutOfMemory};
 ghost use Rattle.subsetter_sfnt.specs.Extras.{all_extras};
-ghost use Rattle.font_reasons.specs.Explained.{explained, is_of_charstrings, lacks, malformed, no_cmap, malformed_last, no_mapping, no_unicode, no_units, no_widths, not_kept_by, not_read, of_charstrings, only_cff2, seen_last, shown, shown_last, wrong_advances, wrong_for, wrong_variations_for};
+ghost use Rattle.font_reasons.specs.Explained.{explained, is_of_charstrings, lacks, lost_for, malformed, no_cmap, malformed_last, no_mapping, no_unicode, no_units, no_widths, not_kept_by, not_read, of_charstrings, only_cff2, seen_last, shown, shown_last, wrong_advances, wrong_for, wrong_variations_for};
 
 use crate::charstrings::cff_reason;
+use crate::names::lost_name;
 use crate::parts::{no_metric, no_table, wrong_metrics};
 use crate::reason::Reason;
 use crate::request::{no_font_or_glyph, not_kept, reason_of_unknown, wrong_source, wrong_table};
@@ -158,6 +159,16 @@ fn malformed(call: Call, font: &[u8], index: u32, glyphs: &[u16]) -> Option<Reas
     no_font_or_glyph(font, index, glyphs).or(lacking)
 }
 
+/// Whether a name can't be kept.
+fn lost_for(call: Call, font: &[u8], index: u32) -> Option<Reason>
+    ensures { result ≡ lost_for call (record { bytes = font.now; index = index; extras = all_extras }) }
+{
+    match call {
+        Call::Subset | Call::SubsetAt | Call::Embed | Call::EmbedAt => lost_name(font, index),
+        Call::PdfFont | Call::GlyphsOf | Call::Advances => None,
+    }
+}
+
 /// What the tables show, but for charstrings.
 #[tactic(auto, unfolding(crate::specs::Explained::shown))]
 fn shown(call: Call, error: Error, font: &[u8], index: u32, glyphs: &[u16]) -> Option<Reason>
@@ -167,6 +178,7 @@ fn shown(call: Call, error: Error, font: &[u8], index: u32, glyphs: &[u16]) -> O
         Error::UnknownKind => reason_of_unknown(font, index),
         Error::MalformedFont => malformed(call, font, index, glyphs),
         Error::Unimplemented => not_read(call, font, index),
+        Error::SubsetError => lost_for(call, font, index),
         Error::OverflowError => wrong_metrics(font, index),
         _ => None,
     }

@@ -5,6 +5,7 @@ ghost use Rattle.subsetter_sfnt.specs.Extras.{all_extras};
 ghost use Rattle.font_reasons.specs.Request.{face_in, no_font_or_glyph, no_part, wrong_table, wrong_outlines, wrong_source, wrong_names, not_kept, wrong_content, reason_of_malformed, cut_or_bare, reason_of_unknown, reason_of};
 
 use crate::file::{cut_table, no_font};
+use crate::names::lost_name;
 use crate::outlines::no_outline;
 use crate::parts::{no_glyph, no_metric, no_needed_table, no_outlines, wrong_metrics};
 use crate::reason::Reason;
@@ -116,6 +117,7 @@ pub fn find_reason(error: Error, font: &[u8], request: Request<'_>) -> Option<Re
     match error {
         Error::UnknownKind => reason_of_unknown(font, request.index),
         Error::MalformedFont => reason_of_malformed(font, request),
+        Error::SubsetError => lost_name(font, request.index),
         Error::OverflowError => wrong_metrics(font, request.index),
         _ => None,
     }

@@ -2,6 +2,7 @@
 //! Why a call is refused, by its error.
 
 use crate::proved::font_reasons::charstrings::cff_reason;
+use crate::proved::font_reasons::names::lost_name;
 use crate::proved::font_reasons::parts::{no_metric, no_table, wrong_metrics};
 use crate::proved::font_reasons::reason::Reason;
 use crate::proved::font_reasons::request::{
@@ -128,12 +129,21 @@ fn malformed(call: Call, font: &[u8], index: u32, glyphs: &[u16]) -> Option<Reas
     no_font_or_glyph(font, index, glyphs).or(lacking)
 }
 
+/// Whether a name can't be kept.
+fn lost_for(call: Call, font: &[u8], index: u32) -> Option<Reason> {
+    match call {
+        Call::Subset | Call::SubsetAt | Call::Embed | Call::EmbedAt => lost_name(font, index),
+        Call::PdfFont | Call::GlyphsOf | Call::Advances => None,
+    }
+}
+
 /// What the tables show, but for charstrings.
 fn shown(call: Call, error: Error, font: &[u8], index: u32, glyphs: &[u16]) -> Option<Reason> {
     match error {
         Error::UnknownKind => reason_of_unknown(font, index),
         Error::MalformedFont => malformed(call, font, index, glyphs),
         Error::Unimplemented => not_read(call, font, index),
+        Error::SubsetError => lost_for(call, font, index),
         Error::OverflowError => wrong_metrics(font, index),
         _ => None,
     }

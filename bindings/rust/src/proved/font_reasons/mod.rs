@@ -10,6 +10,7 @@
 mod charstrings;
 mod explained;
 mod file;
+mod names;
 mod outlines;
 mod parts;
 mod permission;

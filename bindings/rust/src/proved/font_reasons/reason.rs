@@ -51,6 +51,8 @@ pub enum Reason {
     NoUnits,
     /// This table has this many bytes, and what is read of it takes this many.
     Short(Tag, u64, u64),
+    /// The string of the name of this nameID isn't inside `name`.
+    LostName(u16),
     /// `cmap` has no table of an encoding and a format that are read.
     NoUnicode,
     /// The outlines are those of `CFF2`, which calls at coordinates take.
@@ -95,6 +97,7 @@ impl Reason {
             Reason::NoMetric(_) => Some(Tag::HMTX),
             Reason::NoUnits => Some(Tag::HEAD),
             Reason::Short(tag, _, _) => Some(tag),
+            Reason::LostName(_) => Some(Tag::NAME),
             Reason::NoUnicode => Some(Tag::new(b"cmap")),
             Reason::OnlyCff2 => Some(Tag::CFF2),
             Reason::Forbidden(_, _) => Some(Tag::new(b"OS/2")),
@@ -321,6 +324,14 @@ impl fmt::Display for Reason {
             }
             Reason::NoUnits => f.write_str("head: unitsPerEm is 0"),
             Reason::Short(tag, size, needed) => write!(f, "{}", ShortText(tag, size, needed)),
+            Reason::LostName(id) => {
+                let text = Between(
+                    "name: the string of name ",
+                    u32::from(id),
+                    " isn't inside the table",
+                );
+                write!(f, "{text}")
+            }
             Reason::NoUnicode => f.write_str(
                 "cmap: no table for Unicode, symbols or Mac Roman in format 0, 4, 6, 12 or 13",
             ),

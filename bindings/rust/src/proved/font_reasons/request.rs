@@ -2,6 +2,8 @@
 //! Why a request is refused, by its error.
 
 use crate::proved::font_reasons::file::{cut_table, no_font};
+#[cfg(feature = "program")]
+use crate::proved::font_reasons::names::lost_name;
 use crate::proved::font_reasons::outlines::no_outline;
 #[cfg(feature = "program")]
 use crate::proved::font_reasons::parts::no_needed_table;
@@ -91,6 +93,7 @@ pub fn find_reason(error: Error, font: &[u8], request: Request<'_>) -> Option<Re
     match error {
         Error::UnknownKind => reason_of_unknown(font, request.index),
         Error::MalformedFont => reason_of_malformed(font, request),
+        Error::SubsetError => lost_name(font, request.index),
         Error::OverflowError => wrong_metrics(font, request.index),
         _ => None,
     }
