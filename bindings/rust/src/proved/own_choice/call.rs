@@ -31,15 +31,15 @@ fn count_in(face: &Face<'_>) -> Result<u16, Error> {
     num_glyphs(maxp).ok_or(Error::MalformedFont)
 }
 
-/// What runs of text, from left to right or from right to left, need of a font at coordinates that can get own glyphs: what
-/// `text_metrics` has of it, and of each glyph the advance in units of the font and whether it can be a part. `data`, `index`
-/// and `coordinates` are as for `advances`.
+/// What runs of text, from left to right or from right to left, need of a font at coordinates that can get own glyphs:
+/// what `text_metrics` has of it, and of each glyph the advance in units of the font and whether it can be a part.
+/// `data`, `index` and `coordinates` are as for `advances`.
 ///
-/// - Own glyphs can have parts where outlines are in `glyf`, the font has fewer than 65,535 glyphs, and `maxp` has 32 bytes: as
-///   many as leave the points and contours of a glyph, and its depth, 16 bits there.
-/// - A glyph can be a part where its outline is empty, or the box in its header is within 16,384 units of the origin on each
-///   side; at coordinates, where the font has `fvar`, within 8,192 units, as boxes are those of the default. In a font with
-///   `COLR`, `SVG `, `CBDT` or `sbix` none can be one.
+/// - Own glyphs can have parts where outlines are in `glyf`, the font has fewer than 65,535 glyphs, and `maxp` has 32
+///   bytes: as many as leave the points and contours of a glyph, and its depth, 16 bits there.
+/// - A glyph can be a part where its outline is empty, or the box in its header is within 16,384 units of the origin on
+///   each side; at coordinates, where the font has `fvar`, within 8,192 units, as boxes are those of the default. In a
+///   font with `COLR`, `SVG `, `CBDT` or `sbix` none can be one.
 ///
 /// # Errors
 ///

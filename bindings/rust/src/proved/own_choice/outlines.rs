@@ -113,8 +113,8 @@ fn reach_of(moves: bool) -> u16 {
     }
 }
 
-/// Whether the first glyphs of a font can be parts, so many; the list is empty without outlines in `glyf`, and where there may be
-/// other pictures.
+/// Whether the first glyphs of a font can be parts, so many; the list is empty without outlines in `glyf`, and where
+/// there may be other pictures.
 pub fn parts_in(
     alloc: Global,
     face: &Face<'_>,

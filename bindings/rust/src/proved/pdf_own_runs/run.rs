@@ -11,7 +11,8 @@ use crate::proved::subsetter_base::remapper::Remapper;
 use crate::proved::subsetter_base::Error;
 use crate::rattle::alloc::Global;
 
-/// How many glyphs a font has whose run items are. `InvalidText` where they are none, `Overfull` where it has more than 65,535.
+/// How many glyphs a font has whose run items are. `InvalidText` where they are none, `Overfull` where it has more than
+/// 65,535.
 fn count_of(font: Font<'_>, direction: Direction, items: &[Item<'_>]) -> Result<u16, RunError> {
     let count = font.metrics.len();
     if !is_run(direction, count, items) {
@@ -62,17 +63,18 @@ fn show_items(
     show_run(alloc, all, direction, order, size, pairs, items)
 }
 
-/// The operators that show a run with own glyphs, for a content stream as of [`pdf_operators::show_run`]: figures in place of
-/// its glyphs, as items of the font with the own glyphs after its glyphs. Which glyphs have ink is asked of the choice alone.
-/// Codes of earlier runs and numbers of earlier own glyphs stay, after an error too.
+/// The operators that show a run with own glyphs, for a content stream as of [`pdf_operators::show_run`]: figures in
+/// place of its glyphs, as items of the font with the own glyphs after its glyphs. Which glyphs have ink is asked of
+/// the choice alone. Codes of earlier runs and numbers of earlier own glyphs stay, after an error too.
 ///
 /// # Errors
 ///
-/// - `InvalidText`: the glyphs are no run of the font, a number hasn't 32 bits, or an ActualText has more than 32,767 bytes.
-///   The pairs are as they were.
-/// - `Overfull`: the font would have more than 65,535 glyphs, or there would be more than 65,535 codes. The pairs are as they
-///   were.
-/// - `OutOfMemory`: a request for memory was refused. The pairs of the first pieces may be there, and then have their codes.
+/// - `InvalidText`: the glyphs are no run of the font, a number hasn't 32 bits, or an ActualText has more than 32,767
+///   bytes. The pairs are as they were.
+/// - `Overfull`: the font would have more than 65,535 glyphs, or there would be more than 65,535 codes. The pairs are
+///   as they were.
+/// - `OutOfMemory`: a request for memory was refused. The pairs of the first pieces may be there, and then have their
+///   codes.
 ///
 /// After each of them own glyphs of the run may be there, and then have their numbers.
 pub fn show_own_run<'a>(
