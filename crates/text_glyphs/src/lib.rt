@@ -26,5 +26,5 @@ pub use characters::glyphs_of;
 pub use choice::{CharacterTable, find_table};
 pub use encodings::Encoding;
 pub use laws::last_is_found;
-pub use reading::{Entry, ReadText, read_text};
+pub use reading::{Entry, ReadText, is_entry, read_text};
 pub use source::{TextSource, find_source};

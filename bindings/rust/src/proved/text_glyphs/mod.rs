@@ -22,5 +22,7 @@ mod source;
 mod tables;
 
 pub use characters::glyphs_of;
+#[cfg(feature = "program")]
+pub use reading::is_entry;
 pub use reading::{read_text, Entry, ReadText};
 pub use source::{find_source, TextSource};
