@@ -1,9 +1,8 @@
 -- The requests of glyphs, one after another.
-use Rattle.std.proofs.Common.{◌≡◌, ◌⊎◌, ℕ, suc, ◌+◌, ◌<◌, ◌≤◌, List, [], ◌∷◌, ◌++◌, take, length, get_or, Option, Some, None, Result, Ok, Err, refl, sym, ap, subst, ◌∙◌, append_assoc, arith}
-use Rattle.std.specs.Prelude.{IsSome}
+use Rattle.std.proofs.Common.{◌≡◌, ◌⊎◌, ℕ, suc, ◌+◌, ◌-◌, ◌<◌, ◌≤◌, List, [], ◌∷◌, ◌++◌, take, drop, length, get_or, Option, Some, None, Result, Ok, Err, refl, sym, ap, subst, ◌∙◌, append_assoc, arith}
+use Rattle.std.specs.Prelude.{IsSome, slice_get}
 use Rattle.std.proofs.Math.Seq.{take-suc}
-use Rattle.std.proofs.lemmas.List.{take_all}
-use Rattle.std.proofs.lemmas.Option.{slice_get-get_or}
+use Rattle.std.proofs.lemmas.List.{take_all, take_rest}
 use Rattle.std.specs.Option.{option_and_then}
 use Rattle.subsetter_base.specs.declared.error.Error.TheVariants.{OutOfMemory}
 use Rattle.subsetter_sfnt.specs.Read.{Font}
@@ -37,6 +36,10 @@ behind_one font old new more one rest total n h t =
     ∙ (behind_both old more (picked_each font rest)
     ∙ (ap (λ (r : Result Picked Failure). behind old (with_rest r (picked_each font rest))) (sym h) ∙ t))
 
+pub pick_step : (font : Font) (old new more : Picked) (rest : List RequestedGlyphs) (other : RequestedGlyphs) (total : Result Picked Failure) → 1 ≤ length rest → new ≡ both old more → picked_of font (get_or rest 0 other) ≡ Ok more → behind old (picked_each font rest) ≡ total → behind new (picked_each font (take (length rest - 1) (drop 1 rest))) ≡ total
+pick_step font old new more [] other total some n h t = absurd (omega arith)
+pick_step font old new more (one ∷ rest) other total some n h t = subst (λ (left : List RequestedGlyphs). behind new (picked_each font left) ≡ total) (sym (take_rest (one ∷ rest) 1)) (behind_one font old new more one rest total n h t)
+
 -- one that has none leaves none
 pub failed_at : (font : Font) (old : Picked) (one : RequestedGlyphs) (rest : List RequestedGlyphs) (e : Failure) (total : Result Picked Failure) → picked_of font one ≡ Err e → behind old (picked_each font (one ∷ rest)) ≡ total → total ≡ Err e
 failed_at font old one rest e total h t = sym t ∙ ap (λ (r : Result Picked Failure). behind old (with_rest r (picked_each font rest))) h
@@ -57,8 +60,8 @@ take_one_more glyphs i d h =
 pub one_more_list : (glyphs : List Glyphs) (i : ℕ) (d : Glyphs) (old new : List (Option GlyphList)) (list : Option GlyphList) → i < length glyphs → new ≡ old ++ list ∷ [] → AreListsFor (take i glyphs) old → IsListFor (get_or glyphs i d) list → AreListsFor (take (i + 1) glyphs) new
 one_more_list glyphs i d old new list lt n h is = subst (λ (gs : List Glyphs). AreListsFor gs new) (sym (take_one_more glyphs i d lt)) (subst (λ (ls : List (Option GlyphList)). AreListsFor (take i glyphs ++ get_or glyphs i d ∷ []) ls) (sym n) (list_behind (take i glyphs) old (get_or glyphs i d) list h is))
 
-pub unlisted_at : (glyphs : List Glyphs) (i : ℕ) (d : Glyphs) (e : Failure) → i < length glyphs → IsUnlistedAt i e × IsSome (list_name (get_or glyphs i d)) → IsUnlisted glyphs e
-unlisted_at glyphs i d e lt h = in_file i h.0 (subst (λ (o : Option Glyphs). IsSome (option_and_then list_name o)) (sym (slice_get-get_or glyphs i d lt)) h.1)
+pub unlisted_get : (glyphs : List Glyphs) (i : ℕ) (one : Glyphs) (e : Failure) → slice_get glyphs i ≡ Some one → IsUnlistedAt i e × IsSome (list_name one) → IsUnlisted glyphs e
+unlisted_get glyphs i one e is h = in_file i h.0 (subst (λ (o : Option Glyphs). IsSome (option_and_then list_name o)) (sym is) h.1)
 
 -- behind the last of them
 pub all_lists : (glyphs : List Glyphs) (i : ℕ) (lists : List (Option GlyphList)) → ¬ (i < length glyphs) → AreListsFor (take i glyphs) lists → AreListsFor glyphs lists

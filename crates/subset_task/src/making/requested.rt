@@ -188,6 +188,7 @@ fn characters_at(alloc: Global, text: &[char], places: &[usize]) -> Result<Vec<c
 }
 
 /// The glyphs of a text.
+#[tactic(auto, unfolding(crate::specs::Making::Picked::of_text))]
 fn of_text(alloc: Global, source: &TextSource<'_>, text: &[char]) -> Result<Picked, AllocError>
     ensures { IfOk result (λ p. picked_view p ≡ of_text (source_view source.now) text.now) }
 {
@@ -358,6 +359,17 @@ fn pick_one(
     }
 }
 
+/// Adds glyphs.
+fn push_picked(picked: &mut Picked, more: &Picked) -> Result<(), Failure>
+    ensures ok { OnOk result (picked_view picked.new ≡ both (picked_view picked.old) (picked_view more.now)) }
+    ensures err { IfErr result (λ e. e ≡ Refused OutOfMemory) }
+{
+    match picked.append(more) {
+        Ok(()) => Ok(()),
+        Err(_) => Err(Failure::Error(Error::OutOfMemory)),
+    }
+}
+
 /// The glyphs of requests, one after another.
 #[tactic(auto, using(crate::proofs::Requesting::behind_nothing, crate::proofs::Requesting::behind_one, crate::proofs::Requesting::failed_at))]
 fn pick_each(
@@ -373,7 +385,7 @@ fn pick_each(
     let mut rest = asked;
     while let [one, behind @ ..] = rest {
         let more = pick_one(alloc, font, index, one)?;
-        picked.append(&more).map_err(no_memory)?;
+        push_picked(&mut picked, &more)?;
         rest = behind;
     }
     Ok(picked)

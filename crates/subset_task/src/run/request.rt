@@ -104,7 +104,7 @@ fn push_list(lists: &mut Vec<Option<GlyphList>>, list: Option<GlyphList>) -> Res
 }
 
 /// The lists of glyphs, one for each request that a file has. The text of the last file that was read is kept.
-#[tactic(auto, using(crate::proofs::Requesting::one_more_list, crate::proofs::Requesting::unlisted_at, crate::proofs::Requesting::all_lists))]
+#[tactic(auto, using(crate::proofs::Requesting::one_more_list, crate::proofs::Requesting::all_lists))]
 pub fn lists_of<R: Files + Input + AllocGlobal>(
     rt: &R,
     glyphs: &[Glyphs],
@@ -116,8 +116,10 @@ pub fn lists_of<R: Files + Input + AllocGlobal>(
 {
     let mut lists = Vec::new(rt.alloc());
     for place in 0..glyphs.len() {
-        let list = list_of(rt, place, &glyphs[place], text, reason)?;
-        push_list(&mut lists, list).map_err(no_memory)?;
+        match list_of(rt, place, &glyphs[place], text, reason) {
+            Ok(list) => push_list(&mut lists, list).map_err(no_memory)?,
+            Err(failure) => return Err(failure),
+        }
     }
     Ok(lists)
 }

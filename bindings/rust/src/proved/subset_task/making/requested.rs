@@ -300,6 +300,14 @@ fn pick_one(
     }
 }
 
+/// Adds glyphs.
+fn push_picked(picked: &mut Picked, more: &Picked) -> Result<(), Failure> {
+    match picked.append(more) {
+        Ok(()) => Ok(()),
+        Err(_) => Err(Failure::Error(Error::OutOfMemory)),
+    }
+}
+
 /// The glyphs of requests, one after another.
 fn pick_each(
     alloc: Global,
@@ -311,7 +319,7 @@ fn pick_each(
     let mut rest = asked;
     while let [one, behind @ ..] = rest {
         let more = pick_one(alloc, font, index, one)?;
-        picked.append(&more).map_err(no_memory)?;
+        push_picked(&mut picked, &more)?;
         rest = behind;
     }
     Ok(picked)

@@ -99,8 +99,10 @@ pub fn lists_of<R: Files + Input + AllocGlobal>(
 ) -> Result<Vec<Option<GlyphList>>, Failure> {
     let mut lists = Vec::new(rt.alloc());
     for place in 0..glyphs.len() {
-        let list = list_of(rt, place, &glyphs[place], text, reason)?;
-        push_list(&mut lists, list).map_err(no_memory)?;
+        match list_of(rt, place, &glyphs[place], text, reason) {
+            Ok(list) => push_list(&mut lists, list).map_err(no_memory)?,
+            Err(failure) => return Err(failure),
+        }
     }
     Ok(lists)
 }
